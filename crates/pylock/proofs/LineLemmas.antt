@@ -23,7 +23,7 @@ parsed_entry_number (b ∷ bs) r h e =
     let tests : ((not (b == 48) && nat_le (length (b ∷ bs)) 6) ≡ true) × (list_all is_ascii_digit (b ∷ bs) ≡ true) = and_parts _ _ e in
     let short : length (b ∷ bs) ≤ 6 = leb-true _ _ (and_parts _ _ tests.0).1 in
     let bound : digits_value 10 (b ∷ bs) < 10 ^ 6 = digits_value_short digits (b ∷ bs) 6 tests.1 short in
-    let was : r ≡ Ok (digits_value 10 (b ∷ bs)) = parse_gives digits 32 (b ∷ bs) r h tests.1 (omega arith) (omega arith) in
+    let was : r ≡ Ok (digits_value 10 (b ∷ bs)) = parse_gives digits 32 (b ∷ bs) r h tests.1 (let six = short in omega arith) (let least = bound in omega arith) in
     let plain : entry_number (b ∷ bs) ≡ Some (digits_value 10 (b ∷ bs)) = ap (λ t. cond t (Some (digits_value 10 (b ∷ bs))) None) e in
     rw (was, plain) refl
 

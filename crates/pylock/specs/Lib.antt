@@ -1,1 +1,5 @@
 pub mod Lines
+pub mod Fields
+pub mod Print
+pub mod Report
+pub mod Editing
