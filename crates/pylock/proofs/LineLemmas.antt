@@ -16,14 +16,20 @@ use Rattle.pylock.specs.declared.lines.TheConstants.{LINE_LIMIT}
 digits : IsNumeralModel (λ ds. list_all is_ascii_digit ds ≡ true) (digits_value 10)
 digits = numerals_by_value _ record { empty = refl; parts = λ c cs h. search (rules, and_parts); more = λ c cs h k. search rules }
 
+six_digits_fit : (n : ℕ) → n < 10 ^ 6 → n < 2 ^ 32
+six_digits_fit n bound = omega arith
+
+some_length : (b : ℕ) (bs : List ℕ) → 0 < length (b ∷ bs)
+some_length b bs = omega arith
+
 -- what `parse` gives at an entry's number
 pub parsed_entry_number : {E : Type 0} (bs : List ℕ) (r : Result ℕ E) → ParsesUnsigned 32 10 bs r → is_entry_number bs ≡ true → result_ok r ≡ entry_number bs
 parsed_entry_number [] r h e = absurd (false≢true e)
 parsed_entry_number (b ∷ bs) r h e =
     let tests : ((not (b == 48) && nat_le (length (b ∷ bs)) 6) ≡ true) × (list_all is_ascii_digit (b ∷ bs) ≡ true) = and_parts _ _ e in
     let short : length (b ∷ bs) ≤ 6 = leb-true _ _ (and_parts _ _ tests.0).1 in
-    let bound : digits_value 10 (b ∷ bs) < 10 ^ 6 = digits_value_short digits (b ∷ bs) 6 tests.1 short in
-    let was : r ≡ Ok (digits_value 10 (b ∷ bs)) = parse_gives digits 32 (b ∷ bs) r h tests.1 (let six = short in omega arith) (let least = bound in omega arith) in
+    let fits : digits_value 10 (b ∷ bs) < 2 ^ 32 = six_digits_fit _ (digits_value_short digits (b ∷ bs) 6 tests.1 short) in
+    let was : r ≡ Ok (digits_value 10 (b ∷ bs)) = parse_gives digits 32 (b ∷ bs) r h tests.1 (some_length b bs) fits in
     let plain : entry_number (b ∷ bs) ≡ Some (digits_value 10 (b ∷ bs)) = ap (λ t. cond t (Some (digits_value 10 (b ∷ bs))) None) e in
     rw (was, plain) refl
 

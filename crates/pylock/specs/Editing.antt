@@ -1,5 +1,5 @@
 -- The editing of a session byte by byte: what `report` says of the lines, as a run has it in hand after a part of the input.
-use Rattle.std.specs.Prelude.{ℕ, ◌+◌, ◌==◌, ◌++◌, ◌||◌, Bool, if◌then◌else◌, List, [], ◌∷◌, take}
+use Rattle.std.specs.Prelude.{ℕ, ◌+◌, ◌==◌, ◌++◌, ◌||◌, Bool, false, if◌then◌else◌, List, [], ◌∷◌, take}
 use Rattle.std.specs.Result.{is_err}
 use Rattle.pylock_core.specs.State.{State}
 use Rattle.pylock.specs.Report.{after_line, state_after, line_text}
@@ -15,6 +15,10 @@ pub record At : Type 0 where
   pub ended : ℕ
   pub refused : Bool
   pub line : List ℕ
+
+-- before the first byte of the input
+abbrev pub start : State → At
+start state = record { state = state; ended = 0; refused = false; line = [] }
 
 -- the line ends
 unfoldable pub end_line : At → At
