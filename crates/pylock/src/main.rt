@@ -1,0 +1,12 @@
+//! Selects from a pylock.toml lock what an installer installs.
+#![tactic(auto)]
+
+mod ends;
+mod memory;
+mod writing;
+
+use std::io;
+
+fn main(rt: HostRuntime) -> io::Result<()> {
+    println!(rt; "pylock 1")
+}
