@@ -1,3 +1,4 @@
 pub mod Faults
+pub mod FileFault
 pub mod MemoryEnds
 pub mod Moves

@@ -1,5 +1,5 @@
 -- What contracts see of the ends over memory.
-use Rattle.std.specs.Prelude.{◌≡◌, ℕ, ◌-◌, ◌≤◌, List, Option, None, Some, nat_le, if◌then◌else◌}
+use Rattle.std.specs.Prelude.{◌≡◌, ℕ, ◌-◌, List, Option, None, Some, nat_le, if◌then◌else◌}
 
 -- a source over memory: the bytes to come, how many a call moves at most, in how many calls it fails, and its failures
 pub record PiecesState : Type 0 where

@@ -2,7 +2,9 @@
 #![tactic(auto)]
 
 mod ends;
+mod files;
 mod memory;
+mod streams;
 mod writing;
 
 use std::io;

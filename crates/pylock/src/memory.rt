@@ -1,5 +1,5 @@
 //! Ends over memory: they tell all their bytes, move them in small pieces, and fail when they are told to.
-ghost use Rattle.std.specs.Prelude.{◌≡◌, ℕ, ◌<◌, ◌≤◌, ◌-◌, ◌↔◌, List, [], Option, Some, length, take, drop, min, IsTrue, IfOk, OnOk, OnErr, IsErr};
+ghost use Rattle.std.specs.Prelude.{◌≡◌, ℕ, ◌<◌, ◌≤◌, ◌-◌, ◌↔◌, List, [], ◌++◌, Option, Some, None, length, take, drop, min, IsTrue, IfOk, OnOk, OnErr, IsErr};
 ghost use Rattle.std.specs.Io.KnownBytes.{prepend_known, append_known, IsAtEnd};
 ghost use Rattle.pylock.specs.Faults.{one_more};
 ghost use Rattle.pylock.specs.MemoryEnds.{FailsNext, after_call};
@@ -61,7 +61,20 @@ impl<'a> Source for Pieces<'a> {
 
     ghost failures = { λ p. p.failures };
 
-    fn read(&mut self, buf: &mut [u8]) -> Result<usize, IoFault> {
+    fn read(&mut self, buf: &mut [u8]) -> Result<usize, IoFault>
+        ensures fails { IsErr result ↔ FailsNext self.old.fails_in }
+        ensures count { IfOk result (λ n. n ≡ min (min (length self.old.rest) (length buf.new)) self.old.piece) }
+        ensures given { IfOk result (λ n. self.old.rest ≡ take n buf.new ++ self.new.rest) }
+        ensures end { IfOk result (λ n. n ≡ 0 → 0 < length buf.old → self.new.rest ≡ []) }
+        ensures ok { OnOk result (self.new ≡ record self.old {
+          rest = self.new.rest;
+          fails_in = after_call self.old.fails_in;
+        }) }
+        ensures err { OnErr result (self.new ≡ record self.old {
+          fails_in = None;
+          failures = one_more self.old.failures;
+        }) }
+    {
         if counts_down(&mut self.fails_in) {
             self.failures = self.failures.saturating_add(1);
             return Err(IoFault);
@@ -128,7 +141,24 @@ impl Sink for Room {
 
     ghost failures = { λ r. r.failures };
 
-    fn write(&mut self, piece: &[u8]) -> Result<usize, IoFault> {
+    fn write(&mut self, piece: &[u8]) -> Result<usize, IoFault>
+        ensures fails { IsErr result ↔ FailsNext self.old.fails_in }
+        ensures count { IfOk result (λ n. n ≡ min (min (length piece.now) self.old.piece)
+            (self.old.room - length self.old.held)) }
+        ensures ok { IfOk result (λ n. self.new ≡ record self.old {
+          held = self.old.held ++ take n piece.now;
+          fails_in = after_call self.old.fails_in;
+          failures = self.new.failures;
+        }) }
+        ensures counted { IfOk result (λ n. (n ≡ 0 → length piece.now ≡ 0)
+            → self.new.failures ≡ self.old.failures) }
+        ensures stuck { IfOk result (λ n. n ≡ 0 → 0 < length piece.now
+            → self.new.failures ≡ one_more self.old.failures) }
+        ensures err { OnErr result (self.new ≡ record self.old {
+          fails_in = None;
+          failures = one_more self.old.failures;
+        }) }
+    {
         if counts_down(&mut self.fails_in) {
             self.failures = self.failures.saturating_add(1);
             return Err(IoFault);

@@ -1,6 +1,5 @@
 use Rattle.std.proofs.lemmas.List.{take_rest}
 use Rattle.std.proofs.lemmas.Result.{err_from_is_err_and}
-use Rattle.std.proofs.Common.{arith}
 use Rattle.pylock.proofs.WroteLemmas.{Wrote-front, Wrote-front_same, Wrote-more}
 use Rattle.pylock.proofs.writing.write_all.Goals as goal
 
