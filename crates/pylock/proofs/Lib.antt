@@ -1,2 +1,4 @@
 pub mod LineLemmas
 pub mod EditingLemmas
+pub mod ReadLemmas
+pub mod WroteLemmas

@@ -3,3 +3,7 @@ pub mod Fields
 pub mod Print
 pub mod Report
 pub mod Editing
+pub mod Faults
+pub mod FileFault
+pub mod MemoryEnds
+pub mod Moves

@@ -1,8 +1,13 @@
-//! `pylock`: the installer's lock selector.
+//! `pylock`: selects from a pylock.toml lock what an installer installs.
 #![tactic(auto)]
 
+mod ends;
+mod files;
 mod lines;
+mod memory;
 mod printing;
+mod streams;
+mod writing;
 
 use std::io;
 

@@ -1,0 +1,78 @@
+//! Ends over std's readers and writers: they tell no bytes, and answer each error as a failure.
+ghost use Rattle.std.specs.Prelude.{◌≡◌, ◌<◌, ◌≤◌, None};
+
+use crate::ends::{IoFault, Sink, Source};
+use std::io::{Read, Write};
+
+/// A source over a reader. An interrupted read counts as a failure too.
+#[derive(Drop)]
+pub struct FromRead<R> {
+    reader: R,
+    failures: u64,
+}
+
+impl<R: Read> FromRead<R> {
+    pub fn new(reader: R) -> FromRead<R>
+        ensures { ⟦<FromRead<R> as Source>⟧.failures result ≡ 0 }
+    {
+        FromRead {
+            reader,
+            failures: 0,
+        }
+    }
+}
+
+impl<R: Read> Source for FromRead<R> {
+    ghost rest = { λ _. None };
+
+    ghost failures = { λ source. source.failures };
+
+    fn read(&mut self, buf: &mut [u8]) -> Result<usize, IoFault> {
+        match self.reader.read(buf) {
+            Ok(count) => Ok(count),
+            Err(_) => {
+                self.failures = self.failures.saturating_add(1);
+                Err(IoFault)
+            }
+        }
+    }
+}
+
+/// A sink over a writer. An interrupted write counts as a failure too.
+#[derive(Drop)]
+pub struct ToWrite<W> {
+    writer: W,
+    failures: u64,
+}
+
+impl<W: Write> ToWrite<W> {
+    pub fn new(writer: W) -> ToWrite<W>
+        ensures { ⟦<ToWrite<W> as Sink>⟧.failures result ≡ 0 }
+    {
+        ToWrite {
+            writer,
+            failures: 0,
+        }
+    }
+}
+
+impl<W: Write> Sink for ToWrite<W> {
+    ghost held = { λ _. None };
+
+    ghost failures = { λ sink. sink.failures };
+
+    fn write(&mut self, piece: &[u8]) -> Result<usize, IoFault> {
+        match self.writer.write(piece) {
+            Ok(count) => {
+                if count == 0 && !piece.is_empty() {
+                    self.failures = self.failures.saturating_add(1);
+                }
+                Ok(count)
+            }
+            Err(_) => {
+                self.failures = self.failures.saturating_add(1);
+                Err(IoFault)
+            }
+        }
+    }
+}
