@@ -22,7 +22,7 @@ use Rattle.pylock_core.specs.declared.error.HeadKey.{HeadKey}
 use Rattle.pylock_core.specs.declared.error.HeadKey.TheVariants as head_key
 use Rattle.pylock_core.specs.declared.error.LockError.{LockError}
 use Rattle.pylock_core.specs.declared.error.LockError.TheVariants as lock_error
-use Rattle.pylock.specs.Fields.{field}
+use Rattle.pylock.specs.Fields.{field, escaped}
 use Rattle.pylock.specs.declared.lines.LineRefusal.{LineRefusal}
 use Rattle.pylock.specs.declared.lines.LineRefusal.TheVariants as refusal
 
@@ -41,6 +41,14 @@ hash_text hash = hash.0 ++ codes "=" ++ hash.1
 abbrev pub hashes_text : List (List ℕ × List ℕ) → Option (List ℕ)
 hashes_text [] = None
 hashes_text (hash ∷ hashes) = Some (join_with_byte 44 (map hash_text (hash ∷ hashes)))
+
+-- a hash as it stands in its field
+abbrev pub escaped_hash : List ℕ × List ℕ → List ℕ
+escaped_hash hash = escaped hash.0 ++ codes "=" ++ escaped hash.1
+
+-- the hashes after the first, as they stand in the field
+abbrev pub more_hashes : List (List ℕ × List ℕ) → List ℕ
+more_hashes hashes = flat_map (λ hash. 44 ∷ escaped_hash hash) hashes
 
 -- from its kind on, the fields of a plan line: kind, file name, place, hashes, revision, subdirectory
 abbrev pub directory_fields : DirectoryValue → List (List ℕ)
@@ -71,10 +79,13 @@ fault_word Ambiguous = codes "ambiguous"
 fault_word Sources = codes "sources"
 fault_word NoFile = codes "no-file"
 
+abbrev pub fault_text : ℕ → FaultCode → List ℕ
+fault_text id code = line_of (codes "fault " ++ decimal id) (fault_word code ∷ [])
+
 -- an answer on a state: `plan K` and K lines, or the fault
 abbrev pub answer_text : State → Answer → List ℕ
 answer_text state (Plan picks) = codes "plan " ++ decimal (length picks) ++ codes "\n" ++ flat_map (pick_text state) picks
-answer_text state (Fault id code) = line_of (codes "fault " ++ decimal id) (fault_word code ∷ [])
+answer_text state (Fault id code) = fault_text id code
 
 abbrev pub line_word : LineRefusal → List ℕ
 line_word refusal.Long = codes "long"
