@@ -43,3 +43,12 @@ field-hashes hash hashes =
     let parts = joined hash hashes in
     let other : bytes_eq text (45 ∷ []) ≡ false = ap (λ t. bytes_eq t (45 ∷ [])) parts.1 ∙ not_dash hash.0 parts.0 in
     ap (λ t. cond t (codes "\\-") (escaped text)) other ∙ escaped-hashes hash hashes
+
+-- one push after another
+pub pushed_hashes : (old tab one all : List ℕ) (hash : List ℕ × List ℕ) (hashes : List (List ℕ × List ℕ))
+    → tab ≡ old ++ 9 ∷ [] → one ≡ tab ++ escaped_hash hash → all ≡ one ++ more_hashes hashes → all ≡ old ++ 9 ∷ field (hashes_text (hash ∷ hashes))
+pushed_hashes old tab one all hash hashes tabbed first more =
+    more ∙ ap (λ t. t ++ more_hashes hashes) (first ∙ ap (λ t. t ++ escaped_hash hash) tabbed)
+    ∙ append_assoc (old ++ 9 ∷ []) (escaped_hash hash) (more_hashes hashes)
+    ∙ append_assoc old (9 ∷ []) (escaped_hash hash ++ more_hashes hashes)
+    ∙ ap (λ t. old ++ 9 ∷ t) (sym (field-hashes hash hashes))

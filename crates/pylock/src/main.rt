@@ -1,11 +1,13 @@
 //! `pylock`: selects from a pylock.toml lock what an installer installs.
 #![tactic(auto)]
 
+mod editing;
 mod ends;
 mod files;
 mod lines;
 mod memory;
 mod printing;
+mod refusals;
 mod streams;
 mod writing;
 
