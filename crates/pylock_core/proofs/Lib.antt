@@ -1,0 +1,2 @@
+mod FileNameLemmas
+mod NameLemmas
