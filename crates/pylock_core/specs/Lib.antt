@@ -1,0 +1,5 @@
+pub mod FileName
+pub mod Entry
+pub mod State
+pub mod Rows
+pub mod Steps
