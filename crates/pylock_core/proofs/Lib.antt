@@ -1,2 +1,3 @@
 mod FileNameLemmas
 mod NameLemmas
+pub mod RowLemmas

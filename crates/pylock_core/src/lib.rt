@@ -1,5 +1,20 @@
-//! A reader of pylock.toml locks (PEP 751), and the selection of what to install from one.
+//! The lock file of the Python packaging specifications (`pylock.toml`, PEP 751): its entries, the
+//! session that installs from it, and the answer of its installation steps.
 #![tactic(auto)]
 
+mod answer;
+mod edit;
+mod entry;
+mod error;
 mod file_name;
+mod lock;
 mod names;
+mod reading;
+mod session;
+
+pub use answer::{Answer, FaultCode, Pick, PickSource, Plan};
+pub use edit::{Edit, EditError};
+pub use entry::{Directory, Entry, Sdist};
+pub use error::{EntryError, EntryKey, EnvError, HeadKey, LockError};
+pub use lock::Lock;
+pub use session::Session;

@@ -1,0 +1,3 @@
+//! The readers of locks (PEP 751): by reference, from the table that `toml` gives for the text.
+mod fields;
+mod sources;
