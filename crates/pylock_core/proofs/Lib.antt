@@ -1,3 +1,4 @@
 mod FileNameLemmas
 mod NameLemmas
+mod ReadingLemmas
 pub mod RowLemmas

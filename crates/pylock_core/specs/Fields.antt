@@ -25,10 +25,14 @@ optional_text_at key d = optional as_str (get key d)
 abbrev pub flag_at : List ℕ → Data → Option Bool
 flag_at key d = option_map (λ flag. unwrap_or flag false) (optional as_bool (get key d))
 
--- the pairs of algorithm and value; a table has its members in byte order of their keys
+-- a pair of algorithm and value
+abbrev pub hash_of : List ℕ → Data → Option (List ℕ × List ℕ)
+hash_of algorithm d = option_map (λ value. (algorithm, value)) (as_str d)
+
+-- the pairs of a table, which has its members in byte order of their keys
 abbrev pub hashes_of : Members → Option (List (List ℕ × List ℕ))
 hashes_of no_members = Some []
-hashes_of (member algorithm d rest) = as_str d >>= (λ value. option_map (λ hashes. (algorithm, value) ∷ hashes) (hashes_of rest))
+hashes_of (member algorithm d rest) = hash_of algorithm d >>= (λ hash. option_map (λ hashes. hash ∷ hashes) (hashes_of rest))
 
 -- the key `hashes`, a table of texts, which is empty where it is absent
 abbrev pub hashes_at : Data → Option (List (List ℕ × List ℕ))

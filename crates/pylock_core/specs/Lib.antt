@@ -6,3 +6,4 @@ pub mod Rows
 pub mod Steps
 pub mod Fields
 pub mod Reading
+pub mod Lock

@@ -1,5 +1,5 @@
 -- What it is for a reader to give what a definition says.
-use Rattle.std.specs.Prelude.{◌≡◌, Option, Some, None, Result, Ok, Err}
+use Rattle.std.specs.Prelude.{◌≡◌, ℕ, List, String, string_bytes, Option, Some, None, Result, Ok, Err}
 use Rattle.pylock_core.specs.declared.error.LockError.{LockError}
 use Rattle.pylock_core.specs.declared.error.LockError.TheVariants as lock
 use Rattle.pylock_core.specs.declared.error.EntryError.{EntryError}
@@ -28,3 +28,12 @@ abbrev pub GivesField : {X V : Type 0} → (X → V) → Result X FieldError →
 GivesField view (Ok x) form = form ≡ Some (view x)
 GivesField view (Err field.Wrong) form = form ≡ None
 GivesField view (Err field.Memory) form = Unit {0}
+
+-- the texts of a pair of strings
+abbrev pub text_pair : {A B : Type 0} → String A × String B → List ℕ × List ℕ
+text_pair p = (string_bytes p.0, string_bytes p.1)
+
+-- the refusal of an entry whose field was not read, where the field's own refusal is this one
+abbrev pub refusal_for : FieldError → EntryError → EntryError
+refusal_for field.Wrong refusal = refusal
+refusal_for field.Memory refusal = entry.Memory

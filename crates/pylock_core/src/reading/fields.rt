@@ -1,12 +1,11 @@
 //! The fields of a TOML table.
 ghost use Rattle.std.specs.Prelude.{◌≡◌, option_map, string_bytes};
 ghost use Rattle.std.specs.Option.{option_copied};
-ghost use Rattle.toml.specs.Data.{as_str};
 ghost use Rattle.toml.specs.View.{view, table_view};
 ghost use Rattle.pylock_core.specs.declared.reading.fields.FieldError.TheVariants as field;
 ghost use Rattle.pylock_core.specs.Entry.{text_pairs};
-ghost use Rattle.pylock_core.specs.Fields.{text_at, optional_text_at, flag_at, hashes_at, hashes_of, only_if};
-ghost use Rattle.pylock_core.specs.Reading.{GivesField};
+ghost use Rattle.pylock_core.specs.Fields.{text_at, optional_text_at, flag_at, hashes_at, hashes_of, hash_of, only_if};
+ghost use Rattle.pylock_core.specs.Reading.{GivesField, text_pair};
 
 use std::alloc::{AllocError, AllocFailed, Global};
 use toml::{Table, Value};
@@ -107,8 +106,7 @@ fn hash_pairs(alloc: Global, table: &Table) -> Result<Vec<(String, String)>, Fie
 }
 
 fn hash_pair(alloc: Global, algorithm: &String, value: &Value) -> Result<(String, String), FieldError>
-    ensures { GivesField (λ p. (string_bytes p.0, string_bytes p.1)) result
-        (option_map (λ text. (string_bytes algorithm.now, text)) (as_str (view value.now))) }
+    ensures { GivesField text_pair result (hash_of (string_bytes algorithm.now) (view value.now)) }
 {
     match value.as_str() {
         Some(text) => Ok((algorithm.clone()?, String::from_str(alloc, text)?)),
