@@ -1,1 +1,2 @@
+pub mod FileNameLemmas
 pub mod RowLemmas
