@@ -7,3 +7,4 @@ pub mod Steps
 pub mod Fields
 pub mod Reading
 pub mod Lock
+pub mod Environment
