@@ -1,2 +1,4 @@
 pub mod FileNameLemmas
 pub mod RowLemmas
+pub mod SlateLemmas
+pub mod StepLemmas

@@ -3,3 +3,4 @@ pub mod Entry
 pub mod State
 pub mod Rows
 pub mod Steps
+pub mod Progress

@@ -9,6 +9,7 @@ mod error;
 mod file_name;
 mod lock;
 mod session;
+mod steps;
 
 pub use answer::{Answer, FaultCode, Pick, PickSource, Plan};
 pub use edit::{Edit, EditError};
