@@ -1,7 +1,7 @@
 -- Lemmas on file names.
 use Rattle.std.proofs.Common.{◌≡◌, ℕ, ◌-◌, ◌<◌, ◌≤◌, Bool, true, false, not, cond, List, [], ◌∷◌, ◌&&◌, ◌||◌, ◌==◌, length, drop, get_or, IsTrue, ap, refl, arith}
 use Rattle.std.specs.Char.{is_ascii}
-use Rattle.std.specs.List.{after_last, list_all, list_any, suffix_len}
+use Rattle.std.specs.List.{after_last, list_all, suffix_len}
 use Rattle.std.specs.Str.{IsUtf8}
 use Rattle.std.proofs.lemmas.List.Sums.{suffix_len_is}
 use Rattle.std.proofs.lemmas.Bool.Decides.{nat_tests}
@@ -27,7 +27,7 @@ pub after_last_from : (p : ℕ → Bool) (xs : List ℕ) (n : ℕ) → n ≤ len
     → (0 < n → p (get_or xs (n - 1) 0) ≡ true) → drop n xs ≡ after_last p xs
 after_last_from p xs n within after before =
     let fails : suffix_len (λ x. not (p x)) xs ≡ length xs - n =
-        suffix_len_is (λ x. not (p x)) xs n 0 within (λ k a b. ap not (after k a b)) (λ some. ap not (before some)) in
+    suffix_len_is (λ x. not (p x)) xs n 0 within (λ k a b. ap not (after k a b)) (λ some. ap not (before some)) in
     let cut : n ≡ length xs - suffix_len (λ x. not (p x)) xs = omega (arith, fails) in
     ap (λ k. drop k xs) cut
 
@@ -39,4 +39,3 @@ first_is_ascii sign b rest_all rest_one rest all one = grind (arith, nat_tests)
 pub sign_is_ascii : (signs : List ℕ) (b : ℕ) → IsTrue (list_all is_ascii signs) → is_one_of signs b ≡ true → b < 128
 sign_is_ascii [] b all one = absurd (cc)
 sign_is_ascii (sign ∷ signs) b all one = first_is_ascii sign b (list_all is_ascii signs) (is_one_of signs b) (sign_is_ascii signs b) all one
-

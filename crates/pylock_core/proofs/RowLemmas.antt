@@ -1,10 +1,10 @@
 -- Lemmas on the rows of a session.
-use Rattle.std.proofs.Common.{◌≡◌, ℕ, suc, zero, ◌+◌, ◌<◌, ◌≤◌, ◌∙◌, Bool, true, false, not, nat_eq, List, [], ◌∷◌, map, length, drop, get_or, set, cond, Option, Some, None, ap, sym, refl, eq-eqb, arith}
+use Rattle.std.proofs.Common.{◌≡◌, ℕ, suc, zero, ◌+◌, ◌<◌, ◌≤◌, ◌∙◌, true, false, nat_eq, List, [], ◌∷◌, map, length, drop, get_or, set, Option, Some, None, ap, sym, refl, eq-eqb, arith}
 use Rattle.std.specs.List.{enumerate_from}
 use Rattle.std.proofs.lemmas.Bool.{ne_eqb}
 use Rattle.std.proofs.lemmas.List.{drop_more, length-map}
 use Rattle.pylock_core.specs.Entry.{EntryValue, LockValue}
-use Rattle.pylock_core.specs.State.{State, first, entry_at, without}
+use Rattle.pylock_core.specs.State.{first, entry_at, without}
 use Rattle.pylock_core.specs.Rows.{in_rows, state_of}
 
 -- where every row has its entry, the rows have them all

@@ -1,12 +1,12 @@
 -- Lemmas on slating, where the names are those of a set.
-use Rattle.std.proofs.Common.{◌≡◌, ◌∙◌, ℕ, Bool, true, false, not, cond, ◌||◌, List, [], ◌∷◌, map, Bor, Ok, Err, ap, sym, refl}
+use Rattle.std.proofs.Common.{◌≡◌, ◌∙◌, ℕ, Bool, true, false, not, cond, ◌||◌, List, [], ◌∷◌, map, Bor, Err, ap, sym, refl}
 use Rattle.std.specs.HashSet.{HashSet, contains}
 use Rattle.std.specs.List.{list_any}
 use Rattle.std.specs.Str.{bytes_eq}
 use Rattle.std.proofs.lemmas.Cmp.{nat_list_eq_equiv}
 use Rattle.pylock_core.specs.Entry.{EntryValue}
 use Rattle.pylock_core.specs.Steps.{is_among, has_conflict, put_before, slate}
-use Rattle.pylock_core.specs.Progress.{names_of, slated_as}
+use Rattle.pylock_core.specs.Progress.{names_of}
 use Rattle.pylock_core.specs.declared.answer.FaultCode.TheVariants.{Ambiguous, Sources}
 
 -- names with the same members slate alike

@@ -1,10 +1,9 @@
 -- Lemmas on the installation steps, entry by entry.
-use Rattle.std.proofs.Common.{◌≡◌, ℕ, ◌+◌, List, [], ◌∷◌, ◌++◌, Option, Some, None, Result, Ok, Err, ◌∙◌, ap, refl, append_assoc, append-nil}
+use Rattle.std.proofs.Common.{◌≡◌, ℕ, List, [], ◌∷◌, ◌++◌, Option, Some, None, Result, Ok, Err, ◌∙◌, ap, refl, append_assoc, append-nil}
 use Rattle.pylock_core.specs.Entry.{EntryValue}
 use Rattle.pylock_core.specs.State.{State}
-use Rattle.pylock_core.specs.Rows.{in_rows}
 use Rattle.pylock_core.specs.Steps.{FirstFault, answer, answer_by, pick_before, picks, picks_after, put_before, slate, source_of}
-use Rattle.pylock_core.specs.Progress.{pick_after, slated_as}
+use Rattle.pylock_core.specs.Progress.{pick_after}
 use Rattle.pylock_core.specs.declared.answer.Answer.{Answer}
 use Rattle.pylock_core.specs.declared.answer.Answer.TheVariants.{Fault}
 use Rattle.pylock_core.specs.declared.answer.FaultCode.{FaultCode}
@@ -33,6 +32,7 @@ answer_from_start state = ap answer_by (by (slate state.entries []))
     nothing : (r : Result (List Pick) FirstFault) → then_picks (Ok []) r ≡ r
     nothing (Ok rest) = refl
     nothing (Err fault) = refl
+
     by : (r : Result (List (ℕ × EntryValue)) FirstFault) → then_slated (Ok []) r ≡ picks_after r
     by (Ok slated) = nothing (picks slated)
     by (Err fault) = refl

@@ -31,7 +31,10 @@ pub fn answer_of(alloc: Global, rows: &[Option<Entry>]) -> Result<Answer, AllocE
 
 /// The fault of the next entry in step 5, if it has one, after entries with these names. The names gain
 /// that of the entry.
-fn slating_fault<'a>(names: &mut HashSet<&'a str>, entry: &'a Entry) -> Result<Option<FaultCode>, AllocError>
+fn slating_fault<'a>(
+    names: &mut HashSet<&'a str>,
+    entry: &'a Entry,
+) -> Result<Option<FaultCode>, AllocError>
     ensures { IfOk result (λ fault. (n : ℕ) (rest : List (ℕ × EntryValue)) → slate ((n, entry.now) ∷ rest) (names_of names.old) ≡ slated_as fault (n, entry.now) (slate rest (names_of names.new))) }
 {
     if !names.insert(entry.name())? {

@@ -1,4 +1,4 @@
-use Rattle.std.proofs.Common.{◌≡◌, ◌<◌, ◌≤◌, ◌-◌, ◌+◌, get_or, true, arith, subst, drop, length, ap, sym, ◌∙◌}
+use Rattle.std.proofs.Common.{◌≡◌, ◌<◌, ◌-◌, ◌+◌, get_or, true, arith, subst, length, ap, sym, ◌∙◌}
 use Rattle.std.proofs.lemmas.Str.{IsCharBoundary-after_ascii}
 use Rattle.std.specs.Str.{IsCharBoundary}
 use Rattle.pylock_core.specs.FileName.{is_one_of}
@@ -11,8 +11,8 @@ stops : (c : goal.Left-loop-start) → 0 < c.loop-start.start
     → is_one_of c.args.signs.now (get_or c.args.text.now (c.loop-start.start - 1) 0) ≡ true
 stops c some =
     elim c.loop-start-test.branch [
-      then-loop-start-test+else-not-contains w ↦ rw (← c.as_bytes-bytes.ensures.value) (sym w.contains.ensures.value ∙ w.if-not-contains.false)
-    | else-loop-start-test w ↦ absurd (omega arith)
+      | then-loop-start-test+else-not-contains w ↦ rw (← c.as_bytes-bytes.ensures.value) (sym w.contains.ensures.value ∙ w.if-not-contains.false)
+      | else-loop-start-test w ↦ absurd (omega arith)
     ]
 
 pub range_from-requires : goal.range_from-requires
@@ -27,6 +27,6 @@ returns c =
     c.range_from.ensures.value ∙ after_last_from (is_one_of c.args.signs.now) c.args.text.now c.loop-start.start (omega arith)
     (rw c.as_bytes-bytes.ensures.value at c.loop-start.invariant.1)
     (λ some. elim c.loop-start-test.branch [
-      then-loop-start-test+else-not-contains w ↦ rw (← c.as_bytes-bytes.ensures.value) (sym w.contains.ensures.value ∙ w.if-not-contains.false)
-    | else-loop-start-test w ↦ absurd (omega arith)
+      | then-loop-start-test+else-not-contains w ↦ rw (← c.as_bytes-bytes.ensures.value) (sym w.contains.ensures.value ∙ w.if-not-contains.false)
+      | else-loop-start-test w ↦ absurd (omega arith)
     ])

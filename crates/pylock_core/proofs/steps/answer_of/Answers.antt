@@ -1,4 +1,4 @@
-use Rattle.std.proofs.Common.{◌≡◌, ◌∙◌, ℕ, ◌+◌, List, ◌∷◌, Err, Some, length, drop, get_or, ap, sym, arith}
+use Rattle.std.proofs.Common.{◌≡◌, ◌∙◌, ℕ, ◌+◌, ◌∷◌, Err, Some, drop, get_or, ap, sym, arith}
 use Rattle.std.proofs.lemmas.List.{drop_all}
 use Rattle.pylock_core.specs.Rows.{in_rows, state_of}
 use Rattle.pylock_core.specs.Steps.{put_before, slate}
@@ -16,7 +16,7 @@ returns-in-Some-2 c =
     let made = picks_so_far c.loop-place.picks in
     let names = names_of c.loop-place.names in
     let faulty : slate ((n, c.in-Some.entry) ∷ rest) names ≡ Err (n, c.in-Some-2.code) =
-        c.in_ok-code.ensures n rest ∙ ap (λ fault. slated_as fault (n, c.in-Some.entry) (slate rest (names_of c.slating_fault.new.names))) c.in-Some-2.is in
+    c.in_ok-code.ensures n rest ∙ ap (λ fault. slated_as fault (n, c.in-Some.entry) (slate rest (names_of c.slating_fault.new.names))) c.in-Some-2.is in
     sym (fault_answers made names n c.in-Some.entry rest c.in-Some-2.code faulty)
     ∙ ap (answer_from made names) (sym here) ∙ c.loop-place.invariant ∙ answer_from_start (state_of c.args.rows.now)
 
@@ -30,7 +30,7 @@ loop-place-preserved c =
     let names = names_of c.loop-place.names in
     let later = names_of c.slating_fault.new.names in
     let slated : slate ((n, c.in-Some.entry) ∷ rest) names ≡ put_before (n, c.in-Some.entry) (slate rest later) =
-        c.in_ok-code.ensures n rest ∙ ap (λ fault. slated_as fault (n, c.in-Some.entry) (slate rest later)) c.in_default-2.is in
+    c.in_ok-code.ensures n rest ∙ ap (λ fault. slated_as fault (n, c.in-Some.entry) (slate rest later)) c.in_default-2.is in
     ap (λ picked. answer_from picked later rest) (c.in_ok-add.ensures ∙ ap (pick_after made n) c.source.ensures)
     ∙ sym (entry_moves made names later n c.in-Some.entry rest slated)
     ∙ ap (answer_from made names) (sym here) ∙ c.loop-place.invariant
