@@ -2,3 +2,5 @@ mod FileNameLemmas
 mod NameLemmas
 mod ReadingLemmas
 pub mod RowLemmas
+pub mod SlateLemmas
+pub mod StepLemmas

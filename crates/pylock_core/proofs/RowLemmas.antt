@@ -1,10 +1,10 @@
 -- Lemmas on the rows of a session.
-use Rattle.std.proofs.Common.{◌≡◌, ℕ, suc, zero, ◌+◌, ◌<◌, ◌≤◌, ◌∙◌, Bool, true, false, not, nat_eq, List, [], ◌∷◌, map, length, get_or, set, cond, Option, Some, None, ap, sym, refl, eq-eqb, arith}
+use Rattle.std.proofs.Common.{◌≡◌, ℕ, suc, zero, ◌+◌, ◌<◌, ◌≤◌, ◌∙◌, true, false, nat_eq, List, [], ◌∷◌, map, length, drop, get_or, set, Option, Some, None, ap, sym, refl, eq-eqb, arith}
 use Rattle.std.specs.List.{enumerate_from}
 use Rattle.std.proofs.lemmas.Bool.{ne_eqb}
-use Rattle.std.proofs.lemmas.List.{length-map}
+use Rattle.std.proofs.lemmas.List.{drop_more, length-map}
 use Rattle.pylock_core.specs.Entry.{EntryValue, LockValue}
-use Rattle.pylock_core.specs.State.{State, first, entry_at, without}
+use Rattle.pylock_core.specs.State.{first, entry_at, without}
 use Rattle.pylock_core.specs.Rows.{in_rows, state_of}
 
 -- where every row has its entry, the rows have them all
@@ -65,3 +65,9 @@ without_past n m [] past = refl
 without_past n m (None ∷ rows) past = without_past n (m + 1) rows (omega arith)
 without_past n m (Some e ∷ rows) past =
     rw (other n m (λ same. omega arith)) (ap (λ rest. (m, e) ∷ rest) (without_past n (m + 1) rows (omega arith)))
+
+-- the entries from a row that has one
+pub rows_from : (rows : List (Option EntryValue)) (place : ℕ) (entry : EntryValue) → place < length rows → get_or rows place (Some entry) ≡ Some entry
+    → in_rows (place + 1) (drop place rows) ≡ (place + 1, entry) ∷ in_rows (place + 1 + 1) (drop (place + 1) rows)
+rows_from rows place entry within there =
+    ap (in_rows (place + 1)) (drop_more rows place (Some entry) within ∙ ap (λ row. row ∷ drop (place + 1) rows) there)

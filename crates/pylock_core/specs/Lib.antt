@@ -8,3 +8,4 @@ pub mod Fields
 pub mod Reading
 pub mod Lock
 pub mod Environment
+pub mod Progress

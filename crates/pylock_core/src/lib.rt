@@ -12,6 +12,7 @@ mod lock;
 mod names;
 mod reading;
 mod session;
+mod steps;
 
 pub use answer::{Answer, FaultCode, Pick, PickSource, Plan};
 pub use edit::{Edit, EditError};

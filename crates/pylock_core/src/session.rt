@@ -10,6 +10,7 @@ use crate::answer::Answer;
 use crate::edit::{Edit, EditError};
 use crate::entry::Entry;
 use crate::lock::Lock;
+use crate::steps::answer_of;
 use std::alloc::{AllocError, Global};
 use std::marker::Model;
 
@@ -65,6 +66,14 @@ impl Session {
             Some(_) => Ok(0),
             None => Err(EditError::NoEntry),
         }
+    }
+
+    /// The answer of the installation steps (PEP 751) on the entries as they stand. Changes nothing; takes
+    /// memory for their names and picks.
+    pub fn answer(&self, alloc: Global) -> Result<Answer, AllocError>
+        ensures { IfOk result (λ found. found ≡ answer self.now) }
+    {
+        answer_of(alloc, self.rows.as_slice())
     }
 
     /// The entry of the number.
