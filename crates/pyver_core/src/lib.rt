@@ -1,0 +1,10 @@
+//! Versions, specifier sets and names of Python packages: PEP 440 and PEP 503.
+#![tactic(auto)]
+
+mod error;
+mod part;
+mod version;
+
+pub use error::{SpecifierError, VersionError};
+pub use part::{Label, LocalPart, PreKind};
+pub use version::Version;
