@@ -1,2 +1,3 @@
-pub mod Parts
+pub mod Borrowed
 pub mod Normal
+pub mod Parts

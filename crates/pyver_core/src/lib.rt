@@ -3,6 +3,8 @@
 
 mod error;
 mod part;
+mod parts;
+mod text;
 mod version;
 
 pub use error::{SpecifierError, VersionError};

@@ -1,9 +1,13 @@
 //! Versions and their readers.
 
-ghost use Rattle.std.specs.Prelude.{◌≡◌, ◌≢◌, ◌||◌, [], is_some, string_bytes};
+ghost use Rattle.std.specs.Prelude.{◌≡◌, ◌≢◌, ◌||◌, [], IfOk, is_some};
+ghost use Rattle.pyver_core.specs.Borrowed.{parts_of};
 ghost use Rattle.pyver_core.specs.Normal.{normal};
 
 use crate::part::{LocalPart, PreKind};
+use crate::parts::PartsRef;
+use crate::text::normal_text;
+use std::alloc::{AllocError, Global};
 use std::marker::Model;
 
 /// A version of a Python package (PEP 440), kept as its parts and its normal form.
@@ -47,6 +51,60 @@ impl Model for Version {
 }
 
 impl Version {
+    /// The version with these parts. `release` is not empty.
+    pub(crate) fn from_parts(
+        alloc: Global,
+        epoch: u128,
+        release: Vec<u128>,
+        pre: Option<(PreKind, u128)>,
+        post: Option<u128>,
+        dev: Option<u128>,
+        local: Vec<LocalPart>,
+    ) -> Result<Version, AllocError>
+        requires { release.items ≢ [] }
+        ensures { IfOk result (λ v. v ≡ record {
+          epoch = epoch;
+          release = release.items;
+          pre = pre;
+          post = post;
+          dev = dev;
+          local = local.items;
+        }) }
+    {
+        let parts = PartsRef {
+            epoch,
+            release: &release,
+            pre,
+            post,
+            dev,
+            local: &local,
+        };
+        let text = normal_text(alloc, &parts)?;
+        Ok(Version {
+            epoch,
+            release,
+            pre,
+            post,
+            dev,
+            local,
+            text,
+        })
+    }
+
+    /// The parts, lent.
+    pub(crate) fn parts(&self) -> PartsRef<'_>
+        ensures { parts_of result ≡ self.now }
+    {
+        PartsRef {
+            epoch: self.epoch,
+            release: &self.release,
+            pre: self.pre,
+            post: self.post,
+            dev: self.dev,
+            local: &self.local,
+        }
+    }
+
     /// The epoch, 0 where none is written.
     pub fn epoch(&self) -> u128
         ensures { result ≡ self.now.epoch }
