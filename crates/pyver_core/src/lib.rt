@@ -2,6 +2,8 @@
 #![tactic(auto)]
 
 mod error;
+mod hash;
+mod order;
 mod part;
 mod parts;
 mod text;
