@@ -4,4 +4,7 @@ pub mod Normal
 pub mod Order
 pub mod OrderLaws
 pub mod Parts
+pub mod Prefix
+pub mod SpecifierText
+pub mod Specifiers
 pub mod Stripped

@@ -1,6 +1,6 @@
 -- The order of versions (PEP 440, "Summary of permitted suffixes and relative ordering").
-use Rattle.std.specs.Prelude.{◌≡◌, ℕ, ◌-◌, List, [], ◌∷◌, ◌++◌, length, replicate, Option, Some, None}
-use Rattle.std.specs.Ordering.{nat_cmp, ordering_then}
+use Rattle.std.specs.Prelude.{◌≡◌, ℕ, ◌-◌, List, [], ◌∷◌, ◌++◌, length, replicate, Option, Some, None, Bool}
+use Rattle.std.specs.Ordering.{is_eq, is_lt, nat_cmp, ordering_then}
 use Rattle.std.specs.Option.{option_cmp}
 use Rattle.std.specs.Cmp.Lexicographic.{slice_cmp}
 use Rattle.std.specs.declared.cmp.Ordering.{Ordering}
@@ -76,3 +76,10 @@ before v w = version_cmp v w ≡ Less
 -- v and w are equal as versions: no comparison tells them apart
 abbrev pub same : Parts → Parts → Type 0
 same v w = version_cmp v w ≡ Equal
+
+-- the tests of the two
+abbrev pub is_before : Parts → Parts → Bool
+is_before v w = is_lt (version_cmp v w)
+
+abbrev pub is_same : Parts → Parts → Bool
+is_same v w = is_eq (version_cmp v w)

@@ -1,14 +1,17 @@
 //! Versions, specifier sets and names of Python packages: PEP 440 and PEP 503.
 #![tactic(auto)]
 
+mod admits;
 mod error;
 mod hash;
 mod order;
 mod part;
 mod parts;
+mod specifier;
 mod text;
 mod version;
 
 pub use error::{SpecifierError, VersionError};
 pub use part::{Label, LocalPart, PreKind};
+pub use specifier::{Operator, ReleasePrefix, Specifier};
 pub use version::Version;
