@@ -1,5 +1,6 @@
 pub mod Borrowed
 pub mod Hashing
+pub mod Names
 pub mod Normal
 pub mod Order
 pub mod OrderLaws
