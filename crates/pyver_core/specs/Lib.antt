@@ -1,3 +1,6 @@
 pub mod Borrowed
+pub mod Drafted
+pub mod Grammar
 pub mod Normal
 pub mod Parts
+pub mod Reading

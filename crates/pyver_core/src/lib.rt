@@ -4,6 +4,7 @@
 mod error;
 mod part;
 mod parts;
+mod reading;
 mod text;
 mod version;
 
