@@ -167,6 +167,10 @@ number_in_segment (Text label) = []
 abbrev pub numbers : Parts → List ℕ
 numbers p = p.epoch ∷ (p.release ++ (number_in_pre p.pre ++ (number_in p.post ++ (number_in p.dev ++ flat_map number_in_segment p.local))))
 
--- a number of the parts is past 340,282,366,920,938,463,463,374,607,431,768,211,455
+-- whether one of the numbers is past 340,282,366,920,938,463,463,374,607,431,768,211,455
+abbrev pub has_large : List ℕ → Bool
+has_large ns = list_any (nat_le (2 ^ 128)) ns
+
+-- a number of the parts is past the limit
 abbrev pub IsLarge : Parts → Type 0
-IsLarge p = IsTrue (list_any (nat_le (2 ^ 128)) (numbers p))
+IsLarge p = IsTrue (has_large (numbers p))

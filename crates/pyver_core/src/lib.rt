@@ -2,6 +2,7 @@
 #![tactic(auto)]
 
 mod error;
+mod parse;
 mod part;
 mod parts;
 mod reading;
@@ -11,3 +12,6 @@ mod version;
 pub use error::{SpecifierError, VersionError};
 pub use part::{Label, LocalPart, PreKind};
 pub use version::Version;
+
+#[cfg(test)]
+mod tests;

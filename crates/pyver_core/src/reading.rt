@@ -3,6 +3,7 @@
 mod digits;
 mod draft;
 mod fields;
+mod owned;
 mod run;
 mod scan;
 mod tagged;

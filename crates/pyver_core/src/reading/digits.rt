@@ -3,6 +3,7 @@
 ghost use Rattle.std.specs.Prelude.{◌≡◌, ◌+◌, ◌*◌, ◌<◌, ◌^◌, true, SomeIff};
 ghost use Rattle.std.specs.Char.{is_ascii_digit, digit_value};
 
+use crate::error::VersionError;
 use std::marker::Model;
 
 /// The digits of a number, of which there may be none for 0. Contracts see the number, of any size.
@@ -25,7 +26,8 @@ impl<'a> Model for Digits<'a> {
 }
 
 impl<'a> Digits<'a> {
-    ghost use Rattle.std.specs.Prelude.{◌≡◌, ◌<◌, ◌^◌, true, SomeIff};
+    ghost use Rattle.std.specs.Prelude.{◌≡◌, ◌<◌, ◌^◌, true, SomeIff, [], ◌∷◌};
+    ghost use Rattle.pyver_core.specs.Limit.{Makes};
     ghost use Rattle.std.specs.Char.{is_ascii_digit};
     ghost use Rattle.std.specs.List.{list_all};
     ghost use Rattle.std.specs.Str.Parse.{digits_value};
@@ -54,6 +56,13 @@ impl<'a> Digits<'a> {
             value = with_digit(value, *digit)?;
         }
         Some(value)
+    }
+
+    /// The number, or the refusal of one past the limit.
+    pub(crate) fn number(&self) -> Result<u128, VersionError>
+        ensures { Makes (λ n. n) result self.now (self.now ∷ []) }
+    {
+        self.value().ok_or(VersionError::NumberTooLarge)
     }
 }
 

@@ -5,7 +5,11 @@ ghost use Rattle.pyver_core.specs.Reading.{after_prefix, base_at, dotted_at, hea
 ghost use Rattle.pyver_core.specs.Drafted.{base_of};
 
 use super::digits::Digits;
+use super::owned::{with_dotted, with_separated};
 use super::scan;
+use crate::error::VersionError;
+use crate::part::LocalPart;
+use std::alloc::Global;
 use std::marker::Model;
 
 /// A release: its first number, and the text with the others at its front.
@@ -38,6 +42,41 @@ impl<'a> Model for Local<'a> {
     ghost Value = { List LocalPart };
 
     ghost view = { λ a. (local_at a.text.now).0 };
+}
+
+impl Release<'_> {
+    ghost use Rattle.std.specs.Prelude.{◌≢◌, [], IfOk};
+    ghost use Rattle.pyver_core.specs.Limit.{Makes};
+
+    /// The numbers.
+    pub(crate) fn numbers(&self, alloc: Global) -> Result<Vec<u128>, VersionError>
+        ensures made { Makes (λ v. v.items) result self.now self.now }
+        ensures not_empty { IfOk result (λ v. v.items ≢ []) }
+    {
+        let mut numbers = Vec::new(alloc);
+        numbers.push(self.first.number()?)?;
+        with_dotted(numbers, self.others)
+    }
+}
+
+impl Local<'_> {
+    ghost use Rattle.std.specs.Prelude.{flat_map};
+    ghost use Rattle.pyver_core.specs.Grammar.{number_in_segment};
+    ghost use Rattle.pyver_core.specs.Limit.{Makes};
+    ghost use Rattle.pyver_core.specs.Reading.{local_at};
+
+    /// The segments.
+    #[tactic(auto, unfolding(crate::specs::Reading::local_at))]
+    pub(crate) fn segments(&self, alloc: Global) -> Result<Vec<LocalPart>, VersionError>
+        ensures { Makes (λ v. v.items) result self.now (flat_map number_in_segment self.now) }
+    {
+        let mut segments = Vec::new(alloc);
+        let Some((first, rest)) = scan::added(self.text) else {
+            return Ok(segments);
+        };
+        segments.push(first.segment(alloc)?)?;
+        with_separated(alloc, segments, rest)
+    }
 }
 
 /// An epoch and a release.
