@@ -3,6 +3,13 @@ pub mod Borrowed
 pub mod Drafted
 pub mod Grammar
 pub mod Limit
+pub mod Hashing
 pub mod Normal
+pub mod Order
+pub mod OrderLaws
 pub mod Parts
 pub mod Reading
+pub mod Prefix
+pub mod SpecifierText
+pub mod Specifiers
+pub mod Stripped

@@ -1,16 +1,23 @@
 //! Versions, specifier sets and names of Python packages: PEP 440 and PEP 503.
 #![tactic(auto)]
 
+mod admits;
 mod error;
 mod parse;
 mod part;
 mod parts;
 mod reading;
+mod hash;
+mod order;
+mod part;
+mod parts;
+mod specifier;
 mod text;
 mod version;
 
 pub use error::{SpecifierError, VersionError};
 pub use part::{Label, LocalPart, PreKind};
+pub use specifier::{Operator, ReleasePrefix, Specifier};
 pub use version::Version;
 
 #[cfg(test)]

@@ -1,8 +1,9 @@
 //! Versions and their readers.
 
-ghost use Rattle.std.specs.Prelude.{◌≡◌, ◌≢◌, ◌||◌, [], IfOk, is_some};
+ghost use Rattle.std.specs.Prelude.{◌≡◌, ◌≢◌, [], IfOk};
 ghost use Rattle.pyver_core.specs.Borrowed.{parts_of};
 ghost use Rattle.pyver_core.specs.Normal.{normal};
+ghost use Rattle.pyver_core.specs.Parts.{is_postrelease, is_prerelease};
 
 use crate::part::{LocalPart, PreKind};
 use crate::parts::PartsRef;
@@ -157,14 +158,14 @@ impl Version {
 
     /// Whether the version has a pre or a dev part (PEP 440, "Pre-releases").
     pub fn is_prerelease(&self) -> bool
-        ensures { result ≡ (is_some self.now.pre || is_some self.now.dev) }
+        ensures { result ≡ is_prerelease self.now }
     {
         self.pre.is_some() || self.dev.is_some()
     }
 
     /// Whether the version has a post part (PEP 440, "Post-releases").
     pub fn is_postrelease(&self) -> bool
-        ensures { result ≡ is_some self.now.post }
+        ensures { result ≡ is_postrelease self.now }
     {
         self.post.is_some()
     }
