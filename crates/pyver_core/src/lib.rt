@@ -3,14 +3,13 @@
 
 mod admits;
 mod error;
+mod hash;
+pub mod laws;
+mod order;
 mod parse;
 mod part;
 mod parts;
 mod reading;
-mod hash;
-mod order;
-mod part;
-mod parts;
 mod specifier;
 mod text;
 mod version;
