@@ -1,11 +1,16 @@
+pub mod Answer
 pub mod Borrowed
+pub mod Drafted
+pub mod Grammar
 pub mod Hashing
+pub mod Limit
 pub mod Names
 pub mod Normal
 pub mod Order
 pub mod OrderLaws
 pub mod Parts
 pub mod Prefix
+pub mod Reading
 pub mod SpecifierText
 pub mod Specifiers
 pub mod Stripped

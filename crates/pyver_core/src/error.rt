@@ -4,7 +4,7 @@ ghost use Rattle.std.specs.Prelude.{◌≡◌};
 ghost use Rattle.pyver_core.specs.declared.error.SpecifierError.TheVariants as specifier;
 ghost use Rattle.pyver_core.specs.declared.error.VersionError.TheVariants as version;
 
-use std::alloc::AllocError;
+use std::alloc::{AllocError, AllocFailed};
 use thiserror::Error;
 
 /// Why a text isn't taken as a version.
@@ -45,5 +45,13 @@ impl From<AllocError> for SpecifierError {
 
     fn from(_refused: AllocError) -> SpecifierError {
         SpecifierError::Memory
+    }
+}
+
+impl<T: Drop> From<AllocFailed<T>> for VersionError {
+    ghost from_gives = { λ _ e. e ≡ version.Memory };
+
+    fn from(_refused: AllocFailed<T>) -> VersionError {
+        VersionError::Memory
     }
 }

@@ -4,10 +4,13 @@
 mod admits;
 mod error;
 mod hash;
+pub mod laws;
 mod name;
 mod order;
+mod parse;
 mod part;
 mod parts;
+mod reading;
 mod set;
 mod set_text;
 mod specifier;
@@ -20,3 +23,6 @@ pub use part::{Label, LocalPart, PreKind};
 pub use set::SpecifierSet;
 pub use specifier::{Operator, ReleasePrefix, Specifier};
 pub use version::Version;
+
+#[cfg(test)]
+mod tests;
