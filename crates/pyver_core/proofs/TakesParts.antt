@@ -232,18 +232,48 @@ local_takes text = elim (option_sight (added_at text)) [
 
 -- ---- the whole text
 
-pub version_takes : (text : List ℕ) (p : Parts) → version_of text ≡ Some p → Spells text p
-unfolding version_of parts_at
-version_takes text p e =
+all_takes : (text body rest : List ℕ) (e : ℕ) (ns : List ℕ) (pre : Option (PreKind × ℕ) × List ℕ) (post dev : Option ℕ × List ℕ) (local : List LocalPart × List ℕ)
+    → (before : List ℕ) → text ≡ before ++ body → list_all is_white before ≡ true → IsBase body ((e, ns), rest)
+    → TakesPre rest pre → TakesPost pre.1 post → TakesDev post.1 dev → TakesLocal dev.1 local → list_all is_white local.1 ≡ true
+    → Spells text (record { epoch = e; release = ns; pre = pre.0; post = post.0; dev = dev.0; local = local.0 })
+all_takes text body rest e ns pre post dev local before whole white base p o d l end =
+    let from_dev : post.1 ≡ d.0 ++ (l.0 ++ local.1) = d.1 ∙ ap (λ (r : List ℕ). d.0 ++ r) l.1 in
+    let from_post : pre.1 ≡ o.0 ++ (d.0 ++ (l.0 ++ local.1)) = o.1 ∙ ap (λ (r : List ℕ). o.0 ++ r) from_dev in
+    let from_pre : rest ≡ p.0 ++ (o.0 ++ (d.0 ++ (l.0 ++ local.1))) = p.1 ∙ ap (λ (r : List ℕ). p.0 ++ r) from_post in
+    record {
+      before = before;
+      prefix = base.0;
+      epoch = base.1;
+      release = base.2;
+      pre = p.0;
+      post = o.0;
+      dev = d.0;
+      local = l.0;
+      after = local.1;
+      whole = whole ∙ ap (λ (r : List ℕ). before ++ r) (base.3 ∙ ap (λ (r : List ℕ). base.0 ++ (base.1 ++ (base.2 ++ r))) from_pre);
+      is_before = white;
+      is_prefix = base.4;
+      is_epoch = base.5;
+      is_release = base.6;
+      is_pre = subst (λ (r : List ℕ). IsPre p.0 pre.0 r) from_post p.2;
+      is_post = subst (λ (r : List ℕ). IsPost o.0 post.0 r) from_dev o.2;
+      is_dev = subst (λ (r : List ℕ). IsDev d.0 dev.0 r) l.1 d.2;
+      is_local = l.2;
+      is_after = end;
+    }
+
+version_end : (text : List ℕ) (p : Parts) (x : (ℕ × List ℕ) × List ℕ) → base_at (after_white text) ≡ Some x → (parts_at x.0 x.1).0 ≡ p → list_all is_white (parts_at x.0 x.1).1 ≡ true → Spells text p
+unfolding parts_at
+version_end text p x base end white =
     let before = white_takes text in
+    let pre = optional_at tagged_pre_at x.1 in
+    let post = optional_at dashed_or_tagged_post_at pre.1 in
+    let dev = optional_at tagged_dev_at post.1 in
+    subst (λ (q : Parts). Spells text q) end (all_takes text (after_white text) x.1 x.0.0 x.0.1 pre post dev (local_at dev.1) before.0 before.1 before.2 (base_takes (after_white text) x base) (pre_takes x.1) (post_takes pre.1) (dev_takes post.1) (local_takes dev.1) white)
+
+pub version_takes : (text : List ℕ) (p : Parts) → version_of text ≡ Some p → Spells text p
+unfolding version_of
+version_takes text p e =
     let a = bind_some (base_at (after_white text)) _ p e in
-    let base = base_takes (after_white text) a.0 a.1 in
-    let pre = pre_takes a.0.1 in
-    let post = post_takes (optional_at tagged_pre_at a.0.1).1 in
-    let dev = dev_takes (optional_at dashed_or_tagged_post_at (optional_at tagged_pre_at a.0.1).1).1 in
-    let after_dev = (optional_at tagged_dev_at (optional_at dashed_or_tagged_post_at (optional_at tagged_pre_at a.0.1).1).1).1 in
-    let local = local_takes after_dev in
     let c = cond_some (list_all is_white (parts_at a.0.0 a.0.1).1) (parts_at a.0.0 a.0.1).0 p a.2 in
-    let from_local = local.1 in
-    let from_dev = dev.1 ∙ ap (λ (r : List ℕ). dev.0 ++ r) from_local in
-    ?
+    version_end text p a.0 a.1 c.1 c.0
