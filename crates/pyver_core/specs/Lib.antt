@@ -11,6 +11,8 @@ pub mod OrderLaws
 pub mod Parts
 pub mod Prefix
 pub mod Reading
+pub mod SetGrammar
+pub mod SetReading
 pub mod SpecifierText
 pub mod Specifiers
 pub mod Stripped
