@@ -11,3 +11,9 @@ pub fn version_of_spells()
     ensures { (text : List ℕ) (p : Parts) → version_of text ≡ Some p → Spells text p }
 {
 }
+
+/// What a text spells, [`Version::parse`](crate::Version::parse) reads.
+pub fn version_of_is_complete()
+    ensures { (text : List ℕ) (p : Parts) → Spells text p → version_of text ≡ Some p }
+{
+}
