@@ -1,5 +1,5 @@
-use Rattle.pyver_core.proofs.AgainWords.{dev_no_post}
+use Rattle.pyver_core.proofs.AgainVersion.{version_again}
 use Rattle.pyver_core.proofs.laws.version_of_is_complete.Goals as goal
 
 pub returns : goal.returns
-returns c = let a = dev_no_post in ?
+returns c = version_again
