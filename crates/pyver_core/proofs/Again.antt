@@ -19,7 +19,7 @@ use Rattle.pyver_core.proofs.Sight.{sight, chosen, refused}
 
 -- ---- fronts
 
-all_cons : (test : ℕ → Bool) (b : ℕ) (rest : List ℕ) → list_all test (b ∷ rest) ≡ true → (test b ≡ true) × (list_all test rest ≡ true)
+pub all_cons : (test : ℕ → Bool) (b : ℕ) (rest : List ℕ) → list_all test (b ∷ rest) ≡ true → (test b ≡ true) × (list_all test rest ≡ true)
 all_cons test b rest e = elim (sight (test b)) [
     | inl passes ↦ (passes, rw passes at e)
     | inr fails ↦ absurd (let n : false ≡ true = rw fails at e in cc)
