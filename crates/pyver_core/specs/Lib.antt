@@ -4,12 +4,15 @@ pub mod Drafted
 pub mod Grammar
 pub mod Hashing
 pub mod Limit
+pub mod Names
 pub mod Normal
 pub mod Order
 pub mod OrderLaws
 pub mod Parts
 pub mod Prefix
 pub mod Reading
+pub mod SetGrammar
+pub mod SetReading
 pub mod SpecifierText
 pub mod Specifiers
 pub mod Stripped

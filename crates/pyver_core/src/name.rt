@@ -1,0 +1,53 @@
+//! Names (PEP 508, "Names") and their normal form (PEP 503, "Normalized Names").
+
+ghost use Rattle.std.specs.Prelude.{◌≡◌, ◌↔◌, ◌||◌, IfOk, IsTrue, string_bytes};
+ghost use Rattle.std.specs.Char.{is_ascii_alphanumeric};
+ghost use Rattle.std.specs.List.{list_all};
+ghost use Rattle.pyver_core.specs.Names.{IsName, is_separator, norm};
+
+use std::alloc::{AllocError, Global};
+
+/// Whether the text is a name: one or more ASCII letters, digits, `.`, `_` and `-`, first and last a
+/// letter or a digit. It takes no memory.
+pub fn is_name(text: &str) -> bool
+    ensures { IsTrue result ↔ IsName text.now }
+{
+    let bytes = text.as_bytes();
+    match (bytes.first(), bytes.last()) {
+        (Some(first), Some(last)) => {
+            first.is_ascii_alphanumeric() && last.is_ascii_alphanumeric() && is_allowed(bytes)
+        }
+        _ => false,
+    }
+}
+
+fn is_allowed(bytes: &[u8]) -> bool
+    ensures { result ≡ list_all (λ b. is_ascii_alphanumeric b || is_separator b) bytes.now }
+{
+    bytes.iter().all(|byte| byte.is_ascii_alphanumeric() || matches!(*byte, b'.' | b'_' | b'-'))
+}
+
+/// The normal form of any text: each longest run of `.`, `_` and `-` becomes one `-`, ASCII letters
+/// become lower case, and other characters stay. It takes memory for the form alone.
+pub fn normal_name(alloc: Global, text: &str) -> Result<String, AllocError>
+    ensures { IfOk result (λ name. string_bytes name ≡ norm text.now) }
+{
+    let mut name = String::new(alloc);
+    let mut in_run = false;
+    for character in text.chars() {
+        let separates = is_separator(character);
+        if !separates {
+            name.push(character.to_ascii_lowercase())?;
+        } else if !in_run {
+            name.push('-')?;
+        }
+        in_run = separates;
+    }
+    Ok(name)
+}
+
+fn is_separator(character: char) -> bool
+    ensures { result ≡ is_separator character }
+{
+    matches!(character, '.' | '_' | '-')
+}
