@@ -1,5 +1,5 @@
 -- Names (PEP 508, "Names") and their normal form (PEP 503, "Normalized Names").
-use Rattle.std.specs.Prelude.{ℕ, ◌-◌, ◌<◌, ◌==◌, ◌||◌, Bool, false, IsTrue, if◌then◌else◌, List, [], ◌∷◌, length, slice_index}
+use Rattle.std.specs.Prelude.{ℕ, ◌-◌, ◌==◌, ◌&&◌, ◌||◌, Bool, false, if◌then◌else◌, List, [], ◌∷◌, length, slice_get, Option, option_map, unwrap_or}
 use Rattle.std.specs.Char.{is_ascii_alphanumeric, to_ascii_lowercase}
 use Rattle.std.specs.List.{list_all}
 
@@ -7,12 +7,17 @@ use Rattle.std.specs.List.{list_all}
 abbrev pub is_separator : ℕ → Bool
 is_separator b = (b == 46) || ((b == 95) || (b == 45))
 
--- one or more ASCII letters, digits and separators, of which the first and the last are no separators
-pub record IsName (text : List ℕ) : Type 0 where
-  pub not_empty : 0 < length text
-  pub allowed : IsTrue (list_all (λ b. is_ascii_alphanumeric b || is_separator b) text)
-  pub first : IsTrue (is_ascii_alphanumeric (slice_index text 0))
-  pub last : IsTrue (is_ascii_alphanumeric (slice_index text (length text - 1)))
+-- an ASCII letter or digit, or a separator
+abbrev pub is_name_byte : ℕ → Bool
+is_name_byte b = is_ascii_alphanumeric b || is_separator b
+
+-- an ASCII letter or digit stands there
+abbrev pub is_name_end : Option ℕ → Bool
+is_name_end byte = unwrap_or (option_map is_ascii_alphanumeric byte) false
+
+-- a name: one or more ASCII letters, digits and separators, of which the first and the last are no separators
+abbrev pub is_name : List ℕ → Bool
+is_name text = list_all is_name_byte text && (is_name_end (slice_get text 0) && is_name_end (slice_get text (length text - 1)))
 
 -- whether a text begins with a separator
 abbrev pub begins_separated : List ℕ → Bool

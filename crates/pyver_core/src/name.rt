@@ -1,30 +1,37 @@
 //! Names (PEP 508, "Names") and their normal form (PEP 503, "Normalized Names").
 
-ghost use Rattle.std.specs.Prelude.{◌≡◌, ◌↔◌, ◌||◌, IfOk, IsTrue, string_bytes};
-ghost use Rattle.std.specs.Char.{is_ascii_alphanumeric};
+ghost use Rattle.std.specs.Prelude.{◌≡◌, IfOk, string_bytes};
 ghost use Rattle.std.specs.List.{list_all};
-ghost use Rattle.pyver_core.specs.Names.{IsName, is_separator, norm};
+ghost use Rattle.std.specs.Option.{option_copied};
+ghost use Rattle.pyver_core.specs.Names.{is_name, is_name_byte, is_name_end, is_separator, norm};
 
 use std::alloc::{AllocError, Global};
 
 /// Whether the text is a name: one or more ASCII letters, digits, `.`, `_` and `-`, first and last a
 /// letter or a digit. It takes no memory.
 pub fn is_name(text: &str) -> bool
-    ensures { IsTrue result ↔ IsName text.now }
+    ensures { result ≡ is_name text.now }
 {
     let bytes = text.as_bytes();
-    match (bytes.first(), bytes.last()) {
-        (Some(first), Some(last)) => {
-            first.is_ascii_alphanumeric() && last.is_ascii_alphanumeric() && is_allowed(bytes)
-        }
-        _ => false,
-    }
+    has_name_bytes(bytes) && is_name_end(bytes.first()) && is_name_end(bytes.last())
 }
 
-fn is_allowed(bytes: &[u8]) -> bool
-    ensures { result ≡ list_all (λ b. is_ascii_alphanumeric b || is_separator b) bytes.now }
+fn has_name_bytes(bytes: &[u8]) -> bool
+    ensures { result ≡ list_all is_name_byte bytes.now }
 {
-    bytes.iter().all(|byte| byte.is_ascii_alphanumeric() || matches!(*byte, b'.' | b'_' | b'-'))
+    bytes.iter().all(|byte| is_name_byte(*byte))
+}
+
+fn is_name_byte(byte: u8) -> bool
+    ensures { result ≡ is_name_byte byte }
+{
+    byte.is_ascii_alphanumeric() || matches!(byte, b'.' | b'_' | b'-')
+}
+
+fn is_name_end(byte: Option<&u8>) -> bool
+    ensures { result ≡ is_name_end (option_copied byte.entry) }
+{
+    byte.is_some_and(|byte| byte.is_ascii_alphanumeric())
 }
 
 /// The normal form of any text: each longest run of `.`, `_` and `-` becomes one `-`, ASCII letters
