@@ -1,5 +1,5 @@
 -- What was read already, put before what is left to read.
-use Rattle.std.proofs.Common.{◌≡◌, ℕ, zero, suc, Bool, true, false, IsUtf8, List, [], ◌∷◌, ◌++◌, length, Option, Some, None, Result, Ok, Err, String, Global, string_bytes, option_map, refl, ap, append_assoc, ◌∙◌, sym, arith, cond, ◌&&◌, ◌<◌, is_some}
+use Rattle.std.proofs.Common.{◌≡◌, ℕ, suc, IsUtf8, List, [], ◌∷◌, ◌++◌, length, Option, Some, None, Result, Ok, Err, String, Global, string_bytes, option_map, refl, ap, append_assoc, ◌∙◌, sym, arith, cond, ◌&&◌, ◌<◌, is_some}
 use Rattle.std.proofs.lemmas.List.{map-append}
 use Rattle.std.proofs.Math.Logic.{⊎_elim}
 use Rattle.std.proofs.lemmas.Bool.{cases_Bool, cond-true, cond-false}

@@ -111,8 +111,10 @@ fn read_name(alloc: Global, entry: &Value) -> Result<String, EntryError>
 fn read_version(alloc: Global, entry: &Value) -> Result<Option<String>, EntryError>
     ensures { GivesEntry (option_map string_bytes) result (version_in (view entry.now)) }
 {
-    optional_text(alloc, entry, "version")
-        .map_err(|fault| refusal(fault, EntryError::Key(EntryKey::Version)))
+    optional_text(alloc, entry, "version").map_err(|fault| refusal(
+        fault,
+        EntryError::Key(EntryKey::Version),
+    ))
 }
 
 #[tactic(auto, unfolding(crate::specs::Lock::sources_in))]
@@ -163,7 +165,11 @@ fn sdist_key(alloc: Global, entry: &Value) -> Result<Option<Sdist>, EntryError>
 fn refuse(entry: &Value, key: &str, refusal: EntryError) -> Result<(), EntryError>
     ensures { result ≡ absent key.now refusal (view entry.now) }
 {
-    if entry.get(key).is_some() { Err(refusal) } else { Ok(()) }
+    if entry.get(key).is_some() {
+        Err(refusal)
+    } else {
+        Ok(())
+    }
 }
 
 /// The refusal of an entry whose field was not read.

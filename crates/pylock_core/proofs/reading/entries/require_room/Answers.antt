@@ -1,4 +1,4 @@
-use Rattle.std.proofs.Common.{arith, rules}
+use Rattle.std.proofs.Common.{arith}
 use Rattle.std.proofs.lemmas.Bool.Decides.{nat_tests}
 use Rattle.pylock_core.proofs.ReadingLemmas.{count-items_view}
 use Rattle.pylock_core.proofs.reading.entries.require_room.Goals as goal

@@ -1,9 +1,10 @@
 //! The reader of environments.
 ghost use Rattle.std.specs.Prelude.{◌≡◌};
 ghost use Rattle.serde_json.specs.View.{view, items_view, members_view};
-ghost use Rattle.pylock_core.specs.Environment.{is_variable, may_stand, variables_are_texts, are_texts, environment_in, tags_in, shape, no_tags, env_in, text_of, value_of, env_of};
+ghost use Rattle.pylock_core.specs.Environment.{is_variable, may_stand, variables_are_texts, are_texts, environment_in, tags_in, shape, no_tags, env_in, value_of, env_of};
 ghost use Rattle.pylock_core.specs.Reading.{GivesEnvironment};
 
+use super::as_text;
 use crate::error::EnvError;
 use serde_json::{Map, Value};
 use std::alloc::Global;
@@ -32,18 +33,9 @@ const VARIABLES: [&str; 11] = [
 pub fn read_environment(alloc: Global, bytes: &[u8]) -> Result<(), EnvError>
     ensures { GivesEnvironment (λ u. u) result (env_of bytes.now) }
 {
-    let text = utf8(bytes)?;
+    let text = as_text(bytes).ok_or(EnvError::Json)?;
     let value = json(alloc, text)?;
     require_form(&value)
-}
-
-fn utf8(bytes: &[u8]) -> Result<&str, EnvError>
-    ensures { GivesEnvironment (λ text. text.now) result (text_of bytes.now) }
-{
-    match std::str::from_utf8(bytes) {
-        Ok(text) => Ok(text),
-        Err(_) => Err(EnvError::Json),
-    }
 }
 
 fn json(alloc: Global, text: &str) -> Result<Value, EnvError>
@@ -129,5 +121,9 @@ fn are_texts(values: &[Value]) -> bool
 fn refuse_tags(tags: &[Value]) -> Result<(), EnvError>
     ensures { result ≡ no_tags (items_view tags.now) }
 {
-    if tags.is_empty() { Ok(()) } else { Err(EnvError::Tag(1)) }
+    if tags.is_empty() {
+        Ok(())
+    } else {
+        Err(EnvError::Tag(1))
+    }
 }

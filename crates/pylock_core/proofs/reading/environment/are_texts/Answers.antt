@@ -4,7 +4,7 @@ use Rattle.std.proofs.lemmas.Iterator.Search.{all_from_yields_List}
 use Rattle.serde_json.specs.Find.{as_str}
 use Rattle.serde_json.specs.View.{view}
 use Rattle.pylock_core.proofs.ReadingLemmas.{are_texts-items_view}
-use Rattle.pylock_core.proofs.environment.are_texts.Goals as goal
+use Rattle.pylock_core.proofs.reading.environment.are_texts.Goals as goal
 
 pub returns : goal.returns
 returns c =
