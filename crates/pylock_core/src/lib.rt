@@ -10,6 +10,8 @@ mod file_name;
 mod lock;
 mod session;
 mod steps;
+#[cfg(test)]
+mod tests;
 
 pub use answer::{Answer, FaultCode, Pick, PickSource, Plan};
 pub use edit::{Edit, EditError};
