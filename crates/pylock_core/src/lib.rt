@@ -12,6 +12,8 @@ mod names;
 mod reading;
 mod session;
 mod steps;
+#[cfg(test)]
+mod tests;
 
 pub use answer::{Answer, FaultCode, Pick, PickSource, Plan};
 pub use edit::{Edit, EditError};
