@@ -30,9 +30,9 @@ after_front front (Ok xs) = Ok (front ++ xs)
 after_front front (Err e) = Err e
 
 -- as many items as values
-pub count-items_view : (vs : List Value) → count (items_view vs) ≡ length vs
-count-items_view [] = refl
-count-items_view (v ∷ vs) = ap suc (count-items_view vs)
+pub count_of_items : (vs : List Value) → count (items_view vs) ≡ length vs
+count_of_items [] = refl
+count_of_items (v ∷ vs) = ap suc (count_of_items vs)
 
 -- ---- a test of UTF-8
 

@@ -9,6 +9,8 @@ mod environment;
 mod fields;
 mod head;
 mod sources;
+#[cfg(test)]
+mod tests;
 
 pub use environment::read_environment;
 

@@ -45,6 +45,7 @@ fn packages(document: &Value) -> Result<&[Value], LockError>
     }
 }
 
+#[tactic(auto, using(crate::proofs::ReadingLemmas::count_of_items))]
 fn require_room(values: &[Value]) -> Result<(), LockError>
     ensures gives { GivesLock (λ u. u) result (room_for (items_view values.now)) }
     ensures within { OnOk result (length values.now ≤ MOST_ENTRIES) }

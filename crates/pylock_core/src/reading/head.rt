@@ -18,8 +18,8 @@ impl Lock {
     /// Reads a lock of version 1 (PEP 751, "File format"). The refusals come in the order of `LockError`; keys that
     /// are not named there are ignored.
     ///
-    /// Takes memory for the document and for the lock; a document of many small values takes many times the memory
-    /// of its text.
+    /// Takes memory for the document and for the lock. A document of many small values takes more than a hundred
+    /// times the memory of its text, so the system may end the process before it refuses the memory.
     #[tactic(auto, unfolding(crate::specs::Lock::lock_of))]
     pub fn read(alloc: Global, bytes: &[u8]) -> Result<Lock, LockError>
         ensures { GivesLock (λ l. l) result (lock_of bytes.now) }
