@@ -1,5 +1,5 @@
 -- What was read already, put before what is left to read.
-use Rattle.std.proofs.Common.{◌≡◌, ℕ, zero, suc, Bool, true, false, IsUtf8, List, [], ◌∷◌, ◌++◌, length, Option, Some, None, Result, Ok, Err, String, Global, string_bytes, option_map, refl, ap, append_assoc, ◌∙◌, sym, arith, cond, ◌&&◌, ◌<◌, is_some}
+use Rattle.std.proofs.Common.{◌≡◌, ℕ, suc, IsUtf8, List, [], ◌∷◌, ◌++◌, length, Option, Some, None, Result, Ok, Err, String, Global, string_bytes, option_map, refl, ap, append_assoc, ◌∙◌, sym, arith, cond, ◌&&◌, ◌<◌, is_some}
 use Rattle.std.proofs.lemmas.List.{map-append}
 use Rattle.std.proofs.Math.Logic.{⊎_elim}
 use Rattle.std.proofs.lemmas.Bool.{cases_Bool, cond-true, cond-false}
@@ -30,9 +30,9 @@ after_front front (Ok xs) = Ok (front ++ xs)
 after_front front (Err e) = Err e
 
 -- as many items as values
-pub count-items_view : (vs : List Value) → count (items_view vs) ≡ length vs
-count-items_view [] = refl
-count-items_view (v ∷ vs) = ap suc (count-items_view vs)
+pub count_of_items : (vs : List Value) → count (items_view vs) ≡ length vs
+count_of_items [] = refl
+count_of_items (v ∷ vs) = ap suc (count_of_items vs)
 
 -- ---- a test of UTF-8
 

@@ -71,3 +71,6 @@ pub rows_from : (rows : List (Option EntryValue)) (place : ℕ) (entry : EntryVa
     → in_rows (place + 1) (drop place rows) ≡ (place + 1, entry) ∷ in_rows (place + 1 + 1) (drop (place + 1) rows)
 rows_from rows place entry within there =
     ap (in_rows (place + 1)) (drop_more rows place (Some entry) within ∙ ap (λ row. row ∷ drop (place + 1) rows) there)
+
+-- what stands in the rows under a number, and what is left without it
+pub ruleset row_numbers = (entry_at_row, entry_at_below, entry_at_past, without_row, without_below, without_past)

@@ -1,17 +1,13 @@
 -- The text of an environment: the variables and the tags of the Python that is installed for. Variables and tags aren't kept yet: what an accepted text says is that it has the form.
-use Rattle.std.specs.Prelude.{ℕ, Bool, true, false, not, ◌&&◌, ◌||◌, codes, List, [], ◌∷◌, Option, Some, None, is_some, option_and_then, ok_or, Result, Ok, Err, if◌then◌else◌, ⊤}
+use Rattle.std.specs.Prelude.{ℕ, Bool, true, not, ◌&&◌, ◌||◌, codes, List, [], ◌∷◌, is_some, option_and_then, ok_or, Result, Ok, Err, if◌then◌else◌, ⊤}
 use Rattle.std.specs.List.{list_any}
-use Rattle.std.specs.Str.{is_utf8, bytes_eq}
+use Rattle.std.specs.Str.{bytes_eq}
 use Rattle.serde_json.specs.Data.{Data, Items, no_items, item, Members, no_members, member}
 use Rattle.serde_json.specs.Find.{get, as_str, as_array, as_object}
 use Rattle.serde_json.specs.Read.{read}
+use Rattle.pylock_core.specs.Reading.{◌>>=◌, text_of}
 use Rattle.pylock_core.specs.declared.error.EnvError.{EnvError}
 use Rattle.pylock_core.specs.declared.error.EnvError.TheVariants.{Json, Shape, Tag}
-
-infixl 10 ◌>>=◌
-abbrev pub ◌>>=◌ : {A B E : Type 0} → Result A E → (A → Result B E) → Result B E
-(Ok x) >>= f = f x
-(Err e) >>= f = Err e
 
 -- the variables of markers (PEP 508, "Environment Markers")
 abbrev pub variables : List (List ℕ)
@@ -59,10 +55,6 @@ env_in d = do
   _ ← shape (are_texts tags)
   no_tags tags
 
--- the bytes as UTF-8
-abbrev pub text_of : List ℕ → Result (List ℕ) EnvError
-text_of bytes = if is_utf8 bytes then Ok bytes else Err Json
-
 -- the text as JSON
 abbrev pub value_of : List ℕ → Result Data EnvError
 value_of text = ok_or (read text) Json
@@ -70,6 +62,6 @@ value_of text = ok_or (read text) Json
 -- the environment that the bytes are
 unfoldable pub env_of : List ℕ → Result ⊤ EnvError
 env_of bytes = do
-  text ← text_of bytes
+  text ← ok_or (text_of bytes) Json
   value ← value_of text
   env_in value

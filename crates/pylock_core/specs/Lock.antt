@@ -2,26 +2,19 @@
 use Rattle.std.specs.Prelude.{ℕ, Bool, not, ◌&&◌, ◌==◌, codes, nat_eq, nat_lt, List, [], ◌∷◌, drop, length, suc, Option, Some, None, is_some, option_map, option_and_then, unwrap_or, ok_or, Result, Ok, Err, if◌then◌else◌, ⊤}
 use Rattle.std.specs.Char.{is_ascii_digit}
 use Rattle.std.specs.List.{list_all, starts_with}
-use Rattle.std.specs.Str.{is_utf8}
 use Rattle.toml.specs.Data.{Data, Items, no_items, item, get, as_array, as_table, table}
 use Rattle.toml.specs.Parse.{parse_document}
 use Rattle.pylock_core.specs.Entry.{DirectoryValue, SdistValue, EntryValue, LockValue}
 use Rattle.pylock_core.specs.Fields.{optional, text_at, optional_text_at, directory_of, sdist_of}
 use Rattle.pylock_core.specs.Names.{is_name, norm}
+use Rattle.pylock_core.specs.Reading.{◌>>=◌, text_of}
 use Rattle.pylock_core.specs.declared.lock.TheConstants.{MOST_ENTRIES}
 use Rattle.pylock_core.specs.declared.error.LockError.{LockError}
 use Rattle.pylock_core.specs.declared.error.LockError.TheVariants as lock
-use Rattle.pylock_core.specs.declared.error.HeadKey.{HeadKey}
 use Rattle.pylock_core.specs.declared.error.HeadKey.TheVariants.{Environments, RequiresPython, Extras, DependencyGroups, DefaultGroups}
 use Rattle.pylock_core.specs.declared.error.EntryError.{EntryError}
 use Rattle.pylock_core.specs.declared.error.EntryError.TheVariants as entry
-use Rattle.pylock_core.specs.declared.error.EntryKey.{EntryKey}
 use Rattle.pylock_core.specs.declared.error.EntryKey.TheVariants as key
-
-infixl 10 ◌>>=◌
-abbrev pub ◌>>=◌ : {A B E : Type 0} → Result A E → (A → Result B E) → Result B E
-(Ok x) >>= f = f x
-(Err e) >>= f = Err e
 
 -- the one value, where the key is absent
 abbrev pub absent : {E : Type 0} → List ℕ → E → Data → Result ⊤ E
@@ -140,10 +133,6 @@ lock_in d = do
   entries ← entries_in d
   Ok (record { entries = entries })
 
--- the bytes as UTF-8
-abbrev pub text_of : List ℕ → Result (List ℕ) LockError
-text_of bytes = if is_utf8 bytes then Ok bytes else Err lock.NotText
-
 -- the text as a TOML document
 abbrev pub document_of : List ℕ → Result Data LockError
 document_of text = ok_or (option_map table (parse_document text)) lock.Toml
@@ -151,6 +140,6 @@ document_of text = ok_or (option_map table (parse_document text)) lock.Toml
 -- the lock that the bytes are
 unfoldable pub lock_of : List ℕ → Result LockValue LockError
 lock_of bytes = do
-  text ← text_of bytes
+  text ← ok_or (text_of bytes) lock.NotText
   document ← document_of text
   lock_in document

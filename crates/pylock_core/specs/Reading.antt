@@ -1,5 +1,6 @@
 -- What it is for a reader to give what a definition says.
-use Rattle.std.specs.Prelude.{◌≡◌, ℕ, List, String, string_bytes, Option, Some, None, Result, Ok, Err}
+use Rattle.std.specs.Prelude.{◌≡◌, ℕ, List, String, string_bytes, Option, Some, None, Result, Ok, Err, if◌then◌else◌}
+use Rattle.std.specs.Str.{is_utf8}
 use Rattle.pylock_core.specs.declared.error.LockError.{LockError}
 use Rattle.pylock_core.specs.declared.error.LockError.TheVariants as lock
 use Rattle.pylock_core.specs.declared.error.EntryError.{EntryError}
@@ -8,6 +9,16 @@ use Rattle.pylock_core.specs.declared.error.EnvError.{EnvError}
 use Rattle.pylock_core.specs.declared.error.EnvError.TheVariants as environment
 use Rattle.pylock_core.specs.declared.reading.fields.FieldError.{FieldError}
 use Rattle.pylock_core.specs.declared.reading.fields.FieldError.TheVariants as field
+
+-- one step after another; the first refusal is the whole's
+infixl 10 ◌>>=◌
+abbrev pub ◌>>=◌ : {A B E : Type 0} → Result A E → (A → Result B E) → Result B E
+(Ok x) >>= f = f x
+(Err e) >>= f = Err e
+
+-- the bytes as text, where they are UTF-8
+abbrev pub text_of : List ℕ → Option (List ℕ)
+text_of bytes = if is_utf8 bytes then Some bytes else None
 
 -- each refusal but one for want of memory is the one that the definition gives
 abbrev pub Gives : {X V E : Type 0} → E → (X → V) → Result X E → Result V E → Type 0

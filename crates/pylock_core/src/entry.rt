@@ -46,7 +46,7 @@ impl Directory {
     pub fn place(&self) -> &str
         ensures { result.now ≡ self.now.path }
     {
-        self.path.as_str()
+        self.path()
     }
 
     /// Whether the directory is installed in editable mode; an absent key `editable` is false.

@@ -5,7 +5,6 @@
 mod answer;
 mod edit;
 mod entry;
-mod environment;
 mod error;
 mod file_name;
 mod lock;
@@ -13,11 +12,13 @@ mod names;
 mod reading;
 mod session;
 mod steps;
+#[cfg(test)]
+mod tests;
 
 pub use answer::{Answer, FaultCode, Pick, PickSource, Plan};
 pub use edit::{Edit, EditError};
 pub use entry::{Directory, Entry, Sdist};
-pub use environment::read_environment;
 pub use error::{EntryError, EntryKey, EnvError, HeadKey, LockError};
 pub use lock::Lock;
+pub use reading::read_environment;
 pub use session::Session;

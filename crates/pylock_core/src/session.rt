@@ -36,9 +36,9 @@ impl Model for Session {
 }
 
 impl Session {
-    #[tactic(auto, using(crate::proofs::RowLemmas::state_of_all))]
     /// A session on the entries of the lock, with the numbers 1, 2, .. in their order. Takes memory for
     /// a row for each of them.
+    #[tactic(auto, using(crate::proofs::RowLemmas::state_of_all))]
     pub fn start(alloc: Global, lock: Lock) -> Result<Session, AllocError>
         ensures { IfOk result (λ session. session ≡ first lock) }
     {
@@ -93,7 +93,7 @@ fn all_there(alloc: Global, entries: Vec<Entry>) -> Result<Vec<Option<Entry>>, A
 }
 
 /// The entry of the number, in its row.
-#[tactic(auto, using(crate::proofs::RowLemmas::entry_at_row, crate::proofs::RowLemmas::entry_at_below, crate::proofs::RowLemmas::entry_at_past))]
+#[tactic(auto, using(crate::proofs::RowLemmas::row_numbers))]
 fn entry_in(rows: &[Option<Entry>], number: u32) -> Option<&Entry>
     ensures { option_copied result ≡ entry_at number (in_rows 1 rows.now) }
 {
@@ -102,7 +102,7 @@ fn entry_in(rows: &[Option<Entry>], number: u32) -> Option<&Entry>
 }
 
 /// Takes the entry of the number out of its row.
-#[tactic(auto, using(crate::proofs::RowLemmas::entry_at_row, crate::proofs::RowLemmas::entry_at_below, crate::proofs::RowLemmas::entry_at_past, crate::proofs::RowLemmas::without_row, crate::proofs::RowLemmas::without_below, crate::proofs::RowLemmas::without_past))]
+#[tactic(auto, using(crate::proofs::RowLemmas::row_numbers))]
 fn take_entry(rows: &mut Vec<Option<Entry>>, number: u32) -> Option<Entry>
     ensures entry { result ≡ entry_at number (in_rows 1 rows.old.items) }
     ensures rest { in_rows 1 rows.new.items ≡ without number (in_rows 1 rows.old.items) }

@@ -45,6 +45,7 @@ fn packages(document: &Value) -> Result<&[Value], LockError>
     }
 }
 
+#[tactic(auto, using(crate::proofs::ReadingLemmas::count_of_items))]
 fn require_room(values: &[Value]) -> Result<(), LockError>
     ensures gives { GivesLock (λ u. u) result (room_for (items_view values.now)) }
     ensures within { OnOk result (length values.now ≤ MOST_ENTRIES) }
@@ -111,8 +112,10 @@ fn read_name(alloc: Global, entry: &Value) -> Result<String, EntryError>
 fn read_version(alloc: Global, entry: &Value) -> Result<Option<String>, EntryError>
     ensures { GivesEntry (option_map string_bytes) result (version_in (view entry.now)) }
 {
-    optional_text(alloc, entry, "version")
-        .map_err(|fault| refusal(fault, EntryError::Key(EntryKey::Version)))
+    optional_text(alloc, entry, "version").map_err(|fault| refusal(
+        fault,
+        EntryError::Key(EntryKey::Version),
+    ))
 }
 
 #[tactic(auto, unfolding(crate::specs::Lock::sources_in))]
@@ -163,7 +166,11 @@ fn sdist_key(alloc: Global, entry: &Value) -> Result<Option<Sdist>, EntryError>
 fn refuse(entry: &Value, key: &str, refusal: EntryError) -> Result<(), EntryError>
     ensures { result ≡ absent key.now refusal (view entry.now) }
 {
-    if entry.get(key).is_some() { Err(refusal) } else { Ok(()) }
+    if entry.get(key).is_some() {
+        Err(refusal)
+    } else {
+        Ok(())
+    }
 }
 
 /// The refusal of an entry whose field was not read.

@@ -105,7 +105,11 @@ fn hash_pairs(alloc: Global, table: &Table) -> Result<Vec<(String, String)>, Fie
     Ok(pairs)
 }
 
-fn hash_pair(alloc: Global, algorithm: &String, value: &Value) -> Result<(String, String), FieldError>
+fn hash_pair(
+    alloc: Global,
+    algorithm: &String,
+    value: &Value,
+) -> Result<(String, String), FieldError>
     ensures { GivesField text_pair result (hash_of (string_bytes algorithm.now) (view value.now)) }
 {
     match value.as_str() {

@@ -3,9 +3,10 @@ ghost use Rattle.std.specs.Prelude.{◌≡◌};
 ghost use Rattle.std.specs.Char.{is_ascii_digit};
 ghost use Rattle.std.specs.List.{list_all};
 ghost use Rattle.toml.specs.View.{view};
-ghost use Rattle.pylock_core.specs.Lock.{absent, is_number, is_lock_version, lock_version_in, created_by_in, head_in, lock_in, text_of, document_of, lock_of};
+ghost use Rattle.pylock_core.specs.Lock.{absent, is_number, is_lock_version, lock_version_in, created_by_in, head_in, lock_in, document_of, lock_of};
 ghost use Rattle.pylock_core.specs.Reading.{GivesLock};
 
+use super::as_text;
 use super::entries::entries;
 use super::fields::text;
 use crate::error::{HeadKey, LockError};
@@ -17,24 +18,15 @@ impl Lock {
     /// Reads a lock of version 1 (PEP 751, "File format"). The refusals come in the order of `LockError`; keys that
     /// are not named there are ignored.
     ///
-    /// Takes memory for the document and for the lock; a document of many small values takes many times the memory
-    /// of its text.
+    /// Takes memory for the document and for the lock. A document of many small values takes more than a hundred
+    /// times the memory of its text, so the system may end the process before it refuses the memory.
     #[tactic(auto, unfolding(crate::specs::Lock::lock_of))]
     pub fn read(alloc: Global, bytes: &[u8]) -> Result<Lock, LockError>
         ensures { GivesLock (λ l. l) result (lock_of bytes.now) }
     {
-        let text = utf8(bytes)?;
+        let text = as_text(bytes).ok_or(LockError::NotText)?;
         let document = document(alloc, text)?;
         read_document(alloc, &document)
-    }
-}
-
-fn utf8(bytes: &[u8]) -> Result<&str, LockError>
-    ensures { GivesLock (λ text. text.now) result (text_of bytes.now) }
-{
-    match std::str::from_utf8(bytes) {
-        Ok(text) => Ok(text),
-        Err(_) => Err(LockError::NotText),
     }
 }
 
@@ -114,5 +106,9 @@ fn refuse_head(document: &Value) -> Result<(), LockError>
 fn refuse(document: &Value, name: &str, key: HeadKey) -> Result<(), LockError>
     ensures { result ≡ absent name.now (LockError.Head key) (view document.now) }
 {
-    if document.get(name).is_some() { Err(LockError::Head(key)) } else { Ok(()) }
+    if document.get(name).is_some() {
+        Err(LockError::Head(key))
+    } else {
+        Ok(())
+    }
 }
