@@ -1,5 +1,3 @@
-mod FileNameLemmas
-mod NameLemmas
 mod ReadingLemmas
 pub mod RowLemmas
 pub mod SlateLemmas

@@ -1,5 +1,4 @@
 pub mod FileName
-pub mod Names
 pub mod Entry
 pub mod State
 pub mod Rows

@@ -6,7 +6,7 @@ use Rattle.toml.specs.Data.{Data, Items, no_items, item, get, as_array, as_table
 use Rattle.toml.specs.Parse.{parse_document}
 use Rattle.pylock_core.specs.Entry.{DirectoryValue, SdistValue, EntryValue, LockValue}
 use Rattle.pylock_core.specs.Fields.{optional, text_at, optional_text_at, directory_of, sdist_of}
-use Rattle.pylock_core.specs.Names.{is_name, norm}
+use Rattle.pyver_core.specs.Names.{is_name, norm}
 use Rattle.pylock_core.specs.Reading.{◌>>=◌, text_of}
 use Rattle.pylock_core.specs.declared.lock.TheConstants.{MOST_ENTRIES}
 use Rattle.pylock_core.specs.declared.error.LockError.{LockError}

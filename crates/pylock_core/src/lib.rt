@@ -8,7 +8,6 @@ mod entry;
 mod error;
 mod file_name;
 mod lock;
-mod names;
 mod reading;
 mod session;
 mod steps;

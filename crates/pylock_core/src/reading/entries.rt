@@ -11,7 +11,7 @@ use super::sources::{read_directory, read_sdist};
 use crate::entry::{Directory, Entry, Sdist};
 use crate::error::{EntryError, EntryKey, LockError};
 use crate::lock::MOST_ENTRIES;
-use crate::names::{is_name, normal_name};
+use pyver_core::{is_name, normal_name};
 use std::alloc::Global;
 use toml::Value;
 
