@@ -13,6 +13,7 @@ pub mod Prefix
 pub mod Reading
 pub mod SetGrammar
 pub mod SetReading
+pub mod Specified
 pub mod SpecifierText
 pub mod Specifiers
 pub mod Stripped
