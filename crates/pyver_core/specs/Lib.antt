@@ -11,6 +11,7 @@ pub mod OrderLaws
 pub mod Parts
 pub mod Prefix
 pub mod Reading
+pub mod SetAnswer
 pub mod SetGrammar
 pub mod SetReading
 pub mod Specified

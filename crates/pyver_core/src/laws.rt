@@ -9,5 +9,4 @@ ghost use Rattle.pyver_core.specs.Reading.{version_of};
 /// What [`Version::parse`](crate::Version::parse) reads, the text spells.
 pub fn version_of_spells()
     ensures { (text : List ℕ) (p : Parts) → version_of text ≡ Some p → Spells text p }
-{
-}
+{}

@@ -6,5 +6,5 @@ use Rattle.pyver_core.proofs.reading.fields.Release.has_two.Goals as goal
 pub returns : goal.returns
 returns c =
     c.is_some.ensures ∙ sym (is_some-option_map _ c.dotted.result) ∙ ap is_some c.dotted.ensures
-        ∙ two_numbers c.self.inside.first c.self.inside.others.now
-        ∙ ap (λ (ns : List ℕ). nat_le 2 (length ns)) c.self.view_is
+    ∙ two_numbers c.self.inside.first c.self.inside.others.now
+    ∙ ap (λ (ns : List ℕ). nat_le 2 (length ns)) c.self.view_is
