@@ -48,7 +48,7 @@ prefix_takes text = elim (option_sight (word_at (codes "v") text)) [
   | inr some ↦ let t = word_takes (codes "v") text some.0 some.1 in (t.0, rw some.1 t.1, inr t.2)
 ]
 
-abbrev IsBase : List ℕ → (ℕ × List ℕ) × List ℕ → Type 0
+abbrev pub IsBase : List ℕ → (ℕ × List ℕ) × List ℕ → Type 0
 IsBase text x = (prefix : List ℕ) × (epoch : List ℕ) × (release : List ℕ) × (text ≡ prefix ++ (epoch ++ (release ++ x.1))) × IsPrefix prefix × IsEpoch epoch x.0.0 × IsRelease release x.0.1
 
 pub base_takes : (text : List ℕ) (x : (ℕ × List ℕ) × List ℕ) → base_at text ≡ Some x → IsBase text x
