@@ -37,7 +37,7 @@ head_again epoch first e n rest (inr some) is stops no_bang =
     let end : head_at (some.0 ++ (codes "!" ++ behind)) ≡ Some ((e, n), rest) = rw (read, second) refl in
     ap (λ (t : List ℕ). head_at t) whole ∙ end
 
-body_digit : (epoch release next : List ℕ) (e : ℕ) (ns : List ℕ) → IsEpoch epoch e → IsRelease release ns → starts is_ascii_digit (epoch ++ (release ++ next)) ≡ true
+pub body_digit : (epoch release next : List ℕ) (e : ℕ) (ns : List ℕ) → IsEpoch epoch e → IsRelease release ns → starts is_ascii_digit (epoch ++ (release ++ next)) ≡ true
 body_digit epoch release next e [] is_epoch is = absurd is
 body_digit epoch release next e (n ∷ ns) (inl none) is =
     let whole : epoch ++ (release ++ next) ≡ is.0 ++ (is.1 ++ next) = ap (λ (t : List ℕ). t ++ (release ++ next)) none.0 ∙ (ap (λ (t : List ℕ). t ++ next) is.2 ∙ append_assoc is.0 is.1 next) in
@@ -52,7 +52,7 @@ digit_not_white b e = grind (arith, nat_tests)
 letter_not_white : (b : ℕ) → 97 ≤ to_ascii_lowercase b → is_white b ≡ false
 letter_not_white b low = grind (arith, nat_tests)
 
-prefix_again : (prefix body : List ℕ) → IsPrefix prefix → starts is_ascii_digit body ≡ true → after_prefix (prefix ++ body) ≡ body
+pub prefix_again : (prefix body : List ℕ) → IsPrefix prefix → starts is_ascii_digit body ≡ true → after_prefix (prefix ++ body) ≡ body
 prefix_again prefix body (inl none) digit =
     let no : word_at (codes "v") body ≡ None = no_word 118 [] body (starts_other is_ascii_digit (is_letter 118) (λ b e. digit_not_letter b 118 e (lit≤ tt)) body digit) in
     let end : after_prefix body ≡ body = rw no refl in
@@ -61,11 +61,11 @@ prefix_again prefix body (inr is) digit =
     let yes : word_at (codes "v") (prefix ++ body) ≡ Some body = word_again (codes "v") prefix body is in
     rw yes refl
 
-prefix_not_white : (prefix body : List ℕ) → IsPrefix prefix → starts is_ascii_digit body ≡ true → starts is_white (prefix ++ body) ≡ false
+pub prefix_not_white : (prefix body : List ℕ) → IsPrefix prefix → starts is_ascii_digit body ≡ true → starts is_white (prefix ++ body) ≡ false
 prefix_not_white prefix body (inl none) digit = subst (λ (t : List ℕ). starts is_white (t ++ body) ≡ false) (sym none) (starts_other is_ascii_digit is_white digit_not_white body digit)
 prefix_not_white prefix body (inr is) digit = word_starts (codes "v") prefix body refl is is_white letter_not_white
 
-base_again : (prefix epoch release next : List ℕ) (e : ℕ) (ns : List ℕ) → IsPrefix prefix → IsEpoch epoch e → IsRelease release ns → starts is_ascii_digit next ≡ false → starts (λ b. b == 33) next ≡ false → dotted_at next ≡ None → base_at (prefix ++ (epoch ++ (release ++ next))) ≡ Some ((e, ns), next)
+pub base_again : (prefix epoch release next : List ℕ) (e : ℕ) (ns : List ℕ) → IsPrefix prefix → IsEpoch epoch e → IsRelease release ns → starts is_ascii_digit next ≡ false → starts (λ b. b == 33) next ≡ false → dotted_at next ≡ None → base_at (prefix ++ (epoch ++ (release ++ next))) ≡ Some ((e, ns), next)
 unfolding base_at
 base_again prefix epoch release next e [] is_prefix is_epoch is stops no_bang no_dot = absurd is
 base_again prefix epoch release next e (n ∷ ns) is_prefix is_epoch is stops no_bang no_dot =

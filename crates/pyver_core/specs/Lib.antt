@@ -11,8 +11,10 @@ pub mod OrderLaws
 pub mod Parts
 pub mod Prefix
 pub mod Reading
+pub mod SetAnswer
 pub mod SetGrammar
 pub mod SetReading
+pub mod Specified
 pub mod SpecifierText
 pub mod Specifiers
 pub mod Stripped

@@ -1,3 +1,5 @@
-//! Examples whose expected texts come from the standard or from an installer's own rules.
+//! Worked examples of versions, their order and names.
 
+mod names;
+mod order;
 mod versions;
