@@ -21,9 +21,9 @@ use Rattle.pyver_core.proofs.Sight.{sight, chosen, refused}
 
 pub all_cons : (test : ℕ → Bool) (b : ℕ) (rest : List ℕ) → list_all test (b ∷ rest) ≡ true → (test b ≡ true) × (list_all test rest ≡ true)
 all_cons test b rest e = elim (sight (test b)) [
-    | inl passes ↦ (passes, rw passes at e)
-    | inr fails ↦ absurd (let n : false ≡ true = rw fails at e in cc)
-  ]
+  | inl passes ↦ (passes, rw passes at e)
+  | inr fails ↦ absurd (let n : false ≡ true = rw fails at e in cc)
+]
 
 pub prefix_len_exact : (test : ℕ → Bool) (front next : List ℕ) → list_all test front ≡ true → starts test next ≡ false → prefix_len test (front ++ next) ≡ length front
 prefix_len_exact test [] [] all stops = refl
@@ -85,7 +85,7 @@ not_behind (b ∷ digits) next all stops = digit_not_separator b (all_cons is_as
 pub tail_again : (after digits : List ℕ) (n : ℕ) (next : List ℕ) → IsOptionalSeparator after → IsCount digits n → (after ++ digits ≡ [] → starts is_separator next ≡ false) → starts is_ascii_digit next ≡ false → tail_at (after ++ (digits ++ next)) ≡ (n, next)
 tail_again after digits n next is_after is_digits greedy stops =
     let stops_after : after ≡ [] → starts is_separator (digits ++ next) ≡ false = λ no_after.
-      not_behind digits next is_digits.digits (λ no_digits. greedy (ap (λ (a : List ℕ). a ++ digits) no_after ∙ no_digits)) in
+    not_behind digits next is_digits.digits (λ no_digits. greedy (ap (λ (a : List ℕ). a ++ digits) no_after ∙ no_digits)) in
     ap (λ (text : List ℕ). count_at text) (separator_again after (digits ++ next) is_after stops_after) ∙ count_again digits n next is_digits stops
 
 -- ---- words

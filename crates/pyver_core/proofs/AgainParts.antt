@@ -76,11 +76,12 @@ quiet text b =
     let letter_p = begins_not (is_letter 112) follow_dev refl text b in
     let letter_r = begins_not (is_letter 114) follow_dev refl text b in
     let pre = no_pre_letter text (begins_not (is_letter 97) follow_dev refl text b) (begins_not (is_letter 98) follow_dev refl text b) (begins_not (is_letter 99) follow_dev refl text b) letter_p letter_r in
-    let dashed = dash_none text (begins_not (λ c. c == 45) follow_dev refl text b) in
-    (dev_none text (ap (λ (t : List ℕ). word_at (codes "dev") t) here ∙ no_word 100 (codes "ev") text (begins_not (is_letter 100) follow_dev refl text b)),
-    post_none text dashed (ap (λ (t : List ℕ). post_word_at t) here ∙ no_post_letter text letter_p letter_r),
-    pre_none text (ap (λ (t : List ℕ). pre_word_at t) here ∙ pre),
-    no_dotted text (begins_not is_dot follow_dev refl text b))
+    let dashed = dash_none text (begins_not (λ c. c == 45) follow_dev refl text b) in (
+      dev_none text (ap (λ (t : List ℕ). word_at (codes "dev") t) here ∙ no_word 100 (codes "ev") text (begins_not (is_letter 100) follow_dev refl text b)),
+      post_none text dashed (ap (λ (t : List ℕ). post_word_at t) here ∙ no_post_letter text letter_p letter_r),
+      pre_none text (ap (λ (t : List ℕ). pre_word_at t) here ∙ pre),
+      no_dotted text (begins_not is_dot follow_dev refl text b),
+    )
 
 tagged_dev_again : (piece : List ℕ) (n : ℕ) (next : List ℕ) → IsTagged (codes "dev") piece n next → begins_in follow_dev next ≡ true → tagged_dev_at (piece ++ next) ≡ Some (n, next)
 unfolding tagged_dev_at
@@ -108,10 +109,11 @@ pub dev_apart : (piece : List ℕ) (o : Option ℕ) (next : List ℕ) → IsDev 
 dev_apart piece None next is begins = let q = quiet next begins in subst (λ (t : List ℕ). NotBeforeDev (t ++ next)) (sym is) (q.1, q.2, q.3)
 dev_apart piece (Some n) next is begins =
     let tail = is.after ++ (is.digits ++ next) in
-    let at_word = tagged_word (codes "dev") piece n next is refl in
-    (post_none (piece ++ next) (tagged_not_dashed (codes "dev") piece n next is refl) (ap (λ (t : List ℕ). post_word_at t) at_word ∙ dev_no_post is.written tail is.is_word),
-    pre_none (piece ++ next) (ap (λ (t : List ℕ). pre_word_at t) at_word ∙ dev_no_pre is.written tail is.is_word),
-    tagged_not_dotted (codes "dev") piece n next is refl)
+    let at_word = tagged_word (codes "dev") piece n next is refl in (
+      post_none (piece ++ next) (tagged_not_dashed (codes "dev") piece n next is refl) (ap (λ (t : List ℕ). post_word_at t) at_word ∙ dev_no_post is.written tail is.is_word),
+      pre_none (piece ++ next) (ap (λ (t : List ℕ). pre_word_at t) at_word ∙ dev_no_pre is.written tail is.is_word),
+      tagged_not_dotted (codes "dev") piece n next is refl,
+    )
 
 -- ---- the post-release
 
@@ -167,14 +169,15 @@ digits_no_letter : (c : ℕ) → 97 ≤ c → (digits : List ℕ) (n : ℕ) (nex
 digits_no_letter c low digits n next is stops = starts_none is_ascii_digit (is_letter c) (λ b e. digit_not_letter b c e low) digits next is.1.digits stops
 
 dashed_no_pre : (digits : List ℕ) (n : ℕ) (next : List ℕ) → IsNumber digits n → begins_in follow_post next ≡ true → NotBeforePost (codes "-" ++ (digits ++ next))
-dashed_no_pre digits n next is begins =
-    (pre_none (codes "-" ++ (digits ++ next)) (no_pre_letter (digits ++ next)
+dashed_no_pre digits n next is begins = (
+  pre_none (codes "-" ++ (digits ++ next)) (no_pre_letter (digits ++ next)
       (digits_no_letter 97 (lit≤ tt) digits n next is (begins_not (is_letter 97) follow_post refl next begins))
       (digits_no_letter 98 (lit≤ tt) digits n next is (begins_not (is_letter 98) follow_post refl next begins))
       (digits_no_letter 99 (lit≤ tt) digits n next is (begins_not (is_letter 99) follow_post refl next begins))
       (digits_no_letter 112 (lit≤ tt) digits n next is (begins_not (is_letter 112) follow_post refl next begins))
       (digits_no_letter 114 (lit≤ tt) digits n next is (begins_not (is_letter 114) follow_post refl next begins))),
-    no_dotted (codes "-" ++ (digits ++ next)) refl)
+  no_dotted (codes "-" ++ (digits ++ next)) refl,
+)
 
 tagged_post_no_pre : {word : List ℕ} → IsPostWord word → (piece : List ℕ) (n : ℕ) (next : List ℕ) → IsTagged word piece n next → begins_in follow_post next ≡ true → pre_word_at (after_separator (piece ++ next)) ≡ None
 tagged_post_no_pre word_post piece n next is begins = ap (λ (t : List ℕ). pre_word_at t) (tagged_word (codes "post") piece n next is refl) ∙ post_no_pre is.written (is.after ++ (is.digits ++ next)) is.is_word

@@ -72,9 +72,9 @@ tagged_letter c low h45 h95 h46 word piece n next t stops =
 before_begins : (before rest set : List ℕ) → IsOptionalSeparator before → is_in set 45 ≡ true → is_in set 95 ≡ true → is_in set 46 ≡ true → begins_in set rest ≡ true → begins_in set (before ++ rest) ≡ true
 before_begins [] rest set is h45 h95 h46 begins = begins
 before_begins (b ∷ before) rest set is h45 h95 h46 begins = elim (sight (is_separator b)) [
-    | inl sep ↦ separator_passes (is_in set) h45 h95 h46 b sep
-    | inr other ↦ absurd (let n : false ≡ true = rw other at is.0 in cc)
-  ]
+  | inl sep ↦ separator_passes (is_in set) h45 h95 h46 b sep
+  | inr other ↦ absurd (let n : false ≡ true = rw other at is.0 in cc)
+]
 
 pub tagged_begins : (c : ℕ) (word piece : List ℕ) (n : ℕ) (next : List ℕ) (t : IsTagged (c ∷ word) piece n next) → 97 ≤ c → c ≤ 122 → (set : List ℕ) → is_in set c ≡ true → is_in set (c - 32) ≡ true → is_in set 45 ≡ true → is_in set 95 ≡ true → is_in set 46 ≡ true → begins_in set (piece ++ next) ≡ true
 tagged_begins c word piece n next t low high set at_c at_capital h45 h95 h46 =
@@ -86,9 +86,9 @@ tagged_begins c word piece n next t low high set at_c at_capital h45 h95 h46 =
 no_number_behind : (opens : ℕ → Bool) → FailsLetters opens → (word before written rest : List ℕ) → IsLettered word → IsWord word written → IsOptionalSeparator before → behind_at opens number_at (before ++ (written ++ rest)) ≡ None
 no_number_behind opens fails word [] written rest lettered is is_before = not_behind_byte opens number_at (written ++ rest) (word_starts word written rest lettered is opens fails)
 no_number_behind opens fails word (b ∷ []) written rest lettered is is_before = elim (sight (opens b)) [
-    | inl opened ↦ chosen (opens b) (number_at (written ++ rest)) None opened ∙ no_number (written ++ rest) (word_starts word written rest lettered is is_ascii_digit letter_not_digit)
-    | inr closed ↦ refused (opens b) (number_at (written ++ rest)) None closed
-  ]
+  | inl opened ↦ chosen (opens b) (number_at (written ++ rest)) None opened ∙ no_number (written ++ rest) (word_starts word written rest lettered is is_ascii_digit letter_not_digit)
+  | inr closed ↦ refused (opens b) (number_at (written ++ rest)) None closed
+]
 no_number_behind opens fails word (b ∷ c ∷ before) written rest lettered is is_before = absurd (omega (arith, is_before.1))
 
 pub tagged_not_dotted : (word piece : List ℕ) (n : ℕ) (next : List ℕ) (t : IsTagged word piece n next) → IsLettered word → dotted_at (piece ++ next) ≡ None

@@ -24,15 +24,15 @@ is_letter c b = to_ascii_lowercase b == c
 member_passes : (test : ℕ → Bool) (set : List ℕ) (b : ℕ) → list_all test set ≡ true → is_in set b ≡ true → test b ≡ true
 member_passes test [] b all m = absurd (let n : false ≡ true = m in cc)
 member_passes test (c ∷ set) b all m = elim (sight (b == c)) [
-    | inl same ↦ elim (sight (test c)) [
-      | inl passes ↦ rw (eqb-true b c same) passes
-      | inr fails ↦ absurd (let n : false ≡ true = rw fails at all in cc)
-    ]
-    | inr other ↦ elim (sight (test c)) [
-      | inl passes ↦ member_passes test set b (rw passes at all) (rw other at m)
-      | inr fails ↦ absurd (let n : false ≡ true = rw fails at all in cc)
-    ]
+  | inl same ↦ elim (sight (test c)) [
+    | inl passes ↦ rw (eqb-true b c same) passes
+    | inr fails ↦ absurd (let n : false ≡ true = rw fails at all in cc)
   ]
+  | inr other ↦ elim (sight (test c)) [
+    | inl passes ↦ member_passes test set b (rw passes at all) (rw other at m)
+    | inr fails ↦ absurd (let n : false ≡ true = rw fails at all in cc)
+  ]
+]
 
 not_true : (b : Bool) → not b ≡ true → b ≡ false
 not_true true e = absurd cc
@@ -59,9 +59,9 @@ white_in b e = grind (arith, nat_tests)
 pub all_white_begins : (text : List ℕ) → list_all is_white text ≡ true → begins_in whites text ≡ true
 all_white_begins [] e = refl
 all_white_begins (b ∷ rest) e = elim (sight (is_white b)) [
-    | inl white ↦ white_in b white
-    | inr other ↦ absurd (let n : false ≡ true = rw other at e in cc)
-  ]
+  | inl white ↦ white_in b white
+  | inr other ↦ absurd (let n : false ≡ true = rw other at e in cc)
+]
 
 -- ---- separators, digits and letters
 
@@ -70,15 +70,15 @@ separator_cases b e = grind (arith, nat_tests)
 
 pub separator_passes : (test : ℕ → Bool) → test 45 ≡ true → test 95 ≡ true → test 46 ≡ true → (b : ℕ) → is_separator b ≡ true → test b ≡ true
 separator_passes test h45 h95 h46 b e = elim (separator_cases b e) [
-    | inl is ↦ rw is h45
-    | inr other ↦ elim other [ inl is ↦ rw is h95 | inr is ↦ rw is h46 ]
-  ]
+  | inl is ↦ rw is h45
+  | inr other ↦ elim other [ inl is ↦ rw is h95 | inr is ↦ rw is h46 ]
+]
 
 pub separator_fails : (test : ℕ → Bool) → test 45 ≡ false → test 95 ≡ false → test 46 ≡ false → (b : ℕ) → is_separator b ≡ true → test b ≡ false
 separator_fails test h45 h95 h46 b e = elim (separator_cases b e) [
-    | inl is ↦ rw is h45
-    | inr other ↦ elim other [ inl is ↦ rw is h95 | inr is ↦ rw is h46 ]
-  ]
+  | inl is ↦ rw is h45
+  | inr other ↦ elim other [ inl is ↦ rw is h95 | inr is ↦ rw is h46 ]
+]
 
 -- a letter is a lower case one or its capital
 pub letter_cases : (b c : ℕ) → to_ascii_lowercase b ≡ c → 97 ≤ c → c ≤ 122 → (b ≡ c) ⊎ (b + 32 ≡ c)

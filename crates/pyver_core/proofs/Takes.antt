@@ -33,9 +33,9 @@ white_takes text = (take (prefix_len is_white text) text, sym (take-append-drop 
 pub separator_takes : (text : List ℕ) → (before : List ℕ) × (text ≡ before ++ after_separator text) × IsOptionalSeparator before × (before ≡ [] → starts is_separator text ≡ false)
 separator_takes [] = ([], refl, (refl, omega arith), λ _. refl)
 separator_takes (b ∷ rest) = elim (sight (is_separator b)) [
-    | inl is ↦ (b ∷ [], rw is refl, (rw is refl, omega arith), λ e. absurd (let n : b ∷ [] ≡ [] = e in cc))
-    | inr other ↦ ([], rw other refl, (refl, omega arith), λ _. other)
-  ]
+  | inl is ↦ (b ∷ [], rw is refl, (rw is refl, omega arith), λ e. absurd (let n : b ∷ [] ≡ [] = e in cc))
+  | inr other ↦ ([], rw other refl, (refl, omega arith), λ _. other)
+]
 
 -- ---- numbers
 
@@ -67,9 +67,9 @@ word_takes word text rest e =
 pub behind_takes : {X : Type 0} (opens : ℕ → Bool) (read : List ℕ → Option (X × List ℕ)) (text : List ℕ) (x : X × List ℕ) → behind_at opens read text ≡ Some x → (b : ℕ) × (rest : List ℕ) × (text ≡ b ∷ rest) × (opens b ≡ true) × (read rest ≡ Some x)
 behind_takes opens read [] x e = absurd cc
 behind_takes opens read (b ∷ rest) x e = elim (sight (opens b)) [
-    | inl opened ↦ (b, rest, refl, opened, rw opened at e)
-    | inr closed ↦ absurd (let n : None ≡ Some x = rw closed at e in cc)
-  ]
+  | inl opened ↦ (b, rest, refl, opened, rw opened at e)
+  | inr closed ↦ absurd (let n : None ≡ Some x = rw closed at e in cc)
+]
 
 -- what an item takes
 abbrev pub TakesItem : {X : Type 0} → (List ℕ → X → Type 0) → (List ℕ → Option (X × List ℕ)) → Type 0
@@ -92,17 +92,17 @@ many_takes : {X : Type 0} (opens : ℕ → Bool) (IsItem : List ℕ → X → Ty
 unfolding many
 many_takes opens IsItem read takes zero text = ([], refl, refl)
 many_takes {X} opens IsItem read takes (suc n) text = elim (option_sight (read text)) [
-    | inl none ↦
+  | inl none ↦
       let step : ([], text) ≡ many read (suc n) text = rw none refl in
       subst (λ (r : List X × List ℕ). AllTaken opens IsItem text r) step ([], refl, refl)
-    | inr some ↦
+  | inr some ↦
       let x = some.0 in
       let t = takes text x some.1 in
       let others = many_takes opens IsItem read takes n x.1 in
       let step : onto x.0 (many read n x.1) ≡ many read (suc n) text = rw some.1 refl in
       let whole : text ≡ t.0 ∷ ((t.1 ++ others.0) ++ (many read n x.1).1) = t.2 ∙ ap (λ (r : List ℕ). t.0 ∷ r) (ap (λ (r : List ℕ). t.1 ++ r) others.1 ∙ sym (append_assoc t.1 others.0 (many read n x.1).1)) in
       subst (λ (r : List X × List ℕ). AllTaken opens IsItem text r) step (t.0 ∷ (t.1 ++ others.0), whole, (t.0, t.1, others.0, refl, t.3, t.4, others.2))
-  ]
+]
 
 pub many_at_takes : {X : Type 0} (opens : ℕ → Bool) (IsItem : List ℕ → X → Type 0) (read : List ℕ → Option (X × List ℕ)) → TakesBehind opens IsItem read → (text : List ℕ) → (piece : List ℕ) × (text ≡ piece ++ (many_at read text).1) × AreBehind opens IsItem piece (many_at read text).0
 unfolding many_at
@@ -120,9 +120,9 @@ dashed_takes = behind_takes_item (λ b. b == 45) IsNumber number_at number_takes
 
 segment_of_is : (run : List ℕ) → 1 ≤ length run → list_all is_ascii_alphanumeric run ≡ true → IsSegment run (segment_of run)
 segment_of_is run has all = elim (sight (list_all is_ascii_digit run)) [
-    | inl digits ↦ rw digits (has, record { digits = digits; value = refl })
-    | inr other ↦ rw other (all, other, refl)
-  ]
+  | inl digits ↦ rw digits (has, record { digits = digits; value = refl })
+  | inr other ↦ rw other (all, other, refl)
+]
 
 pub segment_takes : TakesItem IsSegment segment_at
 unfolding segment_at

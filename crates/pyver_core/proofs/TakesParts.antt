@@ -30,23 +30,23 @@ head_takes text x e =
     let t = number_takes text first a.1 in
     elim (sight (starts (λ b. b == 33) first.1)) [
       | inl bang ↦
-        let step : (number_at (drop 1 first.1) >>= λ second. Some ((first.0, second.0), second.1)) ≡ Some x = rw bang at a.2 in
-        let b = bind_some (number_at (drop 1 first.1)) (λ second. Some ((first.0, second.0), second.1)) x step in
-        let s = number_takes (drop 1 first.1) b.0 b.1 in
-        let end : ((first.0, b.0.0), b.0.1) ≡ x = cc in
-        let whole : text ≡ (t.0 ++ codes "!") ++ (s.0 ++ b.0.1) = t.1 ∙ (ap (λ (r : List ℕ). t.0 ++ r) (bang_takes first.1 bang ∙ ap (λ (r : List ℕ). codes "!" ++ r) s.1) ∙ sym (append_assoc t.0 (codes "!") (s.0 ++ b.0.1))) in
-        subst (IsHead text) end (t.0 ++ codes "!", s.0, whole, inr (t.0, refl, t.2), s.2)
+          let step : (number_at (drop 1 first.1) >>= λ second. Some ((first.0, second.0), second.1)) ≡ Some x = rw bang at a.2 in
+          let b = bind_some (number_at (drop 1 first.1)) (λ second. Some ((first.0, second.0), second.1)) x step in
+          let s = number_takes (drop 1 first.1) b.0 b.1 in
+          let end : ((first.0, b.0.0), b.0.1) ≡ x = cc in
+          let whole : text ≡ (t.0 ++ codes "!") ++ (s.0 ++ b.0.1) = t.1 ∙ (ap (λ (r : List ℕ). t.0 ++ r) (bang_takes first.1 bang ∙ ap (λ (r : List ℕ). codes "!" ++ r) s.1) ∙ sym (append_assoc t.0 (codes "!") (s.0 ++ b.0.1))) in
+          subst (IsHead text) end (t.0 ++ codes "!", s.0, whole, inr (t.0, refl, t.2), s.2)
       | inr other ↦
-        let step : ◌≡◌ {A = Option ((ℕ × ℕ) × List ℕ)} (Some ((0, first.0), first.1)) (Some x) = rw other at a.2 in
-        let end : ((0, first.0), first.1) ≡ x = cc in
-        subst (IsHead text) end ([], t.0, t.1, inl (refl, refl), t.2)
+          let step : ◌≡◌ {A = Option ((ℕ × ℕ) × List ℕ)} (Some ((0, first.0), first.1)) (Some x) = rw other at a.2 in
+          let end : ((0, first.0), first.1) ≡ x = cc in
+          subst (IsHead text) end ([], t.0, t.1, inl (refl, refl), t.2)
     ]
 
 prefix_takes : (text : List ℕ) → (prefix : List ℕ) × (text ≡ prefix ++ after_prefix text) × IsPrefix prefix
 prefix_takes text = elim (option_sight (word_at (codes "v") text)) [
-    | inl none ↦ ([], rw none refl, inl refl)
-    | inr some ↦ let t = word_takes (codes "v") text some.0 some.1 in (t.0, rw some.1 t.1, inr t.2)
-  ]
+  | inl none ↦ ([], rw none refl, inl refl)
+  | inr some ↦ let t = word_takes (codes "v") text some.0 some.1 in (t.0, rw some.1 t.1, inr t.2)
+]
 
 abbrev pub IsBase : List ℕ → (ℕ × List ℕ) × List ℕ → Type 0
 IsBase text x = (prefix : List ℕ) × (epoch : List ℕ) × (release : List ℕ) × (text ≡ prefix ++ (epoch ++ (release ++ x.1))) × IsPrefix prefix × IsEpoch epoch x.0.0 × IsRelease release x.0.1
@@ -85,20 +85,23 @@ tagged_takes word text rest w =
     let from_word : after_separator text ≡ (w.0 ++ (after.0 ++ digits.0)) ++ next = w.1 ∙ (ap (λ (r : List ℕ). w.0 ++ r) tail ∙ sym (append_assoc w.0 (after.0 ++ digits.0) next)) in
     let whole : text ≡ (before.0 ++ (w.0 ++ (after.0 ++ digits.0))) ++ next = before.1 ∙ (ap (λ (r : List ℕ). before.0 ++ r) from_word ∙ sym (append_assoc before.0 (w.0 ++ (after.0 ++ digits.0)) next)) in
     let greedy : after.0 ++ digits.0 ≡ [] → starts is_separator next ≡ false = λ none.
-      let alone : rest ≡ next = tail ∙ ap (λ (r : List ℕ). r ++ next) none in
-      subst (λ (r : List ℕ). starts is_separator r ≡ false) alone (after.3 (append_nil_left after.0 digits.0 none)) in
-    (before.0 ++ (w.0 ++ (after.0 ++ digits.0)), whole, record {
-      before = before.0;
-      written = w.0;
-      after = after.0;
-      digits = digits.0;
-      whole = refl;
-      is_before = before.2;
-      is_word = w.2;
-      is_after = after.2;
-      is_number = digits.2;
-      greedy = greedy;
-    })
+    let alone : rest ≡ next = tail ∙ ap (λ (r : List ℕ). r ++ next) none in
+    subst (λ (r : List ℕ). starts is_separator r ≡ false) alone (after.3 (append_nil_left after.0 digits.0 none)) in (
+      before.0 ++ (w.0 ++ (after.0 ++ digits.0)),
+      whole,
+      record {
+        before = before.0;
+        written = w.0;
+        after = after.0;
+        digits = digits.0;
+        whole = refl;
+        is_before = before.2;
+        is_word = w.2;
+        is_after = after.2;
+        is_number = digits.2;
+        greedy = greedy;
+      },
+    )
 
 mapped_some : {X Y : Type 0} (f : X → Y) (o : Option X) (y : Y) → option_map f o ≡ Some y → (x : X) × (o ≡ Some x) × (f x ≡ y)
 mapped_some f None y e = absurd cc
@@ -107,9 +110,9 @@ mapped_some f (Some x) y e = (x, refl, cc)
 -- what an optional reader gives is what it read, or nothing
 optional_takes : {X : Type 0} (read : List ℕ → Option (X × List ℕ)) (P : Option X × List ℕ → Type 0) (text : List ℕ) → P (None, text) → ((x : X × List ℕ) → read text ≡ Some x → P (Some x.0, x.1)) → P (optional_at read text)
 optional_takes {X} read P text none some = elim (option_sight (read text)) [
-    | inl n ↦ let end : (None, text) ≡ optional_at read text = rw n refl in subst P end none
-    | inr s ↦ let end : (Some s.0.0, s.0.1) ≡ optional_at read text = rw s.1 refl in subst P end (some s.0 s.1)
-  ]
+  | inl n ↦ let end : (None, text) ≡ optional_at read text = rw n refl in subst P end none
+  | inr s ↦ let end : (Some s.0.0, s.0.1) ≡ optional_at read text = rw s.1 refl in subst P end (some s.0 s.1)
+]
 
 -- ---- the pre-release
 
@@ -127,15 +130,15 @@ kind_takes kind longer shorter is_longer is_shorter text x e =
 pre_word_takes : (text : List ℕ) (x : PreKind × List ℕ) → pre_word_at text ≡ Some x → IsPreRead text x
 unfolding pre_word_at
 pre_word_takes text x e = elim (either_some _ _ x e) [
-    | inl a ↦ kind_takes A (codes "alpha") (codes "a") word_alpha word_a text x a
-    | inr not_a ↦ elim (either_some _ _ x not_a) [
-      | inl b ↦ kind_takes B (codes "beta") (codes "b") word_beta word_b text x b
-      | inr not_b ↦ elim (either_some _ _ x not_b) [
-        | inl pre ↦ kind_takes Rc (codes "preview") (codes "pre") word_preview word_pre text x pre
-        | inr rc ↦ kind_takes Rc (codes "rc") (codes "c") word_rc word_c text x rc
-      ]
+  | inl a ↦ kind_takes A (codes "alpha") (codes "a") word_alpha word_a text x a
+  | inr not_a ↦ elim (either_some _ _ x not_a) [
+    | inl b ↦ kind_takes B (codes "beta") (codes "b") word_beta word_b text x b
+    | inr not_b ↦ elim (either_some _ _ x not_b) [
+      | inl pre ↦ kind_takes Rc (codes "preview") (codes "pre") word_preview word_pre text x pre
+      | inr rc ↦ kind_takes Rc (codes "rc") (codes "c") word_rc word_c text x rc
     ]
   ]
+]
 
 abbrev TakesPre : List ℕ → Option (PreKind × ℕ) × List ℕ → Type 0
 TakesPre text r = (piece : List ℕ) × (text ≡ piece ++ r.1) × IsPre piece r.0 r.1
@@ -160,12 +163,12 @@ IsPostRead text rest = (word : List ℕ) × IsPostWord word × (written : List �
 post_word_takes : (text rest : List ℕ) → post_word_at text ≡ Some rest → IsPostRead text rest
 unfolding post_word_at
 post_word_takes text rest e = elim (either_some _ _ rest e) [
-    | inl post ↦ let t = word_takes (codes "post") text rest post in (codes "post", word_post, t.0, t.1, t.2)
-    | inr other ↦ elim (either_some _ _ rest other) [
-      | inl rev ↦ let t = word_takes (codes "rev") text rest rev in (codes "rev", word_rev, t.0, t.1, t.2)
-      | inr r ↦ let t = word_takes (codes "r") text rest r in (codes "r", word_r, t.0, t.1, t.2)
-    ]
+  | inl post ↦ let t = word_takes (codes "post") text rest post in (codes "post", word_post, t.0, t.1, t.2)
+  | inr other ↦ elim (either_some _ _ rest other) [
+    | inl rev ↦ let t = word_takes (codes "rev") text rest rev in (codes "rev", word_rev, t.0, t.1, t.2)
+    | inr r ↦ let t = word_takes (codes "r") text rest r in (codes "r", word_r, t.0, t.1, t.2)
   ]
+]
 
 abbrev TakesPost : List ℕ → Option ℕ × List ℕ → Type 0
 TakesPost text r = (piece : List ℕ) × (text ≡ piece ++ r.1) × IsPost piece r.0 r.1
@@ -188,9 +191,9 @@ dashed_post_takes text x e =
 pub post_takes : (text : List ℕ) → TakesPost text (optional_at dashed_or_tagged_post_at text)
 unfolding dashed_or_tagged_post_at
 post_takes text = optional_takes dashed_or_tagged_post_at (TakesPost text) text ([], refl, refl) (λ x e. elim (either_some (dashed_at text) (tagged_post_at text) x e) [
-    | inl dashed ↦ dashed_post_takes text x dashed
-    | inr tagged ↦ tagged_post_takes text x tagged
-  ])
+  | inl dashed ↦ dashed_post_takes text x dashed
+  | inr tagged ↦ tagged_post_takes text x tagged
+])
 
 -- ---- the developmental release
 
@@ -216,10 +219,10 @@ TakesLocal text r = (piece : List ℕ) × (text ≡ piece ++ r.1) × IsLocal pie
 pub local_takes : (text : List ℕ) → TakesLocal text (local_at text)
 unfolding local_at
 local_takes text = elim (option_sight (added_at text)) [
-    | inl none ↦
+  | inl none ↦
       let end : ([], text) ≡ local_at text = rw none refl in
       subst (TakesLocal text) end ([], refl, refl)
-    | inr some ↦
+  | inr some ↦
       let x = some.0 in
       let t = added_takes text x some.1 in
       let others = many_at separated_at x.1 in
@@ -228,7 +231,7 @@ local_takes text = elim (option_sight (added_at text)) [
       let run : t.1 ++ x.1 ≡ (t.1 ++ d.0) ++ others.1 = ap (λ (r : List ℕ). t.1 ++ r) d.1 ∙ sym (append_assoc t.1 d.0 others.1) in
       let whole : text ≡ codes "+" ++ ((t.1 ++ d.0) ++ others.1) = t.2 ∙ (ap (λ (b : ℕ). b ∷ (t.1 ++ x.1)) (eqb-true t.0 43 t.3) ∙ ap (λ (r : List ℕ). 43 ∷ r) run) in
       subst (TakesLocal text) end (codes "+" ++ (t.1 ++ d.0), whole, (t.1, d.0, refl, t.4, d.2))
-  ]
+]
 
 -- ---- the whole text
 

@@ -12,8 +12,10 @@ pub mod Parts
 pub mod Phases
 pub mod Prefix
 pub mod Reading
+pub mod SetAnswer
 pub mod SetGrammar
 pub mod SetReading
+pub mod Specified
 pub mod SpecifierText
 pub mod Specifiers
 pub mod Stripped

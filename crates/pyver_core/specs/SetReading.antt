@@ -20,12 +20,14 @@ abbrev pub operators : List Operator
 operators = operator.Arbitrary ∷ operator.Compatible ∷ operator.Equal ∷ operator.NotEqual ∷ operator.AtMost
     ∷ operator.AtLeast ∷ operator.Before ∷ operator.After ∷ []
 
+-- the text behind an operator
+abbrev pub behind_operator : Operator → List ℕ → Option (List ℕ)
+behind_operator o text = if starts_with nat_eq text (operator_text o) then Some (drop (length (operator_text o)) text) else None
+
 -- the first of the operators that stands at the front, and the text behind it
 abbrev pub operator_among : List Operator → List ℕ → Option (Operator × List ℕ)
 operator_among [] text = None
-operator_among (o ∷ others) text =
-    if starts_with nat_eq text (operator_text o) then Some (o, drop (length (operator_text o)) text)
-    else operator_among others text
+operator_among (o ∷ others) text = either (option_map (λ rest. (o, rest)) (behind_operator o text)) (operator_among others text)
 
 unfoldable pub operator_at : List ℕ → Option (Operator × List ℕ)
 operator_at text = operator_among operators text

@@ -55,3 +55,11 @@ impl<T: Drop> From<AllocFailed<T>> for VersionError {
         VersionError::Memory
     }
 }
+
+impl<T: Drop> From<AllocFailed<T>> for SpecifierError {
+    ghost from_gives = { λ _ e. e ≡ specifier.Memory };
+
+    fn from(_refused: AllocFailed<T>) -> SpecifierError {
+        SpecifierError::Memory
+    }
+}

@@ -12,6 +12,7 @@ mod part;
 mod parts;
 mod reading;
 mod set;
+mod set_parse;
 mod set_text;
 mod specifier;
 mod text;

@@ -45,8 +45,15 @@ impl<'a> Model for Local<'a> {
 }
 
 impl Release<'_> {
-    ghost use Rattle.std.specs.Prelude.{◌≢◌, [], IfOk};
+    ghost use Rattle.std.specs.Prelude.{◌≢◌, [], IfOk, length, nat_le};
     ghost use Rattle.pyver_core.specs.Limit.{Makes};
+
+    /// Whether there are two numbers or more.
+    pub(crate) fn has_two(&self) -> bool
+        ensures { result ≡ nat_le 2 (length self.now) }
+    {
+        scan::dotted(self.others).is_some()
+    }
 
     /// The numbers.
     pub(crate) fn numbers(&self, alloc: Global) -> Result<Vec<u128>, VersionError>
@@ -60,10 +67,18 @@ impl Release<'_> {
 }
 
 impl Local<'_> {
-    ghost use Rattle.std.specs.Prelude.{flat_map};
+    ghost use Rattle.std.specs.Prelude.{◌==◌, flat_map, length};
     ghost use Rattle.pyver_core.specs.Grammar.{number_in_segment};
     ghost use Rattle.pyver_core.specs.Limit.{Makes};
     ghost use Rattle.pyver_core.specs.Reading.{local_at};
+
+    /// Whether there is no local part.
+    #[tactic(auto, unfolding(crate::specs::Reading::local_at))]
+    pub(crate) fn is_empty(&self) -> bool
+        ensures { result ≡ (length self.now == 0) }
+    {
+        scan::added(self.text).is_none()
+    }
 
     /// The segments.
     #[tactic(auto, unfolding(crate::specs::Reading::local_at))]

@@ -17,7 +17,10 @@ fn check_syntax<R: Abort + AllocGlobal>(rt: &R, text: &str) {
 
 fn check_large<R: Abort + AllocGlobal>(rt: &R, text: &str) {
     let refused = Version::parse(rt.alloc(), text);
-    assert!(rt; matches!(refused, Err(VersionError::NumberTooLarge)), "{text}");
+    assert!(rt;
+        matches!(refused, Err(VersionError::NumberTooLarge)),
+        "{text}"
+    );
 }
 
 #[test]
