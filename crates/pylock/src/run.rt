@@ -1,0 +1,167 @@
+//! A run: edits a session by the lines of its input, and writes what they print.
+
+ghost use Rattle.std.specs.Prelude.{◌≡◌, ◌++◌, ◌<◌, ◌≤◌, [], Ok, Err, OnOk, IfOk, IfErr, OnErr, IsTrue, false, ◌+◌, length, take};
+ghost use Rattle.std.specs.Io.KnownBytes.{append_known, prepend_known, IsAtEnd};
+ghost use Rattle.pylock.specs.Faults.{HasFailed};
+ghost use Rattle.pylock.specs.Moves.{WritesFront};
+ghost use Rattle.pylock.specs.Pours.{Pours};
+ghost use Rattle.pylock.specs.Editing.{bytes_done, bytes_text, lines_begun};
+ghost use Rattle.pylock.specs.EditingFaults.{IsWriteFault, IsFeedFault};
+ghost use Rattle.pylock.specs.Edited.{Edited, EditsAll, IsReadFault, EditFault};
+
+use crate::editing::Editing;
+use crate::ends::{Sink, Source};
+use crate::fault::RunFault;
+use crate::writing::write_all;
+
+/// How many bytes of output are written at once, if no answer is longer.
+const FLUSH_BYTES: usize = 65_536;
+
+/// The most bytes that an input has.
+pub const INPUT_BYTES: u64 = 268_435_456;
+
+/// Writes what stands in `out`, and empties it.
+fn flush<W: Sink>(out: &mut Vec<u8>, writer: &mut W) -> Result<(), RunFault>
+    ensures written { OnOk result (W.held writer.new ≡ append_known (W.held writer.old) out.old.items) }
+    ensures empty { OnOk result (out.new.items ≡ []) }
+    ensures counted { OnOk result (W.failures writer.new ≡ W.failures writer.old) }
+    ensures front { OnErr result (WritesFront (W.held writer.old) (W.held writer.new) out.old.items) }
+    ensures fault { IfErr result (IsWriteFault (W.failures writer.old) (W.failures writer.new)) }
+{
+    let Ok(()) = write_all(writer, out) else {
+        return Err(RunFault::Write);
+    };
+    out.clear();
+    Ok(())
+}
+
+/// Edits by some bytes from the front of `bytes`, and answers how many. What they print stands
+/// behind what is in `out`, or is written where that is much.
+fn feed_some<W: Sink>(
+    editing: &mut Editing,
+    bytes: &[u8],
+    out: &mut Vec<u8>,
+    writer: &mut W,
+) -> Result<usize, RunFault>
+    requires { 0 < length bytes.now }
+    ensures some { IfOk result (λ count. (0 < count) × (count ≤ length bytes.now)) }
+    ensures editing { IfOk result (λ count. editing.new ≡ bytes_done editing.old (take count bytes.now)) }
+    ensures poured { IfOk result (λ count. Pours (W.held writer.old) (W.held writer.new)
+        (out.old.items ++ bytes_text editing.old (take count bytes.now)) out.new.items) }
+    ensures counted { OnOk result (W.failures writer.new ≡ W.failures writer.old) }
+    ensures front { OnErr result (WritesFront (W.held writer.old) (W.held writer.new)
+        (out.old.items ++ bytes_text editing.old bytes.now)) }
+    ensures fault { IfErr result (IsFeedFault (W.failures writer.old) (W.failures writer.new)
+        (lines_begun (bytes_done editing.old bytes.now))) }
+{
+    let count = editing.take(bytes, out)?;
+    if out.len() >= FLUSH_BYTES {
+        flush(out, writer)?;
+    }
+    Ok(count)
+}
+
+/// Edits by a piece of the input, and writes what is in `out` and what the piece prints.
+fn feed<W: Sink>(
+    editing: &mut Editing,
+    piece: &[u8],
+    out: &mut Vec<u8>,
+    writer: &mut W,
+) -> Result<(), RunFault>
+    ensures editing { OnOk result (editing.new ≡ bytes_done editing.old piece.now) }
+    ensures written { OnOk result (W.held writer.new
+        ≡ append_known (W.held writer.old) (out.old.items ++ bytes_text editing.old piece.now)) }
+    ensures empty { OnOk result (out.new.items ≡ []) }
+    ensures counted { OnOk result (W.failures writer.new ≡ W.failures writer.old) }
+    ensures front { OnErr result (WritesFront (W.held writer.old) (W.held writer.new)
+        (out.old.items ++ bytes_text editing.old piece.now)) }
+    ensures fault { IfErr result (IsFeedFault (W.failures writer.old) (W.failures writer.new)
+        (lines_begun (bytes_done editing.old piece.now))) }
+{
+    let mut done = 0;
+    'bytes: while done < piece.len() {
+        done += feed_some(editing, &piece[done..], out, writer)?;
+    }
+    flush(out, writer)
+}
+
+/// What a reader gives next: the count of the bytes put into `buffer`, 0 at its end. `total` counts
+/// them with those before.
+fn read_next<R: Source>(
+    reader: &mut R,
+    buffer: &mut [u8],
+    total: &mut u64,
+) -> Result<usize, RunFault>
+    requires room { 0 < length buffer.old }
+    requires within { total.old ≤ INPUT_BYTES }
+    ensures count { IfOk result (λ count. count ≤ length buffer.new) }
+    ensures given { IfOk result (λ count. R.rest reader.old ≡ prepend_known (take count buffer.new) (R.rest reader.new)) }
+    ensures end { IfOk result (λ count. count ≡ 0 → IsAtEnd (R.rest reader.new)) }
+    ensures total { IfOk result (λ count. total.new ≡ total.old + count) }
+    ensures within { OnOk result (total.new ≤ INPUT_BYTES) }
+    ensures counted { OnOk result (R.failures reader.new ≡ R.failures reader.old) }
+    ensures fault { IfErr result (IsReadFault total.old (R.rest reader.old) (R.rest reader.new)
+        (R.failures reader.old) (R.failures reader.new)) }
+{
+    let Ok(count) = reader.read(buffer) else {
+        return Err(RunFault::Read);
+    };
+    if count as u64 > INPUT_BYTES - *total {
+        return Err(RunFault::Input);
+    }
+    *total += count as u64;
+    Ok(count)
+}
+
+/// Reads a piece, edits by it and writes what it prints; answers whether there was one.
+fn feed_next<R: Source, W: Sink>(
+    editing: &mut Editing,
+    buffer: &mut [u8],
+    total: &mut u64,
+    reader: &mut R,
+    out: &mut Vec<u8>,
+    writer: &mut W,
+) -> Result<bool, RunFault>
+    requires room { 0 < length buffer.old }
+    requires within { total.old ≤ INPUT_BYTES }
+    requires empty { out.old.items ≡ [] }
+    ensures edited { OnOk result (Edited (R.rest reader.old) (R.rest reader.new) (W.held writer.old) (W.held writer.new)
+        editing.old editing.new total.old total.new) }
+    ensures counted { OnOk result ((R.failures reader.new ≡ R.failures reader.old) × (W.failures writer.new ≡ W.failures writer.old)) }
+    ensures within { OnOk result (total.new ≤ INPUT_BYTES) }
+    ensures empty { OnOk result (out.new.items ≡ []) }
+    ensures grew { IfOk result (λ more. IsTrue more → total.old < total.new) }
+    ensures end { IfOk result (λ more. more ≡ false → IsAtEnd (R.rest reader.new)) }
+    ensures fault { IfErr result (EditFault (R.rest reader.old) (R.rest reader.new) (R.failures reader.old) (R.failures reader.new)
+        (W.held writer.old) (W.held writer.new) (W.failures writer.old) (W.failures writer.new) editing.old total.old) }
+{
+    let count = read_next(reader, buffer, total)?;
+    if count == 0 {
+        return Ok(false);
+    }
+    feed(editing, &buffer[..count], out, writer)?;
+    Ok(true)
+}
+
+/// Edits by all of the input, piece by piece, and writes what its lines print as they end.
+fn feed_all<R: Source, W: Sink>(
+    editing: &mut Editing,
+    buffer: &mut [u8],
+    reader: &mut R,
+    out: &mut Vec<u8>,
+    writer: &mut W,
+) -> Result<(), RunFault>
+    requires room { 0 < length buffer.old }
+    requires empty { out.old.items ≡ [] }
+    ensures edited { OnOk result (EditsAll (R.rest reader.old) (R.rest reader.new) (W.held writer.old) (W.held writer.new)
+        editing.old editing.new) }
+    ensures counted { OnOk result ((R.failures reader.new ≡ R.failures reader.old) × (W.failures writer.new ≡ W.failures writer.old)) }
+    ensures empty { OnOk result (out.new.items ≡ []) }
+    ensures end { OnOk result (IsAtEnd (R.rest reader.new)) }
+    ensures fault { IfErr result (EditFault (R.rest reader.old) (R.rest reader.new) (R.failures reader.old) (R.failures reader.new)
+        (W.held writer.old) (W.held writer.new) (W.failures writer.old) (W.failures writer.new) editing.old 0) }
+{
+    let mut total = 0;
+    'pieces: while feed_next(editing, buffer, &mut total, reader, out, writer)? {}
+    Ok(())
+}
