@@ -5,3 +5,4 @@ pub mod ReadLemmas
 pub mod WroteLemmas
 pub mod PourLemmas
 pub mod RunLemmas
+pub mod SessionLemmas

@@ -25,3 +25,10 @@ IsFeedFault failures new_failures begun Read = ⊥
 IsFeedFault failures new_failures begun Write = HasFailed failures new_failures
 IsFeedFault failures new_failures begun Input = LINES < begun
 IsFeedFault failures new_failures begun Memory = Unit {0}
+
+-- the sink failed, or a growth was refused
+abbrev pub IsOutputFault : ℕ → ℕ → RunFault → Type 0
+IsOutputFault failures new_failures Read = ⊥
+IsOutputFault failures new_failures Write = HasFailed failures new_failures
+IsOutputFault failures new_failures Input = ⊥
+IsOutputFault failures new_failures Memory = Unit {0}

@@ -11,3 +11,4 @@ pub mod MemoryEnds
 pub mod Moves
 pub mod Pours
 pub mod Edited
+pub mod Run

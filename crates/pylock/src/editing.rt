@@ -1,6 +1,6 @@
 //! The editing of a session by the bytes of the input, in whatever pieces they come.
 
-ghost use Rattle.std.specs.Prelude.{◌≡◌, ◌++◌, ◌<◌, ◌≤◌, ◌+◌, Ok, Err, OnOk, IfOk, IfErr, OnErr, length, take, not, ◌&&◌};
+ghost use Rattle.std.specs.Prelude.{◌≡◌, ◌++◌, ◌<◌, ◌≤◌, ◌+◌, Ok, Err, OnOk, IfOk, IfErr, OnErr, length, take, not, ◌&&◌, if◌then◌else◌};
 ghost use Rattle.pylock_core.specs.Steps.{answer};
 ghost use Rattle.std.specs.List.{position};
 ghost use Rattle.pylock.specs.Lines.{is_lf};
@@ -104,11 +104,11 @@ impl Editing {
         self.end_line(out)
     }
 
-    /// Whether the last answer was a plan and no line was refused.
-    pub fn is_accepted(&self) -> bool
-        ensures { result ≡ (self.now.plan && not self.now.refused) }
+    /// The status of the run: 0 where the last answer was a plan and no line was refused.
+    pub fn status(&self) -> u8
+        ensures { result ≡ (if self.now.plan && not self.now.refused then 0 else 1) }
     {
-        self.plan && !self.refused
+        if self.plan && !self.refused { 0 } else { 1 }
     }
 
     /// Keeps more bytes of the line, as far as they are needed to tell that it is too long.

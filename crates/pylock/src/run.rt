@@ -5,14 +5,21 @@ ghost use Rattle.std.specs.Io.KnownBytes.{append_known, prepend_known, IsAtEnd};
 ghost use Rattle.pylock.specs.Faults.{HasFailed};
 ghost use Rattle.pylock.specs.Moves.{WritesFront};
 ghost use Rattle.pylock.specs.Pours.{Pours};
-ghost use Rattle.pylock.specs.Editing.{bytes_done, bytes_text, lines_begun};
-ghost use Rattle.pylock.specs.EditingFaults.{IsWriteFault, IsFeedFault};
+ghost use Rattle.pylock.specs.Editing.{start, bytes_done, bytes_text, finished, finished_text, lines_begun};
+ghost use Rattle.pylock.specs.Report.{standing_text};
+ghost use Rattle.pylock.specs.Print.{lock_text, environment_text};
+ghost use Rattle.pylock.specs.Run.{SessionReports, SessionStops};
+ghost use Rattle.pylock.specs.EditingFaults.{IsWriteFault, IsFeedFault, IsOutputFault};
 ghost use Rattle.pylock.specs.Edited.{Edited, EditsAll, IsReadFault, EditFault};
 
-use crate::editing::Editing;
+use crate::editing::{Editing, LINES};
 use crate::ends::{Sink, Source};
 use crate::fault::RunFault;
+use crate::files::piece_buffer;
+use crate::refusals::{push_environment_error, push_lock_error};
 use crate::writing::write_all;
+use pylock_core::{EnvError, LockError, Session};
+use std::alloc::Global;
 
 /// How many bytes of output are written at once, if no answer is longer.
 const FLUSH_BYTES: usize = 65_536;
@@ -164,4 +171,94 @@ fn feed_all<R: Source, W: Sink>(
     let mut total = 0;
     'pieces: while feed_next(editing, buffer, &mut total, reader, out, writer)? {}
     Ok(())
+}
+
+/// Writes the first answer.
+fn begin<W: Sink>(
+    alloc: Global,
+    session: Session,
+    out: &mut Vec<u8>,
+    writer: &mut W,
+) -> Result<Editing, RunFault>
+    requires { out.old.items ≡ [] }
+    ensures editing { IfOk result (λ editing. editing ≡ start session) }
+    ensures written { OnOk result (W.held writer.new ≡ append_known (W.held writer.old) (standing_text session)) }
+    ensures empty { OnOk result (out.new.items ≡ []) }
+    ensures counted { OnOk result (W.failures writer.new ≡ W.failures writer.old) }
+    ensures front { OnErr result (WritesFront (W.held writer.old) (W.held writer.new) (standing_text session)) }
+    ensures fault { IfErr result (IsOutputFault (W.failures writer.old) (W.failures writer.new)) }
+{
+    let editing = Editing::start(alloc, session, out)?;
+    flush(out, writer)?;
+    Ok(editing)
+}
+
+/// Writes what the last line prints, where it had no LF.
+fn end<W: Sink>(
+    editing: &mut Editing,
+    out: &mut Vec<u8>,
+    writer: &mut W,
+) -> Result<(), RunFault>
+    requires { out.old.items ≡ [] }
+    ensures editing { OnOk result (editing.new ≡ finished editing.old) }
+    ensures written { OnOk result (W.held writer.new ≡ append_known (W.held writer.old) (finished_text editing.old)) }
+    ensures within { OnOk result (lines_begun editing.old ≤ LINES) }
+    ensures front { OnErr result (WritesFront (W.held writer.old) (W.held writer.new) (finished_text editing.old)) }
+    ensures fault { IfErr result (IsOutputFault (W.failures writer.old) (W.failures writer.new)) }
+{
+    editing.finish(out)?;
+    flush(out, writer)
+}
+
+/// Edits a session by the whole input, and writes all answers and refusals.
+fn edit_all<R: Source, W: Sink>(
+    alloc: Global,
+    session: Session,
+    reader: &mut R,
+    writer: &mut W,
+) -> Result<u8, RunFault>
+    ensures reports { IfOk result (SessionReports session (R.rest reader.old) (R.rest reader.new) (W.held writer.old) (W.held writer.new)) }
+    ensures stops { IfErr result (SessionStops session (R.rest reader.old) (R.rest reader.new) (R.failures reader.old) (R.failures reader.new)
+        (W.held writer.old) (W.held writer.new) (W.failures writer.old) (W.failures writer.new)) }
+{
+    let mut buffer = piece_buffer(alloc)?;
+    let mut out = Vec::new(alloc);
+    let mut editing = begin(alloc, session, &mut out, writer)?;
+    feed_all(&mut editing, &mut buffer, reader, &mut out, writer)?;
+    end(&mut editing, &mut out, writer)?;
+    Ok(editing.status())
+}
+
+/// Writes the refusal of a lock.
+fn refuse_lock<W: Sink>(
+    alloc: Global,
+    error: &LockError,
+    writer: &mut W,
+) -> Result<u8, RunFault>
+    ensures status { IfOk result (λ status. status ≡ 2) }
+    ensures written { OnOk result (W.held writer.new ≡ append_known (W.held writer.old) (lock_text error.now)) }
+    ensures front { OnErr result (WritesFront (W.held writer.old) (W.held writer.new) (lock_text error.now)) }
+    ensures fault { IfErr result (IsOutputFault (W.failures writer.old) (W.failures writer.new)) }
+{
+    let mut out = Vec::new(alloc);
+    push_lock_error(&mut out, error)?;
+    flush(&mut out, writer)?;
+    Ok(2)
+}
+
+/// Writes the refusal of an environment.
+fn refuse_environment<W: Sink>(
+    alloc: Global,
+    error: &EnvError,
+    writer: &mut W,
+) -> Result<u8, RunFault>
+    ensures status { IfOk result (λ status. status ≡ 2) }
+    ensures written { OnOk result (W.held writer.new ≡ append_known (W.held writer.old) (environment_text error.now)) }
+    ensures front { OnErr result (WritesFront (W.held writer.old) (W.held writer.new) (environment_text error.now)) }
+    ensures fault { IfErr result (IsOutputFault (W.failures writer.old) (W.failures writer.new)) }
+{
+    let mut out = Vec::new(alloc);
+    push_environment_error(&mut out, error)?;
+    flush(&mut out, writer)?;
+    Ok(2)
 }
