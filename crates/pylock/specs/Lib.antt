@@ -12,3 +12,4 @@ pub mod Moves
 pub mod Pours
 pub mod Edited
 pub mod Run
+pub mod Opening

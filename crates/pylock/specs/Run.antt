@@ -66,3 +66,19 @@ pub record SessionStops (state : State) (rest new_rest : Option (List ℕ)) (r r
   pub gave : rest ≡ prepend_known input new_rest
   pub front : WritesFront held new_held (lines_report state (input_lines input)).text
   pub cause : IsStop state r r' held new_held w w' input fault
+
+-- the same of a run
+
+pub record RunReports (lock environment : List ℕ) (rest new_rest held new_held : Option (List ℕ)) (status : ℕ) : Type 0 where
+  pub report : WritesReport lock environment rest new_rest held new_held status
+  pub end : IsRefused lock environment ⊎ EndsWithinLimits rest new_rest
+
+abbrev pub IsRunStop : List ℕ → List ℕ → Option (List ℕ) → Option (List ℕ) → ℕ → ℕ → Option (List ℕ) → Option (List ℕ) → ℕ → ℕ → RunFault → Type 0
+IsRunStop lock environment rest new_rest r r' held new_held w w' Read = HasFailed r r' × WritesEndedLines lock environment rest new_rest held new_held
+IsRunStop lock environment rest new_rest r r' held new_held w w' Write = HasFailed w w'
+IsRunStop lock environment rest new_rest r r' held new_held w w' Input = GivesPastLimits rest new_rest
+IsRunStop lock environment rest new_rest r r' held new_held w w' Memory = Unit {0}
+
+pub record RunStops (lock environment : List ℕ) (rest new_rest : Option (List ℕ)) (r r' : ℕ) (held new_held : Option (List ℕ)) (w w' : ℕ) (fault : RunFault) : Type 0 where
+  pub front : WritesReportFront lock environment rest new_rest held new_held
+  pub cause : IsRunStop lock environment rest new_rest r r' held new_held w w' fault

@@ -1,14 +1,18 @@
 //! A run: edits a session by the lines of its input, and writes what they print.
 
-ghost use Rattle.std.specs.Prelude.{◌≡◌, ◌++◌, ◌<◌, ◌≤◌, [], Ok, Err, OnOk, IfOk, IfErr, OnErr, IsTrue, false, ◌+◌, length, take};
+ghost use Rattle.std.specs.Prelude.{◌≡◌, ◌++◌, ◌<◌, ◌≤◌, [], Ok, Err, OnOk, IfOk, IfErr, OnErr, IsErrOf, IsTrue, false, ◌⊎◌, ◌+◌, length, take};
 ghost use Rattle.std.specs.Io.KnownBytes.{append_known, prepend_known, IsAtEnd};
 ghost use Rattle.pylock.specs.Faults.{HasFailed};
 ghost use Rattle.pylock.specs.Moves.{WritesFront};
 ghost use Rattle.pylock.specs.Pours.{Pours};
 ghost use Rattle.pylock.specs.Editing.{start, bytes_done, bytes_text, finished, finished_text, lines_begun};
-ghost use Rattle.pylock.specs.Report.{standing_text};
+ghost use Rattle.pylock.specs.Report.{standing_text, IsRefused};
 ghost use Rattle.pylock.specs.Print.{lock_text, environment_text};
-ghost use Rattle.pylock.specs.Run.{SessionReports, SessionStops};
+ghost use Rattle.pylock.specs.Run.{WritesReport, EndsWithinLimits, WritesReportFront, WritesEndedLines, GivesPastLimits, SessionReports, SessionStops, RunReports, RunStops};
+ghost use Rattle.pylock.specs.Opening.{IsOpening};
+ghost use Rattle.pylock_core.specs.Lock.{lock_of};
+ghost use Rattle.pylock_core.specs.Environment.{env_of};
+ghost use Rattle.pylock.specs.declared.fault.RunFault.TheVariants.{Read, Write, Input};
 ghost use Rattle.pylock.specs.EditingFaults.{IsWriteFault, IsFeedFault, IsOutputFault};
 ghost use Rattle.pylock.specs.Edited.{Edited, EditsAll, IsReadFault, EditFault};
 
@@ -18,8 +22,8 @@ use crate::fault::RunFault;
 use crate::files::piece_buffer;
 use crate::refusals::{push_environment_error, push_lock_error};
 use crate::writing::write_all;
-use pylock_core::{EnvError, LockError, Session};
-use std::alloc::Global;
+use pylock_core::{EnvError, Lock, LockError, Session, read_environment};
+use std::alloc::{AllocError, Global};
 
 /// How many bytes of output are written at once, if no answer is longer.
 const FLUSH_BYTES: usize = 65_536;
@@ -261,4 +265,86 @@ fn refuse_environment<W: Sink>(
     push_environment_error(&mut out, error)?;
     flush(&mut out, writer)?;
     Ok(2)
+}
+
+/// A lock and an environment, opened.
+#[derive(Debug, Drop)]
+enum Opening {
+    /// The session on the lock.
+    Session(Session),
+    /// Why the lock is refused.
+    Lock(LockError),
+    /// Why the environment is refused.
+    Environment(EnvError),
+}
+
+/// Reads the lock and then the environment.
+fn open(alloc: Global, lock: &[u8], env: &[u8]) -> Result<Opening, AllocError>
+    ensures { IfOk result (IsOpening (lock_of lock.now) (env_of env.now)) }
+{
+    let lock = match Lock::read(alloc, lock) {
+        Ok(lock) => lock,
+        Err(LockError::Memory) => return Err(AllocError),
+        Err(error) => return Ok(Opening::Lock(error)),
+    };
+    match read_environment(alloc, env) {
+        Ok(()) => Ok(Opening::Session(Session::start(alloc, lock)?)),
+        Err(EnvError::Memory) => Err(AllocError),
+        Err(error) => Ok(Opening::Environment(error)),
+    }
+}
+
+/// A run, as `run` says it.
+fn run_opened<R: Source, W: Sink>(
+    alloc: Global,
+    lock: &[u8],
+    env: &[u8],
+    reader: &mut R,
+    writer: &mut W,
+) -> Result<u8, RunFault>
+    ensures reports { IfOk result (RunReports lock.now env.now (R.rest reader.old) (R.rest reader.new) (W.held writer.old) (W.held writer.new)) }
+    ensures stops { IfErr result (RunStops lock.now env.now (R.rest reader.old) (R.rest reader.new) (R.failures reader.old) (R.failures reader.new)
+        (W.held writer.old) (W.held writer.new) (W.failures writer.old) (W.failures writer.new)) }
+    ensures unasked { IsRefused lock.now env.now
+        → (R.rest reader.new ≡ R.rest reader.old) × (R.failures reader.new ≡ R.failures reader.old) }
+{
+    match open(alloc, lock, env)? {
+        Opening::Session(session) => edit_all(alloc, session, reader, writer),
+        Opening::Lock(error) => refuse_lock(alloc, &error, writer),
+        Opening::Environment(error) => refuse_environment(alloc, &error, writer),
+    }
+}
+
+/// Runs `select`: edits a session on the lock by the lines of the input, and writes the first answer
+/// and what each line prints. It answers the status: 0 where the last answer is a plan and no line was
+/// refused, 1 otherwise, 2 where the lock or the environment is refused.
+///
+/// It is one pass: the input is read in pieces of at most 65,536 bytes, and before each read all is
+/// written that the lines print which have ended. Where the lock or the environment is refused,
+/// nothing is read. It keeps the line that is being read, of a line that is too long no more than tells
+/// so, and takes memory for the session, the kept line, a piece, and what stands to be written.
+pub fn run<R: Source, W: Sink>(
+    alloc: Global,
+    lock: &[u8],
+    env: &[u8],
+    reader: &mut R,
+    writer: &mut W,
+) -> Result<u8, RunFault>
+    ensures report { IfOk result (WritesReport lock.now env.now (R.rest reader.old) (R.rest reader.new) (W.held writer.old) (W.held writer.new)) }
+    ensures end { OnOk result (IsRefused lock.now env.now ⊎ EndsWithinLimits (R.rest reader.old) (R.rest reader.new)) }
+    ensures unasked { IsRefused lock.now env.now
+        → (R.rest reader.new ≡ R.rest reader.old) × (R.failures reader.new ≡ R.failures reader.old) }
+
+    // After a fault a front of the report was written; after a failed read exactly the text of the
+    // lines that had ended.
+    ensures err { OnErr result (WritesReportFront lock.now env.now (R.rest reader.old) (R.rest reader.new) (W.held writer.old) (W.held writer.new)) }
+    ensures answered { IsErrOf result Read
+        → WritesEndedLines lock.now env.now (R.rest reader.old) (R.rest reader.new) (W.held writer.old) (W.held writer.new) }
+
+    // Each fault has its cause.
+    ensures read { IsErrOf result Read → HasFailed (R.failures reader.old) (R.failures reader.new) }
+    ensures write { IsErrOf result Write → HasFailed (W.failures writer.old) (W.failures writer.new) }
+    ensures input { IsErrOf result Input → GivesPastLimits (R.rest reader.old) (R.rest reader.new) }
+{
+    run_opened(alloc, lock, env, reader, writer)
 }
