@@ -1,12 +1,17 @@
 -- The laws of the editing byte by byte, and what it says of the lines.
-use Rattle.std.proofs.Common.{◌≡◌, ℕ, ◌+◌, ◌≤◌, ◌<◌, suc, zero, List, [], ◌∷◌, ◌++◌, length, take, Bool, true, false, cond, ◌||◌, ◌==◌, Result, Ok, Err, arith, refl, ap, sym, ◌∙◌, subst, inl, inr, ⊎_elim, append_assoc, append-nil, length-append}
-use Rattle.std.proofs.lemmas.List.{take_all, length-take-le}
-use Rattle.std.proofs.lemmas.Bool.{cases_Bool, cases_lt, lt-ltb, le-ltb}
+use Rattle.std.proofs.Common.{◌≡◌, ℕ, ◌+◌, ◌≤◌, ◌<◌, ◌-◌, suc, zero, List, [], ◌∷◌, ◌++◌, length, take, drop, take-append-drop, get_or, min, Option, Some, None, Bool, true, false, cond, not, nat_lt, ◌||◌, ◌==◌, Result, Ok, Err, arith, refl, ap, sym, ◌∙◌, subst, inl, inr, ⊎_elim, append_assoc, append-nil, length-append}
+use Rattle.std.proofs.lemmas.List.{take_all, length-take-le, length-take, take_more, get_or-take, take_min}
+use Rattle.std.proofs.lemmas.List.Quantifiers.{position-Some}
+use Rattle.std.specs.List.{position, position_or_len}
+use Rattle.std.proofs.lemmas.Bool.{cases_lt, lt-ltb, le-ltb, eqb-true, false≢true}
+use Rattle.std.proofs.lemmas.List.Sums.{prefix_len_passes}
 use Rattle.std.specs.Result.{is_err, result_unwrap_or}
 use Rattle.pylock_core.specs.State.{State}
-use Rattle.pylock.specs.Lines.{input_lines, ended_lines, onto_first, onto_ended, command_of}
-use Rattle.pylock.specs.Report.{after_line, after_command, state_after, outcome_text, lines_text, state_after_all, any_refused}
-use Rattle.pylock.specs.Editing.{At, start, kept, end_line, end_text, keep_byte, bytes_done, bytes_text, finish, finish_text, finished, finished_text}
+use Rattle.pylock.specs.Lines.{is_lf, input_lines, ended_lines, onto_first, onto_ended, command_of}
+use Rattle.pylock.specs.Report.{is_plan, after_line, after_command, state_after, outcome_text, lines_text, state_after_all, any_refused}
+use Rattle.pylock.specs.Editing.{At, start, lines_begun, plan_after, kept, end_line, end_text, keep_byte, bytes_done, bytes_text, finish, finish_text, finished, finished_text}
+use Rattle.pylock_core.specs.Steps.{answer}
+use Rattle.pylock.specs.declared.lines.LineRefusal.{LineRefusal}
 use Rattle.pylock.specs.declared.lines.LineRefusal.TheVariants as refusal
 use Rattle.pylock.specs.declared.lines.TheConstants.{LINE_LIMIT}
 
@@ -53,6 +58,9 @@ kept-nil = refl
 kept-cons : (b : ℕ) (line : List ℕ) → (rest : List ℕ) × (kept (b ∷ line) ≡ b ∷ rest)
 unfolding kept
 kept-cons b line = (take LINE_LIMIT line, refl)
+
+kept-kept : (xs : List ℕ) → kept (kept xs) ≡ kept xs
+kept-kept xs = ap kept (sym (append-nil (kept xs))) ∙ kept-append xs [] ∙ ap kept (append-nil xs)
 
 command_of-long : (line : List ℕ) → LINE_LIMIT < length line → command_of line ≡ Err refusal.Long
 command_of-long line long = rw (lt-ltb LINE_LIMIT (length line) long)
@@ -206,11 +214,209 @@ prints_ended_on at front (b ∷ bytes) has =
         ∙ ap (lines_text at.state (at.ended + 1)) (sym (with_ended-onto_ended front b (ended_lines bytes)))
     ]
 
+-- the last answer, told as it was given
+
+plan_after-told : (plan : Bool) (state : State) (after : Result State LineRefusal) → plan ≡ is_plan (answer state)
+    → plan_after plan after ≡ is_plan (answer (result_unwrap_or after state))
+plan_after-told plan state (Ok next) told = refl
+plan_after-told plan state (Err refused) told = told
+
+plan-end_line : (at : At) → at.plan ≡ is_plan (answer at.state) → (end_line at).plan ≡ is_plan (answer (end_line at).state)
+unfolding end_line
+plan-end_line at told = plan_after-told at.plan at.state (after_line at.state at.line) told
+
+plan-bytes_done : (at : At) (bytes : List ℕ) → at.plan ≡ is_plan (answer at.state)
+    → (bytes_done at bytes).plan ≡ is_plan (answer (bytes_done at bytes).state)
+plan-bytes_done at [] told = told
+plan-bytes_done at (b ∷ bytes) told =
+    elim (b == 10) as (λ t. (bytes_done (cond t (end_line at) (keep_byte at b)) bytes).plan ≡ is_plan (answer (bytes_done (cond t (end_line at) (keep_byte at b)) bytes).state)) [
+      true ↦ plan-bytes_done (end_line at) bytes (plan-end_line at told)
+    | false ↦ plan-bytes_done (keep_byte at b) bytes told
+    ]
+
+plan-finish : (at : At) (line : List ℕ) → at.plan ≡ is_plan (answer at.state) → (finish at line).plan ≡ is_plan (answer (finish at line).state)
+plan-finish at [] told = told
+plan-finish at (b ∷ line) told = plan-end_line at told
+
+pub plan_told : (state : State) (bytes : List ℕ) → (finished (bytes_done (start state) bytes)).plan ≡ is_plan (answer (finished (bytes_done (start state) bytes)).state)
+plan_told state bytes =
+    let at = bytes_done (start state) bytes in
+    plan-finish at at.line (plan-bytes_done (start state) bytes refl)
+
 -- the whole input
 pub edits : (state : State) (bytes : List ℕ)
     → Edits (start state) (finished (bytes_done (start state) bytes)) (bytes_text (start state) bytes ++ finished_text (bytes_done (start state) bytes)) (input_lines bytes)
 edits state bytes = subst (Edits (start state) _ _) (with_front-nil (input_lines bytes)) (edits_on (start state) [] bytes (sym kept-nil))
 
+ended-finish : (at : At) (line : List ℕ) → (finish at line).ended ≡ at.ended + min 1 (length line)
+unfolding end_line
+ended-finish at [] = omega arith
+ended-finish at (b ∷ line) = omega arith
+
+-- the lines so far
+pub ended-finished : (at : At) → (finished at).ended ≡ lines_begun at
+ended-finished at = ended-finish at at.line
+
 -- a part of the input prints the text of the lines that end in it
 pub prints_ended : (state : State) (bytes : List ℕ) → bytes_text (start state) bytes ≡ lines_text state 1 (ended_lines bytes)
 prints_ended state bytes = prints_ended_on (start state) [] bytes (sym kept-nil) ∙ ap (lines_text state 1) (with_ended-nil (ended_lines bytes))
+
+-- bytes without an LF
+
+IsPart : List ℕ → Type 0
+IsPart bytes = (k : ℕ) → k < length bytes → (get_or bytes k 0 == 10) ≡ false
+
+part_done : (at : At) (bytes : List ℕ) → IsPart bytes → kept at.line ≡ at.line → bytes_done at bytes ≡ record at { line = kept (at.line ++ bytes) }
+unfolding IsPart
+part_done at [] part short = ap (λ l. record at { line = l }) (sym (ap kept (append-nil at.line) ∙ short))
+part_done at (b ∷ bytes) part short =
+    ap (λ t. bytes_done (cond t (end_line at) (keep_byte at b)) bytes) (part 0 (omega arith))
+    ∙ part_done (keep_byte at b) bytes (λ k below. part (suc k) (omega arith)) (kept-kept (at.line ++ b ∷ []))
+    ∙ ap (λ l. record at { line = l }) (kept-append (at.line ++ b ∷ []) bytes ∙ ap kept (append_assoc at.line (b ∷ []) bytes))
+
+part_text : (at : At) (bytes : List ℕ) → IsPart bytes → bytes_text at bytes ≡ []
+unfolding IsPart
+part_text at [] part = refl
+part_text at (b ∷ bytes) part =
+    ap (λ t. cond t (end_text at ++ bytes_text (end_line at) bytes) (bytes_text (keep_byte at b) bytes)) (part 0 (omega arith))
+    ∙ part_text (keep_byte at b) bytes (λ k below. part (suc k) (omega arith))
+
+is_false : (b : Bool) → not b ≡ true → b ≡ false
+is_false true e = absurd (false≢true e)
+is_false false e = refl
+
+before_lf : (bytes : List ℕ) (k : ℕ) → k < position_or_len is_lf bytes → (get_or bytes k 0 == 10) ≡ false
+before_lf bytes k below = is_false (is_lf (get_or bytes k 0)) (prefix_len_passes (λ b. not (is_lf b)) bytes k 0 below)
+
+none≢some : {n : ℕ} → None ≡ Some n → ⊥
+none≢some e = cc
+
+none_past : (n len : ℕ) → cond (nat_lt n len) (Some n) None ≡ None → len ≤ n
+none_past n len none = ⊎_elim
+    (λ (below : n < len). absurd (none≢some (sym none ∙ ap (λ t. cond t (Some n) None) (lt-ltb n len below))))
+    (λ (past : len ≤ n). past)
+    (cases_lt n len)
+
+some_place : (n m len : ℕ) → cond (nat_lt n len) (Some n) None ≡ Some m → (n ≡ m) × (n < len)
+some_place n m len some = ⊎_elim
+    (λ (below : n < len). let e : Some n ≡ Some m = sym (ap (λ t. cond t (Some n) None) (lt-ltb n len below)) ∙ some in let same : n ≡ m = cc in (same, below))
+    (λ (past : len ≤ n). absurd (none≢some (sym (ap (λ t. cond t (Some n) None) (le-ltb n len past)) ∙ some)))
+    (cases_lt n len)
+
+IsPart-none : (bytes : List ℕ) → position is_lf bytes ≡ None → IsPart bytes
+unfolding IsPart
+IsPart-none bytes none k below =
+    let past : length bytes ≤ position_or_len is_lf bytes = none_past (position_or_len is_lf bytes) (length bytes) none in
+    before_lf bytes k (omega arith)
+
+-- up to the first LF, and that LF
+record UpToLf (bytes : List ℕ) (n : ℕ) : Type 0 where
+  pub within : n < length bytes
+  pub part : IsPart (take n bytes)
+  pub whole : take (n + 1) bytes ≡ take n bytes ++ 10 ∷ []
+
+is_lf-true : (b : ℕ) → is_lf b ≡ true → b ≡ 10
+is_lf-true b e = eqb-true b 10 e
+
+UpToLf-some : (bytes : List ℕ) (n : ℕ) → position is_lf bytes ≡ Some n → UpToLf bytes n
+unfolding IsPart
+UpToLf-some bytes n some =
+    let place = some_place (position_or_len is_lf bytes) n (length bytes) some in
+    let found = position-Some is_lf bytes n 0 some in
+    record {
+      within = found.0;
+      part = λ k below.
+        let less : k < n = (let size = length-take n bytes in omega arith) in
+        ap (λ b. b == 10) (get_or-take n bytes k 0 less) ∙ found.2 k less;
+      whole = take_more bytes n 0 found.0 ∙ ap (λ b. take n bytes ++ b ∷ []) (is_lf-true _ found.1);
+    }
+
+pub line_done : (at : At) (bytes : List ℕ) (n : ℕ) → position is_lf bytes ≡ Some n → kept at.line ≡ at.line
+    → bytes_done at (take (n + 1) bytes) ≡ end_line (record at { line = kept (at.line ++ take n bytes) })
+line_done at bytes n some short =
+    let up = UpToLf-some bytes n some in
+    ap (bytes_done at) up.whole ∙ bytes_done-append at (take n bytes) (10 ∷ []) ∙ ap (λ a. end_line a) (part_done at (take n bytes) up.part short)
+
+pub line_prints : (at : At) (bytes : List ℕ) (n : ℕ) → position is_lf bytes ≡ Some n → kept at.line ≡ at.line
+    → bytes_text at (take (n + 1) bytes) ≡ end_text (record at { line = kept (at.line ++ take n bytes) })
+line_prints at bytes n some short =
+    let up = UpToLf-some bytes n some in
+    ap (bytes_text at) up.whole ∙ bytes_text-append at (take n bytes) (10 ∷ [])
+    ∙ ap (λ t. t ++ bytes_text (bytes_done at (take n bytes)) (10 ∷ [])) (part_text at (take n bytes) up.part)
+    ∙ append-nil (end_text (bytes_done at (take n bytes)))
+    ∙ ap (λ a. end_text a) (part_done at (take n bytes) up.part short)
+
+-- all bytes, where none is an LF
+
+pub rest_done : (at : At) (bytes : List ℕ) → position is_lf bytes ≡ None → kept at.line ≡ at.line
+    → bytes_done at bytes ≡ record at { line = kept (at.line ++ bytes) }
+rest_done at bytes none short = part_done at bytes (IsPart-none bytes none) short
+
+pub rest_prints : (at : At) (bytes : List ℕ) → position is_lf bytes ≡ None → bytes_text at bytes ≡ []
+rest_prints at bytes none = part_text at bytes (IsPart-none bytes none)
+
+-- what a line keeps of more bytes
+take-append_room : (n : ℕ) (xs ys : List ℕ) → length xs ≤ n → take n (xs ++ ys) ≡ xs ++ take (n - length xs) ys
+take-append_room n [] ys fits = ap (λ m. take m ys) (omega arith)
+take-append_room zero (x ∷ xs) ys fits = absurd (omega arith)
+take-append_room (suc n) (x ∷ xs) ys fits =
+    let less : length xs ≤ n = omega arith in
+    let same : n - length xs ≡ suc n - suc (length xs) = omega arith in
+    ap (λ l. x ∷ l) (take-append_room n xs ys less ∙ ap (λ m. xs ++ take m ys) same)
+
+take-min_length : (n : ℕ) (ys : List ℕ) → take (min (length ys) n) ys ≡ take n ys
+take-min_length n ys = ap (λ m. take m ys) (omega arith) ∙ take_min n ys
+
+pub kept_room : (xs ys : List ℕ) → length xs ≤ LINE_LIMIT + 1 → kept (xs ++ ys) ≡ xs ++ take (min (length ys) (LINE_LIMIT + 1 - length xs)) ys
+unfolding kept
+kept_room xs ys fits = take-append_room (LINE_LIMIT + 1) xs ys fits ∙ ap (λ l. xs ++ l) (sym (take-min_length (LINE_LIMIT + 1 - length xs) ys))
+
+pub begun-end_line : (at : At) → lines_begun (end_line at) ≡ at.ended + 1
+unfolding end_line
+begun-end_line at = omega arith
+
+kept_some : (line : List ℕ) (b : ℕ) → 0 < length (kept (line ++ b ∷ []))
+kept_some [] b = rw ((kept-cons b []).1) (omega arith)
+kept_some (c ∷ line) b = rw ((kept-cons c (line ++ b ∷ [])).1) (omega arith)
+
+begun-keep_byte : (at : At) (b : ℕ) → lines_begun (keep_byte at b) ≡ at.ended + 1
+begun-keep_byte at b =
+    let some : 0 < length (kept (at.line ++ b ∷ [])) = kept_some at.line b in
+    omega arith
+
+-- the lines so far, with one byte more
+pub begun-byte : (at : At) (b : ℕ) → lines_begun (cond (b == 10) (end_line at) (keep_byte at b)) ≡ at.ended + 1
+begun-byte at b = elim (b == 10) as (λ t. lines_begun (cond t (end_line at) (keep_byte at b)) ≡ at.ended + 1) [
+    true ↦ begun-end_line at
+  | false ↦ begun-keep_byte at b
+  ]
+
+begun_step : (ended len next last : ℕ) → next ≡ ended + 1 → next ≤ last → ended + min 1 len ≤ last
+begun_step ended len next last one more = omega arith
+
+begun_first : (ended next last : ℕ) → next ≡ ended + 1 → next ≤ last → ended + 1 ≤ last
+begun_first ended next last one more = omega arith
+
+pub begun-le : (at : At) (bytes : List ℕ) → lines_begun at ≤ lines_begun (bytes_done at bytes)
+begun-le at [] = omega arith
+begun-le at (b ∷ bytes) =
+    let next = cond (b == 10) (end_line at) (keep_byte at b) in
+    let more : lines_begun next ≤ lines_begun (bytes_done next bytes) = begun-le next bytes in
+    let one : lines_begun next ≡ at.ended + 1 = begun-byte at b in
+    begun_step (at.ended) (length at.line) (lines_begun next) (lines_begun (bytes_done next bytes)) one more
+
+-- a byte after the last line that may be
+pub begun_past : (at : At) (bytes : List ℕ) → 0 < length bytes → at.ended + 1 ≤ lines_begun (bytes_done at bytes)
+begun_past at [] none = absurd (omega arith)
+begun_past at (b ∷ bytes) some =
+    let next = cond (b == 10) (end_line at) (keep_byte at b) in
+    let more : lines_begun next ≤ lines_begun (bytes_done next bytes) = begun-le next bytes in
+    let one : lines_begun next ≡ at.ended + 1 = begun-byte at b in
+    begun_first at.ended (lines_begun next) (lines_begun (bytes_done next bytes)) one more
+
+-- what a part prints stands before what the whole prints
+pub text_front : (at : At) (bytes : List ℕ) (n : ℕ) → bytes_text at bytes ≡ bytes_text at (take n bytes) ++ bytes_text (bytes_done at (take n bytes)) (drop n bytes)
+text_front at bytes n = ap (bytes_text at) (sym (take-append-drop n bytes)) ∙ bytes_text-append at (take n bytes) (drop n bytes)
+
+pub done_front : (at : At) (bytes : List ℕ) (n : ℕ) → bytes_done at bytes ≡ bytes_done (bytes_done at (take n bytes)) (drop n bytes)
+done_front at bytes n = ap (bytes_done at) (sym (take-append-drop n bytes)) ∙ bytes_done-append at (take n bytes) (drop n bytes)

@@ -3,3 +3,6 @@ pub mod EditingLemmas
 pub mod PrintLemmas
 pub mod ReadLemmas
 pub mod WroteLemmas
+pub mod PourLemmas
+pub mod RunLemmas
+pub mod SessionLemmas

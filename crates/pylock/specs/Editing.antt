@@ -1,29 +1,38 @@
 -- The editing of a session byte by byte: what `report` says of the lines, as a run has it in hand after a part of the input.
-use Rattle.std.specs.Prelude.{ℕ, ◌+◌, ◌==◌, ◌++◌, ◌||◌, Bool, false, if◌then◌else◌, List, [], ◌∷◌, take}
+use Rattle.std.specs.Prelude.{ℕ, ◌+◌, ◌==◌, ◌++◌, ◌||◌, Bool, false, if◌then◌else◌, List, [], ◌∷◌, length, take, min, Result, Ok, Err}
 use Rattle.std.specs.Result.{is_err}
 use Rattle.pylock_core.specs.State.{State}
-use Rattle.pylock.specs.Report.{after_line, state_after, line_text}
+use Rattle.pylock_core.specs.Steps.{answer}
+use Rattle.pylock.specs.declared.lines.LineRefusal.{LineRefusal}
+use Rattle.pylock.specs.Report.{is_plan, after_line, state_after, line_text}
 use Rattle.pylock.specs.declared.lines.TheConstants.{LINE_LIMIT}
 
 -- what is kept of a line: enough to tell that it is too long
 unfoldable pub kept : List ℕ → List ℕ
 kept line = take (LINE_LIMIT + 1) line
 
--- the state of the session, the number of ended lines, whether one of them was refused, and what is kept of the line that is being read
+-- the state of the session, whether its last answer was a plan, the number of ended lines, whether one of them was refused, and what is kept of the line that is being read
 pub record At : Type 0 where
   pub state : State
+  pub plan : Bool
   pub ended : ℕ
   pub refused : Bool
   pub line : List ℕ
 
 -- before the first byte of the input
 abbrev pub start : State → At
-start state = record { state = state; ended = 0; refused = false; line = [] }
+start state = record { state = state; plan = is_plan (answer state); ended = 0; refused = false; line = [] }
+
+-- whether the last answer is a plan, after a line
+abbrev pub plan_after : Bool → Result State LineRefusal → Bool
+plan_after plan (Ok state) = is_plan (answer state)
+plan_after plan (Err refused) = plan
 
 -- the line ends
 unfoldable pub end_line : At → At
 end_line at = record {
   state = state_after at.state at.line;
+  plan = plan_after at.plan (after_line at.state at.line);
   ended = at.ended + 1;
   refused = at.refused || is_err (after_line at.state at.line);
   line = [];
@@ -62,4 +71,4 @@ finished_text at = finish_text at at.line
 
 -- the lines so far, with the one that is being read
 abbrev pub lines_begun : At → ℕ
-lines_begun at = (finished at).ended
+lines_begun at = at.ended + min 1 (length at.line)

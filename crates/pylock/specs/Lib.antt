@@ -1,9 +1,15 @@
 pub mod Lines
 pub mod Fields
 pub mod Print
+pub mod Refusals
 pub mod Report
 pub mod Editing
+pub mod EditingFaults
 pub mod Faults
 pub mod FileFault
 pub mod MemoryEnds
 pub mod Moves
+pub mod Pours
+pub mod Edited
+pub mod Run
+pub mod Opening

@@ -5,8 +5,9 @@ use Rattle.std.specs.List.{before_first, after_first, list_any, list_all, ends_w
 use Rattle.std.specs.Str.{is_utf8, bytes_eq}
 use Rattle.std.specs.Char.{is_ascii_digit}
 use Rattle.std.specs.Str.Parse.{digits_value}
+use Rattle.pylock_core.specs.declared.edit.Edit.TheVariants.{Del}
 use Rattle.pylock.specs.declared.lines.Command.{Command}
-use Rattle.pylock.specs.declared.lines.Command.TheVariants.{Show, Del}
+use Rattle.pylock.specs.declared.lines.Command.TheVariants as command
 use Rattle.pylock.specs.declared.lines.LineRefusal.{LineRefusal}
 use Rattle.pylock.specs.declared.lines.LineRefusal.TheVariants as refusal
 use Rattle.pylock.specs.declared.lines.TheConstants.{LINE_LIMIT}
@@ -35,6 +36,9 @@ ended_lines (b ∷ rest) = if b == 10 then [] ∷ ended_lines rest else onto_end
 abbrev pub without_cr : List ℕ → List ℕ
 without_cr line = if ends_with (λ a b. a == b) line (13 ∷ []) then take (length line - 1) line else line
 
+abbrev pub is_lf : ℕ → Bool
+is_lf b = b == 10
+
 abbrev pub is_space : ℕ → Bool
 is_space b = b == 32
 
@@ -47,12 +51,12 @@ abbrev pub entry_number : List ℕ → Option ℕ
 entry_number text = if is_entry_number text then Some (digits_value 10 text) else None
 
 abbrev pub show_after : Option (List ℕ) → Result Command LineRefusal
-show_after None = Ok Show
+show_after None = Ok command.Show
 show_after (Some argument) = Err refusal.Argument
 
 abbrev pub del_after : Option (List ℕ) → Result Command LineRefusal
 del_after None = Err refusal.Argument
-del_after (Some argument) = ok_or (option_map Del (entry_number argument)) refusal.Argument
+del_after (Some argument) = ok_or (option_map (λ number. command.Edit (Del number)) (entry_number argument)) refusal.Argument
 
 -- what a command's word and its argument ask for
 abbrev pub command_after : List ℕ → Option (List ℕ) → Result Command LineRefusal

@@ -6,16 +6,18 @@ ghost use Rattle.std.specs.List.{list_all};
 ghost use Rattle.std.specs.Char.{is_ascii_digit};
 ghost use Rattle.pylock.specs.Lines.{command_of, text_command, without_cr, entry_number, is_entry_number, command_after};
 
+use pylock_core::{Edit, EditError};
+
 /// The most bytes that a line has before its LF; a CR counts.
 pub const LINE_LIMIT: usize = 1_048_576;
 
 /// What a line asks for.
-#[derive(Clone, Copy, Debug, Drop)]
+#[derive(Debug, Drop)]
 pub enum Command {
     /// The answer as it stands.
     Show,
-    /// To take out the entry of this number.
-    Del(u32),
+    /// An edit of the session.
+    Edit(Edit),
 }
 
 /// Why a line is refused.
@@ -31,6 +33,19 @@ pub enum LineRefusal {
     Argument,
     /// No entry has its number.
     NoEntry,
+}
+
+impl From<EditError> for LineRefusal {
+    ghost use Rattle.std.specs.Prelude.{◌≡◌};
+    ghost use Rattle.pylock.specs.Refusals.{edit_refusal};
+
+    ghost from_gives = { λ error refused. refused ≡ edit_refusal error };
+
+    fn from(error: EditError) -> LineRefusal {
+        match error {
+            EditError::NoEntry => LineRefusal::NoEntry,
+        }
+    }
 }
 
 /// Reads a line, given without its LF.
@@ -67,7 +82,9 @@ fn command_with(word: &str, argument: Option<&str>) -> Result<Command, LineRefus
     match (word, argument) {
         ("show", None) => Ok(Command::Show),
         ("show", Some(_)) => Err(LineRefusal::Argument),
-        ("del", Some(id)) => parse_entry_number(id).map(Command::Del).ok_or(LineRefusal::Argument),
+        ("del", Some(id)) => parse_entry_number(id)
+            .map(|number| Command::Edit(Edit::Del(number)))
+            .ok_or(LineRefusal::Argument),
         ("del", None) => Err(LineRefusal::Argument),
         _ => Err(LineRefusal::Command),
     }

@@ -3,11 +3,13 @@
 
 mod editing;
 mod ends;
+mod fault;
 mod files;
 mod lines;
 mod memory;
 mod printing;
 mod refusals;
+mod run;
 mod streams;
 mod writing;
 
