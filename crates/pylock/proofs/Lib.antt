@@ -6,3 +6,4 @@ pub mod WroteLemmas
 pub mod PourLemmas
 pub mod RunLemmas
 pub mod SessionLemmas
+mod ClapLemmas

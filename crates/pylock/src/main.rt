@@ -1,6 +1,7 @@
 //! `pylock`: selects from a pylock.toml lock what an installer installs.
 #![tactic(auto)]
 
+mod command;
 mod editing;
 mod ends;
 mod fault;
@@ -8,7 +9,9 @@ mod files;
 mod lines;
 mod memory;
 mod printing;
+mod queries;
 mod refusals;
+mod reply;
 mod run;
 mod streams;
 mod writing;
