@@ -100,14 +100,30 @@ among_takes (o ∷ os) text cut falls e = elim (option_sight (behind_operator o 
 
 operators_fall : Falls operators
 operators_fall = (
-    (omega arith, (omega arith, (omega arith, (omega arith, (omega arith, (omega arith, (omega arith, tt))))))), (
-    (omega arith, (omega arith, (omega arith, (omega arith, (omega arith, (omega arith, tt)))))), (
-    (omega arith, (omega arith, (omega arith, (omega arith, (omega arith, tt))))), (
-    (omega arith, (omega arith, (omega arith, (omega arith, tt)))), (
-    (omega arith, (omega arith, (omega arith, tt))), (
-    (omega arith, (omega arith, tt)), (
-    (omega arith, tt), (
-    tt, tt))))))))
+  (omega arith, (omega arith, (omega arith, (omega arith, (omega arith, (omega arith, (omega arith, tt))))))),
+  (
+    (omega arith, (omega arith, (omega arith, (omega arith, (omega arith, (omega arith, tt)))))),
+    (
+      (omega arith, (omega arith, (omega arith, (omega arith, (omega arith, tt))))),
+      (
+        (omega arith, (omega arith, (omega arith, (omega arith, tt)))),
+        (
+          (omega arith, (omega arith, (omega arith, tt))),
+          (
+            (omega arith, (omega arith, tt)),
+            (
+              (omega arith, tt),
+              (
+                tt,
+                tt,
+              ),
+            ),
+          ),
+        ),
+      ),
+    ),
+  ),
+)
 
 each_operator : (o : Operator) → IsIn o operators
 each_operator operator.Arbitrary = inl refl
@@ -130,7 +146,7 @@ star_takes text e =
     let b = both (starts_with nat_eq text (codes ".*")) (list_all is_white (drop 2 text)) e in
     (begins_takes text (codes ".*") b.0, b.1)
 
-prefix_of_takes : (text : List ℕ) (p : Prefix) → prefix_of text ≡ Some p → SpellsPrefix text p
+pub prefix_of_takes : (text : List ℕ) (p : Prefix) → prefix_of text ≡ Some p → SpellsPrefix text p
 unfolding prefix_of
 prefix_of_takes text p e =
     let w = white_takes text in
@@ -140,7 +156,7 @@ prefix_of_takes text p e =
     let b = base_takes (after_white text) a.0 a.1 in
     let after = drop 2 a.0.1 in
     let whole : text ≡ w.0 ++ (b.0 ++ (b.1 ++ (b.2 ++ (codes ".*" ++ after)))) =
-        w.1 ∙ ap (λ (t : List ℕ). w.0 ++ t) (b.3 ∙ ap (λ (t : List ℕ). b.0 ++ (b.1 ++ (b.2 ++ t))) star.0) in
+    w.1 ∙ ap (λ (t : List ℕ). w.0 ++ t) (b.3 ∙ ap (λ (t : List ℕ). b.0 ++ (b.1 ++ (b.2 ++ t))) star.0) in
     let made : SpellsPrefix text (record { epoch = a.0.0.0; release = a.0.0.1 }) = record {
       before = w.0;
       prefix = b.0;
