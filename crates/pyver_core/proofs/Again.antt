@@ -1,6 +1,6 @@
 -- A piece in the form that the grammar asks for is taken from the front of a text, and no more.
-use Rattle.std.proofs.Common.{◌≡◌, ◌⊎◌, ℕ, zero, suc, ◌+◌, ◌<◌, ◌≤◌, Bool, true, false, cond, ◌&&◌, List, [], ◌∷◌, ◌++◌, length, map, take, drop, Option, Some, None, refl, sym, ap, subst, ◌∙◌, append_assoc, arith, inl, inr}
-use Rattle.std.specs.Prelude.{option_map, unwrap_or, codes, bytes_eq, ◌==◌}
+use Rattle.std.proofs.Common.{◌≡◌, ℕ, ◌≤◌, Bool, true, false, List, [], ◌∷◌, ◌++◌, length, take, drop, Option, Some, None, refl, sym, ap, subst, ◌∙◌, append_assoc, arith, inl, inr}
+use Rattle.std.specs.Prelude.{codes, bytes_eq, ◌==◌}
 use Rattle.std.specs.Char.{is_ascii_digit, is_ascii_alphanumeric, to_ascii_lowercase}
 use Rattle.std.specs.Cmp.Lexicographic.{bytes_decides}
 use Rattle.std.specs.List.{list_all, prefix_len}
@@ -9,7 +9,7 @@ use Rattle.std.specs.Str.Parse.{digits_value}
 use Rattle.std.proofs.lemmas.List.{take_at, drop_at, take-map, map-append, length-map}
 use Rattle.std.proofs.lemmas.Bool.{eqb-true}
 use Rattle.pyver_core.specs.Grammar.{is_white, is_separator, is_dot, starts, IsOptionalSeparator, IsCount, IsNumber, IsWord, AreBehind, IsSegment}
-use Rattle.pyver_core.specs.Reading.{onto, optional_at, behind_at, many_at, after_white, after_separator, count_at, number_at, word_at, tail_at, dotted_at, segment_of, segment_at, separated_at, added_at, dashed_at}
+use Rattle.pyver_core.specs.Reading.{onto, behind_at, many_at, after_white, after_separator, count_at, number_at, word_at, tail_at, dotted_at, segment_of, segment_at, separated_at, added_at}
 use Rattle.pyver_core.specs.declared.part.LocalPart.{LocalPart}
 use Rattle.pyver_core.specs.declared.part.LocalPart.TheVariants.{Number, Text}
 use Rattle.pyver_core.proofs.First.{is_letter, digit_not_separator, separator_not_alphanumeric}

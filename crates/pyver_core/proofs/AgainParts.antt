@@ -1,18 +1,14 @@
 -- The parts of a version are read again, each where it ends.
-use Rattle.std.proofs.Common.{◌≡◌, ◌⊎◌, ℕ, zero, suc, ◌+◌, ◌<◌, ◌≤◌, Bool, true, false, cond, List, [], ◌∷◌, ◌++◌, length, take, drop, Option, Some, None, refl, sym, ap, subst, ◌∙◌, append_assoc, arith, inl, inr, lit≤}
-use Rattle.std.specs.Prelude.{option_map, unwrap_or, codes, ◌==◌}
-use Rattle.std.specs.Char.{is_ascii_digit, is_ascii_alphanumeric, to_ascii_lowercase}
-use Rattle.std.specs.List.{list_all}
-use Rattle.std.proofs.lemmas.Bool.Decides.{nat_tests}
-use Rattle.pyver_core.specs.Parts.{Parts}
-use Rattle.pyver_core.specs.Grammar.{is_white, is_separator, is_dot, starts, IsCount, IsNumber, IsWord, AreBehind, IsPrefix, IsEpoch, IsRelease, IsTagged, IsPreWord, word_a, word_alpha, word_b, word_beta, word_c, word_rc, word_pre, word_preview, IsPre, IsPostWord, word_post, word_rev, word_r, IsPost, IsDev, IsSegment, IsLocal, Spells}
-use Rattle.pyver_core.specs.Reading.{◌>>=◌, onto, optional_at, behind_at, many_at, after_white, after_separator, count_at, number_at, word_at, either, after_prefix, head_at, dotted_at, base_at, tail_at, pre_word_at, post_word_at, tagged_pre_at, dashed_at, tagged_post_at, dashed_or_tagged_post_at, tagged_dev_at, added_at, separated_at, local_at, parts_at, version_of}
+use Rattle.std.proofs.Common.{◌≡◌, ℕ, ◌≤◌, true, false, List, [], ◌∷◌, ◌++◌, Option, Some, None, refl, sym, ap, subst, ◌∙◌, append_assoc, inl, inr, lit≤}
+use Rattle.std.specs.Prelude.{codes, ◌==◌}
+use Rattle.std.specs.Char.{is_ascii_digit, is_ascii_alphanumeric}
+use Rattle.pyver_core.specs.Grammar.{is_separator, is_dot, starts, IsNumber, IsTagged, IsPreWord, word_a, word_alpha, word_b, word_beta, word_c, word_rc, word_pre, word_preview, IsPre, IsPostWord, word_post, word_rev, word_r, IsPost, IsDev, IsLocal}
+use Rattle.pyver_core.specs.Reading.{◌>>=◌, onto, optional_at, many_at, after_separator, number_at, word_at, either, dotted_at, tail_at, pre_word_at, post_word_at, tagged_pre_at, dashed_at, tagged_post_at, dashed_or_tagged_post_at, tagged_dev_at, added_at, separated_at, local_at}
 use Rattle.pyver_core.specs.declared.part.PreKind.{PreKind}
 use Rattle.pyver_core.specs.declared.part.LocalPart.{LocalPart}
-use Rattle.pyver_core.proofs.First.{is_in, begins_in, is_letter, begins_not, begins_wider, whites, all_white_begins, digit_not_letter}
-use Rattle.pyver_core.proofs.Again.{starts_all, starts_none, white_again, no_separator, number_again, dotted_again, dotted_starts, no_dotted, separated_again, separated_starts, no_separated, added_again, no_added, word_again, no_word, not_behind_byte}
-use Rattle.pyver_core.proofs.AgainWords.{IsLettered, word_starts, tagged_word, tagged_tail, tagged_letter, tagged_begins, tagged_not_dotted, tagged_not_dashed, pre_word_again, post_word_again, no_pre_letter, no_post_letter, dev_no_pre, post_no_pre, rev_no_pre, r_no_pre, dev_no_post}
-use Rattle.pyver_core.proofs.Sight.{sight, chosen, refused}
+use Rattle.pyver_core.proofs.First.{begins_in, is_letter, begins_not, begins_wider, whites, digit_not_letter}
+use Rattle.pyver_core.proofs.Again.{starts_none, no_separator, number_again, no_dotted, separated_again, separated_starts, no_separated, added_again, no_added, word_again, no_word, not_behind_byte}
+use Rattle.pyver_core.proofs.AgainWords.{IsLettered, tagged_word, tagged_tail, tagged_letter, tagged_begins, tagged_not_dotted, tagged_not_dashed, pre_word_again, post_word_again, no_pre_letter, no_post_letter, dev_no_pre, post_no_pre, rev_no_pre, r_no_pre, dev_no_post}
 
 -- ---- which bytes may follow a part
 

@@ -1,20 +1,19 @@
 -- A version that a text spells is read again, so that a text spells one version at most.
-use Rattle.std.proofs.Common.{◌≡◌, ◌⊎◌, ℕ, ◌+◌, ◌<◌, ◌≤◌, Bool, true, false, cond, List, [], ◌∷◌, ◌++◌, length, take, drop, Option, Some, None, refl, sym, ap, subst, ◌∙◌, append_assoc, arith, inl, inr, lit≤}
-use Rattle.std.specs.Prelude.{option_map, unwrap_or, codes, ◌==◌}
+use Rattle.std.proofs.Common.{◌≡◌, ℕ, ◌≤◌, Bool, true, false, List, [], ◌∷◌, ◌++◌, Option, Some, None, refl, sym, ap, subst, ◌∙◌, append_assoc, arith, inl, inr, lit≤}
+use Rattle.std.specs.Prelude.{codes, ◌==◌}
 use Rattle.std.specs.Char.{is_ascii_digit, to_ascii_lowercase}
 use Rattle.std.specs.List.{list_all}
 use Rattle.std.proofs.lemmas.Bool.Decides.{nat_tests}
 use Rattle.std.proofs.lemmas.Option.{same_Some}
 use Rattle.pyver_core.specs.Parts.{Parts}
-use Rattle.pyver_core.specs.Grammar.{is_white, is_dot, starts, IsNumber, IsWord, AreBehind, IsPrefix, IsEpoch, IsRelease, Spells}
-use Rattle.pyver_core.specs.Reading.{◌>>=◌, optional_at, many_at, after_white, number_at, word_at, after_prefix, head_at, dotted_at, base_at, tagged_pre_at, dashed_or_tagged_post_at, tagged_dev_at, local_at, parts_at, version_of}
+use Rattle.pyver_core.specs.Grammar.{is_white, starts, IsNumber, IsPrefix, IsEpoch, IsRelease, Spells}
+use Rattle.pyver_core.specs.Reading.{optional_at, many_at, after_white, number_at, word_at, after_prefix, head_at, dotted_at, base_at, tagged_pre_at, dashed_or_tagged_post_at, tagged_dev_at, local_at, parts_at, version_of}
 use Rattle.pyver_core.specs.declared.part.PreKind.{PreKind}
 use Rattle.pyver_core.specs.declared.part.LocalPart.{LocalPart}
-use Rattle.pyver_core.proofs.First.{begins_in, is_letter, begins_not, whites, all_white_begins, digit_not_letter}
+use Rattle.pyver_core.proofs.First.{is_letter, begins_not, all_white_begins, digit_not_letter}
 use Rattle.pyver_core.proofs.Again.{starts_all, white_again, number_again, dotted_again, dotted_starts, word_again, no_word}
 use Rattle.pyver_core.proofs.AgainWords.{word_starts}
 use Rattle.pyver_core.proofs.AgainParts.{follow_release, local_again, local_begins, dev_again, dev_begins, dev_apart, post_again, post_begins, post_apart, pre_again, pre_begins, pre_not_dotted}
-use Rattle.pyver_core.proofs.TakesParts.{version_takes}
 
 -- a text that begins with what passes one test doesn't begin with what passes another
 starts_other : (test other : ℕ → Bool) → ((b : ℕ) → test b ≡ true → other b ≡ false) → (text : List ℕ) → starts test text ≡ true → starts other text ≡ false

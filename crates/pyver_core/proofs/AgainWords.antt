@@ -1,17 +1,15 @@
 -- A part with a word is read again, and is not taken for another part.
-use Rattle.std.proofs.Common.{◌≡◌, ◌⊎◌, ℕ, zero, suc, ◌+◌, ◌-◌, ◌<◌, ◌≤◌, Bool, true, false, cond, ◌&&◌, leb, List, [], ◌∷◌, ◌++◌, length, take, drop, Option, Some, None, refl, sym, ap, subst, ◌∙◌, append_assoc, arith, inl, inr}
-use Rattle.std.specs.Prelude.{option_map, unwrap_or, codes, bytes_eq, ◌==◌}
+use Rattle.std.proofs.Common.{◌≡◌, ℕ, suc, ◌-◌, ◌≤◌, Bool, true, false, leb, List, [], ◌∷◌, ◌++◌, take, Some, None, refl, sym, ap, subst, ◌∙◌, append_assoc, arith, inl, inr}
+use Rattle.std.specs.Prelude.{codes, bytes_eq, ◌==◌}
 use Rattle.std.specs.Char.{is_ascii_digit, to_ascii_lowercase}
-use Rattle.std.specs.List.{list_all}
 use Rattle.std.specs.Str.{str_to_ascii_lowercase}
 use Rattle.std.proofs.lemmas.Bool.{leb-true}
 use Rattle.std.proofs.lemmas.Bool.Decides.{nat_tests}
-use Rattle.pyver_core.specs.Grammar.{is_separator, is_dot, starts, IsOptionalSeparator, IsCount, IsNumber, IsWord, IsTagged, IsPreWord, word_a, word_alpha, word_b, word_beta, word_c, word_rc, word_pre, word_preview, IsPostWord, word_post, word_rev, word_r}
-use Rattle.pyver_core.specs.Reading.{◌>>=◌, optional_at, behind_at, after_separator, number_at, word_at, either, either_at, tail_at, pre_word_at, post_word_at, dotted_at, dashed_at, tagged_pre_at, tagged_post_at, dashed_or_tagged_post_at, tagged_dev_at}
+use Rattle.pyver_core.specs.Grammar.{is_separator, is_dot, starts, IsOptionalSeparator, IsWord, IsTagged, IsPreWord, word_a, word_alpha, word_b, word_beta, word_c, word_rc, word_pre, word_preview, IsPostWord, word_post, word_rev, word_r}
+use Rattle.pyver_core.specs.Reading.{behind_at, after_separator, number_at, word_at, tail_at, pre_word_at, post_word_at, dotted_at, dashed_at}
 use Rattle.pyver_core.specs.declared.part.PreKind.{PreKind}
-use Rattle.pyver_core.specs.declared.part.PreKind.TheVariants.{A, B, Rc}
 use Rattle.pyver_core.proofs.First.{is_in, begins_in, is_letter, separator_passes, separator_fails, letter_cases, letter_not_separator, letter_not_digit, digit_not_letter}
-use Rattle.pyver_core.proofs.Again.{starts_none, no_separator, separator_again, no_number, tail_again, word_again, other_word, no_word, not_behind_byte}
+use Rattle.pyver_core.proofs.Again.{starts_none, separator_again, no_number, tail_again, word_again, other_word, no_word, not_behind_byte}
 use Rattle.pyver_core.proofs.Sight.{sight, chosen, refused}
 
 -- ---- what a word begins with

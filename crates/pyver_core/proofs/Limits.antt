@@ -1,12 +1,11 @@
 -- Numbers past the limit, in lists and in what is made of them.
 use Rattle.std.proofs.Common.{◌≡◌, ℕ, ◌^◌, Bool, true, false, ◌||◌, leb, List, [], ◌∷◌, ◌++◌, Option, Some, None, refl, sym, ap, ◌∙◌, append_assoc}
 use Rattle.std.specs.Prelude.{flat_map}
-use Rattle.std.specs.List.{list_any}
 use Rattle.std.proofs.lemmas.List.{append-nil}
 use Rattle.std.proofs.lemmas.List.Folds.{list_any-append}
 use Rattle.pyver_core.specs.Grammar.{has_large, number_in_segment}
 use Rattle.pyver_core.specs.Limit.{Refuses}
-use Rattle.pyver_core.specs.Reading.{onto, many_at, dotted_at, separated_at}
+use Rattle.pyver_core.specs.Reading.{many_at, dotted_at, separated_at}
 use Rattle.pyver_core.specs.declared.error.VersionError.{VersionError}
 use Rattle.pyver_core.specs.declared.error.VersionError.TheVariants.{Syntax, NumberTooLarge, Memory}
 use Rattle.pyver_core.specs.declared.part.LocalPart.{LocalPart}

@@ -1,13 +1,11 @@
 -- Reading one item after the other, without the bound that the definition counts down.
-use Rattle.std.proofs.Common.{◌≡◌, ℕ, zero, suc, ◌<◌, ◌≤◌, Bool, List, [], ◌∷◌, length, Option, Some, None, refl, sym, ap, ◌∙◌, arith, inl, inr}
-use Rattle.std.specs.Prelude.{option_map, unwrap_or}
+use Rattle.std.proofs.Common.{◌≡◌, ℕ, zero, suc, ◌<◌, ◌≤◌, Bool, List, [], ◌∷◌, length, Option, Some, None, refl, ap, arith, inl, inr}
 use Rattle.std.specs.Char.{is_ascii_digit, is_ascii_alphanumeric}
 use Rattle.std.specs.List.{prefix_len}
 use Rattle.std.proofs.lemmas.List.{length-drop}
 use Rattle.std.proofs.lemmas.Option.{cond_some}
 use Rattle.pyver_core.specs.Grammar.{is_separator, is_dot, starts}
-use Rattle.pyver_core.specs.Reading.{onto, behind_at, many, many_at, count_at, number_at, dotted_at, segment_of, segment_at, separated_at}
-use Rattle.pyver_core.specs.declared.part.LocalPart.{LocalPart}
+use Rattle.pyver_core.specs.Reading.{onto, behind_at, many, many_at, count_at, number_at, dotted_at, segment_at, separated_at}
 use Rattle.pyver_core.proofs.Sight.{sight, option_sight}
 
 -- a reader leaves no more than it was given, or less

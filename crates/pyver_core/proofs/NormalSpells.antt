@@ -1,17 +1,16 @@
 -- The normal form of what a text spells is spelt so too.
-use Rattle.std.proofs.Common.{◌≡◌, ◌⊎◌, ℕ, zero, suc, ◌+◌, ◌<◌, ◌≤◌, Bool, true, false, ◌&&◌, List, [], ◌∷◌, ◌++◌, length, map, Option, Some, None, refl, sym, ap, subst, ◌∙◌, append_assoc, arith, inl, inr, lit≤}
+use Rattle.std.proofs.Common.{◌≡◌, ℕ, zero, suc, ◌+◌, ◌<◌, ◌≤◌, true, false, List, [], ◌∷◌, ◌++◌, length, map, Option, Some, None, refl, sym, ap, subst, ◌∙◌, arith, inl, inr, lit≤}
 use Rattle.std.specs.Prelude.{codes, flat_map}
 use Rattle.std.specs.Char.{is_ascii_digit, is_ascii_alphanumeric, to_ascii_lowercase, digit_value}
 use Rattle.std.specs.Int.Digits.{digits_of, number_from_digits, AllBelowBase}
 use Rattle.std.specs.List.{list_all}
 use Rattle.std.specs.Str.{str_to_ascii_lowercase}
-use Rattle.std.specs.Str.Parse.{digits_value}
 use Rattle.std.proofs.lemmas.Bool.Decides.{nat_tests}
 use Rattle.std.proofs.lemmas.Int.Digits.{digits_value_is, all_below_base_digits_of, number_digits_of, length-digits_of_step}
 use Rattle.std.proofs.lemmas.List.{append-nil, length-map}
 use Rattle.pyver_core.specs.Parts.{Parts}
 use Rattle.pyver_core.specs.Normal.{decimal_text, epoch_text, release_text, pre_text, post_text, dev_text, local_text, dotted_number, dotted_segment, segment_text, letters, normal}
-use Rattle.pyver_core.specs.Grammar.{is_separator, is_dot, starts, IsOptionalSeparator, IsCount, IsNumber, AreBehind, IsEpoch, IsRelease, IsTagged, IsPreWord, word_a, word_b, word_rc, IsPre, word_post, IsPost, IsDev, IsSegment, IsLocal, Spells}
+use Rattle.pyver_core.specs.Grammar.{is_separator, is_dot, IsOptionalSeparator, IsNumber, AreBehind, IsEpoch, IsRelease, IsTagged, IsPreWord, word_a, word_b, word_rc, IsPre, word_post, IsPost, IsDev, IsSegment, IsLocal, Spells}
 use Rattle.pyver_core.proofs.Again.{all_cons}
 use Rattle.pyver_core.specs.declared.part.PreKind.{PreKind}
 use Rattle.pyver_core.specs.declared.part.PreKind.TheVariants.{A, B, Rc}

@@ -1,20 +1,18 @@
 -- What a reader takes from the front of a text is a piece in the form that the grammar asks for.
-use Rattle.std.proofs.Common.{◌≡◌, ◌⊎◌, ℕ, zero, suc, ◌+◌, ◌<◌, ◌≤◌, Bool, true, false, cond, List, [], ◌∷◌, ◌++◌, length, take, drop, Option, Some, None, refl, sym, ap, subst, ◌∙◌, append_assoc, arith, inl, inr}
-use Rattle.std.specs.Prelude.{option_map, unwrap_or, codes, bytes_eq, ◌==◌}
+use Rattle.std.proofs.Common.{◌≡◌, ◌⊎◌, ℕ, zero, suc, ◌≤◌, Bool, true, false, List, [], ◌∷◌, ◌++◌, length, take, drop, Option, Some, None, refl, sym, ap, subst, ◌∙◌, append_assoc, arith, inl, inr}
+use Rattle.std.specs.Prelude.{bytes_eq, ◌==◌}
 use Rattle.std.specs.Char.{is_ascii_digit, is_ascii_alphanumeric}
 use Rattle.std.specs.Cmp.Lexicographic.{bytes_decides}
 use Rattle.std.specs.List.{list_all, prefix_len}
 use Rattle.std.specs.Str.{str_to_ascii_lowercase}
-use Rattle.std.specs.Str.Parse.{digits_value}
 use Rattle.std.proofs.lemmas.List.{take-append-drop}
 use Rattle.std.proofs.lemmas.List.Folds.{length-prefix_len}
 use Rattle.std.proofs.lemmas.Option.{cond_some}
 use Rattle.pyver_core.specs.Grammar.{is_white, is_separator, is_dot, starts, IsOptionalSeparator, IsCount, IsNumber, IsWord, AreBehind, IsSegment}
-use Rattle.pyver_core.specs.Reading.{◌>>=◌, onto, behind_at, many, many_at, after_white, after_separator, count_at, number_at, word_at, either, either_at, dotted_at, segment_of, segment_at, separated_at, added_at, dashed_at}
+use Rattle.pyver_core.specs.Reading.{◌>>=◌, onto, behind_at, many, many_at, after_white, after_separator, count_at, number_at, word_at, either, dotted_at, segment_of, segment_at, separated_at, added_at, dashed_at}
 use Rattle.pyver_core.specs.declared.part.LocalPart.{LocalPart}
-use Rattle.pyver_core.specs.declared.part.LocalPart.TheVariants.{Number, Text}
-use Rattle.pyver_core.proofs.Fronts.{list_all_front, one_more}
-use Rattle.pyver_core.proofs.Sight.{sight, option_sight, chosen, refused}
+use Rattle.pyver_core.proofs.Fronts.{list_all_front}
+use Rattle.pyver_core.proofs.Sight.{sight, option_sight}
 
 -- the value of a step that went on
 pub bind_some : {X Y : Type 0} (o : Option X) (f : X → Option Y) (y : Y) → (o >>= f) ≡ Some y → (x : X) × (o ≡ Some x) × (f x ≡ Some y)

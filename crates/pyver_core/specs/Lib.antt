@@ -9,6 +9,7 @@ pub mod Normal
 pub mod Order
 pub mod OrderLaws
 pub mod Parts
+pub mod Phases
 pub mod Prefix
 pub mod Reading
 pub mod SetAnswer

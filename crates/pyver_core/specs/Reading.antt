@@ -1,7 +1,7 @@
 -- Reading a version from the left: the parts that a text spells, as a function. It gives an answer exactly
 -- where `Spells` holds, and the parts of which it holds: the laws `version_of_spells` and
 -- `version_of_is_complete`. Each reader gives what it read at the front of a text, and the text behind it.
-use Rattle.std.specs.Prelude.{ℕ, zero, suc, ◌+◌, Bool, ◌==◌, if◌then◌else◌, List, [], ◌∷◌, length, take, drop, codes, bytes_eq, Option, Some, None, option_map, unwrap_or}
+use Rattle.std.specs.Prelude.{ℕ, zero, suc, Bool, ◌==◌, if◌then◌else◌, List, [], ◌∷◌, length, take, drop, codes, bytes_eq, Option, Some, None, option_map, unwrap_or}
 use Rattle.std.specs.Char.{is_ascii_digit, is_ascii_alphanumeric}
 use Rattle.std.specs.List.{list_all, prefix_len}
 use Rattle.std.specs.Str.{str_to_ascii_lowercase}

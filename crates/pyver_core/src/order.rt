@@ -2,9 +2,10 @@
 
 ghost use Rattle.std.specs.Prelude.{◌≡◌, refl};
 ghost use Rattle.std.specs.Cmp.{eq_by_cmp_equiv, partial_equiv_from_equiv, partial_order_from_total};
-ghost use Rattle.std.specs.Ordering.{as_partial_cmp, eq_by_cmp};
+ghost use Rattle.std.specs.Ordering.{as_partial_cmp, eq_by_cmp, nat_cmp, ordering_then};
 ghost use Rattle.pyver_core.specs.Borrowed.{parts_of};
 ghost use Rattle.pyver_core.specs.Order.{dev_cmp, phase_number, phase_rank, release_cmp, version_cmp};
+ghost use Rattle.pyver_core.specs.Phases.{phase_of};
 ghost use Rattle.pyver_core.specs.OrderLaws.{version_total};
 ghost use Rattle.pyver_core.specs.Stripped.{stripped};
 
@@ -20,8 +21,7 @@ pub(crate) fn compare(left: &PartsRef<'_>, right: &PartsRef<'_>) -> Ordering
     left.epoch
         .cmp(&right.epoch)
         .then(compare_releases(left.release, right.release))
-        .then(phase_rank(left).cmp(&phase_rank(right)))
-        .then(phase_number(left.pre).cmp(&phase_number(right.pre)))
+        .then(compare_phases(left, right))
         .then(left.post.cmp(&right.post))
         .then(compare_dev(left.dev, right.dev))
         .then(left.local.cmp(right.local))
@@ -47,24 +47,33 @@ pub(crate) fn without_trailing_zeros(release: &[u128]) -> &[u128]
     release.split_at(end).0
 }
 
-/// Where a version stands among those of its release: a developmental release first, then the
-/// pre-releases by their letter, and last every other version.
-fn phase_rank(parts: &PartsRef<'_>) -> u8
-    ensures { result ≡ phase_rank parts.now.pre parts.now.post parts.now.dev }
+/// Where a version stands among those of its release, lowest first.
+#[derive(Clone, Copy, PartialEq, Eq, PartialOrd, Ord)]
+enum Phase {
+    /// A developmental release that is neither a pre- nor a post-release.
+    Developmental,
+    /// A pre-release: by its letter, then by its number.
+    Pre(PreKind, u128),
+    /// Every other version.
+    Final,
+}
+
+fn phase_of(parts: &PartsRef<'_>) -> Phase
+    ensures { result ≡ phase_of parts.now.pre parts.now.post parts.now.dev }
 {
     match (parts.pre, parts.post, parts.dev) {
-        (None, None, Some(_)) => 0,
-        (Some((PreKind::A, _)), _, _) => 1,
-        (Some((PreKind::B, _)), _, _) => 2,
-        (Some((PreKind::Rc, _)), _, _) => 3,
-        (None, _, _) => 4,
+        (Some((kind, number)), _, _) => Phase::Pre(kind, number),
+        (None, None, Some(_)) => Phase::Developmental,
+        (None, _, _) => Phase::Final,
     }
 }
 
-fn phase_number(pre: Option<(PreKind, u128)>) -> u128
-    ensures { result ≡ phase_number pre }
+fn compare_phases(left: &PartsRef<'_>, right: &PartsRef<'_>) -> Ordering
+    ensures { result ≡ ordering_then
+        (nat_cmp (phase_rank left.now.pre left.now.post left.now.dev) (phase_rank right.now.pre right.now.post right.now.dev))
+        (nat_cmp (phase_number left.now.pre) (phase_number right.now.pre)) }
 {
-    pre.map_or(0, |(_, number)| number)
+    phase_of(left).cmp(&phase_of(right))
 }
 
 /// Compares developmental releases: by number, and then what is none.

@@ -1,4 +1,4 @@
-use Rattle.std.proofs.Common.{◌≡◌, ℕ, List, Option, Some, None, sym, ap, ◌∙◌}
+use Rattle.std.proofs.Common.{◌≡◌, ℕ, List, Some, None, sym, ap, ◌∙◌}
 use Rattle.pyver_core.specs.Reading.{dotted_at}
 use Rattle.pyver_core.proofs.Many.{dotted_shrinks, many_at-none, many_at-some}
 use Rattle.pyver_core.proofs.reading.fields.past_dotted.Goals as goal

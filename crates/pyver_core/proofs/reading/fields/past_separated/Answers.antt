@@ -1,4 +1,4 @@
-use Rattle.std.proofs.Common.{◌≡◌, ℕ, List, Option, Some, None, sym, ap, ◌∙◌}
+use Rattle.std.proofs.Common.{◌≡◌, ℕ, List, Some, None, sym, ap, ◌∙◌}
 use Rattle.pyver_core.specs.Reading.{separated_at}
 use Rattle.pyver_core.specs.declared.part.LocalPart.{LocalPart}
 use Rattle.pyver_core.proofs.Many.{separated_shrinks, many_at-none, many_at-some}

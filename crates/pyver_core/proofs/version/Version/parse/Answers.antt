@@ -1,5 +1,3 @@
-use Rattle.pyver_core.specs.Answer.{Answers}
-use Rattle.pyver_core.specs.Reading.{version_of}
 use Rattle.pyver_core.proofs.Answered.{answered_ok, answered_syntax, answered_large}
 use Rattle.pyver_core.proofs.version.Version.parse.Goals as goal
 
