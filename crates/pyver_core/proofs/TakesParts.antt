@@ -22,6 +22,14 @@ bang_takes : (text : List ℕ) → starts (λ b. b == 33) text ≡ true → text
 bang_takes [] e = absurd (let n : false ≡ true = e in cc)
 bang_takes (b ∷ rest) e = ap (λ (n : ℕ). n ∷ rest) (eqb-true b 33 e)
 
+-- an epoch, where `!` stands behind the digits
+epoch_takes : (text digits rest : List ℕ) (e : ℕ) → text ≡ digits ++ rest → IsNumber digits e → starts (λ b. b == 33) rest ≡ true → (x : ℕ × List ℕ) → number_at (drop 1 rest) ≡ Some x → IsHead text ((e, x.0), x.1)
+epoch_takes text digits rest e whole is bang x read =
+    let s = number_takes (drop 1 rest) x read in
+    let behind : rest ≡ codes "!" ++ (s.0 ++ x.1) = bang_takes rest bang ∙ ap (λ (r : List ℕ). codes "!" ++ r) s.1 in
+    let grouped : digits ++ (codes "!" ++ (s.0 ++ x.1)) ≡ (digits ++ codes "!") ++ (s.0 ++ x.1) = sym (append_assoc digits (codes "!") (s.0 ++ x.1)) in
+    (digits ++ codes "!", s.0, whole ∙ (ap (λ (r : List ℕ). digits ++ r) behind ∙ grouped), inr (digits, refl, is), s.2)
+
 head_takes : (text : List ℕ) (x : (ℕ × ℕ) × List ℕ) → head_at text ≡ Some x → IsHead text x
 unfolding head_at
 head_takes text x e =
@@ -30,16 +38,14 @@ head_takes text x e =
     let t = number_takes text first a.1 in
     elim (sight (starts (λ b. b == 33) first.1)) [
       | inl bang ↦
-          let step : (number_at (drop 1 first.1) >>= λ second. Some ((first.0, second.0), second.1)) ≡ Some x = rw bang at a.2 in
-          let b = bind_some (number_at (drop 1 first.1)) (λ second. Some ((first.0, second.0), second.1)) x step in
-          let s = number_takes (drop 1 first.1) b.0 b.1 in
-          let end : ((first.0, b.0.0), b.0.1) ≡ x = cc in
-          let whole : text ≡ (t.0 ++ codes "!") ++ (s.0 ++ b.0.1) = t.1 ∙ (ap (λ (r : List ℕ). t.0 ++ r) (bang_takes first.1 bang ∙ ap (λ (r : List ℕ). codes "!" ++ r) s.1) ∙ sym (append_assoc t.0 (codes "!") (s.0 ++ b.0.1))) in
-          subst (IsHead text) end (t.0 ++ codes "!", s.0, whole, inr (t.0, refl, t.2), s.2)
+        let step : (number_at (drop 1 first.1) >>= λ second. Some ((first.0, second.0), second.1)) ≡ Some x = rw bang at a.2 in
+        let b = bind_some (number_at (drop 1 first.1)) (λ second. Some ((first.0, second.0), second.1)) x step in
+        let end : ((first.0, b.0.0), b.0.1) ≡ x = cc in
+        subst (IsHead text) end (epoch_takes text t.0 first.1 first.0 t.1 t.2 bang b.0 b.1)
       | inr other ↦
-          let step : ◌≡◌ {A = Option ((ℕ × ℕ) × List ℕ)} (Some ((0, first.0), first.1)) (Some x) = rw other at a.2 in
-          let end : ((0, first.0), first.1) ≡ x = cc in
-          subst (IsHead text) end ([], t.0, t.1, inl (refl, refl), t.2)
+        let step : ◌≡◌ {A = Option ((ℕ × ℕ) × List ℕ)} (Some ((0, first.0), first.1)) (Some x) = rw other at a.2 in
+        let end : ((0, first.0), first.1) ≡ x = cc in
+        subst (IsHead text) end ([], t.0, t.1, inl (refl, refl), t.2)
     ]
 
 prefix_takes : (text : List ℕ) → (prefix : List ℕ) × (text ≡ prefix ++ after_prefix text) × IsPrefix prefix

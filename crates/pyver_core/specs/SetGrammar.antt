@@ -9,23 +9,38 @@ use Rattle.pyver_core.specs.declared.specifier.Operator.{Operator}
 use Rattle.pyver_core.specs.declared.specifier.Specifier.{Specifier}
 use Rattle.pyver_core.specs.declared.specifier.Specifier.TheVariants.{Equal, EqualPrefix, NotEqual, NotEqualPrefix, AtMost, AtLeast, Before, After, Compatible, Arbitrary}
 
--- ---- operands
+-- ---- operands, with the white space round them
 
 -- `R.*`: nothing or `v`, nothing or an epoch, a release, and `.*`
 pub record SpellsPrefix (text : List ℕ) (p : Prefix) : Type 0 where
+  pub before : List ℕ
   pub prefix : List ℕ
   pub epoch : List ℕ
   pub release : List ℕ
-  pub whole : text ≡ prefix ++ (epoch ++ (release ++ codes ".*"))
+  pub after : List ℕ
+  pub whole : text ≡ before ++ (prefix ++ (epoch ++ (release ++ (codes ".*" ++ after))))
+  pub is_before : list_all is_white before ≡ true
   pub is_prefix : IsPrefix prefix
   pub is_epoch : IsEpoch epoch p.epoch
   pub is_release : IsRelease release p.release
+  pub is_after : list_all is_white after ≡ true
 
--- what stands behind `===`: anything but white space, `;`, `)` and `,`
+-- a byte that may stand behind `===`: of anything but white space, `;`, `)` and `,`
 abbrev pub is_arbitrary : ℕ → Bool
 is_arbitrary b = not (is_white b || ((b == 59) || ((b == 41) || (b == 44))))
 
--- the operand of each specifier: no local part but behind `==` and `!=`, and two numbers or more behind `~=`
+-- `===`: one such byte or more, as they are
+pub record SpellsArbitrary (text label : List ℕ) : Type 0 where
+  pub before : List ℕ
+  pub after : List ℕ
+  pub whole : text ≡ before ++ (label ++ after)
+  pub is_before : list_all is_white before ≡ true
+  pub not_empty : 1 ≤ length label
+  pub allowed : list_all is_arbitrary label ≡ true
+  pub is_after : list_all is_white after ≡ true
+
+-- The operand of each specifier: a version, which may have a local part behind `==` and `!=` alone and has two
+-- numbers or more behind `~=`; a prefix; anything. `Spells` allows for white space round a version.
 abbrev pub IsOperand : List ℕ → Specifier → Type 0
 IsOperand text (Equal v) = Spells text v
 IsOperand text (EqualPrefix p) = SpellsPrefix text p
@@ -36,24 +51,19 @@ IsOperand text (AtLeast v) = Spells text v × (v.local ≡ [])
 IsOperand text (Before v) = Spells text v × (v.local ≡ [])
 IsOperand text (After v) = Spells text v × (v.local ≡ [])
 IsOperand text (Compatible v) = Spells text v × (v.local ≡ []) × (2 ≤ length v.release)
-IsOperand text (Arbitrary label) = (text ≡ label) × (1 ≤ length text) × (list_all is_arbitrary text ≡ true)
+IsOperand text (Arbitrary label) = SpellsArbitrary text label
 
 -- ---- specifiers and sets
 
--- A piece of a set: white space, an operator, white space, an operand, white space. The operator is the
--- longest that stands there.
+-- A piece of a set: white space, an operator, and its operand with the white space round it. The operator is
+-- the longest that stands there.
 pub record IsSpecifier (piece : List ℕ) (s : Specifier) : Type 0 where
   pub before : List ℕ
-  pub between : List ℕ
   pub operand : List ℕ
-  pub after : List ℕ
-  pub whole : piece ≡ before ++ (operator_text (operator_of s) ++ (between ++ (operand ++ after)))
+  pub whole : piece ≡ before ++ (operator_text (operator_of s) ++ operand)
   pub is_before : list_all is_white before ≡ true
-  pub is_between : list_all is_white between ≡ true
   pub is_operand : IsOperand operand s
-  pub is_after : list_all is_white after ≡ true
-  pub longest : (other : Operator)
-      → IsTrue (starts_with nat_eq (operator_text (operator_of s) ++ (between ++ (operand ++ after))) (operator_text other))
+  pub longest : (other : Operator) → starts_with nat_eq (operator_text (operator_of s) ++ operand) (operator_text other) ≡ true
       → length (operator_text other) ≤ length (operator_text (operator_of s))
 
 -- pieces and their specifiers: white space alone is none

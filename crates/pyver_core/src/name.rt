@@ -3,7 +3,8 @@
 ghost use Rattle.std.specs.Prelude.{◌≡◌, IfOk, string_bytes};
 ghost use Rattle.std.specs.List.{list_all};
 ghost use Rattle.std.specs.Option.{option_copied};
-ghost use Rattle.pyver_core.specs.Names.{is_name, is_name_byte, is_name_end, is_separator, norm};
+ghost use Rattle.pyver_core.specs.Grammar.{is_separator};
+ghost use Rattle.pyver_core.specs.Names.{is_name, is_name_byte, is_name_end, norm};
 
 use std::alloc::{AllocError, Global};
 
@@ -35,11 +36,11 @@ fn is_name_end(byte: Option<&u8>) -> bool
 }
 
 /// The normal form of any text: each longest run of `.`, `_` and `-` becomes one `-`, ASCII letters
-/// become lower case, and other characters stay. It takes memory for the form alone.
+/// become lower case, and other characters stay. It takes the memory of one text as long as the given one.
 pub fn normal_name(alloc: Global, text: &str) -> Result<String, AllocError>
     ensures { IfOk result (λ name. string_bytes name ≡ norm text.now) }
 {
-    let mut name = String::new(alloc);
+    let mut name = String::with_capacity(alloc, text.len())?;
     let mut in_run = false;
     for character in text.chars() {
         let separates = is_separator(character);

@@ -1,6 +1,6 @@
 //! The order of versions (PEP 440, "Summary of permitted suffixes and relative ordering").
 
-ghost use Rattle.std.specs.Prelude.{◌≡◌, refl, take, ◌≤◌, length};
+ghost use Rattle.std.specs.Prelude.{◌≡◌, refl};
 ghost use Rattle.std.specs.Cmp.{eq_by_cmp_equiv, partial_equiv_from_equiv, partial_order_from_total};
 ghost use Rattle.std.specs.Ordering.{as_partial_cmp, eq_by_cmp, nat_cmp, ordering_then};
 ghost use Rattle.pyver_core.specs.Borrowed.{parts_of};

@@ -63,7 +63,8 @@ impl Label {
     pub fn into_string(self) -> String
         ensures { string_bytes result ≡ self }
     {
-        self.text
+        let Label { text } = self;
+        text
     }
 }
 

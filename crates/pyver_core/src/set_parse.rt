@@ -1,11 +1,12 @@
 //! Specifier sets from their texts.
 
-ghost use Rattle.std.specs.Prelude.{◌≡◌, ◌∷◌, ◌++◌, [], IfOk, MatchBool, true, false};
+ghost use Rattle.std.specs.Prelude.{◌≡◌, List, ◌∷◌, ◌++◌, [], IfOk, IsErrOf, MatchBool, true, false};
 ghost use Rattle.pyver_core.specs.Grammar.{has_large};
 ghost use Rattle.pyver_core.specs.SetAnswer.{AnswersSet};
-ghost use Rattle.pyver_core.specs.SetGrammar.{specifier_numbers};
+ghost use Rattle.pyver_core.specs.SetGrammar.{IsLargeSet, SetText, specifier_numbers};
 ghost use Rattle.pyver_core.specs.SetReading.{set_of};
 ghost use Rattle.pyver_core.specs.Specified.{specified};
+ghost use Rattle.pyver_core.specs.declared.specifier.Specifier.{Specifier};
 
 use crate::error::{SpecifierError, VersionError};
 use crate::reading::{SpecifierDraft, is_blank, read_specifier};
@@ -14,16 +15,33 @@ use crate::specifier::Specifier;
 use std::alloc::{AllocError, Global};
 
 impl SpecifierSet {
-    /// The set that the text writes (PEP 440): specifiers with commas between them, in any of the forms
-    /// of their operators and versions. White space may stand round each operator and operand, and pieces
-    /// of white space alone are passed over. A refusal as `NumberTooLarge` is for texts that follow the
-    /// grammar as a whole.
+    /// The set that the text writes (PEP 440, "Version specifiers"): specifiers with commas between them,
+    /// in any of the forms of their operators and versions.
+    ///
+    /// White space (TAB, LF, VT, FF, CR, space) may stand round each operator and operand, and pieces of
+    /// white space alone are passed over. `NumberTooLarge` is answered only to a text that follows the
+    /// grammar as a whole, so `Syntax` comes first. A set takes memory for its specifiers and its normal
+    /// form.
     pub fn parse(alloc: Global, text: &str) -> Result<SpecifierSet, SpecifierError>
+        ensures ok { IfOk result (λ set. SetText text.now set) }
+        ensures fits { IfOk result (λ set. IsLargeSet set → ⊥) }
+
+        ensures syntax { IsErrOf result SpecifierError.Syntax → (s : List Specifier) → SetText text.now s → ⊥ }
+        ensures large { IsErrOf result SpecifierError.NumberTooLarge
+            → (s : List Specifier) × SetText text.now s × IsLargeSet s }
+
+        // The same, over the one answer of the grammar.
         ensures exact { AnswersSet (λ set. set) result (set_of text.now) }
     {
-        let items = read_items(alloc, text)?;
-        Ok(SpecifierSet::from_items(alloc, items)?)
+        read_set(alloc, text)
     }
+}
+
+fn read_set(alloc: Global, text: &str) -> Result<SpecifierSet, SpecifierError>
+    ensures { AnswersSet (λ set. set) result (set_of text.now) }
+{
+    let items = read_items(alloc, text)?;
+    Ok(SpecifierSet::from_items(alloc, items)?)
 }
 
 /// The specifiers of a set. A number past the limit is answered only once the whole text was read.

@@ -1,7 +1,8 @@
 use Rattle.std.proofs.Common.{◌≡◌, ◌∙◌, ap, sym, true, false, string_bytes}
 use Rattle.std.proofs.lemmas.List.{nil_from_length}
 use Rattle.std.specs.declared.str.Chars.{Chars}
-use Rattle.pyver_core.specs.Names.{is_separator, norm}
+use Rattle.pyver_core.specs.Grammar.{is_separator}
+use Rattle.pyver_core.specs.Names.{norm}
 use Rattle.pyver_core.proofs.Collapse.{last-step, norm-collapse, step-first, step-further, step-other}
 use Rattle.pyver_core.proofs.name.normal_name.Goals as goal
 
@@ -9,7 +10,7 @@ pub loop-character-init : goal.loop-character-init
 loop-character-init c =
     let rest : c.into_iter-character-iterator.result.rest.now ≡ c.args.text.now =
     ap (λ (s : Chars). s.rest.now) c.into_iter-character-iterator.ensures.into_iter_gives ∙ c.chars-character-items.ensures.rest in
-    rw (c.new-name.ensures.bytes, rest) (sym (norm-collapse c.args.text.now))
+    rw (c.in_ok-name.ensures.bytes, rest) (sym (norm-collapse c.args.text.now))
 
 pub loop-character-preserved-in_ok-push : goal.loop-character-preserved-in_ok-push
 loop-character-preserved-in_ok-push c =
