@@ -1,3 +1,4 @@
+mod FileNameLemmas
 mod ReadingLemmas
 pub mod RowLemmas
 pub mod SlateLemmas
