@@ -1,6 +1,7 @@
 //! Selects from a pylock.toml lock what an installer installs.
 #![tactic(auto)]
 
+mod command;
 mod ends;
 mod files;
 mod memory;

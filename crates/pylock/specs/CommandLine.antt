@@ -1,0 +1,27 @@
+-- The program's command line, in clap's terms.
+use Rattle.std.specs.Prelude.{◌≡◌, true, codes, List, [], ◌∷◌, Option, Some, None, All}
+use Rattle.clap.specs.Words.{App, Row, Rule, Text, first_of, new_app, new_rule, with_rule, with_subcommand}
+use Rattle.pylock.specs.declared.command.Task.{Task}
+use Rattle.pylock.specs.declared.command.Task.TheVariants.{Bare, Select}
+
+-- an argument that stands at its place and has to be there
+abbrev pub place_rule : Text → Rule
+place_rule id = record (new_rule id) { required = true }
+
+-- `select LOCK ENV`
+abbrev pub select_app : App
+select_app = with_rule (with_rule (new_app (codes "select")) (place_rule (codes "LOCK"))) (place_rule (codes "ENV"))
+
+abbrev pub pylock_app : App
+pylock_app = with_subcommand (new_app (codes "pylock")) select_app.top
+
+-- the words have this subcommand, and each of these arguments of it, by name, has this text
+pub record HasTexts (found : Option (Text × List Row)) (name : Text) (texts : List (Text × Text)) : Type 0 where
+  pub rows : List Row
+  pub entered : found ≡ Some (name, rows)
+  pub given : All (λ p. first_of p.0 rows ≡ Some p.1) texts
+
+-- the task that the words give: none where they have no subcommand, and else that subcommand with the texts of its arguments
+abbrev pub IsTask : Option (Text × List Row) → Task → Type 0
+IsTask found Bare = found ≡ None
+IsTask found (Select lock env) = HasTexts found (codes "select") ((codes "LOCK", lock.now) ∷ (codes "ENV", env.now) ∷ [])
