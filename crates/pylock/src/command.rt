@@ -107,3 +107,31 @@ pub fn command<'a>(alloc: Global, words: &'a [&'a str]) -> Result<Task<'a>, Comm
         }
     }
 }
+
+#[cfg(test)]
+mod tests {
+    use super::*;
+    use std::test::Fail;
+
+    #[test]
+    fn reads_words(rt: HostRuntime) -> Result<(), Fail> {
+        assert!(rt; matches!(command(rt.alloc(), &["pylock"])?, Task::Bare));
+        let task = command(rt.alloc(), &["pylock", "select", "a", "b"])?;
+        assert!(rt; matches!(task, Task::Select("a", "b")));
+        let task = command(rt.alloc(), &["pylock", "select", "--", "-a", "-b"])?;
+        assert!(rt; matches!(task, Task::Select("-a", "-b")));
+        Ok(())
+    }
+
+    #[test]
+    fn refuses_words(rt: HostRuntime) {
+        for words in [
+            ["pylock", "fly", "a"].as_slice(),
+            &["pylock", "select", "a"],
+            &["pylock", "select", "a", "b", "c"],
+        ] {
+            let refused = command(rt.alloc(), words);
+            assert!(rt; matches!(refused, Err(CommandError::Refused(_))));
+        }
+    }
+}

@@ -76,3 +76,23 @@ impl<W: Write> Sink for ToWrite<W> {
         }
     }
 }
+
+#[cfg(test)]
+mod tests {
+    use super::*;
+    use crate::files::read_whole;
+    use crate::writing::write_all;
+    use std::test::Fail;
+
+    #[test]
+    fn wraps_readers_and_writers(rt: HostRuntime) -> Result<(), Fail> {
+        let mut text = Vec::new(rt.alloc());
+        assert_eq!(rt;
+            write_all(&mut ToWrite::new(&mut text), b"pylock 1\n"),
+            Ok(())
+        );
+        let bytes = read_whole(rt.alloc(), &mut FromRead::new(text.as_slice()), 9)?;
+        assert_eq!(rt; bytes.as_slice(), b"pylock 1\n".as_slice());
+        Ok(())
+    }
+}
