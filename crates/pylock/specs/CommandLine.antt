@@ -1,6 +1,9 @@
 -- The program's command line, in clap's terms.
-use Rattle.std.specs.Prelude.{◌≡◌, true, codes, List, [], ◌∷◌, Option, Some, None, All}
-use Rattle.clap.specs.Words.{App, Row, Rule, Text, first_of, new_app, new_rule, with_rule, with_subcommand}
+use Rattle.std.specs.Prelude.{◌≡◌, ◌≢◌, ◌⊎◌, true, codes, List, [], ◌∷◌, Option, Some, None, All}
+use Rattle.clap.specs.Words.{App, IsAmong, Row, Rule, Text, fault_of, first_of, kind_of, new_app, new_rule, subcommand_of, with_rule, with_subcommand}
+use Rattle.clap.specs.declared.error.kind.ErrorKind.TheVariants.{OutOfMemory}
+use Rattle.pylock.specs.declared.command.CommandError.{CommandError}
+use Rattle.pylock.specs.declared.command.CommandError.TheVariants.{Refused, Memory}
 use Rattle.pylock.specs.declared.command.Task.{Task}
 use Rattle.pylock.specs.declared.command.Task.TheVariants.{Bare, Select}
 
@@ -25,3 +28,14 @@ pub record HasTexts (found : Option (Text × List Row)) (name : Text) (texts : L
 abbrev pub IsTask : Option (Text × List Row) → Task → Type 0
 IsTask found Bare = found ≡ None
 IsTask found (Select lock env) = HasTexts found (codes "select") ((codes "LOCK", lock.now) ∷ (codes "ENV", env.now) ∷ [])
+
+-- the words give no task: an argument of their subcommand has no text
+abbrev pub HasNoTask : Option (Text × List Row) → Type 0
+HasNoTask found = (task : Task) → IsTask found task → ⊥
+
+-- why the words are refused: clap refuses them, by a kind of error that it has for them, or gives no task for them; want of
+-- memory says nothing of the words
+abbrev pub IsRefusal : List Text → CommandError → Type 0
+IsRefusal words (Refused error) = (kind_of error ≢ OutOfMemory)
+    × (IsAmong (kind_of error) (fault_of pylock_app words) ⊎ HasNoTask (subcommand_of pylock_app words))
+IsRefusal words Memory = Unit {0}

@@ -1,3 +1,4 @@
+pub mod CommandError
 pub mod CommandLine
 pub mod Faults
 pub mod FileFault

@@ -1,8 +1,8 @@
 //! The command line.
-ghost use Rattle.std.specs.Prelude.{◌≡◌, map, false, IfOk, IfSome};
-ghost use Rattle.clap.specs.Words.{app_of, subcommand_of, subcommand_rows_of};
+ghost use Rattle.std.specs.Prelude.{◌≡◌, [], map, false, IfOk, IfErr, OnOk, IfSome, IfNone};
+ghost use Rattle.clap.specs.Words.{app_of, fault_of, subcommand_of, subcommand_rows_of};
 ghost use Rattle.clap.specs.declared.builder.command.Command.TheViews.{out-Command as fields_of};
-ghost use Rattle.pylock.specs.CommandLine.{IsTask, pylock_app, select_app};
+ghost use Rattle.pylock.specs.CommandLine.{HasNoTask, IsRefusal, IsTask, pylock_app, select_app};
 
 use clap::error::ErrorKind;
 use clap::{Arg, ArgMatches, Command};
@@ -27,12 +27,20 @@ pub enum CommandError {
 }
 
 impl From<AllocError> for CommandError {
+    ghost use Rattle.pylock.specs.declared.command.CommandError.TheVariants.{Memory};
+
+    ghost from_gives = { λ _ refusal. refusal ≡ Memory };
+
     fn from(_error: AllocError) -> CommandError {
         CommandError::Memory
     }
 }
 
 impl From<clap::Error> for CommandError {
+    ghost use Rattle.pylock.specs.CommandError.{Keeps};
+
+    ghost from_gives = { Keeps };
+
     fn from(error: clap::Error) -> CommandError {
         match error.kind() {
             ErrorKind::OutOfMemory => CommandError::Memory,
@@ -82,7 +90,8 @@ fn pylock_command<'a>(alloc: Global) -> Result<Command<'a>, AllocError>
 
 /// The task that clap's matches give, if each argument has its text.
 fn task_of<'a>(matches: &ArgMatches<'a>) -> Option<Task<'a>>
-    ensures { IfSome result (IsTask (subcommand_rows_of matches.now)) }
+    ensures some { IfSome result (IsTask (subcommand_rows_of matches.now)) }
+    ensures none { IfNone result (HasNoTask (subcommand_rows_of matches.now)) }
 {
     let Some((name, found)) = matches.subcommand() else {
         return Some(Task::Bare);
@@ -95,7 +104,9 @@ fn task_of<'a>(matches: &ArgMatches<'a>) -> Option<Task<'a>>
 
 /// The task that `words` ask for, of which the first is the program's name.
 pub fn command<'a>(alloc: Global, words: &'a [&'a str]) -> Result<Task<'a>, CommandError>
-    ensures { IfOk result (IsTask (subcommand_of pylock_app (map (λ w. w.now) words.entry.now))) }
+    ensures task { IfOk result (IsTask (subcommand_of pylock_app (map (λ w. w.now) words.entry.now))) }
+    ensures taken { OnOk result (fault_of pylock_app (map (λ w. w.now) words.entry.now) ≡ []) }
+    ensures refused { IfErr result (IsRefusal (map (λ w. w.now) words.entry.now)) }
 {
     let mut app = pylock_command(alloc)?;
     let matches = app.try_get_matches_from_mut(words)?;
