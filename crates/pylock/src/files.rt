@@ -1,5 +1,5 @@
 //! Reads a source to its end.
-ghost use Rattle.std.specs.Prelude.{◌≡◌, ◌<◌, ◌≤◌, length, vec_len, false, IsTrue, IfOk, IfErr, OnOk};
+ghost use Rattle.std.specs.Prelude.{◌≡◌, ◌<◌, ◌≤◌, length, vec_len, false, None, IsTrue, IfOk, IfErr, OnOk};
 ghost use Rattle.std.specs.Io.KnownBytes.{prepend_known, IsAtEnd};
 ghost use Rattle.pylock.specs.FileFault.{IsCause};
 
@@ -106,4 +106,52 @@ pub fn read_whole<R: Source>(
 {
     let mut buffer = piece_buffer(alloc)?;
     read_pieces(alloc, reader, &mut buffer, limit)
+}
+
+#[cfg(test)]
+mod tests {
+    use super::*;
+    use crate::ends::IoFault;
+    use crate::memory::Pieces;
+    use std::test::Fail;
+
+    /// Gives zeros without end.
+    #[derive(Drop)]
+    struct Endless;
+
+    impl Source for Endless {
+        ghost rest = { λ _. None };
+
+        ghost failures = { λ _. 0 };
+
+        fn read(&mut self, buf: &mut [u8]) -> Result<usize, IoFault> {
+            buf.fill(0);
+            Ok(buf.len())
+        }
+    }
+
+    #[test]
+    fn reads_up_to_the_limit(rt: HostRuntime) -> Result<(), Fail> {
+        for piece in [1, 3, 10, 64] {
+            let ten = read_whole(rt.alloc(), &mut Pieces::new(b"0123456789", piece, None), 10)?;
+            assert_eq!(rt; ten.as_slice(), b"0123456789".as_slice());
+            let eleven = read_whole(
+                rt.alloc(),
+                &mut Pieces::new(b"0123456789a", piece, None),
+                10,
+            );
+            assert_eq!(rt; eleven.err(), Some(FileFault::Limit));
+        }
+        let endless = read_whole(rt.alloc(), &mut Endless, 10);
+        assert_eq!(rt; endless.err(), Some(FileFault::Limit));
+        let empty = read_whole(rt.alloc(), &mut Pieces::new(b"", 1, None), 0)?;
+        assert!(rt; empty.is_empty());
+        Ok(())
+    }
+
+    #[test]
+    fn tells_a_failed_read(rt: HostRuntime) {
+        let after_three = read_whole(rt.alloc(), &mut Pieces::new(b"0123456789", 3, Some(2)), 10);
+        assert_eq!(rt; after_three.err(), Some(FileFault::Read));
+    }
 }

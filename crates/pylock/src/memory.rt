@@ -174,3 +174,31 @@ impl Sink for Room {
         Ok(count)
     }
 }
+
+#[cfg(test)]
+mod tests {
+    use super::*;
+    use std::test::Fail;
+
+    #[test]
+    fn gives_pieces(rt: HostRuntime) {
+        let mut pieces = Pieces::new(b"hello", 3, Some(2));
+        let mut buffer = [0; 4];
+        assert_eq!(rt; pieces.read(&mut buffer), Ok(3));
+        assert_eq!(rt; buffer, [104, 101, 108, 0]);
+        assert_eq!(rt; pieces.read(&mut buffer), Err(IoFault));
+        assert_eq!(rt; pieces.read(&mut buffer), Ok(2));
+        assert_eq!(rt; pieces.read(&mut buffer), Ok(0));
+    }
+
+    #[test]
+    fn takes_pieces(rt: HostRuntime) -> Result<(), Fail> {
+        let mut room = Room::new(rt.alloc(), 4, 3, Some(2))?;
+        assert_eq!(rt; room.write(b"hello"), Ok(3));
+        assert_eq!(rt; room.write(b"lo"), Err(IoFault));
+        assert_eq!(rt; room.write(b"lo"), Ok(1));
+        assert_eq!(rt; room.write(b"o"), Ok(0));
+        assert_eq!(rt; room.bytes(), b"hell".as_slice());
+        Ok(())
+    }
+}

@@ -7,18 +7,15 @@ use std::io::{Read, Write};
 /// A source over a reader. An interrupted read counts as a failure too.
 #[derive(Drop)]
 pub struct FromRead<R> {
-    reader: R,
+    inner: R,
     failures: u64,
 }
 
 impl<R: Read> FromRead<R> {
-    pub fn new(reader: R) -> FromRead<R>
+    pub fn new(inner: R) -> FromRead<R>
         ensures { ⟦<FromRead<R> as Source>⟧.failures result ≡ 0 }
     {
-        FromRead {
-            reader,
-            failures: 0,
-        }
+        FromRead { inner, failures: 0 }
     }
 }
 
@@ -28,7 +25,7 @@ impl<R: Read> Source for FromRead<R> {
     ghost failures = { λ source. source.failures };
 
     fn read(&mut self, buf: &mut [u8]) -> Result<usize, IoFault> {
-        match self.reader.read(buf) {
+        match self.inner.read(buf) {
             Ok(count) => Ok(count),
             Err(_) => {
                 self.failures = self.failures.saturating_add(1);
@@ -41,18 +38,15 @@ impl<R: Read> Source for FromRead<R> {
 /// A sink over a writer. An interrupted write counts as a failure too.
 #[derive(Drop)]
 pub struct ToWrite<W> {
-    writer: W,
+    inner: W,
     failures: u64,
 }
 
 impl<W: Write> ToWrite<W> {
-    pub fn new(writer: W) -> ToWrite<W>
+    pub fn new(inner: W) -> ToWrite<W>
         ensures { ⟦<ToWrite<W> as Sink>⟧.failures result ≡ 0 }
     {
-        ToWrite {
-            writer,
-            failures: 0,
-        }
+        ToWrite { inner, failures: 0 }
     }
 }
 
@@ -62,7 +56,7 @@ impl<W: Write> Sink for ToWrite<W> {
     ghost failures = { λ sink. sink.failures };
 
     fn write(&mut self, piece: &[u8]) -> Result<usize, IoFault> {
-        match self.writer.write(piece) {
+        match self.inner.write(piece) {
             Ok(count) => {
                 if count == 0 && !piece.is_empty() {
                     self.failures = self.failures.saturating_add(1);
@@ -74,5 +68,25 @@ impl<W: Write> Sink for ToWrite<W> {
                 Err(IoFault)
             }
         }
+    }
+}
+
+#[cfg(test)]
+mod tests {
+    use super::*;
+    use crate::files::read_whole;
+    use crate::writing::write_all;
+    use std::test::Fail;
+
+    #[test]
+    fn wraps_readers_and_writers(rt: HostRuntime) -> Result<(), Fail> {
+        let mut text = Vec::new(rt.alloc());
+        assert_eq!(rt;
+            write_all(&mut ToWrite::new(&mut text), b"pylock 1\n"),
+            Ok(())
+        );
+        let bytes = read_whole(rt.alloc(), &mut FromRead::new(text.as_slice()), 9)?;
+        assert_eq!(rt; bytes.as_slice(), b"pylock 1\n".as_slice());
+        Ok(())
     }
 }

@@ -24,3 +24,30 @@ pub fn write_all<W: Sink>(writer: &mut W, text: &[u8]) -> Result<(), IoFault>
     }
     Ok(())
 }
+
+#[cfg(test)]
+mod tests {
+    use super::*;
+    use crate::memory::Room;
+    use std::test::Fail;
+
+    #[test]
+    fn writes_whole_texts(rt: HostRuntime) -> Result<(), Fail> {
+        let mut room = Room::new(rt.alloc(), 9, 2, None)?;
+        assert_eq!(rt; write_all(&mut room, b"plan"), Ok(()));
+        assert_eq!(rt; write_all(&mut room, b""), Ok(()));
+        assert_eq!(rt; write_all(&mut room, b" 0000\n"), Err(IoFault));
+        assert_eq!(rt; room.bytes(), b"plan 0000".as_slice());
+        Ok(())
+    }
+
+    #[test]
+    fn leaves_a_front(rt: HostRuntime) -> Result<(), Fail> {
+        for (call, front) in [(1, ""), (2, "pl"), (3, "plan")] {
+            let mut room = Room::new(rt.alloc(), 9, 2, Some(call))?;
+            assert_eq!(rt; write_all(&mut room, b"plan 0\n"), Err(IoFault));
+            assert_eq!(rt; room.bytes(), front.as_bytes());
+        }
+        Ok(())
+    }
+}
