@@ -1,6 +1,7 @@
 pub mod LineLemmas
 pub mod EditingLemmas
 pub mod PrintLemmas
+pub mod ClapLemmas
 pub mod ReadLemmas
 pub mod WroteLemmas
 pub mod PourLemmas

@@ -5,6 +5,8 @@ pub mod Refusals
 pub mod Report
 pub mod Editing
 pub mod EditingFaults
+pub mod CommandError
+pub mod CommandLine
 pub mod Faults
 pub mod FileFault
 pub mod MemoryEnds
