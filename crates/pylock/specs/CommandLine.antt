@@ -29,12 +29,11 @@ abbrev pub IsTask : Option (Text × List Row) → Task → Type 0
 IsTask found Bare = found ≡ None
 IsTask found (Select lock env) = HasTexts found (codes "select") ((codes "LOCK", lock.now) ∷ (codes "ENV", env.now) ∷ [])
 
--- the words give no task: an argument of their subcommand has no text
+-- the words give no task
 abbrev pub HasNoTask : Option (Text × List Row) → Type 0
 HasNoTask found = (task : Task) → IsTask found task → ⊥
 
--- why the words are refused: clap refuses them, by a kind of error that it has for them, or gives no task for them; want of
--- memory says nothing of the words
+-- why words are refused: clap has this kind of error for them, or they give no task; want of memory says nothing of the words
 abbrev pub IsRefusal : List Text → CommandError → Type 0
 IsRefusal words (Refused error) = (kind_of error ≢ OutOfMemory)
     × (IsAmong (kind_of error) (fault_of pylock_app words) ⊎ HasNoTask (subcommand_of pylock_app words))

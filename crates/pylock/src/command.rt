@@ -20,7 +20,7 @@ pub enum Task<'a> {
 /// Why there is no task.
 #[derive(Debug, Drop)]
 pub enum CommandError {
-    /// Clap refuses the words, or they ask for help. The error prints itself.
+    /// Clap refuses the words, or they ask for help. The error says which stream and status it wants.
     Refused(clap::Error),
     /// A growth was refused.
     Memory,
@@ -51,11 +51,11 @@ impl From<clap::Error> for CommandError {
 
 const ABOUT: &str = "Selects from a lock what an installer installs";
 
-const SELECT_ABOUT: &str = "Print what is installed, and print it again after each edit";
+const SELECT_ABOUT: &str = "Print what a lock installs, and print it again after each edit";
 
-const LOCK_HELP: &str = "The lock file, a pylock.toml";
+const LOCK_HELP: &str = "The path of the lock, a pylock.toml";
 
-const ENV_HELP: &str = "The environment file, JSON with the marker variables and the wheel tags";
+const ENV_HELP: &str = "The path of the environment: JSON with marker variables and wheel tags";
 
 const SELECT_LINES: &str = "\
 Edits come as lines on standard input:
@@ -102,7 +102,10 @@ fn task_of<'a>(matches: &ArgMatches<'a>) -> Option<Task<'a>>
     }
 }
 
-/// The task that `words` ask for, of which the first is the program's name.
+/// The task that `words` ask for, of which the first is the program's name. A text of the task is one
+/// of the words.
+///
+/// It takes memory for the command line's description, for what is found and for the text of an error.
 pub fn command<'a>(alloc: Global, words: &'a [&'a str]) -> Result<Task<'a>, CommandError>
     ensures task { IfOk result (IsTask (subcommand_of pylock_app (map (λ w. w.now) words.entry.now))) }
     ensures taken { OnOk result (fault_of pylock_app (map (λ w. w.now) words.entry.now) ≡ []) }
