@@ -7,4 +7,3 @@ pub mod WroteLemmas
 pub mod PourLemmas
 pub mod RunLemmas
 pub mod SessionLemmas
-mod ClapLemmas

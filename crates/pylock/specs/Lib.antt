@@ -15,6 +15,4 @@ pub mod Pours
 pub mod Edited
 pub mod Run
 pub mod Opening
-pub mod CommandLine
-pub mod CommandError
 pub mod Reply

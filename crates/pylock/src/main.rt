@@ -1,4 +1,4 @@
-//! `pylock`: selects from a pylock.toml lock what an installer installs.
+//! `pylock`: selects from a pylock.toml lock what an installer installs, and answers questions on versions and names.
 #![tactic(auto)]
 
 mod command;
@@ -19,6 +19,8 @@ mod writing;
 use crate::command::{CommandError, Task, command};
 use crate::fault::RunFault;
 use crate::files::{FileFault, read_whole};
+use crate::queries::Query;
+use crate::reply::query;
 use crate::run::run;
 use crate::streams::{FromRead, ToWrite};
 use crate::writing::write_all;
@@ -78,6 +80,17 @@ fn perform(rt: &HostRuntime, task: Task<'_>) -> ExitCode {
             Err(_) => failed(rt, "write"),
         },
         Task::Select(lock, env) => select(rt, lock, env),
+        Task::Version(text) => reply(rt, Query::Version(text)),
+        Task::Match(set, version) => reply(rt, Query::Match(set, version)),
+        Task::Name(text) => reply(rt, Query::Name(text)),
+    }
+}
+
+/// Writes the reply of a one-shot command on standard output.
+fn reply(rt: &HostRuntime, asked: Query<'_>) -> ExitCode {
+    match query(rt.alloc(), asked, &mut ToWrite::new(rt.stdout())) {
+        Ok(status) => ExitCode::from(status),
+        Err(fault) => failed(rt, run_word(fault)),
     }
 }
 
