@@ -1,5 +1,5 @@
 -- What clap's matches tell of a subcommand.
-use Rattle.std.proofs.Common.{◌≡◌, List, [], ◌∷◌, Option, None, Some, refl, codes, true, inl, inr, lit<, subst, sym, ap, ap₂, ◌∙◌, Box, option_map}
+use Rattle.std.proofs.Common.{◌≡◌, List, [], ◌∷◌, Option, None, Some, refl, codes, true, inl, inr, is_some, subst, sym, ap, ap₂, ◌∙◌, Box, option_map}
 use Rattle.std.proofs.lemmas.List.Elements.{All-cons, All-nil}
 use Rattle.std.specs.Box.{box_value}
 use Rattle.clap.proofs.WalkLemmas.{first_value-rows}
@@ -8,10 +8,9 @@ use Rattle.clap.proofs.OnLiterals.{clap_on_literals}
 use Rattle.clap.specs.Words.{App, HasKind, IsAmong, fault_of, is_simple_and_free, kind_of}
 use Rattle.clap.specs.declared.error.Error.{Error}
 use Rattle.pylock.specs.CommandError.{Keeps}
-use Rattle.pylock.specs.CommandLine.{HasNoTask, HasTexts, IsRefusal, pylock_app}
+use Rattle.pylock.specs.CommandLine.{HasTexts, IsRefusal, pylock_app}
 use Rattle.pylock.specs.declared.command.CommandError.{CommandError}
 use Rattle.pylock.specs.declared.command.CommandError.TheVariants.{Refused, Memory}
-use Rattle.pylock.specs.declared.command.Task.TheVariants.{Bare, Select}
 use Rattle.clap.specs.declared.parser.matches.ArgMatches.{ArgMatches}
 use Rattle.clap.specs.declared.parser.matches.ArgMatches.TheViews.{out-ArgMatches, out-SubCommand}
 use Rattle.clap.specs.declared.parser.matches.SubCommand.{SubCommand}
@@ -60,22 +59,8 @@ module _ (m found : ArgMatches) (name word : Text) (is : name ≡ word) (named :
         (All-cons (HasText rows) (other, other_text) [] (given other other_text gives_other) (All-nil (HasText rows)));
   }
 
-  -- an argument that clap gives no text has none in any task
-  lacks : (id text other : Text) (texts : List (Text × Text)) → None ≡ first_value (found_of found) id → (has : HasTexts (subcommand_rows_of m) other texts)
-      → first_of id has.rows ≡ Some text → ⊥
-  lacks id text other texts gone has gives =
-      let met_here : ◌≡◌ {A = Option (Text × List Row)} (Some (word, rows)) (Some (other, has.rows)) = sym entered ∙ has.entered in
-      let same : rows ≡ has.rows = cc in
-      let none : ◌≡◌ {A = Option Text} None (Some text) = gone ∙ first_value-rows (found_of found) id ∙ ap (first_of id) same ∙ gives in
-      cc
-
-  pub no_task-without_lock : None ≡ first_value (found_of found) (codes "LOCK") → HasNoTask (subcommand_rows_of m)
-  no_task-without_lock gone Bare none = let met_none : ◌≡◌ {A = Option (Text × List Row)} (Some (word, rows)) None = sym entered ∙ none in cc
-  no_task-without_lock gone (Select lock env) has = lacks (codes "LOCK") lock.now (codes "select") _ gone has (has.given 0 ([], []) (lit< tt))
-
-  pub no_task-without_env : None ≡ first_value (found_of found) (codes "ENV") → HasNoTask (subcommand_rows_of m)
-  no_task-without_env gone Bare none = let met_none : ◌≡◌ {A = Option (Text × List Row)} (Some (word, rows)) None = sym entered ∙ none in cc
-  no_task-without_env gone (Select lock env) has = lacks (codes "ENV") env.now (codes "select") _ gone has (has.given 1 ([], []) (lit< tt))
+  pub is_met : is_some (subcommand_rows_of m) ≡ true
+  is_met = ap is_some entered
 
 pylock_app-is_simple_and_free : is_simple_and_free pylock_app ≡ true
 unfolding clap_on_literals

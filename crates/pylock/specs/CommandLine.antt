@@ -1,5 +1,5 @@
 -- The program's command line, in clap's terms.
-use Rattle.std.specs.Prelude.{◌≡◌, ◌≢◌, ◌⊎◌, true, codes, List, [], ◌∷◌, Option, Some, None, All}
+use Rattle.std.specs.Prelude.{◌≡◌, ◌≢◌, ◌⊎◌, true, codes, is_some, List, [], ◌∷◌, Option, Some, None, All}
 use Rattle.clap.specs.Words.{App, IsAmong, Row, Rule, Text, fault_of, first_of, kind_of, new_app, new_rule, subcommand_of, with_rule, with_subcommand}
 use Rattle.clap.specs.declared.error.kind.ErrorKind.TheVariants.{OutOfMemory}
 use Rattle.pylock.specs.declared.command.CommandError.{CommandError}
@@ -54,12 +54,8 @@ IsCall found (Some call) = HasTexts found call.0 call.1
 abbrev pub IsTask : Option (Text × List Row) → Task → Type 0
 IsTask found task = IsCall found (call_of task)
 
--- the words give no task
-abbrev pub HasNoTask : Option (Text × List Row) → Type 0
-HasNoTask found = (task : Task) → IsTask found task → ⊥
-
--- why words are refused: clap has this kind of error for them, or they give no task; want of memory says nothing of the words
+-- why words are refused: clap has this kind of error for them, or a text of their subcommand is missing; want of memory says nothing of the words
 abbrev pub IsRefusal : List Text → CommandError → Type 0
 IsRefusal words (Refused error) = (kind_of error ≢ OutOfMemory)
-    × (IsAmong (kind_of error) (fault_of pylock_app words) ⊎ HasNoTask (subcommand_of pylock_app words))
+    × (IsAmong (kind_of error) (fault_of pylock_app words) ⊎ (is_some (subcommand_of pylock_app words) ≡ true))
 IsRefusal words Memory = Unit {0}

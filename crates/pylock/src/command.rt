@@ -1,8 +1,8 @@
 //! The command line.
-ghost use Rattle.std.specs.Prelude.{◌≡◌, [], map, false, IfOk, IfErr, OnOk, IfSome, IfNone};
-ghost use Rattle.clap.specs.Words.{app_of, fault_of, subcommand_of, subcommand_rows_of};
+ghost use Rattle.std.specs.Prelude.{◌≡◌, [], map, false, true, is_some, IfOk, IfErr, OnOk, IfSome, IfNone};
+ghost use Rattle.clap.specs.Words.{app_of, fault_of, subcommand_of, subcommand_rows_of, with_subcommand};
 ghost use Rattle.clap.specs.declared.builder.command.Command.TheViews.{out-Command as fields_of};
-ghost use Rattle.pylock.specs.CommandLine.{HasNoTask, IsRefusal, IsTask, match_app, name_app, pylock_app, select_app, version_app};
+ghost use Rattle.pylock.specs.CommandLine.{IsRefusal, IsTask, match_app, name_app, pylock_app, select_app, version_app};
 
 use clap::error::ErrorKind;
 use clap::{Arg, ArgMatches, Command};
@@ -148,25 +148,52 @@ fn name_command<'a>(alloc: Global) -> Result<Command<'a>, AllocError>
         .arg(text)
 }
 
+/// Adds `select LOCK ENV`.
+fn add_select<'a>(alloc: Global, pylock: Command<'a>) -> Result<Command<'a>, AllocError>
+    ensures { IfOk result (λ c. app_of c ≡ with_subcommand (app_of pylock.entry) select_app.top) }
+{
+    let select = select_command(alloc)?;
+    pylock.subcommand(select)
+}
+
+/// Adds `version TEXT`.
+fn add_version<'a>(alloc: Global, pylock: Command<'a>) -> Result<Command<'a>, AllocError>
+    ensures { IfOk result (λ c. app_of c ≡ with_subcommand (app_of pylock.entry) version_app.top) }
+{
+    let version = version_command(alloc)?;
+    pylock.subcommand(version)
+}
+
+/// Adds `match SET VERSION`.
+fn add_match<'a>(alloc: Global, pylock: Command<'a>) -> Result<Command<'a>, AllocError>
+    ensures { IfOk result (λ c. app_of c ≡ with_subcommand (app_of pylock.entry) match_app.top) }
+{
+    let matching = match_command(alloc)?;
+    pylock.subcommand(matching)
+}
+
+/// Adds `name TEXT`.
+fn add_name<'a>(alloc: Global, pylock: Command<'a>) -> Result<Command<'a>, AllocError>
+    ensures { IfOk result (λ c. app_of c ≡ with_subcommand (app_of pylock.entry) name_app.top) }
+{
+    let name = name_command(alloc)?;
+    pylock.subcommand(name)
+}
+
 fn pylock_command<'a>(alloc: Global) -> Result<Command<'a>, AllocError>
     ensures { IfOk result (λ c. app_of c ≡ pylock_app) }
 {
-    let select = select_command(alloc)?;
-    let version = version_command(alloc)?;
-    let matching = match_command(alloc)?;
-    let name = name_command(alloc)?;
-    Command::new(alloc, "pylock")
-        .about(ABOUT)
-        .subcommand(select)?
-        .subcommand(version)?
-        .subcommand(matching)?
-        .subcommand(name)
+    let pylock = Command::new(alloc, "pylock").about(ABOUT);
+    let pylock = add_select(alloc, pylock)?;
+    let pylock = add_version(alloc, pylock)?;
+    let pylock = add_match(alloc, pylock)?;
+    add_name(alloc, pylock)
 }
 
-/// The task that clap's matches give, if each argument has its text.
+/// The task that clap's matches give: none where a subcommand lacks a text.
 fn task_of<'a>(matches: &ArgMatches<'a>) -> Option<Task<'a>>
     ensures some { IfSome result (IsTask (subcommand_rows_of matches.now)) }
-    ensures none { IfNone result (HasNoTask (subcommand_rows_of matches.now)) }
+    ensures none { IfNone result (is_some (subcommand_rows_of matches.now) ≡ true) }
 {
     let Some((name, found)) = matches.subcommand() else {
         return Some(Task::Bare);

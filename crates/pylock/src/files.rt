@@ -31,7 +31,7 @@ impl From<AllocError> for FileFault {
 }
 
 /// A buffer for one piece.
-fn piece_buffer(alloc: Global) -> Result<Vec<u8>, AllocError>
+pub fn piece_buffer(alloc: Global) -> Result<Vec<u8>, AllocError>
     ensures { IfOk result (λ buffer. 0 < vec_len buffer) }
 {
     vec![in alloc; 0u8; PIECE_BYTES]

@@ -80,14 +80,14 @@ fn perform(rt: &HostRuntime, task: Task<'_>) -> ExitCode {
             Err(_) => failed(rt, "write"),
         },
         Task::Select(lock, env) => select(rt, lock, env),
-        Task::Version(text) => reply(rt, Query::Version(text)),
-        Task::Match(set, version) => reply(rt, Query::Match(set, version)),
-        Task::Name(text) => reply(rt, Query::Name(text)),
+        Task::Version(text) => answer(rt, Query::Version(text)),
+        Task::Match(set, version) => answer(rt, Query::Match(set, version)),
+        Task::Name(text) => answer(rt, Query::Name(text)),
     }
 }
 
 /// Writes the reply of a one-shot command on standard output.
-fn reply(rt: &HostRuntime, asked: Query<'_>) -> ExitCode {
+fn answer(rt: &HostRuntime, asked: Query<'_>) -> ExitCode {
     match query(rt.alloc(), asked, &mut ToWrite::new(rt.stdout())) {
         Ok(status) => ExitCode::from(status),
         Err(fault) => failed(rt, run_word(fault)),
