@@ -157,7 +157,7 @@ arbitrary_again text label s =
     ap (λ (n : ℕ). take n (label ++ s.after)) (sym len) ∙ taken_exact is_arbitrary label s.after s.allowed stops in
     arbitrary_end text (label ++ s.after) label s.after white len dropped taken (some_or_none (length label) s.not_empty) s.is_after
 
-operand_again : (s : Specifier) (text : List ℕ) → IsOperand text s → operand_of (operator_of s) text ≡ Some s
+pub operand_again : (s : Specifier) (text : List ℕ) → IsOperand text s → operand_of (operator_of s) text ≡ Some s
 unfolding operand_of
 operand_again (Equal v) text h = rw (no_prefix text v h, version_again text v h) refl
 operand_again (EqualPrefix p) text h = rw (prefix_of_again text p h) refl
