@@ -1,5 +1,5 @@
 -- What is read of a specifier set is written so.
-use Rattle.std.proofs.Common.{◌≡◌, ◌⊎◌, ℕ, ◌<◌, ◌≤◌, Bool, true, false, List, [], ◌∷◌, ◌++◌, length, take, drop, Option, Some, None, refl, sym, ap, subst, ◌∙◌, append-nil, arith, inl, inr}
+use Rattle.std.proofs.Common.{◌≡◌, ◌⊎◌, ℕ, ◌≤◌, Bool, true, false, List, [], ◌∷◌, ◌++◌, length, take, drop, Option, Some, None, refl, sym, ap, subst, ◌∙◌, arith, inl, inr}
 use Rattle.std.specs.Prelude.{◌==◌, ◌&&◌, codes, nat_eq, nat_le, nat_lt, option_map}
 use Rattle.std.specs.Cmp.{unsigned_Decides}
 use Rattle.std.specs.List.{list_all, prefix_len, starts_with}
@@ -216,7 +216,7 @@ arbitrary_takes text label e =
     subst (SpellsArbitrary text) c.1 made
 
 -- what the operand of an operator is
-abbrev IsRead : Operator → List ℕ → Specifier → Type 0
+abbrev pub IsRead : Operator → List ℕ → Specifier → Type 0
 IsRead o text s = (operator_of s ≡ o) × IsOperand text s
 
 read_public : (make : Parts → Specifier) (o : Operator) (text : List ℕ) (s : Specifier)
@@ -233,7 +233,7 @@ read_either make_prefix make o text s h k e = elim (either_some (option_map make
   | inr b ↦ let m = mapped make (version_of text) s b in subst (IsRead o text) m.2 (k m.0 (version_takes text m.0 m.1))
 ]
 
-operand_takes : (o : Operator) (text : List ℕ) (s : Specifier) → operand_of o text ≡ Some s → IsRead o text s
+pub operand_takes : (o : Operator) (text : List ℕ) (s : Specifier) → operand_of o text ≡ Some s → IsRead o text s
 unfolding operand_of
 operand_takes operator.Equal text s e = read_either EqualPrefix Equal operator.Equal text s (λ p h. (refl, h)) (λ v h. (refl, h)) e
 operand_takes operator.NotEqual text s e = read_either NotEqualPrefix NotEqual operator.NotEqual text s (λ p h. (refl, h)) (λ v h. (refl, h)) e

@@ -38,14 +38,14 @@ head_takes text x e =
     let t = number_takes text first a.1 in
     elim (sight (starts (λ b. b == 33) first.1)) [
       | inl bang ↦
-        let step : (number_at (drop 1 first.1) >>= λ second. Some ((first.0, second.0), second.1)) ≡ Some x = rw bang at a.2 in
-        let b = bind_some (number_at (drop 1 first.1)) (λ second. Some ((first.0, second.0), second.1)) x step in
-        let end : ((first.0, b.0.0), b.0.1) ≡ x = cc in
-        subst (IsHead text) end (epoch_takes text t.0 first.1 first.0 t.1 t.2 bang b.0 b.1)
+          let step : (number_at (drop 1 first.1) >>= λ second. Some ((first.0, second.0), second.1)) ≡ Some x = rw bang at a.2 in
+          let b = bind_some (number_at (drop 1 first.1)) (λ second. Some ((first.0, second.0), second.1)) x step in
+          let end : ((first.0, b.0.0), b.0.1) ≡ x = cc in
+          subst (IsHead text) end (epoch_takes text t.0 first.1 first.0 t.1 t.2 bang b.0 b.1)
       | inr other ↦
-        let step : ◌≡◌ {A = Option ((ℕ × ℕ) × List ℕ)} (Some ((0, first.0), first.1)) (Some x) = rw other at a.2 in
-        let end : ((0, first.0), first.1) ≡ x = cc in
-        subst (IsHead text) end ([], t.0, t.1, inl (refl, refl), t.2)
+          let step : ◌≡◌ {A = Option ((ℕ × ℕ) × List ℕ)} (Some ((0, first.0), first.1)) (Some x) = rw other at a.2 in
+          let end : ((0, first.0), first.1) ≡ x = cc in
+          subst (IsHead text) end ([], t.0, t.1, inl (refl, refl), t.2)
     ]
 
 prefix_takes : (text : List ℕ) → (prefix : List ℕ) × (text ≡ prefix ++ after_prefix text) × IsPrefix prefix

@@ -15,6 +15,7 @@ mod set;
 mod set_parse;
 mod set_text;
 mod specifier;
+mod specifier_new;
 mod text;
 mod version;
 

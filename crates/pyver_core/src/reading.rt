@@ -15,4 +15,4 @@ pub(crate) use digits::Digits;
 pub(crate) use draft::{Draft, read_version};
 pub(crate) use fields::{Base, Local, Release, read_base, read_local};
 pub(crate) use scan::is_blank;
-pub(crate) use specifier::{SpecifierDraft, read_specifier};
+pub(crate) use specifier::{SpecifierDraft, read_operand, read_specifier};

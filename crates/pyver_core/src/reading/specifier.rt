@@ -73,7 +73,7 @@ fn to_label(text: &str, alloc: Global) -> Result<Label, AllocError>
 
 /// What stands behind the operator, read in its terms.
 #[tactic(auto, unfolding(crate::specs::SetReading::operand_of))]
-fn read_operand(operator: Operator, text: &str) -> Option<SpecifierDraft<'_>>
+pub(crate) fn read_operand(operator: Operator, text: &str) -> Option<SpecifierDraft<'_>>
     ensures { option_map specified result ≡ operand_of operator text.now }
 {
     let bytes = text.as_bytes();

@@ -1,7 +1,7 @@
 //! Specifier sets: what they admit, their text, their refusals. The candidates of each operator are those of
 //! PEP 440, "Version specifiers".
 
-use crate::{SpecifierError, SpecifierSet, Version};
+use crate::{Operator, Specifier, SpecifierError, SpecifierSet, Version};
 use std::process::Abort;
 use std::test::Fail;
 
@@ -118,5 +118,15 @@ fn parts_of_a_specifier(rt: HostRuntime) -> Result<(), Fail> {
         assert_eq!(rt; item.operator().as_str(), operator);
     }
     assert_eq!(rt; set.text(), "==1!2.0.*,====1,~=2.2");
+    Ok(())
+}
+
+#[test]
+fn operand_under_its_own_operator(rt: HostRuntime) -> Result<(), Fail> {
+    let version = Version::parse(rt.alloc(), "1.0")?;
+    let specifier = Specifier::new(rt.alloc(), Operator::Equal, " 1.* ")?;
+    assert!(rt; specifier.admits(&version));
+    let refused = Specifier::new(rt.alloc(), Operator::Equal, "=1");
+    assert!(rt; matches!(refused, Err(SpecifierError::Syntax)));
     Ok(())
 }
