@@ -1,0 +1,61 @@
+-- The program's command line, in clap's terms.
+use Rattle.std.specs.Prelude.{◌≡◌, ◌≢◌, ◌⊎◌, true, codes, is_some, List, [], ◌∷◌, Option, Some, None, All}
+use Rattle.clap.specs.Words.{App, IsAmong, Row, Rule, Text, fault_of, first_of, kind_of, new_app, new_rule, subcommand_of, with_rule, with_subcommand}
+use Rattle.clap.specs.declared.error.kind.ErrorKind.TheVariants.{OutOfMemory}
+use Rattle.pylock.specs.declared.command.CommandError.{CommandError}
+use Rattle.pylock.specs.declared.command.CommandError.TheVariants.{Refused, Memory}
+use Rattle.pylock.specs.declared.command.Task.{Task}
+use Rattle.pylock.specs.declared.command.Task.TheVariants.{Bare, Select, Version, Match, Name}
+
+-- an argument that stands at its place and has to be there
+abbrev pub place_rule : Text → Rule
+place_rule id = record (new_rule id) { required = true }
+
+-- `select LOCK ENV`
+abbrev pub select_app : App
+select_app = with_rule (with_rule (new_app (codes "select")) (place_rule (codes "LOCK"))) (place_rule (codes "ENV"))
+
+-- `version TEXT`
+abbrev pub version_app : App
+version_app = with_rule (new_app (codes "version")) (place_rule (codes "TEXT"))
+
+-- `match SET VERSION`
+abbrev pub match_app : App
+match_app = with_rule (with_rule (new_app (codes "match")) (place_rule (codes "SET"))) (place_rule (codes "VERSION"))
+
+-- `name TEXT`
+abbrev pub name_app : App
+name_app = with_rule (new_app (codes "name")) (place_rule (codes "TEXT"))
+
+abbrev pub pylock_app : App
+pylock_app = with_subcommand (with_subcommand (with_subcommand (with_subcommand (new_app (codes "pylock"))
+    select_app.top) version_app.top) match_app.top) name_app.top
+
+-- the words have this subcommand, and each of these arguments of it, by name, has this text
+pub record HasTexts (found : Option (Text × List Row)) (name : Text) (texts : List (Text × Text)) : Type 0 where
+  pub rows : List Row
+  pub entered : found ≡ Some (name, rows)
+  pub given : All (λ p. first_of p.0 rows ≡ Some p.1) texts
+
+-- the subcommand of a task, and the texts of its arguments by name
+abbrev pub call_of : Task → Option (Text × List (Text × Text))
+call_of Bare = None
+call_of (Select lock env) = Some (codes "select", (codes "LOCK", lock.now) ∷ (codes "ENV", env.now) ∷ [])
+call_of (Version text) = Some (codes "version", (codes "TEXT", text.now) ∷ [])
+call_of (Match set version) = Some (codes "match", (codes "SET", set.now) ∷ (codes "VERSION", version.now) ∷ [])
+call_of (Name text) = Some (codes "name", (codes "TEXT", text.now) ∷ [])
+
+-- the words have no subcommand, or this one with these texts
+abbrev pub IsCall : Option (Text × List Row) → Option (Text × List (Text × Text)) → Type 0
+IsCall found None = found ≡ None
+IsCall found (Some call) = HasTexts found call.0 call.1
+
+-- the task that the words give
+abbrev pub IsTask : Option (Text × List Row) → Task → Type 0
+IsTask found task = IsCall found (call_of task)
+
+-- why words are refused: clap has this kind of error for them, or a text of their subcommand is missing; want of memory says nothing of the words
+abbrev pub IsRefusal : List Text → CommandError → Type 0
+IsRefusal words (Refused error) = (kind_of error ≢ OutOfMemory)
+    × (IsAmong (kind_of error) (fault_of pylock_app words) ⊎ (is_some (subcommand_of pylock_app words) ≡ true))
+IsRefusal words Memory = Unit {0}

@@ -1,0 +1,21 @@
+-- The fields of a printed line.
+use Rattle.std.specs.Prelude.{ℕ, ◌==◌, List, [], ◌∷◌, if◌then◌else◌, Option, Some, None, codes}
+use Rattle.std.specs.List.{flat_map}
+use Rattle.std.specs.Str.{bytes_eq}
+
+-- how a byte of a text stands in a field: TAB, LF, CR and the backslash are written with a backslash
+abbrev pub escape : ℕ → List ℕ
+escape b =
+    if b == 9 then codes "\\t"
+    else if b == 10 then codes "\\n"
+    else if b == 13 then codes "\\r"
+    else if b == 92 then codes "\\\\"
+    else b ∷ []
+
+abbrev pub escaped : List ℕ → List ℕ
+escaped text = flat_map escape text
+
+-- a field: an absent text is `-`, and the text `-` is written `\-`
+abbrev pub field : Option (List ℕ) → List ℕ
+field None = codes "-"
+field (Some text) = if bytes_eq text (codes "-") then codes "\\-" else escaped text

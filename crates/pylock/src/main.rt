@@ -1,0 +1,117 @@
+//! `pylock`: selects from a pylock.toml lock what an installer installs, and answers questions on versions and names.
+#![tactic(auto)]
+
+mod command;
+mod editing;
+mod ends;
+mod fault;
+mod files;
+mod lines;
+mod memory;
+mod printing;
+mod queries;
+mod refusals;
+mod reply;
+mod run;
+mod streams;
+mod writing;
+
+use crate::command::{CommandError, Task, command};
+use crate::fault::RunFault;
+use crate::files::{FileFault, read_whole};
+use crate::queries::Query;
+use crate::reply::query;
+use crate::run::run;
+use crate::streams::{FromRead, ToWrite};
+use crate::writing::write_all;
+use std::process::ExitCode;
+use std::{env, fs, io};
+
+/// The most bytes that a file may have.
+const FILE_BYTES: u64 = 268_435_456;
+
+/// One line on standard error, and the status that goes with it.
+fn failed(rt: &impl Eprint, what: &str) -> ExitCode {
+    let _ = eprintln!(rt; "pylock: {what}");
+    ExitCode::from(3)
+}
+
+fn read_file(rt: &HostRuntime, path: &str) -> Result<Vec<u8>, FileFault> {
+    let Ok(file) = fs::open(rt, path) else {
+        return Err(FileFault::Read);
+    };
+    read_whole(rt.alloc(), &mut FromRead::new(file), FILE_BYTES)
+}
+
+/// Runs `select` on the two files, standard input and standard output.
+fn select(rt: &HostRuntime, lock: &str, env: &str) -> ExitCode {
+    let (lock, env) = match (read_file(rt, lock), read_file(rt, env)) {
+        (Ok(lock), Ok(env)) => (lock, env),
+        (Err(fault), _) | (_, Err(fault)) => return failed(rt, file_word(fault)),
+    };
+    let mut reader = FromRead::new(rt.stdin());
+    let mut writer = ToWrite::new(rt.stdout());
+    match run(rt.alloc(), &lock, &env, &mut reader, &mut writer) {
+        Ok(status) => ExitCode::from(status),
+        Err(fault) => failed(rt, run_word(fault)),
+    }
+}
+
+fn file_word(fault: FileFault) -> &'static str {
+    match fault {
+        FileFault::Read | FileFault::Limit => "file",
+        FileFault::Memory => "memory",
+    }
+}
+
+fn run_word(fault: RunFault) -> &'static str {
+    match fault {
+        RunFault::Read => "read",
+        RunFault::Write => "write",
+        RunFault::Input => "input",
+        RunFault::Memory => "memory",
+    }
+}
+
+fn perform(rt: &HostRuntime, task: Task<'_>) -> ExitCode {
+    match task {
+        Task::Bare => match write_all(&mut ToWrite::new(rt.stdout()), b"pylock 1\n") {
+            Ok(()) => ExitCode::SUCCESS,
+            Err(_) => failed(rt, "write"),
+        },
+        Task::Select(lock, env) => select(rt, lock, env),
+        Task::Version(text) => answer(rt, Query::Version(text)),
+        Task::Match(set, version) => answer(rt, Query::Match(set, version)),
+        Task::Name(text) => answer(rt, Query::Name(text)),
+    }
+}
+
+/// Writes the reply of a one-shot command on standard output.
+fn answer(rt: &HostRuntime, asked: Query<'_>) -> ExitCode {
+    match query(rt.alloc(), asked, &mut ToWrite::new(rt.stdout())) {
+        Ok(status) => ExitCode::from(status),
+        Err(fault) => failed(rt, run_word(fault)),
+    }
+}
+
+fn arguments(rt: &HostRuntime) -> io::Result<Vec<String>> {
+    Ok(env::args(rt)?.collect(rt.alloc())?)
+}
+
+fn main(rt: HostRuntime) -> ExitCode {
+    let Ok(arguments) = arguments(&rt) else {
+        return failed(&rt, "memory");
+    };
+    let words = arguments.iter().map(|word| word.as_str());
+    let Ok(words) = words.collect::<Vec<&str>>(rt.alloc()) else {
+        return failed(&rt, "memory");
+    };
+    match command(rt.alloc(), &words) {
+        Ok(task) => perform(&rt, task),
+        Err(CommandError::Refused(error)) => {
+            let _ = error.print(&rt);
+            ExitCode::from(error.exit_code() as u8)
+        }
+        Err(CommandError::Memory) => failed(&rt, "memory"),
+    }
+}

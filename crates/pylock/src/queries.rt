@@ -1,0 +1,12 @@
+//! What the one-shot commands ask.
+
+/// What a one-shot command asks.
+#[derive(Clone, Copy, Debug)]
+pub enum Query<'a> {
+    /// The normal form of a version (PEP 440).
+    Version(&'a str),
+    /// Whether a specifier set, which stands first, admits a version (PEP 440).
+    Match(&'a str, &'a str),
+    /// The normal form of a name (PEP 503).
+    Name(&'a str),
+}

@@ -1,0 +1,5 @@
+mod FileNameLemmas
+mod ReadingLemmas
+pub mod RowLemmas
+pub mod SlateLemmas
+pub mod StepLemmas

@@ -1,0 +1,10 @@
+pub mod FileName
+pub mod Entry
+pub mod State
+pub mod Rows
+pub mod Steps
+pub mod Fields
+pub mod Reading
+pub mod Lock
+pub mod Environment
+pub mod Progress

@@ -1,0 +1,87 @@
+//! The answer of the installation steps (PEP 751).
+ghost use Rattle.std.specs.Prelude.{◌≡◌};
+
+use std::marker::Model;
+
+/// The source that an entry is installed from (PEP 751, installation step 6).
+#[derive(Clone, Copy, Debug, PartialEq, Eq)]
+pub enum PickSource {
+    /// The entry's `directory`.
+    Directory,
+    /// The entry's `sdist`.
+    Sdist,
+}
+
+/// An entry of the plan: its number in the session, and the source to install it from.
+#[derive(Clone, Copy, Debug, PartialEq, Eq)]
+pub struct Pick {
+    /// The entry's number.
+    pub id: u32,
+    /// The source.
+    pub source: PickSource,
+}
+
+/// What is to be installed, in the order of the entries; made from a `Vec` and given back as one
+/// without memory.
+#[derive(Debug, Drop)]
+pub struct Plan {
+    picks: Vec<Pick>,
+}
+
+impl Model for Plan {
+    ghost use Rattle.std.specs.Prelude.{List};
+    ghost use Rattle.pylock_core.specs.declared.answer.Pick.{Pick};
+
+    ghost Value = { List Pick };
+
+    ghost view = { λ p. p.picks.items };
+}
+
+impl Plan {
+    /// The plan of these picks.
+    pub fn new(picks: Vec<Pick>) -> Plan
+        ensures { result ≡ picks.items }
+    {
+        Plan { picks }
+    }
+
+    /// The picks of the plan.
+    pub fn picks(&self) -> &[Pick]
+        ensures { result.now ≡ self.now }
+    {
+        self.picks.as_slice()
+    }
+
+    /// Gives the picks back.
+    pub fn into_vec(self) -> Vec<Pick>
+        ensures { result.items ≡ self }
+    {
+        let Plan { picks } = self;
+        picks
+    }
+}
+
+/// Why the installation steps end without a plan (PEP 751).
+#[derive(Clone, Copy, Debug, PartialEq, Eq)]
+pub enum FaultCode {
+    /// An earlier entry of the same name is to be installed too (step 5).
+    Ambiguous,
+    /// The entry has sources of more than one kind (step 5).
+    Sources,
+    /// The entry has no source to install from (step 6).
+    NoFile,
+}
+
+/// The answer of the installation steps.
+#[derive(Debug, Drop)]
+pub enum Answer {
+    /// Every entry has its pick.
+    Plan(Plan),
+    /// The first fault, with the number of its entry.
+    Fault {
+        /// The number of the entry.
+        id: u32,
+        /// Why it stops the installation.
+        code: FaultCode,
+    },
+}

@@ -1,0 +1,5 @@
+use Rattle.pyver_core.proofs.SetAgain.{one_set}
+use Rattle.pyver_core.proofs.laws.one_specifier_set.Goals as goal
+
+pub returns : goal.returns
+returns c = one_set

@@ -1,0 +1,6 @@
+use Rattle.pyver_core.proofs.AgainVersion.{one_spelling_at}
+use Rattle.pyver_core.proofs.NormalSpells.{normal_spells}
+use Rattle.pyver_core.proofs.laws.one_spelling.Goals as goal
+
+pub returns : goal.returns
+returns c = record { once = one_spelling_at; normal_form = normal_spells }

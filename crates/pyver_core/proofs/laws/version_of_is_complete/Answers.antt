@@ -1,0 +1,5 @@
+use Rattle.pyver_core.proofs.AgainVersion.{version_again}
+use Rattle.pyver_core.proofs.laws.version_of_is_complete.Goals as goal
+
+pub returns : goal.returns
+returns c = version_again

@@ -1,0 +1,5 @@
+use Rattle.pyver_core.proofs.TakesParts.{version_takes}
+use Rattle.pyver_core.proofs.laws.version_of_spells.Goals as goal
+
+pub returns : goal.returns
+returns c = version_takes

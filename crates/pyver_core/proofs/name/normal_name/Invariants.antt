@@ -1,0 +1,7 @@
+use Rattle.std.proofs.Common.{◌≡◌, ◌++◌, string_bytes}
+use Rattle.pyver_core.proofs.Collapse.{collapse}
+use Rattle.pyver_core.specs.Names.{norm}
+use Rattle.pyver_core.proofs.name.normal_name.Given as goal
+
+abbrev pub invariant-loop-character : goal.invariant-loop-character
+invariant-loop-character l = string_bytes l.name ++ collapse l.in_run l.character-iterator.rest.now ≡ norm l.fn.text

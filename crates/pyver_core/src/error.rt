@@ -1,0 +1,65 @@
+//! Why a text is refused.
+
+ghost use Rattle.std.specs.Prelude.{◌≡◌};
+ghost use Rattle.pyver_core.specs.declared.error.SpecifierError.TheVariants as specifier;
+ghost use Rattle.pyver_core.specs.declared.error.VersionError.TheVariants as version;
+
+use std::alloc::{AllocError, AllocFailed};
+use thiserror::Error;
+
+/// Why a text isn't taken as a version.
+#[derive(Debug, Drop, Error)]
+pub enum VersionError {
+    /// The text doesn't follow the grammar of PEP 440, "Version scheme".
+    #[error("syntax")]
+    Syntax,
+    /// The text follows the grammar, and one of its numbers is past [`u128::MAX`].
+    #[error("number")]
+    NumberTooLarge,
+    /// There was no memory for the version.
+    #[error("memory")]
+    Memory,
+}
+
+/// Why a text isn't taken as a specifier set.
+#[derive(Debug, Drop)]
+pub enum SpecifierError {
+    /// The text doesn't follow the grammar of PEP 440, "Version specifiers".
+    Syntax,
+    /// The text follows the grammar, and one of its numbers is past [`u128::MAX`].
+    NumberTooLarge,
+    /// There was no memory for the set.
+    Memory,
+}
+
+impl From<AllocError> for VersionError {
+    ghost from_gives = { λ _ e. e ≡ version.Memory };
+
+    fn from(_refused: AllocError) -> VersionError {
+        VersionError::Memory
+    }
+}
+
+impl From<AllocError> for SpecifierError {
+    ghost from_gives = { λ _ e. e ≡ specifier.Memory };
+
+    fn from(_refused: AllocError) -> SpecifierError {
+        SpecifierError::Memory
+    }
+}
+
+impl<T: Drop> From<AllocFailed<T>> for VersionError {
+    ghost from_gives = { λ _ e. e ≡ version.Memory };
+
+    fn from(_refused: AllocFailed<T>) -> VersionError {
+        VersionError::Memory
+    }
+}
+
+impl<T: Drop> From<AllocFailed<T>> for SpecifierError {
+    ghost from_gives = { λ _ e. e ≡ specifier.Memory };
+
+    fn from(_refused: AllocFailed<T>) -> SpecifierError {
+        SpecifierError::Memory
+    }
+}

@@ -1,0 +1,51 @@
+//! Laws of the definitions alone: each function's contract is a law, and its body is empty.
+
+ghost use Rattle.std.specs.Prelude.{◌≡◌, ℕ, List, [], ◌∷◌, ◌++◌, Some, false, replicate, true};
+ghost use Rattle.std.specs.Char.{to_ascii_lowercase};
+ghost use Rattle.std.specs.List.{list_all};
+ghost use Rattle.pyver_core.specs.Parts.{Parts};
+ghost use Rattle.pyver_core.specs.Grammar.{Spells, is_separator, starts};
+ghost use Rattle.pyver_core.specs.Names.{norm};
+ghost use Rattle.pyver_core.specs.Normal.{normal};
+ghost use Rattle.pyver_core.specs.Order.{version_cmp};
+ghost use Rattle.pyver_core.specs.Reading.{version_of};
+ghost use Rattle.pyver_core.specs.SetGrammar.{SetText};
+ghost use Rattle.pyver_core.specs.declared.specifier.Specifier.{Specifier};
+
+/// A text spells at most one version, and so does the normal form of what it spells: the same one
+/// (PEP 440, "Normalization").
+pub fn one_spelling()
+    ensures once { (text : List ℕ) (p q : Parts) → Spells text p → Spells text q → p ≡ q }
+    ensures normal_form { (text : List ℕ) (p : Parts) → Spells text p → Spells (normal p) p }
+{}
+
+/// What [`Version::parse`](crate::Version::parse) reads, the text spells.
+pub fn version_of_spells()
+    ensures { (text : List ℕ) (p : Parts) → version_of text ≡ Some p → Spells text p }
+{}
+
+/// What a text spells, [`Version::parse`](crate::Version::parse) reads.
+pub fn version_of_is_complete()
+    ensures { (text : List ℕ) (p : Parts) → Spells text p → version_of text ≡ Some p }
+{}
+
+/// A text writes at most one specifier set.
+pub fn one_specifier_set()
+    ensures { (text : List ℕ) (s t : List Specifier) → SetText text s → SetText text t → s ≡ t }
+{}
+
+/// Zeros at the end of a release make no difference to the order of versions.
+pub fn trailing_zeros_are_no_difference()
+    ensures { (v w : Parts) (n : ℕ)
+        → version_cmp (record v { release = v.release ++ replicate n 0 }) w ≡ version_cmp v w }
+{}
+
+/// The normal form of a name, read from the left: a run of separators that no separator follows is one
+/// `-`, and any other byte is itself in lower case.
+pub fn runs_become_one_dash()
+    ensures empty { norm [] ≡ [] }
+    ensures run { (b : ℕ) (run rest : List ℕ) → list_all is_separator (b ∷ run) ≡ true
+        → starts is_separator rest ≡ false → norm ((b ∷ run) ++ rest) ≡ 45 ∷ norm rest }
+    ensures other { (b : ℕ) (rest : List ℕ) → is_separator b ≡ false
+        → norm (b ∷ rest) ≡ to_ascii_lowercase b ∷ norm rest }
+{}

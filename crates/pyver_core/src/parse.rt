@@ -1,0 +1,42 @@
+//! Versions from their texts.
+
+ghost use Rattle.std.specs.Prelude.{◌≡◌, IfOk, IsErrOf};
+ghost use Rattle.pyver_core.specs.Answer.{Answers};
+ghost use Rattle.pyver_core.specs.Grammar.{Spells, IsLarge};
+ghost use Rattle.pyver_core.specs.Parts.{Parts};
+ghost use Rattle.pyver_core.specs.Reading.{version_of};
+
+use crate::error::VersionError;
+use crate::reading::read_version;
+use crate::version::Version;
+use std::alloc::Global;
+
+impl Version {
+    /// The version that the text spells (PEP 440, "Version scheme").
+    ///
+    /// Letter case, alternative spellings and leading zeros don't matter, and white space (TAB, LF, VT,
+    /// FF, CR, space) may stand at both ends. `NumberTooLarge` is answered only to a text that follows
+    /// the grammar as a whole, so `Syntax` comes first. A refusal as `Syntax` takes no memory; a version
+    /// takes that of its release, its local part and its normal form.
+    pub fn parse(alloc: Global, text: &str) -> Result<Version, VersionError>
+        ensures ok { IfOk result (λ v. Spells text.now v) }
+        ensures fits { IfOk result (λ v. IsLarge v → ⊥) }
+
+        ensures syntax { IsErrOf result VersionError.Syntax → (p : Parts) → Spells text.now p → ⊥ }
+        ensures large { IsErrOf result VersionError.NumberTooLarge → (p : Parts) × Spells text.now p × IsLarge p }
+
+        // The same, over the one answer of the grammar.
+        ensures exact { Answers result (version_of text.now) }
+    {
+        read_whole(alloc, text.as_bytes())
+    }
+}
+
+fn read_whole(alloc: Global, bytes: &[u8]) -> Result<Version, VersionError>
+    ensures { Answers result (version_of bytes.now) }
+{
+    match read_version(bytes) {
+        Some(draft) => draft.to_version(alloc),
+        None => Err(VersionError::Syntax),
+    }
+}

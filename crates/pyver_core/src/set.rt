@@ -1,0 +1,67 @@
+//! Specifier sets (PEP 440, "Version specifiers").
+
+ghost use Rattle.std.specs.Prelude.{◌≡◌, IfOk};
+ghost use Rattle.pyver_core.specs.SpecifierText.{set_text};
+ghost use Rattle.pyver_core.specs.Specifiers.{admits_all};
+
+use crate::set_text::set_text;
+use crate::specifier::Specifier;
+use crate::version::Version;
+use std::alloc::{AllocError, Global};
+use std::marker::Model;
+
+/// Specifiers that all have to hold, kept in the order in which they were written, with their normal
+/// form. The empty set admits every version.
+///
+/// Contracts see the list of the specifiers, since the normal form follows from it.
+#[derive(Debug, Drop)]
+pub struct SpecifierSet {
+    items: Vec<Specifier>,
+    text: String,
+}
+
+impl Model for SpecifierSet {
+    ghost use Rattle.std.specs.Prelude.{◌≡◌, List, string_bytes};
+    ghost use Rattle.pyver_core.specs.SpecifierText.{set_text};
+    ghost use Rattle.pyver_core.specs.declared.specifier.Specifier.{Specifier};
+
+    ghost Value = { List Specifier };
+
+    ghost view = { λ set. set.items.items };
+
+    ghost invariant = { λ set. string_bytes set.text ≡ set_text set.items.items };
+}
+
+impl SpecifierSet {
+    /// The set of these specifiers.
+    pub(crate) fn from_items(
+        alloc: Global,
+        items: Vec<Specifier>,
+    ) -> Result<SpecifierSet, AllocError>
+        ensures { IfOk result (λ set. set ≡ items.items) }
+    {
+        let text = set_text(alloc, &items)?;
+        Ok(SpecifierSet { items, text })
+    }
+
+    /// The specifiers in the order in which they were written.
+    pub fn items(&self) -> &[Specifier]
+        ensures { result.now ≡ self.now }
+    {
+        &self.items
+    }
+
+    /// The normal form: the specifiers in order, joined by commas.
+    pub fn text(&self) -> &str
+        ensures { result.now ≡ set_text self.now }
+    {
+        self.text.as_str()
+    }
+
+    /// Whether each of the specifiers admits the version. It takes no memory.
+    pub fn admits(&self, version: &Version) -> bool
+        ensures { result ≡ admits_all self.now version.now }
+    {
+        self.items.iter().all(|specifier| specifier.admits(version))
+    }
+}

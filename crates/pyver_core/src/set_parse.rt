@@ -1,0 +1,90 @@
+//! Specifier sets from their texts.
+
+ghost use Rattle.std.specs.Prelude.{◌≡◌, List, ◌∷◌, ◌++◌, [], IfOk, IsErrOf, MatchBool, true, false};
+ghost use Rattle.pyver_core.specs.Grammar.{has_large};
+ghost use Rattle.pyver_core.specs.SetAnswer.{AnswersSet};
+ghost use Rattle.pyver_core.specs.SetGrammar.{IsLargeSet, SetText, specifier_numbers};
+ghost use Rattle.pyver_core.specs.SetReading.{set_of};
+ghost use Rattle.pyver_core.specs.Specified.{specified};
+ghost use Rattle.pyver_core.specs.declared.specifier.Specifier.{Specifier};
+
+use crate::error::{SpecifierError, VersionError};
+use crate::reading::{SpecifierDraft, is_blank, read_specifier};
+use crate::set::SpecifierSet;
+use crate::specifier::Specifier;
+use std::alloc::{AllocError, Global};
+
+impl SpecifierSet {
+    /// The set that the text writes (PEP 440, "Version specifiers"): specifiers with commas between them,
+    /// in any of the forms of their operators and versions.
+    ///
+    /// White space (TAB, LF, VT, FF, CR, space) may stand round each operator and operand, and pieces of
+    /// white space alone are passed over. `NumberTooLarge` is answered only to a text that follows the
+    /// grammar as a whole, so `Syntax` comes first. A set takes memory for its specifiers and its normal
+    /// form.
+    pub fn parse(alloc: Global, text: &str) -> Result<SpecifierSet, SpecifierError>
+        ensures ok { IfOk result (λ set. SetText text.now set) }
+        ensures fits { IfOk result (λ set. IsLargeSet set → ⊥) }
+
+        ensures syntax { IsErrOf result SpecifierError.Syntax → (s : List Specifier) → SetText text.now s → ⊥ }
+        ensures large { IsErrOf result SpecifierError.NumberTooLarge
+            → (s : List Specifier) × SetText text.now s × IsLargeSet s }
+
+        // The same, over the one answer of the grammar.
+        ensures exact { AnswersSet (λ set. set) result (set_of text.now) }
+    {
+        read_set(alloc, text)
+    }
+}
+
+fn read_set(alloc: Global, text: &str) -> Result<SpecifierSet, SpecifierError>
+    ensures { AnswersSet (λ set. set) result (set_of text.now) }
+{
+    let items = read_items(alloc, text)?;
+    Ok(SpecifierSet::from_items(alloc, items)?)
+}
+
+/// The specifiers of a set. A number past the limit is answered only once the whole text was read.
+fn read_items(alloc: Global, text: &str) -> Result<Vec<Specifier>, SpecifierError>
+    ensures { AnswersSet (λ items. items.items) result (set_of text.now) }
+{
+    let mut items = Vec::new(alloc);
+    let mut is_large = false;
+    for piece in text.split(',') {
+        if is_blank(piece.as_bytes()) {
+            continue;
+        }
+        let Some(draft) = read_specifier(piece) else {
+            return Err(SpecifierError::Syntax);
+        };
+        let is_within = push_within_limit(alloc, &mut items, &draft)?;
+        if !is_within {
+            is_large = true;
+        }
+    }
+    if is_large {
+        return Err(SpecifierError::NumberTooLarge);
+    }
+    Ok(items)
+}
+
+/// Puts the specifier behind the others and answers true, or answers false where one of its numbers is
+/// past the limit.
+fn push_within_limit(
+    alloc: Global,
+    items: &mut Vec<Specifier>,
+    draft: &SpecifierDraft<'_>,
+) -> Result<bool, AllocError>
+    ensures { IfOk result (λ is_within. MatchBool is_within
+        ((items.new.items ≡ items.old.items ++ specified draft.now ∷ []) × (has_large (specifier_numbers (specified draft.now)) ≡ false))
+        (has_large (specifier_numbers (specified draft.now)) ≡ true)) }
+{
+    match draft.to_specifier(alloc) {
+        Ok(specifier) => {
+            items.push(specifier)?;
+            Ok(true)
+        }
+        Err(VersionError::NumberTooLarge) => Ok(false),
+        Err(VersionError::Syntax | VersionError::Memory) => Err(AllocError),
+    }
+}

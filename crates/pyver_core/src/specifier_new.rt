@@ -1,0 +1,54 @@
+//! Specifiers from an operator and the text of an operand.
+
+ghost use Rattle.std.specs.Prelude.{◌≡◌, IfOk, IsErrOf, IsTrue};
+ghost use Rattle.pyver_core.specs.Grammar.{has_large};
+ghost use Rattle.pyver_core.specs.SetAnswer.{AnswersSpecifier};
+ghost use Rattle.pyver_core.specs.SetGrammar.{IsOperand, specifier_numbers};
+ghost use Rattle.pyver_core.specs.SetReading.{operand_of};
+ghost use Rattle.pyver_core.specs.SpecifierText.{operator_of};
+ghost use Rattle.pyver_core.specs.declared.specifier.Specifier.{Specifier};
+
+use crate::error::{SpecifierError, VersionError};
+use crate::reading::read_operand;
+use crate::specifier::{Operator, Specifier};
+use std::alloc::Global;
+
+impl Specifier {
+    /// The specifier with this operator and operand (PEP 440, "Version specifiers").
+    ///
+    /// White space (TAB, LF, VT, FF, CR, space) may stand round the operand. `NumberTooLarge` is answered
+    /// only to an operand that follows the grammar, so `Syntax` comes first. A refusal as `Syntax` takes
+    /// no memory.
+    pub fn new(
+        alloc: Global,
+        operator: Operator,
+        operand: &str,
+    ) -> Result<Specifier, SpecifierError>
+        ensures ok { IfOk result (λ s. (operator_of s ≡ operator) × IsOperand operand.now s) }
+        ensures fits { IfOk result (λ s. IsTrue (has_large (specifier_numbers s)) → ⊥) }
+
+        ensures syntax { IsErrOf result SpecifierError.Syntax
+            → (s : Specifier) → operator_of s ≡ operator → IsOperand operand.now s → ⊥ }
+        ensures large { IsErrOf result SpecifierError.NumberTooLarge
+            → (s : Specifier) × (operator_of s ≡ operator) × IsOperand operand.now s
+            × IsTrue (has_large (specifier_numbers s)) }
+
+        // The same, over the one answer of the grammar.
+        ensures exact { AnswersSpecifier result (operand_of operator operand.now) }
+    {
+        read_one(alloc, operator, operand)
+    }
+}
+
+fn read_one(alloc: Global, operator: Operator, operand: &str) -> Result<Specifier, SpecifierError>
+    ensures { AnswersSpecifier result (operand_of operator operand.now) }
+{
+    let Some(draft) = read_operand(operator, operand) else {
+        return Err(SpecifierError::Syntax);
+    };
+    match draft.to_specifier(alloc) {
+        Ok(specifier) => Ok(specifier),
+        Err(VersionError::NumberTooLarge) => Err(SpecifierError::NumberTooLarge),
+        Err(VersionError::Syntax | VersionError::Memory) => Err(SpecifierError::Memory),
+    }
+}

@@ -1,0 +1,6 @@
+//! Worked examples of versions, their order, specifier sets and names.
+
+mod names;
+mod order;
+mod sets;
+mod versions;

@@ -1,0 +1,132 @@
+//! Specifier sets: what they admit, their text, their refusals. The candidates of each operator are those of
+//! PEP 440, "Version specifiers".
+
+use crate::{Operator, Specifier, SpecifierError, SpecifierSet, Version};
+use std::process::Abort;
+use std::test::Fail;
+
+fn check_admits<R: Abort + AllocGlobal>(
+    rt: &R,
+    set: &str,
+    version: &str,
+    admitted: bool,
+) -> Result<(), Fail> {
+    let set = SpecifierSet::parse(rt.alloc(), set)?;
+    let version = Version::parse(rt.alloc(), version)?;
+    assert!(rt;
+        set.admits(&version) == admitted,
+        "{} of {}",
+        set.text(),
+        version.text()
+    );
+    Ok(())
+}
+
+fn check_syntax<R: Abort + AllocGlobal>(rt: &R, text: &str) {
+    let refused = SpecifierSet::parse(rt.alloc(), text);
+    assert!(rt; matches!(refused, Err(SpecifierError::Syntax)), "{text}");
+}
+
+#[test]
+fn match_compatible_and_prefix(rt: HostRuntime) -> Result<(), Fail> {
+    for (version, admitted) in [
+        ("2.2.post3", true),
+        ("2.9", true),
+        ("2.2", false),
+        ("3.0", false),
+    ] {
+        check_admits(&rt, "~=2.2.post3", version, admitted)?;
+    }
+    check_admits(&rt, "==1.*", "1a1", true)?;
+    check_admits(&rt, "", "1", true)?;
+    check_syntax(&rt, "~=1");
+    Ok(())
+}
+
+#[test]
+fn match_local_post_arbitrary(rt: HostRuntime) -> Result<(), Fail> {
+    for (set, version, admitted) in [
+        ("<3.1", "3.1.dev0", false),
+        (">1.7", "1.7.0.post1", false),
+        (">1.7", "1.7+x", false),
+        ("==3.1", "3.1+x", true),
+        ("===1.0RC1", "1.0-rc.1", true),
+        ("===1.0", "1", false),
+        ("!=1.*", "2", true),
+        ("!=1.*", "1.5", false),
+    ] {
+        check_admits(&rt, set, version, admitted)?;
+    }
+    Ok(())
+}
+
+#[test]
+fn candidates_of_the_standard(rt: HostRuntime) -> Result<(), Fail> {
+    for (set, version, admitted) in [
+        ("== 1.1", "1.1.post1", false),
+        ("== 1.1.post1", "1.1.post1", true),
+        ("== 1.1.*", "1.1.post1", true),
+        ("== 1.1", "1.1a1", false),
+        ("== 1.1a1", "1.1a1", true),
+        ("== 1.1.*", "1.1a1", true),
+        ("== 1.1", "1.1.0", true),
+        ("== 1.1", "1.1.dev1", false),
+        ("!= 1.1", "1.1.post1", true),
+        ("!= 1.1.post1", "1.1.post1", false),
+        ("!= 1.1.*", "1.1.post1", false),
+        (">1.7", "1.7.1", true),
+        (">1.7", "1.7.0.post1", false),
+        (">1.7.post2", "1.7.1", true),
+        (">1.7.post2", "1.7.0.post3", true),
+        (">1.7.post2", "1.7.0", false),
+        ("<=1.7", "1.7+x", true),
+        (">=1.7", "1.7.dev1", false),
+        ("~= 1.4.5a4", "1.4.5a4", true),
+        ("~= 1.4.5a4", "1.5", false),
+        ("~= 2.2.0", "2.3", false),
+    ] {
+        check_admits(&rt, set, version, admitted)?;
+    }
+    Ok(())
+}
+
+#[test]
+fn specifier_set_text(rt: HostRuntime) -> Result<(), Fail> {
+    let set = SpecifierSet::parse(rt.alloc(), " >= 2.8.1 ,, == v1!2.0.* ")?;
+    assert_eq!(rt; set.items().len(), 2);
+    assert_eq!(rt; set.text(), ">=2.8.1,==1!2.0.*");
+    SpecifierSet::parse(rt.alloc(), "<18446744073709551616")?;
+    let refused = SpecifierSet::parse(rt.alloc(), "<340282366920938463463374607431768211456");
+    assert!(rt; matches!(refused, Err(SpecifierError::NumberTooLarge)));
+    for text in [
+        "<340282366920938463463374607431768211456,~=1",
+        "<18446744073709551616,~=1",
+        ">1+x",
+        "==1a.*",
+        "==1 .*",
+        "===",
+    ] {
+        check_syntax(&rt, text);
+    }
+    Ok(())
+}
+
+#[test]
+fn parts_of_a_specifier(rt: HostRuntime) -> Result<(), Fail> {
+    let set = SpecifierSet::parse(rt.alloc(), "==1!2.0.*,====1,~=2.2")?;
+    for (item, operator) in set.items().iter().zip(["==", "===", "~="]) {
+        assert_eq!(rt; item.operator().as_str(), operator);
+    }
+    assert_eq!(rt; set.text(), "==1!2.0.*,====1,~=2.2");
+    Ok(())
+}
+
+#[test]
+fn operand_under_its_own_operator(rt: HostRuntime) -> Result<(), Fail> {
+    let version = Version::parse(rt.alloc(), "1.0")?;
+    let specifier = Specifier::new(rt.alloc(), Operator::Equal, " 1.* ")?;
+    assert!(rt; specifier.admits(&version));
+    let refused = Specifier::new(rt.alloc(), Operator::Equal, "=1");
+    assert!(rt; matches!(refused, Err(SpecifierError::Syntax)));
+    Ok(())
+}

@@ -1,0 +1,172 @@
+//! Versions and their readers.
+
+ghost use Rattle.std.specs.Prelude.{◌≡◌, ◌≢◌, [], IfOk};
+ghost use Rattle.pyver_core.specs.Borrowed.{parts_of};
+ghost use Rattle.pyver_core.specs.Normal.{normal};
+ghost use Rattle.pyver_core.specs.Parts.{is_postrelease, is_prerelease};
+
+use crate::part::{LocalPart, PreKind};
+use crate::parts::PartsRef;
+use crate::text::normal_text;
+use std::alloc::{AllocError, Global};
+use std::marker::Model;
+
+/// A version of a Python package (PEP 440), kept as its parts and its normal form.
+///
+/// Contracts see the parts alone, since the normal form follows from them.
+#[derive(Debug, Drop)]
+pub struct Version {
+    epoch: u128,
+    release: Vec<u128>,
+    pre: Option<(PreKind, u128)>,
+    post: Option<u128>,
+    dev: Option<u128>,
+    local: Vec<LocalPart>,
+    text: String,
+}
+
+impl Model for Version {
+    ghost use Rattle.std.specs.Prelude.{◌≡◌, ◌≢◌, [], string_bytes};
+    ghost use Rattle.pyver_core.specs.Parts.{Parts};
+    ghost use Rattle.pyver_core.specs.Normal.{normal};
+
+    ghost Value = { Parts };
+
+    ghost view = { λ v. record {
+      epoch = v.epoch;
+      release = v.release.items;
+      pre = v.pre;
+      post = v.post;
+      dev = v.dev;
+      local = v.local.items;
+    } };
+
+    ghost invariant = { λ v. (v.release.items ≢ []) × (string_bytes v.text ≡ normal (record {
+      epoch = v.epoch;
+      release = v.release.items;
+      pre = v.pre;
+      post = v.post;
+      dev = v.dev;
+      local = v.local.items;
+    })) };
+}
+
+impl Version {
+    /// The version with these parts. `release` is not empty.
+    pub(crate) fn from_parts(
+        alloc: Global,
+        epoch: u128,
+        release: Vec<u128>,
+        pre: Option<(PreKind, u128)>,
+        post: Option<u128>,
+        dev: Option<u128>,
+        local: Vec<LocalPart>,
+    ) -> Result<Version, AllocError>
+        requires { release.items ≢ [] }
+        ensures { IfOk result (λ v. v ≡ record {
+          epoch = epoch;
+          release = release.items;
+          pre = pre;
+          post = post;
+          dev = dev;
+          local = local.items;
+        }) }
+    {
+        let parts = PartsRef {
+            epoch,
+            release: &release,
+            pre,
+            post,
+            dev,
+            local: &local,
+        };
+        let text = normal_text(alloc, &parts)?;
+        Ok(Version {
+            epoch,
+            release,
+            pre,
+            post,
+            dev,
+            local,
+            text,
+        })
+    }
+
+    /// The parts, lent.
+    pub(crate) fn parts(&self) -> PartsRef<'_>
+        ensures { parts_of result ≡ self.now }
+    {
+        PartsRef {
+            epoch: self.epoch,
+            release: &self.release,
+            pre: self.pre,
+            post: self.post,
+            dev: self.dev,
+            local: &self.local,
+        }
+    }
+
+    /// The epoch, 0 where none is written.
+    pub fn epoch(&self) -> u128
+        ensures { result ≡ self.now.epoch }
+    {
+        self.epoch
+    }
+
+    /// The numbers of the release, of which there is at least one.
+    pub fn release(&self) -> &[u128]
+        ensures value { result.now ≡ self.now.release }
+        ensures not_empty { result.now ≢ [] }
+    {
+        &self.release
+    }
+
+    /// The letter and the number of a pre-release.
+    pub fn pre(&self) -> Option<(PreKind, u128)>
+        ensures { result ≡ self.now.pre }
+    {
+        self.pre
+    }
+
+    /// The number of a post-release.
+    pub fn post(&self) -> Option<u128>
+        ensures { result ≡ self.now.post }
+    {
+        self.post
+    }
+
+    /// The number of a developmental release.
+    pub fn dev(&self) -> Option<u128>
+        ensures { result ≡ self.now.dev }
+    {
+        self.dev
+    }
+
+    /// The segments of the local part, none where there is no local part.
+    pub fn local(&self) -> &[LocalPart]
+        ensures { result.now ≡ self.now.local }
+    {
+        &self.local
+    }
+
+    /// The normal form (PEP 440, "Normalization").
+    pub fn text(&self) -> &str
+        ensures { result.now ≡ normal self.now }
+    {
+        self.text.as_str()
+    }
+
+    /// Whether the version has a pre or a dev part (PEP 440, "Pre-releases").
+    pub fn is_prerelease(&self) -> bool
+        ensures { result ≡ is_prerelease self.now }
+    {
+        self.pre.is_some() || self.dev.is_some()
+    }
+
+    /// Whether the version has a post part (PEP 440, "Post-releases").
+    pub fn is_postrelease(&self) -> bool
+        ensures { result ≡ is_postrelease self.now }
+    {
+        self.post.is_some()
+    }
+}
