@@ -239,6 +239,12 @@ mod tests {
         assert!(rt; matches!(task, Task::Select("a", "b")));
         let task = command(rt.alloc(), &["pylock", "select", "--", "-a", "-b"])?;
         assert!(rt; matches!(task, Task::Select("-a", "-b")));
+        let task = command(rt.alloc(), &["pylock", "name", "--", "-a"])?;
+        assert!(rt; matches!(task, Task::Name("-a")));
+        let task = command(rt.alloc(), &["pylock", "version", "1"])?;
+        assert!(rt; matches!(task, Task::Version("1")));
+        let task = command(rt.alloc(), &["pylock", "match", "", "1"])?;
+        assert!(rt; matches!(task, Task::Match("", "1")));
         Ok(())
     }
 
@@ -248,6 +254,7 @@ mod tests {
             ["pylock", "fly", "a"].as_slice(),
             &["pylock", "select", "a"],
             &["pylock", "select", "a", "b", "c"],
+            &["pylock", "match", "a"],
         ] {
             let refused = command(rt.alloc(), words);
             assert!(rt; matches!(refused, Err(CommandError::Refused(_))));

@@ -16,6 +16,9 @@ mod run;
 mod streams;
 mod writing;
 
+#[cfg(test)]
+mod growths;
+
 use crate::command::{CommandError, Task, command};
 use crate::fault::RunFault;
 use crate::files::{FileFault, read_whole};

@@ -123,3 +123,6 @@ fn push_refusal(out: &mut Vec<u8>, word: &str) -> Result<u8, AllocError>
     out.push(b'\n')?;
     Ok(1)
 }
+
+#[cfg(test)]
+mod tests;

@@ -1,5 +1,6 @@
 //! Worked examples of versions, their order, specifier sets and names.
 
+mod growths;
 mod names;
 mod order;
 mod sets;

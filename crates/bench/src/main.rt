@@ -1,0 +1,26 @@
+//! Times the libraries beside what stands next to them in the kit. It measures, and tests nothing.
+#![tactic(auto)]
+
+mod clock;
+mod locks;
+mod versions;
+
+use std::alloc::AllocError;
+use std::env;
+use std::fs;
+
+const USAGE: &str = "bench versions    nanoseconds for each parse, comparison and match of versions, beside semver
+bench lock FILE   milliseconds for reading a lock, beside toml alone
+";
+
+fn main(rt: HostRuntime) -> anyhow::Result<()> {
+    let words: Vec<String> = env::args(&rt)?.skip(1).collect(rt.alloc())?;
+    match words.as_slice() {
+        [word] if word.as_str() == "versions" => versions::time_versions(&rt),
+        [word, file] if word.as_str() == "lock" => {
+            let bytes = fs::read(&rt, file.as_str())?;
+            locks::time_lock(&rt, &bytes)
+        }
+        _ => Ok(rt.print(USAGE)?),
+    }
+}
