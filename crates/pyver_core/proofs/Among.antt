@@ -1,5 +1,5 @@
 -- The search for an operator, one operator after the other.
-use Rattle.std.proofs.Common.{◌≡◌, ℕ, suc, ◌+◌, ◌<◌, List, [], ◌∷◌, length, drop, get_or, Option, Some, None, refl, ap, ◌∙◌, drop-cons, add-one}
+use Rattle.std.proofs.Common.{◌≡◌, ℕ, suc, ◌+◌, ◌<◌, List, ◌∷◌, length, drop, get_or, Some, None, refl, ap, ◌∙◌, drop-cons, add-one}
 use Rattle.pyver_core.specs.SetReading.{behind_operator, operator_among}
 use Rattle.pyver_core.specs.declared.specifier.Operator.{Operator}
 use Rattle.pyver_core.specs.declared.specifier.Operator.TheVariants.{Equal}

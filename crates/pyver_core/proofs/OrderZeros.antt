@@ -1,9 +1,8 @@
 -- Zeros at the end of a release make no difference to the order of versions.
 use Rattle.std.proofs.Common.{◌≡◌, ℕ, zero, suc, List, [], ◌∷◌, ◌++◌, replicate, refl, sym, ap, ◌∙◌}
 use Rattle.std.specs.Cmp.Lexicographic.{slice_cmp}
-use Rattle.std.specs.Ordering.{nat_cmp, ordering_then}
-use Rattle.std.specs.declared.cmp.Ordering.{Ordering}
-use Rattle.pyver_core.specs.Order.{in_turn, release_cmp, version_cmp}
+use Rattle.std.specs.Ordering.{nat_cmp}
+use Rattle.pyver_core.specs.Order.{release_cmp, version_cmp}
 use Rattle.pyver_core.specs.Parts.{Parts}
 use Rattle.pyver_core.specs.Stripped.{ahead, release_cmp_stripped, stripped}
 

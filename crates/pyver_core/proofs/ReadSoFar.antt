@@ -1,11 +1,9 @@
 -- Reading the pieces of a set one after the other.
-use Rattle.std.proofs.Common.{◌≡◌, ℕ, Bool, true, false, List, [], ◌∷◌, ◌++◌, Option, Some, None, refl, sym, ap, subst, ◌∙◌, append_assoc, append-nil}
+use Rattle.std.proofs.Common.{◌≡◌, ℕ, Bool, true, false, List, [], ◌∷◌, ◌++◌, Option, Some, None, refl, sym, ap, ◌∙◌, append_assoc, append-nil}
 use Rattle.std.specs.Prelude.{◌||◌, flat_map, option_map, IsTrue}
-use Rattle.std.specs.Iterator.{AlwaysYields}
 use Rattle.std.specs.List.{list_all}
 use Rattle.std.proofs.lemmas.Grind.{flat_map-append}
 use Rattle.std.proofs.lemmas.Iterator.{YieldsList}
-use Rattle.std.proofs.lemmas.Option.{same_Some}
 use Rattle.pyver_core.specs.Grammar.{has_large, is_white}
 use Rattle.pyver_core.specs.SetGrammar.{IsLargeSet, specifier_numbers}
 use Rattle.pyver_core.specs.SetReading.{specifier_of, specifiers_of}

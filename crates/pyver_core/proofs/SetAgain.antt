@@ -1,6 +1,6 @@
 -- A specifier set that a text writes is read again.
-use Rattle.std.proofs.Common.{◌≡◌, ℕ, ◌<◌, ◌≤◌, Bool, true, false, List, [], ◌∷◌, ◌++◌, length, take, drop, Option, Some, None, refl, sym, ap, subst, ◌∙◌, arith, inl, inr}
-use Rattle.std.specs.Prelude.{◌==◌, ◌&&◌, codes, nat_eq, nat_le, nat_lt, option_map}
+use Rattle.std.proofs.Common.{◌≡◌, ℕ, ◌<◌, ◌≤◌, Bool, true, false, List, [], ◌∷◌, ◌++◌, length, take, drop, Some, None, refl, sym, ap, ◌∙◌, arith, inl, inr}
+use Rattle.std.specs.Prelude.{◌==◌, ◌&&◌, codes, nat_eq, nat_le, nat_lt}
 use Rattle.std.specs.Char.{is_ascii_digit}
 use Rattle.std.specs.List.{list_all, prefix_len, starts_with}
 use Rattle.std.proofs.lemmas.Bool.Decides.{nat_tests}
@@ -9,9 +9,9 @@ use Rattle.std.proofs.lemmas.Option.{same_Some}
 use Rattle.pyver_core.specs.Grammar.{Spells, is_white, starts}
 use Rattle.pyver_core.specs.Parts.{Parts}
 use Rattle.pyver_core.specs.Prefix.{Prefix}
-use Rattle.pyver_core.specs.Reading.{added_at, after_white, base_at, dashed_at, dashed_or_tagged_post_at, dotted_at, either, local_at, parts_at, post_word_at, pre_word_at, tagged_dev_at, tagged_post_at, tagged_pre_at, version_of}
+use Rattle.pyver_core.specs.Reading.{added_at, after_white, base_at, dashed_at, dashed_or_tagged_post_at, dotted_at, local_at, parts_at, post_word_at, pre_word_at, tagged_dev_at, tagged_post_at, tagged_pre_at, version_of}
 use Rattle.pyver_core.specs.SetGrammar.{ArePieces, IsOperand, IsSpecifier, SetText, SpellsArbitrary, SpellsPrefix, blank_piece, is_arbitrary, no_piece, specifier_piece}
-use Rattle.pyver_core.specs.SetReading.{arbitrary_of, behind_operator, compatible_of, is_star, operand_of, operator_among, operator_at, prefix_of, public_of, set_of, specifier_of, specifiers_of}
+use Rattle.pyver_core.specs.SetReading.{arbitrary_of, compatible_of, is_star, operand_of, operator_at, prefix_of, public_of, set_of, specifier_of, specifiers_of}
 use Rattle.pyver_core.specs.SpecifierText.{operator_of, operator_text}
 use Rattle.pyver_core.specs.declared.specifier.Operator.{Operator}
 use Rattle.pyver_core.specs.declared.specifier.Operator.TheVariants as operator
@@ -19,7 +19,7 @@ use Rattle.pyver_core.specs.declared.specifier.Specifier.{Specifier}
 use Rattle.pyver_core.specs.declared.specifier.Specifier.TheVariants.{Equal, EqualPrefix, NotEqual, NotEqualPrefix, AtMost, AtLeast, Before, After, Compatible, Arbitrary}
 use Rattle.pyver_core.proofs.Again.{dropped_exact, prefix_len_exact, starts_all, taken_exact, white_again}
 use Rattle.pyver_core.proofs.AgainVersion.{base_again, body_digit, prefix_not_white, version_again}
-use Rattle.pyver_core.proofs.SetTakes.{prefix_of_takes, set_takes}
+use Rattle.pyver_core.proofs.SetTakes.{prefix_of_takes}
 use Rattle.pyver_core.proofs.Sight.{option_sight, sight}
 
 -- ---- operators

@@ -1,5 +1,5 @@
 -- What parsing a specifier set answers, over the grammar.
-use Rattle.std.proofs.Common.{◌≡◌, List, ℕ, Option, Some, None, Result, Ok, Err, sym, ◌∙◌}
+use Rattle.std.proofs.Common.{◌≡◌, List, ℕ, Some, None, Result, Ok, Err, sym, ◌∙◌}
 use Rattle.std.specs.Prelude.{IfOk, IsErrOf}
 use Rattle.pyver_core.specs.SetAnswer.{AnswersSet}
 use Rattle.pyver_core.specs.SetGrammar.{IsLargeSet, SetText}

@@ -1,8 +1,8 @@
 -- A release has two numbers or more where a dot and a number stand behind the first.
-use Rattle.std.proofs.Common.{◌≡◌, ℕ, suc, ◌≤◌, Bool, true, List, [], ◌∷◌, length, Option, Some, None, refl, sym, ap, ◌∙◌, arith, inl, inr}
+use Rattle.std.proofs.Common.{◌≡◌, ℕ, true, List, ◌∷◌, length, Option, Some, None, refl, arith, inl, inr}
 use Rattle.std.specs.Prelude.{is_some, nat_le, option_map}
 use Rattle.std.proofs.lemmas.Bool.Decides.{nat_tests}
-use Rattle.pyver_core.specs.Reading.{dotted_at, many_at, onto}
+use Rattle.pyver_core.specs.Reading.{dotted_at, many_at}
 use Rattle.pyver_core.proofs.Many.{dotted_shrinks, many_at-none, many_at-some}
 use Rattle.pyver_core.proofs.Sight.{option_sight}
 

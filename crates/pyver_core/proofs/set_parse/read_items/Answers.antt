@@ -1,4 +1,4 @@
-use Rattle.std.proofs.Common.{arith, ◌≡◌, ◌∙◌, ◌∷◌, Bool, Bor, List, ℕ, Option, None, Some, ap, sym, subst, true, false}
+use Rattle.std.proofs.Common.{arith, ◌≡◌, ◌∙◌, ◌∷◌, Bool, Bor, List, ℕ, None, Some, ap, sym, subst, true, false}
 use Rattle.std.specs.List.{list_all, slice_split}
 use Rattle.std.specs.Prelude.{◌==◌}
 use Rattle.std.specs.Str.Iter.{split_steps}

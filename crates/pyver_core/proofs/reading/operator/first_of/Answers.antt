@@ -1,6 +1,5 @@
-use Rattle.std.proofs.Common.{◌≡◌, ◌∙◌, sym, ap, Option, List, ℕ, get_or, Some, None}
-use Rattle.std.specs.Prelude.{option_map}
-use Rattle.pyver_core.specs.SetReading.{behind_operator, operator_among}
+use Rattle.std.proofs.Common.{◌≡◌, ◌∙◌, sym, get_or, Some, None}
+use Rattle.pyver_core.specs.SetReading.{behind_operator}
 use Rattle.pyver_core.proofs.Among.{among-none, among-some}
 use Rattle.pyver_core.specs.declared.specifier.Operator.TheVariants.{Equal}
 use Rattle.pyver_core.proofs.reading.operator.first_of.Goals as goal

@@ -1,4 +1,3 @@
-use Rattle.std.proofs.Common.{◌≡◌}
 use Rattle.pyver_core.proofs.Boundaries.{stripped_prefix}
 use Rattle.pyver_core.proofs.reading.operator.past_operator.Goals as goal
 

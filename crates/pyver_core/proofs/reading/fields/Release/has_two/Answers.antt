@@ -1,4 +1,4 @@
-use Rattle.std.proofs.Common.{◌≡◌, ◌∙◌, List, ℕ, ap, sym, length}
+use Rattle.std.proofs.Common.{◌∙◌, List, ℕ, ap, sym, length}
 use Rattle.std.specs.Prelude.{is_some, nat_le}
 use Rattle.pyver_core.proofs.TwoNumbers.{is_some-option_map, two_numbers}
 use Rattle.pyver_core.proofs.reading.fields.Release.has_two.Goals as goal
