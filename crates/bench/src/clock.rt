@@ -9,13 +9,23 @@ pub const ROUNDS: u32 = 1_000_000;
 
 /// Prints the nanoseconds that each of [`ROUNDS`] rounds since `start` took. `seen` is what the rounds
 /// added up to, printed so that none of them can be left out.
-pub fn print_round<R: Clock + Print>(rt: &R, name: &str, start: Instant, seen: u64) -> io::Result<()> {
+pub fn print_round<R: Clock + Print>(
+    rt: &R,
+    name: &str,
+    start: Instant,
+    seen: u64,
+) -> io::Result<()> {
     let nanoseconds = start.elapsed(rt)?.as_nanos() / u128::from(ROUNDS);
     println!(rt; "{name}\t{nanoseconds} ns\t({seen})")
 }
 
 /// Prints the milliseconds since `start`.
-pub fn print_whole<R: Clock + Print>(rt: &R, name: &str, start: Instant, seen: u64) -> io::Result<()> {
+pub fn print_whole<R: Clock + Print>(
+    rt: &R,
+    name: &str,
+    start: Instant,
+    seen: u64,
+) -> io::Result<()> {
     let milliseconds = start.elapsed(rt)?.as_millis();
     println!(rt; "{name}\t{milliseconds} ms\t({seen})")
 }

@@ -6,10 +6,10 @@ mod locks;
 mod versions;
 
 use std::alloc::AllocError;
-use std::env;
-use std::fs;
+use std::{env, fs};
 
-const USAGE: &str = "bench versions    nanoseconds for each parse, comparison and match of versions, beside semver
+const USAGE: &str =
+    "bench versions    nanoseconds for each parse, comparison and match of versions, beside semver
 bench lock FILE   milliseconds for reading a lock, beside toml alone
 ";
 

@@ -15,6 +15,7 @@ const SEMANTIC: [&str; 4] = ["1.2.3", "10.20.30-rc.1", "2.0.0-alpha.7+build.5", 
 
 /// Versions to compare, and the same as `semver` writes them.
 const NEAR: [&str; 4] = ["1.2.3", "1.2.3rc1", "1.2.4", "1.2.4a1"];
+
 const SEMANTIC_NEAR: [&str; 4] = ["1.2.3", "1.2.3-rc.1", "1.2.4", "1.2.4-alpha.1"];
 
 /// Times a million of each call.
@@ -50,7 +51,12 @@ fn time_semantic_parse<R: Clock + Print + AllocGlobal>(rt: &R) -> anyhow::Result
 fn near<R: AllocGlobal>(rt: &R) -> anyhow::Result<[Version; 4]> {
     let [a, b, c, d] = NEAR;
     let alloc = rt.alloc();
-    Ok([Version::parse(alloc, a)?, Version::parse(alloc, b)?, Version::parse(alloc, c)?, Version::parse(alloc, d)?])
+    Ok([
+        Version::parse(alloc, a)?,
+        Version::parse(alloc, b)?,
+        Version::parse(alloc, c)?,
+        Version::parse(alloc, d)?,
+    ])
 }
 
 fn semantic_near<R: AllocGlobal>(rt: &R) -> anyhow::Result<[semver::Version; 4]> {

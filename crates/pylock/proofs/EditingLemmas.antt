@@ -25,10 +25,10 @@ pub bytes_text-append : (at : At) (xs ys : List ℕ) → bytes_text at (xs ++ ys
 bytes_text-append at [] ys = refl
 bytes_text-append at (x ∷ xs) ys =
     elim (x == 10) as (λ t. cond t (end_text at ++ bytes_text (end_line at) (xs ++ ys)) (bytes_text (keep_byte at x) (xs ++ ys))
-        ≡ cond t (end_text at ++ bytes_text (end_line at) xs) (bytes_text (keep_byte at x) xs)
-            ++ bytes_text (bytes_done (cond t (end_line at) (keep_byte at x)) xs) ys) [
-      true ↦ ap (λ t. end_text at ++ t) (bytes_text-append (end_line at) xs ys) ∙ sym (append_assoc (end_text at) _ _)
-    | false ↦ bytes_text-append (keep_byte at x) xs ys
+    ≡ cond t (end_text at ++ bytes_text (end_line at) xs) (bytes_text (keep_byte at x) xs)
+    ++ bytes_text (bytes_done (cond t (end_line at) (keep_byte at x)) xs) ys) [
+      | true ↦ ap (λ t. end_text at ++ t) (bytes_text-append (end_line at) xs ys) ∙ sym (append_assoc (end_text at) _ _)
+      | false ↦ bytes_text-append (keep_byte at x) xs ys
     ]
 
 -- what is kept of a line
@@ -69,8 +69,8 @@ command_of-long line long = rw (lt-ltb LINE_LIMIT (length line) long)
 pub command_of-kept : (line : List ℕ) → command_of (kept line) ≡ command_of line
 command_of-kept line = ⊎_elim
     (λ (long : LINE_LIMIT < length line).
-        let size : length (kept line) ≡ LINE_LIMIT + 1 = length-kept_long line long in
-        command_of-long (kept line) (omega arith) ∙ sym (command_of-long line long))
+    let size : length (kept line) ≡ LINE_LIMIT + 1 = length-kept_long line long in
+    command_of-long (kept line) (omega arith) ∙ sym (command_of-long line long))
     (λ (short : length line ≤ LINE_LIMIT). ap command_of (kept-short line (omega arith)))
     (cases_lt LINE_LIMIT (length line))
 
@@ -163,20 +163,20 @@ edits_on : (at : At) (front bytes : List ℕ) → at.line ≡ kept front
 edits_on at front [] has = edits_end at front has
 edits_on at front (b ∷ bytes) has =
     elim (b == 10) as (λ t. Edits at (finished (bytes_done (cond t (end_line at) (keep_byte at b)) bytes))
-        (cond t (end_text at ++ bytes_text (end_line at) bytes) (bytes_text (keep_byte at b) bytes) ++ finished_text (bytes_done (cond t (end_line at) (keep_byte at b)) bytes))
-        (with_front front (cond t ([] ∷ input_lines bytes) (onto_first b (input_lines bytes))))) [
-      true ↦
-        let ih = edits_on (end_line at) [] bytes (line-end_line at) in
-        let last = finished (bytes_done (end_line at) bytes) in
-        let more = Edits-more at last front _ _ has ih in
-        let joined = subst (λ t. Edits at last t (front ∷ with_front [] (input_lines bytes))) (sym (append_assoc (end_text at) (bytes_text (end_line at) bytes) (finished_text (bytes_done (end_line at) bytes)))) more in
-        subst (λ ls. Edits at last ((end_text at ++ bytes_text (end_line at) bytes) ++ finished_text (bytes_done (end_line at) bytes)) ls)
-            (ap (λ ls. front ∷ ls) (with_front-nil (input_lines bytes)) ∙ sym (with_front-ended front (input_lines bytes))) joined
-    | false ↦
-        let ih = edits_on (keep_byte at b) (front ++ b ∷ []) bytes (line-keep_byte at front b has) in
-        subst (λ ls. Edits at (finished (bytes_done (keep_byte at b) bytes)) (bytes_text (keep_byte at b) bytes ++ finished_text (bytes_done (keep_byte at b) bytes)) ls)
-            (sym (with_front-onto_first front b (input_lines bytes)))
-            record { prints = ih.prints; state = ih.state; refused = ih.refused; ended = ih.ended }
+    (cond t (end_text at ++ bytes_text (end_line at) bytes) (bytes_text (keep_byte at b) bytes) ++ finished_text (bytes_done (cond t (end_line at) (keep_byte at b)) bytes))
+    (with_front front (cond t ([] ∷ input_lines bytes) (onto_first b (input_lines bytes))))) [
+      | true ↦
+          let ih = edits_on (end_line at) [] bytes (line-end_line at) in
+          let last = finished (bytes_done (end_line at) bytes) in
+          let more = Edits-more at last front _ _ has ih in
+          let joined = subst (λ t. Edits at last t (front ∷ with_front [] (input_lines bytes))) (sym (append_assoc (end_text at) (bytes_text (end_line at) bytes) (finished_text (bytes_done (end_line at) bytes)))) more in
+          subst (λ ls. Edits at last ((end_text at ++ bytes_text (end_line at) bytes) ++ finished_text (bytes_done (end_line at) bytes)) ls)
+          (ap (λ ls. front ∷ ls) (with_front-nil (input_lines bytes)) ∙ sym (with_front-ended front (input_lines bytes))) joined
+      | false ↦
+          let ih = edits_on (keep_byte at b) (front ++ b ∷ []) bytes (line-keep_byte at front b has) in
+          subst (λ ls. Edits at (finished (bytes_done (keep_byte at b) bytes)) (bytes_text (keep_byte at b) bytes ++ finished_text (bytes_done (keep_byte at b) bytes)) ls)
+          (sym (with_front-onto_first front b (input_lines bytes)))
+          record { prints = ih.prints; state = ih.state; refused = ih.refused; ended = ih.ended }
     ]
 
 -- the ended lines of an input, when a part of the first of them stands before it
@@ -205,13 +205,13 @@ unfolding with_ended
 prints_ended_on at front [] has = refl
 prints_ended_on at front (b ∷ bytes) has =
     elim (b == 10) as (λ t. cond t (end_text at ++ bytes_text (end_line at) bytes) (bytes_text (keep_byte at b) bytes)
-        ≡ lines_text at.state (at.ended + 1) (with_ended front (cond t ([] ∷ ended_lines bytes) (onto_ended b (ended_lines bytes))))) [
-      true ↦
-        prints-more at front _ _ has (prints_ended_on (end_line at) [] bytes (line-end_line at))
-        ∙ ap (lines_text at.state (at.ended + 1)) (ap (λ ls. front ∷ ls) (with_ended-nil (ended_lines bytes)) ∙ sym (with_ended-ended front (ended_lines bytes)))
-    | false ↦
-        prints_ended_on (keep_byte at b) (front ++ b ∷ []) bytes (line-keep_byte at front b has)
-        ∙ ap (lines_text at.state (at.ended + 1)) (sym (with_ended-onto_ended front b (ended_lines bytes)))
+    ≡ lines_text at.state (at.ended + 1) (with_ended front (cond t ([] ∷ ended_lines bytes) (onto_ended b (ended_lines bytes))))) [
+      | true ↦
+          prints-more at front _ _ has (prints_ended_on (end_line at) [] bytes (line-end_line at))
+          ∙ ap (lines_text at.state (at.ended + 1)) (ap (λ ls. front ∷ ls) (with_ended-nil (ended_lines bytes)) ∙ sym (with_ended-ended front (ended_lines bytes)))
+      | false ↦
+          prints_ended_on (keep_byte at b) (front ++ b ∷ []) bytes (line-keep_byte at front b has)
+          ∙ ap (lines_text at.state (at.ended + 1)) (sym (with_ended-onto_ended front b (ended_lines bytes)))
     ]
 
 -- the last answer, told as it was given
@@ -230,8 +230,8 @@ plan-bytes_done : (at : At) (bytes : List ℕ) → at.plan ≡ is_plan (answer a
 plan-bytes_done at [] told = told
 plan-bytes_done at (b ∷ bytes) told =
     elim (b == 10) as (λ t. (bytes_done (cond t (end_line at) (keep_byte at b)) bytes).plan ≡ is_plan (answer (bytes_done (cond t (end_line at) (keep_byte at b)) bytes).state)) [
-      true ↦ plan-bytes_done (end_line at) bytes (plan-end_line at told)
-    | false ↦ plan-bytes_done (keep_byte at b) bytes told
+      | true ↦ plan-bytes_done (end_line at) bytes (plan-end_line at told)
+      | false ↦ plan-bytes_done (keep_byte at b) bytes told
     ]
 
 plan-finish : (at : At) (line : List ℕ) → at.plan ≡ is_plan (answer at.state) → (finish at line).plan ≡ is_plan (answer (finish at line).state)
@@ -326,8 +326,8 @@ UpToLf-some bytes n some =
     record {
       within = found.0;
       part = λ k below.
-        let less : k < n = (let size = length-take n bytes in omega arith) in
-        ap (λ b. b == 10) (get_or-take n bytes k 0 less) ∙ found.2 k less;
+          let less : k < n = (let size = length-take n bytes in omega arith) in
+          ap (λ b. b == 10) (get_or-take n bytes k 0 less) ∙ found.2 k less;
       whole = take_more bytes n 0 found.0 ∙ ap (λ b. take n bytes ++ b ∷ []) (is_lf-true _ found.1);
     }
 
@@ -387,9 +387,9 @@ begun-keep_byte at b =
 -- the lines so far, with one byte more
 pub begun-byte : (at : At) (b : ℕ) → lines_begun (cond (b == 10) (end_line at) (keep_byte at b)) ≡ at.ended + 1
 begun-byte at b = elim (b == 10) as (λ t. lines_begun (cond t (end_line at) (keep_byte at b)) ≡ at.ended + 1) [
-    true ↦ begun-end_line at
+  | true ↦ begun-end_line at
   | false ↦ begun-keep_byte at b
-  ]
+]
 
 begun_step : (ended len next last : ℕ) → next ≡ ended + 1 → next ≤ last → ended + min 1 len ≤ last
 begun_step ended len next last one more = omega arith

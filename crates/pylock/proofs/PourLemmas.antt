@@ -59,4 +59,4 @@ front_same old new text other same written = record { front = written.front; bac
 pub front_after_all : (old mid new : Option (List ℕ)) (text out : List ℕ) → Pours old mid text out → WritesFront mid new out → WritesFront old new text
 front_after_all old mid new text out before after =
     front_same old new (text ++ []) text (append-nil text)
-        (front_after old mid new text out [] before (front_same mid new out (out ++ []) (sym (append-nil out)) after))
+    (front_after old mid new text out [] before (front_same mid new out (out ++ []) (sym (append-nil out)) after))

@@ -43,8 +43,8 @@ pub piece_front : (old new : Option (List ℕ)) (at : At) (bytes out taken : Lis
 piece_front old new at bytes out taken n pushed front =
     let rest = bytes_text (bytes_done at (take n bytes)) (drop n bytes) in
     front_same old new (taken ++ rest) (out ++ bytes_text at bytes)
-        (ap (λ t. t ++ rest) pushed ∙ append_assoc out (bytes_text at (take n bytes)) rest ∙ ap (λ t. out ++ t) (sym (text_front at bytes n)))
-        (front_more old new taken rest front)
+    (ap (λ t. t ++ rest) pushed ∙ append_assoc out (bytes_text at (take n bytes)) rest ∙ ap (λ t. out ++ t) (sym (text_front at bytes n)))
+    (front_more old new taken rest front)
 
 -- how far the editing of a piece has come
 pub record Fed (old new : Option (List ℕ)) (failures new_failures : ℕ) (start at : At) (piece before out : List ℕ) (done : ℕ) : Type 0 where
@@ -82,7 +82,7 @@ Fed-more old mid new f g h start at next piece before out last bytes done count 
           ∙ sym (bytes_done-append start front more) ∙ ap (bytes_done start) (sym whole);
       poured = subst (λ t. Pours old new t last)
           (append_assoc before (bytes_text start front) (bytes_text at (take count bytes))
-            ∙ ap (λ t. before ++ t) (ap (λ t. bytes_text start front ++ t) text ∙ sym (bytes_text-append start front more) ∙ ap (bytes_text start) (sym whole)))
+          ∙ ap (λ t. before ++ t) (ap (λ t. bytes_text start front ++ t) text ∙ sym (bytes_text-append start front more) ∙ ap (bytes_text start) (sym whole)))
           (Pours-more old mid new (before ++ bytes_text start front) out (bytes_text at (take count bytes)) last fed.poured poured);
       counted = same ∙ fed.counted;
     }
@@ -95,9 +95,9 @@ Fed-front old mid new f g start at piece before out bytes done fed left front =
     let first = take done piece in
     let text : bytes_text at bytes ≡ bytes_text (bytes_done start first) (drop done piece) = ap (λ a. bytes_text a bytes) fed.editing ∙ ap (bytes_text (bytes_done start first)) left in
     front_same old new _ _
-        (append_assoc before (bytes_text start first) (bytes_text at bytes)
-          ∙ ap (λ t. before ++ t) (ap (λ t. bytes_text start first ++ t) text ∙ sym (text_front start piece done)))
-        (front_after old mid new (before ++ bytes_text start first) out (bytes_text at bytes) fed.poured front)
+    (append_assoc before (bytes_text start first) (bytes_text at bytes)
+    ∙ ap (λ t. before ++ t) (ap (λ t. bytes_text start first ++ t) text ∙ sym (text_front start piece done)))
+    (front_after old mid new (before ++ bytes_text start first) out (bytes_text at bytes) fed.poured front)
 
 pub Fed-fault : (old mid : Option (List ℕ)) (f g h : ℕ) (start at : At) (piece before out bytes : List ℕ) (done : ℕ) (fault : RunFault)
     → Fed old mid f g start at piece before out done → bytes ≡ drop done piece → IsFeedFault g h (lines_begun (bytes_done at bytes)) fault
@@ -105,7 +105,7 @@ pub Fed-fault : (old mid : Option (List ℕ)) (f g h : ℕ) (start at : At) (pie
 Fed-fault old mid f g h start at piece before out bytes done fault fed left why =
     let first = take done piece in
     let there : bytes_done at bytes ≡ bytes_done start piece =
-        ap (λ a. bytes_done a bytes) fed.editing ∙ ap (bytes_done (bytes_done start first)) left ∙ sym (done_front start piece done) in
+    ap (λ a. bytes_done a bytes) fed.editing ∙ ap (bytes_done (bytes_done start first)) left ∙ sym (done_front start piece done) in
     subst (λ a. IsFeedFault f h (lines_begun a) fault) there (subst (λ n. IsFeedFault n h (lines_begun (bytes_done at bytes)) fault) fed.counted why)
 
 -- the whole piece
@@ -168,9 +168,9 @@ cause-after r q q' w v v' held mid new start at total xs ys Read reads writes wr
 cause-after r q q' w v v' held mid new start at total xs ys Write reads writes wrote there size cause = subst (λ n. HasFailed n v') writes cause
 cause-after r q q' w v v' held mid new start at total xs ys Input reads writes wrote there size cause =
     ⊎_elim
-      (λ lines. inl (subst (λ a. LINES < lines_begun a) (done-more start at (bytes_done at ys) xs ys there refl) lines))
-      (λ bytes. inr (size-past xs ys total INPUT_BYTES size bytes))
-      cause
+    (λ lines. inl (subst (λ a. LINES < lines_begun a) (done-more start at (bytes_done at ys) xs ys there refl) lines))
+    (λ bytes. inr (size-past xs ys total INPUT_BYTES size bytes))
+    cause
 cause-after r q q' w v v' held mid new start at total xs ys Memory reads writes wrote there size cause = tt
 
 -- how far the reading of the input has come
@@ -192,7 +192,7 @@ EditFault-after rest mid new r q q' held held' held'' w v v' start at total out 
       front = front_same held held'' _ _
           (ap (λ a. bytes_text start edited.given ++ bytes_text a after.given) edited.editing ∙ sym (bytes_text-append start edited.given after.given))
           (front_after held held' held'' (bytes_text start edited.given) [] (bytes_text at after.given)
-            (Pours-flush held held' (bytes_text start edited.given) [] edited.written refl) after.front);
+          (Pours-flush held held' (bytes_text start edited.given) [] edited.written refl) after.front);
       cause = cause-after r q q' w v v' held held' held'' start at total edited.given after.given fault before.reads before.writes edited.written edited.editing edited.size after.cause;
     }
 

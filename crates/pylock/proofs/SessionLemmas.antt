@@ -65,9 +65,11 @@ first_written held mid new first text before after = after ∙ ap (λ h. append_
 
 cause_stop : (state : State) (r r' : ℕ) (held mid new : Option (List ℕ)) (w v w' : ℕ) (input : List ℕ) (fault : RunFault)
     → mid ≡ append_known held (standing_text state) → v ≡ w → IsCause r r' mid new v w' (start state) 0 input fault → IsStop state r r' held new w w' input fault
-cause_stop state r r' held mid new w v w' input Read first same cause =
-    (cause.0, first_written held mid new (standing_text state) (bytes_text (start state) input) first cause.1
-      ∙ ap (λ t. append_known held (standing_text state ++ t)) (prints_ended state input))
+cause_stop state r r' held mid new w v w' input Read first same cause = (
+  cause.0,
+  first_written held mid new (standing_text state) (bytes_text (start state) input) first cause.1
+      ∙ ap (λ t. append_known held (standing_text state ++ t)) (prints_ended state input),
+)
 cause_stop state r r' held mid new w v w' input Write first same cause = subst (λ n. HasFailed n w') same cause
 cause_stop state r r' held mid new w v w' input Input first same cause = ⊎_elim
     (λ lines. inl (subst (λ n. LINES < n) (lines_of_input state input) lines))
@@ -87,8 +89,8 @@ stops_between state rest new_rest r r' held mid new w v w' at fault begun first 
       gave = fault_at.gave;
       front = front_same held new _ _ (text_of_input state input)
           (front_more held new _ (finished_text (bytes_done (start state) input))
-            (front_after held mid new (standing_text state) [] (bytes_text (start state) input)
-              (Pours-flush held mid (standing_text state) [] first refl) fault_at.front));
+          (front_after held mid new (standing_text state) [] (bytes_text (start state) input)
+          (Pours-flush held mid (standing_text state) [] first refl) fault_at.front));
       cause = cause_stop state r r' held mid new w v w' input fault first same fault_at.cause;
     }
 
@@ -101,7 +103,7 @@ stops_at_last state rest new_rest r r' held mid late new w v w' at last fault be
     let edited = subst (λ a. EditsAll rest new_rest mid late a last) begun all in
     let input = edited.given in
     let here : late ≡ append_known held (standing_text state ++ bytes_text (start state) input) =
-        first_written held mid late (standing_text state) (bytes_text (start state) input) first edited.written in
+    first_written held mid late (standing_text state) (bytes_text (start state) input) first edited.written in
     record {
       input = input;
       gave = edited.gave;
@@ -120,7 +122,7 @@ session_reports state rest new_rest held mid late new at last end status begun f
     let edited = subst (λ a. EditsAll rest new_rest mid late a last) begun all in
     let input = edited.given in
     let here : late ≡ append_known held (standing_text state ++ bytes_text (start state) input) =
-        first_written held mid late (standing_text state) (bytes_text (start state) input) first edited.written in
+    first_written held mid late (standing_text state) (bytes_text (start state) input) first edited.written in
     let done = finished (bytes_done (start state) input) in
     let finish : end ≡ done = ended ∙ ap (λ a. finished a) edited.editing in
     let facts = edits state input in

@@ -2,7 +2,6 @@
 use Rattle.std.specs.Prelude.{ℕ, ◌++◌, List, [], ◌∷◌, length, Bool, true, false, if◌then◌else◌, Option, Some, None, codes, decimal, map}
 use Rattle.std.specs.List.{flat_map, join_with_byte}
 use Rattle.std.specs.Option.{option_map_or}
-
 use Rattle.pylock_core.specs.Entry.{EntryValue, DirectoryValue, SdistValue, sdist_place, sdist_file_name}
 use Rattle.pylock_core.specs.State.{State, entry_at}
 use Rattle.pylock_core.specs.declared.answer.Answer.{Answer}

@@ -48,11 +48,7 @@ impl Model for Editing {
 
 impl Editing {
     /// Pushes the first answer.
-    pub fn start(
-        alloc: Global,
-        session: Session,
-        out: &mut Vec<u8>,
-    ) -> Result<Editing, AllocError>
+    pub fn start(alloc: Global, session: Session, out: &mut Vec<u8>) -> Result<Editing, AllocError>
         ensures editing { IfOk result (λ editing. editing ≡ start session) }
         ensures text { OnOk result (out.new.items ≡ out.old.items ++ standing_text session) }
     {

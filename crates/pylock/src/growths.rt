@@ -9,12 +9,19 @@ use crate::memory::{Pieces, Room};
 use crate::queries::Query;
 use crate::reply::query;
 use crate::run::run;
-use pylock_core::{Answer, Edit, EditError, Entry, EnvError, Lock, LockError, Session, read_environment};
+use pylock_core::{
+    Answer, Edit, EditError, Entry, EnvError, Lock, LockError, Session, read_environment,
+};
 
-const LOCK: &str = "lock-version = \"1.0\"\ncreated-by = \"t\"\npackages = [{name=\"B_b\", version=\"1.0\", directory={path=\"./b\", subdirectory=\"s\"}}, {name=\"a\", version=\"2\", sdist={url=\"https://h/a-2%2B.tar.gz\", hashes={sha256=\"00\", md5=\"11\"}}}]\n";
+const LOCK: &str =
+    "lock-version = \"1.0\"\ncreated-by = \"t\"\npackages = [{name=\"B_b\", version=\"1.0\", directory={path=\"./b\", subdirectory=\"s\"}}, {name=\"a\", version=\"2\", sdist={url=\"https://h/a-2%2B.tar.gz\", hashes={sha256=\"00\", md5=\"11\"}}}]\n";
+
 const ENVIRONMENT: &str = "{\"environment\":{\"os_name\":\"posix\"},\"tags\":[]}";
+
 const INPUT: &[u8] = b"show\nfly\ndel 1\ndel 1\n";
-const REPORT: &[u8] = b"plan 2\n1\tb-b\t1.0\tdirectory\t-\t./b\t-\t-\ts\n2\ta\t2\tsdist\ta-2+.tar.gz\thttps://h/a-2%2B.tar.gz\tmd5=11,sha256=00\t-\t-\nplan 2\n1\tb-b\t1.0\tdirectory\t-\t./b\t-\t-\ts\n2\ta\t2\tsdist\ta-2+.tar.gz\thttps://h/a-2%2B.tar.gz\tmd5=11,sha256=00\t-\t-\nrefused 2\tcommand\nplan 1\n2\ta\t2\tsdist\ta-2+.tar.gz\thttps://h/a-2%2B.tar.gz\tmd5=11,sha256=00\t-\t-\nrefused 4\tno-entry\n";
+
+const REPORT: &[u8] =
+    b"plan 2\n1\tb-b\t1.0\tdirectory\t-\t./b\t-\t-\ts\n2\ta\t2\tsdist\ta-2+.tar.gz\thttps://h/a-2%2B.tar.gz\tmd5=11,sha256=00\t-\t-\nplan 2\n1\tb-b\t1.0\tdirectory\t-\t./b\t-\t-\ts\n2\ta\t2\tsdist\ta-2+.tar.gz\thttps://h/a-2%2B.tar.gz\tmd5=11,sha256=00\t-\t-\nrefused 2\tcommand\nplan 1\n2\ta\t2\tsdist\ta-2+.tar.gz\thttps://h/a-2%2B.tar.gz\tmd5=11,sha256=00\t-\t-\nrefused 4\tno-entry\n";
 
 #[test]
 fn whole_file(rt: HostRuntime) {
@@ -53,7 +60,10 @@ fn session_answers(rt: HostRuntime) {
     assert!(rt; matches!(session.edit(Edit::Del(1)), Ok(0)));
     assert!(rt; matches!(session.edit(Edit::Del(1)), Err(EditError::NoEntry)));
     if let Ok(answer) = session.answer(rt.alloc()) {
-        assert!(rt; matches!(&answer, Answer::Plan(plan) if plan.picks().len() == 1), "{answer:?}");
+        assert!(rt;
+            matches!(&answer, Answer::Plan(plan) if plan.picks().len() == 1),
+            "{answer:?}"
+        );
     }
 }
 
@@ -63,7 +73,13 @@ fn whole_run(rt: HostRuntime) {
         return;
     };
     let mut reader = Pieces::new(INPUT, 5, None);
-    match run(rt.alloc(), LOCK.as_bytes(), ENVIRONMENT.as_bytes(), &mut reader, &mut writer) {
+    match run(
+        rt.alloc(),
+        LOCK.as_bytes(),
+        ENVIRONMENT.as_bytes(),
+        &mut reader,
+        &mut writer,
+    ) {
         Ok(status) => {
             assert_eq!(rt; status, 1);
             assert_eq!(rt; writer.bytes(), REPORT);
@@ -78,7 +94,10 @@ fn whole_run(rt: HostRuntime) {
 #[test]
 fn queries(rt: HostRuntime) {
     for (asked, reply) in [
-        (Query::Version(" V1.0-RC.1_r2.DEV+Ubuntu-01 "), b"1.0rc1.post2.dev0+ubuntu.1\n".as_slice()),
+        (
+            Query::Version(" V1.0-RC.1_r2.DEV+Ubuntu-01 "),
+            b"1.0rc1.post2.dev0+ubuntu.1\n".as_slice(),
+        ),
         (Query::Match("~=2.2.post3, ==2.*", "2.9"), b"true\n"),
         (Query::Match("~=1", "1"), b"refused\tset-syntax\n"),
         (Query::Name("A.-_B"), b"a-b\n"),

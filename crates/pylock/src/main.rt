@@ -6,6 +6,8 @@ mod editing;
 mod ends;
 mod fault;
 mod files;
+#[cfg(test)]
+mod growths;
 mod lines;
 mod memory;
 mod printing;
@@ -15,9 +17,6 @@ mod reply;
 mod run;
 mod streams;
 mod writing;
-
-#[cfg(test)]
-mod growths;
 
 use crate::command::{CommandError, Task, command};
 use crate::fault::RunFault;
@@ -46,11 +45,18 @@ fn read_file(rt: &HostRuntime, path: &str) -> Result<Vec<u8>, FileFault> {
     read_whole(rt.alloc(), &mut FromRead::new(file), FILE_BYTES)
 }
 
+/// The lock and then the environment.
+fn read_files(rt: &HostRuntime, lock: &str, env: &str) -> Result<(Vec<u8>, Vec<u8>), FileFault> {
+    let lock = read_file(rt, lock)?;
+    let env = read_file(rt, env)?;
+    Ok((lock, env))
+}
+
 /// Runs `select` on the two files, standard input and standard output.
 fn select(rt: &HostRuntime, lock: &str, env: &str) -> ExitCode {
-    let (lock, env) = match (read_file(rt, lock), read_file(rt, env)) {
-        (Ok(lock), Ok(env)) => (lock, env),
-        (Err(fault), _) | (_, Err(fault)) => return failed(rt, file_word(fault)),
+    let (lock, env) = match read_files(rt, lock, env) {
+        Ok(files) => files,
+        Err(fault) => return failed(rt, file_word(fault)),
     };
     let mut reader = FromRead::new(rt.stdin());
     let mut writer = ToWrite::new(rt.stdout());

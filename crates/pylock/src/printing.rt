@@ -9,9 +9,7 @@ ghost use Rattle.pylock.specs.Print.{tabbed, hashes_text, escaped_hash, more_has
 ghost use Rattle.pylock_core.specs.declared.answer.Answer.TheVariants.{Plan};
 
 use crate::lines::LineRefusal;
-use pylock_core::{
-    Answer, Directory, Entry, FaultCode, Pick, PickSource, Sdist, Session,
-};
+use pylock_core::{Answer, Directory, Entry, FaultCode, Pick, PickSource, Sdist, Session};
 use std::alloc::AllocError;
 
 /// Pushes the decimal digits of a number.
@@ -103,7 +101,11 @@ fn push_more_hashes(out: &mut Vec<u8>, hashes: &[(String, String)]) -> Result<()
 fn push_directory(out: &mut Vec<u8>, directory: &Directory) -> Result<(), AllocError>
     ensures { OnOk result (out.new.items ≡ out.old.items ++ tabbed (directory_fields directory.now)) }
 {
-    let kind: &[u8] = if directory.editable() { b"\teditable" } else { b"\tdirectory" };
+    let kind: &[u8] = if directory.editable() {
+        b"\teditable"
+    } else {
+        b"\tdirectory"
+    };
     out.extend_from_slice(kind)?;
     push_next(out, None)?;
     push_next(out, Some(directory.place()))?;

@@ -2,7 +2,6 @@
 
 ghost use Rattle.std.specs.Prelude.{◌≡◌, ◌++◌, ◌∷◌, [], OnOk};
 ghost use Rattle.pylock.specs.Print.{tabbed, head_word, key_word, entry_word, lock_words, lock_text, environment_words, environment_text};
-
 ghost use Rattle.pylock_core.specs.declared.error.LockError.TheVariants.{Head, Entry};
 ghost use Rattle.pylock_core.specs.declared.error.EnvError.TheVariants.{Tag};
 
@@ -64,11 +63,7 @@ fn push_head(out: &mut Vec<u8>, key: &HeadKey) -> Result<(), AllocError>
     push_word(out, head_word(key))
 }
 
-fn push_entry_error(
-    out: &mut Vec<u8>,
-    place: usize,
-    error: &EntryError,
-) -> Result<(), AllocError>
+fn push_entry_error(out: &mut Vec<u8>, place: usize, error: &EntryError) -> Result<(), AllocError>
     ensures { OnOk result (out.new.items ≡ out.old.items ++ tabbed (lock_words (Entry place error.now))) }
 {
     out.extend_from_slice(b"\tentry\t")?;

@@ -17,11 +17,7 @@ use std::alloc::{AllocError, Global};
 /// Writes the reply of a one-shot command, and answers the program's status: 0 for an answer, 1 where
 /// a text is refused. After a fault a front of the reply is written. Takes memory for what it parses and
 /// for the reply.
-pub fn query<W: Sink>(
-    alloc: Global,
-    query: Query<'_>,
-    writer: &mut W,
-) -> Result<u8, RunFault>
+pub fn query<W: Sink>(alloc: Global, query: Query<'_>, writer: &mut W) -> Result<u8, RunFault>
     ensures text { OnOk result (W.held writer.new ≡ append_known (W.held writer.old) (reply query.entry).text) }
     ensures status { IfOk result (λ status. status ≡ (reply query.entry).status) }
     ensures counted { OnOk result (W.failures writer.new ≡ W.failures writer.old) }
@@ -57,12 +53,7 @@ fn push_version(alloc: Global, out: &mut Vec<u8>, text: &str) -> Result<u8, Allo
     }
 }
 
-fn push_match(
-    alloc: Global,
-    out: &mut Vec<u8>,
-    set: &str,
-    version: &str,
-) -> Result<u8, AllocError>
+fn push_match(alloc: Global, out: &mut Vec<u8>, set: &str, version: &str) -> Result<u8, AllocError>
     ensures { Pushes out.old.items out.new.items (reply_of (match_answer set.now version.now)) result }
 {
     match SpecifierSet::parse(alloc, set) {

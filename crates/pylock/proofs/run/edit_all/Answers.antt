@@ -25,7 +25,7 @@ returns-in_err-end-clause-stops g c =
     let begun = c.in_ok-editing.ensures in
     let fed = c.in_ok-feed_all.ensures in
     rw (p.1, p.2) (stops_at_last c.args.session _ _ _ _ _ _ _ _ _ _ _ _ _ c.in_err-end.field-0.0 begun.editing begun.written fed.edited
-        (fed.counted.1 ∙ begun.counted) c.in_err-end.ensures.front c.in_err-end.ensures.fault)
+    (fed.counted.1 ∙ begun.counted) c.in_err-end.ensures.front c.in_err-end.ensures.fault)
 
 pub returns-clause-reports : goal.returns-clause-reports
 returns-clause-reports g c =

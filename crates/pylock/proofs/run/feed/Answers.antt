@@ -8,7 +8,7 @@ use Rattle.pylock.proofs.run.feed.Goals as goal
 pub returns-in_err-done-clause-front : goal.returns-in_err-done-clause-front
 returns-in_err-done-clause-front g c =
     on_err c.from_residual.result
-        (Fed-front _ _ _ _ _ _ _ _ _ _ _ _ c.bytes.invariant (take_rest c.args.piece.now c.bytes.done) c.in_err-done.ensures.front)
+    (Fed-front _ _ _ _ _ _ _ _ _ _ _ _ c.bytes.invariant (take_rest c.args.piece.now c.bytes.done) c.in_err-done.ensures.front)
 
 pub returns-in_err-done-clause-fault : goal.returns-in_err-done-clause-fault
 returns-in_err-done-clause-fault g c =
@@ -18,7 +18,7 @@ returns-in_err-done-clause-fault g c =
 pub bytes-preserved : goal.bytes-preserved
 bytes-preserved g c =
     Fed-more _ _ _ _ _ _ _ _ _ _ _ _ _ _ _ _ c.bytes.invariant (take_rest c.args.piece.now c.bytes.done) c.in_ok-done.ensures.some.1
-        c.in_ok-done.ensures.editing c.in_ok-done.ensures.poured c.in_ok-done.ensures.counted
+    c.in_ok-done.ensures.editing c.in_ok-done.ensures.poured c.in_ok-done.ensures.counted
 
 pub returns-clause-front : goal.returns-clause-front
 returns-clause-front g c =

@@ -11,4 +11,4 @@ returns-in_err-count-clause-fault g c =
 pub returns-in_err-flush-clause-front : goal.returns-in_err-flush-clause-front
 returns-in_err-flush-clause-front g c =
     on_err c.from_residual-in_err-flush.result
-        (piece_front _ _ c.args.editing.now c.args.bytes.now c.args.out.now.items _ c.in_ok-count.count c.in_ok-count.ensures.text c.in_err-flush.ensures.front)
+    (piece_front _ _ c.args.editing.now c.args.bytes.now c.args.out.now.items _ c.in_ok-count.count c.in_ok-count.ensures.text c.in_err-flush.ensures.front)

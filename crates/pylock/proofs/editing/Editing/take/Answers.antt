@@ -19,7 +19,7 @@ returns-in_ok-end_line-in-Some-clause-text c =
     let short : kept c.args.self.now.line ≡ c.args.self.now.line = rw (← c.self.view_is) (kept-short c.self.inside.line.items fits) in
     c.in_ok-end_line-in-Some.ensures.text
     ∙ ap (λ t. c.args.out.now.items ++ t) (ap (λ a. end_text a) c.in_ok-keep-in-Some.ensures
-        ∙ sym (line_prints c.args.self.now c.args.bytes.now c.in-Some.place (sym c.in-Some.ensures) short))
+    ∙ sym (line_prints c.args.self.now c.args.bytes.now c.in-Some.place (sym c.in-Some.ensures) short))
 
 pub returns-in_ok-keep-in-None-clause-editing : goal.returns-in_ok-keep-in-None-clause-editing
 returns-in_ok-keep-in-None-clause-editing c =
@@ -31,5 +31,5 @@ returns-in_ok-keep-in-None-clause-editing c =
 pub returns-in_ok-keep-in-None-clause-text : goal.returns-in_ok-keep-in-None-clause-text
 returns-in_ok-keep-in-None-clause-text c =
     sym (ap (λ bs. c.args.out.now.items ++ bytes_text c.args.self.now bs) (take_all (length c.args.bytes.now) c.args.bytes.now (omega arith))
-        ∙ ap (λ t. c.args.out.now.items ++ t) (rest_prints c.args.self.now c.args.bytes.now (sym c.in-None.ensures))
-        ∙ append-nil c.args.out.now.items)
+    ∙ ap (λ t. c.args.out.now.items ++ t) (rest_prints c.args.self.now c.args.bytes.now (sym c.in-None.ensures))
+    ∙ append-nil c.args.out.now.items)
