@@ -39,11 +39,18 @@ fn read_file(rt: &HostRuntime, path: &str) -> Result<Vec<u8>, FileFault> {
     read_whole(rt.alloc(), &mut FromRead::new(file), FILE_BYTES)
 }
 
+/// The lock and then the environment.
+fn read_files(rt: &HostRuntime, lock: &str, env: &str) -> Result<(Vec<u8>, Vec<u8>), FileFault> {
+    let lock = read_file(rt, lock)?;
+    let env = read_file(rt, env)?;
+    Ok((lock, env))
+}
+
 /// Runs `select` on the two files, standard input and standard output.
 fn select(rt: &HostRuntime, lock: &str, env: &str) -> ExitCode {
-    let (lock, env) = match (read_file(rt, lock), read_file(rt, env)) {
-        (Ok(lock), Ok(env)) => (lock, env),
-        (Err(fault), _) | (_, Err(fault)) => return failed(rt, file_word(fault)),
+    let (lock, env) = match read_files(rt, lock, env) {
+        Ok(files) => files,
+        Err(fault) => return failed(rt, file_word(fault)),
     };
     let mut reader = FromRead::new(rt.stdin());
     let mut writer = ToWrite::new(rt.stdout());

@@ -181,37 +181,37 @@ fn feed_all<R: Source, W: Sink>(
 fn begin<W: Sink>(
     alloc: Global,
     session: Session,
-    out: &mut Vec<u8>,
+    first: &mut Vec<u8>,
     writer: &mut W,
 ) -> Result<Editing, RunFault>
-    requires { out.old.items ≡ [] }
+    requires { first.old.items ≡ [] }
     ensures editing { IfOk result (λ editing. editing ≡ start session) }
     ensures written { OnOk result (W.held writer.new ≡ append_known (W.held writer.old) (standing_text session)) }
-    ensures empty { OnOk result (out.new.items ≡ []) }
+    ensures empty { OnOk result (first.new.items ≡ []) }
     ensures counted { OnOk result (W.failures writer.new ≡ W.failures writer.old) }
     ensures front { OnErr result (WritesFront (W.held writer.old) (W.held writer.new) (standing_text session)) }
     ensures fault { IfErr result (IsOutputFault (W.failures writer.old) (W.failures writer.new)) }
 {
-    let editing = Editing::start(alloc, session, out)?;
-    flush(out, writer)?;
+    let editing = Editing::start(alloc, session, first)?;
+    flush(first, writer)?;
     Ok(editing)
 }
 
 /// Writes what the last line prints, where it had no LF.
 fn end<W: Sink>(
     editing: &mut Editing,
-    out: &mut Vec<u8>,
+    last: &mut Vec<u8>,
     writer: &mut W,
 ) -> Result<(), RunFault>
-    requires { out.old.items ≡ [] }
+    requires { last.old.items ≡ [] }
     ensures editing { OnOk result (editing.new ≡ finished editing.old) }
     ensures written { OnOk result (W.held writer.new ≡ append_known (W.held writer.old) (finished_text editing.old)) }
     ensures within { OnOk result (lines_begun editing.old ≤ LINES) }
     ensures front { OnErr result (WritesFront (W.held writer.old) (W.held writer.new) (finished_text editing.old)) }
     ensures fault { IfErr result (IsOutputFault (W.failures writer.old) (W.failures writer.new)) }
 {
-    editing.finish(out)?;
-    flush(out, writer)
+    editing.finish(last)?;
+    flush(last, writer)
 }
 
 /// Edits a session by the whole input, and writes all answers and refusals.
@@ -348,3 +348,6 @@ pub fn run<R: Source, W: Sink>(
 {
     run_opened(alloc, lock, env, reader, writer)
 }
+
+#[cfg(test)]
+mod tests;
