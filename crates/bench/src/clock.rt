@@ -5,11 +5,11 @@ use std::rt::Clock;
 use std::time::Instant;
 
 /// How often each small piece of work is done.
-pub const ROUNDS: u32 = 1_000_000;
+pub(crate) const ROUNDS: u32 = 1_000_000;
 
 /// Prints the nanoseconds that each of [`ROUNDS`] rounds since `start` took. `seen` is what the rounds
 /// added up to, printed so that none of them can be left out.
-pub fn print_round<R: Clock + Print>(
+pub(crate) fn print_round<R: Clock + Print>(
     rt: &R,
     name: &str,
     start: Instant,
@@ -20,7 +20,7 @@ pub fn print_round<R: Clock + Print>(
 }
 
 /// Prints the milliseconds since `start`.
-pub fn print_whole<R: Clock + Print>(
+pub(crate) fn print_whole<R: Clock + Print>(
     rt: &R,
     name: &str,
     start: Instant,

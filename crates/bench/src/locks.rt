@@ -6,7 +6,10 @@ use std::rt::Clock;
 use std::time::Instant;
 
 /// Reads the bytes as a document of `toml`, and as a lock. The drop of what was read is timed too.
-pub fn time_lock<R: Clock + Print + AllocGlobal>(rt: &R, bytes: &[u8]) -> anyhow::Result<()> {
+pub(crate) fn time_lock<R: Clock + Print + AllocGlobal>(
+    rt: &R,
+    bytes: &[u8],
+) -> anyhow::Result<()> {
     for _ in 0..3 {
         time_toml(rt, bytes)?;
         time_read(rt, bytes)?;

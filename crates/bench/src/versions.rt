@@ -19,7 +19,7 @@ const NEAR: [&str; 4] = ["1.2.3", "1.2.3rc1", "1.2.4", "1.2.4a1"];
 const SEMANTIC_NEAR: [&str; 4] = ["1.2.3", "1.2.3-rc.1", "1.2.4", "1.2.4-alpha.1"];
 
 /// Times a million of each call.
-pub fn time_versions<R: Clock + Print + AllocGlobal>(rt: &R) -> anyhow::Result<()> {
+pub(crate) fn time_versions<R: Clock + Print + AllocGlobal>(rt: &R) -> anyhow::Result<()> {
     time_parse(rt)?;
     time_semantic_parse(rt)?;
     time_order(rt)?;

@@ -12,6 +12,7 @@ pub struct FromRead<R> {
 }
 
 impl<R: Read> FromRead<R> {
+    /// A source of what the reader gives. It takes no memory.
     pub fn new(inner: R) -> FromRead<R>
         ensures { ⟦<FromRead<R> as Source>⟧.failures result ≡ 0 }
     {
@@ -43,6 +44,7 @@ pub struct ToWrite<W> {
 }
 
 impl<W: Write> ToWrite<W> {
+    /// A sink that hands everything to the writer. It takes no memory.
     pub fn new(inner: W) -> ToWrite<W>
         ensures { ⟦<ToWrite<W> as Sink>⟧.failures result ≡ 0 }
     {
