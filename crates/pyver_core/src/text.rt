@@ -10,11 +10,14 @@ use crate::parts::PartsRef;
 use std::alloc::{AllocError, Global};
 use std::fmt::Write;
 
+/// The length that nearly each normal form keeps to, and the least that an allocation takes.
+const USUAL_LENGTH: usize = 24;
+
 /// The normal form of a version with these parts.
 pub(crate) fn normal_text(alloc: Global, parts: &PartsRef<'_>) -> Result<String, AllocError>
     ensures { IfOk result (λ t. string_bytes t ≡ normal (parts_of parts.now)) }
 {
-    let mut text = String::new(alloc);
+    let mut text = String::with_capacity(alloc, USUAL_LENGTH)?;
     push_epoch(&mut text, parts.epoch)?;
     push_release(&mut text, parts.release)?;
     push_pre(&mut text, parts.pre)?;
@@ -28,7 +31,10 @@ pub(crate) fn normal_text(alloc: Global, parts: &PartsRef<'_>) -> Result<String,
 fn push_number(text: &mut String, number: u128) -> Result<(), AllocError>
     ensures { OnOk result (string_bytes text.new ≡ string_bytes text.old ++ decimal_text number) }
 {
-    write!(text, "{number}")
+    match u64::try_from(number) {
+        Ok(short) => write!(text, "{short}"),
+        Err(_) => write!(text, "{number}"),
+    }
 }
 
 /// Writes the epoch where it isn't 0.

@@ -5,10 +5,10 @@ use Rattle.std.specs.Str.Parse.{digits_value}
 use Rattle.std.proofs.lemmas.Int.Digits.{digits_value_more}
 use Rattle.std.proofs.lemmas.List.Sums.{AllPass-from_list_all}
 use Rattle.std.proofs.lemmas.Str.Parse.{digits_value-take-le}
-use Rattle.pyver_core.proofs.reading.digits.Digits.value.Goals as goal
+use Rattle.pyver_core.proofs.reading.digits.Digits.short_value.Goals as goal
 
-pub with_digit-requires : goal.with_digit-requires
-with_digit-requires c =
+pub with_short_digit-requires : goal.with_short_digit-requires
+with_short_digit-requires c =
     let all : list_all is_ascii_digit c.self.inside.digits.now ≡ true = c.self.invariant in
     AllPass-from_list_all is_ascii_digit c.self.inside.digits.now all c.loop-digit.digit-index 0 c.loop-digit-test.true
 
