@@ -1,7 +1,7 @@
 -- How far the installation steps have come, where they take the entries one by one.
 use Rattle.std.specs.Prelude.{ℕ, List, [], ◌∷◌, ◌++◌, map, Option, Some, None, Result, Ok, Err}
 use Rattle.std.specs.Borrow.{Bor}
-use Rattle.std.specs.HashSet.{HashSet, keys}
+use Rattle.std.specs.BTreeSet.{BTreeSet, keys}
 use Rattle.pylock_core.specs.Entry.{EntryValue}
 use Rattle.pylock_core.specs.Steps.{FirstFault, put_before}
 use Rattle.pylock_core.specs.declared.answer.FaultCode.{FaultCode}
@@ -11,7 +11,7 @@ use Rattle.pylock_core.specs.declared.answer.PickSource.{PickSource}
 use Rattle.pylock_core.specs.declared.steps.Picks.{Picks}
 
 -- the names of a set
-abbrev pub names_of : {S : Type 0} → HashSet (Bor (List ℕ)) S → List (List ℕ)
+abbrev pub names_of : BTreeSet (Bor (List ℕ)) → List (List ℕ)
 names_of names = map (λ name. name.now) (keys names)
 
 -- what slating gives for an entry and a rest, where the entry has this fault or none

@@ -8,7 +8,7 @@ ghost use Rattle.pylock_core.specs.Progress.{names_of, pick_after, picks_so_far,
 use crate::answer::{Answer, FaultCode, Pick, PickSource, Plan};
 use crate::entry::Entry;
 use std::alloc::{AllocError, Global};
-use std::collections::HashSet;
+use std::collections::BTreeSet;
 
 /// The answer of the installation steps on the entries that stand in the rows; the first row is that of
 /// number 1. Takes memory for their names and picks.
@@ -16,7 +16,7 @@ pub fn answer_of(alloc: Global, rows: &[Option<Entry>]) -> Result<Answer, AllocE
     requires { length rows.now < 2 ^ 32 }
     ensures { IfOk result (λ found. found ≡ answer (state_of rows.now)) }
 {
-    let mut names = HashSet::with_capacity(alloc, rows.len())?;
+    let mut names = BTreeSet::new(alloc);
     let mut picks = Picks::with_capacity(alloc, rows.len())?;
     for (place, row) in rows.iter().enumerate() {
         let Some(entry) = row else { continue };
@@ -32,7 +32,7 @@ pub fn answer_of(alloc: Global, rows: &[Option<Entry>]) -> Result<Answer, AllocE
 /// The fault of the next entry in step 5, if it has one, after entries with these names. The names gain
 /// that of the entry.
 fn slating_fault<'a>(
-    names: &mut HashSet<&'a str>,
+    names: &mut BTreeSet<&'a str>,
     entry: &'a Entry,
 ) -> Result<Option<FaultCode>, AllocError>
     ensures { IfOk result (λ fault. (n : ℕ) (rest : List (ℕ × EntryValue)) → slate ((n, entry.now) ∷ rest) (names_of names.old) ≡ slated_as fault (n, entry.now) (slate rest (names_of names.new))) }
