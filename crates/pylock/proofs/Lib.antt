@@ -1,6 +1,7 @@
 pub mod LineLemmas
 pub mod EditingLemmas
 pub mod PrintLemmas
+pub mod PlainText
 pub mod ClapLemmas
 pub mod ReadLemmas
 pub mod WroteLemmas

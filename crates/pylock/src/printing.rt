@@ -1,10 +1,10 @@
 //! The printed text, pushed onto the bytes that stand before it.
 
 ghost use Rattle.std.specs.Prelude.{◌≡◌, ◌++◌, ◌∷◌, [], OnOk, string_bytes, codes, decimal, length};
-ghost use Rattle.std.specs.List.{flat_map};
+ghost use Rattle.std.specs.List.{flat_map, list_all};
 ghost use Rattle.std.specs.Option.{option_copied};
 ghost use Rattle.pylock_core.specs.Entry.{text_pairs};
-ghost use Rattle.pylock.specs.Fields.{escape, escaped, field};
+ghost use Rattle.pylock.specs.Fields.{escape, escaped, field, is_plain};
 ghost use Rattle.pylock.specs.Print.{tabbed, hashes_text, escaped_hash, more_hashes, directory_fields, sdist_fields, source_fields, plan_line, pick_text, answer_text, fault_text, line_of, refused_text};
 ghost use Rattle.pylock_core.specs.declared.answer.Answer.TheVariants.{Plan};
 
@@ -37,10 +37,35 @@ pub fn push_field(out: &mut Vec<u8>, text: Option<&str>) -> Result<(), AllocErro
 }
 
 /// Pushes a text with its escapes.
+#[tactic(auto, using(crate::proofs::PlainText::plain_stands))]
 pub fn push_escaped(out: &mut Vec<u8>, text: &str) -> Result<(), AllocError>
     ensures { OnOk result (out.new.items ≡ out.old.items ++ escaped text.now) }
 {
-    for byte in text.as_bytes() {
+    if is_plain_text(text.as_bytes()) {
+        out.extend_from_slice(text.as_bytes())?;
+        Ok(())
+    } else {
+        push_escapes(out, text.as_bytes())
+    }
+}
+
+/// Whether the text stands in a field as it is, as nearly each does.
+fn is_plain_text(text: &[u8]) -> bool
+    ensures { result ≡ list_all is_plain text.now }
+{
+    text.iter().all(|byte| is_plain(*byte))
+}
+
+fn is_plain(byte: u8) -> bool
+    ensures { result ≡ is_plain byte }
+{
+    !matches!(byte, b'\t' | b'\n' | b'\r' | b'\\')
+}
+
+fn push_escapes(out: &mut Vec<u8>, text: &[u8]) -> Result<(), AllocError>
+    ensures { OnOk result (out.new.items ≡ out.old.items ++ escaped text.now) }
+{
+    for byte in text {
         push_escape(out, *byte)?;
     }
     Ok(())
