@@ -1,5 +1,5 @@
 -- What making a specifier of an operator and an operand answers, over the grammar.
-use Rattle.std.proofs.Common.{◌≡◌, List, ℕ, Option, Some, None, Result, Ok, Err, ap, sym, ◌∙◌}
+use Rattle.std.proofs.Common.{◌≡◌, List, ℕ, Some, None, Result, Ok, Err, ap, sym, ◌∙◌}
 use Rattle.std.specs.Prelude.{IfOk, IsErrOf, IsTrue}
 use Rattle.pyver_core.specs.Grammar.{has_large}
 use Rattle.pyver_core.specs.SetAnswer.{AnswersSpecifier}
