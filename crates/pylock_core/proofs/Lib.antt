@@ -1,5 +1,6 @@
 mod FileNameLemmas
 mod ReadingLemmas
+pub mod EntryLemmas
 pub mod RowLemmas
 pub mod SlateLemmas
 pub mod StepLemmas

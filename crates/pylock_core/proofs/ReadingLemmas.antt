@@ -8,6 +8,12 @@ use Rattle.std.specs.Str.{is_utf8}
 use Rattle.std.specs.List.{list_all}
 use Rattle.toml.specs.View.{view, items_view, members_view}
 use Rattle.toml.specs.declared.value.Value.{Value}
+use Rattle.toml.proofs.Views.{view-lookup}
+use Rattle.std.specs.BTreeMap.{is_at}
+use Rattle.std.specs.Cmp.Lexicographic.{slice_cmp}
+use Rattle.std.specs.Map.{lookup}
+use Rattle.std.specs.Ordering.{nat_cmp}
+use Rattle.toml.specs.Data.{get_member}
 use Rattle.pylock_core.specs.Entry.{text_pairs}
 use Rattle.pylock_core.specs.Fields.{◌>>=◌, hash_of, hashes_of}
 use Rattle.pylock_core.specs.Reading.{text_pair}
@@ -33,6 +39,11 @@ after_front front (Err e) = Err e
 pub count_of_items : (vs : List Value) → count (items_view vs) ≡ length vs
 count_of_items [] = refl
 count_of_items (v ∷ vs) = ap suc (count_of_items vs)
+
+-- the value that was taken out of a table is the member of the key
+pub taken_member : (taken : Option Value) (key : List ℕ) (es : List (String Global × Value)) → taken ≡ lookup (is_at (λ k. slice_cmp nat_cmp key (string_bytes k))) es
+    → option_map view taken ≡ get_member key (members_view es)
+taken_member taken key es found = ap (option_map view) found ∙ view-lookup key es
 
 -- ---- a test of UTF-8
 

@@ -1,5 +1,6 @@
 //! The entries of a lock (PEP 751, `packages`).
 ghost use Rattle.std.specs.Prelude.{◌≡◌, ◌≤◌, length, vec_len, option_map, string_bytes, IfOk, OnOk};
+ghost use Rattle.toml.specs.Data.{get};
 ghost use Rattle.toml.specs.View.{view, items_view};
 ghost use Rattle.pylock_core.specs.declared.lock.TheConstants.{MOST_ENTRIES};
 ghost use Rattle.pylock_core.specs.declared.error.EntryError.TheVariants as entry;
@@ -24,24 +25,33 @@ struct Sources {
 
 /// The key `packages`: at most 100,000 entries, none where it is absent.
 #[tactic(auto, unfolding(crate::specs::Lock::entries_in))]
-pub(super) fn entries(alloc: Global, document: &Value) -> Result<Vec<Entry>, LockError>
-    ensures gives { GivesLock (λ v. v.items) result (entries_in (view document.now)) }
+pub(super) fn entries(alloc: Global, document: Value) -> Result<Vec<Entry>, LockError>
+    ensures gives { GivesLock (λ v. v.items) result (entries_in (view document)) }
     ensures within { IfOk result (λ v. vec_len v ≤ MOST_ENTRIES) }
 {
-    let values = packages(document)?;
-    require_room(values)?;
+    let values = packages(alloc, document)?;
+    require_room(&values)?;
     read_entries(alloc, values)
 }
 
-fn packages(document: &Value) -> Result<&[Value], LockError>
-    ensures { GivesLock (λ values. items_view values.now) result (packages_in (view document.now)) }
+/// The values of `packages`, taken out of the document, so that each can be let go once it is read.
+fn packages(alloc: Global, document: Value) -> Result<Vec<Value>, LockError>
+    ensures { GivesLock (λ values. items_view values.items) result (packages_in (view document)) }
 {
-    match document.get("packages") {
-        None => Ok(&[]),
-        Some(value) => match value.as_array() {
-            Some(values) => Ok(values.as_slice()),
-            None => Err(LockError::Packages),
-        },
+    match take(document, "packages") {
+        None => Ok(Vec::new(alloc)),
+        Some(Value::Array(values)) => Ok(values),
+        Some(_) => Err(LockError::Packages),
+    }
+}
+
+/// The value of the key, out of the table that is let go.
+fn take(value: Value, key: &str) -> Option<Value>
+    ensures { option_map view result ≡ get key.now (view value) }
+{
+    match value {
+        Value::Table(mut table) => table.remove(key),
+        _ => None,
     }
 }
 
@@ -57,22 +67,24 @@ fn require_room(values: &[Value]) -> Result<(), LockError>
     }
 }
 
-fn read_entries(alloc: Global, values: &[Value]) -> Result<Vec<Entry>, LockError>
-    requires { length values.now ≤ MOST_ENTRIES }
-    ensures gives { GivesLock (λ v. v.items) result (entries_of 1 (items_view values.now)) }
-    ensures len { IfOk result (λ v. vec_len v ≡ length values.now) }
+fn read_entries(alloc: Global, values: Vec<Value>) -> Result<Vec<Entry>, LockError>
+    requires { vec_len values ≤ MOST_ENTRIES }
+    ensures gives { GivesLock (λ v. v.items) result (entries_of 1 (items_view values.items)) }
+    ensures len { IfOk result (λ v. vec_len v ≡ vec_len values) }
 {
     let mut entries = Vec::with_capacity(alloc, values.len())?;
-    for (i, value) in values.iter().enumerate() {
-        entries.push(read_entry_at(alloc, i + 1, value)?)?;
+    for value in values {
+        let place = entries.len() + 1;
+        entries.push(read_entry_at(alloc, place, value)?)?;
     }
     Ok(entries)
 }
 
-fn read_entry_at(alloc: Global, place: usize, value: &Value) -> Result<Entry, LockError>
-    ensures { GivesLock (λ e. e) result (at_place place (entry_of (view value.now))) }
+/// The entry of the value, which is let go.
+fn read_entry_at(alloc: Global, place: usize, value: Value) -> Result<Entry, LockError>
+    ensures { GivesLock (λ e. e) result (at_place place (entry_of (view value))) }
 {
-    match read_entry(alloc, value) {
+    match read_entry(alloc, &value) {
         Ok(entry) => Ok(entry),
         Err(EntryError::Memory) => Err(LockError::Memory),
         Err(refusal) => Err(LockError::Entry(place, refusal)),

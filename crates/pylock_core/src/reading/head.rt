@@ -26,7 +26,7 @@ impl Lock {
     {
         let text = as_text(bytes).ok_or(LockError::NotText)?;
         let document = document(alloc, text)?;
-        read_document(alloc, &document)
+        read_document(alloc, document)
     }
 }
 
@@ -41,12 +41,12 @@ fn document(alloc: Global, text: &str) -> Result<Value, LockError>
 }
 
 #[tactic(auto, unfolding(crate::specs::Lock::lock_in))]
-fn read_document(alloc: Global, document: &Value) -> Result<Lock, LockError>
-    ensures { GivesLock (λ l. l) result (lock_in (view document.now)) }
+fn read_document(alloc: Global, document: Value) -> Result<Lock, LockError>
+    ensures { GivesLock (λ l. l) result (lock_in (view document)) }
 {
-    require_lock_version(document)?;
-    require_creator(document)?;
-    refuse_head(document)?;
+    require_lock_version(&document)?;
+    require_creator(&document)?;
+    refuse_head(&document)?;
     let entries = entries(alloc, document)?;
     Ok(Lock::new(entries))
 }
