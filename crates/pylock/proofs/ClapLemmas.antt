@@ -1,5 +1,5 @@
 -- What clap's matches tell of a subcommand.
-use Rattle.std.proofs.Common.{◌≡◌, List, [], ◌∷◌, Option, None, Some, refl, codes, true, inl, inr, is_some, subst, sym, ap, ap₂, ◌∙◌, Box, option_map}
+use Rattle.std.proofs.Common.{◌≡◌, List, [], ◌∷◌, Option, None, Some, refl, true, inl, inr, is_some, subst, sym, ap, ap₂, ◌∙◌, Box, option_map}
 use Rattle.std.proofs.lemmas.List.Elements.{All-cons, All-nil}
 use Rattle.std.specs.Box.{box_value}
 use Rattle.clap.proofs.WalkLemmas.{first_value-rows}

@@ -1,5 +1,5 @@
 -- The laws of the editing byte by byte, and what it says of the lines.
-use Rattle.std.proofs.Common.{◌≡◌, ℕ, ◌+◌, ◌≤◌, ◌<◌, ◌-◌, suc, zero, List, [], ◌∷◌, ◌++◌, length, take, drop, take-append-drop, get_or, min, Option, Some, None, Bool, true, false, cond, not, nat_lt, ◌||◌, ◌==◌, Result, Ok, Err, arith, refl, ap, sym, ◌∙◌, subst, inl, inr, ⊎_elim, append_assoc, append-nil, length-append}
+use Rattle.std.proofs.Common.{◌≡◌, ℕ, ◌+◌, ◌≤◌, ◌<◌, ◌-◌, suc, zero, List, [], ◌∷◌, ◌++◌, length, take, drop, take-append-drop, get_or, min, Some, None, Bool, true, false, cond, not, nat_lt, ◌||◌, ◌==◌, Result, Ok, Err, arith, refl, ap, sym, ◌∙◌, subst, ⊎_elim, append_assoc, append-nil}
 use Rattle.std.proofs.lemmas.List.{take_all, length-take-le, length-take, take_more, get_or-take, take_min}
 use Rattle.std.proofs.lemmas.List.Quantifiers.{position-Some}
 use Rattle.std.specs.List.{position, position_or_len}
@@ -8,7 +8,7 @@ use Rattle.std.proofs.lemmas.List.Sums.{prefix_len_passes}
 use Rattle.std.specs.Result.{is_err, result_unwrap_or}
 use Rattle.pylock_core.specs.State.{State}
 use Rattle.pylock.specs.Lines.{is_lf, input_lines, ended_lines, onto_first, onto_ended, command_of}
-use Rattle.pylock.specs.Report.{is_plan, after_line, after_command, state_after, outcome_text, lines_text, state_after_all, any_refused}
+use Rattle.pylock.specs.Report.{is_plan, after_line, after_command, outcome_text, lines_text, state_after_all, any_refused}
 use Rattle.pylock.specs.Editing.{At, start, lines_begun, plan_after, kept, end_line, end_text, keep_byte, bytes_done, bytes_text, finish, finish_text, finished, finished_text}
 use Rattle.pylock_core.specs.Steps.{answer}
 use Rattle.pylock.specs.declared.lines.LineRefusal.{LineRefusal}

@@ -1,12 +1,12 @@
 -- Lemmas on the text of one line.
-use Rattle.std.proofs.Common.{◌≡◌, ℕ, ◌+◌, ◌<◌, ◌≤◌, ◌^◌, List, [], ◌∷◌, length, Bool, true, false, cond, Result, Ok, Err, Option, Some, None, arith, rules, not, ◌==◌, ◌&&◌, nat_le, refl, ap, sym, ◌∙◌, ltb, leb}
+use Rattle.std.proofs.Common.{◌≡◌, ℕ, ◌<◌, ◌≤◌, ◌^◌, List, [], ◌∷◌, length, true, cond, Result, Ok, Err, Some, None, arith, rules, not, ◌==◌, ◌&&◌, nat_le, refl, ap}
 use Rattle.std.specs.List.{list_all}
 use Rattle.std.specs.Char.{is_ascii_digit}
-use Rattle.std.specs.Str.{IsUtf8, is_utf8}
+use Rattle.std.specs.Str.{IsUtf8}
 use Rattle.std.specs.Str.Parse.{ParsesUnsigned, digits_value}
 use Rattle.std.specs.Result.{result_ok}
 use Rattle.std.proofs.lemmas.Str.{IsUtf8-from_is_utf8, is_utf8-from_IsUtf8}
-use Rattle.std.proofs.lemmas.Str.Parse.{IsDigitsTest, IsNumeralModel, numerals_by_value, parse_gives, digits_value_short}
+use Rattle.std.proofs.lemmas.Str.Parse.{IsNumeralModel, numerals_by_value, parse_gives, digits_value_short}
 use Rattle.std.proofs.lemmas.Bool.{le-ltb, leb-true, and_parts, false_from_ne_true, false≢true}
 use Rattle.pylock.specs.Lines.{command_of, text_command, without_cr, is_entry_number, entry_number}
 use Rattle.pylock.specs.declared.lines.LineRefusal.TheVariants as refusal

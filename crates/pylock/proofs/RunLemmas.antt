@@ -1,5 +1,5 @@
 -- What the faults of a run say.
-use Rattle.std.proofs.Common.{◌≡◌, ℕ, ◌+◌, ◌<◌, ◌≤◌, ◌-◌, List, [], ◌++◌, length, take, drop, Option, Some, None, Result, Ok, Err, OnErr, OnOk, IfErr, refl, sym, ap, ◌∙◌, arith, append_assoc, append-nil, subst, inl, inr, ⊎_elim, length-append, length-drop}
+use Rattle.std.proofs.Common.{◌≡◌, ℕ, ◌+◌, ◌<◌, ◌≤◌, ◌-◌, List, [], ◌++◌, length, take, drop, Option, Some, None, Result, Ok, Err, OnErr, OnOk, refl, sym, ap, ◌∙◌, arith, append_assoc, append-nil, subst, inl, inr, ⊎_elim, length-append, length-drop}
 use Rattle.std.specs.Io.KnownBytes.{append_known, prepend_known}
 use Rattle.pylock.specs.Faults.{HasFailed}
 use Rattle.pylock.specs.Edited.{Edited, EditsAll, IsCause, EditFault}
@@ -11,7 +11,7 @@ use Rattle.std.proofs.lemmas.List.{take_all}
 use Rattle.pylock.specs.Pours.{Pours}
 use Rattle.pylock.specs.Moves.{WritesFront}
 use Rattle.pylock.specs.Editing.{At, bytes_done, bytes_text, lines_begun}
-use Rattle.pylock.specs.EditingFaults.{IsTakeFault, IsWriteFault, IsFeedFault}
+use Rattle.pylock.specs.EditingFaults.{IsTakeFault, IsFeedFault}
 use Rattle.pylock.specs.declared.editing.TheConstants.{LINES}
 use Rattle.pylock.specs.declared.fault.RunFault.{RunFault}
 use Rattle.pylock.specs.declared.fault.RunFault.TheVariants.{Read, Write, Input, Memory}

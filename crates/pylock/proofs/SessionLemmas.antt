@@ -1,12 +1,12 @@
 -- From the editing by an input to the report on its lines.
-use Rattle.std.proofs.Common.{◌≡◌, ℕ, ◌+◌, ◌<◌, ◌≤◌, List, [], ◌++◌, length, Bool, cond, ◌&&◌, not, Option, refl, sym, ap, ◌∙◌, arith, append_assoc, append-nil, subst, inl, inr, ⊎_elim}
-use Rattle.std.specs.Io.KnownBytes.{append_known, prepend_known, IsAtEnd}
+use Rattle.std.proofs.Common.{◌≡◌, ℕ, ◌+◌, ◌<◌, ◌≤◌, List, [], ◌++◌, length, cond, ◌&&◌, not, Option, refl, sym, ap, ◌∙◌, arith, append_assoc, subst, inl, inr, ⊎_elim}
+use Rattle.std.specs.Io.KnownBytes.{append_known, IsAtEnd}
 use Rattle.pylock_core.specs.State.{State}
 use Rattle.pylock_core.specs.Steps.{answer}
 use Rattle.pylock.specs.Faults.{HasFailed}
 use Rattle.pylock.specs.Moves.{WritesFront}
-use Rattle.pylock.specs.Lines.{input_lines, ended_lines}
-use Rattle.pylock.specs.Report.{standing_text, lines_text, lines_report, lines_status, is_plan, state_after_all, any_refused}
+use Rattle.pylock.specs.Lines.{input_lines}
+use Rattle.pylock.specs.Report.{standing_text, lines_report, is_plan, state_after_all}
 use Rattle.pylock.specs.Editing.{At, start, bytes_done, bytes_text, finished, finished_text, lines_begun}
 use Rattle.pylock.specs.EditingFaults.{IsOutputFault}
 use Rattle.pylock.specs.Edited.{EditsAll, EditFault, IsCause}

@@ -1,5 +1,5 @@
 -- The lines of an input, and what one line asks for.
-use Rattle.std.specs.Prelude.{ℕ, ◌-◌, ◌==◌, ◌&&◌, ◌||◌, not, false, nat_lt, nat_le, Bool, List, [], ◌∷◌, length, take, if◌then◌else◌, Option, Some, None, Result, Ok, Err, codes}
+use Rattle.std.specs.Prelude.{ℕ, ◌-◌, ◌==◌, ◌&&◌, not, false, nat_lt, nat_le, Bool, List, [], ◌∷◌, length, take, if◌then◌else◌, Option, Some, None, Result, Ok, Err, codes}
 use Rattle.std.specs.Option.{option_map, ok_or}
 use Rattle.std.specs.List.{before_first, after_first, list_any, list_all, ends_with}
 use Rattle.std.specs.Str.{is_utf8, bytes_eq}

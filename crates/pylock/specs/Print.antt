@@ -1,5 +1,5 @@
 -- The printed text. Each line ends in LF.
-use Rattle.std.specs.Prelude.{ℕ, ◌++◌, List, [], ◌∷◌, length, Bool, true, false, if◌then◌else◌, Option, Some, None, codes, decimal, map}
+use Rattle.std.specs.Prelude.{ℕ, ◌++◌, List, [], ◌∷◌, length, if◌then◌else◌, Option, Some, None, codes, decimal, map}
 use Rattle.std.specs.List.{flat_map, join_with_byte}
 use Rattle.std.specs.Option.{option_map_or}
 use Rattle.pylock_core.specs.Entry.{EntryValue, DirectoryValue, SdistValue, sdist_place, sdist_file_name}

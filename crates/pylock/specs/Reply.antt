@@ -5,7 +5,6 @@ use Rattle.std.specs.declared.alloc.AllocError.{AllocError}
 use Rattle.pyver_core.specs.Grammar.{has_large, numbers}
 use Rattle.pyver_core.specs.Names.{is_name, norm}
 use Rattle.pyver_core.specs.Normal.{normal}
-use Rattle.pyver_core.specs.Parts.{Parts}
 use Rattle.pyver_core.specs.Reading.{version_of}
 use Rattle.pyver_core.specs.SetGrammar.{specifier_numbers}
 use Rattle.pyver_core.specs.SetReading.{set_of}

@@ -5,7 +5,7 @@ use Rattle.pylock_core.specs.State.{State}
 use Rattle.pylock.specs.Faults.{HasFailed}
 use Rattle.pylock.specs.Moves.{WritesFront}
 use Rattle.pylock.specs.Lines.{input_lines, ended_lines}
-use Rattle.pylock.specs.Report.{Report, lines_report, report, ended_report, IsRefused}
+use Rattle.pylock.specs.Report.{lines_report, report, ended_report, IsRefused}
 use Rattle.pylock.specs.declared.editing.TheConstants.{LINES}
 use Rattle.pylock.specs.declared.run.TheConstants.{INPUT_BYTES}
 use Rattle.pylock.specs.declared.fault.RunFault.{RunFault}

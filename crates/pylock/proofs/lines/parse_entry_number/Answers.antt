@@ -1,4 +1,4 @@
-use Rattle.std.proofs.Common.{◌≡◌, true, sym, ◌∙◌}
+use Rattle.std.proofs.Common.{◌≡◌, true, ◌∙◌}
 use Rattle.pylock.specs.Lines.{is_entry_number}
 use Rattle.pylock.proofs.LineLemmas.{parsed_entry_number}
 use Rattle.pylock.proofs.lines.parse_entry_number.Goals as goal

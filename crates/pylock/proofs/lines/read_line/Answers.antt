@@ -1,7 +1,6 @@
-use Rattle.std.proofs.Common.{◌≡◌, ◌≤◌, length, ◌∙◌, sym, ap, subst, arith}
+use Rattle.std.proofs.Common.{◌≡◌, ◌∙◌, sym, ap, subst}
 use Rattle.std.specs.Str.{IsUtf8}
 use Rattle.pylock.specs.Lines.{text_command, without_cr}
-use Rattle.pylock.specs.declared.lines.TheConstants.{LINE_LIMIT}
 use Rattle.pylock.proofs.LineLemmas.{command_of_text, command_of_not_text}
 use Rattle.pylock.proofs.lines.read_line.Goals as goal
 

@@ -1,4 +1,4 @@
-use Rattle.std.proofs.Common.{◌≡◌, ◌∷◌, ◌++◌, take}
+use Rattle.std.proofs.Common.{◌≡◌, ◌++◌, take}
 use Rattle.pylock_core.specs.Entry.{text_pairs}
 use Rattle.pylock.specs.Print.{more_hashes}
 use Rattle.pylock.proofs.printing.push_more_hashes.Given as goal

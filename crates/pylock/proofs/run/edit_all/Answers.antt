@@ -1,4 +1,4 @@
-use Rattle.std.proofs.Common.{◌≡◌, ◌∙◌}
+use Rattle.std.proofs.Common.{◌∙◌}
 use Rattle.std.proofs.lemmas.Result.{err_from_is_err_and}
 use Rattle.pylock.proofs.SessionLemmas.{stops_at_once, stops_at_first, stops_between, stops_at_last, session_reports}
 use Rattle.pylock.proofs.run.edit_all.Goals as goal

@@ -1,4 +1,4 @@
-use Rattle.std.proofs.Common.{◌≡◌, ◌∙◌}
+use Rattle.std.proofs.Common.{◌∙◌}
 use Rattle.std.proofs.lemmas.Result.{err_from_is_err_and}
 use Rattle.pylock.proofs.RunLemmas.{Edited-more, EditFault-after, EditsAll-from}
 use Rattle.pylock.proofs.run.feed_all.Goals as goal

@@ -1,4 +1,3 @@
-use Rattle.std.proofs.Common.{◌≡◌}
 use Rattle.std.proofs.lemmas.Result.{err_from_is_err_and}
 use Rattle.pylock.proofs.RunLemmas.{on_err, feed_fault_from_take, piece_front}
 use Rattle.pylock.proofs.run.feed_some.Goals as goal

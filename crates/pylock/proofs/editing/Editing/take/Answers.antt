@@ -1,4 +1,4 @@
-use Rattle.std.proofs.Common.{◌≡◌, ◌+◌, ◌<◌, ◌≤◌, ◌≢◌, ◌++◌, length, take, vec_len, ap, sym, ◌∙◌, rules, arith, append-nil}
+use Rattle.std.proofs.Common.{◌≡◌, ◌+◌, ◌≤◌, ◌++◌, length, ap, sym, ◌∙◌, rules, arith, append-nil}
 use Rattle.std.proofs.lemmas.List.{take_all}
 use Rattle.pylock.specs.Editing.{kept, end_line, end_text, bytes_done, bytes_text}
 use Rattle.pylock.specs.declared.lines.TheConstants.{LINE_LIMIT}
