@@ -1,7 +1,6 @@
 //! Versions, beside the semantic versions of `semver`.
 
 use crate::clock::{ROUNDS, print_round};
-use anyhow::anyhow;
 use pyver_core::{SpecifierSet, Version};
 use semver::VersionReq;
 use std::rt::Clock;
@@ -96,9 +95,7 @@ fn time_semantic_order<R: Clock + Print + AllocGlobal>(rt: &R) -> anyhow::Result
 
 fn time_admits<R: Clock + Print + AllocGlobal>(rt: &R) -> anyhow::Result<()> {
     let versions = near(rt)?;
-    let Ok(set) = SpecifierSet::parse(rt.alloc(), ">=1.2.3,<2") else {
-        return Err(anyhow!("the set is refused"));
-    };
+    let set = SpecifierSet::parse(rt.alloc(), ">=1.2.3,<2")?;
     let start = Instant::now(rt)?;
     let mut seen = 0u64;
     for i in 0..ROUNDS {

@@ -22,13 +22,16 @@ pub enum VersionError {
 }
 
 /// Why a text isn't taken as a specifier set.
-#[derive(Debug, Drop)]
+#[derive(Debug, Drop, Error)]
 pub enum SpecifierError {
     /// The text doesn't follow the grammar of PEP 440, "Version specifiers".
+    #[error("set-syntax")]
     Syntax,
     /// The text follows the grammar, and one of its numbers is past [`u128::MAX`].
+    #[error("set-number")]
     NumberTooLarge,
     /// There was no memory for the set.
+    #[error("memory")]
     Memory,
 }
 

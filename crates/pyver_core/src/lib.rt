@@ -2,6 +2,7 @@
 #![tactic(auto)]
 
 mod admits;
+mod display;
 mod error;
 mod hash;
 pub mod laws;
