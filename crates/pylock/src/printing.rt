@@ -49,11 +49,16 @@ pub fn push_escaped(out: &mut Vec<u8>, text: &str) -> Result<(), AllocError>
     }
 }
 
-/// Whether the text stands in a field as it is, as nearly each does.
+/// Whether the text stands in a field as it is, as nearly each does. It looks at each byte, so that several
+/// are judged at once.
 fn is_plain_text(text: &[u8]) -> bool
     ensures { result ≡ list_all is_plain text.now }
 {
-    text.iter().all(|byte| is_plain(*byte))
+    let mut plain = true;
+    for byte in text {
+        plain &= is_plain(*byte);
+    }
+    plain
 }
 
 fn is_plain(byte: u8) -> bool
