@@ -1,5 +1,5 @@
 -- The fields of a printed line.
-use Rattle.std.specs.Prelude.{ℕ, Bool, not, ◌||◌, ◌==◌, List, [], ◌∷◌, if◌then◌else◌, Option, Some, None, codes}
+use Rattle.std.specs.Prelude.{ℕ, Bool, ◌==◌, List, [], ◌∷◌, if◌then◌else◌, Option, Some, None, codes}
 use Rattle.std.specs.List.{flat_map}
 use Rattle.std.specs.Str.{bytes_eq}
 
@@ -12,12 +12,13 @@ escape b =
     else if b == 92 then codes "\\\\"
     else b ∷ []
 
--- whether a byte stands in a field as it is
-abbrev pub is_plain : ℕ → Bool
-is_plain b = not (b == 9 || b == 10 || b == 13 || b == 92)
-
+-- a text with its escapes
 abbrev pub escaped : List ℕ → List ℕ
 escaped text = flat_map escape text
+
+-- whether a byte stands in a field as it is
+abbrev pub is_plain : ℕ → Bool
+is_plain b = bytes_eq (escape b) (b ∷ [])
 
 -- a field: an absent text is `-`, and the text `-` is written `\-`
 abbrev pub field : Option (List ℕ) → List ℕ

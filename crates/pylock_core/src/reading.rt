@@ -1,5 +1,5 @@
-//! The readers of locks (PEP 751) and of environments: by reference, from the values that `toml` and `serde_json` give
-//! for their texts.
+//! The readers of locks (PEP 751) and of environments, from the values that `toml` and `serde_json` give for their
+//! texts: by reference, but for the packages of a lock, which are taken out and let go one by one.
 ghost use Rattle.std.specs.Prelude.{◌≡◌};
 ghost use Rattle.std.specs.Option.{option_copied};
 ghost use Rattle.pylock_core.specs.Reading.{text_of};

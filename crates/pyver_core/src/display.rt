@@ -10,6 +10,7 @@ use crate::specifier::Operator;
 use crate::version::Version;
 use std::fmt;
 
+/// The normal form (PEP 440, "Normalization").
 impl fmt::Display for Version {
     ghost output = { λ v. Some (normal v) };
 
@@ -20,6 +21,7 @@ impl fmt::Display for Version {
     }
 }
 
+/// The operator as it is written.
 impl fmt::Display for Operator {
     ghost output = { λ operator. Some (operator_text operator) };
 
@@ -30,6 +32,7 @@ impl fmt::Display for Operator {
     }
 }
 
+/// The normal form: the specifiers in order, joined by commas.
 impl fmt::Display for SpecifierSet {
     ghost output = { λ set. Some (set_text set) };
 

@@ -10,7 +10,7 @@ use crate::parts::PartsRef;
 use std::alloc::{AllocError, Global};
 use std::fmt::Write;
 
-/// The length that nearly each normal form keeps to, and the least that an allocation takes.
+/// The room that a normal form begins with, which nearly each keeps to. The C library's allocator gives no less.
 const USUAL_LENGTH: usize = 24;
 
 /// The normal form of a version with these parts.
