@@ -1,3 +1,4 @@
+pub mod Agreement
 pub mod Answer
 pub mod Borrowed
 pub mod Drafted
@@ -6,12 +7,14 @@ pub mod Hashing
 pub mod Limit
 pub mod Names
 pub mod Normal
+pub mod Options
 pub mod Order
 pub mod OrderLaws
 pub mod Parts
 pub mod Phases
 pub mod Prefix
 pub mod Reading
+pub mod Results
 pub mod SetAnswer
 pub mod SetGrammar
 pub mod SetReading
