@@ -1,12 +1,21 @@
 //! Specifier sets (PEP 440, "Version specifiers").
 
 ghost use Rattle.std.specs.Prelude.{◌≡◌, IfOk};
-ghost use Rattle.pyver_core.specs.SpecifierText.{set_text};
-ghost use Rattle.pyver_core.specs.Specifiers.{admits_all};
+ghost use Rattle.pyver_core.specs.Set.Normal.{set_text};
+ghost use Rattle.pyver_core.specs.Set.Admission.{admits_all};
 
-use crate::set_text::set_text;
-use crate::specifier::Specifier;
+mod admission;
+mod error;
+mod normal;
+mod operand;
+mod parse;
+mod reading;
+mod specifier;
+
 use crate::version::Version;
+pub use error::SpecifierError;
+use normal::set_text;
+pub use specifier::{Operator, ReleasePrefix, Specifier};
 use std::alloc::{AllocError, Global};
 use std::marker::Model;
 
@@ -22,8 +31,8 @@ pub struct SpecifierSet {
 
 impl Model for SpecifierSet {
     ghost use Rattle.std.specs.Prelude.{◌≡◌, List, string_bytes};
-    ghost use Rattle.pyver_core.specs.SpecifierText.{set_text};
-    ghost use Rattle.pyver_core.specs.declared.specifier.Specifier.{Specifier};
+    ghost use Rattle.pyver_core.specs.Set.Normal.{set_text};
+    ghost use Rattle.pyver_core.specs.declared.set.specifier.Specifier.{Specifier};
 
     ghost Value = { List Specifier };
 
