@@ -1,5 +1,6 @@
 -- Specifier sets (PEP 440, "Version specifiers").
 pub mod Admission
+pub mod Equality
 pub mod Grammar
 pub mod Normal
 pub mod Prefix

@@ -182,3 +182,20 @@ impl Version {
         self.post.is_some()
     }
 }
+
+/// A copy takes memory for the release, the local part and the normal form.
+impl Clone for Version {
+    ghost is_clone = { λ version copy. copy ≡ version };
+
+    fn clone(&self) -> Result<Version, AllocError> {
+        Ok(Version {
+            epoch: self.epoch,
+            release: self.release.clone()?,
+            pre: self.pre,
+            post: self.post,
+            dev: self.dev,
+            local: self.local.clone()?,
+            text: self.text.clone()?,
+        })
+    }
+}

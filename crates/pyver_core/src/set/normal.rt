@@ -4,7 +4,7 @@ ghost use Rattle.std.specs.Prelude.{◌≡◌, ◌++◌, IfOk, OnOk, Some, strin
 ghost use Rattle.std.specs.Fmt.{padded};
 ghost use Rattle.pyver_core.specs.Set.Normal.{operand_text, operator_text, prefix_text, set_text, specifier_text};
 
-use crate::set::{Operator, ReleasePrefix, Specifier, SpecifierSet};
+use crate::set::{Operand, Operator, ReleasePrefix, Specifier, SpecifierSet};
 use crate::version::{push_epoch, push_release};
 use std::alloc::{AllocError, Global};
 use std::fmt;
@@ -32,20 +32,12 @@ fn push_specifier(text: &mut String, specifier: &Specifier) -> Result<(), AllocE
 }
 
 fn push_operand(text: &mut String, specifier: &Specifier) -> Result<(), AllocError>
-    ensures { OnOk result (string_bytes text.new ≡ string_bytes text.old ++ operand_text specifier.now) }
+    ensures { OnOk result (string_bytes text.new
+        ≡ string_bytes text.old ++ operand_text specifier.now) }
 {
-    match specifier {
-        Specifier::EqualPrefix(prefix) | Specifier::NotEqualPrefix(prefix) => {
-            push_prefix(text, prefix)
-        }
-        Specifier::Equal(version)
-        | Specifier::NotEqual(version)
-        | Specifier::AtMost(version)
-        | Specifier::AtLeast(version)
-        | Specifier::Before(version)
-        | Specifier::After(version)
-        | Specifier::Compatible(version) => text.push_str(version.text()),
-        Specifier::Arbitrary(label) => text.push_str(label.as_str()),
+    match specifier.operand() {
+        Operand::Text(operand) => text.push_str(operand),
+        Operand::Prefix(prefix) => push_prefix(text, prefix),
     }
 }
 

@@ -1,8 +1,14 @@
 //! Specifiers and what they are made of (PEP 440, "Version specifiers").
 
-ghost use Rattle.std.specs.Prelude.{◌≡◌};
+ghost use Rattle.std.specs.Prelude.{◌≡◌, nat_eq};
+ghost use Rattle.std.specs.Cmp.{partial_equiv_from_equiv};
+ghost use Rattle.std.specs.Cmp.Lexicographic.{pointwise};
+ghost use Rattle.pyver_core.specs.Inner.EqualityLaws.{specifier_equivalence};
+ghost use Rattle.pyver_core.specs.Inner.Operand.{pieces_of};
+ghost use Rattle.pyver_core.specs.Set.Equality.{operand_pieces, specifier_eq};
 
 use crate::version::{Label, Version};
+use std::alloc::AllocError;
 use std::marker::Model;
 
 /// The operator of a specifier.
@@ -67,6 +73,15 @@ pub enum Specifier {
     Arbitrary(Label),
 }
 
+/// What stands after an operator, lent to be compared or written.
+#[derive(Clone, Copy)]
+pub(crate) enum Operand<'a> {
+    /// The normal form of a version, or a text as it is.
+    Text(&'a str),
+    /// `R.*`
+    Prefix(&'a ReleasePrefix),
+}
+
 impl ReleasePrefix {
     pub(crate) fn new(epoch: u128, release: Vec<u128>) -> ReleasePrefix
         ensures { result ≡ record { epoch = epoch; release = release.items } }
@@ -110,7 +125,9 @@ impl Operator {
 }
 
 impl Specifier {
-    ghost use Rattle.pyver_core.specs.Set.Normal.{operator_of};
+    ghost use Rattle.pyver_core.specs.Inner.Operand.{pieces_of, text_of};
+    ghost use Rattle.pyver_core.specs.Set.Equality.{operand_pieces};
+    ghost use Rattle.pyver_core.specs.Set.Normal.{operand_text, operator_of};
 
     /// The operator.
     pub fn operator(&self) -> Operator
@@ -127,4 +144,86 @@ impl Specifier {
             Specifier::Arbitrary(_) => Operator::Arbitrary,
         }
     }
+
+    /// The operand, lent.
+    pub(crate) fn operand(&self) -> Operand<'_>
+        ensures pieces { pieces_of result ≡ operand_pieces self.now }
+        ensures text { text_of result ≡ operand_text self.now }
+    {
+        match self {
+            Specifier::EqualPrefix(prefix) | Specifier::NotEqualPrefix(prefix) => {
+                Operand::Prefix(prefix)
+            }
+            Specifier::Equal(version)
+            | Specifier::NotEqual(version)
+            | Specifier::AtMost(version)
+            | Specifier::AtLeast(version)
+            | Specifier::Before(version)
+            | Specifier::After(version)
+            | Specifier::Compatible(version) => Operand::Text(version.text()),
+            Specifier::Arbitrary(label) => Operand::Text(label.as_str()),
+        }
+    }
+}
+
+/// A copy takes memory for the numbers.
+impl Clone for ReleasePrefix {
+    ghost is_clone = { λ prefix copy. copy ≡ prefix };
+
+    fn clone(&self) -> Result<ReleasePrefix, AllocError> {
+        Ok(ReleasePrefix {
+            epoch: self.epoch,
+            release: self.release.clone()?,
+        })
+    }
+}
+
+/// A copy takes memory for the operand.
+impl Clone for Specifier {
+    ghost is_clone = { λ specifier copy. copy ≡ specifier };
+
+    fn clone(&self) -> Result<Specifier, AllocError> {
+        Ok(match self {
+            Specifier::Equal(version) => Specifier::Equal(version.clone()?),
+            Specifier::EqualPrefix(prefix) => Specifier::EqualPrefix(prefix.clone()?),
+            Specifier::NotEqual(version) => Specifier::NotEqual(version.clone()?),
+            Specifier::NotEqualPrefix(prefix) => Specifier::NotEqualPrefix(prefix.clone()?),
+            Specifier::AtMost(version) => Specifier::AtMost(version.clone()?),
+            Specifier::AtLeast(version) => Specifier::AtLeast(version.clone()?),
+            Specifier::Before(version) => Specifier::Before(version.clone()?),
+            Specifier::After(version) => Specifier::After(version.clone()?),
+            Specifier::Compatible(version) => Specifier::Compatible(version.clone()?),
+            Specifier::Arbitrary(label) => Specifier::Arbitrary(label.clone()?),
+        })
+    }
+}
+
+/// Whether two operands are equal as they are written.
+fn is_same_operand(left: &Operand<'_>, right: &Operand<'_>) -> bool
+    ensures { result ≡ pointwise (pointwise nat_eq) (pieces_of left.now) (pieces_of right.now) }
+{
+    match (left, right) {
+        (Operand::Text(left), Operand::Text(right)) => left == right,
+        (Operand::Prefix(left), Operand::Prefix(right)) => {
+            left.epoch == right.epoch && left.release == right.release
+        }
+        (Operand::Text(_), Operand::Prefix(_)) | (Operand::Prefix(_), Operand::Text(_)) => false,
+    }
+}
+
+/// Equal as they are written: the same operator, and the same normal form of the operand. So `>=1.0`
+/// isn't `>=1`, though both admit the same versions. It takes no memory.
+impl PartialEq for Specifier {
+    ghost eq = { specifier_eq };
+
+    ghost laws = { partial_equiv_from_equiv specifier_equivalence };
+
+    fn eq(&self, other: &Specifier) -> bool {
+        self.operator().as_str() == other.operator().as_str()
+            && is_same_operand(&self.operand(), &other.operand())
+    }
+}
+
+impl Eq for Specifier {
+    ghost laws = { specifier_equivalence };
 }

@@ -8,6 +8,7 @@ ghost use Rattle.std.specs.Hash as fed;
 ghost use Rattle.std.specs.Ordering.{as_partial_cmp, nat_cmp};
 ghost use Rattle.std.proofs.Common.{rules};
 
+use std::alloc::AllocError;
 use std::cmp::Ordering;
 use std::hash::{Hash, Hasher};
 use std::marker::Model;
@@ -30,6 +31,18 @@ pub enum LocalPart {
     Text(Label),
     /// A segment of digits alone.
     Number(u128),
+}
+
+/// A copy takes memory for a text.
+impl Clone for LocalPart {
+    ghost is_clone = { λ part copy. copy ≡ part };
+
+    fn clone(&self) -> Result<LocalPart, AllocError> {
+        Ok(match self {
+            LocalPart::Text(label) => LocalPart::Text(label.clone()?),
+            LocalPart::Number(number) => LocalPart::Number(*number),
+        })
+    }
 }
 
 /// A text that contracts see as the list of its bytes.
@@ -65,6 +78,17 @@ impl Label {
     {
         let Label { text } = self;
         text
+    }
+}
+
+/// A copy takes memory for the text.
+impl Clone for Label {
+    ghost is_clone = { λ label copy. copy ≡ label };
+
+    fn clone(&self) -> Result<Label, AllocError> {
+        Ok(Label {
+            text: self.text.clone()?,
+        })
     }
 }
 
