@@ -1,7 +1,9 @@
 //! The normal form of a specifier set, written from its specifiers.
 
 ghost use Rattle.std.specs.Prelude.{◌≡◌, ◌++◌, IfOk, OnOk, Some, string_bytes};
-ghost use Rattle.std.specs.Fmt.{padded};
+ghost use Rattle.std.specs.Fmt.{WritesOnOk, padded};
+ghost use Rattle.std.specs.List.{flat_map};
+ghost use Rattle.pyver_core.specs.Version.Normal.{decimal_text, dotted_number, epoch_text, release_text};
 ghost use Rattle.pyver_core.specs.Set.Normal.{operand_text, operator_text, prefix_text, set_text, specifier_text};
 
 use crate::set::{Operand, Operator, ReleasePrefix, Specifier, SpecifierSet};
@@ -68,5 +70,74 @@ impl fmt::Display for SpecifierSet {
 
     fn fmt<W: fmt::Write>(&self, f: &mut fmt::Formatter<W>) -> fmt::Result {
         f.pad(self.text())
+    }
+}
+
+/// Writes a number in base ten.
+#[tactic(auto, using(crate::proofs::Lemmas::Version::Decimal::decimal_is_text))]
+fn write_number<W: fmt::Write>(f: &mut fmt::Formatter<W>, number: u128) -> fmt::Result
+    ensures { WritesOnOk W.write_str_gives f.old result (decimal_text number) f.new }
+{
+    write!(f, "{number}")
+}
+
+/// Writes the epoch where it isn't 0.
+fn write_epoch<W: fmt::Write>(f: &mut fmt::Formatter<W>, epoch: u128) -> fmt::Result
+    ensures { WritesOnOk W.write_str_gives f.old result (epoch_text epoch) f.new }
+{
+    if epoch == 0 {
+        return Ok(());
+    }
+    write_number(f, epoch)?;
+    f.write_str("!")
+}
+
+/// Writes numbers with a dot before each.
+fn write_dotted_numbers<W: fmt::Write>(
+    f: &mut fmt::Formatter<W>,
+    numbers: &[u128],
+) -> fmt::Result
+    ensures { WritesOnOk W.write_str_gives f.old result
+        (flat_map dotted_number numbers.now) f.new }
+{
+    for number in numbers {
+        f.write_str(".")?;
+        write_number(f, *number)?;
+    }
+    Ok(())
+}
+
+/// Writes the numbers of a release.
+fn write_release<W: fmt::Write>(f: &mut fmt::Formatter<W>, release: &[u128]) -> fmt::Result
+    ensures { WritesOnOk W.write_str_gives f.old result (release_text release.now) f.new }
+{
+    let Some((first, rest)) = release.split_first() else {
+        return Ok(());
+    };
+    write_number(f, *first)?;
+    write_dotted_numbers(f, rest)
+}
+
+/// `R.*` in the normal form of its numbers.
+impl fmt::Display for ReleasePrefix {
+    ghost output = { λ prefix. Some (prefix_text prefix) };
+
+    fn fmt<W: fmt::Write>(&self, f: &mut fmt::Formatter<W>) -> fmt::Result {
+        write_epoch(f, self.epoch())?;
+        write_release(f, self.release())?;
+        f.write_str(".*")
+    }
+}
+
+/// The operator, and the normal form of the operand.
+impl fmt::Display for Specifier {
+    ghost output = { λ specifier. Some (specifier_text specifier) };
+
+    fn fmt<W: fmt::Write>(&self, f: &mut fmt::Formatter<W>) -> fmt::Result {
+        f.write_str(self.operator().as_str())?;
+        match self.operand() {
+            Operand::Text(operand) => f.write_str(operand),
+            Operand::Prefix(prefix) => write!(f, "{prefix}"),
+        }
     }
 }
