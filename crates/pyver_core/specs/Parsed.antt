@@ -1,5 +1,5 @@
--- What a text is read as: the one thing that it spells, or the reason why it is refused. A text that follows no
--- grammar is refused for that, and only then one with a number past the limit.
+-- What a text is read as: the one thing that it spells, or the reason why it is refused. A text
+-- that follows no grammar is refused for that, and only then one with a number past the limit.
 use Rattle.std.specs.Prelude.{ℕ, if◌then◌else◌, List, Result, Ok, Err, ok_or}
 use Rattle.std.specs.List.{flat_map}
 use Rattle.pyver_core.specs.Version.Grammar.{has_large, numbers}

@@ -30,8 +30,8 @@ pub fn version_of_is_complete()
     ensures { (text : List ℕ) (p : Parts) → Spells text p → version_of text ≡ Some p }
 {}
 
-/// [`Version::from_parts`](crate::Version::from_parts) takes the parts that a text spells, and no others; and
-/// their normal form is such a text.
+/// [`Version::from_parts`](crate::Version::from_parts) takes the parts that a text spells, and no
+/// others; and their normal form is such a text.
 pub fn parts_have_a_spelling()
     ensures made { (p v : Parts) → version_from p ≡ Ok v → (v ≡ p) × Spells (normal p) p }
     ensures spelt { (text : List ℕ) (p : Parts) → Spells text p → version_from p ≡ Ok p }
@@ -48,8 +48,8 @@ pub fn trailing_zeros_are_no_difference()
         → version_cmp (record v { release = v.release ++ replicate n 0 }) w ≡ version_cmp v w }
 {}
 
-/// The normal form of a name, read from the left: a run of separators that no separator follows is one
-/// `-`, and any other byte is itself in lower case.
+/// The normal form of a name, read from the left: a run of separators that no separator follows is
+/// one `-`, and any other byte is itself in lower case.
 pub fn runs_become_one_dash()
     ensures empty { norm [] ≡ [] }
     ensures run { (b : ℕ) (run rest : List ℕ) → list_all is_separator (b ∷ run) ≡ true
