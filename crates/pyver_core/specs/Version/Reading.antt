@@ -81,8 +81,8 @@ unfoldable pub head_at : List ℕ → Option ((ℕ × ℕ) × List ℕ)
 head_at text = do
   first ← number_at text
   if starts (λ b. b == 33) first.1
-  then (number_at (drop 1 first.1) >>= λ second. Some ((first.0, second.0), second.1))
-  else Some ((0, first.0), first.1)
+      then (number_at (drop 1 first.1) >>= λ second. Some ((first.0, second.0), second.1))
+      else Some ((0, first.0), first.1)
 
 unfoldable pub dotted_number_at : List ℕ → Option (ℕ × List ℕ)
 dotted_number_at text = behind_at is_dot number_at text
@@ -164,16 +164,17 @@ parts_at base text =
     let pre = optional_at tagged_pre_at text in
     let post = optional_at dashed_or_tagged_post_at pre.1 in
     let dev = optional_at tagged_dev_at post.1 in
-    let local = local_at dev.1 in
-    let parts = record {
-      epoch = base.0;
-      release = base.1;
-      pre = pre.0;
-      post = post.0;
-      dev = dev.0;
-      local = local.0;
-    } in
-    (parts, local.1)
+    let local = local_at dev.1 in (
+      record {
+        epoch = base.0;
+        release = base.1;
+        pre = pre.0;
+        post = post.0;
+        dev = dev.0;
+        local = local.0;
+      },
+      local.1,
+    )
 
 -- The parts that the text spells.
 unfoldable pub version_of : List ℕ → Option Parts
