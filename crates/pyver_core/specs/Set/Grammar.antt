@@ -102,6 +102,10 @@ specifier_numbers (After v) = numbers v
 specifier_numbers (Compatible v) = numbers v
 specifier_numbers (Arbitrary label) = []
 
+-- the numbers of all specifiers
+abbrev pub set_numbers : List Specifier → List ℕ
+set_numbers specifiers = flat_map specifier_numbers specifiers
+
 -- a number of a specifier is past the limit
 abbrev pub IsLargeSet : List Specifier → Type 0
-IsLargeSet specifiers = IsTrue (has_large (flat_map specifier_numbers specifiers))
+IsLargeSet specifiers = IsTrue (has_large (set_numbers specifiers))
