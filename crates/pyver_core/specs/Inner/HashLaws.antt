@@ -1,5 +1,5 @@
 -- Equal versions are hashed alike.
-use Rattle.std.proofs.Common.{◌≡◌, ℕ, ◌++◌, Option, Some, None, true, pos, refl, sym, ap, ◌∙◌}
+use Rattle.std.proofs.Common.{◌≡◌, ℕ, ◌++◌, Option, Some, None, true, refl, sym, ap, ◌∙◌}
 use Rattle.std.proofs.Common.{arith}
 use Rattle.std.specs.Cmp.{Equal-is}
 use Rattle.std.specs.FinMap.{IsAntisymmetric, nat_cmp-IsAntisymmetric, slice_cmp-IsAntisymmetric}
@@ -14,7 +14,6 @@ use Rattle.pyver_core.specs.Version.Order.{dev_cmp, phase_number, phase_rank, se
 use Rattle.pyver_core.specs.Version.Order.{version_cmp}
 use Rattle.pyver_core.specs.Version.Parts.{Parts}
 use Rattle.pyver_core.specs.Inner.Releases.{release_cmp_without_zeros}
-use Rattle.pyver_core.specs.declared.version.part.LocalPart.{LocalPart}
 use Rattle.pyver_core.specs.declared.version.part.LocalPart.TheVariants.{Number, Text}
 use Rattle.pyver_core.specs.declared.version.part.PreKind.{PreKind}
 use Rattle.pyver_core.specs.declared.version.part.PreKind.TheVariants.{A, B, Rc}

@@ -1,6 +1,6 @@
 -- What is hashed of a version: its parts, the release without the zeros at its end, so that equal
 -- versions are hashed alike.
-use Rattle.std.specs.Prelude.{ℕ, zero, suc, List, [], ◌∷◌, ◌++◌, Option, pos}
+use Rattle.std.specs.Prelude.{ℕ, zero, suc, List, [], ◌∷◌, ◌++◌, pos}
 use Rattle.std.specs.Hash as fed
 use Rattle.pyver_core.specs.Version.Parts.{Parts}
 use Rattle.pyver_core.specs.declared.version.part.LocalPart.{LocalPart}
