@@ -1,4 +1,4 @@
-//! `newest SET VERSION..` prints the newest of the versions that the specifier set admits, or `none`.
+//! `newest SET VERSION..` prints the newest of the versions that a specifier set admits, or `none`.
 #![tactic(auto)]
 
 ghost use Rattle.std.specs.Prelude.{◌≡◌};
