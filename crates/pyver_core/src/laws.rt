@@ -10,7 +10,9 @@ ghost use Rattle.pyver_core.specs.Name.{norm};
 ghost use Rattle.pyver_core.specs.Version.Normal.{normal};
 ghost use Rattle.pyver_core.specs.Version.Order.{version_cmp};
 ghost use Rattle.pyver_core.specs.Version.Reading.{version_of};
+ghost use Rattle.pyver_core.specs.Set.Equality.{set_eq, specifier_eq};
 ghost use Rattle.pyver_core.specs.Set.Grammar.{SetText};
+ghost use Rattle.pyver_core.specs.Set.Normal.{set_text, specifier_text};
 ghost use Rattle.pyver_core.specs.declared.set.specifier.Specifier.{Specifier};
 
 /// A text spells at most one version, and so does the normal form of what it spells: the same one
@@ -40,6 +42,13 @@ pub fn parts_have_a_spelling()
 /// A text writes at most one specifier set.
 pub fn one_specifier_set()
     ensures { (text : List ℕ) (s t : List Specifier) → SetText text s → SetText text t → s ≡ t }
+{}
+
+/// Specifiers and sets that are equal as they are written have the same normal form.
+pub fn equal_ones_print_alike()
+    ensures specifiers { (s t : Specifier) → specifier_eq s t ≡ true
+        → specifier_text s ≡ specifier_text t }
+    ensures sets { (s t : List Specifier) → set_eq s t ≡ true → set_text s ≡ set_text t }
 {}
 
 /// Zeros at the end of a release make no difference to the order of versions.
