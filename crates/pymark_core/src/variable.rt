@@ -1,7 +1,7 @@
 //! The variables of markers (PEP 508, "Environment Markers").
 
-ghost use Rattle.std.specs.Prelude.{◌≡◌};
-ghost use Rattle.pymark_core.specs.Variables.{variable_name, variable_of};
+ghost use Rattle.std.specs.Prelude.{◌≡◌, ◌<◌};
+ghost use Rattle.pymark_core.specs.Variables.{place, variable_name, variable_of};
 
 /// A variable of markers: a text about the Python that is installed for.
 #[derive(Clone, Copy, PartialEq, Eq, Hash, Debug)]
@@ -70,5 +70,13 @@ impl Var {
             Var::ImplementationName => "implementation_name",
             Var::ImplementationVersion => "implementation_version",
         }
+    }
+
+    /// The place of the variable among the eleven.
+    pub(crate) fn place(self) -> usize
+        ensures place { result ≡ place self }
+        ensures within { result < 11 }
+    {
+        self as usize
     }
 }
