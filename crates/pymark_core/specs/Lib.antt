@@ -1,3 +1,4 @@
 pub mod Environment
+pub mod Marker
 pub mod Parsed
 pub mod Variables

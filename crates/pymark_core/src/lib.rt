@@ -2,7 +2,9 @@
 #![tactic(auto)]
 
 mod candidate;
+mod comparison;
 mod environment;
+mod marker;
 mod names;
 mod operand;
 mod variable;

@@ -1,0 +1,3 @@
+//! Markers (PEP 508, "Environment Markers").
+
+pub(crate) mod tree;
