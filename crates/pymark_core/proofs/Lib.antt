@@ -1,2 +1,4 @@
+pub mod Judged
+pub mod Substrings
 pub mod Texts
 pub mod TreeView

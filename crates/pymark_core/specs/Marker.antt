@@ -1,3 +1,4 @@
 pub mod Comparison
 pub mod Tree
+pub mod Value
 pub mod View

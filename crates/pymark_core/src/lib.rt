@@ -4,11 +4,13 @@
 mod candidate;
 mod comparison;
 mod environment;
+mod fault;
 mod marker;
 mod names;
 mod operand;
 mod variable;
 
 pub use environment::Environment;
+pub use fault::EvalFault;
 pub use operand::{Comparator, Operand};
 pub use variable::Var;
