@@ -1,2 +1,3 @@
 pub mod Marker
 pub mod Variables
+pub mod White

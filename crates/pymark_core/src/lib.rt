@@ -2,9 +2,11 @@
 #![tactic(auto)]
 
 mod comparison;
+pub mod laws;
 mod marker;
 mod operand;
 mod variable;
 
+pub use marker::{Key, MarkerError};
 pub use operand::{Comparator, Operand};
 pub use variable::Var;
