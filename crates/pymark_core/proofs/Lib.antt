@@ -1,1 +1,2 @@
+pub mod ReadingComplete
 pub mod TreeView
