@@ -1,2 +1,4 @@
+pub mod Choices
 pub mod ReadingComplete
+pub mod ReadingSound
 pub mod TreeView
