@@ -1,4 +1,7 @@
+pub mod Choices
 pub mod Judged
+pub mod ReadingComplete
+pub mod ReadingSound
 pub mod Substrings
 pub mod Texts
 pub mod TreeView

@@ -3,3 +3,4 @@ pub mod Inner
 pub mod Marker
 pub mod Parsed
 pub mod Variables
+pub mod White

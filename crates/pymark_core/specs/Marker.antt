@@ -1,4 +1,9 @@
 pub mod Comparison
+pub mod Depth
+pub mod Grammar
+pub mod Keys
+pub mod Reading
+pub mod Token
 pub mod Tree
 pub mod Value
 pub mod View

@@ -5,6 +5,7 @@ mod candidate;
 mod comparison;
 mod environment;
 mod fault;
+pub mod laws;
 mod marker;
 mod names;
 mod operand;
@@ -12,5 +13,6 @@ mod variable;
 
 pub use environment::Environment;
 pub use fault::EvalFault;
+pub use marker::{Key, MarkerError};
 pub use operand::{Comparator, Operand};
 pub use variable::Var;
