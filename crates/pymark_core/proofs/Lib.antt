@@ -5,3 +5,4 @@ pub mod ReadingSound
 pub mod Substrings
 pub mod Texts
 pub mod TreeView
+pub mod Turns
