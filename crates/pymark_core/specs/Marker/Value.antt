@@ -1,6 +1,6 @@
 -- What a marker is worth in an environment: true, false or a fault (PEP 508, "Environment Markers";
 -- PEP 751, "Installation", for `extras` and `dependency_groups`).
-use Rattle.std.specs.Prelude.{ℕ, Bool, not, ◌&&◌, ◌||◌, List, [], ◌∷◌, Option, Some, None, ok_or, nat_eq, Result, Ok, Err, if◌then◌else◌}
+use Rattle.std.specs.Prelude.{◌≡◌, ℕ, Bool, not, ◌&&◌, ◌||◌, List, [], ◌∷◌, Option, Some, None, ok_or, nat_eq, Result, Ok, Err, if◌then◌else◌}
 use Rattle.std.specs.Cmp.Lexicographic.{slice_cmp}
 use Rattle.std.specs.List.{starts_with}
 use Rattle.std.specs.Ordering.{is_ge, is_gt, is_le, is_lt, nat_cmp}
@@ -21,6 +21,8 @@ use Rattle.pymark_core.specs.Marker.Comparison.{ComparisonValue}
 use Rattle.pymark_core.specs.Marker.Tree.{Tree, last, or, Conjunction, only, and, Atom, leaf, group}
 use Rattle.pymark_core.specs.declared.fault.EvalFault.{EvalFault}
 use Rattle.pymark_core.specs.declared.fault.EvalFault.TheVariants as fault
+use Rattle.pymark_core.specs.declared.marker.keys.Key.{Key}
+use Rattle.pymark_core.specs.declared.marker.keys.Key.TheVariants as key
 use Rattle.pymark_core.specs.declared.operand.Comparator.{Comparator}
 use Rattle.pymark_core.specs.declared.operand.Comparator.TheVariants.{By, In, NotIn}
 use Rattle.pymark_core.specs.declared.operand.Operand.{Operand}
@@ -108,3 +110,11 @@ abbrev mutual
   pub atom_value : EnvironmentValue → Atom → Result Bool EvalFault
   atom_value environment (leaf comparison) = comparison_value environment comparison
   atom_value environment (group tree) = marker_value environment tree
+
+-- ---- what a marker reads
+
+-- two environments have the same at this key
+abbrev pub AgreeAt : Key → EnvironmentValue → EnvironmentValue → Type 0
+AgreeAt (key.Of v) e f = variable_in v e ≡ variable_in v f
+AgreeAt key.Extras e f = e.extras ≡ f.extras
+AgreeAt key.Groups e f = e.groups ≡ f.groups
