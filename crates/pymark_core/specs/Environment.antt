@@ -5,7 +5,7 @@ use Rattle.std.specs.Cmp.Lexicographic.{slice_cmp}
 use Rattle.std.specs.Coded.{Coded, code_by, coded×, coded_ℕ, coded_list, coded_option}
 use Rattle.std.specs.FinSet as set
 use Rattle.std.specs.Ordering.{nat_cmp}
-use Rattle.pyver_core.specs.Names.{norm}
+use Rattle.pyver_core.specs.Name.{norm}
 use Rattle.pymark_core.specs.Variables.{place}
 use Rattle.pymark_core.specs.declared.variable.Var.{Var}
 
