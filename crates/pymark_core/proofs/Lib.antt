@@ -1,4 +1,6 @@
+pub mod Boundaries
 pub mod Choices
+pub mod DepthLemmas
 pub mod ReadingComplete
 pub mod ReadingSound
 pub mod TreeView

@@ -15,5 +15,4 @@ pub fn one_tree()
 pub fn tree_text_is_complete()
     ensures sound { (text : List ℕ) (tree : Tree) → tree_text text ≡ Some tree → MarkerText text tree }
     ensures complete { (text : List ℕ) (tree : Tree) → MarkerText text tree → tree_text text ≡ Some tree }
-{
-}
+{}

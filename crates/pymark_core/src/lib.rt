@@ -6,6 +6,7 @@ pub mod laws;
 mod marker;
 mod operand;
 mod variable;
+mod white;
 
 pub use marker::{Key, MarkerError};
 pub use operand::{Comparator, Operand};

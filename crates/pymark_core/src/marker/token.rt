@@ -1,0 +1,89 @@
+//! The tokens of a marker's text (PEP 508, "Grammar").
+
+ghost use Rattle.std.specs.Prelude.{◌≡◌, ◌<◌, option_map};
+ghost use Rattle.std.specs.List.{prefix_len};
+ghost use Rattle.pymark_core.specs.Marker.Front.{lent_cut, quoted_front, token_front};
+ghost use Rattle.pymark_core.specs.Marker.Token.{is_inside, is_word_byte, operator_in};
+
+use crate::white::past_white;
+use pyver_core::Operator;
+
+/// A token, lent from the text.
+#[derive(Clone, Copy)]
+pub(super) enum Token<'a> {
+    /// `(`
+    Open,
+    /// `)`
+    Close,
+    /// An operator of specifiers.
+    Sign(Operator),
+    /// Letters, digits and `_`.
+    Word(&'a str),
+    /// What stands between two quotes.
+    Quoted(&'a str),
+}
+
+/// Whether the byte may stand between two of these quotes.
+fn is_inside(quote: u8, byte: u8) -> bool
+    ensures { result ≡ is_inside quote byte }
+{
+    byte != quote && byte != b'\\' && (byte == b'\t' || byte >= b' ' && byte != 0x7f)
+}
+
+fn is_word_byte(byte: u8) -> bool
+    ensures { result ≡ is_word_byte byte }
+{
+    byte.is_ascii_alphanumeric() || byte == b'_'
+}
+
+fn inside_len(quote: u8, text: &str) -> usize
+    ensures { result ≡ prefix_len (is_inside quote) text.now }
+{
+    text.as_bytes()
+        .iter()
+        .take_while(|b| is_inside(quote, **b))
+        .count()
+}
+
+fn word_len(text: &str) -> usize
+    ensures { result ≡ prefix_len is_word_byte text.now }
+{
+    text.as_bytes()
+        .iter()
+        .take_while(|b| is_word_byte(**b))
+        .count()
+}
+
+#[tactic(auto, using(
+    crate::proofs::Boundaries::boundary_before_ascii,
+    crate::proofs::Boundaries::boundary_behind_ascii
+))]
+/// What stands between an opening quote, which is in front of the text, and the same quote, and the text
+/// behind it.
+fn quoted(quote: u8, text: &str) -> Option<(&str, &str)>
+    requires { quote < 128 }
+    ensures { option_map lent_cut result ≡ quoted_front quote text.now }
+{
+    let len = inside_len(quote, text);
+    if len < text.len() && text.as_bytes()[len] == quote {
+        return Some((text.split_at(len).0, text.split_at(len + 1).1));
+    }
+    None
+}
+
+/// The longest operator at the front of the text.
+fn operator(text: &str) -> Option<Operator>
+    ensures { result ≡ operator_in text.now }
+{
+    match text.as_bytes() {
+        [b'=', b'=', b'=', ..] => Some(Operator::Arbitrary),
+        [b'~', b'=', ..] => Some(Operator::Compatible),
+        [b'=', b'=', ..] => Some(Operator::Equal),
+        [b'!', b'=', ..] => Some(Operator::NotEqual),
+        [b'<', b'=', ..] => Some(Operator::AtMost),
+        [b'>', b'=', ..] => Some(Operator::AtLeast),
+        [b'<', ..] => Some(Operator::Before),
+        [b'>', ..] => Some(Operator::After),
+        _ => None,
+    }
+}
