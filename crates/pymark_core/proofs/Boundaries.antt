@@ -1,6 +1,12 @@
 -- Where a text may be cut: beside white space, words and quotes.
 use Rattle.std.proofs.Common.{◌≡◌, ℕ, zero, suc, ◌+◌, ◌-◌, ◌<◌, ◌≤◌, Bool, true, false, List, length, drop, get_or, reverse, slice_get, Option, Some, None, refl, subst, arith, inl, inr}
-use Rattle.std.specs.List.{prefix_len, suffix_len}
+use Rattle.std.specs.Prelude.{MatchOption, option_map, if◌then◌else◌, nat_eq}
+use Rattle.std.specs.List.{prefix_len, starts_with, suffix_len}
+use Rattle.std.specs.Str.Pattern.{FindsTextPrefix, StripsPrefix}
+use denote.Ref.{Bor}
+use Rattle.std.proofs.lemmas.Slice.Eq.{starts_is}
+use Rattle.std.specs.Cmp.{unsigned_Decides}
+use Rattle.pymark_core.proofs.Choices.{cases_bool}
 use Rattle.std.specs.Str.{IsCharBoundary, IsUtf8}
 use Rattle.std.proofs.lemmas.Bool.{cases_lt}
 use Rattle.std.proofs.lemmas.Bool.Decides.{nat_tests}
@@ -55,3 +61,14 @@ white_within bs = suffix_len-le-length is_white bs
 -- behind a byte below 128
 pub boundary_behind_ascii : (bs : List ℕ) (n : ℕ) → IsUtf8 bs → n < length bs → get_or bs n 0 < 128 → IsCharBoundary bs (n + 1)
 boundary_behind_ascii bs n utf8 inside low = IsCharBoundary-after_ascii bs n utf8 inside low
+
+-- what `strip_prefix` says at a text
+pub stripped_prefix : (p s : List ℕ) (r : Option (Bor (List ℕ))) → MatchOption r (FindsTextPrefix p s None) (λ x. StripsPrefix (FindsTextPrefix p) s x.now)
+    → option_map (λ x. x.now) r ≡ (if starts_with nat_eq s p then Some (drop (length p) s) else None)
+stripped_prefix p s None h = elim (cases_bool (starts_with nat_eq s p)) [
+  | inl begins ↦ absurd (h (drop (length p) s) ((starts_is unsigned_Decides s p (starts_with nat_eq s p) refl).0 begins))
+  | inr other ↦ rw other refl
+]
+stripped_prefix p s (Some x) h =
+    let begins : starts_with nat_eq s p ≡ true = (starts_is unsigned_Decides s p (starts_with nat_eq s p) refl).1 (drop h.0 s) h.1.1 in
+    rw (begins, h.2, h.1.0) refl

@@ -7,4 +7,5 @@ pub mod Nesting
 pub mod Reading
 pub mod Token
 pub mod Tree
+pub mod Value
 pub mod View

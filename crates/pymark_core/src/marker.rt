@@ -5,6 +5,7 @@ mod error;
 mod keys;
 mod token;
 pub(crate) mod tree;
+pub(crate) mod value;
 
 pub use error::MarkerError;
 pub use keys::Key;

@@ -1,9 +1,10 @@
 //! The tokens of a marker's text (PEP 508, "Grammar").
 
-ghost use Rattle.std.specs.Prelude.{◌≡◌, ◌<◌, option_map};
+ghost use Rattle.std.specs.Prelude.{◌≡◌, ◌<◌, drop, length, option_map, slice_index};
 ghost use Rattle.std.specs.List.{prefix_len};
-ghost use Rattle.pymark_core.specs.Marker.Front.{lent_cut, quoted_front, token_front};
-ghost use Rattle.pymark_core.specs.Marker.Token.{is_inside, is_word_byte, operator_in};
+ghost use Rattle.pyver_core.specs.SetReading.{behind_operator};
+ghost use Rattle.pymark_core.specs.Marker.Front.{lent_cut, lent_front, lent_sign, quoted_front, sign_front, token_front, with_rest};
+ghost use Rattle.pymark_core.specs.Marker.Token.{is_inside, is_word_byte, operator_in, token_by, word_in};
 
 use crate::white::past_white;
 use pyver_core::Operator;
@@ -86,4 +87,64 @@ fn operator(text: &str) -> Option<Operator>
         [b'>', ..] => Some(Operator::After),
         _ => None,
     }
+}
+
+/// The text behind the operator.
+#[tactic(auto, using(crate::proofs::Boundaries::stripped_prefix))]
+fn past_operator(text: &str, operator: Operator) -> Option<&str>
+    ensures { option_map (λ rest. rest.now) result ≡ behind_operator operator text.now }
+{
+    text.strip_prefix(operator.as_str())
+}
+
+/// The longest operator at the front of the text, and the text behind it.
+#[tactic(auto, using(crate::proofs::TokenLemmas::operator_stands))]
+fn sign(text: &str) -> Option<(Operator, &str)>
+    ensures { option_map lent_sign result ≡ sign_front text.now }
+{
+    let operator = operator(text)?;
+    let rest = past_operator(text, operator)?;
+    Some((operator, rest))
+}
+
+/// The word at the front of the text, and the text behind it.
+#[tactic(auto, using(crate::proofs::Boundaries::boundary_behind_word))]
+fn word(text: &str) -> (&str, &str)
+    ensures front { result.0.now ≡ word_in text.now }
+    ensures rest { result.1.now ≡ drop (length (word_in text.now)) text.now }
+{
+    text.split_at(word_len(text))
+}
+
+/// The token of a text that begins with this byte, and the text behind it.
+fn token_by(first: u8, text: &str) -> Option<(Token<'_>, &str)>
+    requires some { 0 < length text.now }
+    requires first { slice_index text.now 0 ≡ first }
+    ensures { option_map lent_front result ≡ with_rest text.now (token_by first text.now) }
+{
+    match first {
+        b'(' => Some((Token::Open, text.split_at(1).1)),
+        b')' => Some((Token::Close, text.split_at(1).1)),
+        b'"' | b'\'' => {
+            let (inside, rest) = quoted(first, text.split_at(1).1)?;
+            Some((Token::Quoted(inside), rest))
+        }
+        _ if is_word_byte(first) => {
+            let (letters, rest) = word(text);
+            Some((Token::Word(letters), rest))
+        }
+        _ => {
+            let (operator, rest) = sign(text)?;
+            Some((Token::Sign(operator), rest))
+        }
+    }
+}
+
+/// The token at the front of the text, and the text behind it.
+#[tactic(auto, using(crate::proofs::TokenLemmas::token_of_first))]
+pub(super) fn first_token(text: &str) -> Option<(Token<'_>, &str)>
+    ensures { option_map lent_front result ≡ token_front text.now }
+{
+    let first = *text.as_bytes().first()?;
+    token_by(first, text)
 }
