@@ -72,3 +72,7 @@ stripped_prefix p s None h = elim (cases_bool (starts_with nat_eq s p)) [
 stripped_prefix p s (Some x) h =
     let begins : starts_with nat_eq s p ≡ true = (starts_is unsigned_Decides s p (starts_with nat_eq s p) refl).1 (drop h.0 s) h.1.1 in
     rw (begins, h.2, h.1.0) refl
+
+-- behind a first byte below 128
+pub boundary_behind_first : (bs : List ℕ) → IsUtf8 bs → 0 < length bs → get_or bs 0 0 < 128 → IsCharBoundary bs 1
+boundary_behind_first bs utf8 some low = IsCharBoundary-after_ascii bs 0 utf8 some low

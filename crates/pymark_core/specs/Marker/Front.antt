@@ -2,9 +2,7 @@
 use Rattle.std.specs.Prelude.{ℕ, ◌+◌, List, length, drop, Option, option_map}
 use denote.Ref.{Bor}
 use Rattle.pymark_core.specs.Marker.Token as token
-use Rattle.pymark_core.specs.Marker.Token.{operator_in, quoted_at, token_at, token_len}
-use Rattle.pyver_core.specs.SpecifierText.{operator_text}
-use Rattle.pyver_core.specs.declared.specifier.Operator.{Operator}
+use Rattle.pymark_core.specs.Marker.Token.{quoted_at, token_at, token_len}
 use Rattle.pymark_core.specs.declared.marker.token.Token.{Token}
 use Rattle.pymark_core.specs.declared.marker.token.Token.TheVariants.{Open, Close, Sign, Word, Quoted}
 
@@ -30,13 +28,10 @@ token_front text = with_rest text (token_at text)
 abbrev pub lent_cut : Bor (List ℕ) × Bor (List ℕ) → List ℕ × List ℕ
 lent_cut cut = (cut.0.now, cut.1.now)
 
--- what stands between two quotes, the first of which is in front of the text, and the text behind them
+-- what stands between two quotes, the first of which was in front of the text, and the text behind them
 abbrev pub quoted_front : ℕ → List ℕ → Option (List ℕ × List ℕ)
 quoted_front quote text = option_map (λ inside. (inside, drop (length inside + 1) text)) (quoted_at quote text)
 
-abbrev pub lent_sign : Operator × Bor (List ℕ) → Operator × List ℕ
-lent_sign cut = (cut.0, cut.1.now)
-
--- the operator at the front, and the text behind it
-abbrev pub sign_front : List ℕ → Option (Operator × List ℕ)
-sign_front text = option_map (λ operator. (operator, drop (length (operator_text operator)) text)) (operator_in text)
+-- the same, where the first quote still stands in front of the text
+abbrev pub quotation_front : ℕ → List ℕ → Option (List ℕ × List ℕ)
+quotation_front quote text = option_map (λ inside. (inside, drop (length inside + 2) text)) (quoted_at quote (drop 1 text))

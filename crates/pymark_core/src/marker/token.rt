@@ -1,10 +1,11 @@
 //! The tokens of a marker's text (PEP 508, "Grammar").
 
-ghost use Rattle.std.specs.Prelude.{◌≡◌, ◌<◌, drop, length, option_map, slice_index};
+ghost use Rattle.std.specs.Prelude.{◌≡◌, ◌<◌, IsTrue, drop, length, option_map, slice_index};
 ghost use Rattle.std.specs.List.{prefix_len};
 ghost use Rattle.pyver_core.specs.SetReading.{behind_operator};
-ghost use Rattle.pymark_core.specs.Marker.Front.{lent_cut, lent_front, lent_sign, quoted_front, sign_front, token_front, with_rest};
-ghost use Rattle.pymark_core.specs.Marker.Token.{is_inside, is_word_byte, operator_in, token_by, word_in};
+ghost use Rattle.pymark_core.specs.Marker.Front.{lent_cut, lent_front, quotation_front, quoted_front, token_front, with_rest};
+ghost use Rattle.pymark_core.specs.Marker.Token as token;
+ghost use Rattle.pymark_core.specs.Marker.Token.{is_inside, is_quote, is_word_byte, operator_in, token_by, word_in};
 
 use crate::white::past_white;
 use pyver_core::Operator;
@@ -29,6 +30,13 @@ fn is_inside(quote: u8, byte: u8) -> bool
     ensures { result ≡ is_inside quote byte }
 {
     byte != quote && byte != b'\\' && (byte == b'\t' || byte >= b' ' && byte != 0x7f)
+}
+
+fn is_quote(byte: u8) -> bool
+    ensures value { result ≡ is_quote byte }
+    ensures ascii { IsTrue result → byte < 128 }
+{
+    byte == b'"' || byte == b'\''
 }
 
 fn is_word_byte(byte: u8) -> bool
@@ -99,12 +107,12 @@ fn past_operator(text: &str, operator: Operator) -> Option<&str>
 
 /// The longest operator at the front of the text, and the text behind it.
 #[tactic(auto, using(crate::proofs::TokenLemmas::operator_stands))]
-fn sign(text: &str) -> Option<(Operator, &str)>
-    ensures { option_map lent_sign result ≡ sign_front text.now }
+fn sign(text: &str) -> Option<(Token<'_>, &str)>
+    ensures { option_map lent_front result ≡ with_rest text.now (option_map token.sign (operator_in text.now)) }
 {
     let operator = operator(text)?;
     let rest = past_operator(text, operator)?;
-    Some((operator, rest))
+    Some((Token::Sign(operator), rest))
 }
 
 /// The word at the front of the text, and the text behind it.
@@ -116,35 +124,61 @@ fn word(text: &str) -> (&str, &str)
     text.split_at(word_len(text))
 }
 
+/// The text behind its first byte, which is no part of a longer character.
+#[tactic(auto, using(crate::proofs::Boundaries::boundary_behind_first))]
+fn past_first(text: &str) -> &str
+    requires some { 0 < length text.now }
+    requires ascii { slice_index text.now 0 < 128 }
+    ensures { result.now ≡ drop 1 text.now }
+{
+    text.split_at(1).1
+}
+
+/// What stands between two of these quotes, the first of which is in front of the text, and the text behind
+/// them.
+#[tactic(auto, using(crate::proofs::TokenLemmas::quotation_front))]
+fn quotation(quote: u8, text: &str) -> Option<(&str, &str)>
+    requires some { 0 < length text.now }
+    requires first { slice_index text.now 0 ≡ quote }
+    requires ascii { quote < 128 }
+    ensures { option_map lent_cut result ≡ quotation_front quote text.now }
+{
+    quoted(quote, past_first(text))
+}
+
 /// The token of a text that begins with this byte, and the text behind it.
 fn token_by(first: u8, text: &str) -> Option<(Token<'_>, &str)>
     requires some { 0 < length text.now }
     requires first { slice_index text.now 0 ≡ first }
     ensures { option_map lent_front result ≡ with_rest text.now (token_by first text.now) }
 {
-    match first {
-        b'(' => Some((Token::Open, text.split_at(1).1)),
-        b')' => Some((Token::Close, text.split_at(1).1)),
-        b'"' | b'\'' => {
-            let (inside, rest) = quoted(first, text.split_at(1).1)?;
-            Some((Token::Quoted(inside), rest))
-        }
-        _ if is_word_byte(first) => {
-            let (letters, rest) = word(text);
-            Some((Token::Word(letters), rest))
-        }
-        _ => {
-            let (operator, rest) = sign(text)?;
-            Some((Token::Sign(operator), rest))
-        }
+    if first == b'(' {
+        return Some((Token::Open, past_first(text)));
     }
+    if first == b')' {
+        return Some((Token::Close, past_first(text)));
+    }
+    if is_quote(first) {
+        let (inside, rest) = quotation(first, text)?;
+        return Some((Token::Quoted(inside), rest));
+    }
+    if is_word_byte(first) {
+        let (letters, rest) = word(text);
+        return Some((Token::Word(letters), rest));
+    }
+    sign(text)
 }
 
 /// The token at the front of the text, and the text behind it.
-#[tactic(auto, using(crate::proofs::TokenLemmas::token_of_first))]
+#[tactic(auto, using(
+    crate::proofs::TokenLemmas::token_of_first,
+    crate::proofs::TokenLemmas::token_of_none
+))]
 pub(super) fn first_token(text: &str) -> Option<(Token<'_>, &str)>
     ensures { option_map lent_front result ≡ token_front text.now }
 {
-    let first = *text.as_bytes().first()?;
-    token_by(first, text)
+    if text.is_empty() {
+        return None;
+    }
+    token_by(text.as_bytes()[0], text)
 }
