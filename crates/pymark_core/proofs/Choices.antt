@@ -22,3 +22,7 @@ found_passes p (y ∷ ys) x e = elim (chosen (p y) (Some y) (find p ys) (Some x)
   | inl w ↦ let same : y ≡ x = cc in rw (← same) w.0
   | inr w ↦ found_passes p ys x w.1
 ]
+
+pub cases_bool : (b : Bool) → (b ≡ true) ⊎ (b ≡ false)
+cases_bool true = inl refl
+cases_bool false = inr refl

@@ -104,7 +104,7 @@ read_comparison outer cs xs c ts =
 
 read_closing : (outer : List Frame) (cs : List Conjunction) (xs : List Atom) (inner : Tree) (ts : List Token)
     → read (place (record { conjunctions = cs; atoms = xs } ∷ outer) (conjunctions_before inner) (atoms_before (last_conjunction inner)) (at_rest (last_atom (last_conjunction inner)))) (closing ∷ ts)
-      ≡ read (place outer cs xs (at_rest (group inner))) ts
+    ≡ read (place outer cs xs (at_rest (group inner))) ts
 unfolding read step
 read_closing outer cs xs inner ts = rw (conjunction_again (last_conjunction inner), tree_again inner) refl
 
@@ -125,9 +125,10 @@ read_or outer cs xs a ts = refl
 
 mutual
   unfolding conjunctions_before last_conjunction atoms_before last_atom
+
   pub read_tree : (t : Tree) (outer : List Frame) (cs : List Conjunction) (ts : List Token)
       → read (place outer cs [] at_atom) (tree_tokens t ts)
-        ≡ read (place outer (cs ++ conjunctions_before t) (atoms_before (last_conjunction t)) (at_rest (last_atom (last_conjunction t)))) ts
+      ≡ read (place outer (cs ++ conjunctions_before t) (atoms_before (last_conjunction t)) (at_rest (last_atom (last_conjunction t)))) ts
   read_tree (last c) outer cs ts = rw append-nil (read_conjunction c outer cs [] ts)
   read_tree (or c others) outer cs ts =
       read_conjunction c outer cs [] (word (codes "or") ∷ tree_tokens others ts)
@@ -136,7 +137,7 @@ mutual
 
   pub read_conjunction : (c : Conjunction) (outer : List Frame) (cs : List Conjunction) (xs : List Atom) (ts : List Token)
       → read (place outer cs xs at_atom) (conjunction_tokens c ts)
-        ≡ read (place outer cs (xs ++ atoms_before c) (at_rest (last_atom c))) ts
+      ≡ read (place outer cs (xs ++ atoms_before c) (at_rest (last_atom c))) ts
   read_conjunction (only a) outer cs xs ts = rw append-nil (read_atom a outer cs xs ts)
   read_conjunction (and a others) outer cs xs ts =
       read_atom a outer cs xs (word (codes "and") ∷ conjunction_tokens others ts)

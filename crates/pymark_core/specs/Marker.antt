@@ -1,7 +1,9 @@
 pub mod Comparison
 pub mod Depth
+pub mod Front
 pub mod Grammar
 pub mod Keys
+pub mod Nesting
 pub mod Reading
 pub mod Token
 pub mod Tree

@@ -10,6 +10,7 @@ mod marker;
 mod names;
 mod operand;
 mod variable;
+mod white;
 
 pub use environment::Environment;
 pub use fault::EvalFault;

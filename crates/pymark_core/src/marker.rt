@@ -1,7 +1,9 @@
 //! Markers (PEP 508, "Environment Markers").
 
+mod depth;
 mod error;
 mod keys;
+mod token;
 pub(crate) mod tree;
 pub(crate) mod value;
 

@@ -60,14 +60,18 @@ operator_in text = find (λ operator. starts_with nat_eq text (operator_text ope
 abbrev pub word_in : List ℕ → List ℕ
 word_in text = take (prefix_len is_word_byte text) text
 
-unfoldable pub token_at : List ℕ → Option Token
-token_at [] = None
-token_at (b ∷ rest) =
+-- the token of a text that begins with this byte
+abbrev pub token_by : ℕ → List ℕ → Option Token
+token_by b text =
     if b == 40 then Some opening
     else if b == 41 then Some closing
-    else if is_quote b then option_map quoted (quoted_at b rest)
-    else if is_word_byte b then Some (word (word_in (b ∷ rest)))
-    else option_map sign (operator_in (b ∷ rest))
+    else if is_quote b then option_map quoted (quoted_at b (drop 1 text))
+    else if is_word_byte b then Some (word (word_in text))
+    else option_map sign (operator_in text)
+
+unfoldable pub token_at : List ℕ → Option Token
+token_at [] = None
+token_at (b ∷ rest) = token_by b (b ∷ rest)
 
 -- ---- the tokens of a whole text, or none
 
