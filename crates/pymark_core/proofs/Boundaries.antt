@@ -13,17 +13,17 @@ use Rattle.std.proofs.lemmas.Bool.Decides.{nat_tests}
 use Rattle.std.proofs.lemmas.List.Sums.{prefix_len-le-length, prefix_len_passes, prefix_len_stops, suffix_len-le-length}
 use Rattle.std.proofs.lemmas.List.{get_or-reverse}
 use Rattle.std.proofs.lemmas.Str.{IsCharBoundary-after_ascii, IsCharBoundary-before_ascii, IsCharBoundary-end, IsCharBoundary-start}
-use Rattle.pyver_core.specs.Grammar.{is_white}
+use Rattle.pyver_core.specs.Version.Grammar.{is_white}
 use Rattle.pymark_core.specs.Marker.Token.{is_inside, is_word_byte}
 
-white-ascii : (b : ℕ) → is_white b ≡ true → b < 128
+pub white-ascii : (b : ℕ) → is_white b ≡ true → b < 128
 white-ascii b white = grind (arith, nat_tests)
 
 word-ascii : (b : ℕ) → is_word_byte b ≡ true → b < 128
 word-ascii b letter = grind (arith, nat_tests)
 
 -- behind a run of bytes that are all below 128
-behind : (p : ℕ → Bool) (ascii : (b : ℕ) → p b ≡ true → b < 128) (bs : List ℕ) (n : ℕ) → n ≤ prefix_len p bs → IsUtf8 bs → IsCharBoundary bs n
+pub behind : (p : ℕ → Bool) (ascii : (b : ℕ) → p b ≡ true → b < 128) (bs : List ℕ) (n : ℕ) → n ≤ prefix_len p bs → IsUtf8 bs → IsCharBoundary bs n
 behind p ascii bs zero le utf8 = IsCharBoundary-start bs utf8
 behind p ascii bs (suc n) le utf8 =
     let within = prefix_len-le-length p bs in

@@ -2,8 +2,8 @@
 
 ghost use Rattle.std.specs.Prelude.{◌≡◌};
 ghost use Rattle.std.specs.List.{prefix_len, suffix_len};
-ghost use Rattle.pyver_core.specs.Grammar.{is_white};
-ghost use Rattle.pyver_core.specs.Reading.{after_white};
+ghost use Rattle.pyver_core.specs.Version.Grammar.{is_white};
+ghost use Rattle.pyver_core.specs.Version.Reading.{after_white};
 ghost use Rattle.pymark_core.specs.White.{trimmed};
 
 /// Whether the byte is TAB, LF, VT, FF, CR or space.

@@ -2,7 +2,7 @@
 
 ghost use Rattle.std.specs.Prelude.{◌≡◌, ◌<◌, IsTrue, drop, length, option_map, slice_index};
 ghost use Rattle.std.specs.List.{prefix_len};
-ghost use Rattle.pyver_core.specs.SetReading.{behind_operator};
+ghost use Rattle.pyver_core.specs.Set.Reading.{behind_operator};
 ghost use Rattle.pymark_core.specs.Marker.Front.{lent_cut, lent_front, quotation_front, quoted_front, token_front, with_rest};
 ghost use Rattle.pymark_core.specs.Marker.Token as token;
 ghost use Rattle.pymark_core.specs.Marker.Token.{is_inside, is_quote, is_word_byte, operator_in, token_by, word_in};
