@@ -62,7 +62,7 @@ module _ (e f : EnvironmentValue) where
   comparison_agrees : (c : ComparisonValue) → Agree (λ k. comparison_reads k c) → comparison_value e c ≡ comparison_value f c
   comparison_agrees c agree =
       ap (λ r. r >>= λ x. text_value e x c.comparator c.right)
-          (operand_agrees c.left (λ k is. agree k (of_first k (operand_keys c.left) (operand_keys c.right) is)))
+      (operand_agrees c.left (λ k is. agree k (of_first k (operand_keys c.left) (operand_keys c.right) is)))
       ∙ after (operand_text f c.left)
     where
       after : (r : Result (List ℕ) EvalFault) → (r >>= λ x. text_value e x c.comparator c.right) ≡ (r >>= λ x. text_value f x c.comparator c.right)

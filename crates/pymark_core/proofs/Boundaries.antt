@@ -40,15 +40,17 @@ boundary_behind_word bs utf8 = behind is_word_byte word-ascii bs (prefix_len is_
 pub boundary_before_white : (bs : List ℕ) → IsUtf8 bs → IsCharBoundary bs (length bs - suffix_len is_white bs)
 boundary_before_white bs utf8 =
     let n = suffix_len is_white bs in
-    let le : n ≤ length bs = suffix_len-le-length is_white bs in
-    (omega arith, λ inside high.
-      let last : n - 1 < prefix_len is_white (reverse bs) = omega arith in
-      let white = prefix_len_passes is_white (reverse bs) (n - 1) 0 last in
-      let at = get_or-reverse bs (n - 1) 0 (omega arith) in
-      let place : length bs - 1 - (n - 1) ≡ length bs - n = omega arith in
-      let same : get_or (reverse bs) (n - 1) 0 ≡ get_or bs (length bs - n) 0 = cc in
-      let low = white-ascii (get_or (reverse bs) (n - 1) 0) white in
-      absurd (omega arith))
+    let le : n ≤ length bs = suffix_len-le-length is_white bs in (
+      omega arith,
+      λ inside high.
+          let last : n - 1 < prefix_len is_white (reverse bs) = omega arith in
+          let white = prefix_len_passes is_white (reverse bs) (n - 1) 0 last in
+          let at = get_or-reverse bs (n - 1) 0 (omega arith) in
+          let place : length bs - 1 - (n - 1) ≡ length bs - n = omega arith in
+          let same : get_or (reverse bs) (n - 1) 0 ≡ get_or bs (length bs - n) 0 = cc in
+          let low = white-ascii (get_or (reverse bs) (n - 1) 0) white in
+          absurd (omega arith),
+    )
 
 -- in front of a byte below 128
 pub boundary_before_ascii : (bs : List ℕ) (n : ℕ) → n < length bs → get_or bs n 0 < 128 → IsCharBoundary bs n

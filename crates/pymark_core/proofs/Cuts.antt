@@ -41,7 +41,7 @@ chosen b c x y e = ap (λ t. cond t x y) e
 -- what `split_once` says at a byte
 pub around_first : (byte : ℕ) (bs : List ℕ) (r : Option (Bor (List ℕ) × Bor (List ℕ)))
     → MatchOption r (position_or_len (λ b. b == byte) bs ≡ length bs)
-        (λ x. (position_or_len (λ b. b == byte) bs < length bs) × (x.0.now ≡ before_first (λ b. b == byte) bs) × (x.1.now ≡ after_first (λ b. b == byte) bs))
+    (λ x. (position_or_len (λ b. b == byte) bs < length bs) × (x.0.now ≡ before_first (λ b. b == byte) bs) × (x.1.now ≡ after_first (λ b. b == byte) bs))
     → option_map (λ cut. (cut.0.now, cut.1.now)) r ≡ around byte bs
 around_first byte bs None h = sym (chosen _ false _ _ (off (nat_lt (position_or_len (λ b. b == byte) bs) (length bs)) (Decides-ltb (position_or_len (λ b. b == byte) bs) (length bs)).0))
   where

@@ -26,10 +26,10 @@ pub record EnvironmentValue : Type 0 where
 abbrev pub environment_code : Coded EnvironmentValue
 environment_code =
     code_by (List (Option (List ℕ)) × (Texts × Texts))
-        (coded× (coded_list (coded_option (coded_list coded_ℕ))) (coded× texts_code texts_code))
-        (λ e. (e.variables, (e.extras, e.groups)))
-        (λ t. record { variables = t.0; extras = t.1.0; groups = t.1.1 })
-        (λ _. refl)
+    (coded× (coded_list (coded_option (coded_list coded_ℕ))) (coded× texts_code texts_code))
+    (λ e. (e.variables, (e.extras, e.groups)))
+    (λ t. record { variables = t.0; extras = t.1.0; groups = t.1.1 })
+    (λ _. refl)
 
 -- nothing set, nothing asked for
 abbrev pub empty : EnvironmentValue

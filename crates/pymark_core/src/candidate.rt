@@ -70,10 +70,7 @@ impl Clone for Candidate {
 }
 
 /// What the text reads as.
-fn read_version(
-    alloc: Global,
-    text: &str,
-) -> Result<Result<Version, VersionError>, AllocError>
+fn read_version(alloc: Global, text: &str) -> Result<Result<Version, VersionError>, AllocError>
     ensures { IfOk result (λ read. read ≡ parsed_version text.now) }
 {
     match Version::parse(alloc, text) {

@@ -119,11 +119,7 @@ fn read_left(alloc: Global, operand: Operand) -> Result<Left, AllocError>
 }
 
 /// The operand as this operator reads it.
-fn read_right(
-    alloc: Global,
-    comparator: Comparator,
-    operand: Operand,
-) -> Result<Right, AllocError>
+fn read_right(alloc: Global, comparator: Comparator, operand: Operand) -> Result<Right, AllocError>
     ensures operand { IfOk result (λ right. right_operand right ≡ operand) }
     ensures read { IfOk result (λ right. IsRead comparator right) }
 {
@@ -233,10 +229,7 @@ fn value_by(
 }
 
 /// The left text against the right one, which reads as this specifier.
-#[tactic(auto, unfolding(
-    pyver_core::specs::Parsed::parsed_version,
-    pyver_core::specs::Parsed::parsed_operand
-))]
+#[tactic(auto, unfolding(pyver_core::specs::Parsed::parsed_version, pyver_core::specs::Parsed::parsed_operand))]
 fn judge(
     left: &Candidate,
     operator: Operator,

@@ -19,3 +19,6 @@ pub use marker::{Key, MarkerError};
 pub use operand::{Comparator, Operand};
 pub use requirement::RequirementError;
 pub use variable::Var;
+
+#[cfg(test)]
+mod tests;

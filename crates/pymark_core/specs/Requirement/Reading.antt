@@ -94,7 +94,7 @@ unfoldable pub url_source : List ℕ → Result Source RequirementError
 url_source text =
     if url_len text == 0 then Err refusal.Url
     else (marker_text_at (after_white (drop (url_len text) text)) >>= λ marker.
-      Ok (record { set = []; url = Some (take (url_len text) text); marker = marker }))
+    Ok (record { set = []; url = Some (take (url_len text) text); marker = marker }))
 
 -- what stands before this byte, where it is the last
 abbrev pub before_end : ℕ → List ℕ → Option (List ℕ)

@@ -154,7 +154,10 @@ pub(super) fn read_source(alloc: Global, text: &str) -> Result<Source<'_>, Requi
 fn url_len(text: &str) -> usize
     ensures { result ≡ url_len text.now }
 {
-    text.as_bytes().iter().take_while(|b| !is_white(**b)).count()
+    text.as_bytes()
+        .iter()
+        .take_while(|b| !is_white(**b))
+        .count()
 }
 
 /// The URL, which goes on to the next white space, and the text of the marker.

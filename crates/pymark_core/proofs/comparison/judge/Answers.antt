@@ -6,4 +6,4 @@ pub returns-in-Ok-Ok : goal.returns-in-Ok-Ok
 returns-in-Ok-Ok c =
     ap Ok c.admits.ensures
     ∙ sym (judged c.args.left.now c.args.right.now c.args.operator _ _ _
-        (sym c.version.ensures ∙ c.in-Ok-Ok.is-0) (c.requires ∙ c.in-Ok-Ok.is-1))
+    (sym c.version.ensures ∙ c.in-Ok-Ok.is-0) (c.requires ∙ c.in-Ok-Ok.is-1))

@@ -41,16 +41,19 @@ returns-in_err-read_extra c =
     c.in-Some.ensures.steps c.loop-piece.invariant in
     let p = err_from_is_err_and c.from_residual.result c.from_residual.ensures.1 in
     rw (p.1, p.2) (λ other.
-      sym at.2 ∙ onto_fault (map string_bytes c.loop-piece.names.items) at.0 _ c.in-Some.piece.now (c.in_err-read_extra.ensures other))
+    sym at.2 ∙ onto_fault (map string_bytes c.loop-piece.names.items) at.0 _ c.in-Some.piece.now (c.in_err-read_extra.ensures other))
 
 pub loop-piece-preserved : goal.loop-piece-preserved
 loop-piece-preserved c =
     let front = map string_bytes c.loop-piece.names.items in
     let at = taken c.args.text.now c.loop-piece.piece-iterator c.next.new.self c.in-Some.piece front c.in-Some.ensures.steps c.loop-piece.invariant in
-    let name = string_bytes c.in_ok-read_extra.field-0 in
-    (at.0, at.1, ap (λ ns. onto (map string_bytes ns) (names_in at.0)) c.in_ok-push.ensures.items
-      ∙ ap (λ ns. onto ns (names_in at.0)) (map_push string_bytes c.loop-piece.names.items c.in_ok-read_extra.field-0)
-      ∙ sym (onto_more front name at.0 c.in-Some.piece.now c.in_ok-read_extra.ensures) ∙ at.2)
+    let name = string_bytes c.in_ok-read_extra.field-0 in (
+      at.0,
+      at.1,
+      ap (λ ns. onto (map string_bytes ns) (names_in at.0)) c.in_ok-push.ensures.items
+          ∙ ap (λ ns. onto ns (names_in at.0)) (map_push string_bytes c.loop-piece.names.items c.in_ok-read_extra.field-0)
+          ∙ sym (onto_more front name at.0 c.in-Some.piece.now c.in_ok-read_extra.ensures) ∙ at.2,
+    )
 
 pub returns : goal.returns
 returns c =
