@@ -7,6 +7,7 @@ pub mod Judged
 pub mod NamesSoFar
 pub mod ReadingComplete
 pub mod ReadingSound
+pub mod RequirementAgain
 pub mod Substrings
 pub mod Texts
 pub mod TokenLemmas

@@ -6,6 +6,9 @@ ghost use Rattle.pymark_core.specs.Marker.Grammar.{MarkerText};
 ghost use Rattle.pymark_core.specs.Marker.Keys.{keys_of, reads};
 ghost use Rattle.pymark_core.specs.Marker.Reading.{marker_of, tree_text};
 ghost use Rattle.pymark_core.specs.Marker.Tree.{Tree};
+ghost use Rattle.pymark_core.specs.Requirement.Grammar.{Req};
+ghost use Rattle.pymark_core.specs.Requirement.Reading.{requirement_of};
+ghost use Rattle.pymark_core.specs.Requirement.Value.{RequirementValue};
 ghost use Rattle.pymark_core.specs.Marker.Value.{AgreeAt, marker_value};
 ghost use Rattle.pymark_core.specs.declared.marker.keys.Key.{Key};
 
@@ -25,4 +28,10 @@ pub fn tree_text_is_complete()
 pub fn marker_reads()
     ensures { (tree : Tree) (e f : EnvironmentValue) → ((k : Key) → reads k tree ≡ true → AgreeAt k e f)
         → marker_value e tree ≡ marker_value f tree }
+{}
+
+/// What is read of a requirement, the text is, and what the text is, is read: each text is at most one
+/// requirement.
+pub fn requirement_of_is_complete()
+    ensures { (text : List ℕ) (parts : RequirementValue) → Req text parts → requirement_of text ≡ Ok parts }
 {}
