@@ -8,6 +8,7 @@ pub mod NamesSoFar
 pub mod ReadingComplete
 pub mod ReadingSound
 pub mod RequirementAgain
+pub mod RequirementTakes
 pub mod Substrings
 pub mod Texts
 pub mod TokenLemmas

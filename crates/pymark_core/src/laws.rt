@@ -33,5 +33,6 @@ pub fn marker_reads()
 /// What is read of a requirement, the text is, and what the text is, is read: each text is at most one
 /// requirement.
 pub fn requirement_of_is_complete()
-    ensures { (text : List ℕ) (parts : RequirementValue) → Req text parts → requirement_of text ≡ Ok parts }
+    ensures sound { (text : List ℕ) (parts : RequirementValue) → requirement_of text ≡ Ok parts → Req text parts }
+    ensures complete { (text : List ℕ) (parts : RequirementValue) → Req text parts → requirement_of text ≡ Ok parts }
 {}
