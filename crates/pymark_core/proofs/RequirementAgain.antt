@@ -44,7 +44,7 @@ unfolding name_at
 name_again name next is longest =
     let all = and_first (list_all is_name_byte name) _ is in
     name_cut (name ++ next) name next (prefix_len is_name_byte (name ++ next))
-        (taken_exact is_name_byte name next all longest) (dropped_exact is_name_byte name next all longest) is
+    (taken_exact is_name_byte name next all longest) (dropped_exact is_name_byte name next all longest) is
 
 -- ---- cuts round a byte
 
@@ -70,8 +70,8 @@ pub around_again : (byte : ℕ) (front next : List ℕ) → (byte == byte) ≡ t
 around_again byte front next same lacks =
     let inside : length front < length (front ++ byte ∷ next) = omega (arith, length-append front (byte ∷ next)) in
     around_cut byte (front ++ byte ∷ next) front next (length front)
-        (prefix_len_exact (λ b. not (b == byte)) front (byte ∷ next) (none_all byte front lacks) (stops_at byte next same))
-        inside (take-append_seam front (byte ∷ next)) (drop-append-add front (byte ∷ next) 1)
+    (prefix_len_exact (λ b. not (b == byte)) front (byte ∷ next) (none_all byte front lacks) (stops_at byte next same))
+    inside (take-append_seam front (byte ∷ next)) (drop-append-add front (byte ∷ next) 1)
 
 -- ---- extras
 
@@ -130,7 +130,7 @@ url_cut : (text url rest : List ℕ) (marker : Option (List ℕ)) (n : ℕ) → 
     ≡ Ok (record { set = []; url = Some url; marker = marker })
 url_cut text url rest marker n len some front last =
     ap (λ t. cond {A = Result Source RequirementError} t (Err refusal.Url) (marker_text_at (after_white (drop n text)) >>= λ m. Ok (record { set = []; url = Some (take n text); marker = m })))
-        (ap (λ k. k == 0) len ∙ not_nothing url some)
+    (ap (λ k. k == 0) len ∙ not_nothing url some)
     ∙ (λ i. last i >>= λ m. Ok (record { set = []; url = Some (front i); marker = m }))
 
 url_again : (text url : List ℕ) (marker : Option MarkerValue) (u : UrlText text url marker) → (url ≡ [] → ⊥)
@@ -142,10 +142,10 @@ url_again text url marker u some =
     ap (λ t. source_from t (behind 64 t)) u.whole
     ∙ ap (λ t. url_source t) (white_again u.gap (url ++ rest) u.is_gap.all u.is_gap.ends)
     ∙ url_cut (url ++ rest) url rest (part_text u.last marker u.is_last) (url_len (url ++ rest))
-        (prefix_len_exact space url rest u.is_url u.longest) some (taken_exact space url rest u.is_url u.longest)
-        (ap (λ t. marker_text_at (after_white t)) (dropped_exact space url rest u.is_url u.longest)
-        ∙ ap marker_text_at (white_again u.second_gap u.last u.is_second_gap.all u.is_second_gap.ends)
-        ∙ marker_text_again u.last marker u.is_last)
+    (prefix_len_exact space url rest u.is_url u.longest) some (taken_exact space url rest u.is_url u.longest)
+    (ap (λ t. marker_text_at (after_white t)) (dropped_exact space url rest u.is_url u.longest)
+    ∙ ap marker_text_at (white_again u.second_gap u.last u.is_second_gap.all u.is_second_gap.ends)
+    ∙ marker_text_again u.last marker u.is_last)
 
 -- ---- the specifiers
 
@@ -157,7 +157,7 @@ none_inside byte text lacks =
 around_none : (byte : ℕ) (text : List ℕ) → Lacks byte text → around byte text ≡ None
 around_none byte text lacks =
     ap (λ t. cond {A = Option (List ℕ × List ℕ)} t (Some (before_first (λ b. b == byte) text, after_first (λ b. b == byte) text)) None)
-        (ap (λ n. nat_lt n (length text)) (none_inside byte text lacks) ∙ not_below (length text))
+    (ap (λ n. nat_lt n (length text)) (none_inside byte text lacks) ∙ not_below (length text))
   where
     not_below : (n : ℕ) → nat_lt n n ≡ false
     not_below n = le-ltb n n (omega arith)
@@ -185,8 +185,8 @@ within_again text inner (inr closed) = ap within_parentheses closed ∙ before_a
         let len : length text - 1 ≡ length inner = omega (arith, length-append inner (41 ∷ [])) in
         let inside : length text - 1 < length text = omega (arith, length-append inner (41 ∷ [])) in
         at_end text inner (length text - 1) len
-            (slice_get-get_or text (length text - 1) 0 inside ∙ ap Some (get_or_push inner 41 0 (length text - 1) (sym len)))
-            (take-append_seam inner (41 ∷ []))
+        (slice_get-get_or text (length text - 1) 0 inside ∙ ap Some (get_or_push inner 41 0 (length text - 1) (sym len)))
+        (take-append_seam inner (41 ∷ []))
 
 set_again : (text : List ℕ) (set : List Specifier) (marker : Option MarkerValue) (s : SetText text set marker)
     → source_at text ≡ Ok (record { set = set; url = None; marker = part_text s.last marker s.is_last })
@@ -196,7 +196,7 @@ set_again text set marker s =
     ∙ ap set_source s.whole
     ∙ ap cut_source (cut_again s.declared s.last marker s.is_last s.is_declared)
     ∙ (λ i. ok_or (within_again (trimmed s.declared) s.inner s.is_inner i) refusal.Specifier
-        >>= λ inner. refused_as refusal.Specifier (parsed_set inner) >>= λ found. Ok (record { set = found; url = None; marker = part_text s.last marker s.is_last }))
+    >>= λ inner. refused_as refusal.Specifier (parsed_set inner) >>= λ found. Ok (record { set = found; url = None; marker = part_text s.last marker s.is_last }))
     ∙ (λ i. refused_as refusal.Specifier (s.is_set i) >>= λ found. Ok (record { set = found; url = None; marker = part_text s.last marker s.is_last }))
 
 -- ---- the whole
@@ -232,7 +232,7 @@ requirement_again text parts r =
     ∙ ap (λ t. source_at t >>= λ source. behind_source parts.name parts.extras source) (white_again r.second_gap r.source r.is_second_gap.all r.is_second_gap.ends)
     ∙ ap (λ s. s >>= λ source. behind_source parts.name parts.extras source) (source_again r.source parts.set parts.url parts.marker r.is_source)
     ∙ ap (λ m. m >>= λ marker. Ok (record { name = parts.name; extras = parts.extras; set = parts.set; url = parts.url; marker = marker }))
-        (source_marker r.source parts.set parts.url parts.marker r.is_source)
+    (source_marker r.source parts.set parts.url parts.marker r.is_source)
   where
     behind_source : List ℕ → List (List ℕ) → Source → Result RequirementValue RequirementError
     behind_source name extras source = marker_in source.marker >>= λ marker. Ok (record { name = name; extras = extras; set = source.set; url = source.url; marker = marker })

@@ -109,9 +109,10 @@ around_takes byte text front back e =
           let pair : ◌≡◌ {A = List ℕ × List ℕ} (take n text, drop (n + 1) text) (front, back) = cc in
           let is_front : take n text ≡ front = ap (λ x. x.0) pair in
           let is_back : drop (n + 1) text ≡ back = ap (λ x. x.1) pair in
-          let at : get_or text n 0 ≡ byte = is_it (get_or text n 0) byte (prefix_len_stops test text 0 inside) in
-          (sym (take-append-drop n text) ∙ (λ i. is_front i ++ drop_more text n 0 inside i) ∙ (λ i. front ++ at i ∷ is_back i),
-            lacks_front byte front (ap (list_all test) (sym is_front) ∙ list_all_front test text))
+          let at : get_or text n 0 ≡ byte = is_it (get_or text n 0) byte (prefix_len_stops test text 0 inside) in (
+            sym (take-append-drop n text) ∙ (λ i. is_front i ++ drop_more text n 0 inside i) ∙ (λ i. front ++ at i ∷ is_back i),
+            lacks_front byte front (ap (list_all test) (sym is_front) ∙ list_all_front test text),
+          )
       | inr w ↦ absurd cc
     ]
 
@@ -136,9 +137,11 @@ names_takes (piece ∷ rest) names e =
     let is = passed (is_name (trimmed piece)) (trimmed piece) first.0 refusal.Extras first.1 in
     let second = bind_ok (names_in rest) (λ others. Ok (first.0 ∷ others)) names first.2 in
     let others = names_takes rest second.0 second.1 in
-    let whole : first.0 ∷ second.0 ≡ names = cc in
-    (sym whole ∙ (λ i. sym is.1 i ∷ others.0 i), ap (list_all is_name) (sym whole)
-      ∙ (λ i. is_name (sym is.1 i) && list_all is_name second.0) ∙ (λ i. is.0 i && others.1 i))
+    let whole : first.0 ∷ second.0 ≡ names = cc in (
+      sym whole ∙ (λ i. sym is.1 i ∷ others.0 i),
+      ap (list_all is_name) (sym whole)
+          ∙ (λ i. is_name (sym is.1 i) && list_all is_name second.0) ∙ (λ i. is.0 i && others.1 i),
+    )
 
 extras_in_takes : (inner : List ℕ) (extras : List (List ℕ)) → extras_in inner ≡ Ok extras → IsExtras inner extras
 extras_in_takes inner extras e = elim (chosen (list_all is_white inner) (Ok []) (names_in (slice_split (λ b. b == 44) inner)) (Ok extras) e) [
@@ -161,11 +164,12 @@ extras_takes text extras next e = by (behind 91 text) refl e
         let first = bind_ok (ok_or (around 93 rest) refusal.Extras) (λ cut. extras_in cut.0 >>= λ found. Ok (found, cut.1)) (extras, next) e in
         let second = bind_ok (extras_in first.0.0) (λ found. Ok (found, first.0.1)) (extras, next) first.2 in
         let pair : ◌≡◌ {A = List (List ℕ) × List ℕ} (second.0, first.0.1) (extras, next) = cc in
-        let cut = around_takes 93 rest first.0.0 first.0.1 (there (around 93 rest) refusal.Extras first.0 first.1) in
-        (91 ∷ (first.0.0 ++ 93 ∷ []),
+        let cut = around_takes 93 rest first.0.0 first.0.1 (there (around 93 rest) refusal.Extras first.0 first.1) in (
+          91 ∷ (first.0.0 ++ 93 ∷ []),
           behind_takes 91 text rest is ∙ ap (λ t. 91 ∷ t) cut.0 ∙ ap (λ t. 91 ∷ (first.0.0 ++ 93 ∷ t)) (ap (λ x. x.1) pair)
-          ∙ ap (λ t. 91 ∷ t) (sym (append_assoc first.0.0 (93 ∷ []) next)),
-          inr (first.0.0, refl, cut.1, extras_in_takes first.0.0 extras (second.1 ∙ ap (λ x. Ok x.0) pair)))
+              ∙ ap (λ t. 91 ∷ t) (sym (append_assoc first.0.0 (93 ∷ []) next)),
+          inr (first.0.0, refl, cut.1, extras_in_takes first.0.0 extras (second.1 ∙ ap (λ x. Ok x.0) pair)),
+        )
 
 -- ---- the marker
 
@@ -218,18 +222,22 @@ url_takes text rest s marker at e m =
           sym (take-append-drop n t) ∙ ap (λ x. take n t ++ x) second.1 ∙ ap (λ x. take n t ++ (second.0 ++ x)) last in
           let behind : drop n t ≡ second.0 ++ part_of part.0 = second.1 ∙ ap (λ x. second.0 ++ x) last in
           subst (λ (x : Source). marker_in x.marker ≡ Ok marker → SourceText text x.set x.url marker) is
-              (λ m. (refl, not_empty n t (take n t) w.0 (length-prefix_len space t) refl, record {
-                gap = gap.0;
-                second_gap = second.0;
-                last = part_of part.0;
-                whole = at ∙ ap (λ x. 64 ∷ x) gap.1 ∙ ap (λ x. 64 ∷ (gap.0 ++ x)) cut;
-                is_gap = subst (IsGap gap.0) cut gap.2;
-                is_url = list_all_front space t;
-                longest = ap (starts space) (sym behind) ∙ starts_dropped space t;
-                is_second_gap = subst (IsGap second.0) last second.2;
-                is_last = marker_takes part.0 marker m;
-              }))
-              m
+          (λ m. (
+            refl,
+            not_empty n t (take n t) w.0 (length-prefix_len space t) refl,
+            record {
+              gap = gap.0;
+              second_gap = second.0;
+              last = part_of part.0;
+              whole = at ∙ ap (λ x. 64 ∷ x) gap.1 ∙ ap (λ x. 64 ∷ (gap.0 ++ x)) cut;
+              is_gap = subst (IsGap gap.0) cut gap.2;
+              is_url = list_all_front space t;
+              longest = ap (starts space) (sym behind) ∙ starts_dropped space t;
+              is_second_gap = subst (IsGap second.0) last second.2;
+              is_last = marker_takes part.0 marker m;
+            },
+          ))
+          m
     ]
 
 -- ---- the specifiers
@@ -276,18 +284,18 @@ set_takes text s marker no_url e m =
     let set = bind_ok (refused_as refusal.Specifier (parsed_set inner.0)) (λ set. Ok (found set)) s inner.2 in
     let is : found set.0 ≡ s = cc in
     subst (λ (x : Source). marker_in x.marker ≡ Ok marker → SourceText text x.set x.url marker) is
-        (λ m. record {
-          declared = cut.0;
-          inner = inner.0;
-          last = part_of cut.1;
-          whole = cuts.0;
-          no_url = no_url;
-          is_declared = cuts.1;
-          is_inner = within_takes (trimmed cut.0) inner.0 (there (within_parentheses (trimmed cut.0)) refusal.Specifier inner.0 inner.1);
-          is_set = unrefused refusal.Specifier (parsed_set inner.0) set.0 set.1;
-          is_last = marker_takes cut.1 marker m;
-        })
-        m
+    (λ m. record {
+      declared = cut.0;
+      inner = inner.0;
+      last = part_of cut.1;
+      whole = cuts.0;
+      no_url = no_url;
+      is_declared = cuts.1;
+      is_inner = within_takes (trimmed cut.0) inner.0 (there (within_parentheses (trimmed cut.0)) refusal.Specifier inner.0 inner.1);
+      is_set = unrefused refusal.Specifier (parsed_set inner.0) set.0 set.1;
+      is_last = marker_takes cut.1 marker m;
+    })
+    m
 
 source_takes : (text : List ℕ) (s : Source) (marker : Option MarkerValue) → source_at text ≡ Ok s → marker_in s.marker ≡ Ok marker → SourceText text s.set s.url marker
 unfolding source_at

@@ -1,5 +1,7 @@
--- Which texts are which requirements (PEP 508, "Grammar"): a relation over the ways to cut the whole text.
-use Rattle.std.specs.Prelude.{◌≡◌, ◌⊎◌, ℕ, Bool, true, false, not, ◌==◌, List, [], ◌++◌, codes, map, Option, Some, None, Ok}
+-- Which texts are which requirements (PEP 508, "Grammar"): a relation over the ways to cut the
+-- whole text.
+use Rattle.std.specs.Prelude.{◌≡◌, ◌⊎◌, ℕ, Bool, true, false, not, ◌==◌, List, [], ◌++◌, codes, map}
+use Rattle.std.specs.Prelude.{Option, Some, None, Ok}
 use Rattle.std.specs.List.{list_all, list_any, slice_split}
 use Rattle.pyver_core.specs.Name.{is_name, is_name_byte}
 use Rattle.pyver_core.specs.Parsed.{parsed_set}
@@ -31,14 +33,16 @@ IsExtras inner extras =
 abbrev pub ExtrasText : List ℕ → List (List ℕ) → List ℕ → Type 0
 ExtrasText text extras next =
     ((text ≡ []) × (extras ≡ []) × (starts (λ b. b == 91) next ≡ false))
-    ⊎ ((inner : List ℕ) × (text ≡ codes "[" ++ (inner ++ codes "]")) × Lacks 93 inner × IsExtras inner extras)
+    ⊎ ((inner : List ℕ) × (text ≡ codes "[" ++ (inner ++ codes "]"))
+    × Lacks 93 inner × IsExtras inner extras)
 
 -- ---- the rest
 
 -- `;` and a marker, or nothing
 abbrev pub MarkerPart : List ℕ → Option MarkerValue → Type 0
 MarkerPart text None = text ≡ []
-MarkerPart text (Some marker) = (inner : List ℕ) × (text ≡ codes ";" ++ inner) × (marker_of inner ≡ Ok marker)
+MarkerPart text (Some marker) =
+    (inner : List ℕ) × (text ≡ codes ";" ++ inner) × (marker_of inner ≡ Ok marker)
 
 -- `@`, a URL up to the next white space or the end, and a marker
 pub record UrlText (text url : List ℕ) (marker : Option MarkerValue) : Type 0 where
@@ -55,10 +59,12 @@ pub record UrlText (text url : List ℕ) (marker : Option MarkerValue) : Type 0 
 -- what counts of the specifiers' text: between parentheses, where it begins with `(`
 abbrev pub IsWithin : List ℕ → List ℕ → Type 0
 IsWithin text inner =
-    ((text ≡ inner) × (starts (λ b. b == 40) text ≡ false)) ⊎ (text ≡ codes "(" ++ (inner ++ codes ")"))
+    ((text ≡ inner) × (starts (λ b. b == 40) text ≡ false))
+    ⊎ (text ≡ codes "(" ++ (inner ++ codes ")"))
 
 -- specifiers, and a marker
-pub record SetText (text : List ℕ) (set : List Specifier) (marker : Option MarkerValue) : Type 0 where
+pub record SetText (text : List ℕ) (set : List Specifier) (marker : Option MarkerValue)
+    : Type 0 where
   pub declared : List ℕ
   pub inner : List ℕ
   pub last : List ℕ
@@ -75,8 +81,8 @@ SourceText text set (Some url) marker = (set ≡ []) × (url ≡ [] → ⊥) × 
 
 -- ---- the whole
 
--- The text is the requirement: a name, which is the longest that stands there, extras, and a URL or specifiers,
--- with white space before, between and after them.
+-- The text is the requirement: a name, which is the longest that stands there, extras, and a URL or
+-- specifiers, with white space before, between and after them.
 pub record Req (text : List ℕ) (parts : RequirementValue) : Type 0 where
   pub before : List ℕ
   pub gap : List ℕ

@@ -6,7 +6,8 @@ ghost use Rattle.pymark_core.specs.declared.requirement.error.RequirementError.T
 use std::alloc::AllocError;
 use thiserror::Error;
 
-/// Why a text isn't taken as a requirement (PEP 508, "Grammar"): the first fault that is met from the left.
+/// Why a text isn't taken as a requirement (PEP 508, "Grammar"): the first fault that is met from
+/// the left.
 #[derive(Debug, Drop, Error)]
 pub enum RequirementError {
     /// The text doesn't begin with a name.
