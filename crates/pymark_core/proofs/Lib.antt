@@ -3,6 +3,7 @@ pub mod Boundaries
 pub mod Choices
 pub mod DepthLemmas
 pub mod Judged
+pub mod NoteLemmas
 pub mod ReadingComplete
 pub mod ReadingSound
 pub mod Substrings

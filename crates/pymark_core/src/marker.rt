@@ -3,9 +3,10 @@
 mod depth;
 mod error;
 mod keys;
+mod notes;
 mod token;
 pub(crate) mod tree;
 pub(crate) mod value;
 
 pub use error::MarkerError;
-pub use keys::Key;
+pub use keys::{Key, Reads};
