@@ -5,10 +5,12 @@ pub mod Choices
 pub mod DepthLemmas
 pub mod Judged
 pub mod NoteLemmas
+pub mod NotedLemmas
 pub mod ReadingComplete
 pub mod ReadingSound
 pub mod Substrings
 pub mod Texts
 pub mod TokenLemmas
+pub mod TokensLemmas
 pub mod TreeView
 pub mod Turns
