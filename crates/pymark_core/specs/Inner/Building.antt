@@ -8,6 +8,7 @@ use Rattle.pymark_core.specs.Marker.Keys.{comparison_reads, is_in}
 use Rattle.pymark_core.specs.Marker.Reading as reading
 use Rattle.pymark_core.specs.Marker.Reading.{Place, at_atom, at_operator, at_in, at_right, at_rest, operand_of}
 use Rattle.pymark_core.specs.Marker.Token as token
+use Rattle.pymark_core.specs.Marker.Tree.{Atom}
 use Rattle.pymark_core.specs.Marker.View.{atom_view, conjunction_view}
 use Rattle.pymark_core.specs.declared.marker.keys.Key.{Key}
 use Rattle.pymark_core.specs.declared.marker.notes.Notes.{Notes}
@@ -35,6 +36,14 @@ place_view b stage = record {
   inner = frame_view b.inner;
   stage = stage_view stage;
 }
+
+-- the atom behind which a stage is
+abbrev pub rest_atom : reading.Stage → Option Atom
+rest_atom at_atom = None
+rest_atom (at_operator left) = None
+rest_atom (at_in left) = None
+rest_atom (at_right left comparator) = None
+rest_atom (at_rest atom) = Some atom
 
 -- the comparison that ends with this token
 abbrev pub noted : reading.Stage → token.Token → List ComparisonValue

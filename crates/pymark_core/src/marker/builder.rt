@@ -2,9 +2,9 @@
 
 ghost use Rattle.std.specs.Prelude.{◌≡◌, [], ◌∷◌, ◌++◌, Ok, OnOk, ok_or, option_map};
 ghost use Rattle.pyver_core.specs.Agreement.{Gives};
-ghost use Rattle.pymark_core.specs.Inner.Building.{NotesMore, frame_view, noted, outer_view, place_view, stage_view};
+ghost use Rattle.pymark_core.specs.Inner.Building.{NotesMore, frame_view, noted, outer_view, place_view, rest_atom, stage_view};
 ghost use Rattle.pymark_core.specs.Marker.Front.{token_view};
-ghost use Rattle.pymark_core.specs.Marker.Reading.{at_atom, at_right, behind_atom, behind_atom_start, behind_closing, behind_left, behind_not, behind_right, empty_frame, finish, frame_conjunction, frame_tree, operand_of, start, step, word_operand};
+ghost use Rattle.pymark_core.specs.Marker.Reading.{at_atom, at_rest, at_right, behind_atom, behind_atom_start, behind_closing, behind_left, behind_not, behind_right, empty_frame, end_at, finish, frame_conjunction, frame_tree, operand_of, start, step, word_operand};
 ghost use Rattle.pymark_core.specs.Marker.View.{atom_view, tree_view};
 ghost use Rattle.pymark_core.specs.Variables.{variable_of};
 ghost use Rattle.pymark_core.specs.declared.operand.Operand.TheVariants.{Variable};
@@ -136,6 +136,16 @@ fn behind_not(left: Operand, token: Token<'_>) -> Option<Stage>
     match token {
         Token::Word("in") => Some(Stage::Right(left, Comparator::NotIn)),
         _ => None,
+    }
+}
+
+/// The atom behind which the stage is.
+fn last_atom(stage: Stage) -> Option<Atom>
+    ensures { option_map atom_view result ≡ rest_atom (stage_view stage) }
+{
+    match stage {
+        Stage::Rest(atom) => Some(atom),
+        Stage::Start | Stage::Operator(_) | Stage::In(_) | Stage::Right(_, _) => None,
     }
 }
 
@@ -286,5 +296,35 @@ impl Builder {
             Stage::Right(left, comparator) => right_operand(alloc, notes, left, comparator, token),
             Stage::Rest(atom) => self.take_rest(alloc, atom, token),
         }
+    }
+
+    /// The tree, where the text may end behind this atom.
+    #[tactic(
+        auto,
+        using(crate::proofs::BuilderLemmas::none_open, crate::proofs::BuilderLemmas::some_open)
+    )]
+    fn end(self, atom: Atom) -> Option<Tree>
+        ensures { option_map tree_view result
+            ≡ end_at (outer_view self) (at_rest (atom_view atom)) (frame_view self.inner) }
+    {
+        let Builder { outer, inner } = self;
+        if outer.as_slice().is_empty() {
+            Some(inner.tree(atom))
+        } else {
+            None
+        }
+    }
+
+    /// The tree, where the text may end at this stage.
+    #[tactic(
+        auto,
+        using(crate::proofs::BuilderLemmas::no_end),
+        unfolding(crate::specs::Marker::Reading::finish)
+    )]
+    pub(super) fn finish(self, stage: Stage) -> Option<Tree>
+        ensures { option_map tree_view result ≡ finish (place_view self stage) }
+    {
+        let atom = last_atom(stage)?;
+        self.end(atom)
     }
 }
