@@ -12,7 +12,6 @@ use Rattle.pymark_core.specs.Inner.Building.{frame_view, noted, rest_atom}
 use Rattle.pymark_core.specs.Marker.Reading as reading
 use Rattle.pymark_core.specs.Marker.Reading.{Place, Stage, at_atom, at_operator, at_in, at_rest, at_right, behind_closing, end_at, frame_tree, operand_of, word_operand}
 use Rattle.pymark_core.specs.Marker.Token.{Token}
-use Rattle.pymark_core.specs.Marker.Tree as tree
 use Rattle.pymark_core.specs.Marker.View.{atom_view, tree_view}
 use Rattle.pymark_core.specs.Variables.{variable_of}
 use Rattle.pymark_core.specs.declared.marker.builder.Frame.{Frame}
@@ -46,7 +45,7 @@ pub closed : (items left : List Frame) (frame inner dest : Frame) (atom : Atom) 
 closed items left frame inner dest atom inside b all is tree boxed =
     rw (all, last_first left frame, is, view_group b, boxed, tree) refl
 
-some_from_ok : {X : Type 0} (o : Option X) (x : X) → ok_or o Syntax ≡ Ok x → o ≡ Some x
+pub some_from_ok : {X : Type 0} (o : Option X) (x : X) → ok_or o Syntax ≡ Ok x → o ≡ Some x
 some_from_ok None x e = absurd cc
 some_from_ok (Some y) x e = let same : y ≡ x = cc in ap Some same
 
@@ -74,10 +73,3 @@ no_end [] (at_in left) inner e = refl
 no_end [] (at_right left comparator) inner e = refl
 no_end [] (at_rest atom) inner e = absurd cc
 no_end (frame ∷ outer) stage inner e = refl
-
-pub end_rest : (outer : List reading.Frame) (stage : Stage) (inner : reading.Frame) (atom : tree.Atom) → rest_atom stage ≡ Some atom → stage ≡ at_rest atom
-end_rest outer at_atom inner atom e = absurd cc
-end_rest outer (at_operator left) inner atom e = absurd cc
-end_rest outer (at_in left) inner atom e = absurd cc
-end_rest outer (at_right left comparator) inner atom e = absurd cc
-end_rest outer (at_rest other) inner atom e = let same : other ≡ atom = cc in ap at_rest same

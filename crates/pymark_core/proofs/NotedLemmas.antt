@@ -1,18 +1,24 @@
 -- What is noted while a marker is read is what its tree compares.
-use Rattle.std.proofs.Common.{◌≡◌, ◌⊎◌, Bool, true, false, cond, ◌||◌, List, [], ◌∷◌, ◌++◌, Option, Some, None, refl, ap, sym, ◌∙◌, inl, inr}
-use Rattle.std.specs.Prelude.{codes, option_map}
+use Rattle.std.proofs.Common.{◌≡◌, ◌⊎◌, Bool, true, false, cond, ◌||◌, List, [], ◌∷◌, ◌++◌, Option, Some, None, Ok, ok_or, refl, ap, sym, ◌∙◌, inl, inr}
+use Rattle.std.specs.Prelude.{ℕ, codes, option_map}
 use Rattle.std.specs.Option.{option_to_list}
 use Rattle.std.specs.List.{list_any}
-use Rattle.std.specs.Str.{bytes_eq}
+use Rattle.std.specs.Str.{IsUtf8, bytes_eq}
+use Rattle.pyver_core.specs.Options.{◌>>=◌}
 use Rattle.std.proofs.Math.Bool.{or_assoc, or-false}
 use Rattle.std.proofs.lemmas.List.Folds.{list_any-append}
+use Rattle.pymark_core.proofs.BuilderLemmas.{some_from_ok}
 use Rattle.pymark_core.proofs.Choices.{chosen, map_some}
-use Rattle.pymark_core.specs.Inner.Building.{noted}
+use Rattle.pymark_core.specs.Inner.Building.{NotesMore, NotesOf, noted}
 use Rattle.pymark_core.specs.Marker.Comparison.{ComparisonValue}
-use Rattle.pymark_core.specs.Marker.Grammar.{atom_comparisons, comparisons, conjunction_comparisons}
-use Rattle.pymark_core.specs.Marker.Reading.{Frame, Place, Stage, at_atom, at_operator, at_in, at_right, at_rest, behind_atom, behind_atom_start, behind_closing, behind_left, behind_not, behind_right, empty_frame, end_at, finish, frame_conjunction, frame_tree, operand_of, place_behind, staged, step}
-use Rattle.pymark_core.specs.Marker.Token.{Token, opening, closing, sign, word, quoted}
+use Rattle.pymark_core.specs.Marker.Grammar.{atom_comparisons, comparisons, conjunction_comparisons, is_misuse}
+use Rattle.pymark_core.specs.Marker.Keys.{comparison_reads, is_in}
+use Rattle.pymark_core.specs.Marker.Reading.{Frame, Place, Stage, at_atom, at_operator, at_in, at_right, at_rest, behind_atom, behind_atom_start, behind_closing, behind_left, behind_not, behind_right, empty_frame, end_at, finish, frame_conjunction, frame_tree, operand_of, place_behind, read, staged, start, step, tree_text}
+use Rattle.pymark_core.specs.Marker.Token.{Token, opening, closing, sign, word, quoted, tokens}
 use Rattle.pymark_core.specs.Marker.Tree.{Tree, Conjunction, Atom, last, or, only, and, leaf, group, conjunction_of, tree_of}
+use Rattle.pymark_core.specs.declared.marker.error.MarkerError.TheVariants.{Syntax}
+use Rattle.pymark_core.specs.declared.marker.keys.Key.{Key}
+use Rattle.pymark_core.specs.declared.marker.notes.Notes.{Notes}
 use Rattle.pymark_core.specs.declared.operand.Comparator.{Comparator}
 use Rattle.pymark_core.specs.declared.operand.Comparator.TheVariants.{By, In, NotIn}
 use Rattle.pymark_core.specs.declared.operand.Operand.{Operand}
@@ -208,3 +214,31 @@ module _ (p : ComparisonValue → Bool) where
   pub finish_any : (place : Place) (tree : Tree) → finish place ≡ Some tree → list_any p (comparisons tree) ≡ place_any place
   unfolding finish
   finish_any place tree e = end_any place.outer place.stage place.inner tree e
+
+-- what was noted is what was read up to the place
+pub record Kept (notes : Notes) (place : Place) : Type 0 where
+  pub reads : (key : Key) → is_in notes.reads key ≡ place_any (comparison_reads key) place
+  pub misuse : notes.misuse ≡ place_any is_misuse place
+
+pub kept_step : (old new : Notes) (place next : Place) (t : Token) → Kept old place → ok_or (step place t) Syntax ≡ Ok next → NotesMore old new (noted place.stage t) → Kept new next
+kept_step old new place next t kept stepped more =
+    let is : step place t ≡ Some next = some_from_ok (step place t) next stepped in
+    record {
+      reads = λ key. more.reads key ∙ ap (λ x. x || list_any (comparison_reads key) (noted place.stage t)) (kept.reads key) ∙ sym (step_adds (comparison_reads key) place t next is);
+      misuse = more.misuse ∙ ap (λ x. x || list_any is_misuse (noted place.stage t)) kept.misuse ∙ sym (step_adds is_misuse place t next is);
+    }
+
+pub kept_end : (notes : Notes) (place : Place) (tree : Tree) → Kept notes place → finish place ≡ Some tree → NotesOf notes (comparisons tree)
+kept_end notes place tree kept e = record {
+  reads = λ key. kept.reads key ∙ sym (finish_any (comparison_reads key) place tree e);
+  misuse = kept.misuse ∙ sym (finish_any is_misuse place tree e);
+}
+
+pub kept_start : (notes : Notes) → ((key : Key) → is_in notes.reads key ≡ false) → notes.misuse ≡ false → Kept notes start
+kept_start notes reads misuse = record { reads = reads; misuse = misuse }
+
+-- what stays true while a marker is read: what is left, read from here, is the tree of the whole text
+pub record Reading (text rest : List ℕ) (place : Place) (notes : Notes) : Type 0 where
+  pub tree : (tokens rest >>= read place) ≡ tree_text text
+  pub kept : Kept notes place
+  pub utf8 : IsUtf8 rest

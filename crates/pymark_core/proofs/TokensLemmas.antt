@@ -1,5 +1,5 @@
 -- The tokens of a text, one after another.
-use Rattle.std.proofs.Common.{◌≡◌, ◌⊎◌, ℕ, zero, suc, ◌+◌, ◌-◌, ◌<◌, ◌≤◌, Bool, true, false, cond, List, [], ◌∷◌, length, get_or, drop, take, Option, Some, None, Result, Ok, Err, ok_or, refl, ap, sym, ◌∙◌, arith, inl, inr}
+use Rattle.std.proofs.Common.{length-drop, ◌≡◌, ◌⊎◌, ℕ, zero, suc, ◌+◌, ◌-◌, ◌<◌, ◌≤◌, Bool, true, false, cond, List, [], ◌∷◌, length, get_or, drop, take, Option, Some, None, Result, Ok, Err, ok_or, refl, ap, sym, ◌∙◌, arith, inl, inr}
 use Rattle.std.specs.Prelude.{option_map, ◌==◌}
 use Rattle.std.specs.List.{prefix_len}
 use Rattle.std.proofs.lemmas.Bool.Decides.{nat_tests}
@@ -147,3 +147,30 @@ turn_bad place m text front =
 pub turn_end : (place : Place) (text : List ℕ) → ok_or (next_front text) Syntax ≡ Ok None → (tokens text >>= read place) ≡ finish place
 unfolding tokens_of read
 turn_end place text front = ap (λ o. o >>= read place) (next_tokens text) ∙ rw (from_ok (next_front text) None front) refl
+
+token_less : (rest : List ℕ) (o : Option Token) (t : Token) (behind : List ℕ) → token_at rest ≡ o → option_map {U = Token × List ℕ} (λ x. (x, drop (token_len x) rest)) o ≡ Some (t, behind) → 0 < length rest → length behind < length rest
+token_less rest None t behind is e some = absurd cc
+token_less rest (Some x) t behind is e some =
+    let found : Token × List ℕ = (x, drop (token_len x) rest) in
+    let given : Token × List ℕ = (t, behind) in
+    let pair : found ≡ given = cc in
+    let same : drop (token_len x) rest ≡ behind = ap (λ (q : Token × List ℕ). q.1) pair in
+    let least = token_some rest x is in
+    let len = length-drop (token_len x) rest in
+    let lens = ap length same in
+    omega arith
+
+less_at : (text w : List ℕ) (t : Token) (behind : List ℕ) → after_white text ≡ w → next_front text ≡ Some (Some (t, behind)) → length behind < length w
+less_at text [] t behind is e = let end = rw is at e in absurd cc
+less_at text (b ∷ rest) t behind is e =
+    let some : (length (b ∷ rest) == 0) ≡ false = grind (arith, nat_tests) in
+    let front : option_map Some (token_front (b ∷ rest)) ≡ Some (Some (t, behind)) = rw (is, some) at e in
+    let found = map_some (token_front (b ∷ rest)) Some (Some (t, behind)) front in
+    let same : found.0 ≡ (t, behind) = cc in
+    token_less (b ∷ rest) (token_at (b ∷ rest)) t behind refl (found.1 ∙ ap Some same) (omega arith)
+
+pub front_less : (text : List ℕ) (t : Token) (behind : List ℕ) → ok_or (next_front text) Syntax ≡ Ok (Some (t, behind)) → length behind < length text
+front_less text t behind e =
+    let less = less_at text (after_white text) t behind refl (from_ok (next_front text) (Some (t, behind)) e) in
+    let len = length-drop (prefix_len is_white text) text in
+    omega arith

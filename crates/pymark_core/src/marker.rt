@@ -5,6 +5,7 @@ mod depth;
 mod error;
 mod keys;
 mod notes;
+mod parse;
 mod token;
 pub(crate) mod tree;
 pub(crate) mod value;

@@ -58,3 +58,8 @@ noted (at_rest atom) t = []
 pub record NotesMore (old new : Notes) (cs : List ComparisonValue) : Type 0 where
   pub reads : (key : Key) → is_in new.reads key ≡ (is_in old.reads key || list_any (comparison_reads key) cs)
   pub misuse : new.misuse ≡ (old.misuse || list_any is_misuse cs)
+
+-- what was noted is these comparisons
+pub record NotesOf (notes : Notes) (cs : List ComparisonValue) : Type 0 where
+  pub reads : (key : Key) → is_in notes.reads key ≡ list_any (comparison_reads key) cs
+  pub misuse : notes.misuse ≡ list_any is_misuse cs
