@@ -1,10 +1,13 @@
 pub mod Agreeing
 pub mod Boundaries
+pub mod BuilderLemmas
 pub mod Choices
 pub mod Cuts
 pub mod DepthLemmas
 pub mod Judged
 pub mod NamesSoFar
+pub mod NoteLemmas
+pub mod NotedLemmas
 pub mod ReadingComplete
 pub mod ReadingSound
 pub mod RequirementAgain
@@ -12,5 +15,6 @@ pub mod RequirementTakes
 pub mod Substrings
 pub mod Texts
 pub mod TokenLemmas
+pub mod TokensLemmas
 pub mod TreeView
 pub mod Turns

@@ -1,5 +1,5 @@
 -- What of an environment a marker reads.
-use Rattle.std.specs.Prelude.{ℕ, Bool, false, true, ◌==◌, ◌||◌, List, [], ◌∷◌, map, ◌++◌, filter}
+use Rattle.std.specs.Prelude.{ℕ, Bool, false, true, ◌==◌, ◌||◌, List, [], ◌∷◌, map, ◌++◌, filter, slice_index_or}
 use Rattle.std.specs.List.{list_any}
 use Rattle.pymark_core.specs.Marker.Comparison.{ComparisonValue}
 use Rattle.pymark_core.specs.Marker.Grammar.{comparisons}
@@ -64,3 +64,8 @@ reads k tree = list_any (comparison_reads k) (comparisons tree)
 -- the keys that stand in the tree as an operand, each once
 abbrev pub keys_of : Tree → List Key
 keys_of tree = filter (λ k. reads k tree) all_keys
+
+-- ---- a set of keys, as whether each key is in it, by the keys' numbers
+
+abbrev pub is_in : List Bool → Key → Bool
+is_in flags k = slice_index_or flags (key_number k) false

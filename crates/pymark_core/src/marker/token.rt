@@ -1,12 +1,15 @@
 //! The tokens of a marker's text (PEP 508, "Grammar").
 
-ghost use Rattle.std.specs.Prelude.{◌≡◌, ◌<◌, IsTrue, drop, length, option_map, slice_index};
+ghost use Rattle.std.specs.Prelude.{◌≡◌, ◌<◌, IsTrue, drop, length, ok_or, option_map, slice_index};
 ghost use Rattle.std.specs.List.{prefix_len};
 ghost use Rattle.pyver_core.specs.Set.Reading.{behind_operator};
+ghost use Rattle.pyver_core.specs.Agreement.{Gives};
+ghost use Rattle.pymark_core.specs.Inner.Next.{next_front, next_view};
 ghost use Rattle.pymark_core.specs.Marker.Front.{lent_cut, lent_front, quotation_front, quoted_front, token_front, with_rest};
 ghost use Rattle.pymark_core.specs.Marker.Token as token;
 ghost use Rattle.pymark_core.specs.Marker.Token.{is_inside, is_quote, is_word_byte, operator_in, token_by, word_in};
 
+use super::error::MarkerError;
 use crate::white::past_white;
 use pyver_core::Operator;
 
@@ -175,4 +178,19 @@ pub(super) fn first_token(text: &str) -> Option<(Token<'_>, &str)>
         return None;
     }
     token_by(text.as_bytes()[0], text)
+}
+
+/// The next token behind white space, and the text behind it. There is none where the text ends.
+pub(super) fn next_token(text: &str) -> Result<Option<(Token<'_>, &str)>, MarkerError>
+    ensures { Gives MarkerError.Memory next_view result
+        (ok_or (next_front text.now) MarkerError.Syntax) }
+{
+    let rest = past_white(text);
+    if rest.is_empty() {
+        return Ok(None);
+    }
+    match first_token(rest) {
+        Some(front) => Ok(Some(front)),
+        None => Err(MarkerError::Syntax),
+    }
 }
