@@ -2,7 +2,14 @@
 use Rattle.std.specs.Prelude.{ℕ, List, [], ◌∷◌, codes, Option, find}
 use Rattle.std.specs.Str.{bytes_eq}
 use Rattle.pymark_core.specs.declared.variable.Var.{Var}
-use Rattle.pymark_core.specs.declared.variable.Var.TheVariants.{OsName, SysPlatform, PlatformMachine, PlatformPythonImplementation, PlatformRelease, PlatformSystem, PlatformVersion, PythonVersion, PythonFullVersion, ImplementationName, ImplementationVersion}
+use Rattle.pymark_core.specs.declared.variable.Var.TheVariants.{OsName, SysPlatform}
+use Rattle.pymark_core.specs.declared.variable.Var.TheVariants.{PlatformMachine}
+use Rattle.pymark_core.specs.declared.variable.Var.TheVariants.{PlatformPythonImplementation}
+use Rattle.pymark_core.specs.declared.variable.Var.TheVariants.{PlatformRelease, PlatformSystem}
+use Rattle.pymark_core.specs.declared.variable.Var.TheVariants.{PlatformVersion, PythonVersion}
+use Rattle.pymark_core.specs.declared.variable.Var.TheVariants.{PythonFullVersion}
+use Rattle.pymark_core.specs.declared.variable.Var.TheVariants.{ImplementationName}
+use Rattle.pymark_core.specs.declared.variable.Var.TheVariants.{ImplementationVersion}
 
 abbrev pub variable_name : Var → List ℕ
 variable_name OsName = codes "os_name"
@@ -27,3 +34,17 @@ variables =
 -- the variable of a name
 abbrev pub variable_of : List ℕ → Option Var
 variable_of name = find (λ variable. bytes_eq (variable_name variable) name) variables
+
+-- the place of a variable among the eleven
+abbrev pub place : Var → ℕ
+place OsName = 0
+place SysPlatform = 1
+place PlatformMachine = 2
+place PlatformPythonImplementation = 3
+place PlatformRelease = 4
+place PlatformSystem = 5
+place PlatformVersion = 6
+place PythonVersion = 7
+place PythonFullVersion = 8
+place ImplementationName = 9
+place ImplementationVersion = 10

@@ -1,0 +1,4 @@
+pub mod Building
+pub mod Compared
+pub mod Next
+pub mod Source
