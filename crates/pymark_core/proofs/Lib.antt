@@ -6,7 +6,6 @@ pub mod DepthLemmas
 pub mod Judged
 pub mod NoteLemmas
 pub mod NotedLemmas
-pub mod ReadingComplete
 pub mod ReadingSound
 pub mod Substrings
 pub mod Texts

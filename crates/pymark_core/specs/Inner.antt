@@ -1,3 +1,5 @@
 pub mod Building
+pub mod Coding
 pub mod Compared
 pub mod Next
+pub mod ReadingComplete

@@ -14,6 +14,6 @@ mod white;
 
 pub use environment::Environment;
 pub use fault::EvalFault;
-pub use marker::{Key, MarkerError, Reads};
+pub use marker::{Key, Marker, MarkerError, Reads};
 pub use operand::{Comparator, Operand};
 pub use variable::Var;
