@@ -4,6 +4,7 @@ pub mod BuilderLemmas
 pub mod Choices
 pub mod DepthLemmas
 pub mod Judged
+pub mod MarkerLemmas
 pub mod NoteLemmas
 pub mod NotedLemmas
 pub mod ReadingSound

@@ -28,9 +28,3 @@ pub fn marker_reads()
         → marker_value e tree ≡ marker_value f tree }
 {
 }
-
-#[tactic(auto, using(crate::proofs::NotedLemmas::step_adds, crate::proofs::TokensLemmas::turn))]
-pub fn scratch()
-    ensures { (text : List ℕ) → text ≡ text }
-{
-}

@@ -10,10 +10,14 @@ mod token;
 pub(crate) mod tree;
 pub(crate) mod value;
 
-ghost use Rattle.std.specs.Prelude.{◌≡◌};
+ghost use Rattle.std.specs.Prelude.{◌≡◌, IfOk, IsErrOf, false, true};
 ghost use Rattle.pyver_core.specs.Agreement.{Gives};
+ghost use Rattle.pymark_core.specs.Marker.Depth.{is_deep};
+ghost use Rattle.pymark_core.specs.Marker.Grammar.{MarkerText, has_misuse};
 ghost use Rattle.pymark_core.specs.Marker.Keys.{is_in, reads};
 ghost use Rattle.pymark_core.specs.Marker.Reading.{marker_of};
+ghost use Rattle.pymark_core.specs.Marker.Tree.{Tree};
+ghost use Rattle.pymark_core.specs.White.{trimmed};
 ghost use Rattle.pymark_core.specs.declared.marker.keys.Key.{Key};
 
 pub use error::MarkerError;
@@ -57,22 +61,27 @@ impl Model for Marker {
 
 impl Marker {
     /// The marker that the text is (PEP 508, "Grammar").
+    ///
+    /// `TooDeep` is answered to every text in which more than 64 parentheses are open at some place, quoted
+    /// texts passed over, whatever else it is; then `Syntax` to every text that isn't a marker; then
+    /// `SetMisuse` to a marker in which `extras` or `dependency_groups` stands anywhere but right of `in` or
+    /// `not in`. It takes time linear in the text, no recursion, and memory for the text, for its quoted
+    /// texts and for lists of its parts.
     pub fn parse(alloc: Global, text: &str) -> Result<Marker, MarkerError>
+        ensures ok { IfOk result (λ m. MarkerText text.now m.tree) }
+        ensures trimmed { IfOk result (λ m. m.text ≡ trimmed text.now) }
+        ensures fits { IfOk result (λ m. (is_deep text.now ≡ false) × (has_misuse m.tree ≡ false)) }
+
+        ensures deep { IsErrOf result MarkerError.TooDeep → is_deep text.now ≡ true }
+        ensures syntax { IsErrOf result MarkerError.Syntax
+            → (is_deep text.now ≡ false) × ((tree : Tree) → MarkerText text.now tree → ⊥) }
+        ensures misuse { IsErrOf result MarkerError.SetMisuse → (is_deep text.now ≡ false)
+            × ((tree : Tree) × MarkerText text.now tree × (has_misuse tree ≡ true)) }
+
+        // The same, over the one answer of the grammar.
         ensures exact { Gives MarkerError.Memory (λ m. m) result (marker_of text.now) }
     {
-        if is_deep(text) {
-            return Err(MarkerError::TooDeep);
-        }
-        let (tree, notes) = read_tree(alloc, text)?;
-        if notes.misuse {
-            return Err(MarkerError::SetMisuse);
-        }
-        let text = String::from_str(alloc, trimmed(text))?;
-        Ok(Marker {
-            text,
-            tree,
-            keys: notes.reads,
-        })
+        read_marker(alloc, text)
     }
 
     /// The given text without the white space round it. It takes no memory.
@@ -88,4 +97,22 @@ impl Marker {
     {
         self.keys
     }
+}
+
+fn read_marker(alloc: Global, text: &str) -> Result<Marker, MarkerError>
+    ensures { Gives MarkerError.Memory (λ m. m) result (marker_of text.now) }
+{
+    if is_deep(text) {
+        return Err(MarkerError::TooDeep);
+    }
+    let (tree, notes) = read_tree(alloc, text)?;
+    if notes.misuse {
+        return Err(MarkerError::SetMisuse);
+    }
+    let text = String::from_str(alloc, trimmed(text))?;
+    Ok(Marker {
+        text,
+        tree,
+        keys: notes.reads,
+    })
 }
