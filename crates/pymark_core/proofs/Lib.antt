@@ -2,12 +2,16 @@ pub mod Agreeing
 pub mod Boundaries
 pub mod BuilderLemmas
 pub mod Choices
+pub mod Cuts
 pub mod DepthLemmas
 pub mod Judged
 pub mod MarkerLemmas
+pub mod NamesSoFar
 pub mod NoteLemmas
 pub mod NotedLemmas
 pub mod ReadingSound
+pub mod RequirementAgain
+pub mod RequirementTakes
 pub mod Substrings
 pub mod Texts
 pub mod TokenLemmas

@@ -3,12 +3,12 @@ use Rattle.std.proofs.Common.{length-drop, ◌≡◌, ◌⊎◌, ℕ, zero, suc,
 use Rattle.std.specs.Prelude.{option_map, ◌==◌}
 use Rattle.std.specs.List.{prefix_len}
 use Rattle.std.proofs.lemmas.Bool.Decides.{nat_tests}
-use Rattle.pyver_core.specs.Grammar.{is_white}
+use Rattle.pyver_core.specs.Version.Grammar.{is_white}
 use Rattle.pyver_core.specs.Options.{◌>>=◌}
-use Rattle.pyver_core.specs.Reading.{after_white}
-use Rattle.pyver_core.specs.SpecifierText.{operator_text}
-use Rattle.pyver_core.specs.declared.specifier.Operator.{Operator}
-use Rattle.pyver_core.specs.declared.specifier.Operator.TheVariants as operator
+use Rattle.pyver_core.specs.Version.Reading.{after_white}
+use Rattle.pyver_core.specs.Set.Normal.{operator_text}
+use Rattle.pyver_core.specs.declared.set.specifier.Operator.{Operator}
+use Rattle.pyver_core.specs.declared.set.specifier.Operator.TheVariants as operator
 use Rattle.pymark_core.proofs.Choices.{cases_bool, chosen, map_some}
 use Rattle.pymark_core.specs.Inner.Next.{next_front}
 use Rattle.pymark_core.specs.Marker.Front.{token_front}

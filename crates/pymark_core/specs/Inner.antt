@@ -3,3 +3,4 @@ pub mod Coding
 pub mod Compared
 pub mod Next
 pub mod ReadingComplete
+pub mod Source

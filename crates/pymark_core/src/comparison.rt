@@ -3,8 +3,10 @@
 ghost use Rattle.std.specs.Prelude.{◌≡◌, IfOk, Result};
 ghost use Rattle.pyver_core.specs.Agreement.{Gives};
 ghost use Rattle.pymark_core.specs.Inner.Compared.{IsRead, left_operand, right_operand};
-ghost use Rattle.pymark_core.specs.Marker.Value.{comparison_value, is_in, is_substring, operand_text, operator_value, text_value, texts_value};
-ghost use Rattle.pymark_core.specs.Parsed.{parsed_operand};
+ghost use Rattle.pymark_core.specs.Marker.Value.{comparison_value, is_in, is_substring};
+ghost use Rattle.pymark_core.specs.Marker.Value.{operand_text, operator_value, text_value};
+ghost use Rattle.pymark_core.specs.Marker.Value.{texts_value};
+ghost use Rattle.pyver_core.specs.Parsed.{parsed_operand};
 
 use crate::candidate::Candidate;
 use crate::environment::Environment;
@@ -15,7 +17,8 @@ use pyver_core::{Label, Operator, Specifier, SpecifierError, VersionError, norma
 use std::alloc::{AllocError, Global};
 use std::marker::Model;
 
-/// Two operands with an operator between them. The quoted texts were read once, in the operator's terms.
+/// Two operands with an operator between them. The quoted texts were read once, in the operator's
+/// terms.
 ///
 /// Contracts see the operands and the operator, since what the texts read as follows from them.
 #[derive(Debug, Drop)]
@@ -85,14 +88,15 @@ impl Comparison {
         })
     }
 
-    /// The value in the environment. A variable against a quoted text is judged without memory, and no
-    /// text is read.
+    /// The value in the environment. A variable against a quoted text is judged without memory, and
+    /// no text is read.
     pub(crate) fn evaluate(
         &self,
         alloc: Global,
         environment: &Environment,
     ) -> Result<bool, EvalFault>
-        ensures { Gives EvalFault.Memory (λ b. b) result (comparison_value environment.now self.now) }
+        ensures { Gives EvalFault.Memory (λ b. b) result
+            (comparison_value environment.now self.now) }
     {
         let left = candidate_in(&self.left, environment)?;
         match self.comparator {
@@ -119,11 +123,7 @@ fn read_left(alloc: Global, operand: Operand) -> Result<Left, AllocError>
 }
 
 /// The operand as this operator reads it.
-fn read_right(
-    alloc: Global,
-    comparator: Comparator,
-    operand: Operand,
-) -> Result<Right, AllocError>
+fn read_right(alloc: Global, comparator: Comparator, operand: Operand) -> Result<Right, AllocError>
     ensures operand { IfOk result (λ right. right_operand right ≡ operand) }
     ensures read { IfOk result (λ right. IsRead comparator right) }
 {
@@ -158,7 +158,8 @@ fn read_operand(
 
 /// The text of a variable, with the version that it spells.
 fn variable_candidate(environment: &Environment, variable: Var) -> Result<&Candidate, EvalFault>
-    ensures { Gives EvalFault.Memory (λ candidate. candidate.now) result (operand_text environment.now (Operand.Variable variable)) }
+    ensures { Gives EvalFault.Memory (λ candidate. candidate.now) result
+        (operand_text environment.now (Operand.Variable variable)) }
 {
     environment
         .candidate(variable)
@@ -170,7 +171,8 @@ fn candidate_in<'a>(
     left: &'a Left,
     environment: &'a Environment,
 ) -> Result<&'a Candidate, EvalFault>
-    ensures { Gives EvalFault.Memory (λ candidate. candidate.now) result (operand_text environment.now (left_operand left.now)) }
+    ensures { Gives EvalFault.Memory (λ candidate. candidate.now) result
+        (operand_text environment.now (left_operand left.now)) }
 {
     match left {
         Left::Text(candidate) => Ok(candidate),
@@ -187,7 +189,8 @@ fn has_in(
     text: &str,
     right: &Right,
 ) -> Result<bool, EvalFault>
-    ensures { Gives EvalFault.Memory (λ b. b) result (is_in environment.now text.now (right_operand right.now)) }
+    ensures { Gives EvalFault.Memory (λ b. b) result
+        (is_in environment.now text.now (right_operand right.now)) }
 {
     match right {
         Right::Text(whole) | Right::Operand(whole, _) => Ok(is_substring(text, whole.as_str())),
@@ -217,7 +220,8 @@ fn value_by(
     right: &Right,
 ) -> Result<bool, EvalFault>
     requires { IsRead (Comparator.By operator) right.now }
-    ensures { Gives EvalFault.Memory (λ b. b) result (text_value environment.now left.now (Comparator.By operator) (right_operand right.now)) }
+    ensures { Gives EvalFault.Memory (λ b. b) result
+        (text_value environment.now left.now (Comparator.By operator) (right_operand right.now)) }
 {
     match right {
         Right::Operand(text, specifier) => judge(left, operator, text.as_str(), specifier),
@@ -233,6 +237,7 @@ fn value_by(
 }
 
 /// The left text against the right one, which reads as this specifier.
+#[tactic(auto, unfolding(pyver_core::specs::Parsed::parsed_version, pyver_core::specs::Parsed::parsed_operand))]
 fn judge(
     left: &Candidate,
     operator: Operator,

@@ -1,18 +1,23 @@
-//! The environment that markers are judged in (PEP 508, "Environment Markers"; PEP 751, "Installation").
+//! The environment that markers are judged in (PEP 508, "Environment Markers"; PEP 751,
+//! "Installation").
 
 ghost use Rattle.std.specs.Prelude.{◌≡◌, not, option_map, replicate, IfOk, OnErr, OnOk};
 ghost use Rattle.std.specs.FinSet as set;
-ghost use Rattle.pyver_core.specs.Names.{norm};
-ghost use Rattle.pymark_core.specs.Environment.{empty, has_extra, has_group, variable_in, with_extra, with_group, with_variable, without_extra, without_group, without_variable};
+ghost use Rattle.pyver_core.specs.Name.{norm};
+ghost use Rattle.pyver_core.specs.Parsed.{parsed_version};
+ghost use Rattle.pymark_core.specs.Environment.{empty, has_extra, has_group, variable_in};
+ghost use Rattle.pymark_core.specs.Environment.{with_extra, with_group, with_variable};
+ghost use Rattle.pymark_core.specs.Environment.{without_extra, without_group, without_variable};
 
 use crate::candidate::Candidate;
 use crate::names::NameSet;
 use crate::variable::Var;
+use pyver_core::{Version, VersionError};
 use std::alloc::{AllocError, Global};
 use std::marker::Model;
 
-/// The environment that markers are judged in: a text for each variable that has one, and the sets of
-/// the extras and of the dependency groups that are asked for, in normal form (PEP 503).
+/// The environment that markers are judged in: a text for each variable that has one, and the sets
+/// of the extras and of the dependency groups that are asked for, in normal form (PEP 503).
 ///
 /// Contracts see the texts and the sets.
 #[derive(Debug, Drop)]
@@ -63,8 +68,20 @@ impl Environment {
         self.variables[variable.place()].as_ref()
     }
 
-    /// Gives the variable the text, which is read as a version here and never again. Where there is no
-    /// memory for it, the variable keeps what it had.
+    /// The version that the text of the variable spells, or why it spells none; nothing where the
+    /// variable has no text. It was read when the variable was set, so it takes no memory.
+    pub fn version(&self, variable: Var) -> Option<&Result<Version, VersionError>>
+        ensures { option_map (λ read. read.now) result
+            ≡ option_map parsed_version (variable_in variable self.now) }
+    {
+        match self.candidate(variable) {
+            Some(candidate) => Some(candidate.version()),
+            None => None,
+        }
+    }
+
+    /// Gives the variable the text, which is read as a version here and never again. Where there is
+    /// no memory for it, the variable keeps what it had.
     pub fn set(&mut self, variable: Var, text: &str) -> Result<(), AllocError>
         ensures ok { OnOk result (self.new ≡ with_variable variable text.now self.old) }
         ensures err { OnErr result (self.new ≡ self.old) }
@@ -81,41 +98,45 @@ impl Environment {
         self.variables[variable.place()] = None;
     }
 
-    /// Asks for the extra of this name, and answers whether it wasn't asked for. Where there is no memory
-    /// for it, the extras stay.
+    /// Asks for the extra of this name, and answers whether it wasn't asked for. Where there is no
+    /// memory for it, the extras stay.
     pub fn add_extra(&mut self, name: &str) -> Result<bool, AllocError>
         ensures ok { OnOk result (self.new ≡ with_extra name.now self.old) }
-        ensures added { IfOk result (λ added. added ≡ not (set.contains self.old.extras (norm name.now))) }
+        ensures added { IfOk result
+            (λ added. added ≡ not (set.contains self.old.extras (norm name.now))) }
         ensures err { OnErr result (self.new ≡ self.old) }
     {
         self.extras.add(self.alloc, name)
     }
 
-    /// Asks for the extra of this name no more, and answers whether it was asked for. It takes the memory
-    /// of the normal name; where there is none, the extras stay.
+    /// Asks for the extra of this name no more, and answers whether it was asked for. It takes the
+    /// memory of the normal name; where there is none, the extras stay.
     pub fn drop_extra(&mut self, name: &str) -> Result<bool, AllocError>
         ensures ok { OnOk result (self.new ≡ without_extra name.now self.old) }
-        ensures dropped { IfOk result (λ dropped. dropped ≡ set.contains self.old.extras (norm name.now)) }
+        ensures dropped { IfOk result
+            (λ dropped. dropped ≡ set.contains self.old.extras (norm name.now)) }
         ensures err { OnErr result (self.new ≡ self.old) }
     {
         self.extras.drop_name(self.alloc, name)
     }
 
-    /// Asks for the group of this name, and answers whether it wasn't asked for. Where there is no memory
-    /// for it, the groups stay.
+    /// Asks for the group of this name, and answers whether it wasn't asked for. Where there is no
+    /// memory for it, the groups stay.
     pub fn add_group(&mut self, name: &str) -> Result<bool, AllocError>
         ensures ok { OnOk result (self.new ≡ with_group name.now self.old) }
-        ensures added { IfOk result (λ added. added ≡ not (set.contains self.old.groups (norm name.now))) }
+        ensures added { IfOk result
+            (λ added. added ≡ not (set.contains self.old.groups (norm name.now))) }
         ensures err { OnErr result (self.new ≡ self.old) }
     {
         self.groups.add(self.alloc, name)
     }
 
-    /// Asks for the group of this name no more, and answers whether it was asked for. It takes the memory
-    /// of the normal name; where there is none, the groups stay.
+    /// Asks for the group of this name no more, and answers whether it was asked for. It takes the
+    /// memory of the normal name; where there is none, the groups stay.
     pub fn drop_group(&mut self, name: &str) -> Result<bool, AllocError>
         ensures ok { OnOk result (self.new ≡ without_group name.now self.old) }
-        ensures dropped { IfOk result (λ dropped. dropped ≡ set.contains self.old.groups (norm name.now)) }
+        ensures dropped { IfOk result
+            (λ dropped. dropped ≡ set.contains self.old.groups (norm name.now)) }
         ensures err { OnErr result (self.new ≡ self.old) }
     {
         self.groups.drop_name(self.alloc, name)
@@ -141,7 +162,7 @@ impl Environment {
     {
         Ok(Environment {
             alloc: self.alloc,
-            variables: copy_variables(self.alloc, &self.variables)?,
+            variables: copy_variables(&self.variables)?,
             extras: self.extras.copy()?,
             groups: self.groups.copy()?,
         })
@@ -167,27 +188,13 @@ fn no_variables() -> [Option<Candidate>; 11]
 
 /// The same texts at the same places.
 fn copy_variables(
-    alloc: Global,
     variables: &[Option<Candidate>; 11],
 ) -> Result<[Option<Candidate>; 11], AllocError>
     ensures { IfOk result (λ copy. copy ≡ variables.now) }
 {
     let mut copy = no_variables();
     for (place, variable) in variables.iter().enumerate() {
-        copy[place] = copy_variable(alloc, variable)?;
+        copy[place] = variable.clone()?;
     }
     Ok(copy)
-}
-
-/// The same text, if there is one.
-fn copy_variable(
-    alloc: Global,
-    variable: &Option<Candidate>,
-) -> Result<Option<Candidate>, AllocError>
-    ensures { IfOk result (λ copy. copy ≡ variable.now) }
-{
-    match variable {
-        Some(candidate) => Ok(Some(candidate.copy(alloc)?)),
-        None => Ok(None),
-    }
 }

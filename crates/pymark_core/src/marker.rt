@@ -17,6 +17,7 @@ ghost use Rattle.pymark_core.specs.Marker.Grammar.{MarkerText, has_misuse};
 ghost use Rattle.pymark_core.specs.Marker.Keys.{is_in, reads};
 ghost use Rattle.pymark_core.specs.Marker.Reading.{marker_of};
 ghost use Rattle.pymark_core.specs.Marker.Tree.{Tree};
+ghost use Rattle.pymark_core.specs.Marker.Value.{marker_value};
 ghost use Rattle.pymark_core.specs.White.{trimmed};
 ghost use Rattle.pymark_core.specs.declared.marker.keys.Key.{Key};
 
@@ -28,7 +29,10 @@ use parse::read_tree;
 use std::alloc::Global;
 use std::marker::Model;
 use tree::Tree;
+use value::tree_value;
 
+use crate::environment::Environment;
+use crate::fault::EvalFault;
 use crate::white::trimmed;
 
 /// A marker: a condition over an environment, with its text as it was given but for the white space round it.
@@ -89,6 +93,16 @@ impl Marker {
         ensures { result.now ≡ self.now.text }
     {
         self.text.as_str()
+    }
+
+    /// The value of the marker in an environment (PEP 508, "Environment Markers"). Every comparison is judged,
+    /// left to right, so that the first fault of the text is the marker's fault. It takes time linear in the
+    /// marker, and memory only where a text has to be read or a name normalised for a comparison.
+    pub fn evaluate(&self, alloc: Global, environment: &Environment) -> Result<bool, EvalFault>
+        ensures { Gives EvalFault.Memory (λ b. b) result
+            (marker_value environment.now self.now.tree) }
+    {
+        tree_value(alloc, environment, &self.tree)
     }
 
     /// The keys that stand in the marker as an operand. It takes no memory.

@@ -1,7 +1,7 @@
 -- The next token of a text, behind white space.
 use Rattle.std.specs.Prelude.{ℕ, ◌==◌, if◌then◌else◌, List, [], ◌∷◌, length, Option, Some, None, option_map}
 use denote.Ref.{Bor}
-use Rattle.pyver_core.specs.Reading.{after_white}
+use Rattle.pyver_core.specs.Version.Reading.{after_white}
 use Rattle.pymark_core.specs.Marker.Front.{lent_front, token_front}
 use Rattle.pymark_core.specs.Marker.Token as token
 use Rattle.pymark_core.specs.declared.marker.token.Token.{Token}

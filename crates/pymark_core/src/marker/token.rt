@@ -2,7 +2,7 @@
 
 ghost use Rattle.std.specs.Prelude.{◌≡◌, ◌<◌, IsTrue, drop, length, ok_or, option_map, slice_index};
 ghost use Rattle.std.specs.List.{prefix_len};
-ghost use Rattle.pyver_core.specs.SetReading.{behind_operator};
+ghost use Rattle.pyver_core.specs.Set.Reading.{behind_operator};
 ghost use Rattle.pyver_core.specs.Agreement.{Gives};
 ghost use Rattle.pymark_core.specs.Inner.Next.{next_front, next_view};
 ghost use Rattle.pymark_core.specs.Marker.Front.{lent_cut, lent_front, quotation_front, quoted_front, token_front, with_rest};
@@ -66,10 +66,7 @@ fn word_len(text: &str) -> usize
         .count()
 }
 
-#[tactic(auto, using(
-    crate::proofs::Boundaries::boundary_before_ascii,
-    crate::proofs::Boundaries::boundary_behind_ascii
-))]
+#[tactic(auto, using(crate::proofs::Boundaries::boundary_before_ascii, crate::proofs::Boundaries::boundary_behind_ascii))]
 /// What stands between an opening quote, which is in front of the text, and the same quote, and the text
 /// behind it.
 fn quoted(quote: u8, text: &str) -> Option<(&str, &str)>
@@ -173,10 +170,7 @@ fn token_by(first: u8, text: &str) -> Option<(Token<'_>, &str)>
 }
 
 /// The token at the front of the text, and the text behind it.
-#[tactic(auto, using(
-    crate::proofs::TokenLemmas::token_of_first,
-    crate::proofs::TokenLemmas::token_of_none
-))]
+#[tactic(auto, using(crate::proofs::TokenLemmas::token_of_first, crate::proofs::TokenLemmas::token_of_none))]
 pub(super) fn first_token(text: &str) -> Option<(Token<'_>, &str)>
     ensures { option_map lent_front result ≡ token_front text.now }
 {
