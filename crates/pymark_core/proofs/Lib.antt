@@ -5,10 +5,10 @@ pub mod Choices
 pub mod Cuts
 pub mod DepthLemmas
 pub mod Judged
+pub mod MarkerLemmas
 pub mod NamesSoFar
 pub mod NoteLemmas
 pub mod NotedLemmas
-pub mod ReadingComplete
 pub mod ReadingSound
 pub mod RequirementAgain
 pub mod RequirementTakes
