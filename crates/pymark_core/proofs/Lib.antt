@@ -8,7 +8,6 @@ pub mod Judged
 pub mod NamesSoFar
 pub mod NoteLemmas
 pub mod NotedLemmas
-pub mod ReadingComplete
 pub mod ReadingSound
 pub mod RequirementAgain
 pub mod RequirementTakes

@@ -15,9 +15,9 @@ mod white;
 
 pub use environment::Environment;
 pub use fault::EvalFault;
-pub use marker::{Key, MarkerError, Reads};
+pub use marker::{Key, Marker, MarkerError, Reads};
 pub use operand::{Comparator, Operand};
-pub use requirement::RequirementError;
+pub use requirement::{Requirement, RequirementError};
 pub use variable::Var;
 
 #[cfg(test)]

@@ -1,7 +1,7 @@
 use Rattle.std.proofs.Common.{◌≡◌, Some, sym, ap, ◌∙◌}
 use Rattle.pyver_core.specs.Options.{◌>>=◌}
 use Rattle.pymark_core.proofs.Choices.{bind_some}
-use Rattle.pymark_core.proofs.ReadingComplete.{read_again}
+use Rattle.pymark_core.specs.Inner.ReadingComplete.{read_again}
 use Rattle.pymark_core.proofs.ReadingSound.{read_sound}
 use Rattle.pymark_core.specs.Marker.Reading.{read, start}
 use Rattle.pymark_core.specs.Marker.Token.{tokens}
