@@ -5,6 +5,7 @@ pub mod Choices
 pub mod Cuts
 pub mod DepthLemmas
 pub mod Judged
+pub mod MarkerLemmas
 pub mod NamesSoFar
 pub mod NoteLemmas
 pub mod NotedLemmas

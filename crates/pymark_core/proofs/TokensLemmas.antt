@@ -108,7 +108,7 @@ from_ok : {X : Type 0} (o : Option X) (x : X) → ok_or o Syntax ≡ Ok x → o 
 from_ok None x e = absurd cc
 from_ok (Some y) x e = let same : y ≡ x = cc in ap Some same
 
-from_err : {X : Type 0} (o : Option X) (m : MarkerError) → ok_or o Syntax ≡ Err m → (o ≡ None) × (m ≡ Syntax)
+pub from_err : {X : Type 0} (o : Option X) (m : MarkerError) → ok_or o Syntax ≡ Err m → (o ≡ None) × (m ≡ Syntax)
 from_err None m e = let same : m ≡ Syntax = cc in (refl, same)
 from_err (Some y) m e = absurd cc
 
