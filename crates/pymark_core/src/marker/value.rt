@@ -5,28 +5,15 @@ ghost use Rattle.pyver_core.specs.Agreement.{Gives};
 ghost use Rattle.pymark_core.specs.Marker.Value.{atom_value, conjunction_value, marker_value};
 ghost use Rattle.pymark_core.specs.Marker.View.{atom_view, conjunction_view, tree_view};
 
-use super::Marker;
 use super::tree::{Atom, Conjunction, Tree};
 use crate::environment::Environment;
 use crate::fault::EvalFault;
 use std::alloc::Global;
 
-impl Marker {
-    /// The value in the environment: every comparison is judged, left to right, and the first fault in
-    /// the text is the marker's. It takes time linear in the marker. A comparison of a variable with a
-    /// quoted text takes no memory.
-    pub fn evaluate(&self, alloc: Global, environment: &Environment) -> Result<bool, EvalFault>
-        ensures { Gives EvalFault.Memory (λ b. b) result
-            (marker_value environment.now self.now.tree) }
-    {
-        tree_value(alloc, environment, &self.tree)
-    }
-}
-
 /// The value of conjunctions joined by `or`. Each is judged, also where an earlier one is true, so
 /// that the first fault of the text is found.
 #[cycle(value)]
-fn tree_value(
+pub(super) fn tree_value(
     alloc: Global,
     environment: &Environment,
     tree: &Tree,
