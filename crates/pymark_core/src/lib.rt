@@ -17,7 +17,7 @@ pub use environment::Environment;
 pub use fault::EvalFault;
 pub use marker::{Key, Marker, MarkerError, Reads};
 pub use operand::{Comparator, Operand};
-pub use requirement::RequirementError;
+pub use requirement::{Requirement, RequirementError};
 pub use variable::Var;
 
 #[cfg(test)]

@@ -8,7 +8,7 @@ mod notes;
 mod parse;
 mod token;
 pub(crate) mod tree;
-pub(crate) mod value;
+mod value;
 
 ghost use Rattle.std.specs.Prelude.{◌≡◌, IfOk, IsErrOf, false, true};
 ghost use Rattle.pyver_core.specs.Agreement.{Gives};

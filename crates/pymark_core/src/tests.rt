@@ -3,4 +3,5 @@
 mod environments;
 mod growths;
 mod messages;
+mod requirements;
 mod values;

@@ -13,7 +13,7 @@ use std::alloc::Global;
 /// The value of conjunctions joined by `or`. Each is judged, also where an earlier one is true, so
 /// that the first fault of the text is found.
 #[cycle(value)]
-pub(crate) fn tree_value(
+pub(super) fn tree_value(
     alloc: Global,
     environment: &Environment,
     tree: &Tree,
