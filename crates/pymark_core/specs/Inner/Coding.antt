@@ -3,7 +3,7 @@ use Rattle.std.specs.Prelude.{◌≡◌, ℕ, ◌==◌, List, [], ◌∷◌, if�
 use Rattle.std.specs.Coded.{Coded, code_by, coded×, coded_ℕ, coded_list}
 use Rattle.std.specs.Str.{bytes_eq}
 use Rattle.std.proofs.Common.{ap}
-use Rattle.pyver_core.specs.SetReading.{operators}
+use Rattle.pyver_core.specs.Set.Reading.{operators}
 use Rattle.pyver_core.specs.SpecifierText.{operator_text}
 use Rattle.pyver_core.specs.declared.specifier.Operator.{Operator}
 use Rattle.pyver_core.specs.declared.specifier.Operator.TheVariants as operator
