@@ -4,7 +4,7 @@ use Rattle.std.specs.Coded.{Coded, code_by, coded×, coded_ℕ, coded_list}
 use Rattle.std.specs.Str.{bytes_eq}
 use Rattle.std.proofs.Common.{ap}
 use Rattle.pyver_core.specs.Set.Reading.{operators}
-use Rattle.pyver_core.specs.SpecifierText.{operator_text}
+use Rattle.pyver_core.specs.Set.Normal.{operator_text}
 use Rattle.pyver_core.specs.declared.specifier.Operator.{Operator}
 use Rattle.pyver_core.specs.declared.specifier.Operator.TheVariants as operator
 use Rattle.pymark_core.specs.Inner.ReadingComplete.{read_again}
