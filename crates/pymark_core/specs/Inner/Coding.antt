@@ -5,8 +5,8 @@ use Rattle.std.specs.Str.{bytes_eq}
 use Rattle.std.proofs.Common.{ap}
 use Rattle.pyver_core.specs.Set.Reading.{operators}
 use Rattle.pyver_core.specs.Set.Normal.{operator_text}
-use Rattle.pyver_core.specs.declared.specifier.Operator.{Operator}
-use Rattle.pyver_core.specs.declared.specifier.Operator.TheVariants as operator
+use Rattle.pyver_core.specs.declared.set.specifier.Operator.{Operator}
+use Rattle.pyver_core.specs.declared.set.specifier.Operator.TheVariants as operator
 use Rattle.pymark_core.specs.Inner.ReadingComplete.{read_again}
 use Rattle.pymark_core.specs.Marker.Grammar.{tree_tokens}
 use Rattle.pymark_core.specs.Marker.Reading.{MarkerValue, read, start}
