@@ -8,3 +8,4 @@ mod TextLemmas
 pub mod RowLemmas
 pub mod SlateLemmas
 pub mod StepLemmas
+mod VariableLemmas
