@@ -1,10 +1,12 @@
 //! Why a text is refused.
 
 ghost use Rattle.std.specs.Prelude.{◌≡◌};
+ghost use Rattle.pywheel_core.specs.Wheel.Refusal.{refusal_of};
 ghost use Rattle.pywheel_core.specs.declared.error.TagError.TheVariants as tag;
 ghost use Rattle.pywheel_core.specs.declared.error.TagListError.TheVariants as list;
 ghost use Rattle.pywheel_core.specs.declared.error.WheelError.TheVariants as wheel;
 
+use pyver_core::VersionError;
 use std::alloc::{AllocError, AllocFailed};
 use thiserror::Error;
 
@@ -93,5 +95,18 @@ impl<T: Drop> From<AllocFailed<T>> for WheelError {
 
     fn from(_refused: AllocFailed<T>) -> WheelError {
         WheelError::Memory
+    }
+}
+
+/// A text that is no version refuses the name of the wheel.
+impl From<VersionError> for WheelError {
+    ghost from_gives = { λ refused e. e ≡ refusal_of refused };
+
+    fn from(refused: VersionError) -> WheelError {
+        match refused {
+            VersionError::Syntax => WheelError::Version,
+            VersionError::NumberTooLarge => WheelError::Version,
+            VersionError::Memory => WheelError::Memory,
+        }
     }
 }

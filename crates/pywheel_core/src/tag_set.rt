@@ -71,6 +71,7 @@ impl TagSet<'_> {
     fn tags(&self, alloc: Global, text: &RcStr, count: usize) -> Result<Vec<Tag>, WheelError>
         requires whole { three_parts 45 (rc_str_bytes text.now) ≡ Some (set_of self.now) }
         requires set { is_tag_set (set_of self.now) ≡ true }
+        requires fits { length self.now.python.now + length self.now.abi.now + length self.now.platform.now + 2 < 2 ^ 64 }
         ensures { Gives WheelError.Memory (λ v. v.items) result (Ok (tags_in (set_of self.now))) }
     {
         let (python, abi, platform) = self.places();
@@ -78,11 +79,30 @@ impl TagSet<'_> {
         let abis = piece_places(alloc, abi.start, self.abi)?;
         let platforms = piece_places(alloc, platform.start, self.platform)?;
         let mut tags = Vec::with_capacity(alloc, count)?;
-        for python in &pythons {
-            push_abis(&mut tags, text, *python, &abis, &platforms)?;
-        }
+        push_tags(&mut tags, text, &pythons, &abis, &platforms)?;
         Ok(tags)
     }
+}
+
+/// Adds the tags with these parts.
+fn push_tags(
+    tags: &mut Vec<Tag>,
+    text: &RcStr,
+    pythons: &[Place],
+    abis: &[Place],
+    platforms: &[Place],
+) -> Result<(), WheelError>
+    requires ascii { IsAsciiText (rc_str_bytes text.now) }
+    requires pythons { AreWithin (rc_str_bytes text.now) pythons.now }
+    requires abis { AreWithin (rc_str_bytes text.now) abis.now }
+    requires platforms { AreWithin (rc_str_bytes text.now) platforms.now }
+    ensures added { OnOk result (tags.new.items ≡ tags.old.items ++ flat_map (λ python. flat_map (λ abi. map (λ platform. tag_at (rc_str_bytes text.now) python abi platform) platforms.now) abis.now) pythons.now) }
+    ensures memory { OnErr result (result ≡ Err WheelError.Memory) }
+{
+    for python in pythons {
+        push_abis(tags, text, *python, abis, platforms)?;
+    }
+    Ok(())
 }
 
 /// Adds the tags with this Python.

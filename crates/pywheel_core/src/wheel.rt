@@ -14,7 +14,7 @@ use crate::cut::{StemParts, stem, stem_parts};
 use crate::error::WheelError;
 use crate::tag::Tag;
 use crate::tag_set::read_tag_set;
-use pyver_core::{Version, VersionError};
+use pyver_core::Version;
 use std::alloc::Global;
 use std::cmp::Ordering;
 use std::marker::Model;
@@ -169,11 +169,7 @@ fn has_double_underscore(name: &str) -> bool
 fn read_version(alloc: Global, text: &str) -> Result<Version, WheelError>
     ensures { Gives WheelError.Memory (λ v. v) result (version_in text.now) }
 {
-    match Version::parse(alloc, text) {
-        Ok(version) => Ok(version),
-        Err(VersionError::Syntax | VersionError::NumberTooLarge) => Err(WheelError::Version),
-        Err(VersionError::Memory) => Err(WheelError::Memory),
-    }
+    Ok(Version::parse(alloc, text)?)
 }
 
 /// The build tag, where there is one.

@@ -1,7 +1,7 @@
 -- Places in a text.
 use Rattle.std.specs.Prelude.{◌≡◌, ℕ, ◌+◌, ◌≤◌, true, List, [], ◌∷◌, length, slice_range}
 use Rattle.std.specs.Char.{is_ascii}
-use Rattle.std.specs.List.{list_all}
+use Rattle.std.specs.List.{All, list_all}
 use Rattle.pywheel_core.specs.Tag.{TagParts, TagValue}
 use Rattle.pywheel_core.specs.declared.place.Place.{Place}
 
@@ -15,8 +15,7 @@ IsWithin text place = (place.start ≤ place.end) × (place.end ≤ length text)
 
 -- every place does
 abbrev pub AreWithin : List ℕ → List Place → Type 0
-AreWithin text [] = Unit {0}
-AreWithin text (place ∷ places) = IsWithin text place × AreWithin text places
+AreWithin text places = All (IsWithin text) places
 
 abbrev pub IsAsciiText : List ℕ → Type 0
 IsAsciiText text = list_all is_ascii text ≡ true
