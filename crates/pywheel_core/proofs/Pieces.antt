@@ -1,6 +1,7 @@
 -- Where the parts of a tag set and their pieces stand in its text.
 use Rattle.std.proofs.Common.{◌≡◌, ℕ, ◌+◌, ◌*◌, ◌-◌, ◌<◌, ◌≤◌, Bool, true, false, ◌==◌, ◌&&◌, List, [], ◌∷◌, ◌++◌, length, map, take, drop, Option, Some, None, Result, Ok, refl, sym, ap, subst, ◌∙◌, inl, inr, arith}
 use Rattle.std.specs.Char.{is_ascii}
+use Rattle.std.specs.Str.{str_to_ascii_lowercase}
 use Rattle.std.specs.List.{All, flat_map, join_with_byte, list_all, slice_split}
 use Rattle.std.proofs.Math.Seq.{drop-append_seam, take-append_seam}
 use Rattle.std.proofs.lemmas.Bool.Decides.{nat_tests}
@@ -13,7 +14,7 @@ use Rattle.std.proofs.lemmas.List.Folds.{flat_map-map, list_all-append}
 use Rattle.std.proofs.lemmas.List.Splits.{join_with_byte-slice_split, length-slice_split}
 use Rattle.pyver_core.proofs.Sight.{option_sight, sight}
 use Rattle.pywheel_core.specs.Inner.Places.{AreWithin, IsAsciiText, IsWithin, at, places_from, places_of, tag_at}
-use Rattle.pywheel_core.specs.Tag.{TagParts, are_tag_parts, has_tag_parts, is_tag_byte, is_tag_part, is_tag_set, pieces, tag_count, tags_in, triples}
+use Rattle.pywheel_core.specs.Tag.{TagParts, are_tag_parts, has_tag_parts, is_tag, is_tag_byte, is_tag_part, is_tag_set, pieces, tag_count, tag_of, tag_with, tags_in, triples}
 use Rattle.pywheel_core.specs.Texts.{cut_at, three_parts}
 use Rattle.pywheel_core.specs.declared.error.WheelError.{WheelError}
 use Rattle.pywheel_core.specs.declared.place.Place.{Place}
@@ -194,3 +195,44 @@ pub product_le : (s : List ℕ) (x : ℕ) → x ≤ length (pieces s) * x
 product_le s x =
     let one : length (pieces s) ≡ _ + 1 = length-slice_split (λ b. b == 46) s in
     subst (λ n. x ≤ n) (mul_comm x (length (pieces s))) (le-mul_of_pos_right x (omega (arith, one)))
+
+-- ---- one tag
+
+pub three_length : (text : List ℕ) (s : TagParts) → three_parts 45 text ≡ Some s → length text ≡ length s.0 + length s.1 + length s.2 + 2
+three_length text s h =
+    let whole = ap length (three_say 45 text s h).0 in
+    let first = length-append s.0 (45 ∷ (s.1 ++ (45 ∷ s.2))) in
+    let second = length-append s.1 (45 ∷ s.2) in
+    omega (arith, whole, first, second)
+
+pub record TagStands (text : List ℕ) (s : TagParts) (x : Place × Place × Place) : Type 0 where
+  pub ascii : IsAsciiText text
+  pub python : IsWithin text x.0
+  pub abi : IsWithin text x.1
+  pub platform : IsWithin text x.2
+  pub value : tag_at text x.0 x.1 x.2 ≡ tag_with s
+
+tag_stands_at : (text : List ℕ) (s : TagParts) → three_parts 45 text ≡ Some s → is_tag s ≡ true → TagStands text s (places_of s)
+tag_stands_at text s h ok =
+    let x = and_both (is_tag_part s.0) (is_tag_part s.1 && is_tag_part s.2) ok in
+    let y = and_both (is_tag_part s.1) (is_tag_part s.2) x.1 in
+    let stand = three_stand text s h in
+    let P : ℕ → Type 0 = λ n. (at text (record { start = 0; end = n }) ≡ s.0) × IsWithin text (record { start = 0; end = n }) in
+    let none : 0 + length s.0 ≡ length s.0 = omega arith in
+    let python = subst P none (whole_stands text stand.0.0 s.0 stand.0.1 0 stand.0.2 stand.0.3) in
+    let abi = whole_stands text stand.1.0 s.1 stand.1.1 (length s.0 + 1) stand.1.2 stand.1.3 in
+    let platform = whole_stands text stand.2.0 s.2 stand.2.1 (length s.0 + 1 + length s.1 + 1) stand.2.2 stand.2.3 in
+    record {
+      ascii = three_ascii text s.0 s.1 s.2 (three_say 45 text s h).0 (part_ascii s.0 x.0) (part_ascii s.1 y.0) (part_ascii s.2 y.1);
+      python = python.1;
+      abi = abi.1;
+      platform = platform.1;
+      value = λ i. record { python = python.0 i; abi = abi.0 i; platform = platform.0 i };
+    }
+
+pub tag_stands : (text : List ℕ) (s : TagParts) (x : Place × Place × Place) → x ≡ places_of s → three_parts 45 text ≡ Some s → is_tag s ≡ true → TagStands text s x
+tag_stands text s x made h ok = subst (TagStands text s) (sym made) (tag_stands_at text s h ok)
+
+pub tag_taken : (text lower : List ℕ) (s : TagParts) → lower ≡ str_to_ascii_lowercase text → three_parts 45 lower ≡ Some s → is_tag s ≡ true → tag_of text ≡ Ok (tag_with s)
+unfolding tag_of
+tag_taken text lower s e h ok = let g : three_parts 45 (str_to_ascii_lowercase text) ≡ Some s = ap (three_parts 45) (sym e) ∙ h in rw (g, ok) refl

@@ -1,6 +1,6 @@
 //! Texts cut at `-`: the parts of a tag, of a compressed tag set and of a wheel's name.
 
-ghost use Rattle.std.specs.Prelude.{◌≡◌, ◌+◌, ◌<◌, ◌^◌, length, option_map, IfOk};
+ghost use Rattle.std.specs.Prelude.{◌≡◌, ◌+◌, length, option_map, IfOk};
 ghost use Rattle.std.specs.List.{list_all};
 ghost use Rattle.std.specs.Rc.{rc_str_bytes};
 ghost use Rattle.std.specs.Str.{str_to_ascii_lowercase};
@@ -131,18 +131,17 @@ impl TagSet<'_> {
         is_tag_part(self.python) && is_tag_part(self.abi) && is_tag_part(self.platform)
     }
 
-    /// The places of the three parts in the text that they are.
-    pub(crate) fn places(&self) -> (Place, Place, Place)
-        requires { length self.now.python.now + length self.now.abi.now + length self.now.platform.now + 2 < 2 ^ 64 }
+    /// The places of the three parts in the text that they make, which has this length.
+    pub(crate) fn places(&self, whole: usize) -> (Place, Place, Place)
+        requires { whole ≡ length self.now.python.now + length self.now.abi.now + length self.now.platform.now + 2 }
         ensures { (result.0, result.1, result.2) ≡ places_of (set_of self.now) }
     {
         let python = self.python.len();
         let abi = python + 1 + self.abi.len();
-        let platform = abi + 1 + self.platform.len();
         (
             Place { start: 0, end: python },
             Place { start: python + 1, end: abi },
-            Place { start: abi + 1, end: platform },
+            Place { start: abi + 1, end: whole },
         )
     }
 }

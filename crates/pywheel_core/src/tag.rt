@@ -72,7 +72,7 @@ impl Tag {
         if !parts.is_tag() {
             return Err(TagError::Shape);
         }
-        let (python, abi, platform) = parts.places();
+        let (python, abi, platform) = parts.places(text.len());
         Ok(Tag::new(text, python, abi, platform))
     }
 

@@ -71,10 +71,9 @@ impl TagSet<'_> {
     fn tags(&self, alloc: Global, text: &RcStr, count: usize) -> Result<Vec<Tag>, WheelError>
         requires whole { three_parts 45 (rc_str_bytes text.now) ≡ Some (set_of self.now) }
         requires set { is_tag_set (set_of self.now) ≡ true }
-        requires fits { length self.now.python.now + length self.now.abi.now + length self.now.platform.now + 2 < 2 ^ 64 }
         ensures { Gives WheelError.Memory (λ v. v.items) result (Ok (tags_in (set_of self.now))) }
     {
-        let (python, abi, platform) = self.places();
+        let (python, abi, platform) = self.places(text.len());
         let pythons = piece_places(alloc, python.start, self.python)?;
         let abis = piece_places(alloc, abi.start, self.abi)?;
         let platforms = piece_places(alloc, platform.start, self.platform)?;

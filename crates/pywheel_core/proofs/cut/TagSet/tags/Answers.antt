@@ -3,7 +3,7 @@ use Rattle.std.specs.List.{flat_map}
 use Rattle.std.specs.Rc.{rc_str_bytes}
 use Rattle.pywheel_core.specs.Inner.Lent.{set_of}
 use Rattle.pywheel_core.specs.Inner.Places.{AreWithin, tag_at}
-use Rattle.pywheel_core.proofs.Pieces.{SetStands, set_places}
+use Rattle.pywheel_core.proofs.Pieces.{SetStands, set_places, three_length}
 use Rattle.pywheel_core.proofs.cut.TagSet.tags.Goals as goal
 
 stands : (c : goal.After-deref-3) → SetStands (rc_str_bytes c.args.text.now) (set_of c.args.self.now)
@@ -11,6 +11,9 @@ stands : (c : goal.After-deref-3) → SetStands (rc_str_bytes c.args.text.now) (
 stands c = set_places (rc_str_bytes c.args.text.now) (set_of c.args.self.now) c.places.result
     c.in_ok-pythons.pythons.items c.in_ok-abis.abis.items c.in_ok-platforms.platforms.items c.places.ensures
     c.in_ok-pythons.ensures c.in_ok-abis.ensures c.in_ok-platforms.ensures c.requires.whole c.requires.set
+
+pub places-requires : goal.places-requires
+places-requires c = c.len.ensures ∙ three_length (rc_str_bytes c.args.text.now) (set_of c.args.self.now) c.requires.whole
 
 pub push_tags-requires-clause-ascii : goal.push_tags-requires-clause-ascii
 push_tags-requires-clause-ascii c = (stands c).ascii
