@@ -1,7 +1,7 @@
 //! The choice of a wheel.
 
 ghost use Rattle.std.specs.Prelude.{◌≡◌, None, option_map};
-ghost use Rattle.pywheel_core.specs.Choice.{IsBest, best, better, is_better, least_rank, rank_from, ranked};
+ghost use Rattle.pywheel_core.specs.Choice.{IsBest, best, best_from, better, is_better, least_rank, rank_from, ranked};
 ghost use Rattle.pywheel_core.specs.Inner.Lent.{candidate_of};
 
 use crate::tag_list::TagList;
@@ -19,16 +19,30 @@ pub(crate) struct Candidate<'a> {
 /// The place of the best wheel: of those with a tag in the list, the one whose best tag stands first there;
 /// then the greater build; then the earlier place. `None` among the wheels is never chosen. It takes no
 /// memory and looks at each tag once.
-#[tactic(auto, unfolding(crate::specs::Choice::best))]
 pub fn choose(wheels: &[Option<WheelName>], tags: &TagList) -> Option<usize>
     ensures best { IsBest wheels.now tags.now result }
     ensures exact { result ≡ best wheels.now tags.now }
+{
+    best_place(wheels, tags)
+}
+
+/// The place of the best wheel, by one pass.
+#[tactic(auto, unfolding(crate::specs::Choice::best))]
+fn best_place(wheels: &[Option<WheelName>], tags: &TagList) -> Option<usize>
+    ensures { result ≡ best wheels.now tags.now }
+{
+    Some(best_candidate(wheels, tags)?.place)
+}
+
+/// The best wheel.
+fn best_candidate<'a>(wheels: &'a [Option<WheelName>], tags: &TagList) -> Option<Candidate<'a>>
+    ensures { option_map candidate_of result ≡ best_from None 0 wheels.now tags.now }
 {
     let mut best = None;
     for (place, wheel) in wheels.iter().enumerate() {
         best = better(best, compatible(place, wheel, tags));
     }
-    best.map(|candidate| candidate.place)
+    best
 }
 
 /// The wheel at this place, where one is and has a tag in the list.
