@@ -1,3 +1,4 @@
+pub mod Best
 pub mod Choosing
 pub mod Cuts
 pub mod Pieces
