@@ -13,7 +13,7 @@ use std::cmp::Ordering;
 use std::marker::Model;
 
 /// A build tag. Contracts see it as written.
-#[derive(Drop)]
+#[derive(Debug, Drop)]
 pub(crate) struct BuildTag {
     text: String,
     digits: usize,

@@ -4,6 +4,7 @@
 mod build;
 mod choice;
 mod cut;
+mod display;
 mod error;
 mod place;
 mod tag;
@@ -16,3 +17,6 @@ pub use error::{TagError, TagListError, WheelError};
 pub use tag::Tag;
 pub use tag_list::TagList;
 pub use wheel::WheelName;
+
+#[cfg(test)]
+mod tests;

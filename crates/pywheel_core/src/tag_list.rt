@@ -11,7 +11,7 @@ use std::alloc::Global;
 use std::marker::Model;
 
 /// Distinct tags, the most preferred first. A tag's rank is its position.
-#[derive(Drop)]
+#[derive(Debug, Drop)]
 pub struct TagList {
     tags: IndexSet<Tag>,
 }

@@ -21,7 +21,7 @@ use std::marker::Model;
 use std::rc::RcStr;
 
 /// The name of a wheel: what its file name says.
-#[derive(Drop)]
+#[derive(Debug, Drop)]
 pub struct WheelName {
     name: String,
     version: Version,
@@ -114,6 +114,13 @@ impl WheelName {
         ensures { result.now ≡ self.now.tags }
     {
         &self.tags
+    }
+
+    /// The compressed tag set that stands for the tags, in lower case (PEP 425, "Compressed Tag Sets").
+    pub fn tag_set(&self) -> &str
+        ensures { result.now ≡ self.now.tag_set }
+    {
+        self.tag_set.as_str()
     }
 
     /// The order of the build tags, in which none is least.
