@@ -12,6 +12,8 @@ mod field;
 mod lock;
 mod session;
 mod steps;
+#[cfg(test)]
+mod tests;
 mod text;
 
 pub use answer::{Answer, FaultCode, Pick, PickSource, Plan};
