@@ -1,7 +1,6 @@
 //! Entries: their refusals in order, and what they tell.
-use crate::Entry;
 use crate::tests::locks::with_head;
-use crate::{EntryError, Lock};
+use crate::{Entry, EntryError, Lock};
 use std::alloc::{AllocError, Global};
 use std::test::Fail;
 
@@ -49,7 +48,10 @@ fn keys_are_judged_in_order(rt: HostRuntime) -> Result<(), Fail> {
         ("{name = \"a\", version = 1, vcs = 1}", "Key(Version)"),
         ("{name = \"a\", version = \"any text\"}", "ok"),
         ("{name = \"a\", vcs = 1, directory = 1}", "Key(Vcs)"),
-        ("{name = \"a\", directory = [], archive = 1}", "Key(Directory)"),
+        (
+            "{name = \"a\", directory = [], archive = 1}",
+            "Key(Directory)",
+        ),
         ("{name = \"a\", archive = \"\", sdist = 1}", "Key(Archive)"),
         ("{name = \"a\", sdist = 1, wheels = 1}", "Key(Sdist)"),
         ("{name = \"a\", wheels = {}, marker = 1}", "Key(Wheels)"),
@@ -80,10 +82,19 @@ fn keys_of_sources_are_of_their_form(rt: HostRuntime) -> Result<(), Fail> {
     let cases = [
         ("vcs = {commit-id = \"f\", url = \"u\"}", "Key(Vcs)"),
         ("vcs = {type = \"git\", url = \"u\"}", "Key(Vcs)"),
-        ("vcs = {type = 1, commit-id = \"f\", url = \"u\"}", "Key(Vcs)"),
-        ("vcs = {type = \"git\", commit-id = 1, url = \"u\"}", "Key(Vcs)"),
+        (
+            "vcs = {type = 1, commit-id = \"f\", url = \"u\"}",
+            "Key(Vcs)",
+        ),
+        (
+            "vcs = {type = \"git\", commit-id = 1, url = \"u\"}",
+            "Key(Vcs)",
+        ),
         ("vcs = {type = \"git\", commit-id = \"f\"}", "Key(Vcs)"),
-        ("vcs = {type = \"git\", commit-id = \"f\", url = 1}", "Key(Vcs)"),
+        (
+            "vcs = {type = \"git\", commit-id = \"f\", url = 1}",
+            "Key(Vcs)",
+        ),
         (
             "vcs = {type = \"git\", commit-id = \"f\", url = \"u\", path = 1}",
             "Key(Vcs)",
@@ -92,17 +103,26 @@ fn keys_of_sources_are_of_their_form(rt: HostRuntime) -> Result<(), Fail> {
             "vcs = {type = \"git\", commit-id = \"f\", path = \"p\", subdirectory = 1}",
             "Key(Vcs)",
         ),
-        ("vcs = {type = \"git\", commit-id = \"f\", path = \"p\"}", "ok"),
+        (
+            "vcs = {type = \"git\", commit-id = \"f\", path = \"p\"}",
+            "ok",
+        ),
         ("directory = {}", "Key(Directory)"),
         ("directory = {path = 1}", "Key(Directory)"),
         ("directory = {path = \"p\", editable = 1}", "Key(Directory)"),
-        ("directory = {path = \"p\", subdirectory = 1}", "Key(Directory)"),
+        (
+            "directory = {path = \"p\", subdirectory = 1}",
+            "Key(Directory)",
+        ),
         ("directory = {path = \"p\", editable = false}", "ok"),
         ("archive = {}", "Key(Archive)"),
         ("archive = {url = 1}", "Key(Archive)"),
         ("archive = {path = 1, url = \"u\"}", "Key(Archive)"),
         ("archive = {url = \"u\", hashes = 1}", "Key(Archive)"),
-        ("archive = {url = \"u\", hashes = {md5 = 1}}", "Key(Archive)"),
+        (
+            "archive = {url = \"u\", hashes = {md5 = 1}}",
+            "Key(Archive)",
+        ),
         ("archive = {url = \"u\", subdirectory = 1}", "Key(Archive)"),
         ("archive = {url = \"u\"}", "ok"),
         ("sdist = {name = \"n\"}", "Key(Sdist)"),
@@ -133,7 +153,10 @@ fn an_entry_tells_its_keys(rt: HostRuntime) -> Result<(), Fail> {
     let entry = Entry::read_text(alloc, text).map_err(Fail::from)?;
     assert_eq!(rt; entry.name(), "b-b");
     assert_eq!(rt; entry.version().ok_or("no version")?, "1.0.x");
-    assert_eq!(rt; entry.marker().ok_or("no marker")?.text(), "os_name == 'nt'");
+    assert_eq!(rt;
+        entry.marker().ok_or("no marker")?.text(),
+        "os_name == 'nt'"
+    );
     assert_eq!(rt; entry.requires_python().ok_or("no set")?.text(), ">=3.9");
     assert!(rt; entry.vcs().is_none());
     assert!(rt; entry.directory().is_none());

@@ -67,8 +67,7 @@ fn each_variable_is_set(rt: HostRuntime) -> Result<(), Fail> {
     for variable in variables {
         let name = variable.name();
         let text = format!(in alloc; "{{\"environment\":{{\"{name}\":\"t\"}},\"tags\":[]}}")?;
-        let (environment, tags) =
-            read_environment(alloc, text.as_bytes()).map_err(Fail::from)?;
+        let (environment, tags) = read_environment(alloc, text.as_bytes()).map_err(Fail::from)?;
         for other in variables {
             let wanted = if other == variable { "t" } else { "unset" };
             assert_eq!(rt; environment.get(other).unwrap_or("unset"), wanted);
@@ -81,7 +80,8 @@ fn each_variable_is_set(rt: HostRuntime) -> Result<(), Fail> {
 #[test]
 fn tags_are_listed_once(rt: HostRuntime) -> Result<(), Fail> {
     let alloc = rt.alloc();
-    let text = "{\"environment\":{},\"tags\":[\"py3-none-any\",\"PY3-none-any\",\"cp39-cp39-win32\"]}";
+    let text =
+        "{\"environment\":{},\"tags\":[\"py3-none-any\",\"PY3-none-any\",\"cp39-cp39-win32\"]}";
     let (_, tags) = read_environment(alloc, text.as_bytes()).map_err(Fail::from)?;
     assert_eq!(rt; tags.len(), 2);
     Ok(())

@@ -84,7 +84,10 @@ fn keys_of_the_head_are_judged_in_order(rt: HostRuntime) -> Result<(), Fail> {
         ("default-groups = [\"main\"]", "ok"),
         ("packages = 1", "Packages"),
         ("packages = []", "ok"),
-        ("environments = 1\nrequires-python = 1", "Head(Environments)"),
+        (
+            "environments = 1\nrequires-python = 1",
+            "Head(Environments)",
+        ),
         ("requires-python = 1\nextras = 1", "Head(RequiresPython)"),
         ("extras = 1\ndependency-groups = 1", "Head(Extras)"),
         (
@@ -113,7 +116,10 @@ fn keys_of_the_head_are_judged_in_order(rt: HostRuntime) -> Result<(), Fail> {
 fn a_lock_has_at_most_100_000_entries(rt: HostRuntime) -> Result<(), Fail> {
     let alloc = rt.alloc();
     let most = of_numbers(alloc, 100_000)?;
-    assert_eq!(rt; refusal(alloc, most.as_bytes())?.as_str(), "Entry(1, NotTable)");
+    assert_eq!(rt;
+        refusal(alloc, most.as_bytes())?.as_str(),
+        "Entry(1, NotTable)"
+    );
     let more = of_numbers(alloc, 100_001)?;
     assert_eq!(rt; refusal(alloc, more.as_bytes())?.as_str(), "TooMany");
     Ok(())

@@ -16,7 +16,8 @@ fn a_checkout_tells_its_keys(rt: HostRuntime) -> Result<(), Fail> {
     let alloc = rt.alloc();
     let entry = entry_with(
         alloc,
-        "vcs = {type = \"git\", commit-id = \"f0\", url = \"u\", path = \"p\", subdirectory = \"s\"}",
+        "vcs = {type = \"git\", commit-id = \"f0\", url = \"u\", path = \"p\", \
+        subdirectory = \"s\"}",
     )?;
     let vcs = entry.vcs().ok_or("no vcs")?;
     assert_eq!(rt; vcs.kind(), "git");
@@ -54,13 +55,17 @@ fn an_archive_tells_its_keys(rt: HostRuntime) -> Result<(), Fail> {
     let alloc = rt.alloc();
     let entry = entry_with(
         alloc,
-        "archive = {url = \"u\", hashes = {sha512 = \"bb\", sha256 = \"aa\"}, subdirectory = \"s\"}",
+        "archive = {url = \"u\", hashes = {sha512 = \"bb\", sha256 = \"aa\"}, \
+        subdirectory = \"s\"}",
     )?;
     let archive = entry.archive().ok_or("no archive")?;
     assert_eq!(rt; archive.url().ok_or("no url")?, "u");
     assert!(rt; archive.path().is_none());
     assert_eq!(rt; archive.place(), "u");
-    assert_eq!(rt; hashes_text(alloc, archive.hashes())?.as_str(), "sha256=aa,sha512=bb,");
+    assert_eq!(rt;
+        hashes_text(alloc, archive.hashes())?.as_str(),
+        "sha256=aa,sha512=bb,"
+    );
     assert_eq!(rt; archive.subdirectory().ok_or("no subdirectory")?, "s");
     Ok(())
 }
@@ -87,15 +92,22 @@ fn wheels_tell_their_keys(rt: HostRuntime) -> Result<(), Fail> {
     let alloc = rt.alloc();
     let entry = entry_with(
         alloc,
-        "wheels = [{url = \"https://h/a-1-py3-none-any.whl\", hashes = {sha512 = \"bb\", sha256 = \"aa\"}}, \
+        "wheels = [{url = \"https://h/a-1-py3-none-any.whl\", \
+        hashes = {sha512 = \"bb\", sha256 = \"aa\"}}, \
         {path = \"w/a.zip\"}, {url = \"https://h/\"}]",
     )?;
     let [first, second, third] = entry.wheels() else {
         return Err(Fail::from("not three wheels"));
     };
     assert_eq!(rt; first.place(), "https://h/a-1-py3-none-any.whl");
-    assert_eq!(rt; first.file_name().ok_or("no file name")?, "a-1-py3-none-any.whl");
-    assert_eq!(rt; hashes_text(alloc, first.hashes())?.as_str(), "sha256=aa,sha512=bb,");
+    assert_eq!(rt;
+        first.file_name().ok_or("no file name")?,
+        "a-1-py3-none-any.whl"
+    );
+    assert_eq!(rt;
+        hashes_text(alloc, first.hashes())?.as_str(),
+        "sha256=aa,sha512=bb,"
+    );
     assert_eq!(rt; second.file_name().ok_or("no file name")?, "a.zip");
     assert!(rt; third.file_name().is_none());
     let [Some(name), None, None] = entry.wheel_names() else {
