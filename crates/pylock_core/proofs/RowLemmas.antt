@@ -3,7 +3,8 @@ use Rattle.std.proofs.Common.{◌≡◌, ℕ, suc, zero, ◌+◌, ◌<◌, ◌�
 use Rattle.std.specs.List.{enumerate_from}
 use Rattle.std.proofs.lemmas.Bool.{ne_eqb}
 use Rattle.std.proofs.lemmas.List.{drop_more, length-map}
-use Rattle.pylock_core.specs.Entry.{EntryValue, LockValue}
+use Rattle.pylock_core.specs.Entry.{EntryValue}
+use Rattle.pylock_core.specs.Lock.{LockValue}
 use Rattle.pylock_core.specs.State.{first, entry_at, without}
 use Rattle.pylock_core.specs.Rows.{in_rows, state_of}
 

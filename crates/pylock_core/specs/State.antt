@@ -1,7 +1,8 @@
 -- The state of a session, and what an edit makes of it.
 use Rattle.std.specs.Prelude.{ℕ, not, ◌==◌, List, [], ◌∷◌, length, filter, Option, Some, None, is_some, Result, Ok, Err, if◌then◌else◌}
 use Rattle.std.specs.List.{enumerate_from}
-use Rattle.pylock_core.specs.Entry.{EntryValue, LockValue}
+use Rattle.pylock_core.specs.Entry.{EntryValue}
+use Rattle.pylock_core.specs.Lock.{LockValue}
 use Rattle.pylock_core.specs.declared.edit.Edit.{Edit}
 use Rattle.pylock_core.specs.declared.edit.Edit.TheVariants.{Del}
 use Rattle.pylock_core.specs.declared.edit.EditError.{EditError}

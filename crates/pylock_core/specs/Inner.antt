@@ -1,0 +1,3 @@
+-- What serves private contracts alone.
+pub mod Strings
+pub mod Shared
