@@ -41,7 +41,7 @@ last_first xs x = rw (map-append, reverse-append) refl
 pub closed : (items left : List Frame) (frame inner dest : Frame) (atom : Atom) (inside : Joined (Joined Atom)) (b : Box (Joined (Joined Atom)))
     → items ≡ left ++ frame ∷ [] → dest ≡ frame → tree_view inside ≡ frame_tree (frame_view inner) (atom_view atom) → b.value ≡ inside
     → behind_closing (reverse (map frame_view items)) (frame_view inner) (atom_view atom)
-      ≡ Some (record { outer = reverse (map frame_view left); inner = frame_view dest; stage = at_rest (atom_view (Group b)) })
+    ≡ Some (record { outer = reverse (map frame_view left); inner = frame_view dest; stage = at_rest (atom_view (Group b)) })
 closed items left frame inner dest atom inside b all is tree boxed =
     rw (all, last_first left frame, is, view_group b, boxed, tree) refl
 

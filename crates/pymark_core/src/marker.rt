@@ -21,19 +21,17 @@ ghost use Rattle.pymark_core.specs.Marker.Value.{marker_value};
 ghost use Rattle.pymark_core.specs.White.{trimmed};
 ghost use Rattle.pymark_core.specs.declared.marker.keys.Key.{Key};
 
+use crate::environment::Environment;
+use crate::fault::EvalFault;
+use crate::white::trimmed;
+use depth::is_deep;
 pub use error::MarkerError;
 pub use keys::{Key, Reads};
-
-use depth::is_deep;
 use parse::read_tree;
 use std::alloc::Global;
 use std::marker::Model;
 use tree::Tree;
 use value::tree_value;
-
-use crate::environment::Environment;
-use crate::fault::EvalFault;
-use crate::white::trimmed;
 
 /// A marker: a condition over an environment, with its text as it was given but for the white space round it.
 ///

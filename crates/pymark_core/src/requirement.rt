@@ -8,10 +8,9 @@ ghost use Rattle.pyver_core.specs.Agreement.{Gives};
 ghost use Rattle.pymark_core.specs.Requirement.Grammar.{Req};
 ghost use Rattle.pymark_core.specs.Requirement.Reading.{marker_in, requirement_of};
 
-pub use error::RequirementError;
-
 use crate::marker::{Marker, MarkerError};
 use crate::white::past_white;
+pub use error::RequirementError;
 use parts::{read_extras, read_name, read_source};
 use pyver_core::{Label, SpecifierSet};
 use std::alloc::{AllocError, Global};

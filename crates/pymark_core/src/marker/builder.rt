@@ -197,7 +197,7 @@ impl Builder {
     fn take_start(&mut self, alloc: Global, token: Token<'_>) -> Result<Stage, MarkerError>
         ensures { Gives MarkerError.Memory (place_view self.new) result (ok_or
             (behind_atom_start (outer_view self.old) (frame_view self.old.inner)
-                (token_view token.entry)) MarkerError.Syntax) }
+            (token_view token.entry)) MarkerError.Syntax) }
     {
         match token {
             Token::Open => self.open(alloc),
@@ -261,7 +261,7 @@ impl Builder {
     ) -> Result<Stage, MarkerError>
         ensures { Gives MarkerError.Memory (place_view self.new) result (ok_or
             (behind_atom (outer_view self.old) (frame_view self.old.inner) (atom_view atom)
-                (token_view token.entry)) MarkerError.Syntax) }
+            (token_view token.entry)) MarkerError.Syntax) }
     {
         match token {
             Token::Close => self.close(alloc, atom),
@@ -272,11 +272,7 @@ impl Builder {
     }
 
     /// The stage behind one more token.
-    #[tactic(
-        auto,
-        using(crate::proofs::NoteLemmas::nothing_noted),
-        unfolding(crate::specs::Marker::Reading::step)
-    )]
+    #[tactic(auto, using(crate::proofs::NoteLemmas::nothing_noted), unfolding(crate::specs::Marker::Reading::step))]
     pub(super) fn step(
         &mut self,
         alloc: Global,
@@ -299,10 +295,7 @@ impl Builder {
     }
 
     /// The tree, where the text may end behind this atom.
-    #[tactic(
-        auto,
-        using(crate::proofs::BuilderLemmas::none_open, crate::proofs::BuilderLemmas::some_open)
-    )]
+    #[tactic(auto, using(crate::proofs::BuilderLemmas::none_open, crate::proofs::BuilderLemmas::some_open))]
     fn end(self, atom: Atom) -> Option<Tree>
         ensures { option_map tree_view result
             ≡ end_at (outer_view self) (at_rest (atom_view atom)) (frame_view self.inner) }
@@ -316,11 +309,7 @@ impl Builder {
     }
 
     /// The tree, where the text may end at this stage.
-    #[tactic(
-        auto,
-        using(crate::proofs::BuilderLemmas::no_end),
-        unfolding(crate::specs::Marker::Reading::finish)
-    )]
+    #[tactic(auto, using(crate::proofs::BuilderLemmas::no_end), unfolding(crate::specs::Marker::Reading::finish))]
     pub(super) fn finish(self, stage: Stage) -> Option<Tree>
         ensures { option_map tree_view result ≡ finish (place_view self stage) }
     {

@@ -62,7 +62,8 @@ fn requirement_parse(rt: HostRuntime) {
 fn marker_evaluate(rt: HostRuntime) {
     let mut environment = Environment::new(rt.alloc());
     let is_set = environment.set(Var::PythonVersion, "3.12").is_ok();
-    let text = "python_version >= \"3.8\" and python_version == python_version or \"A_b\" in extras";
+    let text =
+        "python_version >= \"3.8\" and python_version == python_version or \"A_b\" in extras";
     let Ok(marker) = Marker::parse(rt.alloc(), text) else {
         return;
     };

@@ -83,7 +83,14 @@ fn requirements_of_the_standard(rt: HostRuntime) -> Result<(), Fail> {
         ("name<=1", "name", &[], "<=1", None, None),
         ("name>=3", "name", &[], ">=3", None, None),
         ("name>=3,<2", "name", &[], ">=3,<2", None, None),
-        ("name@http://foo.com", "name", &[], "", Some("http://foo.com"), None),
+        (
+            "name@http://foo.com",
+            "name",
+            &[],
+            "",
+            Some("http://foo.com"),
+            None,
+        ),
         (
             "name [fred,bar] @ http://foo.com ; python_version=='2.7'",
             "name",
@@ -117,7 +124,17 @@ fn requirements_of_the_standard(rt: HostRuntime) -> Result<(), Fail> {
             Some("os_name=='a' and (os_name=='b' or os_name=='c')"),
         ),
     ] {
-        check(&rt, text, name, &Said { extras, set, url, marker })?;
+        check(
+            &rt,
+            text,
+            name,
+            &Said {
+                extras,
+                set,
+                url,
+                marker,
+            },
+        )?;
     }
     Ok(())
 }
@@ -132,7 +149,17 @@ fn corners_of_requirements(rt: HostRuntime) -> Result<(), Fail> {
         ("a[b,b]", "a", &["b", "b"], "", None),
         ("a @ ;", "a", &[], "", Some(";")),
     ] {
-        check(&rt, text, name, &Said { extras, set, url, marker: None })?;
+        check(
+            &rt,
+            text,
+            name,
+            &Said {
+                extras,
+                set,
+                url,
+                marker: None,
+            },
+        )?;
     }
     Ok(())
 }
