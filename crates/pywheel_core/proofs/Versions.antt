@@ -15,8 +15,9 @@ use Rattle.pywheel_core.specs.declared.error.WheelError.TheVariants as wheel
 pub version_taken : (text : List ℕ) (v : Parts) → version_of text ≡ Some v → (IsLarge v → ⊥) → version_in text ≡ Ok v
 unfolding version_in parsed_version
 version_taken text v h fits = elim (sight (has_large (numbers v))) [
-    | inl e ↦ absurd (fits e)
-    | inr e ↦ rw (h, e) refl ]
+  | inl e ↦ absurd (fits e)
+  | inr e ↦ rw (h, e) refl
+]
 
 pub version_refused : (text : List ℕ) (e : VersionError) → Answers (Err e) (version_of text) → (refusal_of e ≡ wheel.Memory → ⊥) → version_in text ≡ Err (refusal_of e)
 unfolding version_in parsed_version

@@ -82,16 +82,17 @@ fn least_rank(rank: Option<usize>, other: Option<usize>) -> Option<usize>
 }
 
 /// The better of two wheels, of which either may be absent and `later` stands at the later place.
-fn better<'a>(
-    first: Option<Candidate<'a>>,
-    later: Option<Candidate<'a>>,
-) -> Option<Candidate<'a>>
+fn better<'a>(first: Option<Candidate<'a>>, later: Option<Candidate<'a>>) -> Option<Candidate<'a>>
     ensures { option_map candidate_of result ≡ better (option_map candidate_of first.entry) (option_map candidate_of later.entry) }
 {
     match (first, later) {
         (None, later) => later,
         (first, None) => first,
-        (Some(first), Some(later)) => Some(if is_better(&later, &first) { later } else { first }),
+        (Some(first), Some(later)) => Some(if is_better(&later, &first) {
+            later
+        } else {
+            first
+        }),
     }
 }
 
@@ -100,6 +101,5 @@ fn is_better(later: &Candidate<'_>, first: &Candidate<'_>) -> bool
     ensures { result ≡ is_better (candidate_of later.now) (candidate_of first.now) }
 {
     later.rank < first.rank
-        || later.rank == first.rank
-            && first.wheel.compare_builds(later.wheel) == Ordering::Less
+        || later.rank == first.rank && first.wheel.compare_builds(later.wheel) == Ordering::Less
 }

@@ -120,7 +120,9 @@ pub(crate) fn is_tag_part(part: &str) -> bool
 fn has_tag_bytes(bytes: &[u8]) -> bool
     ensures { result ≡ list_all is_tag_byte bytes.now }
 {
-    bytes.iter().all(|byte| byte.is_ascii_alphanumeric() || *byte == b'_')
+    bytes
+        .iter()
+        .all(|byte| byte.is_ascii_alphanumeric() || *byte == b'_')
 }
 
 impl TagSet<'_> {
@@ -139,9 +141,18 @@ impl TagSet<'_> {
         let python = self.python.len();
         let abi = python + 1 + self.abi.len();
         (
-            Place { start: 0, end: python },
-            Place { start: python + 1, end: abi },
-            Place { start: abi + 1, end: whole },
+            Place {
+                start: 0,
+                end: python,
+            },
+            Place {
+                start: python + 1,
+                end: abi,
+            },
+            Place {
+                start: abi + 1,
+                end: whole,
+            },
         )
     }
 }

@@ -28,6 +28,7 @@ impl fmt::Debug for Tag {
 impl fmt::Display for WheelName {
     ghost output = { λ w. Some (wheel_text w) };
 
+    #[tactic(auto, unfolding(crate::specs::Wheel::Value::wheel_text))]
     fn fmt<W: fmt::Write>(&self, f: &mut fmt::Formatter<W>) -> fmt::Result {
         match self.build_text() {
             Some(build) => write!(

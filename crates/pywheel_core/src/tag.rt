@@ -133,11 +133,6 @@ impl Clone for Tag {
     ghost is_clone = { λ tag copy. copy ≡ tag };
 
     fn clone(&self) -> Result<Tag, AllocError> {
-        Ok(Tag::new(
-            self.text.clone()?,
-            self.python,
-            self.abi,
-            self.platform,
-        ))
+        Ok(Tag::new(self.text.clone()?, self.python, self.abi, self.platform))
     }
 }

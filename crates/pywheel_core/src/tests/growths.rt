@@ -23,7 +23,10 @@ fn tag_clone(rt: HostRuntime) {
 
 #[test]
 fn tag_list_parse(rt: HostRuntime) {
-    match TagList::parse(rt.alloc(), &["py3-none-any", "py2-none-any", "PY3-none-any"]) {
+    match TagList::parse(
+        rt.alloc(),
+        &["py3-none-any", "py2-none-any", "PY3-none-any"],
+    ) {
         Ok(tags) => assert_eq!(rt; tags.len(), 2),
         Err(error) => assert!(rt; matches!(error, TagListError::Memory), "{error:?}"),
     }
