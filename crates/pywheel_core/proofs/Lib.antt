@@ -2,5 +2,6 @@ pub mod Best
 pub mod Choosing
 pub mod Cuts
 pub mod Naming
+pub mod NamingParts
 pub mod Pieces
 pub mod Versions

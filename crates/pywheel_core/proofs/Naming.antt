@@ -18,17 +18,18 @@ use Rattle.pyver_core.specs.Parts.{Parts}
 use Rattle.pyver_core.specs.Reading.{version_of}
 use Rattle.pyver_core.specs.Results.{◌>>=◌}
 use Rattle.pywheel_core.specs.Parsed.{parsed_version}
-use Rattle.pywheel_core.specs.Tag.{TagParts, TagValue, are_tag_parts, has_tag_parts, is_tag_byte, is_tag_part, is_tag_set, pieces, tag_count, tags_in}
+use Rattle.pywheel_core.specs.Tag.{TAGS_LIMIT, TagParts, TagValue, are_tag_parts, has_tag_parts, is_tag_byte, is_tag_part, is_tag_set, pieces, tag_count, tags_in}
 use Rattle.pywheel_core.specs.Texts.{cut_at, three_parts}
 use Rattle.pywheel_core.specs.Wheel.Build.{is_build}
 use Rattle.pywheel_core.specs.Wheel.Cut.{WheelParts, built, parts_of, stem_of, unbuilt}
 use Rattle.pywheel_core.specs.Wheel.Grammar.{IsTagSet, IsUndashed, Wheel, joined}
 use Rattle.pywheel_core.specs.Wheel.Name.{is_wheel_name, is_wheel_name_byte}
 use Rattle.pywheel_core.specs.Wheel.Reading.{build_in, name_in, set_tags_in, tag_set_in, version_in, wheel_in, wheel_of}
-use Rattle.pywheel_core.specs.Wheel.Value.{WheelValue}
+use Rattle.pywheel_core.specs.Wheel.Value.{WheelValue, with_build}
 use Rattle.pywheel_core.specs.declared.error.WheelError.{WheelError}
 use Rattle.pywheel_core.specs.declared.error.WheelError.TheVariants as wheel
-use Rattle.pywheel_core.proofs.Cuts.{Lacks, and_both, cut_joined, cut_lacking, cut_says, no_cut_says}
+use Rattle.pywheel_core.proofs.Cuts.{Lacks, and_both, cut_joined, cut_lacking, cut_says, no_cut_says, same_test}
+use Rattle.pywheel_core.proofs.NamingParts.{parts_made, parts_say}
 use Rattle.pywheel_core.proofs.Pieces.{three_say}
 use Rattle.pywheel_core.proofs.Versions.{version_taken}
 
@@ -49,7 +50,15 @@ if_ok false x y e h = absurd cc
 -- ---- lower case keeps `-`
 
 lower_dash : (b : ℕ) → (to_ascii_lowercase b == 45) ≡ (b == 45)
-lower_dash b = ?
+lower_dash b = elim (sight (nat_lt b 65)) [
+    | inl e ↦ rw e refl
+    | inr e ↦
+        let low : 65 ≤ b = grind (arith, nat_tests, e) in
+        elim (sight (nat_lt b 91)) [
+        | inl f ↦ rw (e, f) (same_test (b + 32 == 45) (b == 45)
+            (λ t. absurd (let z = (Decides-eqb (b + 32) 45).0 t in omega (arith, z, low)))
+            (λ t. absurd (let z = (Decides-eqb b 45).0 t in omega (arith, z, low))))
+        | inr f ↦ rw (e, f) refl ] ]
 
 lower_lacks : (s : List ℕ) → list_any (λ b. b == 45) (str_to_ascii_lowercase s) ≡ list_any (λ b. b == 45) s
 lower_lacks [] = refl
@@ -104,3 +113,101 @@ stem_joined stem =
     let end : drop (length (stem ++ codes ".whl") - 4) (stem ++ codes ".whl") ≡ codes ".whl" = ap (λ k. drop k (stem ++ codes ".whl")) n ∙ drop-append_seam stem (codes ".whl") in
     let test : bytes_eq (drop (length (stem ++ codes ".whl") - 4) (stem ++ codes ".whl")) (codes ".whl") ≡ true = (bytes_decides _ (codes ".whl")).1 end in
     rw test (ap Some (ap (λ k. take k (stem ++ codes ".whl")) n ∙ take-append_seam stem (codes ".whl")))
+
+-- ---- each part that is taken
+
+abbrev refused : WheelError → Result Parts WheelError
+refused e = Err e
+
+abbrev taken : Parts → Result Parts WheelError
+taken v = Ok v
+
+version_says : (text : List ℕ) (v : Parts) → version_in text ≡ Ok v → Spells text v × (IsLarge v → ⊥)
+unfolding version_in parsed_version
+version_says text v h = elim (option_sight (version_of text)) [
+    | inl none ↦ absurd (let z : refused wheel.Version ≡ taken v = rw none at h in cc)
+    | inr u ↦ let h2 = rw u.1 at h in elim (sight (has_large (numbers u.0))) [
+        | inl large ↦ absurd (let z : refused wheel.Version ≡ taken v = rw large at h2 in cc)
+        | inr small ↦
+            let q : taken u.0 ≡ taken v = rw small at h2 in
+            let same : u.0 ≡ v = cc in
+            subst (λ p. Spells text p × (IsLarge p → ⊥)) same (version_takes text u.0 u.1, λ l. true≢false (sym l ∙ small)) ] ]
+
+build_says : (build found : Option (List ℕ)) → build_in build ≡ Ok found → (build ≡ found) × IfSome build (λ b. is_build b ≡ true)
+build_says None found h = (cc, tt)
+build_says (Some b) found h = let p = if_ok (is_build b) (Some b) found wheel.Build h in (p.1, p.0)
+
+set_says : (text : List ℕ) (t : TagParts) (found : List ℕ × List TagValue) → three_parts 45 (str_to_ascii_lowercase text) ≡ Some t → tag_set_in text ≡ Ok found
+    → (is_tag_set t ≡ true) × (tags_in t ≡ found.1)
+unfolding tag_set_in set_tags_in
+set_says text t found three h =
+    let lower = str_to_ascii_lowercase text in
+    let x = bind_ok (set_tags_in lower) (λ tags. Ok (lower, tags)) found h in
+    let y = bind_ok (ok_or (three_parts 45 lower) wheel.Tags) (λ parts. if is_tag_set parts then Ok (tags_in parts) else Err wheel.Tags) x.0 x.1 in
+    let same : t ≡ y.0 = same_Some t y.0 (sym three ∙ ok_or_some (three_parts 45 lower) wheel.Tags y.0 y.1) in
+    let z = if_ok (is_tag_set y.0) (tags_in y.0) x.0 wheel.Tags y.2 in
+    let all = x.2 in
+    let q : (lower, x.0) ≡ found = cc in
+    (subst (λ p. is_tag_set p ≡ true) (sym same) z.0, ap tags_in same ∙ (z.1 ∙ ap (λ r. r.1) q))
+
+-- ---- what is read is what the relation says
+
+set_is : (p a q : List ℕ) (tags : List TagValue) → is_tag_set (p, a, q) ≡ true → tags_in (p, a, q) ≡ tags → IsTagSet (p, a, q) tags
+set_is p a q tags ok made =
+    let x = and_both (has_tag_parts (p, a, q)) (nat_le (tag_count (p, a, q)) TAGS_LIMIT) ok in
+    let y = and_both (are_tag_parts (pieces p)) (are_tag_parts (pieces a) && are_tag_parts (pieces q)) x.0 in
+    let z = and_both (are_tag_parts (pieces a)) (are_tag_parts (pieces q)) y.1 in
+    let few = x.1 in
+    record { python = y.0; abi = z.0; platform = z.1; few = grind (arith, nat_tests, few); triples = sym made }
+
+whole_name : (text stem name spelling : List ℕ) (build : Option (List ℕ)) (set p a q : List ℕ) → text ≡ stem ++ codes ".whl" → stem ≡ name ++ (45 ∷ (spelling ++ (45 ∷ with_build build set)))
+    → set ≡ p ++ (45 ∷ (a ++ (45 ∷ q))) → text ≡ joined (name ∷ (spelling ∷ (option_to_list build ++ (p ∷ (a ∷ (q ∷ [])))))) ++ codes ".whl"
+whole_name text stem name spelling None set p a q x y z = x ∙ (λ i. (y ∙ ap (λ l. name ++ (45 ∷ (spelling ++ (45 ∷ l)))) z) i ++ codes ".whl")
+whole_name text stem name spelling (Some b) set p a q x y z = x ∙ (λ i. (y ∙ ap (λ l. name ++ (45 ∷ (spelling ++ (45 ∷ (b ++ (45 ∷ l)))))) z) i ++ codes ".whl")
+
+both_of : (build : Option (List ℕ)) → IfSome build (Lacks 45) → IfSome build (λ b. is_build b ≡ true) → IfSome build (λ b. IsUndashed b × (is_build b ≡ true))
+both_of None x y = tt
+both_of (Some b) x y = (x, y)
+
+pub wheel_says : (text : List ℕ) (w : WheelValue) → wheel_of text ≡ Ok w → Wheel text w.name w.version w.build w.tags
+unfolding wheel_of wheel_in name_in
+wheel_says text w h =
+    let x = bind_ok (ok_or (stem_of text) wheel.Extension) (λ stem. ok_or (parts_of stem) wheel.Parts >>= λ parts. wheel_in parts) w h in
+    let stem = stem_says text x.0 (ok_or_some (stem_of text) wheel.Extension x.0 x.1) in
+    let y = bind_ok (ok_or (parts_of x.0) wheel.Parts) (λ parts. wheel_in parts) w x.2 in
+    let parts = y.0 in
+    let say = parts_say x.0 parts (ok_or_some (parts_of x.0) wheel.Parts parts y.1) in
+    let n = bind_ok (name_in parts.name) (λ name. version_in parts.version >>= λ version. build_in parts.build >>= λ build. tag_set_in parts.tag_set >>= λ set.
+        Ok (record { name = name; version = version; build = build; tag_set = set.0; tags = set.1 })) w y.2 in
+    let v = bind_ok (version_in parts.version) (λ version. build_in parts.build >>= λ build. tag_set_in parts.tag_set >>= λ set.
+        Ok (record { name = n.0; version = version; build = build; tag_set = set.0; tags = set.1 })) w n.2 in
+    let b = bind_ok (build_in parts.build) (λ build. tag_set_in parts.tag_set >>= λ set.
+        Ok (record { name = n.0; version = v.0; build = build; tag_set = set.0; tags = set.1 })) w v.2 in
+    let s = bind_ok (tag_set_in parts.tag_set) (λ set.
+        Ok (record { name = n.0; version = v.0; build = b.0; tag_set = set.0; tags = set.1 })) w b.2 in
+    let made : WheelValue = record { name = n.0; version = v.0; build = b.0; tag_set = s.0.0; tags = s.0.1 } in
+    let last = s.2 in
+    let is : made ≡ w = cc in
+    let name = if_ok (is_wheel_name parts.name) parts.name n.0 wheel.Name n.1 in
+    let version = version_says parts.version v.0 v.1 in
+    let build = build_says parts.build b.0 b.1 in
+    let t = say.4.0 in
+    let three = three_say 45 parts.tag_set t say.4.1 in
+    let lower : TagParts = (str_to_ascii_lowercase t.0, str_to_ascii_lowercase t.1, str_to_ascii_lowercase t.2) in
+    let lowered : three_parts 45 (str_to_ascii_lowercase parts.tag_set) ≡ Some lower = ap (λ l. three_parts 45 (str_to_ascii_lowercase l)) three.0 ∙ lower_three_parts t.0 t.1 t.2 three.1 three.2 three.3 in
+    let set = set_says parts.tag_set lower s.0 lowered s.1 in
+    let it : Wheel text parts.name v.0 parts.build s.0.1 = record {
+      spelling = parts.version;
+      python = t.0;
+      abi = t.1;
+      platform = t.2;
+      whole = whole_name text x.0 parts.name parts.version parts.build parts.tag_set t.0 t.1 t.2 stem say.0 three.0;
+      is_name = name.0;
+      is_undashed = say.2;
+      spells = version.0;
+      fits = version.1;
+      is_build = both_of parts.build say.3 build.1;
+      is_tag_set = set_is lower.0 lower.1 lower.2 s.0.1 set.0 set.1;
+    } in
+    let P : List ℕ × Parts × Option (List ℕ) × List TagValue → Type 0 = λ f. Wheel text f.0 f.1 f.2 f.3 in
+    subst P (λ i. ((name.1 ∙ ap (λ u. u.name) is) i, ap (λ u. u.version) is i, (build.0 ∙ ap (λ u. u.build) is) i, ap (λ u. u.tags) is i)) it
