@@ -19,7 +19,8 @@ use Rattle.pyver_core.specs.Reading.{version_of}
 use Rattle.pyver_core.specs.Results.{◌>>=◌}
 use Rattle.pywheel_core.specs.Parsed.{parsed_version}
 use Rattle.pywheel_core.specs.Tag.{TAGS_LIMIT, TagParts, TagValue, are_tag_parts, has_tag_parts, is_tag_byte, is_tag_part, is_tag_set, pieces, tag_count, tags_in}
-use Rattle.pywheel_core.specs.Texts.{cut_at, three_parts}
+use Rattle.std.proofs.lemmas.List.Splits.{join_with_byte-slice_split}
+use Rattle.pywheel_core.specs.Texts.{cut_at, has_pair, three_parts}
 use Rattle.pywheel_core.specs.Wheel.Build.{is_build}
 use Rattle.pywheel_core.specs.Wheel.Cut.{WheelParts, built, parts_of, stem_of, unbuilt}
 use Rattle.pywheel_core.specs.Wheel.Grammar.{IsTagSet, IsUndashed, Wheel, joined}
@@ -51,14 +52,16 @@ if_ok false x y e h = absurd cc
 
 lower_dash : (b : ℕ) → (to_ascii_lowercase b == 45) ≡ (b == 45)
 lower_dash b = elim (sight (nat_lt b 65)) [
-    | inl e ↦ rw e refl
-    | inr e ↦
-        let low : 65 ≤ b = grind (arith, nat_tests, e) in
-        elim (sight (nat_lt b 91)) [
+  | inl e ↦ rw e refl
+  | inr e ↦
+      let low : 65 ≤ b = grind (arith, nat_tests, e) in
+      elim (sight (nat_lt b 91)) [
         | inl f ↦ rw (e, f) (same_test (b + 32 == 45) (b == 45)
             (λ t. absurd (let z = (Decides-eqb (b + 32) 45).0 t in omega (arith, z, low)))
             (λ t. absurd (let z = (Decides-eqb b 45).0 t in omega (arith, z, low))))
-        | inr f ↦ rw (e, f) refl ] ]
+        | inr f ↦ rw (e, f) refl
+      ]
+]
 
 lower_lacks : (s : List ℕ) → list_any (λ b. b == 45) (str_to_ascii_lowercase s) ≡ list_any (λ b. b == 45) s
 lower_lacks [] = refl
@@ -101,10 +104,11 @@ unfolding stem_of
 stem_says text stem h =
     let m = length text - 4 in
     elim (sight (bytes_eq (drop m text) (codes ".whl"))) [
-    | inl e ↦
-        let front : take m text ≡ stem = same_Some (take m text) stem (rw e at h) in
-        sym (take-append-drop m text) ∙ (λ i. front i ++ (bytes_decides (drop m text) (codes ".whl")).0 e i)
-    | inr e ↦ absurd (let z : None ≡ Some stem = rw e at h in cc) ]
+      | inl e ↦
+          let front : take m text ≡ stem = same_Some (take m text) stem (rw e at h) in
+          sym (take-append-drop m text) ∙ (λ i. front i ++ (bytes_decides (drop m text) (codes ".whl")).0 e i)
+      | inr e ↦ absurd (let z : None ≡ Some stem = rw e at h in cc)
+    ]
 
 pub stem_joined : (stem : List ℕ) → stem_of (stem ++ codes ".whl") ≡ Some stem
 unfolding stem_of
@@ -125,13 +129,15 @@ taken v = Ok v
 version_says : (text : List ℕ) (v : Parts) → version_in text ≡ Ok v → Spells text v × (IsLarge v → ⊥)
 unfolding version_in parsed_version
 version_says text v h = elim (option_sight (version_of text)) [
-    | inl none ↦ absurd (let z : refused wheel.Version ≡ taken v = rw none at h in cc)
-    | inr u ↦ let h2 = rw u.1 at h in elim (sight (has_large (numbers u.0))) [
-        | inl large ↦ absurd (let z : refused wheel.Version ≡ taken v = rw large at h2 in cc)
-        | inr small ↦
-            let q : taken u.0 ≡ taken v = rw small at h2 in
-            let same : u.0 ≡ v = cc in
-            subst (λ p. Spells text p × (IsLarge p → ⊥)) same (version_takes text u.0 u.1, λ l. true≢false (sym l ∙ small)) ] ]
+  | inl none ↦ absurd (let z : refused wheel.Version ≡ taken v = rw none at h in cc)
+  | inr u ↦ let h2 = rw u.1 at h in elim (sight (has_large (numbers u.0))) [
+    | inl large ↦ absurd (let z : refused wheel.Version ≡ taken v = rw large at h2 in cc)
+    | inr small ↦
+        let q : taken u.0 ≡ taken v = rw small at h2 in
+        let same : u.0 ≡ v = cc in
+        subst (λ p. Spells text p × (IsLarge p → ⊥)) same (version_takes text u.0 u.1, λ l. true≢false (sym l ∙ small))
+  ]
+]
 
 build_says : (build found : Option (List ℕ)) → build_in build ≡ Ok found → (build ≡ found) × IfSome build (λ b. is_build b ≡ true)
 build_says None found h = (cc, tt)
@@ -178,13 +184,13 @@ wheel_says text w h =
     let parts = y.0 in
     let say = parts_say x.0 parts (ok_or_some (parts_of x.0) wheel.Parts parts y.1) in
     let n = bind_ok (name_in parts.name) (λ name. version_in parts.version >>= λ version. build_in parts.build >>= λ build. tag_set_in parts.tag_set >>= λ set.
-        Ok (record { name = name; version = version; build = build; tag_set = set.0; tags = set.1 })) w y.2 in
+    Ok (record { name = name; version = version; build = build; tag_set = set.0; tags = set.1 })) w y.2 in
     let v = bind_ok (version_in parts.version) (λ version. build_in parts.build >>= λ build. tag_set_in parts.tag_set >>= λ set.
-        Ok (record { name = n.0; version = version; build = build; tag_set = set.0; tags = set.1 })) w n.2 in
+    Ok (record { name = n.0; version = version; build = build; tag_set = set.0; tags = set.1 })) w n.2 in
     let b = bind_ok (build_in parts.build) (λ build. tag_set_in parts.tag_set >>= λ set.
-        Ok (record { name = n.0; version = v.0; build = build; tag_set = set.0; tags = set.1 })) w v.2 in
+    Ok (record { name = n.0; version = v.0; build = build; tag_set = set.0; tags = set.1 })) w v.2 in
     let s = bind_ok (tag_set_in parts.tag_set) (λ set.
-        Ok (record { name = n.0; version = v.0; build = b.0; tag_set = set.0; tags = set.1 })) w b.2 in
+    Ok (record { name = n.0; version = v.0; build = b.0; tag_set = set.0; tags = set.1 })) w b.2 in
     let made : WheelValue = record { name = n.0; version = v.0; build = b.0; tag_set = s.0.0; tags = s.0.1 } in
     let last = s.2 in
     let is : made ≡ w = cc in
@@ -211,3 +217,98 @@ wheel_says text w h =
     } in
     let P : List ℕ × Parts × Option (List ℕ) × List TagValue → Type 0 = λ f. Wheel text f.0 f.1 f.2 f.3 in
     subst P (λ i. ((name.1 ∙ ap (λ u. u.name) is) i, ap (λ u. u.version) is i, (build.0 ∙ ap (λ u. u.build) is) i, ap (λ u. u.tags) is i)) it
+
+-- ---- and the other way round
+
+neither : (x y : Bool) → (x || y) ≡ false → (x ≡ false) × (y ≡ false)
+neither true y h = absurd (true≢false h)
+neither false y h = (refl, h)
+
+lacks_both : (s t : List ℕ) → Lacks 45 s → Lacks 45 t → Lacks 45 (s ++ t)
+lacks_both [] t x y = y
+lacks_both (b ∷ s) t x y = let n = neither (b == 45) (list_any (λ d. d == 45) s) x in let e = n.0 in rw e (lacks_both s t n.1 y)
+
+bytes_lack : (test : ℕ → Bool) → ((b : ℕ) → test b ≡ true → (b == 45) ≡ false) → (s : List ℕ) → list_all test s ≡ true → Lacks 45 s
+bytes_lack test no_dash [] h = refl
+bytes_lack test no_dash (b ∷ s) h = let p = and_both (test b) (list_all test s) h in let e = no_dash b p.0 in rw e (bytes_lack test no_dash s p.1)
+
+tag_byte_no_dash : (b : ℕ) → is_tag_byte b ≡ true → (b == 45) ≡ false
+tag_byte_no_dash b h = grind (arith, nat_tests, h)
+
+name_byte_no_dash : (b : ℕ) → is_wheel_name_byte b ≡ true → (b == 45) ≡ false
+name_byte_no_dash b h = grind (arith, nat_tests, h)
+
+part_lacks : (s : List ℕ) → is_tag_part s ≡ true → Lacks 45 s
+part_lacks s h = bytes_lack is_tag_byte tag_byte_no_dash s (and_both (nat_lt 0 (length s)) (list_all is_tag_byte s) h).1
+
+joined_lack : (ps : List (List ℕ)) → are_tag_parts ps ≡ true → Lacks 45 (join_with_byte 46 ps)
+joined_lack [] h = refl
+joined_lack (p ∷ []) h = part_lacks p (and_both (is_tag_part p) true h).0
+joined_lack (p ∷ (q ∷ ps)) h =
+    let x = and_both (is_tag_part p) (are_tag_parts (q ∷ ps)) h in
+    lacks_both p (46 ∷ join_with_byte 46 (q ∷ ps)) (part_lacks p x.0) (joined_lack (q ∷ ps) x.1)
+
+pieces_lack : (s : List ℕ) → are_tag_parts (pieces s) ≡ true → Lacks 45 s
+pieces_lack s h = subst (Lacks 45) (join_with_byte-slice_split 46 s) (joined_lack (pieces s) h)
+
+joined_is : (name spelling : List ℕ) (build : Option (List ℕ)) (p a q : List ℕ)
+    → joined (name ∷ (spelling ∷ (option_to_list build ++ (p ∷ (a ∷ (q ∷ [])))))) ≡ name ++ (45 ∷ (spelling ++ (45 ∷ with_build build (p ++ (45 ∷ (a ++ (45 ∷ q)))))))
+joined_is name spelling None p a q = refl
+joined_is name spelling (Some b) p a q = refl
+
+name_taken : (name : List ℕ) → is_wheel_name name ≡ true → name_in name ≡ Ok name
+unfolding name_in
+name_taken name e = rw e refl
+
+build_taken : (build : Option (List ℕ)) → IfSome build (λ b. IsUndashed b × (is_build b ≡ true)) → build_in build ≡ Ok build
+build_taken None h = refl
+build_taken (Some b) h = let e = h.1 in rw e refl
+
+build_lacks : (build : Option (List ℕ)) → IfSome build (λ b. IsUndashed b × (is_build b ≡ true)) → IfSome build (Lacks 45)
+build_lacks None h = tt
+build_lacks (Some b) h = h.0
+
+build_four : (build : Option (List ℕ)) (p a q : List ℕ) → IfSome build (λ b. IsUndashed b × (is_build b ≡ true)) → Lacks 45 p → Lacks 45 a
+    → IfSome build (λ b. three_parts 45 (b ++ (45 ∷ (p ++ (45 ∷ (a ++ (45 ∷ q)))))) ≡ None)
+build_four None p a q h x y = tt
+build_four (Some b) p a q h x y = four_refused b p a q h.0 x y
+
+set_taken : (set : List ℕ) (t : TagParts) → three_parts 45 (str_to_ascii_lowercase set) ≡ Some t → is_tag_set t ≡ true → tag_set_in set ≡ Ok (str_to_ascii_lowercase set, tags_in t)
+unfolding tag_set_in set_tags_in
+set_taken set t e ok = rw (e, ok) refl
+
+set_holds : (t : TagParts) (tags : List TagValue) → IsTagSet t tags → is_tag_set t ≡ true
+set_holds t tags x =
+    let python = x.python in let abi = x.abi in let platform = x.platform in let small = x.few in
+    let few : nat_le (tag_count t) TAGS_LIMIT ≡ true = grind (arith, nat_tests, small) in
+    rw (python, abi, platform, few) refl
+
+pub wheel_made : (text name : List ℕ) (version : Parts) (build : Option (List ℕ)) (tags : List TagValue) → Wheel text name version build tags
+    → (set : List ℕ) × (wheel_of text ≡ Ok (record { name = name; version = version; build = build; tag_set = set; tags = tags }))
+unfolding wheel_of wheel_in
+wheel_made text name version build tags x =
+    let p = x.python in let a = x.abi in let q = x.platform in
+    let set = p ++ (45 ∷ (a ++ (45 ∷ q))) in
+    let lower = str_to_ascii_lowercase set in
+    let t : TagParts = (str_to_ascii_lowercase p, str_to_ascii_lowercase a, str_to_ascii_lowercase q) in
+    let lp : Lacks 45 p = sym (lower_lacks p) ∙ pieces_lack (str_to_ascii_lowercase p) x.is_tag_set.python in
+    let la : Lacks 45 a = sym (lower_lacks a) ∙ pieces_lack (str_to_ascii_lowercase a) x.is_tag_set.abi in
+    let lq : Lacks 45 q = sym (lower_lacks q) ∙ pieces_lack (str_to_ascii_lowercase q) x.is_tag_set.platform in
+    let ln : Lacks 45 name = bytes_lack is_wheel_name_byte name_byte_no_dash name
+    (and_both (nat_lt 0 (length name)) (list_all is_wheel_name_byte name) (and_both (nat_lt 0 (length name) && list_all is_wheel_name_byte name) (not (has_pair 95 name)) x.is_name).0).1 in
+    let stem = name ++ (45 ∷ (x.spelling ++ (45 ∷ with_build build set))) in
+    let parts : WheelParts = record { name = name; version = x.spelling; build = build; tag_set = set } in
+    let e1 : stem_of text ≡ Some stem = ap stem_of (x.whole ∙ ap (λ l. l ++ codes ".whl") (joined_is name x.spelling build p a q)) ∙ stem_joined stem in
+    let e2 : parts_of stem ≡ Some parts = parts_made name x.spelling build set (p, a, q) ln x.is_undashed (build_lacks build x.is_build) (three_joined p a q lp la lq) (build_four build p a q x.is_build lp la) in
+    let e4 = version_taken x.spelling version (version_again x.spelling version x.spells) x.fits in
+    let e5 = build_taken build x.is_build in
+    let e6 = set_taken set t (lower_three_parts p a q lp la lq) (set_holds t tags x.is_tag_set) in (
+      lower,
+      ap (λ o. ok_or o wheel.Extension >>= λ s. ok_or (parts_of s) wheel.Parts >>= λ u. wheel_in u) e1
+          ∙ (ap (λ o. ok_or o wheel.Parts >>= λ u. wheel_in u) e2
+          ∙ (ap (λ r. r >>= λ n. version_in x.spelling >>= λ v. build_in build >>= λ b. tag_set_in set >>= λ s. Ok (record { name = n; version = v; build = b; tag_set = s.0; tags = s.1 })) (name_taken name x.is_name)
+          ∙ (ap (λ r. r >>= λ v. build_in build >>= λ b. tag_set_in set >>= λ s. Ok (record { name = name; version = v; build = b; tag_set = s.0; tags = s.1 })) e4
+          ∙ (ap (λ r. r >>= λ b. tag_set_in set >>= λ s. Ok (record { name = name; version = version; build = b; tag_set = s.0; tags = s.1 })) e5
+          ∙ (ap (λ r. r >>= λ s. Ok (record { name = name; version = version; build = build; tag_set = s.0; tags = s.1 })) e6
+          ∙ ap (λ all. Ok (record { name = name; version = version; build = build; tag_set = lower; tags = all })) (sym x.is_tag_set.triples)))))),
+    )

@@ -25,11 +25,12 @@ EndSays text end = (text ≡ with_build end.0 end.1) × IfSome end.0 (Lacks 45) 
 unbuilt_says : (text : List ℕ) (end : Option (List ℕ) × List ℕ) → unbuilt text ≡ Some end → EndSays text end
 unfolding unbuilt
 unbuilt_says text end h = elim (option_sight (three_parts 45 text)) [
-    | inl none ↦ absurd (let z : None ≡ Some end = rw none at h in cc)
-    | inr t ↦
-        let q : Some (None, text) ≡ Some end = rw t.1 at h in
-        let p : (None, text) ≡ end = same_Some (None, text) end q in
-        subst (EndSays text) p (refl, tt, t) ]
+  | inl none ↦ absurd (let z : None ≡ Some end = rw none at h in cc)
+  | inr t ↦
+      let q : Some (None, text) ≡ Some end = rw t.1 at h in
+      let p : (None, text) ≡ end = same_Some (None, text) end q in
+      subst (EndSays text) p (refl, tt, t)
+]
 
 built_says : (text : List ℕ) (end : Option (List ℕ) × List ℕ) → built text ≡ Some end → EndSays text end
 unfolding built
@@ -38,11 +39,12 @@ built_says text end h =
     let h2 = x.2 in
     let cut = cut_says 45 text x.0.0 x.0.1 x.1 in
     elim (option_sight (three_parts 45 x.0.1)) [
-    | inl none ↦ absurd (let z : None ≡ Some end = rw none at h2 in cc)
-    | inr t ↦
-        let q : Some (Some x.0.0, x.0.1) ≡ Some end = rw t.1 at h2 in
-        let p : (Some x.0.0, x.0.1) ≡ end = same_Some (Some x.0.0, x.0.1) end q in
-        subst (EndSays text) p (cut.0, cut.1, t) ]
+      | inl none ↦ absurd (let z : None ≡ Some end = rw none at h2 in cc)
+      | inr t ↦
+          let q : Some (Some x.0.0, x.0.1) ≡ Some end = rw t.1 at h2 in
+          let p : (Some x.0.0, x.0.1) ≡ end = same_Some (Some x.0.0, x.0.1) end q in
+          subst (EndSays text) p (cut.0, cut.1, t)
+    ]
 
 end_says : (text : List ℕ) (end : Option (List ℕ) × List ℕ) → either (unbuilt text) (built text) ≡ Some end → EndSays text end
 end_says text end h = elim (either_some (unbuilt text) (built text) end h) [ inl e ↦ unbuilt_says text end e | inr e ↦ built_says text end e ]
@@ -55,9 +57,9 @@ pub parts_say : (stem : List ℕ) (parts : WheelParts) → parts_of stem ≡ Som
 unfolding parts_of
 parts_say stem parts h =
     let x = bind_some (cut_at 45 stem) (λ name. cut_at 45 name.1 >>= λ version. either (unbuilt version.1) (built version.1) >>= λ end.
-        Some (record { name = name.0; version = version.0; build = end.0; tag_set = end.1 })) parts h in
+    Some (record { name = name.0; version = version.0; build = end.0; tag_set = end.1 })) parts h in
     let y = bind_some (cut_at 45 x.0.1) (λ version. either (unbuilt version.1) (built version.1) >>= λ end.
-        Some (record { name = x.0.0; version = version.0; build = end.0; tag_set = end.1 })) parts x.2 in
+    Some (record { name = x.0.0; version = version.0; build = end.0; tag_set = end.1 })) parts x.2 in
     let z = bind_some (either (unbuilt y.0.1) (built y.0.1)) (λ end. Some (record { name = x.0.0; version = y.0.0; build = end.0; tag_set = end.1 })) parts y.2 in
     let first = cut_says 45 stem x.0.0 x.0.1 x.1 in
     let second = cut_says 45 x.0.1 y.0.0 y.0.1 y.1 in
