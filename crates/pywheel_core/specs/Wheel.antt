@@ -1,5 +1,5 @@
--- The names of wheels (PEP 427, "File name convention"): what a name says, when a text is one, and what a text
--- is read as.
+-- The names of wheels (PEP 427, "File name convention"): what a name says, when a text is one, and
+-- what a text is read as.
 pub mod Build
 pub mod Cut
 pub mod Grammar

@@ -135,7 +135,8 @@ impl TagSet<'_> {
 
     /// The places of the three parts in the text that they make, which has this length.
     pub(crate) fn places(&self, whole: usize) -> (Place, Place, Place)
-        requires { whole ≡ length self.now.python.now + length self.now.abi.now + length self.now.platform.now + 2 }
+        requires { whole ≡ length self.now.python.now + length self.now.abi.now
+            + length self.now.platform.now + 2 }
         ensures { (result.0, result.1, result.2) ≡ places_of (set_of self.now) }
     {
         let python = self.python.len();

@@ -23,8 +23,8 @@ impl fmt::Debug for Tag {
     }
 }
 
-/// The file name: the name and the build tag as written, the version in its normal form, the tags in lower
-/// case.
+/// The file name: the name and the build tag as written, the version in its normal form, the tags
+/// in lower case.
 impl fmt::Display for WheelName {
     ghost output = { λ w. Some (wheel_text w) };
 

@@ -9,7 +9,8 @@ ghost use Rattle.pywheel_core.specs.Wheel.Grammar.{Wheel};
 ghost use Rattle.pywheel_core.specs.Wheel.Reading.{wheel_of};
 ghost use Rattle.pywheel_core.specs.Wheel.Value.{WheelValue};
 
-/// Among some wheels there is one best place, or none: the one that [`choose`](crate::choose) answers.
+/// Among some wheels there is one best place, or none: the one that [`choose`](crate::choose)
+/// answers.
 pub fn one_best_wheel()
     ensures stands { (wheels : List (Option WheelValue)) (tags : List TagValue)
         → IsBest wheels tags (best wheels tags) }
@@ -25,7 +26,8 @@ pub fn wheel_of_is_the_answer()
 
 /// What a text says as the name of a wheel, [`WheelName::parse`](crate::WheelName::parse) reads.
 pub fn wheel_of_is_complete()
-    ensures { (text name : List ℕ) (version : Parts) (build : Option (List ℕ)) (tags : List TagValue)
+    ensures { (text name : List ℕ) (version : Parts) (build : Option (List ℕ))
+        (tags : List TagValue)
         → Wheel text name version build tags → (set : List ℕ) × (wheel_of text ≡ Ok (record {
           name = name;
           version = version;

@@ -26,8 +26,8 @@ impl Model for TagList {
 }
 
 impl TagList {
-    /// The tags of the texts in order, each at its first place. `Tag` gives the place, from 1, of the first
-    /// text that is no tag. It takes the memory of the tags and of a table of them.
+    /// The tags of the texts in order, each at its first place. `Tag` gives the place, from 1, of
+    /// the first text that is no tag. It takes the memory of the tags and of a table of them.
     #[tactic(auto, unfolding(crate::specs::Tag::tags_of))]
     pub fn parse(alloc: Global, texts: &[&str]) -> Result<TagList, TagListError>
         ensures { Gives TagListError.Memory (λ l. l) result (tags_of (map (λ t. t.now) texts.now)) }

@@ -47,10 +47,10 @@ impl Model for WheelName {
 }
 
 impl WheelName {
-    /// What the text says as the name of a wheel: a name, a version, a build tag or none, and a compressed
-    /// tag set, joined by `-`, and `.whl` (PEP 427, "File name convention"). The refusals are judged in the
-    /// order of [`WheelError`]. It takes the memory of the name, the version, the build tag and the tags,
-    /// which share one text.
+    /// What the text says as the name of a wheel: a name, a version, a build tag or none, and a
+    /// compressed tag set, joined by `-`, and `.whl` (PEP 427, "File name convention"). The
+    /// refusals are judged in the order of [`WheelError`]. It takes the memory of the name, the
+    /// version, the build tag and the tags, which share one text.
     #[tactic(auto, unfolding(crate::specs::Wheel::Reading::wheel_of))]
     pub fn parse(alloc: Global, text: &str) -> Result<WheelName, WheelError>
         ensures { Gives WheelError.Memory (λ w. w) result (wheel_of text.now) }
@@ -92,7 +92,8 @@ impl WheelName {
         &self.version
     }
 
-    /// The build tag, where there is one: the number of the digits in front, and what stands after them.
+    /// The build tag, where there is one: the number of the digits in front, and what stands after
+    /// them.
     pub fn build(&self) -> Option<(u128, &str)>
         ensures number { option_map (λ b. b.0) result ≡ option_map build_number self.now.build }
         ensures rest { option_map (λ b. b.1.now) result ≡ option_map build_rest self.now.build }
@@ -109,14 +110,16 @@ impl WheelName {
         Some(build.as_str())
     }
 
-    /// The tags: all combinations of the three parts' pieces. The platform runs fastest, then the ABI.
+    /// The tags: all combinations of the three parts' pieces. The platform runs fastest, then the
+    /// ABI.
     pub fn tags(&self) -> &[Tag]
         ensures { result.now ≡ self.now.tags }
     {
         &self.tags
     }
 
-    /// The compressed tag set that stands for the tags, in lower case (PEP 425, "Compressed Tag Sets").
+    /// The compressed tag set that stands for the tags, in lower case (PEP 425, "Compressed Tag
+    /// Sets").
     pub fn tag_set(&self) -> &str
         ensures { result.now ≡ self.now.tag_set }
     {
@@ -181,7 +184,8 @@ fn read_version(alloc: Global, text: &str) -> Result<Version, WheelError>
 
 /// The build tag, where there is one.
 fn read_build(alloc: Global, build: Option<&str>) -> Result<Option<Box<BuildTag>>, WheelError>
-    ensures { Gives WheelError.Memory (λ b. option_map (λ x. x.value) b) result (build_in (option_map (λ b. b.now) build.entry)) }
+    ensures { Gives WheelError.Memory (λ b. option_map (λ x. x.value) b) result
+        (build_in (option_map (λ b. b.now) build.entry)) }
 {
     match build {
         Some(build) => Ok(Some(Box::new(alloc, BuildTag::parse(alloc, build)?)?)),

@@ -1,5 +1,5 @@
--- Reading the name of a wheel: the first refusal in order, or what the name says. It gives an answer exactly
--- where `Wheel` holds, and that of which it holds: the law `wheel_of_is_the_answer`.
+-- Reading the name of a wheel: the first refusal in order, or what the name says. It gives an
+-- answer exactly where `Wheel` holds, and that of which it holds: the law `wheel_of_is_the_answer`.
 use Rattle.std.specs.Prelude.{ℕ, if◌then◌else◌, List, Option, Some, None, ok_or, Result, Ok, Err}
 use Rattle.std.specs.Str.{str_to_ascii_lowercase}
 use Rattle.pyver_core.specs.Parts.{Parts}
