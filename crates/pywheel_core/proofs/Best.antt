@@ -10,7 +10,7 @@ use Rattle.std.specs.List.{Contains}
 use Rattle.std.specs.Ordering.{is_lt, ordering_reverse}
 use Rattle.std.specs.declared.cmp.Ordering.{Ordering}
 use Rattle.std.specs.declared.cmp.Ordering.TheVariants.{Less, Equal, Greater}
-use Rattle.pyver_core.proofs.Sight.{option_sight, sight}
+use Rattle.pyver_core.proofs.Lemmas.Sight.{option_sight, sight}
 use Rattle.pywheel_core.specs.Choice.{ComesBehind, IsBest, IsCompatible, IsRank, Ranked, best, best_from, better, is_better, least_rank, rank_from, ranked}
 use Rattle.pywheel_core.specs.Tag.{TagValue, rank_of}
 use Rattle.pywheel_core.specs.Wheel.Build.{build_number, build_rest, builds_cmp}

@@ -11,7 +11,7 @@ use Rattle.std.specs.Cmp.Lexicographic.{bytes_decides}
 use Rattle.std.specs.Str.Iter.{HasSubslice}
 use Rattle.std.specs.Str.Pattern.{FindsTextSuffix, StripsSuffix}
 use Rattle.std.specs.List.{All, after_first, before_first, list_any, position_or_len, slice_split}
-use Rattle.pyver_core.proofs.Sight.{option_sight, sight}
+use Rattle.pyver_core.proofs.Lemmas.Sight.{option_sight, sight}
 use Rattle.pywheel_core.specs.Texts.{before_cut, begins_with, cut_at, has_pair, pieces_at}
 use Rattle.pywheel_core.specs.Inner.Places.{places_from}
 use Rattle.pywheel_core.specs.Tag.{are_tag_parts, is_tag_part, pieces}

@@ -10,14 +10,14 @@ use Rattle.std.specs.Cmp.Lexicographic.{bytes_decides}
 use Rattle.std.specs.List.{join_with_byte, list_all, list_any}
 use Rattle.std.specs.Option.{IfSome, ok_or, option_to_list}
 use Rattle.std.specs.Str.{str_to_ascii_lowercase}
-use Rattle.pyver_core.proofs.AgainVersion.{version_again}
-use Rattle.pyver_core.proofs.Sight.{option_sight, sight}
-use Rattle.pyver_core.proofs.TakesParts.{version_takes}
-use Rattle.pyver_core.specs.Grammar.{IsLarge, Spells, has_large, numbers}
-use Rattle.pyver_core.specs.Parts.{Parts}
-use Rattle.pyver_core.specs.Reading.{version_of}
+use Rattle.pyver_core.proofs.Lemmas.Version.Complete.Whole.{version_again}
+use Rattle.pyver_core.proofs.Lemmas.Sight.{option_sight, sight}
+use Rattle.pyver_core.proofs.Lemmas.Version.Sound.Parts.{version_takes}
+use Rattle.pyver_core.specs.Version.Grammar.{IsLarge, Spells, has_large, numbers}
+use Rattle.pyver_core.specs.Version.Parts.{Parts}
+use Rattle.pyver_core.specs.Version.Reading.{version_of}
 use Rattle.pyver_core.specs.Results.{◌>>=◌}
-use Rattle.pywheel_core.specs.Parsed.{parsed_version}
+use Rattle.pyver_core.specs.Parsed.{parsed_version}
 use Rattle.pywheel_core.specs.Tag.{TAGS_LIMIT, TagParts, TagValue, are_tag_parts, has_tag_parts, is_tag_byte, is_tag_part, is_tag_set, pieces, tag_count, tags_in}
 use Rattle.std.proofs.lemmas.List.Splits.{join_with_byte-slice_split}
 use Rattle.pywheel_core.specs.Texts.{cut_at, has_pair, three_parts}

@@ -2,7 +2,7 @@
 use Rattle.std.proofs.Common.{◌≡◌, ◌⊎◌, ℕ, Bool, true, false, List, [], ◌∷◌, ◌++◌, Option, Some, None, is_some, if◌then◌else◌, refl, sym, subst, ap, ◌∙◌, inl, inr}
 use Rattle.std.proofs.lemmas.Option.{same_Some}
 use Rattle.std.specs.Option.{IfSome}
-use Rattle.pyver_core.proofs.Sight.{option_sight}
+use Rattle.pyver_core.proofs.Lemmas.Sight.{option_sight}
 use Rattle.pyver_core.specs.Options.{◌>>=◌, either}
 use Rattle.pywheel_core.specs.Tag.{TagParts}
 use Rattle.pywheel_core.specs.Texts.{cut_at, three_parts}

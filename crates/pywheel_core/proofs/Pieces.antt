@@ -12,7 +12,7 @@ use Rattle.std.proofs.lemmas.Simd.{map-map}
 use Rattle.std.proofs.lemmas.List.Elements.{All-cons}
 use Rattle.std.proofs.lemmas.List.Folds.{flat_map-map, list_all-append}
 use Rattle.std.proofs.lemmas.List.Splits.{join_with_byte-slice_split, length-slice_split}
-use Rattle.pyver_core.proofs.Sight.{option_sight, sight}
+use Rattle.pyver_core.proofs.Lemmas.Sight.{option_sight, sight}
 use Rattle.pywheel_core.specs.Inner.Places.{AreWithin, IsAsciiText, IsWithin, at, places_from, places_of, tag_at}
 use Rattle.pywheel_core.specs.Tag.{TagParts, are_tag_parts, has_tag_parts, is_tag, is_tag_byte, is_tag_part, is_tag_set, pieces, tag_count, tag_of, tag_with, tags_in, triples}
 use Rattle.pywheel_core.specs.Texts.{cut_at, three_parts}

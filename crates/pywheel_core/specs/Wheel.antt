@@ -5,7 +5,6 @@ pub mod Cut
 pub mod Grammar
 pub mod Name
 pub mod Reading
-pub mod Refusal
 pub mod Value
 pub use Rattle.pywheel_core.specs.Wheel.Grammar.{Wheel}
 pub use Rattle.pywheel_core.specs.Wheel.Reading.{wheel_of}

@@ -8,7 +8,7 @@ ghost use Rattle.pyver_core.specs.Agreement.{Gives};
 ghost use Rattle.pywheel_core.specs.Wheel.Build.{build_cmp, build_number, build_rest, is_build};
 
 use crate::error::WheelError;
-use std::alloc::Global;
+use std::alloc::{AllocError, Global};
 use std::cmp::Ordering;
 use std::marker::Model;
 
@@ -84,6 +84,19 @@ impl BuildTag {
         self.number
             .cmp(&other.number)
             .then(self.rest().cmp(other.rest()))
+    }
+}
+
+/// A copy takes memory for the text.
+impl Clone for BuildTag {
+    ghost is_clone = { λ build copy. copy ≡ build };
+
+    fn clone(&self) -> Result<BuildTag, AllocError> {
+        Ok(BuildTag {
+            text: self.text.clone()?,
+            digits: self.digits,
+            number: self.number,
+        })
     }
 }
 

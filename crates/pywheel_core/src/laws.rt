@@ -2,7 +2,7 @@
 
 ghost use Rattle.std.specs.Prelude.{◌≡◌, ℕ, List, Option, Ok};
 ghost use Rattle.std.specs.Str.{str_to_ascii_lowercase};
-ghost use Rattle.pyver_core.specs.Parts.{Parts};
+ghost use Rattle.pyver_core.specs.Version.Parts.{Parts};
 ghost use Rattle.pywheel_core.specs.Choice.{IsBest, best};
 ghost use Rattle.pywheel_core.specs.Tag.{TagValue};
 ghost use Rattle.pywheel_core.specs.Wheel.Grammar.{Wheel};

@@ -7,7 +7,7 @@ ghost use Rattle.pywheel_core.specs.Tag.{at_place, rank_of, tag_of, tags_of};
 use crate::error::{TagError, TagListError};
 use crate::tag::Tag;
 use indexmap::IndexSet;
-use std::alloc::Global;
+use std::alloc::{AllocError, Global};
 use std::marker::Model;
 
 /// Distinct tags, the most preferred first. A tag's rank is its position.
@@ -65,6 +65,17 @@ impl TagList {
         ensures { result.now ≡ self.now }
     {
         self.tags.as_slice()
+    }
+}
+
+/// A copy takes memory for the table; its tags share their texts.
+impl Clone for TagList {
+    ghost is_clone = { λ tags copy. copy ≡ tags };
+
+    fn clone(&self) -> Result<TagList, AllocError> {
+        Ok(TagList {
+            tags: self.tags.clone()?,
+        })
     }
 }
 

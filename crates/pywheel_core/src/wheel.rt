@@ -14,8 +14,8 @@ use crate::cut::{StemParts, stem, stem_parts};
 use crate::error::WheelError;
 use crate::tag::Tag;
 use crate::tag_set::read_tag_set;
-use pyver_core::Version;
-use std::alloc::Global;
+use pyver_core::{Version, VersionError};
+use std::alloc::{AllocError, Global};
 use std::cmp::Ordering;
 use std::marker::Model;
 use std::rc::RcStr;
@@ -139,6 +139,22 @@ impl WheelName {
     }
 }
 
+/// A copy takes memory for the name, the version, the build tag and the list of the tags, whose text
+/// it shares.
+impl Clone for WheelName {
+    ghost is_clone = { λ wheel copy. copy ≡ wheel };
+
+    fn clone(&self) -> Result<WheelName, AllocError> {
+        Ok(WheelName {
+            name: self.name.clone()?,
+            version: self.version.clone()?,
+            build: self.build.clone()?,
+            tag_set: self.tag_set.clone()?,
+            tags: self.tags.clone()?,
+        })
+    }
+}
+
 /// The name, where it is one.
 #[tactic(auto, unfolding(crate::specs::Wheel::Reading::name_in))]
 fn read_name(alloc: Global, name: &str) -> Result<String, WheelError>
@@ -179,7 +195,11 @@ fn has_double_underscore(name: &str) -> bool
 fn read_version(alloc: Global, text: &str) -> Result<Version, WheelError>
     ensures { Gives WheelError.Memory (λ v. v) result (version_in text.now) }
 {
-    Ok(Version::parse(alloc, text)?)
+    match Version::parse(alloc, text) {
+        Ok(version) => Ok(version),
+        Err(VersionError::Memory) => Err(WheelError::Memory),
+        Err(_) => Err(WheelError::Version),
+    }
 }
 
 /// The build tag, where there is one.

@@ -1,7 +1,7 @@
 -- What the name of a wheel is to a contract.
 use Rattle.std.specs.Prelude.{ℕ, List, ◌∷◌, ◌++◌, codes, Option, Some, None}
-use Rattle.pyver_core.specs.Normal.{normal}
-use Rattle.pyver_core.specs.Parts.{Parts}
+use Rattle.pyver_core.specs.Version.Normal.{normal}
+use Rattle.pyver_core.specs.Version.Parts.{Parts}
 use Rattle.pywheel_core.specs.Tag.{TagValue}
 
 -- the name as written, the version, the build tag as written, the compressed tag set in lower case,
