@@ -12,7 +12,8 @@ pub record WheelParts : Type 0 where
 
 -- what stands before the extension
 unfoldable pub stem_of : List ℕ → Option (List ℕ)
-stem_of text = if bytes_eq (drop (length text - 4) text) (codes ".whl") then Some (take (length text - 4) text) else None
+stem_of text = if bytes_eq (drop (length text - 4) text) (codes ".whl")
+    then Some (take (length text - 4) text) else None
 
 -- the parts behind the version: three, which are a tag set
 unfoldable pub unbuilt : List ℕ → Option (Option (List ℕ) × List ℕ)

@@ -1,6 +1,6 @@
-//! Calls whose growths are refused in turn: `tools/growths/run` runs each of these tests once for each of its
-//! growths, that one refused. A test passes where the call answers want of memory, or just what it answers
-//! with ample memory.
+//! Calls whose growths are refused in turn: `tools/growths/run` runs each of these tests once for
+//! each of its growths, that one refused. A test passes where the call answers want of memory, or
+//! just what it answers with ample memory.
 
 use crate::{Tag, TagError, TagList, TagListError, WheelError, WheelName};
 
@@ -23,7 +23,10 @@ fn tag_clone(rt: HostRuntime) {
 
 #[test]
 fn tag_list_parse(rt: HostRuntime) {
-    match TagList::parse(rt.alloc(), &["py3-none-any", "py2-none-any", "PY3-none-any"]) {
+    match TagList::parse(
+        rt.alloc(),
+        &["py3-none-any", "py2-none-any", "PY3-none-any"],
+    ) {
         Ok(tags) => assert_eq!(rt; tags.len(), 2),
         Err(error) => assert!(rt; matches!(error, TagListError::Memory), "{error:?}"),
     }

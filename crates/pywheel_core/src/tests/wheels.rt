@@ -159,7 +159,10 @@ fn names_of_the_standard(rt: HostRuntime) -> Result<(), Fail> {
 #[test]
 fn names_print_as_file_names(rt: HostRuntime) -> Result<(), Fail> {
     for (text, printed) in [
-        ("Foo_Bar-V1.0-1b-Py3-none-any.whl", "Foo_Bar-1.0-1b-py3-none-any.whl"),
+        (
+            "Foo_Bar-V1.0-1b-Py3-none-any.whl",
+            "Foo_Bar-1.0-1b-py3-none-any.whl",
+        ),
         ("a-1-py2.py3-none-any.whl", "a-1-py2.py3-none-any.whl"),
     ] {
         let wheel = WheelName::parse(rt.alloc(), text)?;
