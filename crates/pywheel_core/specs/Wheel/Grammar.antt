@@ -6,7 +6,8 @@ use Rattle.std.specs.Option.{IfSome, option_to_list}
 use Rattle.std.specs.Str.{str_to_ascii_lowercase}
 use Rattle.pyver_core.specs.Version.Grammar.{IsLarge, Spells}
 use Rattle.pyver_core.specs.Version.Parts.{Parts}
-use Rattle.pywheel_core.specs.Tag.{TAGS_LIMIT, TagParts, TagValue, are_tag_parts, pieces, tag_count, tags_in}
+use Rattle.pywheel_core.specs.Tag.{TAGS_LIMIT, TagParts, TagValue, are_tag_parts, pieces, tag_count}
+use Rattle.pywheel_core.specs.Tag.{tags_in}
 use Rattle.pywheel_core.specs.Wheel.Build.{is_build}
 use Rattle.pywheel_core.specs.Wheel.Name.{is_wheel_name}
 
