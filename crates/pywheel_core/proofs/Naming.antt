@@ -1,11 +1,11 @@
 -- What is read as the name of a wheel is what the relation says, and the other way round.
-use Rattle.std.proofs.Common.{◌≡◌, ◌⊎◌, ℕ, zero, suc, ◌+◌, ◌-◌, ◌≤◌, Bool, true, false, ◌==◌, ◌&&◌, ◌||◌, not, nat_le, nat_lt, bytes_eq, if◌then◌else◌, codes, List, [], ◌∷◌, ◌++◌, length, map, take, drop, Option, Some, None, is_none, is_some, option_map, Result, Ok, Err, refl, sym, subst, ap, ◌∙◌, inl, inr, arith}
+use Rattle.std.proofs.Common.{◌≡◌, ℕ, ◌+◌, ◌-◌, ◌≤◌, Bool, true, false, ◌==◌, ◌&&◌, ◌||◌, not, nat_le, nat_lt, bytes_eq, if◌then◌else◌, codes, List, [], ◌∷◌, ◌++◌, length, take, drop, Option, Some, None, Result, Ok, Err, refl, sym, subst, ap, ◌∙◌, inl, inr, arith}
 use Rattle.std.proofs.Math.Bool.{true≢false}
 use Rattle.std.proofs.Math.Seq.{drop-append_seam, take-append_seam}
 use Rattle.std.proofs.lemmas.Bool.Decides.{Decides-eqb, nat_tests}
-use Rattle.std.proofs.lemmas.List.{append_assoc, length-append, take-append-drop}
+use Rattle.std.proofs.lemmas.List.{length-append, take-append-drop}
 use Rattle.std.proofs.lemmas.Option.{same_Some}
-use Rattle.std.specs.Char.{is_ascii_alphanumeric, to_ascii_lowercase}
+use Rattle.std.specs.Char.{to_ascii_lowercase}
 use Rattle.std.specs.Cmp.Lexicographic.{bytes_decides}
 use Rattle.std.specs.List.{join_with_byte, list_all, list_any}
 use Rattle.std.specs.Option.{IfSome, ok_or, option_to_list}
@@ -20,16 +20,16 @@ use Rattle.pyver_core.specs.Results.{◌>>=◌}
 use Rattle.pyver_core.specs.Parsed.{parsed_version}
 use Rattle.pywheel_core.specs.Tag.{TAGS_LIMIT, TagParts, TagValue, are_tag_parts, has_tag_parts, is_tag_byte, is_tag_part, is_tag_set, pieces, tag_count, tags_in}
 use Rattle.std.proofs.lemmas.List.Splits.{join_with_byte-slice_split}
-use Rattle.pywheel_core.specs.Texts.{cut_at, has_pair, three_parts}
+use Rattle.pywheel_core.specs.Texts.{has_pair, three_parts}
 use Rattle.pywheel_core.specs.Wheel.Build.{is_build}
-use Rattle.pywheel_core.specs.Wheel.Cut.{WheelParts, built, parts_of, stem_of, unbuilt}
+use Rattle.pywheel_core.specs.Wheel.Cut.{WheelParts, parts_of, stem_of}
 use Rattle.pywheel_core.specs.Wheel.Grammar.{IsTagSet, IsUndashed, Wheel, joined}
 use Rattle.pywheel_core.specs.Wheel.Name.{is_wheel_name, is_wheel_name_byte}
 use Rattle.pywheel_core.specs.Wheel.Reading.{build_in, name_in, set_tags_in, tag_set_in, version_in, wheel_in, wheel_of}
 use Rattle.pywheel_core.specs.Wheel.Value.{WheelValue, with_build}
 use Rattle.pywheel_core.specs.declared.error.WheelError.{WheelError}
 use Rattle.pywheel_core.specs.declared.error.WheelError.TheVariants as wheel
-use Rattle.pywheel_core.proofs.Cuts.{Lacks, and_both, cut_joined, cut_lacking, cut_says, no_cut_says, same_test}
+use Rattle.pywheel_core.proofs.Cuts.{Lacks, and_both, cut_joined, cut_lacking, same_test}
 use Rattle.pywheel_core.proofs.NamingParts.{parts_made, parts_say}
 use Rattle.pywheel_core.proofs.Pieces.{three_say}
 use Rattle.pywheel_core.proofs.Versions.{version_taken}

@@ -1,8 +1,8 @@
 -- Where the parts of a tag set and their pieces stand in its text.
-use Rattle.std.proofs.Common.{◌≡◌, ℕ, ◌+◌, ◌*◌, ◌-◌, ◌<◌, ◌≤◌, Bool, true, false, ◌==◌, ◌&&◌, List, [], ◌∷◌, ◌++◌, length, map, take, drop, Option, Some, None, Result, Ok, refl, sym, ap, subst, ◌∙◌, inl, inr, arith}
+use Rattle.std.proofs.Common.{◌≡◌, ℕ, ◌+◌, ◌*◌, ◌-◌, ◌≤◌, true, ◌==◌, ◌&&◌, List, [], ◌∷◌, ◌++◌, length, map, take, drop, Some, None, Result, Ok, refl, sym, ap, subst, ◌∙◌, inl, inr, arith}
 use Rattle.std.specs.Char.{is_ascii}
 use Rattle.std.specs.Str.{str_to_ascii_lowercase}
-use Rattle.std.specs.List.{All, flat_map, join_with_byte, list_all, slice_split}
+use Rattle.std.specs.List.{flat_map, join_with_byte, list_all}
 use Rattle.std.proofs.Math.Seq.{drop-append_seam, take-append_seam}
 use Rattle.std.proofs.lemmas.Bool.Decides.{nat_tests}
 use Rattle.std.proofs.Math.Nat.{le-mul_of_pos_right, mul_comm}
@@ -12,9 +12,9 @@ use Rattle.std.proofs.lemmas.Simd.{map-map}
 use Rattle.std.proofs.lemmas.List.Elements.{All-cons}
 use Rattle.std.proofs.lemmas.List.Folds.{flat_map-map, list_all-append}
 use Rattle.std.proofs.lemmas.List.Splits.{join_with_byte-slice_split, length-slice_split}
-use Rattle.pyver_core.proofs.Lemmas.Sight.{option_sight, sight}
+use Rattle.pyver_core.proofs.Lemmas.Sight.{option_sight}
 use Rattle.pywheel_core.specs.Inner.Places.{AreWithin, IsAsciiText, IsWithin, at, places_from, places_of, tag_at}
-use Rattle.pywheel_core.specs.Tag.{TagParts, are_tag_parts, has_tag_parts, is_tag, is_tag_byte, is_tag_part, is_tag_set, pieces, tag_count, tag_of, tag_with, tags_in, triples}
+use Rattle.pywheel_core.specs.Tag.{TagParts, are_tag_parts, has_tag_parts, is_tag, is_tag_byte, is_tag_part, is_tag_set, pieces, tag_of, tag_with, tags_in, triples}
 use Rattle.pywheel_core.specs.Texts.{cut_at, three_parts}
 use Rattle.pywheel_core.specs.declared.error.WheelError.{WheelError}
 use Rattle.pywheel_core.specs.declared.place.Place.{Place}

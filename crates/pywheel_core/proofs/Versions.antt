@@ -1,5 +1,5 @@
 -- A text that spells a version within the limit is taken for it.
-use Rattle.std.proofs.Common.{◌≡◌, ℕ, Bool, true, false, List, Option, Some, None, Result, Ok, Err, refl, sym, ap, ◌∙◌, inl, inr}
+use Rattle.std.proofs.Common.{◌≡◌, ℕ, List, Some, Ok, refl, inl, inr}
 use Rattle.pyver_core.proofs.Lemmas.Sight.{sight}
 use Rattle.pyver_core.specs.Version.Grammar.{IsLarge, has_large, numbers}
 use Rattle.pyver_core.specs.Version.Parts.{Parts}

@@ -1,11 +1,12 @@
 -- The choice of a wheel (PEP 425, "Use"; PEP 427, "File name convention", on the build tag): of the
 -- wheels with a tag in the list, the one whose best tag stands first there; then the greater build;
 -- then the earlier place.
-use Rattle.std.specs.Prelude.{◌≡◌, ◌≢◌, ◌⊎◌, ℕ, suc, ◌<◌, ◌≤◌, Bool, ◌==◌, ◌&&◌, ◌||◌, nat_lt, if◌then◌else◌, List, [], ◌∷◌, slice_get, Option, Some, None, option_map}
+use Rattle.std.specs.Prelude.{◌≡◌, ◌≢◌, ◌⊎◌, ℕ, suc, ◌<◌, ◌≤◌, Bool, ◌==◌, ◌&&◌, ◌||◌, nat_lt}
+use Rattle.std.specs.Prelude.{if◌then◌else◌, List, [], ◌∷◌, slice_get, Option, Some, None}
+use Rattle.std.specs.Prelude.{option_map}
 use Rattle.std.specs.List.{Contains}
 use Rattle.std.specs.Ordering.{is_lt}
-use Rattle.std.specs.declared.cmp.Ordering.{Ordering}
-use Rattle.std.specs.declared.cmp.Ordering.TheVariants.{Less, Equal, Greater}
+use Rattle.std.specs.declared.cmp.Ordering.TheVariants.{Less, Equal}
 use Rattle.pywheel_core.specs.Tag.{TagValue, rank_of}
 use Rattle.pywheel_core.specs.Wheel.Build.{builds_cmp}
 use Rattle.pywheel_core.specs.Wheel.Value.{WheelValue}

@@ -1,5 +1,7 @@
 -- Tags of wheels (PEP 425, "Details"), and lists of tags in the order of preference ("Use").
-use Rattle.std.specs.Prelude.{ℕ, ◌*◌, suc, Bool, ◌==◌, ◌&&◌, ◌||◌, nat_le, nat_lt, nat_eq, if◌then◌else◌, List, [], ◌∷◌, ◌++◌, length, map, Option, Some, None, ok_or, position, Result, Ok, Err}
+use Rattle.std.specs.Prelude.{ℕ, ◌*◌, suc, Bool, ◌==◌, ◌&&◌, ◌||◌, nat_le, nat_lt, nat_eq}
+use Rattle.std.specs.Prelude.{if◌then◌else◌, List, [], ◌∷◌, ◌++◌, length, map, Option, ok_or}
+use Rattle.std.specs.Prelude.{position, Result, Ok, Err}
 use Rattle.std.specs.Char.{is_ascii_alphanumeric}
 use Rattle.std.specs.Cmp.Lexicographic.{pointwise}
 use Rattle.std.specs.List.{flat_map, list_all, list_any}

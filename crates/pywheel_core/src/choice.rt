@@ -1,7 +1,8 @@
 //! The choice of a wheel.
 
 ghost use Rattle.std.specs.Prelude.{◌≡◌, None, option_map};
-ghost use Rattle.pywheel_core.specs.Choice.{IsBest, best, best_from, better, is_better, least_rank, rank_from, ranked};
+ghost use Rattle.pywheel_core.specs.Choice.{IsBest, best, best_from, better, is_better, least_rank};
+ghost use Rattle.pywheel_core.specs.Choice.{rank_from, ranked};
 ghost use Rattle.pywheel_core.specs.Inner.Lent.{candidate_of};
 
 use crate::tag_list::TagList;

@@ -1,12 +1,15 @@
 //! Compressed tag sets (PEP 425, "Compressed Tag Sets").
 
-ghost use Rattle.std.specs.Prelude.{◌≡◌, ◌==◌, ◌+◌, ◌<◌, ◌^◌, ◌++◌, true, Ok, Some, OnErr, OnOk, SomeIff, count_by, length, map, option_map};
+ghost use Rattle.std.specs.Prelude.{◌≡◌, ◌==◌, ◌+◌, ◌<◌, ◌^◌, ◌++◌, true, Ok, Some, OnErr, OnOk};
+ghost use Rattle.std.specs.Prelude.{SomeIff, count_by, length, map, option_map};
 ghost use Rattle.std.specs.List.{flat_map};
 ghost use Rattle.std.specs.Rc.{rc_str_bytes};
 ghost use Rattle.pyver_core.specs.Agreement.{Gives};
 ghost use Rattle.pywheel_core.specs.Inner.Lent.{set_of};
-ghost use Rattle.pywheel_core.specs.Inner.Places.{AreWithin, IsAsciiText, IsWithin, places_from, tag_at};
-ghost use Rattle.pywheel_core.specs.Tag.{are_tag_parts, has_tag_parts, is_tag_set, pieces, tag_count, tags_in};
+ghost use Rattle.pywheel_core.specs.Inner.Places.{AreWithin, IsAsciiText, IsWithin, places_from};
+ghost use Rattle.pywheel_core.specs.Inner.Places.{tag_at};
+ghost use Rattle.pywheel_core.specs.Tag.{are_tag_parts, has_tag_parts, is_tag_set, pieces};
+ghost use Rattle.pywheel_core.specs.Tag.{tag_count, tags_in};
 ghost use Rattle.pywheel_core.specs.Texts.{cut_at, three_parts};
 ghost use Rattle.pywheel_core.specs.Wheel.Reading.{set_tags_in, tag_set_in};
 

@@ -7,7 +7,8 @@ ghost use Rattle.pywheel_core.specs.Inner.Lent.{wheel_parts};
 ghost use Rattle.pywheel_core.specs.Texts.{has_pair};
 ghost use Rattle.pywheel_core.specs.Wheel.Build.{build_number, build_rest, builds_cmp};
 ghost use Rattle.pywheel_core.specs.Wheel.Name.{is_wheel_name, is_wheel_name_byte};
-ghost use Rattle.pywheel_core.specs.Wheel.Reading.{build_in, name_in, version_in, wheel_in, wheel_of};
+ghost use Rattle.pywheel_core.specs.Wheel.Reading.{build_in, name_in, version_in, wheel_in};
+ghost use Rattle.pywheel_core.specs.Wheel.Reading.{wheel_of};
 
 use crate::build::BuildTag;
 use crate::cut::{StemParts, stem, stem_parts};
@@ -139,8 +140,8 @@ impl WheelName {
     }
 }
 
-/// A copy takes memory for the name, the version, the build tag and the list of the tags, whose text
-/// it shares.
+/// A copy takes memory for the name, the version, the build tag and the list of the tags, whose
+/// text it shares.
 impl Clone for WheelName {
     ghost is_clone = { λ wheel copy. copy ≡ wheel };
 

@@ -1,7 +1,7 @@
 -- Build tags (PEP 427, "File name convention": "Must start with a digit. Acts as a tie-breaker ..
 -- Sort as an empty tuple if unspecified, else sort as a two-item tuple with the first item being
 -- the initial digits as an int, and the second item being the remainder of the tag as a str").
-use Rattle.std.specs.Prelude.{ℕ, ◌^◌, Bool, ◌&&◌, nat_lt, List, length, take, drop, Option}
+use Rattle.std.specs.Prelude.{ℕ, ◌^◌, Bool, ◌&&◌, nat_lt, List, take, drop, Option}
 use Rattle.std.specs.Char.{is_ascii, is_ascii_digit}
 use Rattle.std.specs.Cmp.Lexicographic.{slice_cmp}
 use Rattle.std.specs.List.{list_all, prefix_len}

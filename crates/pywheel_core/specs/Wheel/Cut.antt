@@ -1,5 +1,6 @@
 -- The parts of a wheel's name (PEP 427, "File name convention").
-use Rattle.std.specs.Prelude.{ℕ, ◌-◌, Bool, bytes_eq, if◌then◌else◌, List, length, take, drop, codes, Option, Some, None, is_some}
+use Rattle.std.specs.Prelude.{ℕ, ◌-◌, bytes_eq, if◌then◌else◌, List, length, take, drop, codes}
+use Rattle.std.specs.Prelude.{Option, Some, None, is_some}
 use Rattle.pyver_core.specs.Options.{◌>>=◌, either}
 use Rattle.pywheel_core.specs.Texts.{cut_at, three_parts}
 

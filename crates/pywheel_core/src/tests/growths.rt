@@ -39,3 +39,21 @@ fn wheel_name_parse(rt: HostRuntime) {
         Err(error) => assert!(rt; matches!(error, WheelError::Memory), "{error:?}"),
     }
 }
+
+#[test]
+fn tag_list_clone(rt: HostRuntime) {
+    if let Ok(tags) = TagList::parse(rt.alloc(), &["py3-none-any", "py2-none-any"]) {
+        if let Ok(copy) = tags.clone() {
+            assert_eq!(rt; copy.len(), 2);
+        }
+    }
+}
+
+#[test]
+fn wheel_name_clone(rt: HostRuntime) {
+    if let Ok(wheel) = WheelName::parse(rt.alloc(), "Foo_Bar-1.0-1b-py2.py3-none-any.whl") {
+        if let Ok(copy) = wheel.clone() {
+            assert_eq!(rt; copy.build_text(), Some("1b"));
+        }
+    }
+}

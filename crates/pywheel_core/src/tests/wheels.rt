@@ -171,3 +171,15 @@ fn names_print_as_file_names(rt: HostRuntime) -> Result<(), Fail> {
     }
     Ok(())
 }
+
+#[test]
+fn copies_print_alike(rt: HostRuntime) -> Result<(), Fail> {
+    for text in [
+        "foo_bar-1.0-1b-py2.py3-none-any.whl",
+        "a-1-py3-none-any.whl",
+    ] {
+        let copy = WheelName::parse(rt.alloc(), text)?.clone()?;
+        assert_eq!(rt; copy.to_string(rt.alloc())?.as_str(), text);
+    }
+    Ok(())
+}

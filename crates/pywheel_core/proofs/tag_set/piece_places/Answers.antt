@@ -1,6 +1,4 @@
-use Rattle.std.proofs.Common.{◌≡◌, ◌∙◌, Ok, ap, refl, sym, arith}
-use Rattle.pywheel_core.specs.Inner.Places.{places_from}
-use Rattle.pywheel_core.specs.Tag.{pieces}
+use Rattle.std.proofs.Common.{◌∙◌, Ok, ap, sym, arith}
 use Rattle.pywheel_core.proofs.Cuts.{length_step, places_last, places_step}
 use Rattle.pywheel_core.proofs.tag_set.piece_places.Goals as goal
 
