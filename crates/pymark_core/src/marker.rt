@@ -33,7 +33,8 @@ use std::marker::Model;
 use tree::Tree;
 use value::tree_value;
 
-/// A marker: a condition over an environment, with its text as it was given but for the white space round it.
+/// A marker: a condition over an environment, with its text as it was given but for the white space
+/// round it.
 ///
 /// Contracts see the text and the tree, since the keys follow from the tree.
 #[derive(Debug, Drop)]
@@ -53,7 +54,7 @@ impl Model for Marker {
 
     ghost use Rattle.std.specs.Prelude.{◌≡◌, string_bytes};
     ghost use Rattle.pymark_core.specs.Marker.Keys.{is_in, reads};
-    ghost use Rattle.pymark_core.specs.Marker.View.{tree_view};
+    ghost use Rattle.pymark_core.specs.Inner.View.{tree_view};
     ghost use Rattle.pymark_core.specs.declared.marker.keys.Key.{Key};
 
     ghost view = { λ m. record { text = string_bytes m.text; tree = tree_view m.tree } };
@@ -64,11 +65,11 @@ impl Model for Marker {
 impl Marker {
     /// The marker that the text is (PEP 508, "Grammar").
     ///
-    /// `TooDeep` is answered to every text in which more than 64 parentheses are open at some place, quoted
-    /// texts passed over, whatever else it is; then `Syntax` to every text that isn't a marker; then
-    /// `SetMisuse` to a marker in which `extras` or `dependency_groups` stands anywhere but right of `in` or
-    /// `not in`. It takes time linear in the text, no recursion, and memory for the text, for its quoted
-    /// texts and for lists of its parts.
+    /// `TooDeep` is answered to every text in which more than 64 parentheses are open at some
+    /// place, quoted texts passed over, whatever else it is; then `Syntax` to every text that isn't
+    /// a marker; then `SetMisuse` to a marker in which `extras` or `dependency_groups` stands
+    /// anywhere but right of `in` or `not in`. It takes time linear in the text, no recursion, and
+    /// memory for the text, for its quoted texts and for lists of its parts.
     pub fn parse(alloc: Global, text: &str) -> Result<Marker, MarkerError>
         ensures ok { IfOk result (λ m. MarkerText text.now m.tree) }
         ensures trimmed { IfOk result (λ m. m.text ≡ trimmed text.now) }
@@ -93,9 +94,10 @@ impl Marker {
         self.text.as_str()
     }
 
-    /// The value of the marker in an environment (PEP 508, "Environment Markers"). Every comparison is judged,
-    /// left to right, so that the first fault of the text is the marker's fault. It takes time linear in the
-    /// marker, and memory only where a text has to be read or a name normalised for a comparison.
+    /// The value of the marker in an environment (PEP 508, "Environment Markers"). Every comparison
+    /// is judged, left to right, so that the first fault of the text is the marker's fault. It
+    /// takes time linear in the marker, and memory only where a text has to be read or a name
+    /// normalised for a comparison.
     pub fn evaluate(&self, alloc: Global, environment: &Environment) -> Result<bool, EvalFault>
         ensures { Gives EvalFault.Memory (λ b. b) result
             (marker_value environment.now self.now.tree) }
