@@ -11,6 +11,7 @@ use Rattle.pymark_core.specs.Marker.Comparison.{ComparisonValue}
 use Rattle.pymark_core.specs.Marker.Grammar.{atom_comparisons, comparisons, conjunction_comparisons}
 use Rattle.pymark_core.specs.Marker.Keys.{comparison_reads, has_key, is_key, operand_keys}
 use Rattle.pymark_core.specs.Marker.Tree.{Tree, last, or, Conjunction, only, and, Atom, leaf, group}
+use Rattle.pymark_core.specs.Variables.{place}
 use Rattle.pymark_core.specs.Marker.Value.{AgreeAt, atom_value, both, comparison_value, conjunction_value, is_in, is_substring, marker_value, operand_text, operator_value, text_value}
 use Rattle.pymark_core.specs.declared.fault.EvalFault.{EvalFault}
 use Rattle.pymark_core.specs.declared.fault.EvalFault.TheVariants.{Unset}

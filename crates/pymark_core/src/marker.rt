@@ -1,6 +1,7 @@
 //! Markers (PEP 508, "Environment Markers").
 
 mod builder;
+mod copy;
 mod depth;
 mod error;
 mod keys;
@@ -10,7 +11,8 @@ mod token;
 pub(crate) mod tree;
 mod value;
 
-ghost use Rattle.std.specs.Prelude.{◌≡◌, IfOk, IsErrOf, false, true};
+ghost use Rattle.std.specs.Fmt.{padded};
+ghost use Rattle.std.specs.Prelude.{◌≡◌, IfOk, IsErrOf, Some, false, true};
 ghost use Rattle.pyver_core.specs.Agreement.{Gives};
 ghost use Rattle.pymark_core.specs.Marker.Depth.{is_deep};
 ghost use Rattle.pymark_core.specs.Marker.Grammar.{MarkerText, has_misuse};
@@ -24,11 +26,13 @@ ghost use Rattle.pymark_core.specs.declared.marker.keys.Key.{Key};
 use crate::environment::Environment;
 use crate::fault::EvalFault;
 use crate::white::trimmed;
+use copy::copy_tree;
 use depth::is_deep;
 pub use error::MarkerError;
 pub use keys::{Key, Reads};
 use parse::read_tree;
-use std::alloc::Global;
+use std::alloc::{AllocError, Global};
+use std::fmt;
 use std::marker::Model;
 use tree::Tree;
 use value::tree_value;
@@ -110,6 +114,30 @@ impl Marker {
         ensures { (key : Key) → is_in result key ≡ reads key self.now.tree }
     {
         self.keys
+    }
+}
+
+/// A copy takes memory as the marker did. Nothing is read again.
+impl Clone for Marker {
+    ghost is_clone = { λ marker copy. copy ≡ marker };
+
+    fn clone(&self) -> Result<Marker, AllocError> {
+        Ok(Marker {
+            text: self.text.clone()?,
+            tree: copy_tree(*self.text.allocator(), &self.tree)?,
+            keys: self.keys,
+        })
+    }
+}
+
+/// The text, filled up to the width where one is asked for.
+impl fmt::Display for Marker {
+    ghost output = { λ m. Some m.text };
+
+    ghost styled_output = { λ m spec. Some (padded spec m.text) };
+
+    fn fmt<W: fmt::Write>(&self, f: &mut fmt::Formatter<W>) -> fmt::Result {
+        f.pad(self.text())
     }
 }
 

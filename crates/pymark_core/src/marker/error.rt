@@ -7,7 +7,7 @@ use std::alloc::AllocError;
 use thiserror::Error;
 
 /// Why a text isn't taken as a marker.
-#[derive(Debug, Drop, Error)]
+#[derive(Clone, Copy, PartialEq, Eq, Debug, Error)]
 pub enum MarkerError {
     /// More than 64 parentheses are open at some place of the text, quoted texts passed over. The
     /// text may have other faults besides.
