@@ -68,9 +68,9 @@ fn word_len(text: &str) -> usize
         .count()
 }
 
-#[tactic(auto, using(crate::proofs::Boundaries::boundary_before_ascii, crate::proofs::Boundaries::boundary_behind_ascii))]
 /// What stands between an opening quote, which is in front of the text, and the same quote, and the
 /// text behind it.
+#[tactic(auto, using(crate::proofs::Boundaries::boundary_before_ascii, crate::proofs::Boundaries::boundary_behind_ascii))]
 fn quoted(quote: u8, text: &str) -> Option<(&str, &str)>
     requires { quote < 128 }
     ensures { option_map lent_cut result ≡ quoted_front quote text.now }
