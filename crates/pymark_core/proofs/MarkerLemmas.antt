@@ -46,6 +46,10 @@ text_sound text tree e =
 pub text_complete : (text : List ℕ) (tree : Tree) → MarkerText text tree → tree_text text ≡ Some tree
 text_complete text tree e = ap (λ all. all >>= read start) e ∙ read_again tree
 
+pub marker_whole : (text : List ℕ) (tree : Tree) → MarkerText text tree → is_deep text ≡ false → has_misuse tree ≡ false
+    → marker_of text ≡ Ok (record { text = trimmed text; tree = tree })
+marker_whole text tree is flat fits = marker_taken text tree flat (ap (λ o. ok_or o Syntax) (text_complete text tree is)) fits
+
 -- ---- what an answer says
 
 -- what is true of the text where this is the answer

@@ -11,7 +11,7 @@ use Rattle.pyver_core.specs.declared.set.specifier.Operator.{Operator}
 use Rattle.pyver_core.specs.declared.set.specifier.Operator.TheVariants as operator
 use Rattle.pymark_core.proofs.Choices.{cases_bool, chosen, map_some}
 use Rattle.pymark_core.specs.Inner.Next.{next_front}
-use Rattle.pymark_core.specs.Marker.Front.{token_front}
+use Rattle.pymark_core.specs.Inner.Front.{token_front}
 use Rattle.pymark_core.specs.Marker.Reading.{Place, finish, read, step}
 use Rattle.pymark_core.specs.Marker.Tree.{Tree}
 use Rattle.pymark_core.specs.declared.marker.error.MarkerError.{MarkerError}

@@ -109,6 +109,63 @@ impl Comparison {
     }
 }
 
+impl Clone for Comparison {
+    ghost is_clone = { λ comparison copy. copy ≡ comparison };
+
+    fn clone(&self) -> Result<Comparison, AllocError> {
+        Ok(Comparison {
+            left: self.left.clone()?,
+            comparator: self.comparator,
+            right: self.right.clone()?,
+        })
+    }
+}
+
+impl Clone for Left {
+    ghost is_clone = { λ left copy. copy ≡ left };
+
+    fn clone(&self) -> Result<Left, AllocError> {
+        Ok(match self {
+            Left::Text(candidate) => Left::Text(candidate.clone()?),
+            Left::Variable(variable) => Left::Variable(*variable),
+            Left::Extra => Left::Extra,
+            Left::Extras => Left::Extras,
+            Left::Groups => Left::Groups,
+        })
+    }
+}
+
+impl Clone for Right {
+    ghost is_clone = { λ right copy. copy ≡ right };
+
+    fn clone(&self) -> Result<Right, AllocError> {
+        Ok(match self {
+            Right::Text(text) => Right::Text(text.clone()?),
+            Right::Operand(text, specifier) => {
+                Right::Operand(text.clone()?, copy_specifier(specifier)?)
+            }
+            Right::Variable(variable) => Right::Variable(*variable),
+            Right::Extra => Right::Extra,
+            Right::Extras => Right::Extras,
+            Right::Groups => Right::Groups,
+        })
+    }
+}
+
+/// What a text reads as, in memory of its own.
+fn copy_specifier(
+    specifier: &Result<Specifier, SpecifierError>,
+) -> Result<Result<Specifier, SpecifierError>, AllocError>
+    ensures { IfOk result (λ copy. copy ≡ specifier.now) }
+{
+    Ok(match specifier {
+        Ok(specifier) => Ok(specifier.clone()?),
+        Err(SpecifierError::Syntax) => Err(SpecifierError::Syntax),
+        Err(SpecifierError::NumberTooLarge) => Err(SpecifierError::NumberTooLarge),
+        Err(SpecifierError::Memory) => Err(SpecifierError::Memory),
+    })
+}
+
 /// The operand with the version that it spells, if it is a quoted text.
 fn read_left(alloc: Global, operand: Operand) -> Result<Left, AllocError>
     ensures { IfOk result (λ left. left_operand left ≡ operand) }

@@ -1,4 +1,5 @@
-//! Markers, the environments that they are judged in, and requirements of Python packages (PEP 508).
+//! Markers, the environments that they are judged in, and requirements of Python packages (PEP
+//! 508).
 #![tactic(auto)]
 
 mod candidate;

@@ -109,7 +109,8 @@ impl Requirement {
 
 /// The text in memory of its own, if there is one.
 fn own(alloc: Global, text: Option<&str>) -> Result<Option<String>, AllocError>
-    ensures { IfOk result (λ own. option_map string_bytes own ≡ option_map (λ t. t.now) text.entry) }
+    ensures { IfOk result
+        (λ own. option_map string_bytes own ≡ option_map (λ t. t.now) text.entry) }
 {
     match text {
         Some(text) => Ok(Some(String::from_str(alloc, text)?)),

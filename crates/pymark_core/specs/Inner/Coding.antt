@@ -1,5 +1,6 @@
 -- How the logic stores a marker: its tree as its tokens, each token as a number and bytes.
-use Rattle.std.specs.Prelude.{◌≡◌, ℕ, ◌==◌, List, [], ◌∷◌, if◌then◌else◌, unwrap_or, find, refl, codes, Option, Some}
+use Rattle.std.specs.Prelude.{◌≡◌, ℕ, ◌==◌, List, [], ◌∷◌, if◌then◌else◌, unwrap_or, find, refl}
+use Rattle.std.specs.Prelude.{codes, Option, Some}
 use Rattle.std.specs.Coded.{Coded, code_by, coded×, coded_ℕ, coded_list}
 use Rattle.std.specs.Str.{bytes_eq}
 use Rattle.std.proofs.Common.{ap}
@@ -23,7 +24,8 @@ token_to_pair (word letters) = (3, letters)
 token_to_pair (quoted text) = (4, text)
 
 abbrev pub operator_from : List ℕ → Operator
-operator_from text = unwrap_or (find (λ o. bytes_eq (operator_text o) text) operators) operator.Equal
+operator_from text =
+    unwrap_or (find (λ o. bytes_eq (operator_text o) text) operators) operator.Equal
 
 abbrev pub token_from_pair : ℕ × List ℕ → Token
 token_from_pair p =
@@ -57,11 +59,17 @@ tree_from ts = unwrap_or (read start ts) some_tree
 pub tree_from_tokens : (t : Tree) → tree_from (tree_tokens t []) ≡ t
 tree_from_tokens t = ap (λ o. unwrap_or o some_tree) (read_again t)
 
+abbrev pub token_code : Coded Token
+token_code =
+    code_by (ℕ × List ℕ) (coded× coded_ℕ (coded_list coded_ℕ))
+    token_to_pair token_from_pair token_again
+
 abbrev pub tree_code : Coded Tree
 tree_code =
-    code_by (List Token) (coded_list (code_by (ℕ × List ℕ) (coded× coded_ℕ (coded_list coded_ℕ)) token_to_pair token_from_pair token_again)) (λ t. tree_tokens t []) tree_from
-    tree_from_tokens
+    code_by (List Token) (coded_list token_code)
+    (λ t. tree_tokens t []) tree_from tree_from_tokens
 
 abbrev pub marker_code : Coded MarkerValue
 marker_code =
-    code_by (List ℕ × Tree) (coded× (coded_list coded_ℕ) tree_code) (λ m. (m.text, m.tree)) (λ p. record { text = p.0; tree = p.1 }) (λ _. refl)
+    code_by (List ℕ × Tree) (coded× (coded_list coded_ℕ) tree_code)
+    (λ m. (m.text, m.tree)) (λ p. record { text = p.0; tree = p.1 }) (λ _. refl)

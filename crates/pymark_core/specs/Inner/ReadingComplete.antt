@@ -1,19 +1,33 @@
 -- What is written out as tokens is read again: reading a tree's tokens gives the tree.
-use Rattle.std.proofs.Common.{◌≡◌, ℕ, true, List, [], ◌∷◌, ◌++◌, Option, Some, None, refl, sym, ap, ◌∙◌, append_assoc}
+use Rattle.std.proofs.Common.{◌≡◌, ℕ, true, List, [], ◌∷◌, ◌++◌, Option, Some, None, refl, sym, ap}
+use Rattle.std.proofs.Common.{◌∙◌, append_assoc}
 use Rattle.std.proofs.lemmas.List.{append-nil}
 use Rattle.std.specs.Prelude.{codes}
 use Rattle.pymark_core.specs.Marker.Comparison.{ComparisonValue}
-use Rattle.pymark_core.specs.Marker.Grammar.{tree_tokens, conjunction_tokens, atom_tokens, comparison_tokens, comparator_tokens, operand_token}
-use Rattle.pymark_core.specs.Marker.Reading.{Frame, Place, Stage, at_atom, at_operator, at_in, at_right, at_rest, empty_frame, end_at, finish, frame_conjunction, frame_tree, operand_of, place_behind, read, start, step}
+use Rattle.pymark_core.specs.Marker.Grammar.{tree_tokens, conjunction_tokens, atom_tokens}
+use Rattle.pymark_core.specs.Marker.Grammar.{comparison_tokens, comparator_tokens, operand_token}
+use Rattle.pymark_core.specs.Marker.Reading.{Frame, Place, Stage, at_atom, at_operator, at_in}
+use Rattle.pymark_core.specs.Marker.Reading.{at_right, at_rest, empty_frame, end_at, finish}
+use Rattle.pymark_core.specs.Marker.Reading.{frame_conjunction, frame_tree, operand_of}
+use Rattle.pymark_core.specs.Marker.Reading.{place_behind, read, start, step}
 use Rattle.pymark_core.specs.Marker.Token.{Token, opening, closing, sign, word, quoted}
-use Rattle.pymark_core.specs.Marker.Tree.{Tree, Conjunction, Atom, last, or, only, and, leaf, group, conjunction_of, tree_of}
+use Rattle.pymark_core.specs.Marker.Tree.{Tree, Conjunction, Atom, last, or, only, and, leaf, group}
+use Rattle.pymark_core.specs.Marker.Tree.{conjunction_of, tree_of}
 use Rattle.pymark_core.specs.Variables.{variable_name}
 use Rattle.pymark_core.specs.declared.operand.Comparator.{Comparator}
 use Rattle.pymark_core.specs.declared.operand.Comparator.TheVariants.{By, In, NotIn}
 use Rattle.pymark_core.specs.declared.operand.Operand.{Operand}
-use Rattle.pymark_core.specs.declared.operand.Operand.TheVariants.{Text, Variable, Extra, Extras, Groups}
+use Rattle.pymark_core.specs.declared.operand.Operand.TheVariants.{Text, Variable, Extra, Extras}
+use Rattle.pymark_core.specs.declared.operand.Operand.TheVariants.{Groups}
 use Rattle.pymark_core.specs.declared.variable.Var.{Var}
-use Rattle.pymark_core.specs.declared.variable.Var.TheVariants.{OsName, SysPlatform, PlatformMachine, PlatformPythonImplementation, PlatformRelease, PlatformSystem, PlatformVersion, PythonVersion, PythonFullVersion, ImplementationName, ImplementationVersion}
+use Rattle.pymark_core.specs.declared.variable.Var.TheVariants.{OsName, SysPlatform}
+use Rattle.pymark_core.specs.declared.variable.Var.TheVariants.{PlatformMachine}
+use Rattle.pymark_core.specs.declared.variable.Var.TheVariants.{PlatformPythonImplementation}
+use Rattle.pymark_core.specs.declared.variable.Var.TheVariants.{PlatformRelease, PlatformSystem}
+use Rattle.pymark_core.specs.declared.variable.Var.TheVariants.{PlatformVersion, PythonVersion}
+use Rattle.pymark_core.specs.declared.variable.Var.TheVariants.{PythonFullVersion}
+use Rattle.pymark_core.specs.declared.variable.Var.TheVariants.{ImplementationName}
+use Rattle.pymark_core.specs.declared.variable.Var.TheVariants.{ImplementationVersion}
 
 -- ---- the end of a tree, and what stands before it
 
@@ -70,22 +84,33 @@ operand_again Groups = refl
 -- ---- comparisons
 
 abbrev pub place : List Frame → List Conjunction → List Atom → Stage → Place
-place outer cs xs stage = record { outer = outer; inner = record { conjunctions = cs; atoms = xs }; stage = stage }
+place outer cs xs stage = record {
+  outer = outer;
+  inner = record { conjunctions = cs; atoms = xs };
+  stage = stage;
+}
 
-read_right : (outer : List Frame) (cs : List Conjunction) (xs : List Atom) (l r : Operand) (o : Comparator) (ts : List Token)
-    → read (place outer cs xs (at_right l o)) (operand_token r ∷ ts) ≡ read (place outer cs xs (at_rest (leaf (record { left = l; comparator = o; right = r })))) ts
+read_right : (outer : List Frame) (cs : List Conjunction) (xs : List Atom)
+    (l r : Operand) (o : Comparator) (ts : List Token)
+    → read (place outer cs xs (at_right l o)) (operand_token r ∷ ts)
+    ≡ read (place outer cs xs
+    (at_rest (leaf (record { left = l; comparator = o; right = r })))) ts
 unfolding read step
 read_right outer cs xs l r o ts = rw (operand_again r) refl
 
-read_comparator : (outer : List Frame) (cs : List Conjunction) (xs : List Atom) (l : Operand) (o : Comparator) (ts : List Token)
-    → read (place outer cs xs (at_operator l)) (comparator_tokens o ts) ≡ read (place outer cs xs (at_right l o)) ts
+read_comparator : (outer : List Frame) (cs : List Conjunction) (xs : List Atom)
+    (l : Operand) (o : Comparator) (ts : List Token)
+    → read (place outer cs xs (at_operator l)) (comparator_tokens o ts)
+    ≡ read (place outer cs xs (at_right l o)) ts
 unfolding read step
 read_comparator outer cs xs l (By operator) ts = refl
 read_comparator outer cs xs l In ts = refl
 read_comparator outer cs xs l NotIn ts = refl
 
-read_left : (outer : List Frame) (cs : List Conjunction) (xs : List Atom) (l : Operand) (ts : List Token)
-    → read (place outer cs xs at_atom) (operand_token l ∷ ts) ≡ read (place outer cs xs (at_operator l)) ts
+read_left : (outer : List Frame) (cs : List Conjunction) (xs : List Atom)
+    (l : Operand) (ts : List Token)
+    → read (place outer cs xs at_atom) (operand_token l ∷ ts)
+    ≡ read (place outer cs xs (at_operator l)) ts
 unfolding read step
 read_left outer cs xs (Text text) ts = rw (operand_again (Text text)) refl
 read_left outer cs xs (Variable v) ts = rw (operand_again (Variable v)) refl
@@ -93,8 +118,10 @@ read_left outer cs xs Extra ts = rw (operand_again Extra) refl
 read_left outer cs xs Extras ts = rw (operand_again Extras) refl
 read_left outer cs xs Groups ts = rw (operand_again Groups) refl
 
-read_comparison : (outer : List Frame) (cs : List Conjunction) (xs : List Atom) (c : ComparisonValue) (ts : List Token)
-    → read (place outer cs xs at_atom) (comparison_tokens c ts) ≡ read (place outer cs xs (at_rest (leaf c))) ts
+read_comparison : (outer : List Frame) (cs : List Conjunction) (xs : List Atom)
+    (c : ComparisonValue) (ts : List Token)
+    → read (place outer cs xs at_atom) (comparison_tokens c ts)
+    ≡ read (place outer cs xs (at_rest (leaf c))) ts
 read_comparison outer cs xs c ts =
     read_left outer cs xs c.left (comparator_tokens c.comparator (operand_token c.right ∷ ts))
     ∙ read_comparator outer cs xs c.left c.comparator (operand_token c.right ∷ ts)
@@ -102,24 +129,32 @@ read_comparison outer cs xs c ts =
 
 -- ---- trees
 
-read_closing : (outer : List Frame) (cs : List Conjunction) (xs : List Atom) (inner : Tree) (ts : List Token)
-    → read (place (record { conjunctions = cs; atoms = xs } ∷ outer) (conjunctions_before inner) (atoms_before (last_conjunction inner)) (at_rest (last_atom (last_conjunction inner)))) (closing ∷ ts)
+read_closing : (outer : List Frame) (cs : List Conjunction) (xs : List Atom)
+    (inner : Tree) (ts : List Token)
+    → read (place (record { conjunctions = cs; atoms = xs } ∷ outer)
+    (conjunctions_before inner) (atoms_before (last_conjunction inner))
+    (at_rest (last_atom (last_conjunction inner)))) (closing ∷ ts)
     ≡ read (place outer cs xs (at_rest (group inner))) ts
 unfolding read step
-read_closing outer cs xs inner ts = rw (conjunction_again (last_conjunction inner), tree_again inner) refl
+read_closing outer cs xs inner ts =
+    rw (conjunction_again (last_conjunction inner), tree_again inner) refl
 
 read_opening : (outer : List Frame) (cs : List Conjunction) (xs : List Atom) (ts : List Token)
-    → read (place outer cs xs at_atom) (opening ∷ ts) ≡ read (place (record { conjunctions = cs; atoms = xs } ∷ outer) [] [] at_atom) ts
+    → read (place outer cs xs at_atom) (opening ∷ ts)
+    ≡ read (place (record { conjunctions = cs; atoms = xs } ∷ outer) [] [] at_atom) ts
 unfolding read step
 read_opening outer cs xs ts = refl
 
-read_and : (outer : List Frame) (cs : List Conjunction) (xs : List Atom) (a : Atom) (ts : List Token)
-    → read (place outer cs xs (at_rest a)) (word (codes "and") ∷ ts) ≡ read (place outer cs (xs ++ a ∷ []) at_atom) ts
+read_and : (outer : List Frame) (cs : List Conjunction) (xs : List Atom)
+    (a : Atom) (ts : List Token)
+    → read (place outer cs xs (at_rest a)) (word (codes "and") ∷ ts)
+    ≡ read (place outer cs (xs ++ a ∷ []) at_atom) ts
 unfolding read step
 read_and outer cs xs a ts = refl
 
 read_or : (outer : List Frame) (cs : List Conjunction) (xs : List Atom) (a : Atom) (ts : List Token)
-    → read (place outer cs xs (at_rest a)) (word (codes "or") ∷ ts) ≡ read (place outer (cs ++ conjunction_of xs a ∷ []) [] at_atom) ts
+    → read (place outer cs xs (at_rest a)) (word (codes "or") ∷ ts)
+    ≡ read (place outer (cs ++ conjunction_of xs a ∷ []) [] at_atom) ts
 unfolding read step
 read_or outer cs xs a ts = refl
 
@@ -128,14 +163,16 @@ mutual
 
   pub read_tree : (t : Tree) (outer : List Frame) (cs : List Conjunction) (ts : List Token)
       → read (place outer cs [] at_atom) (tree_tokens t ts)
-      ≡ read (place outer (cs ++ conjunctions_before t) (atoms_before (last_conjunction t)) (at_rest (last_atom (last_conjunction t)))) ts
+      ≡ read (place outer (cs ++ conjunctions_before t)
+      (atoms_before (last_conjunction t)) (at_rest (last_atom (last_conjunction t)))) ts
   read_tree (last c) outer cs ts = rw append-nil (read_conjunction c outer cs [] ts)
   read_tree (or c others) outer cs ts =
       read_conjunction c outer cs [] (word (codes "or") ∷ tree_tokens others ts)
       ∙ read_or outer cs (atoms_before c) (last_atom c) (tree_tokens others ts)
       ∙ rw (conjunction_again c) (read_tree others outer (cs ++ c ∷ []) ts ∙ rw append_assoc refl)
 
-  pub read_conjunction : (c : Conjunction) (outer : List Frame) (cs : List Conjunction) (xs : List Atom) (ts : List Token)
+  pub read_conjunction : (c : Conjunction) (outer : List Frame) (cs : List Conjunction)
+      (xs : List Atom) (ts : List Token)
       → read (place outer cs xs at_atom) (conjunction_tokens c ts)
       ≡ read (place outer cs (xs ++ atoms_before c) (at_rest (last_atom c))) ts
   read_conjunction (only a) outer cs xs ts = rw append-nil (read_atom a outer cs xs ts)
@@ -144,8 +181,10 @@ mutual
       ∙ read_and outer cs xs a (conjunction_tokens others ts)
       ∙ read_conjunction others outer cs (xs ++ a ∷ []) ts ∙ rw append_assoc refl
 
-  pub read_atom : (a : Atom) (outer : List Frame) (cs : List Conjunction) (xs : List Atom) (ts : List Token)
-      → read (place outer cs xs at_atom) (atom_tokens a ts) ≡ read (place outer cs xs (at_rest a)) ts
+  pub read_atom : (a : Atom) (outer : List Frame) (cs : List Conjunction)
+      (xs : List Atom) (ts : List Token)
+      → read (place outer cs xs at_atom) (atom_tokens a ts)
+      ≡ read (place outer cs xs (at_rest a)) ts
   read_atom (leaf c) outer cs xs ts = read_comparison outer cs xs c ts
   read_atom (group inner) outer cs xs ts =
       read_opening outer cs xs (tree_tokens inner (closing ∷ ts))

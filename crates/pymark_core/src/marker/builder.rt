@@ -2,10 +2,15 @@
 
 ghost use Rattle.std.specs.Prelude.{◌≡◌, [], ◌∷◌, ◌++◌, Ok, OnOk, ok_or, option_map};
 ghost use Rattle.pyver_core.specs.Agreement.{Gives};
-ghost use Rattle.pymark_core.specs.Inner.Building.{NotesMore, frame_view, noted, outer_view, place_view, rest_atom, stage_view};
-ghost use Rattle.pymark_core.specs.Marker.Front.{token_view};
-ghost use Rattle.pymark_core.specs.Marker.Reading.{at_atom, at_rest, at_right, behind_atom, behind_atom_start, behind_closing, behind_left, behind_not, behind_right, empty_frame, end_at, finish, frame_conjunction, frame_tree, operand_of, start, step, word_operand};
-ghost use Rattle.pymark_core.specs.Marker.View.{atom_view, tree_view};
+ghost use Rattle.pymark_core.specs.Inner.Building.{NotesMore, frame_view, noted, outer_view};
+ghost use Rattle.pymark_core.specs.Inner.Building.{place_view, rest_atom, stage_view};
+ghost use Rattle.pymark_core.specs.Inner.Front.{token_view};
+ghost use Rattle.pymark_core.specs.Marker.Reading.{at_atom, at_rest, at_right, behind_atom};
+ghost use Rattle.pymark_core.specs.Marker.Reading.{behind_atom_start, behind_closing, behind_left};
+ghost use Rattle.pymark_core.specs.Marker.Reading.{behind_not, behind_right, empty_frame, end_at};
+ghost use Rattle.pymark_core.specs.Marker.Reading.{finish, frame_conjunction, frame_tree};
+ghost use Rattle.pymark_core.specs.Marker.Reading.{operand_of, start, step, word_operand};
+ghost use Rattle.pymark_core.specs.Inner.View.{atom_view, tree_view};
 ghost use Rattle.pymark_core.specs.Variables.{variable_of};
 ghost use Rattle.pymark_core.specs.declared.operand.Operand.TheVariants.{Variable};
 
@@ -44,7 +49,8 @@ pub(super) enum Stage {
     Rest(Atom),
 }
 
-/// A marker's tree as far as it was read, but for the stage. It needs no recursion, however deep the parentheses are.
+/// A marker's tree as far as it was read, but for the stage. It needs no recursion, however deep
+/// the parentheses are.
 #[derive(Drop)]
 pub(super) struct Builder {
     /// The frame of each open parenthesis, the innermost last.

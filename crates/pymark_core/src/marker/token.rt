@@ -5,9 +5,11 @@ ghost use Rattle.std.specs.List.{prefix_len};
 ghost use Rattle.pyver_core.specs.Set.Reading.{behind_operator};
 ghost use Rattle.pyver_core.specs.Agreement.{Gives};
 ghost use Rattle.pymark_core.specs.Inner.Next.{next_front, next_view};
-ghost use Rattle.pymark_core.specs.Marker.Front.{lent_cut, lent_front, quotation_front, quoted_front, token_front, with_rest};
+ghost use Rattle.pymark_core.specs.Inner.Front.{lent_cut, lent_front, quotation_front};
+ghost use Rattle.pymark_core.specs.Inner.Front.{quoted_front, token_front, with_rest};
 ghost use Rattle.pymark_core.specs.Marker.Token as token;
-ghost use Rattle.pymark_core.specs.Marker.Token.{is_inside, is_quote, is_word_byte, operator_in, token_by, word_in};
+ghost use Rattle.pymark_core.specs.Marker.Token.{is_inside, is_quote, is_word_byte, operator_in};
+ghost use Rattle.pymark_core.specs.Marker.Token.{token_by, word_in};
 
 use super::error::MarkerError;
 use crate::white::past_white;
@@ -66,9 +68,9 @@ fn word_len(text: &str) -> usize
         .count()
 }
 
+/// What stands between an opening quote, which is in front of the text, and the same quote, and the
+/// text behind it.
 #[tactic(auto, using(crate::proofs::Boundaries::boundary_before_ascii, crate::proofs::Boundaries::boundary_behind_ascii))]
-/// What stands between an opening quote, which is in front of the text, and the same quote, and the text
-/// behind it.
 fn quoted(quote: u8, text: &str) -> Option<(&str, &str)>
     requires { quote < 128 }
     ensures { option_map lent_cut result ≡ quoted_front quote text.now }
@@ -108,7 +110,8 @@ fn past_operator(text: &str, operator: Operator) -> Option<&str>
 /// The longest operator at the front of the text, and the text behind it.
 #[tactic(auto, using(crate::proofs::TokenLemmas::operator_stands))]
 fn sign(text: &str) -> Option<(Token<'_>, &str)>
-    ensures { option_map lent_front result ≡ with_rest text.now (option_map token.sign (operator_in text.now)) }
+    ensures { option_map lent_front result
+        ≡ with_rest text.now (option_map token.sign (operator_in text.now)) }
 {
     let operator = operator(text)?;
     let rest = past_operator(text, operator)?;
@@ -134,8 +137,8 @@ fn past_first(text: &str) -> &str
     text.split_at(1).1
 }
 
-/// What stands between two of these quotes, the first of which is in front of the text, and the text behind
-/// them.
+/// What stands between two of these quotes, the first of which is in front of the text, and the
+/// text behind them.
 #[tactic(auto, using(crate::proofs::TokenLemmas::quotation_front))]
 fn quotation(quote: u8, text: &str) -> Option<(&str, &str)>
     requires some { 0 < length text.now }

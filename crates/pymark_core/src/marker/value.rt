@@ -3,7 +3,7 @@
 ghost use Rattle.std.specs.Prelude.{◌≡◌};
 ghost use Rattle.pyver_core.specs.Agreement.{Gives};
 ghost use Rattle.pymark_core.specs.Marker.Value.{atom_value, conjunction_value, marker_value};
-ghost use Rattle.pymark_core.specs.Marker.View.{atom_view, conjunction_view, tree_view};
+ghost use Rattle.pymark_core.specs.Inner.View.{atom_view, conjunction_view, tree_view};
 
 use super::tree::{Atom, Conjunction, Tree};
 use crate::environment::Environment;

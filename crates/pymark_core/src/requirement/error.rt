@@ -8,7 +8,7 @@ use thiserror::Error;
 
 /// Why a text isn't taken as a requirement (PEP 508, "Grammar"): the first fault that is met from
 /// the left.
-#[derive(Debug, Drop, Error)]
+#[derive(Clone, Copy, PartialEq, Eq, Debug, Error)]
 pub enum RequirementError {
     /// The text doesn't begin with a name.
     #[error("name")]

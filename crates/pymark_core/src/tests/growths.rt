@@ -2,7 +2,7 @@
 //! each of its growths, that one refused. A test passes where the call answers want of memory and
 //! leaves what was there, or answers just what it answers with ample memory.
 
-use crate::{Environment, EvalFault, Marker, Requirement, RequirementError, Var};
+use crate::{Environment, EvalFault, Marker, MarkerError, Requirement, RequirementError, Var};
 
 #[test]
 fn environment_set(rt: HostRuntime) {
@@ -55,6 +55,26 @@ fn requirement_parse(rt: HostRuntime) {
             assert!(rt; requirement.marker().is_some());
         }
         Err(error) => assert!(rt; matches!(error, RequirementError::Memory), "{error:?}"),
+    }
+}
+
+#[test]
+fn marker_parse(rt: HostRuntime) {
+    let text = "(python_version >= \"3.8\" or \"x\" in extras) and os_name == 'nt'";
+    match Marker::parse(rt.alloc(), text) {
+        Ok(marker) => assert_eq!(rt; marker.text(), text),
+        Err(error) => assert_eq!(rt; error, MarkerError::Memory),
+    }
+}
+
+#[test]
+fn marker_copy(rt: HostRuntime) {
+    let text = "(python_version >= \"3.8\" or \"x\" in extras) and os_name == 'nt'";
+    if let Ok(marker) = Marker::parse(rt.alloc(), text) {
+        if let Ok(copy) = marker.clone() {
+            assert_eq!(rt; copy.text(), text);
+            assert!(rt; copy.reads() == marker.reads());
+        }
     }
 }
 

@@ -1,4 +1,5 @@
-//! Requirements: their parts and each refusal. Besides the worked examples, those of PEP 508, "Examples".
+//! Requirements: their parts and each refusal. Besides the worked examples, those of PEP 508,
+//! "Examples".
 
 use crate::{Requirement, RequirementError};
 use std::process::Abort;

@@ -4,7 +4,8 @@ use denote.Ref.{Bor}
 use Rattle.pymark_core.specs.Marker.Token as token
 use Rattle.pymark_core.specs.Marker.Token.{quoted_at, token_at, token_len}
 use Rattle.pymark_core.specs.declared.marker.token.Token.{Token}
-use Rattle.pymark_core.specs.declared.marker.token.Token.TheVariants.{Open, Close, Sign, Word, Quoted}
+use Rattle.pymark_core.specs.declared.marker.token.Token.TheVariants.{Open, Close, Sign, Word}
+use Rattle.pymark_core.specs.declared.marker.token.Token.TheVariants.{Quoted}
 
 abbrev pub token_view : Token → token.Token
 token_view Open = token.opening
@@ -28,10 +29,13 @@ token_front text = with_rest text (token_at text)
 abbrev pub lent_cut : Bor (List ℕ) × Bor (List ℕ) → List ℕ × List ℕ
 lent_cut cut = (cut.0.now, cut.1.now)
 
--- what stands between two quotes, the first of which was in front of the text, and the text behind them
+-- what stands between two quotes, the first of which was in front of the text, and the text behind
+-- them
 abbrev pub quoted_front : ℕ → List ℕ → Option (List ℕ × List ℕ)
-quoted_front quote text = option_map (λ inside. (inside, drop (length inside + 1) text)) (quoted_at quote text)
+quoted_front quote text =
+    option_map (λ inside. (inside, drop (length inside + 1) text)) (quoted_at quote text)
 
 -- the same, where the first quote still stands in front of the text
 abbrev pub quotation_front : ℕ → List ℕ → Option (List ℕ × List ℕ)
-quotation_front quote text = option_map (λ inside. (inside, drop (length inside + 2) text)) (quoted_at quote (drop 1 text))
+quotation_front quote text =
+    option_map (λ inside. (inside, drop (length inside + 2) text)) (quoted_at quote (drop 1 text))
