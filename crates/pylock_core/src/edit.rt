@@ -10,6 +10,26 @@ pub enum Edit {
 /// Why an edit is refused.
 #[derive(Debug, Drop)]
 pub enum EditError {
+    /// The lock names no such extra.
+    UnknownExtra,
+    /// The lock names no such group.
+    UnknownGroup,
     /// No entry has this number.
     NoEntry,
+    /// The number 100,000 was given out.
+    TooMany,
+    /// Memory ran out.
+    Memory,
+}
+
+/// Which kinds of files the entries of a name may be installed from, as pip's `--only-binary` and
+/// `--no-binary` say it. It acts on wheels and sdists alone.
+#[derive(Clone, Copy, Debug, PartialEq, Eq)]
+pub enum Policy {
+    /// Wheels and sdists.
+    Any,
+    /// No sdist.
+    Wheel,
+    /// No wheel.
+    Source,
 }

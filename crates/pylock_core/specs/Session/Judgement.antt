@@ -1,0 +1,135 @@
+-- What of the installation steps is kept from one edit to the next, and what each edit touches.
+use Rattle.std.specs.Prelude.{ℕ, ◌+◌, Bool, true, false, ◌||◌, ◌&&◌, List, [], ◌∷◌, ◌++◌, map, filter, Option, Some, None, is_some, if◌then◌else◌}
+use Rattle.std.specs.List.{list_any}
+use Rattle.std.specs.Str.{bytes_eq}
+use Rattle.pyver_core.specs.Names.{norm}
+use Rattle.pymark_core.specs.declared.variable.Var.{Var}
+use Rattle.pymark_core.specs.declared.variable.Var.TheVariants.{PythonFullVersion}
+use Rattle.pymark_core.specs.Variables.{variables}
+use Rattle.pylock_core.specs.Session.StandIns.{EnvironmentValue, EntryValue, HeadValue, MarkerValue, TagValue, Key, Of, Extras, Groups, reads, Edit, Set, Unset, AddExtra, DropExtra, AddGroup, DropGroup, Tags, Add, Put, Del, SetPolicy}
+use Rattle.pylock_core.specs.Session.State.{State, Policies, policy_of}
+use Rattle.pylock_core.specs.Session.Steps.{standing, best_wheel, head_fault, is_any}
+use Rattle.pylock_core.specs.declared.answer.FaultCode.{FaultCode}
+use Rattle.pylock_core.specs.declared.answer.Standing.{Standing}
+use Rattle.pylock_core.specs.declared.edit.Policy.{Policy}
+
+-- ---- verdicts
+
+-- the verdict of an entry: how it stands, and its best wheel, if it has one under its name's policy
+pub record VerdictValue : Type 0 where
+  pub standing : Standing
+  pub best : Option ℕ
+
+abbrev pub verdict_of : EntryValue → EnvironmentValue → List TagValue → Policy → VerdictValue
+verdict_of entry environment tags policy =
+    record { standing = standing entry environment; best = best_wheel entry tags policy }
+
+-- the verdicts of a session: that of the head, which is its fault or none, and those of the entries,
+-- by their numbers
+pub record Verdicts : Type 0 where
+  pub head : Option FaultCode
+  pub entries : List (ℕ × VerdictValue)
+
+-- the verdict of an entry of the state
+abbrev pub judged_in : State → EntryValue → VerdictValue
+judged_in state entry =
+    verdict_of entry state.environment state.tags (policy_of state.policies entry.name)
+
+-- the verdicts of a state, all judged afresh
+abbrev pub verdicts_of : State → Verdicts
+verdicts_of state = record {
+  head = head_fault state.head state.environment;
+  entries = map (λ e. (e.0, judged_in state e.1)) state.entries;
+}
+
+-- ---- what is read
+
+-- what an entry or the head may read: what a marker may read, and the tags
+pub data IndexKey : Type 0 where
+  Marked : Key → IndexKey
+  OfTags : IndexKey
+
+-- the fourteen keys
+abbrev pub keys : List IndexKey
+keys = map (λ variable. Marked (Of variable)) variables ++ Marked Extras ∷ Marked Groups ∷ OfTags ∷ []
+
+-- what the Python check of a set reads, if the set stands
+abbrev pub is_python : Var → Bool
+is_python PythonFullVersion = true
+is_python _ = false
+
+abbrev pub check_reads : {A : Type 0} → IndexKey → Option A → Bool
+check_reads (Marked (Of variable)) set = is_python variable && is_some set
+check_reads (Marked Extras) set = false
+check_reads (Marked Groups) set = false
+check_reads OfTags set = false
+
+abbrev pub marker_reads : IndexKey → MarkerValue → Bool
+marker_reads (Marked key) m = reads key m.tree
+marker_reads OfTags m = false
+
+abbrev pub option_reads : IndexKey → Option MarkerValue → Bool
+option_reads key None = false
+option_reads key (Some m) = marker_reads key m
+
+-- the choice among these wheels reads the tags, if there are wheels
+abbrev pub wheels_read : {A : Type 0} → IndexKey → List A → Bool
+wheels_read (Marked key) wheels = false
+wheels_read OfTags wheels = is_any wheels
+
+abbrev pub entry_reads : IndexKey → EntryValue → Bool
+entry_reads key entry =
+    option_reads key entry.marker || check_reads key entry.requires_python
+    || wheels_read key entry.wheels
+
+abbrev pub head_reads : IndexKey → HeadValue → Bool
+head_reads key head =
+    list_any (marker_reads key) head.environments || check_reads key head.requires_python
+
+-- the numbers of the entries that pass the test
+abbrev pub numbers_where : (EntryValue → Bool) → List (ℕ × EntryValue) → List ℕ
+numbers_where test es = map (λ e. e.0) (filter (λ e. test e.1) es)
+
+-- the number of the head, where it passes
+abbrev pub and_head : Bool → List ℕ → List ℕ
+and_head true numbers = 0 ∷ numbers
+and_head false numbers = numbers
+
+-- the numbers of what reads the key, in increasing order: 0 for the head
+abbrev pub readers : IndexKey → State → List ℕ
+readers key state =
+    and_head (head_reads key state.head) (numbers_where (entry_reads key) state.entries)
+
+-- for each of the keys what reads it
+abbrev pub index_of : State → List (List ℕ)
+index_of state = map (λ key. readers key state) keys
+
+-- ---- what an edit touches
+
+-- the numbers of what is judged again after an edit, in increasing order
+abbrev pub touched : Edit → State → List ℕ
+touched (Set variable text) state = readers (Marked (Of variable)) state
+touched (Unset variable) state = readers (Marked (Of variable)) state
+touched (AddExtra name) state = readers (Marked Extras) state
+touched (DropExtra name) state = readers (Marked Extras) state
+touched (AddGroup name) state = readers (Marked Groups) state
+touched (DropGroup name) state = readers (Marked Groups) state
+touched (Tags tags) state = readers OfTags state
+touched (Add entry) state = (state.last + 1) ∷ []
+touched (Put n entry) state = n ∷ []
+touched (Del n) state = []
+touched (SetPolicy name policy) state =
+    numbers_where (λ entry. bytes_eq (norm name) entry.name) state.entries
+
+-- the numbers that the start judges: the head and every entry
+abbrev pub all_numbers : State → List ℕ
+all_numbers state = 0 ∷ map (λ e. e.0) state.entries
+
+-- ---- a session
+
+-- what a session is to contracts: its state, and beside it what it keeps
+pub record SessionValue : Type 0 where
+  pub state : State
+  pub verdicts : Verdicts
+  pub index : List (List ℕ)
+  pub judged : List ℕ

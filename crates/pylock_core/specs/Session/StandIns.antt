@@ -1,0 +1,111 @@
+-- Stand-ins until the crates of markers, wheels and entries have these.
+use Rattle.std.specs.Prelude.{ℕ, Bool, List, Option, Result, Ok, Err, None, Some, true}
+use Rattle.pymark_core.specs.declared.variable.Var.{Var}
+use Rattle.pyver_core.specs.declared.specifier.Specifier.{Specifier}
+use Rattle.pyver_core.specs.Parts.{Parts}
+use Rattle.std.specs.FinMap as map
+use Rattle.std.specs.FinSet as set
+use Rattle.std.specs.Ordering.{nat_cmp}
+use Rattle.std.specs.Cmp.Lexicographic.{slice_cmp}
+use Rattle.pylock_core.specs.declared.edit.Policy.{Policy}
+use Rattle.pylock_core.specs.Entry.{DirectoryValue, SdistValue}
+
+pub data Tree : Type 0 where
+  leaf : ℕ → Tree
+
+pub data EvalFault : Type 0 where
+  Unset : Var → EvalFault
+  Extra : EvalFault
+  Undefined : EvalFault
+  NumberTooLarge : EvalFault
+  Memory : EvalFault
+
+pub data Key : Type 0 where
+  Of : Var → Key
+  Extras : Key
+  Groups : Key
+
+pub record MarkerValue : Type 0 where
+  pub text : List ℕ
+  pub tree : Tree
+
+pub record EnvironmentValue : Type 0 where
+  pub variables : ℕ
+  pub extras : set.FinSet (slice_cmp nat_cmp)
+  pub groups : set.FinSet (slice_cmp nat_cmp)
+
+pub variable_in : Var → EnvironmentValue → Option (List ℕ)
+variable_in v e = None
+
+pub with_variable : Var → List ℕ → EnvironmentValue → EnvironmentValue
+with_variable v t e = e
+
+pub without_variable : Var → EnvironmentValue → EnvironmentValue
+without_variable v e = e
+
+pub reads : Key → Tree → Bool
+reads k t = true
+
+pub marker_value : EnvironmentValue → Tree → Result Bool EvalFault
+marker_value e t = Ok true
+
+pub data VersionError : Type 0 where
+  Syntax : VersionError
+
+pub parsed_version : List ℕ → Result Parts VersionError
+parsed_version t = Err Syntax
+
+pub record TagValue : Type 0 where
+  pub python : List ℕ
+  pub abi : List ℕ
+  pub platform : List ℕ
+
+pub record WheelValue : Type 0 where
+  pub name : List ℕ
+
+pub best : List (Option WheelValue) → List TagValue → Option ℕ
+best wheels tags = None
+
+pub record VcsValue : Type 0 where
+  pub path : List ℕ
+
+pub record ArchiveValue : Type 0 where
+  pub path : List ℕ
+
+pub record EntryValue : Type 0 where
+  pub name : List ℕ
+  pub version : Option (List ℕ)
+  pub vcs : Option VcsValue
+  pub directory : Option DirectoryValue
+  pub archive : Option ArchiveValue
+  pub sdist : Option SdistValue
+  pub wheels : List SdistValue
+  pub marker : Option MarkerValue
+  pub requires_python : Option (List Specifier)
+
+pub record HeadValue : Type 0 where
+  pub environments : List MarkerValue
+  pub requires_python : Option (List Specifier)
+  pub extras : List (List ℕ)
+  pub groups : List (List ℕ)
+  pub default_groups : List (List ℕ)
+
+pub record LockValue : Type 0 where
+  pub head : HeadValue
+  pub entries : List EntryValue
+
+pub wheel_name : SdistValue → Option WheelValue
+wheel_name file = None
+
+pub data Edit : Type 0 where
+  Set : Var → List ℕ → Edit
+  Unset : Var → Edit
+  AddExtra : List ℕ → Edit
+  DropExtra : List ℕ → Edit
+  AddGroup : List ℕ → Edit
+  DropGroup : List ℕ → Edit
+  Tags : List TagValue → Edit
+  Add : EntryValue → Edit
+  Put : ℕ → EntryValue → Edit
+  Del : ℕ → Edit
+  SetPolicy : List ℕ → Policy → Edit
