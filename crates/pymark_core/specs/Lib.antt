@@ -1,1 +1,3 @@
+pub mod Environment
+pub mod Parsed
 pub mod Variables

@@ -27,3 +27,17 @@ variables =
 -- the variable of a name
 abbrev pub variable_of : List ℕ → Option Var
 variable_of name = find (λ variable. bytes_eq (variable_name variable) name) variables
+
+-- the place of a variable among the eleven
+abbrev pub place : Var → ℕ
+place OsName = 0
+place SysPlatform = 1
+place PlatformMachine = 2
+place PlatformPythonImplementation = 3
+place PlatformRelease = 4
+place PlatformSystem = 5
+place PlatformVersion = 6
+place PythonVersion = 7
+place PythonFullVersion = 8
+place ImplementationName = 9
+place ImplementationVersion = 10

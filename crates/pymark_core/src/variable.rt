@@ -1,7 +1,7 @@
 //! The variables of markers (PEP 508, "Environment Markers").
 
-ghost use Rattle.std.specs.Prelude.{◌≡◌};
-ghost use Rattle.pymark_core.specs.Variables.{variable_name, variable_of};
+ghost use Rattle.std.specs.Prelude.{◌≡◌, ◌<◌};
+ghost use Rattle.pymark_core.specs.Variables.{place, variable_name, variable_of};
 
 /// A variable of markers: a text about the Python that is installed for.
 #[derive(Clone, Copy, PartialEq, Eq, Hash, Debug)]
@@ -30,25 +30,27 @@ pub enum Var {
     ImplementationVersion,
 }
 
+/// Every variable, each at its place.
+const VARIABLES: [Var; 11] = [
+    Var::OsName,
+    Var::SysPlatform,
+    Var::PlatformMachine,
+    Var::PlatformPythonImplementation,
+    Var::PlatformRelease,
+    Var::PlatformSystem,
+    Var::PlatformVersion,
+    Var::PythonVersion,
+    Var::PythonFullVersion,
+    Var::ImplementationName,
+    Var::ImplementationVersion,
+];
+
 impl Var {
     /// The variable of this name in markers. It takes no memory.
     pub fn of(name: &str) -> Option<Var>
         ensures { result ≡ variable_of name.now }
     {
-        match name {
-            "os_name" => Some(Var::OsName),
-            "sys_platform" => Some(Var::SysPlatform),
-            "platform_machine" => Some(Var::PlatformMachine),
-            "platform_python_implementation" => Some(Var::PlatformPythonImplementation),
-            "platform_release" => Some(Var::PlatformRelease),
-            "platform_system" => Some(Var::PlatformSystem),
-            "platform_version" => Some(Var::PlatformVersion),
-            "python_version" => Some(Var::PythonVersion),
-            "python_full_version" => Some(Var::PythonFullVersion),
-            "implementation_name" => Some(Var::ImplementationName),
-            "implementation_version" => Some(Var::ImplementationVersion),
-            _ => None,
-        }
+        VARIABLES.iter().copied().find(|variable| variable.name() == name)
     }
 
     /// The name of the variable in markers.
@@ -68,5 +70,13 @@ impl Var {
             Var::ImplementationName => "implementation_name",
             Var::ImplementationVersion => "implementation_version",
         }
+    }
+
+    /// The place of the variable among the eleven.
+    pub(crate) fn place(self) -> usize
+        ensures place { result ≡ place self }
+        ensures within { result < 11 }
+    {
+        self as usize
     }
 }

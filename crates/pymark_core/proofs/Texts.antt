@@ -1,0 +1,54 @@
+-- A `BTreeSet` of texts as the finite set of their bytes.
+use Rattle.std.proofs.Common.{◌≡◌, ℕ, Bool, true, false, cond, not, ◌&&◌, ◌||◌, List, [], ◌∷◌, map, ◌∙◌, ap, refl, sym}
+use Rattle.std.proofs.lemmas.Map.Text.{btree_set_updates_text, is_eq-slice_cmp}
+use Rattle.std.specs.BTreeSet.{BTreeSet, UpdatesBy, contains_text}
+use Rattle.std.specs.Cmp.Lexicographic.{nat_list_cmp_total, nat_list_eq_equiv, slice_cmp}
+use Rattle.std.specs.FinSet as set
+use Rattle.std.specs.FinSet.{slice_cmp-IsAntisymmetric, nat_cmp-IsAntisymmetric}
+use Rattle.std.specs.List.{list_any}
+use Rattle.std.specs.Ordering.{eq_by_cmp, nat_cmp}
+use Rattle.std.specs.Str.{bytes_eq}
+use Rattle.std.specs.String.{string_bytes, string_cmp}
+use Rattle.std.specs.declared.string.String.{String}
+use Rattle.pymark_core.specs.Environment.{Texts}
+
+-- the set of the texts
+abbrev pub seen : {Y : Type 0} → BTreeSet (String Y) → Texts
+seen s = set.from_list (map string_bytes s.keys)
+
+any_mapped : {X Z : Type 0} (p : Z → Bool) (f : X → Z) (xs : List X) → list_any p (map f xs) ≡ list_any (λ x. p (f x)) xs
+any_mapped p f [] = refl
+any_mapped p f (x ∷ xs) = ap (λ b. p (f x) || b) (any_mapped p f xs)
+
+pub contains-seen : {Y : Type 0} (s : BTreeSet (String Y)) (q : List ℕ) → set.contains (seen s) q ≡ contains_text s q
+contains-seen s q =
+    set.contains-from_list nat_list_cmp_total (map string_bytes s.keys) q
+    ∙ any_mapped (eq_by_cmp (slice_cmp nat_cmp) q) string_bytes s.keys
+
+alike : (k q : List ℕ) → bytes_eq k q ≡ eq_by_cmp (slice_cmp nat_cmp) q k
+alike k q = nat_list_eq_equiv.symm k q ∙ sym (is_eq-slice_cmp q k)
+
+or_put : (b x : Bool) → cond b true x ≡ (b || x)
+or_put true x = refl
+or_put false x = refl
+
+and_taken : (b x : Bool) → cond b false x ≡ (not b && x)
+and_taken true x = refl
+and_taken false x = refl
+
+module _ {Y : Type 0} (s n : BTreeSet (String Y)) (k : List ℕ) where
+  -- after a change at the text k, each text stands as before, but k
+  after : (b : Bool) → UpdatesBy string_cmp (λ x. slice_cmp nat_cmp k (string_bytes x)) s n b → (q : List ℕ)
+      → set.contains (seen n) q ≡ cond (eq_by_cmp (slice_cmp nat_cmp) q k) b (set.contains (seen s) q)
+  after b u q =
+      contains-seen n q ∙ btree_set_updates_text k s n b u q
+      ∙ ap (λ t. cond t b (contains_text s q)) (alike k q)
+      ∙ ap (cond (eq_by_cmp (slice_cmp nat_cmp) q k) b) (sym (contains-seen s q))
+
+  pub seen-put : UpdatesBy string_cmp (λ x. slice_cmp nat_cmp k (string_bytes x)) s n true → seen n ≡ set.insert (seen s) k
+  seen-put u = set.same_set nat_list_cmp_total (slice_cmp-IsAntisymmetric nat_cmp-IsAntisymmetric) _ _
+      (λ q. after true u q ∙ or_put (eq_by_cmp (slice_cmp nat_cmp) q k) (set.contains (seen s) q) ∙ sym (set.contains-insert nat_list_cmp_total (seen s) k q))
+
+  pub seen-taken : UpdatesBy string_cmp (λ x. slice_cmp nat_cmp k (string_bytes x)) s n false → seen n ≡ set.remove (seen s) k
+  seen-taken u = set.same_set nat_list_cmp_total (slice_cmp-IsAntisymmetric nat_cmp-IsAntisymmetric) _ _
+      (λ q. after false u q ∙ and_taken (eq_by_cmp (slice_cmp nat_cmp) q k) (set.contains (seen s) q) ∙ sym (set.contains-remove nat_list_cmp_total (seen s) k q))

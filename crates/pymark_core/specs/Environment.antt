@@ -1,0 +1,68 @@
+-- The environment that markers are judged in (PEP 508, "Environment Markers"): a text for each variable
+-- that has one, and the extras and dependency groups that are asked for (PEP 751, "Installation").
+use Rattle.std.specs.Prelude.{ℕ, Bool, List, Option, Some, None, replicate, slice_index_or, slice_set, refl}
+use Rattle.std.specs.Cmp.Lexicographic.{slice_cmp}
+use Rattle.std.specs.Coded.{Coded, code_by, coded×, coded_ℕ, coded_list, coded_option}
+use Rattle.std.specs.FinSet as set
+use Rattle.std.specs.Ordering.{nat_cmp}
+use Rattle.pyver_core.specs.Names.{norm}
+use Rattle.pymark_core.specs.Variables.{place}
+use Rattle.pymark_core.specs.declared.variable.Var.{Var}
+
+-- a finite set of texts
+abbrev pub Texts : Type 0
+Texts = set.FinSet (slice_cmp nat_cmp)
+
+abbrev texts_code : Coded Texts
+texts_code = set.code (coded_list coded_ℕ)
+
+-- `variables` has the text of each variable at its place, and the sets hold normal names
+pub record EnvironmentValue : Type 0 where
+  pub variables : List (Option (List ℕ))
+  pub extras : Texts
+  pub groups : Texts
+
+-- an environment is stored as the tuple of its fields
+abbrev pub environment_code : Coded EnvironmentValue
+environment_code =
+    code_by (List (Option (List ℕ)) × (Texts × Texts))
+        (coded× (coded_list (coded_option (coded_list coded_ℕ))) (coded× texts_code texts_code))
+        (λ e. (e.variables, (e.extras, e.groups)))
+        (λ t. record { variables = t.0; extras = t.1.0; groups = t.1.1 })
+        (λ _. refl)
+
+-- nothing set, nothing asked for
+abbrev pub empty : EnvironmentValue
+empty = record { variables = replicate 11 None; extras = set.empty; groups = set.empty }
+
+-- the text of a variable
+abbrev pub variable_in : Var → EnvironmentValue → Option (List ℕ)
+variable_in variable environment = slice_index_or environment.variables (place variable) None
+
+abbrev pub with_variable : Var → List ℕ → EnvironmentValue → EnvironmentValue
+with_variable variable text environment =
+    record environment { variables = slice_set environment.variables (place variable) (Some text) }
+
+abbrev pub without_variable : Var → EnvironmentValue → EnvironmentValue
+without_variable variable environment =
+    record environment { variables = slice_set environment.variables (place variable) None }
+
+-- whether this very text is among the extras
+abbrev pub has_extra : List ℕ → EnvironmentValue → Bool
+has_extra name environment = set.contains environment.extras name
+
+abbrev pub with_extra : List ℕ → EnvironmentValue → EnvironmentValue
+with_extra name environment = record environment { extras = set.insert environment.extras (norm name) }
+
+abbrev pub without_extra : List ℕ → EnvironmentValue → EnvironmentValue
+without_extra name environment = record environment { extras = set.remove environment.extras (norm name) }
+
+-- whether this very text is among the groups
+abbrev pub has_group : List ℕ → EnvironmentValue → Bool
+has_group name environment = set.contains environment.groups name
+
+abbrev pub with_group : List ℕ → EnvironmentValue → EnvironmentValue
+with_group name environment = record environment { groups = set.insert environment.groups (norm name) }
+
+abbrev pub without_group : List ℕ → EnvironmentValue → EnvironmentValue
+without_group name environment = record environment { groups = set.remove environment.groups (norm name) }

@@ -1,0 +1,66 @@
+//! Texts that markers compare, with the version that each spells.
+
+ghost use Rattle.std.specs.Prelude.{◌≡◌, IfOk};
+ghost use Rattle.pymark_core.specs.Parsed.{parsed_version};
+
+use pyver_core::{Version, VersionError};
+use std::alloc::{AllocError, Global};
+use std::marker::Model;
+
+/// A text with what it reads as by PEP 440, so that no comparison reads it again.
+///
+/// Contracts see the text alone, since the version follows from it.
+#[derive(Debug, Drop)]
+pub(crate) struct Candidate {
+    text: String,
+    version: Result<Version, VersionError>,
+}
+
+impl Model for Candidate {
+    ghost use Rattle.std.specs.Prelude.{◌≡◌, List, ℕ, string_bytes};
+    ghost use Rattle.pymark_core.specs.Parsed.{parsed_version};
+
+    ghost Value = { List ℕ };
+
+    ghost view = { λ c. string_bytes c.text };
+
+    ghost invariant = { λ c. parsed_version (string_bytes c.text) ≡ c.version };
+}
+
+impl Candidate {
+    /// The text, read.
+    pub(crate) fn new(alloc: Global, text: &str) -> Result<Candidate, AllocError>
+        ensures { IfOk result (λ candidate. candidate ≡ text.now) }
+    {
+        let version = read_version(alloc, text)?;
+        let text = String::from_str(alloc, text)?;
+        Ok(Candidate { text, version })
+    }
+
+    /// The text as it was given.
+    pub(crate) fn text(&self) -> &str
+        ensures { result.now ≡ self.now }
+    {
+        self.text.as_str()
+    }
+
+    /// The version that the text spells, or why it spells none.
+    pub(crate) fn version(&self) -> &Result<Version, VersionError>
+        ensures { result.now ≡ parsed_version self.now }
+    {
+        &self.version
+    }
+}
+
+/// What the text reads as.
+fn read_version(
+    alloc: Global,
+    text: &str,
+) -> Result<Result<Version, VersionError>, AllocError>
+    ensures { IfOk result (λ read. read ≡ parsed_version text.now) }
+{
+    match Version::parse(alloc, text) {
+        Err(VersionError::Memory) => Err(AllocError),
+        read => Ok(read),
+    }
+}

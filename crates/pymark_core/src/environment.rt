@@ -1,0 +1,139 @@
+//! The environment that markers are judged in (PEP 508, "Environment Markers"; PEP 751, "Installation").
+
+ghost use Rattle.std.specs.Prelude.{◌≡◌, not, option_map, IfOk, OnErr, OnOk};
+ghost use Rattle.std.specs.FinSet as set;
+ghost use Rattle.pyver_core.specs.Names.{norm};
+ghost use Rattle.pymark_core.specs.Environment.{empty, has_extra, has_group, variable_in, with_extra, with_group, with_variable, without_extra, without_group, without_variable};
+
+use crate::candidate::Candidate;
+use crate::names::NameSet;
+use crate::variable::Var;
+use std::alloc::{AllocError, Global};
+use std::marker::Model;
+
+/// The environment that markers are judged in: a text for each variable that has one, and the sets of
+/// the extras and of the dependency groups that are asked for, in normal form (PEP 503).
+///
+/// Contracts see the texts and the sets.
+#[derive(Debug, Drop)]
+pub struct Environment {
+    alloc: Global,
+    variables: [Option<Candidate>; 11],
+    extras: NameSet,
+    groups: NameSet,
+}
+
+impl Model for Environment {
+    ghost use Rattle.pymark_core.specs.Environment.{EnvironmentValue, environment_code};
+
+    ghost Value = { EnvironmentValue };
+
+    ghost coded = { environment_code };
+
+    ghost view = { λ e. record { variables = e.variables; extras = e.extras; groups = e.groups } };
+}
+
+impl Environment {
+    /// Nothing set and nothing asked for. It takes no memory.
+    pub fn new(alloc: Global) -> Environment
+        ensures { result ≡ empty }
+    {
+        Environment {
+            alloc,
+            variables: [
+                None, None, None, None, None, None, None, None, None, None, None,
+            ],
+            extras: NameSet::new(alloc),
+            groups: NameSet::new(alloc),
+        }
+    }
+
+    /// The text of the variable. It takes no memory.
+    pub fn get(&self, variable: Var) -> Option<&str>
+        ensures { option_map (λ text. text.now) result ≡ variable_in variable self.now }
+    {
+        match self.candidate(variable) {
+            Some(candidate) => Some(candidate.text()),
+            None => None,
+        }
+    }
+
+    /// The text of the variable, with what it reads as.
+    pub(crate) fn candidate(&self, variable: Var) -> Option<&Candidate>
+        ensures { option_map (λ candidate. candidate.now) result ≡ variable_in variable self.now }
+    {
+        self.variables[variable.place()].as_ref()
+    }
+
+    /// Gives the variable the text, which is read as a version here and never again. Where there is no
+    /// memory for it, the variable keeps what it had.
+    pub fn set(&mut self, variable: Var, text: &str) -> Result<(), AllocError>
+        ensures ok { OnOk result (self.new ≡ with_variable variable text.now self.old) }
+        ensures err { OnErr result (self.new ≡ self.old) }
+    {
+        let candidate = Candidate::new(self.alloc, text)?;
+        self.variables[variable.place()] = Some(candidate);
+        Ok(())
+    }
+
+    /// Leaves the variable without a text. It takes no memory.
+    pub fn unset(&mut self, variable: Var)
+        ensures { self.new ≡ without_variable variable self.old }
+    {
+        self.variables[variable.place()] = None;
+    }
+
+    /// Asks for the extra of this name, and answers whether it wasn't asked for. Where there is no memory
+    /// for it, the extras stay.
+    pub fn add_extra(&mut self, name: &str) -> Result<bool, AllocError>
+        ensures ok { OnOk result (self.new ≡ with_extra name.now self.old) }
+        ensures added { IfOk result (λ added. added ≡ not (set.contains self.old.extras (norm name.now))) }
+        ensures err { OnErr result (self.new ≡ self.old) }
+    {
+        self.extras.add(self.alloc, name)
+    }
+
+    /// Asks for the extra of this name no more, and answers whether it was asked for. It takes the memory
+    /// of the normal name; where there is none, the extras stay.
+    pub fn drop_extra(&mut self, name: &str) -> Result<bool, AllocError>
+        ensures ok { OnOk result (self.new ≡ without_extra name.now self.old) }
+        ensures dropped { IfOk result (λ dropped. dropped ≡ set.contains self.old.extras (norm name.now)) }
+        ensures err { OnErr result (self.new ≡ self.old) }
+    {
+        self.extras.drop_name(self.alloc, name)
+    }
+
+    /// Asks for the group of this name, and answers whether it wasn't asked for. Where there is no memory
+    /// for it, the groups stay.
+    pub fn add_group(&mut self, name: &str) -> Result<bool, AllocError>
+        ensures ok { OnOk result (self.new ≡ with_group name.now self.old) }
+        ensures added { IfOk result (λ added. added ≡ not (set.contains self.old.groups (norm name.now))) }
+        ensures err { OnErr result (self.new ≡ self.old) }
+    {
+        self.groups.add(self.alloc, name)
+    }
+
+    /// Asks for the group of this name no more, and answers whether it was asked for. It takes the memory
+    /// of the normal name; where there is none, the groups stay.
+    pub fn drop_group(&mut self, name: &str) -> Result<bool, AllocError>
+        ensures ok { OnOk result (self.new ≡ without_group name.now self.old) }
+        ensures dropped { IfOk result (λ dropped. dropped ≡ set.contains self.old.groups (norm name.now)) }
+        ensures err { OnErr result (self.new ≡ self.old) }
+    {
+        self.groups.drop_name(self.alloc, name)
+    }
+
+    /// Whether this very text is among the extras, which are in normal form. It takes no memory.
+    pub fn has_extra(&self, name: &str) -> bool
+        ensures { result ≡ has_extra name.now self.now }
+    {
+        self.extras.has(name)
+    }
+
+    /// Whether this very text is among the groups, which are in normal form. It takes no memory.
+    pub fn has_group(&self, name: &str) -> bool
+        ensures { result ≡ has_group name.now self.now }
+    {
+        self.groups.has(name)
+    }
+}
