@@ -1,4 +1,5 @@
 mod FileNameLemmas
+mod IndexLemmas
 mod ReadingLemmas
 pub mod EntryLemmas
 pub mod RowLemmas

@@ -1,5 +1,6 @@
 pub mod FileName
 pub mod Entry
+pub mod Inner
 pub mod Session
 pub mod State
 pub mod Rows

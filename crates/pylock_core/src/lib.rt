@@ -7,7 +7,6 @@ mod edit;
 mod entry;
 mod error;
 mod file_name;
-mod laws;
 mod lock;
 mod reading;
 mod session;

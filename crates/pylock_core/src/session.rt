@@ -1,4 +1,7 @@
 //! A session: the entries of a lock, edited and answered again.
+
+pub(crate) mod index;
+
 ghost use Rattle.std.specs.Prelude.{◌≡◌, IfOk, IfErr, IfNone, Ok, Err, Some, map, vec_len};
 ghost use Rattle.std.specs.Option.{option_copied};
 ghost use Rattle.pylock_core.specs.State.{first, entry_at, without, apply};

@@ -3,10 +3,11 @@ use Rattle.std.specs.Prelude.{ℕ, ◌+◌, Bool, true, false, ◌||◌, ◌&&�
 use Rattle.std.specs.List.{list_any}
 use Rattle.std.specs.Str.{bytes_eq}
 use Rattle.pyver_core.specs.Names.{norm}
+use Rattle.pymark_core.specs.Environment.{EnvironmentValue}
 use Rattle.pymark_core.specs.declared.variable.Var.{Var}
 use Rattle.pymark_core.specs.declared.variable.Var.TheVariants.{PythonFullVersion}
 use Rattle.pymark_core.specs.Variables.{variables}
-use Rattle.pylock_core.specs.Session.StandIns.{EnvironmentValue, EntryValue, HeadValue, MarkerValue, TagValue, Key, Of, Extras, Groups, reads, Edit, Set, Unset, AddExtra, DropExtra, AddGroup, DropGroup, Tags, Add, Put, Del, SetPolicy}
+use Rattle.pylock_core.specs.Session.StandIns.{EntryValue, HeadValue, MarkerValue, TagValue, Key, Of, Extras, Groups, reads, Edit, Set, Unset, AddExtra, DropExtra, AddGroup, DropGroup, Tags, Add, Put, Del, SetPolicy}
 use Rattle.pylock_core.specs.Session.State.{State, Policies, policy_of}
 use Rattle.pylock_core.specs.Session.Steps.{standing, best_wheel, head_fault, is_any}
 use Rattle.pylock_core.specs.declared.answer.FaultCode.{FaultCode}

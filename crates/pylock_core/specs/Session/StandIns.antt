@@ -2,11 +2,7 @@
 use Rattle.std.specs.Prelude.{ℕ, Bool, List, Option, Result, Ok, Err, None, Some, true}
 use Rattle.pymark_core.specs.declared.variable.Var.{Var}
 use Rattle.pyver_core.specs.declared.specifier.Specifier.{Specifier}
-use Rattle.pyver_core.specs.Parts.{Parts}
-use Rattle.std.specs.FinMap as map
-use Rattle.std.specs.FinSet as set
-use Rattle.std.specs.Ordering.{nat_cmp}
-use Rattle.std.specs.Cmp.Lexicographic.{slice_cmp}
+use Rattle.pymark_core.specs.Environment.{EnvironmentValue}
 use Rattle.pylock_core.specs.declared.edit.Policy.{Policy}
 use Rattle.pylock_core.specs.Entry.{DirectoryValue, SdistValue}
 
@@ -29,31 +25,11 @@ pub record MarkerValue : Type 0 where
   pub text : List ℕ
   pub tree : Tree
 
-pub record EnvironmentValue : Type 0 where
-  pub variables : ℕ
-  pub extras : set.FinSet (slice_cmp nat_cmp)
-  pub groups : set.FinSet (slice_cmp nat_cmp)
-
-pub variable_in : Var → EnvironmentValue → Option (List ℕ)
-variable_in v e = None
-
-pub with_variable : Var → List ℕ → EnvironmentValue → EnvironmentValue
-with_variable v t e = e
-
-pub without_variable : Var → EnvironmentValue → EnvironmentValue
-without_variable v e = e
-
 pub reads : Key → Tree → Bool
 reads k t = true
 
 pub marker_value : EnvironmentValue → Tree → Result Bool EvalFault
 marker_value e t = Ok true
-
-pub data VersionError : Type 0 where
-  Syntax : VersionError
-
-pub parsed_version : List ℕ → Result Parts VersionError
-parsed_version t = Err Syntax
 
 pub record TagValue : Type 0 where
   pub python : List ℕ

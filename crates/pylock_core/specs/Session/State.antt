@@ -7,7 +7,8 @@ use Rattle.std.specs.List.{enumerate_from, list_any}
 use Rattle.std.specs.Ordering.{nat_cmp}
 use Rattle.std.specs.Str.{bytes_eq}
 use Rattle.pyver_core.specs.Names.{norm}
-use Rattle.pylock_core.specs.Session.StandIns.{EnvironmentValue, EntryValue, HeadValue, LockValue, TagValue, with_variable, without_variable, Edit, Set, Unset, AddExtra, DropExtra, AddGroup, DropGroup, Tags, Add, Put, Del, SetPolicy}
+use Rattle.pymark_core.specs.Environment.{EnvironmentValue, with_extra, with_group, with_variable, without_extra, without_group, without_variable}
+use Rattle.pylock_core.specs.Session.StandIns.{EntryValue, HeadValue, LockValue, TagValue, Edit, Set, Unset, AddExtra, DropExtra, AddGroup, DropGroup, Tags, Add, Put, Del, SetPolicy}
 use Rattle.pylock_core.specs.declared.edit.Policy.{Policy}
 use Rattle.pylock_core.specs.declared.edit.Policy.TheVariants.{Any, Wheel, Source}
 use Rattle.pylock_core.specs.declared.edit.EditError.{EditError}
@@ -15,7 +16,7 @@ use Rattle.pylock_core.specs.declared.edit.EditError.TheVariants.{UnknownExtra, 
 
 -- the policies that edits gave, by name in normal form; a name that isn't here has `Any`
 abbrev pub Policies : Type 0
-Policies = map_of.FinMap {X = Policy} (slice_cmp nat_cmp)
+Policies = map_of.FinMap (slice_cmp nat_cmp) Policy
 
 -- the head of the lock; the entries that are there, each with its number, in order; the last number
 -- given out; what the entries are judged by: the environment, the tags, the best first, the policies
@@ -86,19 +87,6 @@ if_group name state next =
 
 abbrev pub if_entry : ℕ → State → State → Result State EditError
 if_entry n state next = if is_some (entry_at n state.entries) then Ok next else Err NoEntry
-
--- the environment with the extra, or without it, and so with groups
-abbrev pub with_extra : List ℕ → EnvironmentValue → EnvironmentValue
-with_extra name environment = record environment { extras = set.insert environment.extras (norm name) }
-
-abbrev pub without_extra : List ℕ → EnvironmentValue → EnvironmentValue
-without_extra name environment = record environment { extras = set.remove environment.extras (norm name) }
-
-abbrev pub with_group : List ℕ → EnvironmentValue → EnvironmentValue
-with_group name environment = record environment { groups = set.insert environment.groups (norm name) }
-
-abbrev pub without_group : List ℕ → EnvironmentValue → EnvironmentValue
-without_group name environment = record environment { groups = set.remove environment.groups (norm name) }
 
 -- the state with one more entry, which has the next number; the numbers end at 100,000
 abbrev pub with_next : EntryValue → State → Result State EditError

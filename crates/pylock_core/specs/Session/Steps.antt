@@ -6,8 +6,11 @@ use Rattle.pyver_core.specs.Options.{either}
 use Rattle.pyver_core.specs.Parts.{Parts}
 use Rattle.pyver_core.specs.Specifiers.{admits_all}
 use Rattle.pyver_core.specs.declared.specifier.Specifier.{Specifier}
+use Rattle.pymark_core.specs.Environment.{EnvironmentValue, variable_in}
+use Rattle.pymark_core.specs.Parsed.{parsed_version}
+use Rattle.pyver_core.specs.declared.error.VersionError.{VersionError}
 use Rattle.pymark_core.specs.declared.variable.Var.TheVariants.{PythonFullVersion}
-use Rattle.pylock_core.specs.Session.StandIns.{EnvironmentValue, EntryValue, HeadValue, MarkerValue, TagValue, EvalFault, Unset, Extra, Undefined, NumberTooLarge, Memory, VersionError, variable_in, marker_value, parsed_version, best, wheel_name}
+use Rattle.pylock_core.specs.Session.StandIns.{EntryValue, HeadValue, MarkerValue, TagValue, EvalFault, Unset, Extra, Undefined, NumberTooLarge, Memory, marker_value, best, wheel_name}
 use Rattle.pylock_core.specs.Session.State.{State, Policies, policy_of}
 use Rattle.pylock_core.specs.declared.answer.Answer.{Answer}
 use Rattle.pylock_core.specs.declared.answer.Answer.TheVariants.{Plan, Fault}
