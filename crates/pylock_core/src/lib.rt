@@ -7,6 +7,7 @@ mod edit;
 mod entry;
 mod error;
 mod file_name;
+mod laws;
 mod lock;
 mod reading;
 mod session;

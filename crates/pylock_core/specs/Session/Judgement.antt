@@ -88,7 +88,7 @@ head_reads key head =
     list_any (marker_reads key) head.environments || check_reads key head.requires_python
 
 -- the numbers of the entries that pass the test
-abbrev pub numbers_where : (EntryValue → Bool) → List (ℕ × EntryValue) → List ℕ
+abbrev pub numbers_where : {X : Type 0} → (X → Bool) → List (ℕ × X) → List ℕ
 numbers_where test es = map (λ e. e.0) (filter (λ e. test e.1) es)
 
 -- the number of the head, where it passes
