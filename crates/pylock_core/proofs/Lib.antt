@@ -1,5 +1,6 @@
 mod FileNameLemmas
 mod IndexLemmas
+pub mod NameLemmas
 mod ReadingLemmas
 pub mod ReaderLemmas
 pub mod EntryLemmas

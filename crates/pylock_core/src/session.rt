@@ -1,6 +1,8 @@
 //! A session: the entries of a lock, edited and answered again.
 
 pub(crate) mod index;
+pub(crate) mod names;
+pub(crate) mod room;
 
 ghost use Rattle.std.specs.Prelude.{◌≡◌, IfOk, IfErr, IfNone, Ok, Err, Some, map, vec_len};
 ghost use Rattle.std.specs.Option.{option_copied};
