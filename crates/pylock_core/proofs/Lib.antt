@@ -1,6 +1,7 @@
 mod FileNameLemmas
 mod IndexLemmas
 pub mod NameLemmas
+pub mod PassLemmas
 mod ReadingLemmas
 pub mod ReaderLemmas
 pub mod EntryLemmas

@@ -1,4 +1,6 @@
 -- What serves the contracts of private functions alone.
 pub mod Index
 pub mod Names
+pub mod Pass
+pub mod Progress
 pub mod Rows

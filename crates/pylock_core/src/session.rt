@@ -2,7 +2,10 @@
 
 pub(crate) mod index;
 pub(crate) mod names;
+pub(crate) mod pass;
 pub(crate) mod room;
+pub(crate) mod row;
+pub(crate) mod verdict;
 
 ghost use Rattle.std.specs.Prelude.{◌≡◌, IfOk, IfErr, IfNone, Ok, Err, Some, map, vec_len};
 ghost use Rattle.std.specs.Option.{option_copied};
