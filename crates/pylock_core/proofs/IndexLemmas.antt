@@ -113,7 +113,7 @@ list_at_other lists key k v ne =
     ap (λ all. get_or all k []) (map_set lists key v) ∙ get_or-set_other (map (λ list. list.items) lists) key k v.items [] ne
 
 -- at each key either the list that was written or the one that was there
-set_list : (P : List ℕ → Type 0) (lists : List (Vec ℕ Global)) (key k : ℕ) (v : Vec ℕ Global) → key < length lists
+pub set_list : (P : List ℕ → Type 0) (lists : List (Vec ℕ Global)) (key k : ℕ) (v : Vec ℕ Global) → key < length lists
     → (k ≡ key → P v.items) → ((k ≡ key → ⊥) → P (list_at lists k)) → P (list_at (set lists key v) k)
 set_list P lists key k v within at others =
     elim (nat_eq k key) as (λ b. nat_eq k key ≡ b → P (list_at (set lists key v) k)) [

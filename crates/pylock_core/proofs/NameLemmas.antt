@@ -9,7 +9,7 @@ use Rattle.std.specs.Map.{lookup}
 use Rattle.std.specs.Ordering.{nat_cmp, is_eq, eq_by_cmp}
 use Rattle.std.specs.Str.{bytes_eq}
 use Rattle.std.specs.declared.vec.Vec.{Vec}
-use Rattle.std.proofs.lemmas.List.{get_or-append_right, length-map, map-append}
+use Rattle.std.proofs.lemmas.List.{get_or-set_same, get_or-set_other, length-map, map-append}
 use Rattle.std.proofs.lemmas.Slice.Eq.{bytes_eq-Decides}
 use Rattle.std.proofs.lemmas.Map.Text.{is_eq-slice_cmp}
 use Rattle.pylock_core.specs.Inner.Index.{list_at}
@@ -206,3 +206,33 @@ grown_is old new name v is g =
       numbering = gains_numbering (number_in old) (number_in new) name (length old.policies.items) (length new.policies.items) g.numbers longer is.numbering;
       even = omega (arith, longer, wider, is.even);
     }
+
+-- ---- a policy, and what entries have a name
+
+-- the policy under a number is written
+pub policies_set : (names : Names) (n : ℕ) (policy : Policy) (name : List ℕ) → IsNames names → n < length names.policies.items → number_in names name ≡ Some n
+    → policies_from names.numbers.entries (set names.policies.items n policy) ≡ with_policy (policies_in names) name policy
+policies_set names n policy name is within has =
+    same_policies (policies_from names.numbers.entries (set names.policies.items n policy)) (with_policy (policies_in names) name policy) (λ q.
+    get_policies_from names.numbers.entries (set names.policies.items n policy) q
+    ∙ by q ∙ sym (get_with_policy (policies_in names) name policy q ∙ ap (cond (is_eq (slice_cmp nat_cmp q name)) (chosen policy)) (get_policies_in names q)))
+  where
+    other : (found : Option ℕ) → ((m : ℕ) → found ≡ Some m → m ≡ n → ⊥) → chosen_under (set names.policies.items n policy) found ≡ chosen_under names.policies.items found
+    other None ne = refl
+    other (Some m) ne = ap chosen (get_or-set_other names.policies.items n m policy Any (ne m refl))
+
+    by : (q : List ℕ) → chosen_under (set names.policies.items n policy) (number_in names q) ≡ cond (is_eq (slice_cmp nat_cmp q name)) (chosen policy) (chosen_under names.policies.items (number_in names q))
+    by q = same_or_not q name
+      (λ same. ap (chosen_under (set names.policies.items n policy)) (ap (number_in names) same ∙ has)
+        ∙ ap chosen (get_or-set_same names.policies.items n policy Any within)
+        ∙ sym (ap (λ b. cond b (chosen policy) (chosen_under names.policies.items (number_in names q))) (is_eq-slice_cmp q name ∙ (bytes_eq-Decides q name).1 same)))
+      (λ differs ne. other (number_in names q) (λ m found m_is. ne (is.numbering.apart q name n (found ∙ ap Some m_is) has))
+        ∙ sym (ap (λ b. cond b (chosen policy) (chosen_under names.policies.items (number_in names q))) (is_eq-slice_cmp q name ∙ differs)))
+
+-- lists that keep their numbers
+pub members_same : (names : Names) (lists : List (Vec ℕ Global)) → ((n : ℕ) → list_at lists n ≡ list_at names.members.items n) → (q : List ℕ) → members_under lists (number_in names q) ≡ members_of names q
+members_same names lists same q = by (number_in names q)
+  where
+    by : (found : Option ℕ) → members_under lists found ≡ members_under names.members.items found
+    by None = refl
+    by (Some n) = same n

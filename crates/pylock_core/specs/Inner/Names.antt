@@ -1,5 +1,5 @@
 -- The names of a session: each has a number, and by the number its policy and its entries.
-use Rattle.std.specs.Prelude.{◌≡◌, ℕ, ◌<◌, List, [], ◌∷◌, map, length, Option, Some, None, slice_index_or, string_bytes}
+use Rattle.std.specs.Prelude.{◌≡◌, ℕ, ◌<◌, List, [], ◌∷◌, map, length, Option, Some, None, slice_index_or, string_bytes, vec_len, vec_capacity}
 use Rattle.std.specs.BTreeMap.{BTreeMap, get_by_text}
 use Rattle.std.specs.Cmp.Lexicographic.{slice_cmp}
 use Rattle.std.specs.FinMap as map_of
@@ -47,3 +47,8 @@ members_of names name = members_under names.members.items (number_in names name)
 pub record IsNames (names : Names) : Type 0 where
   pub numbering : IsNumbering (number_in names) (length names.policies.items)
   pub even : length names.members.items ≡ length names.policies.items
+
+-- under the number there is room for one more entry
+abbrev pub HasRoom : Names → ℕ → Type 0
+HasRoom names n =
+    (d : Vec ℕ Global) → vec_len (slice_index_or names.members.items n d) < vec_capacity (slice_index_or names.members.items n d)
