@@ -1,1 +1,13 @@
+pub mod Agreeing
+pub mod Boundaries
+pub mod Choices
+pub mod DepthLemmas
+pub mod Judged
+pub mod NoteLemmas
+pub mod ReadingComplete
+pub mod ReadingSound
+pub mod Substrings
 pub mod Texts
+pub mod TokenLemmas
+pub mod TreeView
+pub mod Turns

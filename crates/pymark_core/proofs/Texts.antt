@@ -5,7 +5,7 @@ use Rattle.std.specs.BTreeSet.{BTreeSet, UpdatesBy, contains_text}
 use Rattle.std.specs.Cmp.Lexicographic.{nat_list_cmp_total, nat_list_eq_equiv, slice_cmp}
 use Rattle.std.specs.FinSet as set
 use Rattle.std.specs.FinSet.{slice_cmp-IsAntisymmetric, nat_cmp-IsAntisymmetric}
-use Rattle.std.specs.List.{list_any}
+use Rattle.std.specs.List.{AllZip, list_any}
 use Rattle.std.specs.Ordering.{eq_by_cmp, nat_cmp}
 use Rattle.std.specs.Str.{bytes_eq}
 use Rattle.std.specs.String.{string_bytes, string_cmp}
@@ -52,3 +52,10 @@ module _ {Y : Type 0} (s n : BTreeSet (String Y)) (k : List ℕ) where
   pub seen-taken : UpdatesBy string_cmp (λ x. slice_cmp nat_cmp k (string_bytes x)) s n false → seen n ≡ set.remove (seen s) k
   seen-taken u = set.same_set nat_list_cmp_total (slice_cmp-IsAntisymmetric nat_cmp-IsAntisymmetric) _ _
       (λ q. after false u q ∙ and_taken (eq_by_cmp (slice_cmp nat_cmp) q k) (set.contains (seen s) q) ∙ sym (set.contains-remove nat_list_cmp_total (seen s) k q))
+
+-- clones of texts have their bytes
+pub seen-clone : {Y : Type 0} (s n : List (String Y)) → AllZip (λ x y. string_bytes y ≡ string_bytes x) s n → map string_bytes n ≡ map string_bytes s
+seen-clone [] [] each = refl
+seen-clone [] (y ∷ ys) each = absurd each
+seen-clone (x ∷ xs) [] each = absurd each
+seen-clone (x ∷ xs) (y ∷ ys) each = λ i. each.0 i ∷ seen-clone xs ys each.1 i

@@ -37,6 +37,13 @@ impl Candidate {
         Ok(Candidate { text, version })
     }
 
+    /// The same text, read again.
+    pub(crate) fn copy(&self, alloc: Global) -> Result<Candidate, AllocError>
+        ensures { IfOk result (λ copy. copy ≡ self.now) }
+    {
+        Candidate::new(alloc, self.text())
+    }
+
     /// The text as it was given.
     pub(crate) fn text(&self) -> &str
         ensures { result.now ≡ self.now }

@@ -1,6 +1,6 @@
 //! The environment that markers are judged in (PEP 508, "Environment Markers"; PEP 751, "Installation").
 
-ghost use Rattle.std.specs.Prelude.{◌≡◌, not, option_map, IfOk, OnErr, OnOk};
+ghost use Rattle.std.specs.Prelude.{◌≡◌, not, option_map, replicate, IfOk, OnErr, OnOk};
 ghost use Rattle.std.specs.FinSet as set;
 ghost use Rattle.pyver_core.specs.Names.{norm};
 ghost use Rattle.pymark_core.specs.Environment.{empty, has_extra, has_group, variable_in, with_extra, with_group, with_variable, without_extra, without_group, without_variable};
@@ -40,9 +40,7 @@ impl Environment {
     {
         Environment {
             alloc,
-            variables: [
-                None, None, None, None, None, None, None, None, None, None, None,
-            ],
+            variables: no_variables(),
             extras: NameSet::new(alloc),
             groups: NameSet::new(alloc),
         }
@@ -135,5 +133,61 @@ impl Environment {
         ensures { result ≡ has_group name.now self.now }
     {
         self.groups.has(name)
+    }
+
+    /// An environment with the same variables and sets.
+    pub fn copy(&self) -> Result<Environment, AllocError>
+        ensures { IfOk result (λ copy. copy ≡ self.now) }
+    {
+        Ok(Environment {
+            alloc: self.alloc,
+            variables: copy_variables(self.alloc, &self.variables)?,
+            extras: self.extras.copy()?,
+            groups: self.groups.copy()?,
+        })
+    }
+}
+
+impl Clone for Environment {
+    ghost is_clone = { λ environment copy. copy ≡ environment };
+
+    fn clone(&self) -> Result<Environment, AllocError> {
+        self.copy()
+    }
+}
+
+/// A text at no place.
+fn no_variables() -> [Option<Candidate>; 11]
+    ensures { result ≡ replicate 11 None }
+{
+    [
+        None, None, None, None, None, None, None, None, None, None, None,
+    ]
+}
+
+/// The same texts at the same places.
+fn copy_variables(
+    alloc: Global,
+    variables: &[Option<Candidate>; 11],
+) -> Result<[Option<Candidate>; 11], AllocError>
+    ensures { IfOk result (λ copy. copy ≡ variables.now) }
+{
+    let mut copy = no_variables();
+    for (place, variable) in variables.iter().enumerate() {
+        copy[place] = copy_variable(alloc, variable)?;
+    }
+    Ok(copy)
+}
+
+/// The same text, if there is one.
+fn copy_variable(
+    alloc: Global,
+    variable: &Option<Candidate>,
+) -> Result<Option<Candidate>, AllocError>
+    ensures { IfOk result (λ copy. copy ≡ variable.now) }
+{
+    match variable {
+        Some(candidate) => Ok(Some(candidate.copy(alloc)?)),
+        None => Ok(None),
     }
 }

@@ -2,11 +2,18 @@
 #![tactic(auto)]
 
 mod candidate;
+mod comparison;
 mod environment;
+mod fault;
+pub mod laws;
+mod marker;
 mod names;
 mod operand;
 mod variable;
+mod white;
 
 pub use environment::Environment;
+pub use fault::EvalFault;
+pub use marker::{Key, MarkerError, Reads};
 pub use operand::{Comparator, Operand};
 pub use variable::Var;

@@ -64,4 +64,12 @@ impl NameSet {
         let name = normal_name(alloc, name)?;
         Ok(self.names.remove(name.as_str()))
     }
+
+    /// A set of the same names.
+    pub(crate) fn copy(&self) -> Result<NameSet, AllocError>
+        ensures { IfOk result (λ copy. copy ≡ self.now) }
+    {
+        let names = self.names.clone()?;
+        Ok(NameSet { names })
+    }
 }

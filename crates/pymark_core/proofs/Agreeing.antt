@@ -1,0 +1,96 @@
+-- Two environments that have the same at the keys of a tree give it the same value.
+use Rattle.std.proofs.Common.{◌≡◌, ℕ, Bool, true, false, not, ◌||◌, ◌&&◌, List, [], ◌∷◌, ◌++◌, Option, ok_or, Result, Ok, Err, ◌∙◌, ap, refl, sym}
+use Rattle.std.proofs.Math.Bool.{or-true}
+use Rattle.std.proofs.lemmas.Bool.{eq-eqb}
+use Rattle.std.proofs.lemmas.List.Folds.{list_any-append}
+use Rattle.std.specs.List.{list_any}
+use Rattle.pyver_core.specs.Names.{norm}
+use Rattle.pyver_core.specs.Results.{◌>>=◌}
+use Rattle.pymark_core.specs.Environment.{EnvironmentValue}
+use Rattle.pymark_core.specs.Marker.Comparison.{ComparisonValue}
+use Rattle.pymark_core.specs.Marker.Grammar.{atom_comparisons, comparisons, conjunction_comparisons}
+use Rattle.pymark_core.specs.Marker.Keys.{comparison_reads, has_key, is_key, operand_keys, variable_number}
+use Rattle.pymark_core.specs.Marker.Tree.{Tree, last, or, Conjunction, only, and, Atom, leaf, group}
+use Rattle.pymark_core.specs.Marker.Value.{AgreeAt, atom_value, both, comparison_value, conjunction_value, is_in, is_substring, marker_value, operand_text, operator_value, text_value}
+use Rattle.pymark_core.specs.declared.fault.EvalFault.{EvalFault}
+use Rattle.pymark_core.specs.declared.fault.EvalFault.TheVariants.{Unset}
+use Rattle.pymark_core.specs.declared.marker.keys.Key.{Key}
+use Rattle.pymark_core.specs.declared.marker.keys.Key.TheVariants as key
+use Rattle.pymark_core.specs.declared.operand.Comparator.{Comparator}
+use Rattle.pymark_core.specs.declared.operand.Comparator.TheVariants.{By, In, NotIn}
+use Rattle.pymark_core.specs.declared.operand.Operand.{Operand}
+use Rattle.pymark_core.specs.declared.operand.Operand.TheVariants.{Text, Variable, Extra, Extras, Groups}
+use Rattle.std.specs.FinSet.{contains}
+
+left_true : (a b : Bool) → a ≡ true → (a || b) ≡ true
+left_true a b is = ap (λ t. t || b) is
+
+right_true : (a b : Bool) → b ≡ true → (a || b) ≡ true
+right_true a b is = ap (λ t. a || t) is ∙ or-true a
+
+module _ (e f : EnvironmentValue) where
+  abbrev Agree : (Key → Bool) → Type 0
+  Agree read = (k : Key) → read k ≡ true → AgreeAt k e f
+
+  operand_agrees : (o : Operand) → Agree (λ k. has_key k (operand_keys o)) → operand_text e o ≡ operand_text f o
+  operand_agrees (Text text) agree = refl
+  operand_agrees (Variable v) agree =
+      ap (λ x. ok_or x (Unset v)) (agree (key.Of v) (left_true _ _ (eq-eqb (variable_number v) (variable_number v) refl)))
+  operand_agrees Extra agree = refl
+  operand_agrees Extras agree = refl
+  operand_agrees Groups agree = refl
+
+  in_agrees : (x : List ℕ) (o : Operand) → Agree (λ k. has_key k (operand_keys o)) → is_in e x o ≡ is_in f x o
+  in_agrees x (Text text) agree = refl
+  in_agrees x (Variable v) agree = ap (λ r. r >>= λ y. Ok (is_substring x y)) (operand_agrees (Variable v) agree)
+  in_agrees x Extra agree = refl
+  in_agrees x Extras agree = ap (λ s. Ok (contains s (norm x))) (agree key.Extras refl)
+  in_agrees x Groups agree = ap (λ s. Ok (contains s (norm x))) (agree key.Groups refl)
+
+  text_agrees : (x : List ℕ) (c : Comparator) (o : Operand) → Agree (λ k. has_key k (operand_keys o)) → text_value e x c o ≡ text_value f x c o
+  text_agrees x (By operator) o agree = ap (λ r. r >>= λ y. operator_value operator x y) (operand_agrees o agree)
+  text_agrees x In o agree = in_agrees x o agree
+  text_agrees x NotIn o agree = ap (λ r. r >>= λ is. Ok (not is)) (in_agrees x o agree)
+
+  -- the keys of two lists
+  of_first : (k : Key) (xs ys : List Key) → has_key k xs ≡ true → has_key k (xs ++ ys) ≡ true
+  of_first k xs ys is = list_any-append (is_key k) xs ys ∙ left_true _ _ is
+
+  of_second : (k : Key) (xs ys : List Key) → has_key k ys ≡ true → has_key k (xs ++ ys) ≡ true
+  of_second k xs ys is = list_any-append (is_key k) xs ys ∙ right_true _ _ is
+
+  comparison_agrees : (c : ComparisonValue) → Agree (λ k. comparison_reads k c) → comparison_value e c ≡ comparison_value f c
+  comparison_agrees c agree =
+      ap (λ r. r >>= λ x. text_value e x c.comparator c.right)
+          (operand_agrees c.left (λ k is. agree k (of_first k (operand_keys c.left) (operand_keys c.right) is)))
+      ∙ after (operand_text f c.left)
+    where
+      after : (r : Result (List ℕ) EvalFault) → (r >>= λ x. text_value e x c.comparator c.right) ≡ (r >>= λ x. text_value f x c.comparator c.right)
+      after (Ok x) = text_agrees x c.comparator c.right (λ k is. agree k (of_second k (operand_keys c.left) (operand_keys c.right) is))
+      after (Err fault) = refl
+
+  abbrev Reads : List ComparisonValue → Type 0
+  Reads cs = Agree (λ k. list_any (comparison_reads k) cs)
+
+  first_of_two : (xs ys : List ComparisonValue) → Reads (xs ++ ys) → Reads xs
+  first_of_two xs ys agree k is = agree k (list_any-append (comparison_reads k) xs ys ∙ left_true _ _ is)
+
+  second_of_two : (xs ys : List ComparisonValue) → Reads (xs ++ ys) → Reads ys
+  second_of_two xs ys agree k is = agree k (list_any-append (comparison_reads k) xs ys ∙ right_true _ _ is)
+
+  mutual
+    pub tree_agrees : (t : Tree) → Reads (comparisons t) → marker_value e t ≡ marker_value f t
+    tree_agrees (last c) agree = conjunction_agrees c agree
+    tree_agrees (or c rest) agree = λ i. both (λ x y. x || y)
+        (conjunction_agrees c (first_of_two (conjunction_comparisons c) (comparisons rest) agree) i)
+        (tree_agrees rest (second_of_two (conjunction_comparisons c) (comparisons rest) agree) i)
+
+    pub conjunction_agrees : (c : Conjunction) → Reads (conjunction_comparisons c) → conjunction_value e c ≡ conjunction_value f c
+    conjunction_agrees (only a) agree = atom_agrees a agree
+    conjunction_agrees (and a rest) agree = λ i. both (λ x y. x && y)
+        (atom_agrees a (first_of_two (atom_comparisons a) (conjunction_comparisons rest) agree) i)
+        (conjunction_agrees rest (second_of_two (atom_comparisons a) (conjunction_comparisons rest) agree) i)
+
+    pub atom_agrees : (a : Atom) → Reads (atom_comparisons a) → atom_value e a ≡ atom_value f a
+    atom_agrees (leaf c) agree = comparison_agrees c (λ k is. agree k (left_true _ false is))
+    atom_agrees (group t) agree = tree_agrees t agree

@@ -1,0 +1,98 @@
+-- The depth of a text, one byte after another.
+use Rattle.std.proofs.Common.{◌≡◌, ℕ, ◌+◌, ◌-◌, ◌<◌, ◌≤◌, Bool, true, false, cond, ◌||◌, List, [], ◌∷◌, map, Option, Some, None, refl, sym, ap, ◌∙◌, add_assoc, arith, eq-eqb}
+use Rattle.std.specs.Prelude.{count_by, nat_lt, ◌==◌}
+use Rattle.std.specs.List.{list_any, sum_by}
+use Rattle.std.proofs.lemmas.Bool.Decides.{nat_tests}
+use Rattle.pymark_core.specs.Marker.Depth.{fronts, is_closing, is_deep, is_opening, open_count, outside_behind}
+use Rattle.std.proofs.lemmas.Bool.{le-ltb, lt-ltb, ne_eqb}
+use Rattle.std.proofs.lemmas.List.Sums.{sum_by-cons}
+use Rattle.pymark_core.specs.Marker.Nesting.{deep_behind, deep_from}
+use Rattle.pymark_core.specs.Marker.Token.{is_quote}
+use Rattle.pymark_core.specs.declared.marker.depth.Nesting.{Nesting}
+
+pub any_same : {X : Type 0} (p q : X → Bool) → ((x : X) → p x ≡ q x) → (xs : List X) → list_any p xs ≡ list_any q xs
+any_same p q same [] = refl
+any_same p q same (x ∷ xs) = rw (same x, any_same p q same xs) refl
+
+any_map : {X Y : Type 0} (f : X → Y) (p : Y → Bool) (xs : List X) → list_any p (map f xs) ≡ list_any (λ x. p (f x)) xs
+any_map f p [] = refl
+any_map f p (x ∷ xs) = rw (any_map f p xs) refl
+
+same_difference : (a b c d : ℕ) → a ≡ c → b ≡ d → nat_lt 64 (a - b) ≡ nat_lt 64 (c - d)
+same_difference a b c d e f = rw (e, f) refl
+
+counted : (p : ℕ → Bool) (n b : ℕ) (front : List ℕ) → n + count_by p (b ∷ front) ≡ (n + cond (p b) 1 0) + count_by p front
+counted p n b front =
+    let f : ℕ → ℕ = λ x. cond (p x) 1 0 in
+    ap (λ k. n + k) (sum_by-cons f b front) ∙ sym (add_assoc n (f b) (sum_by f front))
+
+pub deep_start : (out : List ℕ) → deep_behind 0 0 out ≡ list_any (λ front. nat_lt 64 (open_count front)) (fronts out)
+deep_start out = any_same _ _ (λ front. same_difference _ _ _ _ (omega arith) (omega arith)) (fronts out)
+
+pub deep_more : (opened closed b : ℕ) (out : List ℕ)
+    → deep_behind opened closed (b ∷ out) ≡ (nat_lt 64 (opened - closed) || deep_behind (opened + cond (is_opening b) 1 0) (closed + cond (is_closing b) 1 0) out)
+deep_more opened closed b out =
+    let here : nat_lt 64 ((opened + 0) - (closed + 0)) ≡ nat_lt 64 (opened - closed) = same_difference _ _ _ _ (omega arith) (omega arith) in
+    let behind = any_map (λ front. b ∷ front) (λ front. nat_lt 64 ((opened + count_by is_opening front) - (closed + count_by is_closing front))) (fronts out) in
+    let moved = any_same (λ front. nat_lt 64 ((opened + count_by is_opening (b ∷ front)) - (closed + count_by is_closing (b ∷ front))))
+      (λ front. nat_lt 64 (((opened + cond (is_opening b) 1 0) + count_by is_opening front) - ((closed + cond (is_closing b) 1 0) + count_by is_closing front)))
+      (λ front. same_difference _ _ _ _ (counted is_opening opened b front) (counted is_closing closed b front)) (fronts out) in
+    ap (λ x. x || list_any (λ front. nat_lt 64 ((opened + count_by is_opening front) - (closed + count_by is_closing front))) (map (λ front. b ∷ front) (fronts out))) here
+    ∙ ap (λ x. nat_lt 64 (opened - closed) || x) (behind ∙ moved)
+
+at_most : (opened closed : ℕ) → opened ≤ closed + 64 → nat_lt 64 (opened - closed) ≡ false
+at_most opened closed le = le-ltb 64 (opened - closed) (omega arith)
+
+same_counts : (a b c d : ℕ) (out : List ℕ) → a ≡ c → b ≡ d → deep_behind a b out ≡ deep_behind c d out
+same_counts a b c d out e f = rw (e, f) refl
+
+-- ---- a byte at a time, with what is left behind it
+
+pub inside_ends : (n : Nesting) (quote b : ℕ) (rest : List ℕ) → n.quote ≡ Some quote → b ≡ quote
+    → deep_from (record { quote = None; opened = n.opened; closed = n.closed }) rest ≡ deep_from n (b ∷ rest)
+unfolding deep_from
+inside_ends n quote b rest is e = rw (is, eq-eqb b quote e) refl
+
+pub inside_stays : (n : Nesting) (quote b : ℕ) (rest : List ℕ) → n.quote ≡ Some quote → (b ≡ quote → ⊥) → deep_from n rest ≡ deep_from n (b ∷ rest)
+unfolding deep_from
+inside_stays n quote b rest is e = rw (is, ne_eqb b quote e) refl
+
+pub quotation : (n : Nesting) (b : ℕ) (rest : List ℕ) → n.quote ≡ None → is_quote b ≡ true
+    → deep_from (record { quote = Some b; opened = n.opened; closed = n.closed }) rest ≡ deep_from n (b ∷ rest)
+unfolding deep_from
+quotation n b rest is e = rw (is, e) refl
+
+pub one_opened : (n : Nesting) (rest : List ℕ) → n.quote ≡ None → n.opened ≤ n.closed + 64
+    → deep_from (record { quote = n.quote; opened = n.opened + 1; closed = n.closed }) rest ≡ deep_from n (40 ∷ rest)
+unfolding deep_from
+one_opened n rest is le = rw is (sym (deep_more n.opened n.closed 40 (outside_behind None rest) ∙ rw (at_most n.opened n.closed le) (same_counts _ _ _ _ (outside_behind None rest) refl (omega arith))))
+
+pub one_closed : (n : Nesting) (rest : List ℕ) → n.quote ≡ None → n.opened ≤ n.closed + 64
+    → deep_from (record { quote = n.quote; opened = n.opened; closed = n.closed + 1 }) rest ≡ deep_from n (41 ∷ rest)
+unfolding deep_from
+one_closed n rest is le = rw is (sym (deep_more n.opened n.closed 41 (outside_behind None rest) ∙ rw (at_most n.opened n.closed le) (same_counts _ _ _ _ (outside_behind None rest) (omega arith) refl)))
+
+pub passed_over : (n : Nesting) (b : ℕ) (rest : List ℕ) → n.quote ≡ None → n.opened ≤ n.closed + 64
+    → (b ≡ 34 → ⊥) → (b ≡ 39 → ⊥) → (b ≡ 40 → ⊥) → (b ≡ 41 → ⊥) → deep_from n rest ≡ deep_from n (b ∷ rest)
+unfolding deep_from
+passed_over n b rest is le q a o c = rw (is, ne_eqb b 34 q, ne_eqb b 39 a) (sym (deep_more n.opened n.closed b (outside_behind None rest) ∙ rw (at_most n.opened n.closed le, ne_eqb b 40 o, ne_eqb b 41 c) (same_counts _ _ _ _ (outside_behind None rest) (omega arith) (omega arith))))
+
+first_front : (opened closed : ℕ) (out : List ℕ) → closed + 64 < opened → deep_behind opened closed out ≡ true
+first_front opened closed [] more = rw (lt-ltb 64 ((opened + 0) - (closed + 0)) (omega arith)) refl
+first_front opened closed (b ∷ out) more = rw (lt-ltb 64 ((opened + 0) - (closed + 0)) (omega arith)) refl
+
+pub deep_here : (n : Nesting) (rest : List ℕ) → n.closed + 64 < n.opened → deep_from n rest ≡ true
+unfolding deep_from
+deep_here n rest more = first_front n.opened n.closed (outside_behind n.quote rest) more
+
+none_outside : (quote : Option ℕ) → outside_behind quote [] ≡ []
+none_outside None = refl
+none_outside (Some q) = refl
+
+pub deep_end : (n : Nesting) → n.opened ≤ n.closed + 64 → deep_from n [] ≡ false
+unfolding deep_from
+deep_end n le = ap (deep_behind n.opened n.closed) (none_outside n.quote) ∙ rw (le-ltb 64 ((n.opened + 0) - (n.closed + 0)) (omega arith)) refl
+
+pub deep_whole : (text : List ℕ) → deep_from (record { quote = None; opened = 0; closed = 0 }) text ≡ is_deep text
+unfolding deep_from
+deep_whole text = deep_start (outside_behind None text)

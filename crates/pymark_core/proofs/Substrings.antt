@@ -1,0 +1,47 @@
+-- A text stands in another where that is something before it, itself, and something behind it.
+use Rattle.std.proofs.Common.{◌≡◌, ℕ, Bool, true, false, ◌||◌, List, [], ◌∷◌, ◌++◌, length, take, drop, nat_eq, ◌∙◌, ap, refl, sym, subst}
+use Rattle.std.proofs.lemmas.List.{take-append-drop}
+use Rattle.std.proofs.lemmas.Slice.Eq.{bytes_eq-Decides}
+use Rattle.std.proofs.Math.Bool.{or-true}
+use Rattle.std.proofs.Math.Logic.{◌↔◌}
+use Rattle.std.proofs.Math.Seq.{take-append_seam}
+use Rattle.std.specs.List.{starts_with}
+use Rattle.std.specs.Str.Iter.{HasSubslice}
+use Rattle.pymark_core.specs.Marker.Value.{is_substring}
+
+at_front : (s x : List ℕ) → starts_with nat_eq s x ≡ true → s ≡ x ++ drop (length x) s
+at_front s x is =
+    sym (take-append-drop (length x) s) ∙ ap (λ t. t ++ drop (length x) s) (sym ((bytes_eq-Decides x (take (length x) s)).0 is))
+
+-- one more item before
+before : (b : ℕ) (s x : List ℕ) → HasSubslice s x → HasSubslice (b ∷ s) x
+before b s x found = (b ∷ found.0, found.1, ap (λ t. b ∷ t) found.2)
+
+found_in : (x y : List ℕ) → is_substring x y ≡ true → HasSubslice y x
+found_in x [] is = ([], drop (length x) [], at_front [] x is)
+found_in x (b ∷ rest) is =
+    elim (starts_with nat_eq (b ∷ rest) x) as (λ t. starts_with nat_eq (b ∷ rest) x ≡ t → (t || is_substring x rest) ≡ true → HasSubslice (b ∷ rest) x) [
+      | true ↦ λ front _. ([], drop (length x) (b ∷ rest), at_front (b ∷ rest) x front)
+      | false ↦ λ _ later. before b rest x (found_in x rest later)
+    ] refl is
+
+front_stands : (s x : List ℕ) → starts_with nat_eq s x ≡ true → is_substring x s ≡ true
+front_stands [] x front = front
+front_stands (b ∷ rest) x front = ap (λ t. t || is_substring x rest) front
+
+stands : (a b x : List ℕ) → is_substring x (a ++ (x ++ b)) ≡ true
+stands [] b x = front_stands (x ++ b) x ((bytes_eq-Decides x (take (length x) (x ++ b))).1 (sym (take-append_seam x b)))
+stands (c ∷ a) b x = ap (λ t. starts_with nat_eq (c ∷ (a ++ (x ++ b))) x || t) (stands a b x) ∙ or-true _
+
+same : (r s : Bool) → (r ≡ true → s ≡ true) → (s ≡ true → r ≡ true) → r ≡ s
+same true true there back = refl
+same true false there back = sym (there refl)
+same false true there back = back refl
+same false false there back = refl
+
+-- what is true just where x stands in y is whether x is a substring of y
+pub substring_is : (r : Bool) (x y : List ℕ) → (r ≡ true) ↔ HasSubslice y x → r ≡ is_substring x y
+substring_is r x y is =
+    same r (is_substring x y)
+        (λ true_is. let at = is.0 true_is in subst (λ t. is_substring x t ≡ true) (sym at.2) (stands at.0 at.1 x))
+        (λ stands_in. is.1 (found_in x y stands_in))

@@ -1,0 +1,5 @@
+use Rattle.pymark_core.proofs.Agreeing.{tree_agrees}
+use Rattle.pymark_core.proofs.laws.marker_reads.Goals as goal
+
+pub returns : goal.returns
+returns c tree e f agree = tree_agrees e f tree agree

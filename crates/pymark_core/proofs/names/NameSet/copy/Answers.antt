@@ -1,0 +1,7 @@
+use Rattle.std.proofs.Common.{◌∙◌, ap}
+use Rattle.std.specs.FinSet.{from_list}
+use Rattle.pymark_core.proofs.Texts.{seen-clone}
+use Rattle.pymark_core.proofs.names.NameSet.copy.Goals as goal
+
+pub returns : goal.returns
+returns c = ap from_list (seen-clone _ _ c.in_ok-names.ensures.cases) ∙ c.self.view_is

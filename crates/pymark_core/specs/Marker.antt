@@ -1,0 +1,11 @@
+pub mod Comparison
+pub mod Depth
+pub mod Front
+pub mod Grammar
+pub mod Keys
+pub mod Nesting
+pub mod Reading
+pub mod Token
+pub mod Tree
+pub mod Value
+pub mod View

@@ -1,0 +1,71 @@
+-- What of an environment a marker reads.
+use Rattle.std.specs.Prelude.{ℕ, Bool, false, true, ◌==◌, ◌||◌, List, [], ◌∷◌, map, ◌++◌, filter, slice_index_or}
+use Rattle.std.specs.List.{list_any}
+use Rattle.pymark_core.specs.Marker.Comparison.{ComparisonValue}
+use Rattle.pymark_core.specs.Marker.Grammar.{comparisons}
+use Rattle.pymark_core.specs.Marker.Tree.{Tree}
+use Rattle.pymark_core.specs.Variables.{variables}
+use Rattle.pymark_core.specs.declared.marker.keys.Key.{Key}
+use Rattle.pymark_core.specs.declared.marker.keys.Key.TheVariants as key
+use Rattle.pymark_core.specs.declared.operand.Operand.{Operand}
+use Rattle.pymark_core.specs.declared.operand.Operand.TheVariants.{Text, Variable, Extra, Extras, Groups}
+use Rattle.pymark_core.specs.declared.variable.Var.{Var}
+use Rattle.pymark_core.specs.declared.variable.Var.TheVariants as variable
+
+-- each of the 13 keys has a number of its own
+abbrev pub variable_number : Var → ℕ
+variable_number variable.OsName = 0
+variable_number variable.SysPlatform = 1
+variable_number variable.PlatformMachine = 2
+variable_number variable.PlatformPythonImplementation = 3
+variable_number variable.PlatformRelease = 4
+variable_number variable.PlatformSystem = 5
+variable_number variable.PlatformVersion = 6
+variable_number variable.PythonVersion = 7
+variable_number variable.PythonFullVersion = 8
+variable_number variable.ImplementationName = 9
+variable_number variable.ImplementationVersion = 10
+
+abbrev pub key_number : Key → ℕ
+key_number (key.Of v) = variable_number v
+key_number key.Extras = 11
+key_number key.Groups = 12
+
+abbrev pub is_key : Key → Key → Bool
+is_key k other = key_number k == key_number other
+
+-- the keys, each once
+abbrev pub all_keys : List Key
+all_keys = map key.Of variables ++ (key.Extras ∷ key.Groups ∷ [])
+
+-- the key that an operand is, or none: a text and `extra` are none
+abbrev pub operand_keys : Operand → List Key
+operand_keys (Text text) = []
+operand_keys (Variable v) = key.Of v ∷ []
+operand_keys Extra = []
+operand_keys Extras = key.Extras ∷ []
+operand_keys Groups = key.Groups ∷ []
+
+-- the keys of a comparison
+abbrev pub comparison_keys : ComparisonValue → List Key
+comparison_keys c = operand_keys c.left ++ operand_keys c.right
+
+-- the key is among these
+abbrev pub has_key : Key → List Key → Bool
+has_key k ks = list_any (is_key k) ks
+
+abbrev pub comparison_reads : Key → ComparisonValue → Bool
+comparison_reads k c = has_key k (comparison_keys c)
+
+-- the key stands in the tree as an operand
+abbrev pub reads : Key → Tree → Bool
+reads k tree = list_any (comparison_reads k) (comparisons tree)
+
+-- the keys that stand in the tree as an operand, each once
+abbrev pub keys_of : Tree → List Key
+keys_of tree = filter (λ k. reads k tree) all_keys
+
+-- ---- a set of keys, as whether each key is in it, by the keys' numbers
+
+abbrev pub is_in : List Bool → Key → Bool
+is_in flags k = slice_index_or flags (key_number k) false

@@ -1,0 +1,267 @@
+//! Comparisons of markers (PEP 508, "Environment Markers").
+
+ghost use Rattle.std.specs.Prelude.{◌≡◌, IfOk, Result};
+ghost use Rattle.pyver_core.specs.Agreement.{Gives};
+ghost use Rattle.pymark_core.specs.Inner.Compared.{IsRead, left_operand, right_operand};
+ghost use Rattle.pymark_core.specs.Marker.Value.{comparison_value, is_in, is_substring, operand_text, operator_value, text_value, texts_value};
+ghost use Rattle.pymark_core.specs.Parsed.{parsed_operand};
+
+use crate::candidate::Candidate;
+use crate::environment::Environment;
+use crate::fault::EvalFault;
+use crate::operand::{Comparator, Operand};
+use crate::variable::Var;
+use pyver_core::{Label, Operator, Specifier, SpecifierError, VersionError, normal_name};
+use std::alloc::{AllocError, Global};
+use std::marker::Model;
+
+/// Two operands with an operator between them. The quoted texts were read once, in the operator's terms.
+///
+/// Contracts see the operands and the operator, since what the texts read as follows from them.
+#[derive(Debug, Drop)]
+pub(crate) struct Comparison {
+    left: Left,
+    comparator: Comparator,
+    right: Right,
+}
+
+/// What stands left of an operator.
+#[derive(Debug, Drop)]
+enum Left {
+    /// A quoted text, with the version that it spells.
+    Text(Candidate),
+    Variable(Var),
+    Extra,
+    Extras,
+    Groups,
+}
+
+/// What stands right of an operator.
+#[derive(Debug, Drop)]
+enum Right {
+    /// A quoted text behind `in` or `not in`.
+    Text(Label),
+    /// A quoted text behind an operator of specifiers, with what it reads as there.
+    Operand(Label, Result<Specifier, SpecifierError>),
+    Variable(Var),
+    Extra,
+    Extras,
+    Groups,
+}
+
+impl Model for Comparison {
+    ghost use Rattle.pymark_core.specs.Marker.Comparison.{ComparisonValue};
+    ghost use Rattle.pymark_core.specs.Inner.Compared.{IsRead, left_operand, right_operand};
+
+    ghost Value = { ComparisonValue };
+
+    ghost view = { λ a. record {
+      left = left_operand a.left;
+      comparator = a.comparator;
+      right = right_operand a.right;
+    } };
+
+    ghost invariant = { λ a. IsRead a.comparator a.right };
+}
+
+impl Comparison {
+    /// The comparison of these operands.
+    pub(crate) fn new(
+        alloc: Global,
+        left: Operand,
+        comparator: Comparator,
+        right: Operand,
+    ) -> Result<Comparison, AllocError>
+        ensures { IfOk result (λ c. c ≡ record {
+          left = left;
+          comparator = comparator;
+          right = right;
+        }) }
+    {
+        Ok(Comparison {
+            left: read_left(alloc, left)?,
+            comparator,
+            right: read_right(alloc, comparator, right)?,
+        })
+    }
+
+    /// The value in the environment. A variable against a quoted text is judged without memory, and no
+    /// text is read.
+    pub(crate) fn evaluate(
+        &self,
+        alloc: Global,
+        environment: &Environment,
+    ) -> Result<bool, EvalFault>
+        ensures { Gives EvalFault.Memory (λ b. b) result (comparison_value environment.now self.now) }
+    {
+        let left = candidate_in(&self.left, environment)?;
+        match self.comparator {
+            Comparator::By(operator) => {
+                value_by(alloc, environment, left, operator, &self.right)
+            }
+            Comparator::In => has_in(alloc, environment, left.text(), &self.right),
+            Comparator::NotIn => Ok(!has_in(alloc, environment, left.text(), &self.right)?),
+        }
+    }
+}
+
+/// The operand with the version that it spells, if it is a quoted text.
+fn read_left(alloc: Global, operand: Operand) -> Result<Left, AllocError>
+    ensures { IfOk result (λ left. left_operand left ≡ operand) }
+{
+    Ok(match operand {
+        Operand::Text(text) => Left::Text(Candidate::new(alloc, text.as_str())?),
+        Operand::Variable(variable) => Left::Variable(variable),
+        Operand::Extra => Left::Extra,
+        Operand::Extras => Left::Extras,
+        Operand::Groups => Left::Groups,
+    })
+}
+
+/// The operand as this operator reads it.
+fn read_right(
+    alloc: Global,
+    comparator: Comparator,
+    operand: Operand,
+) -> Result<Right, AllocError>
+    ensures operand { IfOk result (λ right. right_operand right ≡ operand) }
+    ensures read { IfOk result (λ right. IsRead comparator right) }
+{
+    Ok(match operand {
+        Operand::Text(text) => match comparator {
+            Comparator::By(operator) => {
+                let specifier = read_operand(alloc, operator, text.as_str())?;
+                Right::Operand(text, specifier)
+            }
+            Comparator::In | Comparator::NotIn => Right::Text(text),
+        },
+        Operand::Variable(variable) => Right::Variable(variable),
+        Operand::Extra => Right::Extra,
+        Operand::Extras => Right::Extras,
+        Operand::Groups => Right::Groups,
+    })
+}
+
+/// What the text reads as right of the operator.
+fn read_operand(
+    alloc: Global,
+    operator: Operator,
+    text: &str,
+) -> Result<Result<Specifier, SpecifierError>, AllocError>
+    ensures { IfOk result (λ read. read ≡ parsed_operand operator text.now) }
+{
+    match Specifier::new(alloc, operator, text) {
+        Err(SpecifierError::Memory) => Err(AllocError),
+        read => Ok(read),
+    }
+}
+
+/// The text of a variable, with the version that it spells.
+fn variable_candidate(environment: &Environment, variable: Var) -> Result<&Candidate, EvalFault>
+    ensures { Gives EvalFault.Memory (λ candidate. candidate.now) result (operand_text environment.now (Operand.Variable variable)) }
+{
+    environment
+        .candidate(variable)
+        .ok_or(EvalFault::Unset(variable))
+}
+
+/// The text left of an operator, with the version that it spells.
+fn candidate_in<'a>(
+    left: &'a Left,
+    environment: &'a Environment,
+) -> Result<&'a Candidate, EvalFault>
+    ensures { Gives EvalFault.Memory (λ candidate. candidate.now) result (operand_text environment.now (left_operand left.now)) }
+{
+    match left {
+        Left::Text(candidate) => Ok(candidate),
+        Left::Variable(variable) => variable_candidate(environment, *variable),
+        Left::Extra => Err(EvalFault::Extra),
+        Left::Extras | Left::Groups => Err(EvalFault::Undefined),
+    }
+}
+
+/// Whether the text is in the operand.
+fn has_in(
+    alloc: Global,
+    environment: &Environment,
+    text: &str,
+    right: &Right,
+) -> Result<bool, EvalFault>
+    ensures { Gives EvalFault.Memory (λ b. b) result (is_in environment.now text.now (right_operand right.now)) }
+{
+    match right {
+        Right::Text(whole) | Right::Operand(whole, _) => Ok(is_substring(text, whole.as_str())),
+        Right::Variable(variable) => {
+            let whole = variable_candidate(environment, *variable)?;
+            Ok(is_substring(text, whole.text()))
+        }
+        Right::Extra => Err(EvalFault::Extra),
+        Right::Extras => Ok(environment.has_extra(normal_name(alloc, text)?.as_str())),
+        Right::Groups => Ok(environment.has_group(normal_name(alloc, text)?.as_str())),
+    }
+}
+
+/// Whether the first text stands somewhere in the second.
+fn is_substring(part: &str, whole: &str) -> bool
+    ensures { result ≡ is_substring part.now whole.now }
+{
+    whole.contains(part)
+}
+
+/// The text on the left against the operand on the right, by an operator of specifiers.
+fn value_by(
+    alloc: Global,
+    environment: &Environment,
+    left: &Candidate,
+    operator: Operator,
+    right: &Right,
+) -> Result<bool, EvalFault>
+    requires { IsRead (Comparator.By operator) right.now }
+    ensures { Gives EvalFault.Memory (λ b. b) result (text_value environment.now left.now (Comparator.By operator) (right_operand right.now)) }
+{
+    match right {
+        Right::Operand(text, specifier) => judge(left, operator, text.as_str(), specifier),
+        Right::Text(_) => unreachable!(),
+        Right::Variable(variable) => {
+            let text = variable_candidate(environment, *variable)?.text();
+            let specifier = read_operand(alloc, operator, text)?;
+            judge(left, operator, text, &specifier)
+        }
+        Right::Extra => Err(EvalFault::Extra),
+        Right::Extras | Right::Groups => Err(EvalFault::Undefined),
+    }
+}
+
+/// The left text against the right one, which reads as this specifier.
+fn judge(
+    left: &Candidate,
+    operator: Operator,
+    right: &str,
+    specifier: &Result<Specifier, SpecifierError>,
+) -> Result<bool, EvalFault>
+    requires { parsed_operand operator right.now ≡ specifier.now }
+    ensures { result ≡ operator_value operator left.now right.now }
+{
+    match (left.version(), specifier) {
+        (Ok(version), Ok(specifier)) => Ok(specifier.admits(version)),
+        (Err(VersionError::Syntax), _) | (_, Err(SpecifierError::Syntax)) => {
+            compare_texts(operator, left.text(), right)
+        }
+        _ => Err(EvalFault::NumberTooLarge),
+    }
+}
+
+/// The texts by their code points.
+fn compare_texts(operator: Operator, left: &str, right: &str) -> Result<bool, EvalFault>
+    ensures { result ≡ texts_value operator left.now right.now }
+{
+    match operator {
+        Operator::Equal => Ok(left == right),
+        Operator::NotEqual => Ok(left != right),
+        Operator::AtMost => Ok(left <= right),
+        Operator::AtLeast => Ok(left >= right),
+        Operator::Before => Ok(left < right),
+        Operator::After => Ok(left > right),
+        Operator::Compatible | Operator::Arbitrary => Err(EvalFault::Undefined),
+    }
+}

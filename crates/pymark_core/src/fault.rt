@@ -1,0 +1,38 @@
+//! Why a marker has no value.
+
+ghost use Rattle.std.specs.Prelude.{◌≡◌};
+ghost use Rattle.pymark_core.specs.declared.fault.EvalFault.TheVariants.{Memory};
+
+use crate::variable::Var;
+use std::alloc::{AllocError, AllocFailed};
+
+/// Why a marker is neither true nor false in an environment.
+#[derive(Clone, Copy, PartialEq, Eq, Debug)]
+pub enum EvalFault {
+    /// The marker reads a variable that has no text.
+    Unset(Var),
+    /// The marker reads `extra`, which has no value in a lock.
+    Extra,
+    /// `~=` or `===` stands between texts that it can't compare.
+    Undefined,
+    /// A version with a number past [`u128::MAX`] is compared.
+    NumberTooLarge,
+    /// There was no memory to judge the marker.
+    Memory,
+}
+
+impl From<AllocError> for EvalFault {
+    ghost from_gives = { λ _ e. e ≡ Memory };
+
+    fn from(_refused: AllocError) -> EvalFault {
+        EvalFault::Memory
+    }
+}
+
+impl<T: Drop> From<AllocFailed<T>> for EvalFault {
+    ghost from_gives = { λ _ e. e ≡ Memory };
+
+    fn from(_refused: AllocFailed<T>) -> EvalFault {
+        EvalFault::Memory
+    }
+}

@@ -1,0 +1,63 @@
+//! How deep the parentheses of a text are nested.
+
+ghost use Rattle.std.specs.Prelude.{◌≡◌, ◌+◌, ◌<◌, ◌≤◌, ◌^◌, ◌∷◌, ℕ, List};
+ghost use Rattle.pymark_core.specs.Marker.Depth.{is_deep};
+ghost use Rattle.pymark_core.specs.Marker.Nesting.{deep_from};
+
+/// The number of parentheses that may be open at one place.
+const DEPTH_LIMIT: usize = 64;
+
+/// What stands before a place of a text.
+#[derive(Clone, Copy)]
+struct Nesting {
+    /// The quote of the quotation that is open.
+    quote: Option<u8>,
+    /// How many parentheses were opened.
+    opened: usize,
+    /// How many parentheses were closed.
+    closed: usize,
+}
+
+impl Nesting {
+    /// Passes over one byte.
+    fn pass(&mut self, byte: u8)
+        requires room { (self.old.opened + 1 < 2 ^ 64) × (self.old.closed + 1 < 2 ^ 64) }
+        requires flat { self.old.opened ≤ self.old.closed + 64 }
+        ensures ahead { (rest : List ℕ) → deep_from self.new rest ≡ deep_from self.old (byte ∷ rest) }
+        ensures opened { self.new.opened ≤ self.old.opened + 1 }
+        ensures closed { self.new.closed ≤ self.old.closed + 1 }
+    {
+        match self.quote {
+            Some(quote) => {
+                if byte == quote {
+                    self.quote = None;
+                }
+            }
+            None => match byte {
+                b'(' => self.opened += 1,
+                b')' => self.closed += 1,
+                b'"' | b'\'' => self.quote = Some(byte),
+                _ => {}
+            },
+        }
+    }
+}
+
+/// Whether more than 64 parentheses are open at some place of the text, quoted texts passed over.
+#[tactic(auto, using(crate::proofs::DepthLemmas::deep_here, crate::proofs::DepthLemmas::deep_end))]
+pub(super) fn is_deep(text: &str) -> bool
+    ensures { result ≡ is_deep text.now }
+{
+    let mut nesting = Nesting {
+        quote: None,
+        opened: 0,
+        closed: 0,
+    };
+    for byte in text.as_bytes() {
+        nesting.pass(*byte);
+        if nesting.opened.saturating_sub(nesting.closed) > DEPTH_LIMIT {
+            return true;
+        }
+    }
+    false
+}

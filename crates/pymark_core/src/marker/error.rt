@@ -1,0 +1,41 @@
+//! Why a text isn't taken as a marker.
+
+ghost use Rattle.std.specs.Prelude.{◌≡◌};
+ghost use Rattle.pymark_core.specs.declared.marker.error.MarkerError.TheVariants.{Memory};
+
+use std::alloc::{AllocError, AllocFailed};
+use thiserror::Error;
+
+/// Why a text isn't taken as a marker.
+#[derive(Debug, Drop, Error)]
+pub enum MarkerError {
+    /// More than 64 parentheses are open at some place of the text, quoted texts passed over. The text may have
+    /// other faults besides.
+    #[error("too-deep")]
+    TooDeep,
+    /// The text doesn't follow the grammar of PEP 508.
+    #[error("syntax")]
+    Syntax,
+    /// `extras` or `dependency_groups` stands anywhere but right of `in` or `not in`.
+    #[error("set-misuse")]
+    SetMisuse,
+    /// There was no memory for the marker.
+    #[error("memory")]
+    Memory,
+}
+
+impl From<AllocError> for MarkerError {
+    ghost from_gives = { λ _ e. e ≡ Memory };
+
+    fn from(_refused: AllocError) -> MarkerError {
+        MarkerError::Memory
+    }
+}
+
+impl<T: Drop> From<AllocFailed<T>> for MarkerError {
+    ghost from_gives = { λ _ e. e ≡ Memory };
+
+    fn from(_refused: AllocFailed<T>) -> MarkerError {
+        MarkerError::Memory
+    }
+}

@@ -1,0 +1,116 @@
+//! What of an environment a marker reads.
+
+ghost use Rattle.std.specs.Prelude.{◌≡◌, ◌<◌, ◌||◌, ◌++◌, List, Bool, false};
+ghost use Rattle.pymark_core.specs.Marker.Keys.{has_key, is_in, is_key, key_number, operand_keys, variable_number};
+ghost use Rattle.pymark_core.specs.declared.marker.keys.Key.{Key};
+
+use crate::operand::Operand;
+use crate::variable::Var;
+use std::marker::Model;
+
+/// What of an environment a marker may read.
+#[derive(Clone, Copy, PartialEq, Eq, Hash, Debug)]
+pub enum Key {
+    /// A variable.
+    Of(Var),
+    /// The set of extras.
+    Extras,
+    /// The set of groups.
+    Groups,
+}
+
+/// How many keys there are.
+const KEYS: usize = 13;
+
+fn variable_number(variable: Var) -> usize
+    ensures value { result ≡ variable_number variable }
+    ensures bound { result < 13 }
+{
+    match variable {
+        Var::OsName => 0,
+        Var::SysPlatform => 1,
+        Var::PlatformMachine => 2,
+        Var::PlatformPythonImplementation => 3,
+        Var::PlatformRelease => 4,
+        Var::PlatformSystem => 5,
+        Var::PlatformVersion => 6,
+        Var::PythonVersion => 7,
+        Var::PythonFullVersion => 8,
+        Var::ImplementationName => 9,
+        Var::ImplementationVersion => 10,
+    }
+}
+
+impl Key {
+    fn number(self) -> usize
+        ensures value { result ≡ key_number self }
+        ensures bound { result < 13 }
+    {
+        match self {
+            Key::Of(variable) => variable_number(variable),
+            Key::Extras => 11,
+            Key::Groups => 12,
+        }
+    }
+}
+
+/// The keys that a marker reads.
+#[derive(Clone, Copy, PartialEq, Eq, Debug)]
+pub struct Reads {
+    flags: [bool; KEYS],
+}
+
+impl Model for Reads {
+    ghost Value = { List Bool };
+
+    ghost view = { λ reads. reads.flags };
+
+    ghost inverse = { λ flags. record { flags = flags } };
+}
+
+impl Reads {
+    /// No key.
+    pub(super) fn none() -> Reads
+        ensures { (key : Key) → is_in result key ≡ false }
+    {
+        Reads {
+            flags: [false; KEYS],
+        }
+    }
+
+    /// Whether the key is among them. It takes no memory.
+    pub fn has(&self, key: Key) -> bool
+        ensures { result ≡ is_in self.now key }
+    {
+        self.flags[key.number()]
+    }
+
+    /// Adds the keys that the operands of a comparison are.
+    pub(super) fn insert_operands(&mut self, left: &Operand, right: &Operand)
+        ensures { (key : Key) → is_in self.new key
+            ≡ (is_in self.old key || has_key key (operand_keys left.now ++ operand_keys right.now)) }
+    {
+        self.insert_operand(left);
+        self.insert_operand(right);
+    }
+
+    /// Adds the key that the operand is, if it is one.
+    fn insert_operand(&mut self, operand: &Operand)
+        ensures { (key : Key) → is_in self.new key
+            ≡ (is_in self.old key || has_key key (operand_keys operand.now)) }
+    {
+        match operand {
+            Operand::Variable(variable) => self.insert(Key::Of(*variable)),
+            Operand::Extras => self.insert(Key::Extras),
+            Operand::Groups => self.insert(Key::Groups),
+            Operand::Text(_) | Operand::Extra => {}
+        }
+    }
+
+    /// Adds a key.
+    fn insert(&mut self, added: Key)
+        ensures { (key : Key) → is_in self.new key ≡ (is_in self.old key || is_key key added) }
+    {
+        self.flags[added.number()] = true;
+    }
+}

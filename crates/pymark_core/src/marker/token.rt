@@ -1,0 +1,184 @@
+//! The tokens of a marker's text (PEP 508, "Grammar").
+
+ghost use Rattle.std.specs.Prelude.{◌≡◌, ◌<◌, IsTrue, drop, length, option_map, slice_index};
+ghost use Rattle.std.specs.List.{prefix_len};
+ghost use Rattle.pyver_core.specs.SetReading.{behind_operator};
+ghost use Rattle.pymark_core.specs.Marker.Front.{lent_cut, lent_front, quotation_front, quoted_front, token_front, with_rest};
+ghost use Rattle.pymark_core.specs.Marker.Token as token;
+ghost use Rattle.pymark_core.specs.Marker.Token.{is_inside, is_quote, is_word_byte, operator_in, token_by, word_in};
+
+use crate::white::past_white;
+use pyver_core::Operator;
+
+/// A token, lent from the text.
+#[derive(Clone, Copy)]
+pub(super) enum Token<'a> {
+    /// `(`
+    Open,
+    /// `)`
+    Close,
+    /// An operator of specifiers.
+    Sign(Operator),
+    /// Letters, digits and `_`.
+    Word(&'a str),
+    /// What stands between two quotes.
+    Quoted(&'a str),
+}
+
+/// Whether the byte may stand between two of these quotes.
+fn is_inside(quote: u8, byte: u8) -> bool
+    ensures { result ≡ is_inside quote byte }
+{
+    byte != quote && byte != b'\\' && (byte == b'\t' || byte >= b' ' && byte != 0x7f)
+}
+
+fn is_quote(byte: u8) -> bool
+    ensures value { result ≡ is_quote byte }
+    ensures ascii { IsTrue result → byte < 128 }
+{
+    byte == b'"' || byte == b'\''
+}
+
+fn is_word_byte(byte: u8) -> bool
+    ensures { result ≡ is_word_byte byte }
+{
+    byte.is_ascii_alphanumeric() || byte == b'_'
+}
+
+fn inside_len(quote: u8, text: &str) -> usize
+    ensures { result ≡ prefix_len (is_inside quote) text.now }
+{
+    text.as_bytes()
+        .iter()
+        .take_while(|b| is_inside(quote, **b))
+        .count()
+}
+
+fn word_len(text: &str) -> usize
+    ensures { result ≡ prefix_len is_word_byte text.now }
+{
+    text.as_bytes()
+        .iter()
+        .take_while(|b| is_word_byte(**b))
+        .count()
+}
+
+#[tactic(auto, using(
+    crate::proofs::Boundaries::boundary_before_ascii,
+    crate::proofs::Boundaries::boundary_behind_ascii
+))]
+/// What stands between an opening quote, which is in front of the text, and the same quote, and the text
+/// behind it.
+fn quoted(quote: u8, text: &str) -> Option<(&str, &str)>
+    requires { quote < 128 }
+    ensures { option_map lent_cut result ≡ quoted_front quote text.now }
+{
+    let len = inside_len(quote, text);
+    if len < text.len() && text.as_bytes()[len] == quote {
+        return Some((text.split_at(len).0, text.split_at(len + 1).1));
+    }
+    None
+}
+
+/// The longest operator at the front of the text.
+fn operator(text: &str) -> Option<Operator>
+    ensures { result ≡ operator_in text.now }
+{
+    match text.as_bytes() {
+        [b'=', b'=', b'=', ..] => Some(Operator::Arbitrary),
+        [b'~', b'=', ..] => Some(Operator::Compatible),
+        [b'=', b'=', ..] => Some(Operator::Equal),
+        [b'!', b'=', ..] => Some(Operator::NotEqual),
+        [b'<', b'=', ..] => Some(Operator::AtMost),
+        [b'>', b'=', ..] => Some(Operator::AtLeast),
+        [b'<', ..] => Some(Operator::Before),
+        [b'>', ..] => Some(Operator::After),
+        _ => None,
+    }
+}
+
+/// The text behind the operator.
+#[tactic(auto, using(crate::proofs::Boundaries::stripped_prefix))]
+fn past_operator(text: &str, operator: Operator) -> Option<&str>
+    ensures { option_map (λ rest. rest.now) result ≡ behind_operator operator text.now }
+{
+    text.strip_prefix(operator.as_str())
+}
+
+/// The longest operator at the front of the text, and the text behind it.
+#[tactic(auto, using(crate::proofs::TokenLemmas::operator_stands))]
+fn sign(text: &str) -> Option<(Token<'_>, &str)>
+    ensures { option_map lent_front result ≡ with_rest text.now (option_map token.sign (operator_in text.now)) }
+{
+    let operator = operator(text)?;
+    let rest = past_operator(text, operator)?;
+    Some((Token::Sign(operator), rest))
+}
+
+/// The word at the front of the text, and the text behind it.
+#[tactic(auto, using(crate::proofs::Boundaries::boundary_behind_word))]
+fn word(text: &str) -> (&str, &str)
+    ensures front { result.0.now ≡ word_in text.now }
+    ensures rest { result.1.now ≡ drop (length (word_in text.now)) text.now }
+{
+    text.split_at(word_len(text))
+}
+
+/// The text behind its first byte, which is no part of a longer character.
+#[tactic(auto, using(crate::proofs::Boundaries::boundary_behind_first))]
+fn past_first(text: &str) -> &str
+    requires some { 0 < length text.now }
+    requires ascii { slice_index text.now 0 < 128 }
+    ensures { result.now ≡ drop 1 text.now }
+{
+    text.split_at(1).1
+}
+
+/// What stands between two of these quotes, the first of which is in front of the text, and the text behind
+/// them.
+#[tactic(auto, using(crate::proofs::TokenLemmas::quotation_front))]
+fn quotation(quote: u8, text: &str) -> Option<(&str, &str)>
+    requires some { 0 < length text.now }
+    requires first { slice_index text.now 0 ≡ quote }
+    requires ascii { quote < 128 }
+    ensures { option_map lent_cut result ≡ quotation_front quote text.now }
+{
+    quoted(quote, past_first(text))
+}
+
+/// The token of a text that begins with this byte, and the text behind it.
+fn token_by(first: u8, text: &str) -> Option<(Token<'_>, &str)>
+    requires some { 0 < length text.now }
+    requires first { slice_index text.now 0 ≡ first }
+    ensures { option_map lent_front result ≡ with_rest text.now (token_by first text.now) }
+{
+    if first == b'(' {
+        return Some((Token::Open, past_first(text)));
+    }
+    if first == b')' {
+        return Some((Token::Close, past_first(text)));
+    }
+    if is_quote(first) {
+        let (inside, rest) = quotation(first, text)?;
+        return Some((Token::Quoted(inside), rest));
+    }
+    if is_word_byte(first) {
+        let (letters, rest) = word(text);
+        return Some((Token::Word(letters), rest));
+    }
+    sign(text)
+}
+
+/// The token at the front of the text, and the text behind it.
+#[tactic(auto, using(
+    crate::proofs::TokenLemmas::token_of_first,
+    crate::proofs::TokenLemmas::token_of_none
+))]
+pub(super) fn first_token(text: &str) -> Option<(Token<'_>, &str)>
+    ensures { option_map lent_front result ≡ token_front text.now }
+{
+    if text.is_empty() {
+        return None;
+    }
+    token_by(text.as_bytes()[0], text)
+}

@@ -1,0 +1,27 @@
+//! The tree of a marker (PEP 508, "Environment Markers").
+
+use crate::comparison::Comparison;
+
+/// Parts with one word between them: conjunctions with `or`, atoms with `and`.
+#[derive(Debug, Drop)]
+pub(crate) struct Joined<T> {
+    /// The parts but for the last, in the order in which they were written.
+    pub(crate) front: Vec<T>,
+    /// The last part.
+    pub(crate) last: T,
+}
+
+/// A comparison, or a marker in parentheses.
+#[derive(Debug, Drop)]
+pub(crate) enum Atom {
+    /// A comparison.
+    Leaf(Comparison),
+    /// A marker in parentheses.
+    Group(Box<Tree>),
+}
+
+/// Atoms joined by `and`.
+pub(crate) type Conjunction = Joined<Atom>;
+
+/// Conjunctions joined by `or`.
+pub(crate) type Tree = Joined<Joined<Atom>>;
