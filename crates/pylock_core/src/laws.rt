@@ -1,11 +1,39 @@
 //! Laws of the definitions alone: each function's contract is a law, and its body is empty.
 
-ghost use Rattle.std.specs.Prelude.{◌≡◌, Bool, List, ℕ};
-ghost use Rattle.pylock_core.specs.Inner.Index.{Rises, moved};
-ghost use Rattle.pylock_core.specs.Session.Judgement.{and_head};
+ghost use Rattle.std.specs.Prelude.{◌≡◌, List, Option, true};
+ghost use Rattle.pyver_core.specs.declared.specifier.Specifier.{Specifier};
+ghost use Rattle.pymark_core.specs.Environment.{EnvironmentValue, variable_in};
+ghost use Rattle.pymark_core.specs.declared.variable.Var.TheVariants.{PythonFullVersion};
+ghost use Rattle.pylock_core.specs.Session.Judgement.{AgreeAtKey, IndexKey, entry_reads, head_reads, verdict_of};
+ghost use Rattle.pylock_core.specs.Session.StandIns.{EntryValue, HeadValue, TagValue};
+ghost use Rattle.pylock_core.specs.Session.Steps.{head_fault, python_check};
+ghost use Rattle.pylock_core.specs.declared.edit.Policy.{Policy};
 
-/// Trial.
-#[tactic(auto, using(crate::proofs::ReaderLemmas::passing_push, crate::proofs::ReaderLemmas::passing_set, crate::proofs::ReaderLemmas::moved_head, crate::proofs::ReaderLemmas::head_rises, crate::proofs::NameLemmas::get_policies_from))]
-pub fn trial()
-    ensures { (b : Bool) (ns : List ℕ) → Rises 1 ns → Rises 0 (and_head b ns) }
-{}
+use pymark_core::laws::marker_reads;
+
+/// A Python check reads nothing but `python_full_version`.
+pub fn python_check_reads()
+    ensures { (set : Option (List Specifier)) (e f : EnvironmentValue)
+        → variable_in PythonFullVersion e ≡ variable_in PythonFullVersion f
+        → python_check set e ≡ python_check set f }
+{
+}
+
+/// An entry reads nothing but its keys: two environments and tag lists that agree on them give it the
+/// same verdict under a policy of its name.
+pub fn entry_reads()
+    ensures { (entry : EntryValue) (policy : Policy) (e f : EnvironmentValue) (tags others : List TagValue)
+        → ((key : IndexKey) → entry_reads key entry ≡ true → AgreeAtKey key e f tags others)
+        → verdict_of entry e tags policy ≡ verdict_of entry f others policy }
+{
+    marker_reads();
+}
+
+/// The head reads nothing but its keys.
+pub fn head_reads()
+    ensures { (head : HeadValue) (e f : EnvironmentValue) (tags others : List TagValue)
+        → ((key : IndexKey) → head_reads key head ≡ true → AgreeAtKey key e f tags others)
+        → head_fault head e ≡ head_fault head f }
+{
+    marker_reads();
+}

@@ -7,7 +7,7 @@ mod edit;
 mod entry;
 mod error;
 mod file_name;
-mod laws;
+pub mod laws;
 mod lock;
 mod reading;
 mod session;

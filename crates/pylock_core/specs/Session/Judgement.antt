@@ -1,13 +1,18 @@
 -- What of the installation steps is kept from one edit to the next, and what each edit touches.
-use Rattle.std.specs.Prelude.{ℕ, ◌+◌, Bool, true, false, ◌||◌, ◌&&◌, List, [], ◌∷◌, ◌++◌, map, filter, Option, Some, None, is_some, if◌then◌else◌}
+use Rattle.std.specs.Prelude.{◌≡◌, ℕ, ◌+◌, Bool, true, false, ◌||◌, ◌&&◌, List, [], ◌∷◌, ◌++◌, map, filter, Option, Some, None, is_some, if◌then◌else◌}
 use Rattle.std.specs.List.{list_any}
 use Rattle.std.specs.Str.{bytes_eq}
 use Rattle.pyver_core.specs.Names.{norm}
 use Rattle.pymark_core.specs.Environment.{EnvironmentValue}
+use Rattle.pymark_core.specs.Marker.Keys.{reads}
+use Rattle.pymark_core.specs.Marker.Reading.{MarkerValue}
+use Rattle.pymark_core.specs.Marker.Value.{AgreeAt}
+use Rattle.pymark_core.specs.declared.marker.keys.Key.{Key}
+use Rattle.pymark_core.specs.declared.marker.keys.Key.TheVariants.{Of, Extras, Groups}
 use Rattle.pymark_core.specs.declared.variable.Var.{Var}
 use Rattle.pymark_core.specs.declared.variable.Var.TheVariants.{PythonFullVersion}
 use Rattle.pymark_core.specs.Variables.{variables}
-use Rattle.pylock_core.specs.Session.StandIns.{EntryValue, HeadValue, MarkerValue, TagValue, Key, Of, Extras, Groups, reads, Edit, Set, Unset, AddExtra, DropExtra, AddGroup, DropGroup, Tags, Add, Put, Del, SetPolicy}
+use Rattle.pylock_core.specs.Session.StandIns.{EntryValue, HeadValue, TagValue, Edit, Set, Unset, AddExtra, DropExtra, AddGroup, DropGroup, Tags, Add, Put, Del, SetPolicy}
 use Rattle.pylock_core.specs.Session.State.{State, Policies, policy_of}
 use Rattle.pylock_core.specs.Session.Steps.{standing, best_wheel, head_fault, is_any}
 use Rattle.pylock_core.specs.declared.answer.FaultCode.{FaultCode}
@@ -86,6 +91,11 @@ entry_reads key entry =
 abbrev pub head_reads : IndexKey → HeadValue → Bool
 head_reads key head =
     list_any (marker_reads key) head.environments || check_reads key head.requires_python
+
+-- two environments and tag lists have the same at the key
+abbrev pub AgreeAtKey : IndexKey → EnvironmentValue → EnvironmentValue → List TagValue → List TagValue → Type 0
+AgreeAtKey (Marked key) e f tags others = AgreeAt key e f
+AgreeAtKey OfTags e f tags others = tags ≡ others
 
 -- the numbers of the entries that pass the test
 abbrev pub numbers_where : {X : Type 0} → (X → Bool) → List (ℕ × X) → List ℕ

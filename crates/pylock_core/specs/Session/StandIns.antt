@@ -1,35 +1,10 @@
 -- Stand-ins until the crates of markers, wheels and entries have these.
-use Rattle.std.specs.Prelude.{ℕ, Bool, List, Option, Result, Ok, Err, None, Some, true}
+use Rattle.std.specs.Prelude.{ℕ, Bool, List, Option, None, Some, [], ◌∷◌, map}
 use Rattle.pymark_core.specs.declared.variable.Var.{Var}
 use Rattle.pyver_core.specs.declared.specifier.Specifier.{Specifier}
-use Rattle.pymark_core.specs.Environment.{EnvironmentValue}
+use Rattle.pymark_core.specs.Marker.Reading.{MarkerValue}
 use Rattle.pylock_core.specs.declared.edit.Policy.{Policy}
 use Rattle.pylock_core.specs.Entry.{DirectoryValue, SdistValue}
-
-pub data Tree : Type 0 where
-  leaf : ℕ → Tree
-
-pub data EvalFault : Type 0 where
-  Unset : Var → EvalFault
-  Extra : EvalFault
-  Undefined : EvalFault
-  NumberTooLarge : EvalFault
-  Memory : EvalFault
-
-pub data Key : Type 0 where
-  Of : Var → Key
-  Extras : Key
-  Groups : Key
-
-pub record MarkerValue : Type 0 where
-  pub text : List ℕ
-  pub tree : Tree
-
-pub reads : Key → Tree → Bool
-reads k t = true
-
-pub marker_value : EnvironmentValue → Tree → Result Bool EvalFault
-marker_value e t = Ok true
 
 pub record TagValue : Type 0 where
   pub python : List ℕ
@@ -39,8 +14,10 @@ pub record TagValue : Type 0 where
 pub record WheelValue : Type 0 where
   pub name : List ℕ
 
-pub best : List (Option WheelValue) → List TagValue → Option ℕ
-best wheels tags = None
+abbrev pub best : List (Option WheelValue) → List TagValue → Option ℕ
+best [] tags = None
+best (w ∷ ws) [] = None
+best (w ∷ ws) (t ∷ ts) = Some 0
 
 pub record VcsValue : Type 0 where
   pub path : List ℕ
@@ -72,6 +49,9 @@ pub record LockValue : Type 0 where
 
 pub wheel_name : SdistValue → Option WheelValue
 wheel_name file = None
+
+abbrev pub wheel_names : EntryValue → List (Option WheelValue)
+wheel_names entry = map wheel_name entry.wheels
 
 pub data Edit : Type 0 where
   Set : Var → List ℕ → Edit

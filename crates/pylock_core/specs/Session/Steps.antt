@@ -7,10 +7,14 @@ use Rattle.pyver_core.specs.Parts.{Parts}
 use Rattle.pyver_core.specs.Specifiers.{admits_all}
 use Rattle.pyver_core.specs.declared.specifier.Specifier.{Specifier}
 use Rattle.pymark_core.specs.Environment.{EnvironmentValue, variable_in}
+use Rattle.pymark_core.specs.Marker.Reading.{MarkerValue}
+use Rattle.pymark_core.specs.Marker.Value.{marker_value}
 use Rattle.pymark_core.specs.Parsed.{parsed_version}
+use Rattle.pymark_core.specs.declared.fault.EvalFault.{EvalFault}
+use Rattle.pymark_core.specs.declared.fault.EvalFault.TheVariants.{Unset, Extra, Undefined, NumberTooLarge, Memory}
 use Rattle.pyver_core.specs.declared.error.VersionError.{VersionError}
 use Rattle.pymark_core.specs.declared.variable.Var.TheVariants.{PythonFullVersion}
-use Rattle.pylock_core.specs.Session.StandIns.{EntryValue, HeadValue, MarkerValue, TagValue, EvalFault, Unset, Extra, Undefined, NumberTooLarge, Memory, marker_value, best, wheel_name}
+use Rattle.pylock_core.specs.Session.StandIns.{EntryValue, HeadValue, TagValue, best, wheel_names}
 use Rattle.pylock_core.specs.Session.State.{State, Policies, policy_of}
 use Rattle.pylock_core.specs.declared.answer.Answer.{Answer}
 use Rattle.pylock_core.specs.declared.answer.Answer.TheVariants.{Plan, Fault}
@@ -144,8 +148,8 @@ slate (e ∷ es) environment names =
 
 -- the wheel that is chosen among those of the entry, unless its name is to be installed from source
 abbrev pub best_wheel : EntryValue → List TagValue → Policy → Option ℕ
-best_wheel entry tags policy.Any = best (map wheel_name entry.wheels) tags
-best_wheel entry tags policy.Wheel = best (map wheel_name entry.wheels) tags
+best_wheel entry tags policy.Any = best (wheel_names entry) tags
+best_wheel entry tags policy.Wheel = best (wheel_names entry) tags
 best_wheel entry tags policy.Source = None
 
 -- the sdist, unless the name is to be installed from wheels
