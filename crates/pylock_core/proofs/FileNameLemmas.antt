@@ -5,7 +5,7 @@ use Rattle.std.proofs.lemmas.Bool.{cases_Bool, cond-true, cond-false}
 use Rattle.std.proofs.lemmas.Str.{is_utf8-from_IsUtf8, IsUtf8-from_is_utf8}
 use Rattle.std.specs.Str.{is_utf8}
 use Rattle.percent_encoding.specs.Percent.{percent_decode}
-use Rattle.pylock_core.specs.FileName.{decoded}
+use Rattle.pylock_core.specs.Entry.FileName.{decoded}
 use Rattle.std.specs.List.{after_last, suffix_len}
 use Rattle.std.proofs.lemmas.List.Sums.{suffix_len_is}
 

@@ -2,10 +2,11 @@ mod FileNameLemmas
 mod IndexLemmas
 pub mod NameLemmas
 pub mod PassLemmas
-mod ReadingLemmas
 pub mod VerdictLemmas
 pub mod ReaderLemmas
+mod TableLemmas
+mod FrontLemmas
+mod SharedLemmas
 pub mod EntryLemmas
-pub mod RowLemmas
-pub mod SlateLemmas
-pub mod StepLemmas
+mod DistinctLemmas
+mod TextLemmas

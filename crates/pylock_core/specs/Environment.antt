@@ -1,67 +1,79 @@
--- The text of an environment: the variables and the tags of the Python that is installed for. Variables and tags aren't kept yet: what an accepted text says is that it has the form.
-use Rattle.std.specs.Prelude.{ℕ, Bool, true, not, ◌&&◌, ◌||◌, codes, List, [], ◌∷◌, is_some, option_and_then, ok_or, Result, Ok, Err, if◌then◌else◌, ⊤}
-use Rattle.std.specs.List.{list_any}
-use Rattle.std.specs.Str.{bytes_eq}
-use Rattle.serde_json.specs.Data.{Data, Items, no_items, item, Members, no_members, member}
-use Rattle.serde_json.specs.Find.{get, as_str, as_array, as_object}
+-- The text of an environment: the variables and the tags of the Python that is installed for.
+use Rattle.std.specs.Prelude.{ℕ, codes, List, [], ◌∷◌, Option, Some, None, option_and_then, option_map, ok_or, Result, Ok, Err}
+use Rattle.serde_json.specs.Data.{Data, Items, no_items, item, Members}
+use Rattle.serde_json.specs.Find.{get, get_member, as_str, as_array, as_object}
 use Rattle.serde_json.specs.Read.{read}
-use Rattle.pylock_core.specs.Reading.{◌>>=◌, text_of}
+use Rattle.pyver_core.specs.Results.{◌>>=◌}
+use Rattle.pymark_core.specs.Environment.{EnvironmentValue, empty, with_variable}
+use Rattle.pymark_core.specs.Variables.{variable_name, variables}
+use Rattle.pymark_core.specs.declared.variable.Var.{Var}
+use Rattle.pywheel_core.specs.Tag.{TagValue, tags_of}
+use Rattle.pywheel_core.specs.declared.error.TagListError.{TagListError}
+use Rattle.pywheel_core.specs.declared.error.TagListError.TheVariants as list
+use Rattle.pylock_core.specs.Text.{text_of}
 use Rattle.pylock_core.specs.declared.error.EnvError.{EnvError}
-use Rattle.pylock_core.specs.declared.error.EnvError.TheVariants.{Json, Shape, Tag}
-
--- the variables of markers (PEP 508, "Environment Markers")
-abbrev pub variables : List (List ℕ)
-variables =
-    codes "os_name" ∷ codes "sys_platform" ∷ codes "platform_machine" ∷ codes "platform_python_implementation"
-    ∷ codes "platform_release" ∷ codes "platform_system" ∷ codes "platform_version" ∷ codes "python_version"
-    ∷ codes "python_full_version" ∷ codes "implementation_name" ∷ codes "implementation_version" ∷ []
-
-abbrev pub is_variable : List ℕ → Bool
-is_variable name = list_any (λ variable. bytes_eq variable name) variables
-
--- a member that is named like a variable is a text
-abbrev pub may_stand : List ℕ → Data → Bool
-may_stand name d = not (is_variable name) || is_some (as_str d)
-
-abbrev pub variables_are_texts : Members → Bool
-variables_are_texts no_members = true
-variables_are_texts (member name d rest) = may_stand name d && variables_are_texts rest
-
-abbrev pub are_texts : Items → Bool
-are_texts no_items = true
-are_texts (item d rest) = is_some (as_str d) && are_texts rest
+use Rattle.pylock_core.specs.declared.error.EnvError.TheVariants as error
 
 -- the object `environment`
-abbrev pub environment_in : Data → Result Members EnvError
-environment_in d = ok_or (option_and_then as_object (get (codes "environment") d)) Shape
+abbrev pub members_in : Data → Result Members EnvError
+members_in d = ok_or (option_and_then as_object (get (codes "environment") d)) error.Shape
 
 -- the list `tags`
 abbrev pub tags_in : Data → Result Items EnvError
-tags_in d = ok_or (option_and_then as_array (get (codes "tags") d)) Shape
+tags_in d = ok_or (option_and_then as_array (get (codes "tags") d)) error.Shape
 
-abbrev pub shape : Bool → Result ⊤ EnvError
-shape test = if test then Ok tt else Err Shape
+-- the text of a member, which is a text where it is there
+abbrev pub text_in : Option Data → Result (Option (List ℕ)) EnvError
+text_in None = Ok None
+text_in (Some d) = ok_or (option_map Some (as_str d)) error.Shape
 
--- no tag is known yet, so the first one is refused
-abbrev pub no_tags : Items → Result ⊤ EnvError
-no_tags no_items = Ok tt
-no_tags (item d rest) = Err (Tag 1)
+-- the environment where the variable has the text, if there is one
+abbrev pub with_text : Var → Option (List ℕ) → EnvironmentValue → EnvironmentValue
+with_text variable None environment = environment
+with_text variable (Some text) environment = with_variable variable text environment
 
-unfoldable pub env_in : Data → Result ⊤ EnvError
+-- the environment where each of these variables has the text of the member of its name
+abbrev pub with_members : List Var → Members → EnvironmentValue → Result EnvironmentValue EnvError
+with_members [] ms environment = Ok environment
+with_members (variable ∷ more) ms environment =
+    text_in (get_member (variable_name variable) ms)
+    >>= (λ text. with_members more ms (with_text variable text environment))
+
+-- the texts of a list
+abbrev pub texts_in : Items → Result (List (List ℕ)) EnvError
+texts_in no_items = Ok []
+texts_in (item d ds) =
+    ok_or (as_str d) error.Shape >>= (λ text. texts_in ds >>= (λ texts. Ok (text ∷ texts)))
+
+-- the refusal of tags is that of the environment
+abbrev pub tag_refusal : TagListError → EnvError
+tag_refusal (list.Tag place) = error.Tag place
+tag_refusal list.Memory = error.Memory
+
+abbrev pub listed : List (List ℕ) → Result (List TagValue) EnvError
+listed texts = by (tags_of texts)
+  where
+    by : Result (List TagValue) TagListError → Result (List TagValue) EnvError
+    by (Ok tags) = Ok tags
+    by (Err e) = Err (tag_refusal e)
+
+-- the environment and the tags of a value; its form is judged before any tag
+unfoldable pub env_in : Data → Result (EnvironmentValue × List TagValue) EnvError
 env_in d = do
-  environment ← environment_in d
-  _ ← shape (variables_are_texts environment)
-  tags ← tags_in d
-  _ ← shape (are_texts tags)
-  no_tags tags
+  members ← members_in d
+  environment ← with_members variables members empty
+  items ← tags_in d
+  texts ← texts_in items
+  tags ← listed texts
+  Ok (environment, tags)
 
 -- the text as JSON
 abbrev pub value_of : List ℕ → Result Data EnvError
-value_of text = ok_or (read text) Json
+value_of text = ok_or (read text) error.Json
 
--- the environment that the bytes are
-unfoldable pub env_of : List ℕ → Result ⊤ EnvError
+-- the environment and the tags that the bytes are
+unfoldable pub env_of : List ℕ → Result (EnvironmentValue × List TagValue) EnvError
 env_of bytes = do
-  text ← ok_or (text_of bytes) Json
+  text ← ok_or (text_of bytes) error.Json
   value ← value_of text
   env_in value

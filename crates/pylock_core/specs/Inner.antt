@@ -4,3 +4,5 @@ pub mod Names
 pub mod Pass
 pub mod Progress
 pub mod Rows
+pub mod Strings
+pub mod Shared

@@ -1,12 +1,6 @@
-pub mod FileName
+pub mod Text
 pub mod Entry
-pub mod Inner
 pub mod Session
-pub mod State
-pub mod Rows
-pub mod Steps
-pub mod Fields
-pub mod Reading
 pub mod Lock
 pub mod Environment
-pub mod Progress
+pub mod Inner

@@ -4,7 +4,7 @@ ghost use Rattle.pylock_core.specs.declared.error.LockError.TheVariants as lock;
 ghost use Rattle.pylock_core.specs.declared.error.EntryError.TheVariants as entry;
 ghost use Rattle.pylock_core.specs.declared.error.EnvError.TheVariants as environment;
 
-use std::alloc::{AllocError, AllocFailed};
+use std::alloc::AllocError;
 
 /// Why a lock is refused, in the order in which its parts are judged.
 #[derive(Debug, Drop)]
@@ -47,6 +47,8 @@ pub enum HeadKey {
 /// Why an entry is refused, in the order in which its keys are judged.
 #[derive(Debug, Drop)]
 pub enum EntryError {
+    /// The text of an entry is no TOML value.
+    Toml,
     /// The entry is not a table.
     NotTable,
     /// `name` is absent or no name (PEP 503).
@@ -92,50 +94,26 @@ pub enum EnvError {
     Memory,
 }
 
-impl From<AllocError> for LockError {
+impl<E: Into<AllocError> + Drop> From<E> for LockError {
     ghost from_gives = { λ _ e. e ≡ lock.Memory };
 
-    fn from(_refused: AllocError) -> LockError {
+    fn from(_refused: E) -> LockError {
         LockError::Memory
     }
 }
 
-impl<T: Drop> From<AllocFailed<T>> for LockError {
-    ghost from_gives = { λ _ e. e ≡ lock.Memory };
-
-    fn from(_refused: AllocFailed<T>) -> LockError {
-        LockError::Memory
-    }
-}
-
-impl From<AllocError> for EntryError {
+impl<E: Into<AllocError> + Drop> From<E> for EntryError {
     ghost from_gives = { λ _ e. e ≡ entry.Memory };
 
-    fn from(_refused: AllocError) -> EntryError {
+    fn from(_refused: E) -> EntryError {
         EntryError::Memory
     }
 }
 
-impl<T: Drop> From<AllocFailed<T>> for EntryError {
-    ghost from_gives = { λ _ e. e ≡ entry.Memory };
-
-    fn from(_refused: AllocFailed<T>) -> EntryError {
-        EntryError::Memory
-    }
-}
-
-impl From<AllocError> for EnvError {
+impl<E: Into<AllocError> + Drop> From<E> for EnvError {
     ghost from_gives = { λ _ e. e ≡ environment.Memory };
 
-    fn from(_refused: AllocError) -> EnvError {
-        EnvError::Memory
-    }
-}
-
-impl<T: Drop> From<AllocFailed<T>> for EnvError {
-    ghost from_gives = { λ _ e. e ≡ environment.Memory };
-
-    fn from(_refused: AllocFailed<T>) -> EnvError {
+    fn from(_refused: E) -> EnvError {
         EnvError::Memory
     }
 }

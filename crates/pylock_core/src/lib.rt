@@ -3,22 +3,22 @@
 #![tactic(auto)]
 
 mod answer;
+mod conditions;
 mod edit;
 mod entry;
+mod environment;
 mod error;
-mod file_name;
+mod field;
 pub mod laws;
 mod lock;
-mod reading;
 mod session;
 mod steps;
-#[cfg(test)]
-mod tests;
+mod text;
 
 pub use answer::{Answer, FaultCode, Pick, PickSource, Plan};
 pub use edit::{Edit, EditError};
-pub use entry::{Directory, Entry, Sdist};
+pub use entry::{Archive, Directory, DistributionFile, Entry, Sdist, Vcs, WheelFile};
+pub use environment::read_environment;
 pub use error::{EntryError, EntryKey, EnvError, HeadKey, LockError};
 pub use lock::Lock;
-pub use reading::read_environment;
 pub use session::Session;

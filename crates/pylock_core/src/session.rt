@@ -32,7 +32,6 @@ pub struct Session {
 
 impl Model for Session {
     ghost use Rattle.std.specs.Prelude.{◌≤◌, vec_len};
-    ghost use Rattle.pylock_core.specs.declared.lock.TheConstants.{MOST_ENTRIES};
     ghost use Rattle.pylock_core.specs.State.{State};
     ghost use Rattle.pylock_core.specs.Rows.{state_of};
 
@@ -40,7 +39,7 @@ impl Model for Session {
 
     ghost view = { λ s. state_of s.rows.items };
 
-    ghost invariant = { λ s. vec_len s.rows ≤ MOST_ENTRIES };
+    ghost invariant = { λ s. vec_len s.rows ≤ 100000 };
 }
 
 impl Session {
@@ -50,7 +49,8 @@ impl Session {
     pub fn start(alloc: Global, lock: Lock) -> Result<Session, AllocError>
         ensures { IfOk result (λ session. session ≡ first lock) }
     {
-        let rows = all_there(alloc, lock.into_entries())?;
+        let (_, entries) = lock.into_parts();
+        let rows = all_there(alloc, entries)?;
         Ok(Session { rows })
     }
 

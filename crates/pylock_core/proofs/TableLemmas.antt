@@ -1,0 +1,65 @@
+-- Lemmas on tables of a TOML document, out of which values are taken.
+use Rattle.std.proofs.Common.{◌≡◌, ◌∙◌, ℕ, Bool, true, false, List, [], ◌∷◌, Option, Some, None, Ordering, Less, Equal, Greater, String, Global, string_bytes, nat_cmp, is_eq, option_map, cond, refl, ap, sym}
+use Rattle.std.proofs.Math.Logic.{⊎_elim}
+use Rattle.std.proofs.lemmas.Bool.{cases_Bool, cond-true, cond-false, false≢true}
+use Rattle.std.proofs.lemmas.Map.Text.{is_eq-slice_cmp}
+use Rattle.std.proofs.lemmas.Slice.Eq.{bytes_eq-Decides}
+use Rattle.std.specs.BTreeMap.{is_at}
+use Rattle.std.specs.Cmp.Lexicographic.{slice_cmp}
+use Rattle.std.specs.Map.{lookup, remove_entry}
+use Rattle.std.specs.Ordering.{match_ordering}
+use Rattle.toml.proofs.Views.{view-lookup}
+use Rattle.toml.specs.Data.{Data, get_member, same_key}
+use Rattle.toml.specs.View.{view, members_view}
+use Rattle.toml.specs.declared.value.Value.{Value}
+
+-- the value that was taken out of a table is the member of the key
+pub taken_member : (taken : Option Value) (key : List ℕ) (es : List (String Global × Value))
+    → taken ≡ lookup (is_at (λ k. slice_cmp nat_cmp key (string_bytes k))) es
+    → option_map view taken ≡ get_member key (members_view es)
+taken_member taken key es found = ap (option_map view) found ∙ view-lookup key es
+
+-- keys that are the same are equal
+pub same_key_is : (k l : List ℕ) → same_key k l ≡ true → k ≡ l
+same_key_is k l same = (bytes_eq-Decides k l).0 (sym (is_eq-slice_cmp k l) ∙ same)
+
+-- a comparison that finds no tie chooses between equals
+same_both : {A : Type 0} (o : Ordering) (x y : A) → is_eq o ≡ false → match_ordering o x y x ≡ x
+same_both Less x y other = refl
+same_both Equal x y other = absurd (false≢true (sym other))
+same_both Greater x y other = refl
+
+-- a table without its first entry, seen where the key that is looked up isn't the one taken out
+past_taken : (other key : List ℕ) (e : String Global × Value) (es left : List (String Global × Value))
+    → same_key other key ≡ false → get_member other (members_view left) ≡ get_member other (members_view es)
+    → get_member other (members_view (cond (same_key key (string_bytes e.0)) es (e ∷ left)))
+    ≡ get_member other (members_view (e ∷ es))
+past_taken other key e es left differs same =
+    ⊎_elim here there (cases_Bool (same_key key (string_bytes e.0)))
+  where
+    order : Ordering
+    order = slice_cmp nat_cmp other (string_bytes e.0)
+
+    here : same_key key (string_bytes e.0) ≡ true
+        → get_member other (members_view (cond (same_key key (string_bytes e.0)) es (e ∷ left)))
+        ≡ get_member other (members_view (e ∷ es))
+    here tie =
+        ap (λ rest. get_member other (members_view rest)) (cond-true _ es (e ∷ left) tie)
+        ∙ sym (same_both order (get_member other (members_view es)) (Some (view e.1))
+        (ap (λ k. same_key other k) (sym (same_key_is key (string_bytes e.0) tie)) ∙ differs))
+
+    there : same_key key (string_bytes e.0) ≡ false
+        → get_member other (members_view (cond (same_key key (string_bytes e.0)) es (e ∷ left)))
+        ≡ get_member other (members_view (e ∷ es))
+    there apart =
+        ap (λ rest. get_member other (members_view rest)) (cond-false _ es (e ∷ left) apart)
+        ∙ ap (λ rest. match_ordering order rest (Some (view e.1)) rest) same
+
+-- a look-up of a key that isn't the one taken out finds what it found
+pub other_member : (other key : List ℕ) (es : List (String Global × Value)) → same_key other key ≡ false
+    → get_member other (members_view (remove_entry (is_at (λ k. slice_cmp nat_cmp key (string_bytes k))) es))
+    ≡ get_member other (members_view es)
+other_member other key [] differs = refl
+other_member other key (e ∷ es) differs =
+    past_taken other key e es (remove_entry (is_at (λ k. slice_cmp nat_cmp key (string_bytes k))) es) differs
+    (other_member other key es differs)

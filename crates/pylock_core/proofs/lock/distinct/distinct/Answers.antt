@@ -1,0 +1,42 @@
+use Rattle.std.proofs.Common.{◌≡◌, ◌∙◌, ◌++◌, ◌∷◌, [], ap, sym, map, string_bytes, string_cmp, String, Global, rules}
+use Rattle.std.specs.BTreeSet.{insert_key}
+use Rattle.std.proofs.lemmas.List.{map-append}
+use Rattle.pylock_core.specs.Lock.Head.{distinct}
+use Rattle.pylock_core.proofs.DistinctLemmas.{has, new_text, repeated_text, unseen, unseen_none, was_new, was_there}
+use Rattle.pylock_core.proofs.lock.distinct.distinct.Goals as goal
+
+pub loop-text-init : goal.loop-text-init
+loop-text-init c =
+    rw (c.new-seen.ensures.empty, c.new-once.ensures.items)
+    (unseen_none _ ∙ ap (λ texts. distinct (map string_bytes texts)) (search rules))
+
+pub loop-text-preserved-in_ok-push : goal.loop-text-preserved-in_ok-push
+loop-text-preserved-in_ok-push c =
+    let keys = c.loop-text.seen.keys in
+    let once = map string_bytes c.loop-text.once.items in
+    let copy = c.in_ok-clone.field-0 in
+    let same : string_bytes copy ≡ string_bytes c.in-Some.text = search rules in
+    let rest = map string_bytes c.next.new.self.rest.items in
+    let fresh = was_new (has keys (string_bytes copy)) c.in_ok-insert.field-0 c.in_ok-insert.ensures.added c.if-branch.true in
+    ap (λ items. map string_bytes items ++ unseen c.insert.new.self.keys (distinct rest)) c.in_ok-push.ensures.items
+    ∙ ap (λ items. items ++ unseen c.insert.new.self.keys (distinct rest)) (map-append (λ (s : String Global). string_bytes s) c.loop-text.once.items _)
+    ∙ ap (λ keys. (once ++ string_bytes c.in-Some.text ∷ []) ++ unseen keys (distinct rest)) c.in_ok-insert.ensures.keys
+    ∙ ap (λ text. (once ++ text ∷ []) ++ unseen (insert_key string_cmp keys copy) (distinct rest)) (sym same)
+    ∙ new_text once keys copy rest fresh
+    ∙ ap (λ text. once ++ unseen keys (distinct (text ∷ rest))) same
+    ∙ ap (λ texts. once ++ unseen keys (distinct (map string_bytes texts))) (sym c.in-Some.ensures.steps.0)
+    ∙ c.loop-text.invariant
+
+pub loop-text-preserved : goal.loop-text-preserved
+loop-text-preserved c =
+    let keys = c.loop-text.seen.keys in
+    let once = map string_bytes c.loop-text.once.items in
+    let copy = c.in_ok-clone.field-0 in
+    let same : string_bytes copy ≡ string_bytes c.in-Some.text = search rules in
+    let rest = map string_bytes c.next.new.self.rest.items in
+    let seen = was_there (has keys (string_bytes copy)) c.in_ok-insert.field-0 c.in_ok-insert.ensures.added c.if-branch.false in
+    ap (λ keys. once ++ unseen keys (distinct rest)) c.in_ok-insert.ensures.keys
+    ∙ repeated_text once keys copy rest seen
+    ∙ ap (λ text. once ++ unseen keys (distinct (text ∷ rest))) same
+    ∙ ap (λ texts. once ++ unseen keys (distinct (map string_bytes texts))) (sym c.in-Some.ensures.steps.0)
+    ∙ c.loop-text.invariant

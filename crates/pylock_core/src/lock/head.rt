@@ -1,0 +1,209 @@
+//! The head of a lock (PEP 751).
+ghost use Rattle.std.specs.Prelude.{◌≡◌, map, option_map, string_bytes};
+ghost use Rattle.std.specs.Option.{option_copied};
+ghost use Rattle.toml.specs.View.{view, items_view};
+ghost use Rattle.pyver_core.specs.Agreement.{Gives};
+ghost use Rattle.pylock_core.specs.Entry.Fields.{each, marker_field, name_of, set_field};
+ghost use Rattle.pylock_core.specs.Lock.Head.{refusal_for, names_in, markers_in, environments_in, requires_python_in, head_names_in, head_in};
+
+use crate::conditions::{read_marker, read_set};
+use crate::error::{HeadKey, LockError};
+use crate::field::{FieldError, into_name, into_text, items};
+use crate::lock::distinct::distinct;
+use pymark_core::Marker;
+use pyver_core::SpecifierSet;
+use std::alloc::Global;
+use std::marker::Model;
+use toml::Value;
+
+/// What a lock says of itself: the environments that it is for, its extras and its groups.
+#[derive(Debug, Drop)]
+pub(crate) struct Head {
+    environments: Vec<Marker>,
+    requires_python: Option<SpecifierSet>,
+    extras: Vec<String>,
+    groups: Vec<String>,
+    default_groups: Vec<String>,
+}
+
+impl Model for Head {
+    ghost use Rattle.std.specs.Prelude.{map, string_bytes};
+    ghost use Rattle.pylock_core.specs.Lock.{HeadValue};
+
+    ghost Value = { HeadValue };
+
+    ghost view = { λ h. record {
+      environments = h.environments.items;
+      requires_python = h.requires_python;
+      extras = map string_bytes h.extras.items;
+      groups = map string_bytes h.groups.items;
+      default_groups = map string_bytes h.default_groups.items;
+    } };
+}
+
+/// The values of the keys of a head.
+#[derive(Drop)]
+pub(crate) struct HeadFields {
+    pub(crate) environments: Option<Value>,
+    pub(crate) requires_python: Option<Value>,
+    pub(crate) extras: Option<Value>,
+    pub(crate) groups: Option<Value>,
+    pub(crate) default_groups: Option<Value>,
+}
+
+impl Head {
+    /// The head of these keys, which are judged in their order.
+    #[tactic(auto, unfolding(crate::specs::Lock::Head::head_in))]
+    pub(crate) fn read(alloc: Global, fields: HeadFields) -> Result<Head, LockError>
+        ensures { Gives LockError.Memory (λ h. h) result
+            (head_in (option_map view fields.environments) (option_map view fields.requires_python)
+            (option_map view fields.extras) (option_map view fields.groups)
+            (option_map view fields.default_groups)) }
+    {
+        let environments = read_environments(alloc, fields.environments)?;
+        let requires_python = read_requires_python(alloc, fields.requires_python)?;
+        let extras = read_head_names(alloc, HeadKey::Extras, fields.extras)?;
+        let groups = read_head_names(alloc, HeadKey::DependencyGroups, fields.groups)?;
+        let default_groups = read_head_names(alloc, HeadKey::DefaultGroups, fields.default_groups)?;
+        Ok(Head {
+            environments,
+            requires_python,
+            extras,
+            groups,
+            default_groups,
+        })
+    }
+
+    pub(crate) fn environments(&self) -> &[Marker]
+        ensures { result.now ≡ self.now.environments }
+    {
+        self.environments.as_slice()
+    }
+
+    pub(crate) fn requires_python(&self) -> Option<&SpecifierSet>
+        ensures { option_copied result ≡ self.now.requires_python }
+    {
+        self.requires_python.as_ref()
+    }
+
+    pub(crate) fn extras(&self) -> &[String]
+        ensures { map string_bytes result.now ≡ self.now.extras }
+    {
+        self.extras.as_slice()
+    }
+
+    pub(crate) fn groups(&self) -> &[String]
+        ensures { map string_bytes result.now ≡ self.now.groups }
+    {
+        self.groups.as_slice()
+    }
+
+    pub(crate) fn default_groups(&self) -> &[String]
+        ensures { map string_bytes result.now ≡ self.now.default_groups }
+    {
+        self.default_groups.as_slice()
+    }
+}
+
+fn read_environments(alloc: Global, field: Option<Value>) -> Result<Vec<Marker>, LockError>
+    ensures { Gives LockError.Memory (λ v. v.items) result
+        (environments_in (option_map view field)) }
+{
+    match environment_markers(alloc, field) {
+        Ok(markers) => Ok(markers),
+        Err(fault) => Err(refusal(fault, LockError::Head(HeadKey::Environments))),
+    }
+}
+
+fn environment_markers(alloc: Global, field: Option<Value>) -> Result<Vec<Marker>, FieldError>
+    ensures { Gives FieldError.Memory (λ v. v.items) result (markers_in (option_map view field)) }
+{
+    let values = items(alloc, field)?;
+    read_markers(alloc, values)
+}
+
+fn read_markers(alloc: Global, values: Vec<Value>) -> Result<Vec<Marker>, FieldError>
+    ensures { Gives FieldError.Memory (λ v. v.items) result
+        (each marker_field (items_view values.items)) }
+{
+    let mut markers = Vec::with_capacity(alloc, values.len())?;
+    for value in values {
+        markers.push(marker(alloc, value)?)?;
+    }
+    Ok(markers)
+}
+
+fn marker(alloc: Global, value: Value) -> Result<Marker, FieldError>
+    ensures { Gives FieldError.Memory (λ m. m) result (marker_field (view value)) }
+{
+    let text = into_text(value)?;
+    read_marker(alloc, text.as_str())
+}
+
+fn read_requires_python(
+    alloc: Global,
+    field: Option<Value>,
+) -> Result<Option<SpecifierSet>, LockError>
+    ensures { Gives LockError.Memory (λ s. s) result
+        (requires_python_in (option_map view field)) }
+{
+    match field {
+        None => Ok(None),
+        Some(value) => match set(alloc, value) {
+            Ok(set) => Ok(Some(set)),
+            Err(fault) => Err(refusal(fault, LockError::Head(HeadKey::RequiresPython))),
+        },
+    }
+}
+
+fn set(alloc: Global, value: Value) -> Result<SpecifierSet, FieldError>
+    ensures { Gives FieldError.Memory (λ s. s) result (set_field (view value)) }
+{
+    let text = into_text(value)?;
+    read_set(alloc, text.as_str())
+}
+
+/// The names of a key, in normal form, each once.
+fn read_head_names(
+    alloc: Global,
+    key: HeadKey,
+    field: Option<Value>,
+) -> Result<Vec<String>, LockError>
+    ensures { Gives LockError.Memory (λ v. map string_bytes v.items) result
+        (head_names_in key (option_map view field)) }
+{
+    match names(alloc, field) {
+        Ok(names) => Ok(names),
+        Err(fault) => Err(refusal(fault, LockError::Head(key))),
+    }
+}
+
+fn names(alloc: Global, field: Option<Value>) -> Result<Vec<String>, FieldError>
+    ensures { Gives FieldError.Memory (λ v. map string_bytes v.items) result
+        (names_in (option_map view field)) }
+{
+    let values = items(alloc, field)?;
+    let names = read_names(alloc, values)?;
+    Ok(distinct(alloc, names)?)
+}
+
+fn read_names(alloc: Global, values: Vec<Value>) -> Result<Vec<String>, FieldError>
+    ensures { Gives FieldError.Memory (λ v. map string_bytes v.items) result
+        (each name_of (items_view values.items)) }
+{
+    let mut names = Vec::with_capacity(alloc, values.len())?;
+    for value in values {
+        names.push(into_name(alloc, value)?)?;
+    }
+    Ok(names)
+}
+
+/// The refusal of a lock for a field that was not read.
+pub(crate) fn refusal(fault: FieldError, wrong: LockError) -> LockError
+    ensures { result ≡ refusal_for wrong fault }
+{
+    match fault {
+        FieldError::Wrong => wrong,
+        FieldError::Memory => LockError::Memory,
+    }
+}
