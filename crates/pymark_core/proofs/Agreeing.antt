@@ -4,7 +4,7 @@ use Rattle.std.proofs.Math.Bool.{or-true}
 use Rattle.std.proofs.lemmas.Bool.{eq-eqb}
 use Rattle.std.proofs.lemmas.List.Folds.{list_any-append}
 use Rattle.std.specs.List.{list_any}
-use Rattle.pyver_core.specs.Names.{norm}
+use Rattle.pyver_core.specs.Name.{norm}
 use Rattle.pyver_core.specs.Results.{◌>>=◌}
 use Rattle.pymark_core.specs.Environment.{EnvironmentValue}
 use Rattle.pymark_core.specs.Marker.Comparison.{ComparisonValue}
@@ -62,7 +62,7 @@ module _ (e f : EnvironmentValue) where
   comparison_agrees : (c : ComparisonValue) → Agree (λ k. comparison_reads k c) → comparison_value e c ≡ comparison_value f c
   comparison_agrees c agree =
       ap (λ r. r >>= λ x. text_value e x c.comparator c.right)
-          (operand_agrees c.left (λ k is. agree k (of_first k (operand_keys c.left) (operand_keys c.right) is)))
+      (operand_agrees c.left (λ k is. agree k (of_first k (operand_keys c.left) (operand_keys c.right) is)))
       ∙ after (operand_text f c.left)
     where
       after : (r : Result (List ℕ) EvalFault) → (r >>= λ x. text_value e x c.comparator c.right) ≡ (r >>= λ x. text_value f x c.comparator c.right)

@@ -13,17 +13,17 @@ use Rattle.std.proofs.lemmas.Bool.Decides.{nat_tests}
 use Rattle.std.proofs.lemmas.List.Sums.{prefix_len-le-length, prefix_len_passes, prefix_len_stops, suffix_len-le-length}
 use Rattle.std.proofs.lemmas.List.{get_or-reverse}
 use Rattle.std.proofs.lemmas.Str.{IsCharBoundary-after_ascii, IsCharBoundary-before_ascii, IsCharBoundary-end, IsCharBoundary-start}
-use Rattle.pyver_core.specs.Grammar.{is_white}
+use Rattle.pyver_core.specs.Version.Grammar.{is_white}
 use Rattle.pymark_core.specs.Marker.Token.{is_inside, is_word_byte}
 
-white-ascii : (b : ℕ) → is_white b ≡ true → b < 128
+pub white-ascii : (b : ℕ) → is_white b ≡ true → b < 128
 white-ascii b white = grind (arith, nat_tests)
 
 word-ascii : (b : ℕ) → is_word_byte b ≡ true → b < 128
 word-ascii b letter = grind (arith, nat_tests)
 
 -- behind a run of bytes that are all below 128
-behind : (p : ℕ → Bool) (ascii : (b : ℕ) → p b ≡ true → b < 128) (bs : List ℕ) (n : ℕ) → n ≤ prefix_len p bs → IsUtf8 bs → IsCharBoundary bs n
+pub behind : (p : ℕ → Bool) (ascii : (b : ℕ) → p b ≡ true → b < 128) (bs : List ℕ) (n : ℕ) → n ≤ prefix_len p bs → IsUtf8 bs → IsCharBoundary bs n
 behind p ascii bs zero le utf8 = IsCharBoundary-start bs utf8
 behind p ascii bs (suc n) le utf8 =
     let within = prefix_len-le-length p bs in
@@ -40,15 +40,17 @@ boundary_behind_word bs utf8 = behind is_word_byte word-ascii bs (prefix_len is_
 pub boundary_before_white : (bs : List ℕ) → IsUtf8 bs → IsCharBoundary bs (length bs - suffix_len is_white bs)
 boundary_before_white bs utf8 =
     let n = suffix_len is_white bs in
-    let le : n ≤ length bs = suffix_len-le-length is_white bs in
-    (omega arith, λ inside high.
-      let last : n - 1 < prefix_len is_white (reverse bs) = omega arith in
-      let white = prefix_len_passes is_white (reverse bs) (n - 1) 0 last in
-      let at = get_or-reverse bs (n - 1) 0 (omega arith) in
-      let place : length bs - 1 - (n - 1) ≡ length bs - n = omega arith in
-      let same : get_or (reverse bs) (n - 1) 0 ≡ get_or bs (length bs - n) 0 = cc in
-      let low = white-ascii (get_or (reverse bs) (n - 1) 0) white in
-      absurd (omega arith))
+    let le : n ≤ length bs = suffix_len-le-length is_white bs in (
+      omega arith,
+      λ inside high.
+          let last : n - 1 < prefix_len is_white (reverse bs) = omega arith in
+          let white = prefix_len_passes is_white (reverse bs) (n - 1) 0 last in
+          let at = get_or-reverse bs (n - 1) 0 (omega arith) in
+          let place : length bs - 1 - (n - 1) ≡ length bs - n = omega arith in
+          let same : get_or (reverse bs) (n - 1) 0 ≡ get_or bs (length bs - n) 0 = cc in
+          let low = white-ascii (get_or (reverse bs) (n - 1) 0) white in
+          absurd (omega arith),
+    )
 
 -- in front of a byte below 128
 pub boundary_before_ascii : (bs : List ℕ) (n : ℕ) → n < length bs → get_or bs n 0 < 128 → IsCharBoundary bs n

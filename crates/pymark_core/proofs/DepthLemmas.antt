@@ -35,8 +35,8 @@ deep_more opened closed b out =
     let here : nat_lt 64 ((opened + 0) - (closed + 0)) ≡ nat_lt 64 (opened - closed) = same_difference _ _ _ _ (omega arith) (omega arith) in
     let behind = any_map (λ front. b ∷ front) (λ front. nat_lt 64 ((opened + count_by is_opening front) - (closed + count_by is_closing front))) (fronts out) in
     let moved = any_same (λ front. nat_lt 64 ((opened + count_by is_opening (b ∷ front)) - (closed + count_by is_closing (b ∷ front))))
-      (λ front. nat_lt 64 (((opened + cond (is_opening b) 1 0) + count_by is_opening front) - ((closed + cond (is_closing b) 1 0) + count_by is_closing front)))
-      (λ front. same_difference _ _ _ _ (counted is_opening opened b front) (counted is_closing closed b front)) (fronts out) in
+    (λ front. nat_lt 64 (((opened + cond (is_opening b) 1 0) + count_by is_opening front) - ((closed + cond (is_closing b) 1 0) + count_by is_closing front)))
+    (λ front. same_difference _ _ _ _ (counted is_opening opened b front) (counted is_closing closed b front)) (fronts out) in
     ap (λ x. x || list_any (λ front. nat_lt 64 ((opened + count_by is_opening front) - (closed + count_by is_closing front))) (map (λ front. b ∷ front) (fronts out))) here
     ∙ ap (λ x. nat_lt 64 (opened - closed) || x) (behind ∙ moved)
 

@@ -1,8 +1,10 @@
 pub mod Agreeing
 pub mod Boundaries
 pub mod Choices
+pub mod Cuts
 pub mod DepthLemmas
 pub mod Judged
+pub mod NamesSoFar
 pub mod NoteLemmas
 pub mod ReadingComplete
 pub mod ReadingSound

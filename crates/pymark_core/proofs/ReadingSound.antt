@@ -3,7 +3,7 @@ use Rattle.std.proofs.Common.{◌≡◌, ◌⊎◌, ℕ, Bool, true, false, cond
 use Rattle.std.specs.Prelude.{codes, option_map}
 use Rattle.std.specs.Str.{bytes_eq}
 use Rattle.std.proofs.lemmas.Slice.Eq.{bytes_eq-Decides}
-use Rattle.pyver_core.specs.declared.specifier.Operator.{Operator}
+use Rattle.pyver_core.specs.declared.set.specifier.Operator.{Operator}
 use Rattle.pymark_core.proofs.Choices.{bind_some, chosen, found_passes, map_some}
 use Rattle.pymark_core.specs.Marker.Comparison.{ComparisonValue}
 use Rattle.pymark_core.specs.Marker.Grammar.{tree_tokens, conjunction_tokens, atom_tokens, comparison_tokens, comparator_tokens, operand_token}

@@ -43,5 +43,5 @@ same false false there back = refl
 pub substring_is : (r : Bool) (x y : List ℕ) → (r ≡ true) ↔ HasSubslice y x → r ≡ is_substring x y
 substring_is r x y is =
     same r (is_substring x y)
-        (λ true_is. let at = is.0 true_is in subst (λ t. is_substring x t ≡ true) (sym at.2) (stands at.0 at.1 x))
-        (λ stands_in. is.1 (found_in x y stands_in))
+    (λ true_is. let at = is.0 true_is in subst (λ t. is_substring x t ≡ true) (sym at.2) (stands at.0 at.1 x))
+    (λ stands_in. is.1 (found_in x y stands_in))

@@ -3,9 +3,9 @@ use Rattle.std.proofs.Common.{◌≡◌, ℕ, ◌<◌, ◌+◌, true, List, [], 
 use Rattle.std.specs.Prelude.{option_map, if◌then◌else◌, nat_eq}
 use Rattle.std.specs.List.{starts_with}
 use Rattle.std.proofs.lemmas.Bool.Decides.{nat_tests}
-use Rattle.pyver_core.specs.SetReading.{behind_operator, operators}
-use Rattle.pyver_core.specs.SpecifierText.{operator_text}
-use Rattle.pyver_core.specs.declared.specifier.Operator.{Operator}
+use Rattle.pyver_core.specs.Set.Reading.{behind_operator, operators}
+use Rattle.pyver_core.specs.Set.Normal.{operator_text}
+use Rattle.pyver_core.specs.declared.set.specifier.Operator.{Operator}
 use Rattle.pymark_core.proofs.Choices.{found_passes}
 use Rattle.pymark_core.specs.Marker.Front as front
 use Rattle.pymark_core.specs.Marker.Front.{quoted_front}

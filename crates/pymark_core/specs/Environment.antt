@@ -5,7 +5,7 @@ use Rattle.std.specs.Cmp.Lexicographic.{slice_cmp}
 use Rattle.std.specs.Coded.{Coded, code_by, coded×, coded_ℕ, coded_list, coded_option}
 use Rattle.std.specs.FinSet as set
 use Rattle.std.specs.Ordering.{nat_cmp}
-use Rattle.pyver_core.specs.Names.{norm}
+use Rattle.pyver_core.specs.Name.{norm}
 use Rattle.pymark_core.specs.Variables.{place}
 use Rattle.pymark_core.specs.declared.variable.Var.{Var}
 
@@ -26,10 +26,10 @@ pub record EnvironmentValue : Type 0 where
 abbrev pub environment_code : Coded EnvironmentValue
 environment_code =
     code_by (List (Option (List ℕ)) × (Texts × Texts))
-        (coded× (coded_list (coded_option (coded_list coded_ℕ))) (coded× texts_code texts_code))
-        (λ e. (e.variables, (e.extras, e.groups)))
-        (λ t. record { variables = t.0; extras = t.1.0; groups = t.1.1 })
-        (λ _. refl)
+    (coded× (coded_list (coded_option (coded_list coded_ℕ))) (coded× texts_code texts_code))
+    (λ e. (e.variables, (e.extras, e.groups)))
+    (λ t. record { variables = t.0; extras = t.1.0; groups = t.1.1 })
+    (λ _. refl)
 
 -- nothing set, nothing asked for
 abbrev pub empty : EnvironmentValue

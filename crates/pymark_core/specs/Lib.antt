@@ -1,6 +1,6 @@
 pub mod Environment
 pub mod Inner
 pub mod Marker
-pub mod Parsed
+pub mod Requirement
 pub mod Variables
 pub mod White

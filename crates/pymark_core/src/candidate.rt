@@ -1,7 +1,7 @@
 //! Texts that markers compare, with the version that each spells.
 
 ghost use Rattle.std.specs.Prelude.{◌≡◌, IfOk};
-ghost use Rattle.pymark_core.specs.Parsed.{parsed_version};
+ghost use Rattle.pyver_core.specs.Parsed.{parsed_version};
 
 use pyver_core::{Version, VersionError};
 use std::alloc::{AllocError, Global};
@@ -18,7 +18,7 @@ pub(crate) struct Candidate {
 
 impl Model for Candidate {
     ghost use Rattle.std.specs.Prelude.{◌≡◌, List, ℕ, string_bytes};
-    ghost use Rattle.pymark_core.specs.Parsed.{parsed_version};
+    ghost use Rattle.pyver_core.specs.Parsed.{parsed_version};
 
     ghost Value = { List ℕ };
 
@@ -37,13 +37,6 @@ impl Candidate {
         Ok(Candidate { text, version })
     }
 
-    /// The same text, read again.
-    pub(crate) fn copy(&self, alloc: Global) -> Result<Candidate, AllocError>
-        ensures { IfOk result (λ copy. copy ≡ self.now) }
-    {
-        Candidate::new(alloc, self.text())
-    }
-
     /// The text as it was given.
     pub(crate) fn text(&self) -> &str
         ensures { result.now ≡ self.now }
@@ -59,11 +52,25 @@ impl Candidate {
     }
 }
 
+impl Clone for Candidate {
+    ghost is_clone = { λ candidate copy. copy ≡ candidate };
+
+    fn clone(&self) -> Result<Candidate, AllocError> {
+        let version = match &self.version {
+            Ok(version) => Ok(version.clone()?),
+            Err(VersionError::Syntax) => Err(VersionError::Syntax),
+            Err(VersionError::NumberTooLarge) => Err(VersionError::NumberTooLarge),
+            Err(VersionError::Memory) => Err(VersionError::Memory),
+        };
+        Ok(Candidate {
+            text: self.text.clone()?,
+            version,
+        })
+    }
+}
+
 /// What the text reads as.
-fn read_version(
-    alloc: Global,
-    text: &str,
-) -> Result<Result<Version, VersionError>, AllocError>
+fn read_version(alloc: Global, text: &str) -> Result<Result<Version, VersionError>, AllocError>
     ensures { IfOk result (λ read. read ≡ parsed_version text.now) }
 {
     match Version::parse(alloc, text) {

@@ -4,7 +4,7 @@ ghost use Rattle.std.specs.Prelude.{◌≡◌, IfOk, Result};
 ghost use Rattle.pyver_core.specs.Agreement.{Gives};
 ghost use Rattle.pymark_core.specs.Inner.Compared.{IsRead, left_operand, right_operand};
 ghost use Rattle.pymark_core.specs.Marker.Value.{comparison_value, is_in, is_substring, operand_text, operator_value, text_value, texts_value};
-ghost use Rattle.pymark_core.specs.Parsed.{parsed_operand};
+ghost use Rattle.pyver_core.specs.Parsed.{parsed_operand};
 
 use crate::candidate::Candidate;
 use crate::environment::Environment;
@@ -119,11 +119,7 @@ fn read_left(alloc: Global, operand: Operand) -> Result<Left, AllocError>
 }
 
 /// The operand as this operator reads it.
-fn read_right(
-    alloc: Global,
-    comparator: Comparator,
-    operand: Operand,
-) -> Result<Right, AllocError>
+fn read_right(alloc: Global, comparator: Comparator, operand: Operand) -> Result<Right, AllocError>
     ensures operand { IfOk result (λ right. right_operand right ≡ operand) }
     ensures read { IfOk result (λ right. IsRead comparator right) }
 {
@@ -233,6 +229,7 @@ fn value_by(
 }
 
 /// The left text against the right one, which reads as this specifier.
+#[tactic(auto, unfolding(pyver_core::specs::Parsed::parsed_version, pyver_core::specs::Parsed::parsed_operand))]
 fn judge(
     left: &Candidate,
     operator: Operator,

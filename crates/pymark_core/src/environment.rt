@@ -2,12 +2,14 @@
 
 ghost use Rattle.std.specs.Prelude.{◌≡◌, not, option_map, replicate, IfOk, OnErr, OnOk};
 ghost use Rattle.std.specs.FinSet as set;
-ghost use Rattle.pyver_core.specs.Names.{norm};
+ghost use Rattle.pyver_core.specs.Name.{norm};
+ghost use Rattle.pyver_core.specs.Parsed.{parsed_version};
 ghost use Rattle.pymark_core.specs.Environment.{empty, has_extra, has_group, variable_in, with_extra, with_group, with_variable, without_extra, without_group, without_variable};
 
 use crate::candidate::Candidate;
 use crate::names::NameSet;
 use crate::variable::Var;
+use pyver_core::{Version, VersionError};
 use std::alloc::{AllocError, Global};
 use std::marker::Model;
 
@@ -61,6 +63,17 @@ impl Environment {
         ensures { option_map (λ candidate. candidate.now) result ≡ variable_in variable self.now }
     {
         self.variables[variable.place()].as_ref()
+    }
+
+    /// The version that the text of the variable spells, or why it spells none; nothing where the variable
+    /// has no text. It was read when the variable was set, so it takes no memory.
+    pub fn version(&self, variable: Var) -> Option<&Result<Version, VersionError>>
+        ensures { option_map (λ read. read.now) result ≡ option_map parsed_version (variable_in variable self.now) }
+    {
+        match self.candidate(variable) {
+            Some(candidate) => Some(candidate.version()),
+            None => None,
+        }
     }
 
     /// Gives the variable the text, which is read as a version here and never again. Where there is no
@@ -141,7 +154,7 @@ impl Environment {
     {
         Ok(Environment {
             alloc: self.alloc,
-            variables: copy_variables(self.alloc, &self.variables)?,
+            variables: copy_variables(&self.variables)?,
             extras: self.extras.copy()?,
             groups: self.groups.copy()?,
         })
@@ -167,27 +180,13 @@ fn no_variables() -> [Option<Candidate>; 11]
 
 /// The same texts at the same places.
 fn copy_variables(
-    alloc: Global,
     variables: &[Option<Candidate>; 11],
 ) -> Result<[Option<Candidate>; 11], AllocError>
     ensures { IfOk result (λ copy. copy ≡ variables.now) }
 {
     let mut copy = no_variables();
     for (place, variable) in variables.iter().enumerate() {
-        copy[place] = copy_variable(alloc, variable)?;
+        copy[place] = variable.clone()?;
     }
     Ok(copy)
-}
-
-/// The same text, if there is one.
-fn copy_variable(
-    alloc: Global,
-    variable: &Option<Candidate>,
-) -> Result<Option<Candidate>, AllocError>
-    ensures { IfOk result (λ copy. copy ≡ variable.now) }
-{
-    match variable {
-        Some(candidate) => Ok(Some(candidate.copy(alloc)?)),
-        None => Ok(None),
-    }
 }

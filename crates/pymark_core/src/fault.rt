@@ -4,7 +4,7 @@ ghost use Rattle.std.specs.Prelude.{◌≡◌};
 ghost use Rattle.pymark_core.specs.declared.fault.EvalFault.TheVariants.{Memory};
 
 use crate::variable::Var;
-use std::alloc::{AllocError, AllocFailed};
+use std::alloc::AllocError;
 
 /// Why a marker is neither true nor false in an environment.
 #[derive(Clone, Copy, PartialEq, Eq, Debug)]
@@ -21,18 +21,10 @@ pub enum EvalFault {
     Memory,
 }
 
-impl From<AllocError> for EvalFault {
+impl<E: Into<AllocError> + Drop> From<E> for EvalFault {
     ghost from_gives = { λ _ e. e ≡ Memory };
 
-    fn from(_refused: AllocError) -> EvalFault {
-        EvalFault::Memory
-    }
-}
-
-impl<T: Drop> From<AllocFailed<T>> for EvalFault {
-    ghost from_gives = { λ _ e. e ≡ Memory };
-
-    fn from(_refused: AllocFailed<T>) -> EvalFault {
+    fn from(_refused: E) -> EvalFault {
         EvalFault::Memory
     }
 }

@@ -18,13 +18,11 @@ pub fn one_tree()
 pub fn tree_text_is_complete()
     ensures sound { (text : List ℕ) (tree : Tree) → tree_text text ≡ Some tree → MarkerText text tree }
     ensures complete { (text : List ℕ) (tree : Tree) → MarkerText text tree → tree_text text ≡ Some tree }
-{
-}
+{}
 
 /// A marker reads nothing but its keys: two environments that agree on them give it the same value or the
 /// same fault.
 pub fn marker_reads()
     ensures { (tree : Tree) (e f : EnvironmentValue) → ((k : Key) → reads k tree ≡ true → AgreeAt k e f)
         → marker_value e tree ≡ marker_value f tree }
-{
-}
+{}

@@ -9,6 +9,7 @@ pub mod laws;
 mod marker;
 mod names;
 mod operand;
+mod requirement;
 mod variable;
 mod white;
 
@@ -16,4 +17,8 @@ pub use environment::Environment;
 pub use fault::EvalFault;
 pub use marker::{Key, MarkerError, Reads};
 pub use operand::{Comparator, Operand};
+pub use requirement::RequirementError;
 pub use variable::Var;
+
+#[cfg(test)]
+mod tests;

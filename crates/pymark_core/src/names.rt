@@ -2,7 +2,7 @@
 
 ghost use Rattle.std.specs.Prelude.{◌≡◌, not, IfOk, OnErr};
 ghost use Rattle.std.specs.FinSet as set;
-ghost use Rattle.pyver_core.specs.Names.{norm};
+ghost use Rattle.pyver_core.specs.Name.{norm};
 
 use pyver_core::normal_name;
 use std::alloc::{AllocError, Global};

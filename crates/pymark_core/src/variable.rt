@@ -50,7 +50,10 @@ impl Var {
     pub fn of(name: &str) -> Option<Var>
         ensures { result ≡ variable_of name.now }
     {
-        VARIABLES.iter().copied().find(|variable| variable.name() == name)
+        VARIABLES
+            .iter()
+            .copied()
+            .find(|variable| variable.name() == name)
     }
 
     /// The name of the variable in markers.

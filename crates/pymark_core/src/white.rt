@@ -2,8 +2,8 @@
 
 ghost use Rattle.std.specs.Prelude.{◌≡◌};
 ghost use Rattle.std.specs.List.{prefix_len, suffix_len};
-ghost use Rattle.pyver_core.specs.Grammar.{is_white};
-ghost use Rattle.pyver_core.specs.Reading.{after_white};
+ghost use Rattle.pyver_core.specs.Version.Grammar.{is_white};
+ghost use Rattle.pyver_core.specs.Version.Reading.{after_white};
 ghost use Rattle.pymark_core.specs.White.{trimmed};
 
 /// Whether the byte is TAB, LF, VT, FF, CR or space.
@@ -38,10 +38,7 @@ pub(crate) fn past_white(text: &str) -> &str
 }
 
 /// The text without the white space at its front and at its end.
-#[tactic(auto, using(
-    crate::proofs::Boundaries::boundary_before_white,
-    crate::proofs::Boundaries::white_within
-))]
+#[tactic(auto, using(crate::proofs::Boundaries::boundary_before_white, crate::proofs::Boundaries::white_within))]
 pub(crate) fn trimmed(text: &str) -> &str
     ensures { result.now ≡ trimmed text.now }
 {

@@ -3,14 +3,14 @@
 ghost use Rattle.std.specs.Prelude.{◌≡◌, ℕ, List, [], ◌∷◌, ◌++◌, Some, false, replicate, true};
 ghost use Rattle.std.specs.Char.{to_ascii_lowercase};
 ghost use Rattle.std.specs.List.{list_all};
-ghost use Rattle.pyver_core.specs.Parts.{Parts};
-ghost use Rattle.pyver_core.specs.Grammar.{Spells, is_separator, starts};
-ghost use Rattle.pyver_core.specs.Names.{norm};
-ghost use Rattle.pyver_core.specs.Normal.{normal};
-ghost use Rattle.pyver_core.specs.Order.{version_cmp};
-ghost use Rattle.pyver_core.specs.Reading.{version_of};
-ghost use Rattle.pyver_core.specs.SetGrammar.{SetText};
-ghost use Rattle.pyver_core.specs.declared.specifier.Specifier.{Specifier};
+ghost use Rattle.pyver_core.specs.Version.Parts.{Parts};
+ghost use Rattle.pyver_core.specs.Version.Grammar.{Spells, is_separator, starts};
+ghost use Rattle.pyver_core.specs.Name.{norm};
+ghost use Rattle.pyver_core.specs.Version.Normal.{normal};
+ghost use Rattle.pyver_core.specs.Version.Order.{version_cmp};
+ghost use Rattle.pyver_core.specs.Version.Reading.{version_of};
+ghost use Rattle.pyver_core.specs.Set.Grammar.{SetText};
+ghost use Rattle.pyver_core.specs.declared.set.specifier.Specifier.{Specifier};
 
 /// A text spells at most one version, and so does the normal form of what it spells: the same one
 /// (PEP 440, "Normalization").

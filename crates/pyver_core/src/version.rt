@@ -1,13 +1,25 @@
-//! Versions and their readers.
+//! Versions (PEP 440): their parts, texts and order.
 
 ghost use Rattle.std.specs.Prelude.{◌≡◌, ◌≢◌, [], IfOk};
-ghost use Rattle.pyver_core.specs.Borrowed.{parts_of};
-ghost use Rattle.pyver_core.specs.Normal.{normal};
-ghost use Rattle.pyver_core.specs.Parts.{is_postrelease, is_prerelease};
+ghost use Rattle.pyver_core.specs.Inner.PartsRef.{parts_of};
+ghost use Rattle.pyver_core.specs.Version.Normal.{normal};
+ghost use Rattle.pyver_core.specs.Version.Parts.{is_postrelease, is_prerelease};
 
-use crate::part::{LocalPart, PreKind};
-use crate::parts::PartsRef;
-use crate::text::normal_text;
+mod error;
+mod hashing;
+mod normal;
+mod order;
+mod parse;
+mod part;
+mod parts_ref;
+pub(crate) mod reading;
+
+pub use error::VersionError;
+use normal::normal_text;
+pub(crate) use normal::{push_epoch, push_release};
+pub(crate) use order::compare;
+pub use part::{Label, LocalPart, PreKind};
+pub(crate) use parts_ref::PartsRef;
 use std::alloc::{AllocError, Global};
 use std::marker::Model;
 
@@ -27,8 +39,8 @@ pub struct Version {
 
 impl Model for Version {
     ghost use Rattle.std.specs.Prelude.{◌≡◌, ◌≢◌, [], string_bytes};
-    ghost use Rattle.pyver_core.specs.Parts.{Parts};
-    ghost use Rattle.pyver_core.specs.Normal.{normal};
+    ghost use Rattle.pyver_core.specs.Version.Parts.{Parts};
+    ghost use Rattle.pyver_core.specs.Version.Normal.{normal};
 
     ghost Value = { Parts };
 
@@ -168,5 +180,22 @@ impl Version {
         ensures { result ≡ is_postrelease self.now }
     {
         self.post.is_some()
+    }
+}
+
+/// A copy takes memory for the release, the local part and the normal form.
+impl Clone for Version {
+    ghost is_clone = { λ version copy. copy ≡ version };
+
+    fn clone(&self) -> Result<Version, AllocError> {
+        Ok(Version {
+            epoch: self.epoch,
+            release: self.release.clone()?,
+            pre: self.pre,
+            post: self.post,
+            dev: self.dev,
+            local: self.local.clone()?,
+            text: self.text.clone()?,
+        })
     }
 }

@@ -1,8 +1,8 @@
 -- What the code keeps of a comparison, seen as the comparison.
 use Rattle.std.specs.Prelude.{◌≡◌, ℕ, List, Option, Some, None, Result, string_bytes}
-use Rattle.pyver_core.specs.declared.error.SpecifierError.{SpecifierError}
-use Rattle.pyver_core.specs.declared.specifier.Specifier.{Specifier}
-use Rattle.pymark_core.specs.Parsed.{parsed_operand}
+use Rattle.pyver_core.specs.declared.set.error.SpecifierError.{SpecifierError}
+use Rattle.pyver_core.specs.declared.set.specifier.Specifier.{Specifier}
+use Rattle.pyver_core.specs.Parsed.{parsed_operand}
 use Rattle.pymark_core.specs.declared.comparison.Left.{Left}
 use Rattle.pymark_core.specs.declared.comparison.Left.TheVariants as left
 use Rattle.pymark_core.specs.declared.comparison.Right.{Right}

@@ -3,11 +3,11 @@
 use Rattle.std.specs.Prelude.{ℕ, zero, suc, ◌+◌, ◌-◌, Bool, ◌==◌, ◌&&◌, ◌||◌, not, nat_eq, nat_le, if◌then◌else◌, List, [], ◌∷◌, length, take, drop, Option, Some, None, option_map, find}
 use Rattle.std.specs.Char.{is_ascii_alphanumeric}
 use Rattle.std.specs.List.{prefix_len, starts_with}
-use Rattle.pyver_core.specs.Grammar.{is_white, starts}
+use Rattle.pyver_core.specs.Version.Grammar.{is_white, starts}
 use Rattle.pyver_core.specs.Options.{◌>>=◌}
-use Rattle.pyver_core.specs.SetReading.{operators}
-use Rattle.pyver_core.specs.SpecifierText.{operator_text}
-use Rattle.pyver_core.specs.declared.specifier.Operator.{Operator}
+use Rattle.pyver_core.specs.Set.Reading.{operators}
+use Rattle.pyver_core.specs.Set.Normal.{operator_text}
+use Rattle.pyver_core.specs.declared.set.specifier.Operator.{Operator}
 
 pub data Token : Type 0 where
   -- `(`

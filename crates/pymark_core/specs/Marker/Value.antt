@@ -5,17 +5,17 @@ use Rattle.std.specs.Cmp.Lexicographic.{slice_cmp}
 use Rattle.std.specs.List.{starts_with}
 use Rattle.std.specs.Ordering.{is_ge, is_gt, is_le, is_lt, nat_cmp}
 use Rattle.std.specs.Str.{bytes_eq}
-use Rattle.pyver_core.specs.Grammar.{has_large, numbers}
-use Rattle.pyver_core.specs.Names.{norm}
-use Rattle.pyver_core.specs.Parts.{Parts}
-use Rattle.pyver_core.specs.Reading.{version_of}
+use Rattle.pyver_core.specs.Version.Grammar.{has_large, numbers}
+use Rattle.pyver_core.specs.Name.{norm}
+use Rattle.pyver_core.specs.Version.Parts.{Parts}
+use Rattle.pyver_core.specs.Version.Reading.{version_of}
 use Rattle.pyver_core.specs.Results.{◌>>=◌}
-use Rattle.pyver_core.specs.SetGrammar.{specifier_numbers}
-use Rattle.pyver_core.specs.SetReading.{operand_of}
-use Rattle.pyver_core.specs.Specifiers.{admits}
-use Rattle.pyver_core.specs.declared.specifier.Operator.{Operator}
-use Rattle.pyver_core.specs.declared.specifier.Operator.TheVariants as operator
-use Rattle.pyver_core.specs.declared.specifier.Specifier.{Specifier}
+use Rattle.pyver_core.specs.Set.Grammar.{specifier_numbers}
+use Rattle.pyver_core.specs.Set.Reading.{operand_of}
+use Rattle.pyver_core.specs.Set.Admission.{admits}
+use Rattle.pyver_core.specs.declared.set.specifier.Operator.{Operator}
+use Rattle.pyver_core.specs.declared.set.specifier.Operator.TheVariants as operator
+use Rattle.pyver_core.specs.declared.set.specifier.Specifier.{Specifier}
 use Rattle.pymark_core.specs.Environment.{EnvironmentValue, has_extra, has_group, variable_in}
 use Rattle.pymark_core.specs.Marker.Comparison.{ComparisonValue}
 use Rattle.pymark_core.specs.Marker.Tree.{Tree, last, or, Conjunction, only, and, Atom, leaf, group}

@@ -2,7 +2,7 @@
 
 ghost use Rattle.std.specs.Prelude.{◌≡◌, ◌<◌, IsTrue, drop, length, option_map, slice_index};
 ghost use Rattle.std.specs.List.{prefix_len};
-ghost use Rattle.pyver_core.specs.SetReading.{behind_operator};
+ghost use Rattle.pyver_core.specs.Set.Reading.{behind_operator};
 ghost use Rattle.pymark_core.specs.Marker.Front.{lent_cut, lent_front, quotation_front, quoted_front, token_front, with_rest};
 ghost use Rattle.pymark_core.specs.Marker.Token as token;
 ghost use Rattle.pymark_core.specs.Marker.Token.{is_inside, is_quote, is_word_byte, operator_in, token_by, word_in};
@@ -63,10 +63,7 @@ fn word_len(text: &str) -> usize
         .count()
 }
 
-#[tactic(auto, using(
-    crate::proofs::Boundaries::boundary_before_ascii,
-    crate::proofs::Boundaries::boundary_behind_ascii
-))]
+#[tactic(auto, using(crate::proofs::Boundaries::boundary_before_ascii, crate::proofs::Boundaries::boundary_behind_ascii))]
 /// What stands between an opening quote, which is in front of the text, and the same quote, and the text
 /// behind it.
 fn quoted(quote: u8, text: &str) -> Option<(&str, &str)>
@@ -170,10 +167,7 @@ fn token_by(first: u8, text: &str) -> Option<(Token<'_>, &str)>
 }
 
 /// The token at the front of the text, and the text behind it.
-#[tactic(auto, using(
-    crate::proofs::TokenLemmas::token_of_first,
-    crate::proofs::TokenLemmas::token_of_none
-))]
+#[tactic(auto, using(crate::proofs::TokenLemmas::token_of_first, crate::proofs::TokenLemmas::token_of_none))]
 pub(super) fn first_token(text: &str) -> Option<(Token<'_>, &str)>
     ensures { option_map lent_front result ≡ token_front text.now }
 {

@@ -49,11 +49,7 @@ fn conjunction_value(
 
 /// The value of a comparison, or of a marker in parentheses.
 #[cycle(value)]
-fn atom_value(
-    alloc: Global,
-    environment: &Environment,
-    atom: &Atom,
-) -> Result<bool, EvalFault>
+fn atom_value(alloc: Global, environment: &Environment, atom: &Atom) -> Result<bool, EvalFault>
     ensures { Gives EvalFault.Memory (λ b. b) result (atom_value environment.now (atom_view atom.now)) }
 {
     match atom {

@@ -1,0 +1,47 @@
+-- Reading the names of extras one after the other.
+use Rattle.std.proofs.Common.{◌≡◌, ℕ, List, [], ◌∷◌, ◌++◌, Option, Some, None, Result, Ok, Err, refl, sym, ap, ◌∙◌, append_assoc, append-nil}
+use Rattle.std.proofs.lemmas.Iterator.{YieldsList}
+use Rattle.pyver_core.specs.Results.{◌>>=◌}
+use Rattle.pymark_core.specs.Requirement.Reading.{extra_in, names_in}
+use Rattle.pymark_core.specs.declared.requirement.error.RequirementError.{RequirementError}
+
+-- ---- the pieces that are left
+
+pub next_piece : {S A B : Type 0} (steps : S → Option A → S → Type 0) (v : A → B) (s : S) (left : List B) → YieldsList steps v s left
+    → (x : A) (t : S) → steps s (Some x) t → (rest : List B) × (left ≡ v x ∷ rest) × YieldsList steps v t rest
+next_piece steps v s [] yields x t step = absurd (yields.runs x t step)
+next_piece steps v s (y ∷ rest) yields x t step =
+    let on = yields.runs.1 x t step in
+    (rest, ap (λ z. z ∷ rest) (sym on.0), record { runs = on.1 })
+
+pub no_piece : {S A B : Type 0} (steps : S → Option A → S → Type 0) (v : A → B) (s : S) (left : List B) → YieldsList steps v s left
+    → (t : S) → steps s None t → left ≡ []
+no_piece steps v s [] yields t step = refl
+no_piece steps v s (y ∷ rest) yields t step = absurd (yields.runs.0 t step)
+
+-- ---- the names so far
+
+abbrev pub onto : List (List ℕ) → Result (List (List ℕ)) RequirementError → Result (List (List ℕ)) RequirementError
+onto front read = read >>= λ rest. Ok (front ++ rest)
+
+pub onto_nothing : (read : Result (List (List ℕ)) RequirementError) → onto [] read ≡ read
+onto_nothing (Ok rest) = refl
+onto_nothing (Err e) = refl
+
+pub onto_more : (front : List (List ℕ)) (name : List ℕ) (left : List (List ℕ)) (piece : List ℕ)
+    → extra_in piece ≡ Ok name → onto front (names_in (piece ∷ left)) ≡ onto (front ++ name ∷ []) (names_in left)
+unfolding names_in
+onto_more front name left piece is = ap (λ r. onto front (r >>= λ n. names_in left >>= λ others. Ok (n ∷ others))) is ∙ rest (names_in left)
+  where
+    rest : (r : Result (List (List ℕ)) RequirementError) → onto front (r >>= λ others. Ok (name ∷ others)) ≡ onto (front ++ name ∷ []) r
+    rest (Ok others) = ap Ok (sym (append_assoc front (name ∷ []) others))
+    rest (Err e) = refl
+
+pub onto_fault : (front left : List (List ℕ)) (e : RequirementError) (piece : List ℕ)
+    → extra_in piece ≡ Err e → onto front (names_in (piece ∷ left)) ≡ Err e
+unfolding names_in
+onto_fault front left e piece is = ap (λ r. onto front (r >>= λ n. names_in left >>= λ others. Ok (n ∷ others))) is
+
+pub onto_end : (front : List (List ℕ)) → onto front (names_in []) ≡ Ok front
+unfolding names_in
+onto_end front = ap Ok (append-nil front)

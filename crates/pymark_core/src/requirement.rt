@@ -1,0 +1,6 @@
+//! Requirements (PEP 508).
+
+mod error;
+mod parts;
+
+pub use error::RequirementError;

@@ -1,0 +1,259 @@
+//! The parts of a requirement's text (PEP 508, "Grammar"), read from the left.
+
+ghost use Rattle.std.specs.Prelude.{◌≡◌, ◌==◌, ◌<◌, [], option_map, map, string_bytes, IfOk};
+ghost use Rattle.std.specs.List.{list_all, prefix_len, slice_split};
+ghost use Rattle.pyver_core.specs.Agreement.{Gives};
+ghost use Rattle.pyver_core.specs.Name.{is_name_byte};
+ghost use Rattle.pyver_core.specs.Parsed.{parsed_set};
+ghost use Rattle.pyver_core.specs.Version.Grammar.{is_white};
+ghost use Rattle.pymark_core.specs.Inner.Source.{source_view};
+ghost use Rattle.pymark_core.specs.Requirement.Reading.{around, before_end, behind, cut_at, extra_in, extras_at, extras_behind, extras_in, marker_text_at, name_at, names_in, refused_as, set_source, source_at, url_len, url_source, within_parentheses};
+
+use super::error::RequirementError;
+use crate::white::{is_white, past_white, trimmed};
+use pyver_core::{SpecifierError, SpecifierSet, is_name};
+use std::alloc::{AllocError, Global};
+
+/// What stands behind the name and the extras.
+#[derive(Drop)]
+pub(super) struct Source<'a> {
+    /// The specifiers, none where a URL stands.
+    pub(super) set: SpecifierSet,
+    pub(super) url: Option<&'a str>,
+    /// The text of the marker.
+    pub(super) marker: Option<&'a str>,
+}
+
+/// The text behind this byte, where it stands at the front.
+#[tactic(auto, using(crate::proofs::Boundaries::boundary_behind_first))]
+fn behind(byte: u8, text: &str) -> Option<&str>
+    requires { byte < 128 }
+    ensures { option_map (λ rest. rest.now) result ≡ behind byte text.now }
+{
+    match text.as_bytes() {
+        [first, ..] if *first == byte => Some(text.split_at(1).1),
+        _ => None,
+    }
+}
+
+/// What stands before and behind the first `]`.
+fn around_bracket(text: &str) -> Option<(&str, &str)>
+    ensures { option_map (λ cut. (cut.0.now, cut.1.now)) result ≡ around 93 text.now }
+{
+    text.split_once(']')
+}
+
+/// What stands before and behind the first `;`.
+fn around_semicolon(text: &str) -> Option<(&str, &str)>
+    ensures { option_map (λ cut. (cut.0.now, cut.1.now)) result ≡ around 59 text.now }
+{
+    text.split_once(';')
+}
+
+fn is_name_byte(byte: u8) -> bool
+    ensures { result ≡ is_name_byte byte }
+{
+    byte.is_ascii_alphanumeric() || matches!(byte, b'.' | b'_' | b'-')
+}
+
+fn name_len(text: &str) -> usize
+    ensures { result ≡ prefix_len is_name_byte text.now }
+{
+    text.as_bytes()
+        .iter()
+        .take_while(|b| is_name_byte(**b))
+        .count()
+}
+
+/// The name at the front, and the text behind it.
+#[tactic(auto, using(crate::proofs::Cuts::boundary_behind_name), unfolding(crate::specs::Requirement::Reading::name_at))]
+pub(super) fn read_name(text: &str) -> Result<(&str, &str), RequirementError>
+    ensures { Gives RequirementError.Memory (λ x. (x.0.now, x.1.now)) result (name_at text.now) }
+{
+    let (name, rest) = text.split_at(name_len(text));
+    if is_name(name) {
+        Ok((name, rest))
+    } else {
+        Err(RequirementError::Name)
+    }
+}
+
+/// The extras at the front, if there are any, and the text behind them.
+#[tactic(auto, unfolding(crate::specs::Requirement::Reading::extras_at))]
+pub(super) fn read_extras(
+    alloc: Global,
+    text: &str,
+) -> Result<(Vec<String>, &str), RequirementError>
+    ensures { Gives RequirementError.Memory (λ x. (map string_bytes x.0.items, x.1.now)) result (extras_at text.now) }
+{
+    match behind(b'[', text) {
+        Some(rest) => extras_behind(alloc, rest),
+        None => Ok((Vec::new(alloc), text)),
+    }
+}
+
+/// The extras behind `[`, and the text behind `]`.
+#[tactic(auto, unfolding(crate::specs::Requirement::Reading::extras_behind))]
+fn extras_behind(alloc: Global, text: &str) -> Result<(Vec<String>, &str), RequirementError>
+    ensures { Gives RequirementError.Memory (λ x. (map string_bytes x.0.items, x.1.now)) result (extras_behind text.now) }
+{
+    let (inner, rest) = around_bracket(text).ok_or(RequirementError::Extras)?;
+    Ok((extras_in(alloc, inner)?, rest))
+}
+
+/// Names with commas between them, or white space.
+fn extras_in(alloc: Global, inner: &str) -> Result<Vec<String>, RequirementError>
+    ensures { Gives RequirementError.Memory (λ names. map string_bytes names.items) result (extras_in inner.now) }
+{
+    if is_blank(inner) {
+        Ok(Vec::new(alloc))
+    } else {
+        names_in(alloc, inner)
+    }
+}
+
+fn is_blank(text: &str) -> bool
+    ensures { result ≡ list_all is_white text.now }
+{
+    text.as_bytes().iter().all(|b| is_white(*b))
+}
+
+/// The names between the commas.
+fn names_in(alloc: Global, text: &str) -> Result<Vec<String>, RequirementError>
+    ensures { Gives RequirementError.Memory (λ names. map string_bytes names.items) result (names_in (slice_split (λ b. b == 44) text.now)) }
+{
+    let mut names = Vec::new(alloc);
+    for piece in text.split(',') {
+        names.push(read_extra(alloc, piece)?)?;
+    }
+    Ok(names)
+}
+
+/// The name with white space round it.
+fn read_extra(alloc: Global, piece: &str) -> Result<String, RequirementError>
+    ensures { Gives RequirementError.Memory (λ name. string_bytes name) result (extra_in piece.now) }
+{
+    let name = trimmed(piece);
+    if !is_name(name) {
+        return Err(RequirementError::Extras);
+    }
+    Ok(String::from_str(alloc, name)?)
+}
+
+/// The URL behind `@`, or the specifiers, and the text of the marker.
+#[tactic(auto, unfolding(crate::specs::Requirement::Reading::source_at))]
+pub(super) fn read_source(alloc: Global, text: &str) -> Result<Source<'_>, RequirementError>
+    ensures { Gives RequirementError.Memory source_view result (source_at text.now) }
+{
+    match behind(b'@', text) {
+        Some(rest) => read_url(alloc, past_white(rest)),
+        None => read_set(alloc, text),
+    }
+}
+
+fn url_len(text: &str) -> usize
+    ensures { result ≡ url_len text.now }
+{
+    text.as_bytes()
+        .iter()
+        .take_while(|b| !is_white(**b))
+        .count()
+}
+
+/// The URL, which goes on to the next white space, and the text of the marker.
+#[tactic(auto, using(crate::proofs::Cuts::boundary_behind_url), unfolding(crate::specs::Requirement::Reading::url_source))]
+fn read_url(alloc: Global, text: &str) -> Result<Source<'_>, RequirementError>
+    ensures { Gives RequirementError.Memory source_view result (url_source text.now) }
+{
+    let (url, rest) = text.split_at(url_len(text));
+    if url.is_empty() {
+        return Err(RequirementError::Url);
+    }
+    let marker = read_marker_text(past_white(rest))?;
+    Ok(Source {
+        set: no_specifiers(alloc)?,
+        url: Some(url),
+        marker,
+    })
+}
+
+/// The text behind `;`, or nothing at the end.
+fn read_marker_text(text: &str) -> Result<Option<&str>, RequirementError>
+    ensures { Gives RequirementError.Memory (λ marker. option_map (λ t. t.now) marker) result (marker_text_at text.now) }
+{
+    if text.is_empty() {
+        return Ok(None);
+    }
+    match behind(b';', text) {
+        Some(rest) => Ok(Some(rest)),
+        None => Err(RequirementError::Trailing),
+    }
+}
+
+/// The empty set.
+#[tactic(auto, unfolding(pyver_core::specs::Parsed::parsed_set, pyver_core::specs::Set::Reading::set_of, pyver_core::specs::Set::Reading::specifiers_of))]
+fn no_specifiers(alloc: Global) -> Result<SpecifierSet, AllocError>
+    ensures { IfOk result (λ set. set ≡ []) }
+{
+    match SpecifierSet::parse(alloc, "") {
+        Ok(set) => Ok(set),
+        Err(_) => Err(AllocError),
+    }
+}
+
+/// The text up to `;` or the end, and the text behind `;`.
+fn cut_marker(text: &str) -> (&str, Option<&str>)
+    ensures { (result.0.now, option_map (λ t. t.now) result.1) ≡ cut_at text.now (around 59 text.now) }
+{
+    match around_semicolon(text) {
+        Some((declared, marker)) => (declared, Some(marker)),
+        None => (text, None),
+    }
+}
+
+/// The specifiers up to `;` or the end, and the text of the marker.
+#[tactic(auto, unfolding(crate::specs::Requirement::Reading::set_source))]
+fn read_set(alloc: Global, text: &str) -> Result<Source<'_>, RequirementError>
+    ensures { Gives RequirementError.Memory source_view result (set_source text.now) }
+{
+    let (declared, marker) = cut_marker(text);
+    let inner = within_parentheses(trimmed(declared)).ok_or(RequirementError::Specifier)?;
+    Ok(Source {
+        set: parse_set(alloc, inner)?,
+        url: None,
+        marker,
+    })
+}
+
+/// The specifiers; no text of theirs is refused but as `Specifier`.
+fn parse_set(alloc: Global, text: &str) -> Result<SpecifierSet, RequirementError>
+    ensures { Gives RequirementError.Memory (λ set. set) result (refused_as RequirementError.Specifier (parsed_set text.now)) }
+{
+    match SpecifierSet::parse(alloc, text) {
+        Ok(set) => Ok(set),
+        Err(SpecifierError::Memory) => Err(RequirementError::Memory),
+        Err(SpecifierError::Syntax | SpecifierError::NumberTooLarge) => {
+            Err(RequirementError::Specifier)
+        }
+    }
+}
+
+/// The text between parentheses, or a text without them.
+fn within_parentheses(text: &str) -> Option<&str>
+    ensures { option_map (λ t. t.now) result ≡ within_parentheses text.now }
+{
+    match behind(b'(', text) {
+        Some(rest) => before_parenthesis(rest),
+        None => Some(text),
+    }
+}
+
+/// What stands before the `)` at the end.
+fn before_parenthesis(text: &str) -> Option<&str>
+    ensures { option_map (λ t. t.now) result ≡ before_end 41 text.now }
+{
+    match text.as_bytes() {
+        [.., last] if *last == b')' => Some(text.split_at(text.len() - 1).0),
+        _ => None,
+    }
+}

@@ -1,0 +1,46 @@
+//! Calls whose growths are refused in turn: `tools/growths/run` runs each of these tests once for each of its
+//! growths, that one refused. A test passes where the call answers want of memory and leaves what was there, or
+//! answers just what it answers with ample memory.
+
+use crate::{Environment, Var};
+
+#[test]
+fn environment_set(rt: HostRuntime) {
+    let mut environment = Environment::new(rt.alloc());
+    let before = environment.set(Var::PythonVersion, "3.11.1rc1").is_ok();
+    match environment.set(Var::PythonVersion, "3.12.0.post1") {
+        Ok(()) => assert_eq!(rt; environment.get(Var::PythonVersion), Some("3.12.0.post1")),
+        Err(_) if before => assert_eq!(rt; environment.get(Var::PythonVersion), Some("3.11.1rc1")),
+        Err(_) => assert_eq!(rt; environment.get(Var::PythonVersion), None),
+    }
+}
+
+#[test]
+fn environment_extras(rt: HostRuntime) {
+    let mut environment = Environment::new(rt.alloc());
+    let is_in = environment.add_extra("A_b").is_ok();
+    assert!(rt; environment.has_extra("a-b") == is_in);
+    let is_out = environment.drop_extra("a.B").is_ok();
+    assert!(rt; environment.has_extra("a-b") == (is_in && !is_out));
+}
+
+#[test]
+fn environment_groups(rt: HostRuntime) {
+    let mut environment = Environment::new(rt.alloc());
+    let is_in = environment.add_group("A_b").is_ok();
+    assert!(rt; environment.has_group("a-b") == is_in);
+    let is_out = environment.drop_group("a.B").is_ok();
+    assert!(rt; environment.has_group("a-b") == (is_in && !is_out));
+}
+
+#[test]
+fn environment_copy(rt: HostRuntime) {
+    let mut environment = Environment::new(rt.alloc());
+    let is_set = environment.set(Var::PythonVersion, "3.12").is_ok();
+    let is_in = environment.add_extra("a").is_ok();
+    if let Ok(copy) = environment.copy() {
+        assert!(rt; copy.get(Var::PythonVersion).is_some() == is_set);
+        assert!(rt; copy.has_extra("a") == is_in);
+    }
+    assert!(rt; environment.get(Var::PythonVersion).is_some() == is_set);
+}
