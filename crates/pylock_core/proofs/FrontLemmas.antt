@@ -1,5 +1,5 @@
 -- What was read already, put before what is left to read.
-use Rattle.std.proofs.Common.{◌≡◌, ◌∙◌, ℕ, suc, List, [], ◌∷◌, ◌++◌, length, map, drop, get_or, ◌<◌, ◌+◌, Result, Ok, Err, refl, ap, sym, append_assoc}
+use Rattle.std.proofs.Common.{◌≡◌, ◌∙◌, ℕ, List, [], ◌∷◌, ◌++◌, length, map, drop, get_or, ◌<◌, ◌+◌, Result, Ok, Err, refl, ap, sym, append_assoc}
 use Rattle.std.proofs.lemmas.List.{drop_more}
 use Rattle.pyver_core.specs.Results.{◌>>=◌}
 

@@ -10,3 +10,4 @@ mod SharedLemmas
 pub mod EntryLemmas
 mod DistinctLemmas
 mod TextLemmas
+mod VariableLemmas

@@ -1,5 +1,5 @@
 -- Lemmas on tables of what was read already.
-use Rattle.std.proofs.Common.{◌≡◌, ◌∙◌, ℕ, Bool, true, false, List, [], ◌∷◌, Option, Some, None, Bor, IfSome, unwrap_or, option_copied, Ordering, Less, Equal, Greater, Result, Ok, Err, String, Global, string_bytes, nat_cmp, is_eq, cond, refl, ap, sym}
+use Rattle.std.proofs.Common.{◌≡◌, ◌∙◌, ℕ, List, [], ◌∷◌, Option, Some, None, Bor, IfSome, unwrap_or, option_copied, Ordering, Less, Equal, Greater, Result, Ok, Err, String, Global, string_bytes, nat_cmp, is_eq, refl, ap, sym}
 use Rattle.std.proofs.Math.Logic.{⊎_elim}
 use Rattle.std.proofs.lemmas.Option.{none-some}
 use Rattle.std.proofs.lemmas.Bool.{cases_Bool, cond-true, cond-false}

@@ -1,5 +1,5 @@
 -- Lemmas on tables of a TOML document, out of which values are taken.
-use Rattle.std.proofs.Common.{◌≡◌, ◌∙◌, ℕ, Bool, true, false, List, [], ◌∷◌, Option, Some, None, Ordering, Less, Equal, Greater, String, Global, string_bytes, nat_cmp, is_eq, option_map, cond, refl, ap, sym}
+use Rattle.std.proofs.Common.{◌≡◌, ◌∙◌, ℕ, true, false, List, [], ◌∷◌, Option, Some, Ordering, Less, Equal, Greater, String, Global, string_bytes, nat_cmp, is_eq, option_map, cond, refl, ap, sym}
 use Rattle.std.proofs.Math.Logic.{⊎_elim}
 use Rattle.std.proofs.lemmas.Bool.{cases_Bool, cond-true, cond-false, false≢true}
 use Rattle.std.proofs.lemmas.Map.Text.{is_eq-slice_cmp}
@@ -9,7 +9,7 @@ use Rattle.std.specs.Cmp.Lexicographic.{slice_cmp}
 use Rattle.std.specs.Map.{lookup, remove_entry}
 use Rattle.std.specs.Ordering.{match_ordering}
 use Rattle.toml.proofs.Views.{view-lookup}
-use Rattle.toml.specs.Data.{Data, get_member, same_key}
+use Rattle.toml.specs.Data.{get_member, same_key}
 use Rattle.toml.specs.View.{view, members_view}
 use Rattle.toml.specs.declared.value.Value.{Value}
 

@@ -32,12 +32,17 @@ abbrev pub with_text : Var → Option (List ℕ) → EnvironmentValue → Enviro
 with_text variable None environment = environment
 with_text variable (Some text) environment = with_variable variable text environment
 
--- the environment where each of these variables has the text of the member of its name
-abbrev pub with_members : List Var → Members → EnvironmentValue → Result EnvironmentValue EnvError
+-- the environment where the variable has the text of the member of its name
+abbrev pub with_member : Var → Members → EnvironmentValue → Result EnvironmentValue EnvError
+with_member variable members environment =
+    text_in (get_member (variable_name variable) members)
+    >>= (λ text. Ok (with_text variable text environment))
+
+-- the same of each of these variables
+unfoldable pub with_members : List Var → Members → EnvironmentValue → Result EnvironmentValue EnvError
 with_members [] ms environment = Ok environment
 with_members (variable ∷ more) ms environment =
-    text_in (get_member (variable_name variable) ms)
-    >>= (λ text. with_members more ms (with_text variable text environment))
+    with_member variable ms environment >>= with_members more ms
 
 -- the texts of a list
 abbrev pub texts_in : Items → Result (List (List ℕ)) EnvError

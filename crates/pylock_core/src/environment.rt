@@ -6,7 +6,7 @@ ghost use Rattle.serde_json.specs.View.{view, items_view, members_view};
 ghost use Rattle.pyver_core.specs.Agreement.{Gives};
 ghost use Rattle.pymark_core.specs.Environment.{empty};
 ghost use Rattle.pymark_core.specs.Variables.{variable_name, variables};
-ghost use Rattle.pylock_core.specs.Environment.{members_in, tags_in, text_in, with_text, with_members, texts_in, tag_refusal, listed, env_in, value_of, env_of};
+ghost use Rattle.pylock_core.specs.Environment.{members_in, tags_in, text_in, with_member, with_members, texts_in, tag_refusal, listed, env_in, value_of, env_of};
 
 use crate::error::EnvError;
 use crate::text::as_text;
@@ -95,12 +95,39 @@ fn read_variables(alloc: Global, members: &Map<String, Value>) -> Result<Environ
         (with_members variables (members_view members.now.entries) empty) }
 {
     let mut environment = Environment::new(alloc);
-    for variable in VARIABLES {
-        if let Some(text) = member_text(members, variable)? {
-            environment.set(variable, text)?;
-        }
-    }
+    set_members(&mut environment, members, &VARIABLES)?;
     Ok(environment)
+}
+
+/// Gives each of these variables the text of the member of its name.
+fn set_members(
+    environment: &mut Environment,
+    members: &Map<String, Value>,
+    variables: &[Var],
+) -> Result<(), EnvError>
+    ensures { Gives EnvError.Memory (λ _. environment.new) result
+        (with_members variables.now (members_view members.now.entries) environment.old) }
+{
+    for variable in variables {
+        set_member(environment, members, *variable)?;
+    }
+    Ok(())
+}
+
+/// Gives the variable the text of the member of its name, if there is one.
+fn set_member(
+    environment: &mut Environment,
+    members: &Map<String, Value>,
+    variable: Var,
+) -> Result<(), EnvError>
+    ensures { Gives EnvError.Memory (λ _. environment.new) result
+        (with_member variable (members_view members.now.entries) environment.old) }
+{
+    match member_text(members, variable)? {
+        Some(text) => environment.set(variable, text)?,
+        None => {}
+    }
+    Ok(())
 }
 
 /// The text of the member that is named like the variable.

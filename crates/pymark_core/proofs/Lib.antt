@@ -1,5 +1,6 @@
 pub mod Agreeing
 pub mod Boundaries
+pub mod BuilderLemmas
 pub mod Choices
 pub mod Cuts
 pub mod DepthLemmas

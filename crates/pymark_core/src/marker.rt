@@ -1,5 +1,6 @@
 //! Markers (PEP 508, "Environment Markers").
 
+mod builder;
 mod depth;
 mod error;
 mod keys;

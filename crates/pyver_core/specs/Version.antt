@@ -1,4 +1,5 @@
 -- Versions (PEP 440, "Version scheme").
+pub mod FromParts
 pub mod Grammar
 pub mod Hashing
 pub mod Normal

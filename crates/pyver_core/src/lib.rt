@@ -8,7 +8,7 @@ mod version;
 
 pub use name::{is_name, normal_name};
 pub use set::{Operator, ReleasePrefix, Specifier, SpecifierError, SpecifierSet};
-pub use version::{Label, LocalPart, PreKind, Version, VersionError};
+pub use version::{Label, LocalPart, PartsError, PreKind, Version, VersionError, VersionParts};
 
 #[cfg(test)]
 mod tests;

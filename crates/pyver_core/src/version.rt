@@ -6,6 +6,7 @@ ghost use Rattle.pyver_core.specs.Version.Normal.{normal};
 ghost use Rattle.pyver_core.specs.Version.Parts.{is_postrelease, is_prerelease};
 
 mod error;
+mod from_parts;
 mod hashing;
 mod normal;
 mod order;
@@ -15,6 +16,7 @@ mod parts_ref;
 pub(crate) mod reading;
 
 pub use error::VersionError;
+pub use from_parts::{PartsError, VersionParts};
 use normal::normal_text;
 pub(crate) use normal::{push_epoch, push_release};
 pub(crate) use order::compare;
@@ -64,27 +66,20 @@ impl Model for Version {
 }
 
 impl Version {
-    /// The version with these parts. `release` is not empty.
-    pub(crate) fn from_parts(
-        alloc: Global,
-        epoch: u128,
-        release: Vec<u128>,
-        pre: Option<(PreKind, u128)>,
-        post: Option<u128>,
-        dev: Option<u128>,
-        local: Vec<LocalPart>,
-    ) -> Result<Version, AllocError>
-        requires { release.items ≢ [] }
-        ensures { IfOk result (λ v. v ≡ record {
-          epoch = epoch;
-          release = release.items;
-          pre = pre;
-          post = post;
-          dev = dev;
-          local = local.items;
-        }) }
+    /// The version with these parts, of which the release is not empty.
+    pub(crate) fn with_parts(alloc: Global, parts: VersionParts) -> Result<Version, AllocError>
+        requires { parts.release ≢ [] }
+        ensures { IfOk result (λ v. v ≡ parts) }
     {
-        let parts = PartsRef {
+        let VersionParts {
+            epoch,
+            release,
+            pre,
+            post,
+            dev,
+            local,
+        } = parts;
+        let lent = PartsRef {
             epoch,
             release: &release,
             pre,
@@ -92,7 +87,7 @@ impl Version {
             dev,
             local: &local,
         };
-        let text = normal_text(alloc, &parts)?;
+        let text = normal_text(alloc, &lent)?;
         Ok(Version {
             epoch,
             release,

@@ -1,0 +1,7 @@
+pub mod Choice
+pub mod Inner
+pub mod Parsed
+pub mod Tag
+pub mod TagLaws
+pub mod Texts
+pub mod Wheel

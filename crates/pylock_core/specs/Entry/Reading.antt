@@ -1,6 +1,6 @@
 -- The reading of an entry (PEP 751, `packages`): its keys in order; the first that isn't of its form
 -- is the entry's refusal.
-use Rattle.std.specs.Prelude.{ℕ, codes, List, Option, option_and_then, ok_or, Result, Ok, Err}
+use Rattle.std.specs.Prelude.{ℕ, codes, List, Option, ok_or, Result, Ok, Err}
 use Rattle.toml.specs.Data.{Data, Members, get_member, as_table}
 use Rattle.toml.specs.Parse.{parse_value}
 use Rattle.pyver_core.specs.Results.{◌>>=◌}
@@ -13,7 +13,6 @@ use Rattle.pylock_core.specs.declared.field.FieldError.{FieldError}
 use Rattle.pylock_core.specs.declared.field.FieldError.TheVariants as field
 use Rattle.pylock_core.specs.declared.error.EntryError.{EntryError}
 use Rattle.pylock_core.specs.declared.error.EntryError.TheVariants as error
-use Rattle.pylock_core.specs.declared.error.EntryKey.{EntryKey}
 use Rattle.pylock_core.specs.declared.error.EntryKey.TheVariants as key
 
 -- the entry's refusal for a field that has this one

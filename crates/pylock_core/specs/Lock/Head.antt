@@ -1,5 +1,5 @@
 -- The head of a lock (PEP 751): its keys in order; the first that isn't of its form is the refusal.
-use Rattle.std.specs.Prelude.{ℕ, Bool, not, ◌&&◌, ◌==◌, codes, nat_eq, List, [], ◌∷◌, drop, filter, length, Option, option_map, ok_or, Result, Ok, Err, if◌then◌else◌, ⊤}
+use Rattle.std.specs.Prelude.{ℕ, Bool, not, ◌&&◌, ◌==◌, codes, nat_eq, List, [], ◌∷◌, drop, filter, length, Option, Result, Ok, Err, ⊤}
 use Rattle.std.specs.Char.{is_ascii_digit}
 use Rattle.std.specs.List.{list_all, starts_with}
 use Rattle.std.specs.Str.{bytes_eq}

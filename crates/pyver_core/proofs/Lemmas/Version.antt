@@ -2,6 +2,7 @@ pub mod Answers
 pub mod Complete
 pub mod Decimal
 pub mod FirstBytes
+pub mod FromParts
 pub mod Fronts
 pub mod Hashes
 pub mod InTurn

@@ -93,10 +93,7 @@ fn write_epoch<W: fmt::Write>(f: &mut fmt::Formatter<W>, epoch: u128) -> fmt::Re
 }
 
 /// Writes numbers with a dot before each.
-fn write_dotted_numbers<W: fmt::Write>(
-    f: &mut fmt::Formatter<W>,
-    numbers: &[u128],
-) -> fmt::Result
+fn write_dotted_numbers<W: fmt::Write>(f: &mut fmt::Formatter<W>, numbers: &[u128]) -> fmt::Result
     ensures { WritesOnOk W.write_str_gives f.old result
         (flat_map dotted_number numbers.now) f.new }
 {

@@ -2,7 +2,10 @@
 //! growths, that one refused. A test passes where the call answers want of memory, or just what it answers
 //! with ample memory.
 
-use crate::{SpecifierError, SpecifierSet, Version, VersionError, normal_name};
+use crate::{
+    Operator, PartsError, Specifier, SpecifierError, SpecifierSet, Version, VersionError,
+    VersionParts, normal_name,
+};
 use std::test::Fail;
 
 #[test]
@@ -19,6 +22,44 @@ fn specifier_set_parse(rt: HostRuntime) {
         Ok(set) => assert_eq!(rt; set.text(), ">=2.8.1,==1!2.0.*,===x,!=1+a"),
         Err(error) => assert!(rt; matches!(error, SpecifierError::Memory), "{error:?}"),
     }
+}
+
+#[test]
+fn specifier_new(rt: HostRuntime) {
+    match Specifier::new(rt.alloc(), Operator::NotEqual, "1!2.0.*") {
+        Ok(specifier) => assert_eq!(rt; specifier.operator(), Operator::NotEqual),
+        Err(error) => assert!(rt; matches!(error, SpecifierError::Memory), "{error:?}"),
+    }
+}
+
+#[test]
+fn specifier_set_copy(rt: HostRuntime) {
+    if let Ok(set) = SpecifierSet::parse(rt.alloc(), "==1+a.1, ==2.*, ===x") {
+        if let Ok(copy) = set.clone() {
+            assert!(rt; copy == set);
+        }
+    }
+}
+
+#[test]
+fn version_from_parts(rt: HostRuntime) -> Result<(), Fail> {
+    let mut release = Vec::new(rt.alloc());
+    if release.push(7).is_err() {
+        return Ok(());
+    }
+    let parts = VersionParts {
+        epoch: 0,
+        release,
+        pre: None,
+        post: None,
+        dev: None,
+        local: Vec::new(rt.alloc()),
+    };
+    match Version::from_parts(rt.alloc(), parts) {
+        Ok(version) => assert_eq!(rt; version.text(), "7"),
+        Err(error) => assert!(rt; matches!(error, PartsError::Memory), "{error:?}"),
+    }
+    Ok(())
 }
 
 #[test]

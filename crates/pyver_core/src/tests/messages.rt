@@ -1,6 +1,6 @@
 //! The messages of refusals, and how values print.
 
-use crate::{Operator, SpecifierError, SpecifierSet, Version, VersionError};
+use crate::{Operator, PartsError, SpecifierError, SpecifierSet, Version, VersionError};
 use std::test::Fail;
 
 #[test]
@@ -16,6 +16,13 @@ fn refusals_print_their_words(rt: HostRuntime) -> Result<(), Fail> {
         (SpecifierError::Syntax, "set-syntax"),
         (SpecifierError::NumberTooLarge, "set-number"),
         (SpecifierError::Memory, "memory"),
+    ] {
+        assert_eq!(rt; refusal.to_string(rt.alloc())?.as_str(), word);
+    }
+    for (refusal, word) in [
+        (PartsError::EmptyRelease, "release"),
+        (PartsError::LocalSegment, "local"),
+        (PartsError::Memory, "memory"),
     ] {
         assert_eq!(rt; refusal.to_string(rt.alloc())?.as_str(), word);
     }

@@ -1,7 +1,7 @@
 //! Specifier sets: what they admit, their text, their refusals. The candidates of each operator are those of
 //! PEP 440, "Version specifiers".
 
-use crate::{Operator, Specifier, SpecifierError, SpecifierSet, Version};
+use crate::{SpecifierError, SpecifierSet, Version};
 use std::process::Abort;
 use std::test::Fail;
 
@@ -122,11 +122,33 @@ fn parts_of_a_specifier(rt: HostRuntime) -> Result<(), Fail> {
 }
 
 #[test]
-fn operand_under_its_own_operator(rt: HostRuntime) -> Result<(), Fail> {
-    let version = Version::parse(rt.alloc(), "1.0")?;
-    let specifier = Specifier::new(rt.alloc(), Operator::Equal, " 1.* ")?;
-    assert!(rt; specifier.admits(&version));
-    let refused = Specifier::new(rt.alloc(), Operator::Equal, "=1");
+fn sets_of_hundreds(rt: HostRuntime) -> Result<(), Fail> {
+    let mut text = String::new(rt.alloc());
+    for number in 0..500u32 {
+        text.push_str(format!(in rt.alloc(); "!= 2.{number} ,")?.as_str())?;
+    }
+    let set = SpecifierSet::parse(rt.alloc(), text.as_str())?;
+    assert_eq!(rt; set.items().len(), 500);
+    assert!(rt; set.text().starts_with("!=2.0,!=2.1,"));
+    assert!(rt; set.text().ends_with(",!=2.499"));
+    assert!(rt; set.admits(&Version::parse(rt.alloc(), "2.500")?));
+    assert!(rt; !set.admits(&Version::parse(rt.alloc(), "2.499")?));
+
+    text.push_str("<340282366920938463463374607431768211456")?;
+    let refused = SpecifierSet::parse(rt.alloc(), text.as_str());
+    assert!(rt; matches!(refused, Err(SpecifierError::NumberTooLarge)));
+    text.push_str(".x")?;
+    let refused = SpecifierSet::parse(rt.alloc(), text.as_str());
     assert!(rt; matches!(refused, Err(SpecifierError::Syntax)));
+    Ok(())
+}
+
+#[test]
+fn long_operands(rt: HostRuntime) -> Result<(), Fail> {
+    let label = "x".repeat(rt.alloc(), 1_000_000)?;
+    let text = format!(in rt.alloc(); "==={label} , ~=1.{}", "0".repeat(rt.alloc(), 1_000_000)?)?;
+    let set = SpecifierSet::parse(rt.alloc(), text.as_str())?;
+    assert_eq!(rt; set.items().len(), 2);
+    assert_eq!(rt; set.text().len(), 3 + 1_000_000 + 6);
     Ok(())
 }

@@ -81,3 +81,21 @@ fn a_million_zeros(rt: HostRuntime) -> Result<(), Fail> {
     text.push_str("1")?;
     check_text(&rt, text.as_str(), "1")
 }
+
+#[test]
+fn long_releases_and_local_parts(rt: HostRuntime) -> Result<(), Fail> {
+    let mut text = String::new(rt.alloc());
+    text.push_str("7")?;
+    text.push_str(".08".repeat(rt.alloc(), 100_000)?.as_str())?;
+    text.push_str("+Aa")?;
+    text.push_str("-0b_012".repeat(rt.alloc(), 100_000)?.as_str())?;
+    let version = Version::parse(rt.alloc(), text.as_str())?;
+    assert_eq!(rt; version.release().len(), 100_001);
+    assert_eq!(rt; version.local().len(), 200_001);
+    assert!(rt; version.text().starts_with("7.8.8."));
+    assert!(rt; version.text().ends_with(".0b.12"));
+    let copy = version.clone()?;
+    assert!(rt; copy == version);
+    assert_eq!(rt; copy.text(), version.text());
+    Ok(())
+}

@@ -1,6 +1,5 @@
 use Rattle.std.proofs.Common.{◌≡◌, Ok, string_bytes, rules}
 use Rattle.pymark_core.specs.Marker.Reading.{marker_of}
-use Rattle.pylock_core.specs.Inner.Shared.{AllRead}
 use Rattle.pylock_core.proofs.SharedLemmas.{formed_ok, gains_read}
 use Rattle.pylock_core.proofs.conditions.shared_marker.Goals as goal
 

@@ -1,6 +1,5 @@
 use Rattle.std.proofs.Common.{◌≡◌, Ok, string_bytes, rules}
 use Rattle.pyver_core.specs.Parsed.{parsed_set}
-use Rattle.pylock_core.specs.Inner.Shared.{AllRead}
 use Rattle.pylock_core.proofs.SharedLemmas.{formed_ok, gains_read}
 use Rattle.pylock_core.proofs.conditions.shared_set.Goals as goal
 

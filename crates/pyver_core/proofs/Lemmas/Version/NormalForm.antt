@@ -33,7 +33,7 @@ digits_mean : (ds : List ℕ) → AllBelowBase 10 ds → map digit_value (map (�
 digits_mean [] below = refl
 digits_mean (d ∷ ds) below = rw (digit_means d below.0) (ap (λ (r : List ℕ). d ∷ r) (digits_mean ds below.1))
 
-number_spelt : (n : ℕ) → IsNumber (decimal_text n) n
+pub number_spelt : (n : ℕ) → IsNumber (decimal_text n) n
 number_spelt zero = (lit≤ tt, record { digits = refl; value = refl })
 number_spelt (suc n) =
     let ds = digits_of 10 (suc n) in
@@ -50,7 +50,7 @@ epoch_spelt : (e : ℕ) → IsEpoch (epoch_text e) e
 epoch_spelt zero = inl (refl, refl)
 epoch_spelt (suc n) = inr (decimal_text (suc n), refl, number_spelt (suc n))
 
-dotted_spelt : (ns : List ℕ) → AreBehind is_dot IsNumber (flat_map dotted_number ns) ns
+pub dotted_spelt : (ns : List ℕ) → AreBehind is_dot IsNumber (flat_map dotted_number ns) ns
 dotted_spelt [] = refl
 dotted_spelt (n ∷ ns) = (46, decimal_text n, flat_map dotted_number ns, refl, refl, number_spelt n, dotted_spelt ns)
 
@@ -111,7 +111,7 @@ all_lower_alphanumeric (b ∷ run) e =
     let c = all_cons is_ascii_alphanumeric b run e in
     rw (lower_alphanumeric b c.0) (all_lower_alphanumeric run c.1)
 
-all_lower_digits : (run : List ℕ) → list_all is_ascii_digit (str_to_ascii_lowercase run) ≡ list_all is_ascii_digit run
+pub all_lower_digits : (run : List ℕ) → list_all is_ascii_digit (str_to_ascii_lowercase run) ≡ list_all is_ascii_digit run
 all_lower_digits [] = refl
 all_lower_digits (b ∷ run) = rw (lower_digit b, all_lower_digits run) refl
 
@@ -134,8 +134,9 @@ local_spelt : (text : List ℕ) (ss : List LocalPart) → IsLocal text ss → Is
 local_spelt text [] is = refl
 local_spelt text (s ∷ ss) is = (segment_text s, flat_map dotted_segment ss, refl, segment_spelt is.0 s is.3, segments_spelt is.1 ss is.4)
 
-pub normal_spells : (text : List ℕ) (p : Parts) → Spells text p → Spells (normal p) p
-normal_spells text p s = record {
+-- the normal form of parts that have a spelling spells them
+pub normal_spells_parts : (p : Parts) → IsRelease (release_text p.release) p.release → IsLocal (local_text p.local) p.local → Spells (normal p) p
+normal_spells_parts p release local = record {
   before = [];
   prefix = [];
   epoch = epoch_text p.epoch;
@@ -149,10 +150,13 @@ normal_spells text p s = record {
   is_before = refl;
   is_prefix = inl refl;
   is_epoch = epoch_spelt p.epoch;
-  is_release = release_spelt s.release p.release s.is_release;
+  is_release = release;
   is_pre = pre_spelt p.pre _;
   is_post = post_spelt p.post _;
   is_dev = dev_spelt p.dev _;
-  is_local = local_spelt s.local p.local s.is_local;
+  is_local = local;
   is_after = refl;
 }
+
+pub normal_spells : (text : List ℕ) (p : Parts) → Spells text p → Spells (normal p) p
+normal_spells text p s = normal_spells_parts p (release_spelt s.release p.release s.is_release) (local_spelt s.local p.local s.is_local)

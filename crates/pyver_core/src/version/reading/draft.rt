@@ -11,7 +11,7 @@ use super::digits::Digits;
 use super::local::{Local, read_local};
 use super::scan;
 use super::tagged::{read_dev, read_post, read_pre};
-use crate::version::{PreKind, Version, VersionError};
+use crate::version::{PreKind, Version, VersionError, VersionParts};
 use std::alloc::Global;
 
 /// The parts of a version as they stand in its text. It holds no memory.
@@ -86,6 +86,14 @@ impl Draft<'_> {
         let post = optional_number(&self.post)?;
         let dev = optional_number(&self.dev)?;
         let local = self.local.segments(alloc)?;
-        Ok(Version::from_parts(alloc, epoch, release, pre, post, dev, local)?)
+        let parts = VersionParts {
+            epoch,
+            release,
+            pre,
+            post,
+            dev,
+            local,
+        };
+        Ok(Version::with_parts(alloc, parts)?)
     }
 }

@@ -59,7 +59,8 @@ impl<'a> Segment<'a> {
     }
 }
 
-fn is_all_digits(bytes: &[u8]) -> bool
+/// Whether the text has no byte but digits.
+pub(crate) fn is_all_digits(bytes: &[u8]) -> bool
     ensures { result ≡ list_all is_ascii_digit bytes.now }
 {
     bytes.iter().all(|b| b.is_ascii_digit())

@@ -1,4 +1,3 @@
-use Rattle.std.proofs.Common.{rules}
 use Rattle.std.proofs.lemmas.Result.{err_from_is_err_and}
 use Rattle.pylock_core.specs.Entry.Reading.{entry_in}
 use Rattle.pylock_core.proofs.entry.read.read_entry.Goals as goal

@@ -1,0 +1,52 @@
+-- Steps of the code that builds a marker's tree.
+use Rattle.std.proofs.Common.{◌≡◌, ℕ, Bool, true, false, List, [], ◌∷◌, ◌++◌, map, Option, Some, None, Ok, ok_or, refl, ap, sym, ◌∙◌, inl, inr}
+use Rattle.std.specs.Prelude.{codes, option_map, reverse}
+use Rattle.std.specs.Str.{bytes_eq}
+use Rattle.std.specs.Global.{Box}
+use Rattle.std.proofs.lemmas.List.{map-append, reverse-append}
+use Rattle.std.proofs.lemmas.Slice.Eq.{bytes_eq-Decides}
+use Rattle.pymark_core.proofs.Choices.{cases_bool}
+use Rattle.pymark_core.proofs.TreeView.{view_group}
+use Rattle.pymark_core.specs.Inner.Building.{frame_view, noted}
+use Rattle.pymark_core.specs.Marker.Reading.{Place, at_rest, at_right, behind_closing, frame_tree, operand_of, word_operand}
+use Rattle.pymark_core.specs.Marker.Token.{Token}
+use Rattle.pymark_core.specs.Marker.View.{atom_view, tree_view}
+use Rattle.pymark_core.specs.Variables.{variable_of}
+use Rattle.pymark_core.specs.declared.marker.builder.Frame.{Frame}
+use Rattle.pymark_core.specs.declared.marker.tree.Atom.{Atom}
+use Rattle.pymark_core.specs.declared.marker.tree.Atom.TheVariants.{Group}
+use Rattle.pymark_core.specs.declared.marker.tree.Joined.{Joined}
+use Rattle.pymark_core.specs.declared.marker.error.MarkerError.TheVariants.{Syntax}
+use Rattle.pymark_core.specs.declared.operand.Comparator.{Comparator}
+use Rattle.pymark_core.specs.declared.operand.Operand.{Operand}
+use Rattle.pymark_core.specs.declared.operand.Operand.TheVariants.{Variable}
+
+pub other_way : (a b : List ℕ) → bytes_eq a b ≡ false → bytes_eq b a ≡ false
+other_way a b differ = elim (cases_bool (bytes_eq b a)) [
+  | inl same ↦
+      let turned : bytes_eq a b ≡ true = (bytes_eq-Decides a b).1 (sym ((bytes_eq-Decides b a).0 same)) in
+      absurd cc
+  | inr e ↦ e
+]
+
+pub word_is_variable : (letters : List ℕ) → bytes_eq (codes "extra") letters ≡ false → bytes_eq (codes "extras") letters ≡ false → bytes_eq (codes "dependency_groups") letters ≡ false
+    → word_operand letters ≡ option_map Variable (variable_of letters)
+word_is_variable letters a b c = rw (a, b, c) refl
+
+last_first : (xs : List Frame) (x : Frame) → reverse (map frame_view (xs ++ x ∷ [])) ≡ frame_view x ∷ reverse (map frame_view xs)
+last_first xs x = rw (map-append, reverse-append) refl
+
+pub closed : (items left : List Frame) (frame inner dest : Frame) (atom : Atom) (inside : Joined (Joined Atom)) (b : Box (Joined (Joined Atom)))
+    → items ≡ left ++ frame ∷ [] → dest ≡ frame → tree_view inside ≡ frame_tree (frame_view inner) (atom_view atom) → b.value ≡ inside
+    → behind_closing (reverse (map frame_view items)) (frame_view inner) (atom_view atom)
+      ≡ Some (record { outer = reverse (map frame_view left); inner = frame_view dest; stage = at_rest (atom_view (Group b)) })
+closed items left frame inner dest atom inside b all is tree boxed =
+    rw (all, last_first left frame, is, view_group b, boxed, tree) refl
+
+some_from_ok : {X : Type 0} (o : Option X) (x : X) → ok_or o Syntax ≡ Ok x → o ≡ Some x
+some_from_ok None x e = absurd cc
+some_from_ok (Some y) x e = let same : y ≡ x = cc in ap Some same
+
+pub noted_right : (left : Operand) (comparator : Comparator) (t : Token) (right : Operand) → ok_or (operand_of t) Syntax ≡ Ok right
+    → noted (at_right left comparator) t ≡ record { left = left; comparator = comparator; right = right } ∷ []
+noted_right left comparator t right e = rw (some_from_ok (operand_of t) right e) refl

@@ -1,0 +1,290 @@
+//! The tree of a marker, built from its tokens.
+
+ghost use Rattle.std.specs.Prelude.{◌≡◌, [], ◌∷◌, ◌++◌, Ok, OnOk, ok_or, option_map};
+ghost use Rattle.pyver_core.specs.Agreement.{Gives};
+ghost use Rattle.pymark_core.specs.Inner.Building.{NotesMore, frame_view, noted, outer_view, place_view, stage_view};
+ghost use Rattle.pymark_core.specs.Marker.Front.{token_view};
+ghost use Rattle.pymark_core.specs.Marker.Reading.{at_atom, at_right, behind_atom, behind_atom_start, behind_closing, behind_left, behind_not, behind_right, empty_frame, finish, frame_conjunction, frame_tree, operand_of, start, step, word_operand};
+ghost use Rattle.pymark_core.specs.Marker.View.{atom_view, tree_view};
+ghost use Rattle.pymark_core.specs.Variables.{variable_of};
+ghost use Rattle.pymark_core.specs.declared.operand.Operand.TheVariants.{Variable};
+
+use super::error::MarkerError;
+use super::notes::Notes;
+use super::token::Token;
+use super::tree::{Atom, Conjunction, Joined, Tree};
+use crate::comparison::Comparison;
+use crate::operand::{Comparator, Operand};
+use crate::variable::Var;
+use pyver_core::Label;
+use std::alloc::{AllocError, Global};
+use std::mem;
+
+/// What stands so far inside one pair of parentheses.
+#[derive(Drop)]
+struct Frame {
+    /// Conjunctions, each with an `or` behind it.
+    conjunctions: Vec<Conjunction>,
+    /// Atoms of the next conjunction, each with an `and` behind it.
+    atoms: Vec<Atom>,
+}
+
+/// What may stand next, with what was read of a comparison.
+#[derive(Drop)]
+pub(super) enum Stage {
+    /// An operand or `(`.
+    Start,
+    /// An operator, or `not`.
+    Operator(Operand),
+    /// The `in` of `not in`.
+    In(Operand),
+    /// The operand on the right.
+    Right(Operand, Comparator),
+    /// `and`, `or`, `)` or the end, behind an atom.
+    Rest(Atom),
+}
+
+/// A marker's tree as far as it was read, but for the stage. It needs no recursion, however deep the parentheses are.
+#[derive(Drop)]
+pub(super) struct Builder {
+    /// The frame of each open parenthesis, the innermost last.
+    outer: Vec<Frame>,
+    /// The frame of what is read now.
+    inner: Frame,
+}
+
+impl Frame {
+    fn new(alloc: Global) -> Frame
+        ensures { frame_view result ≡ empty_frame }
+    {
+        Frame {
+            conjunctions: Vec::new(alloc),
+            atoms: Vec::new(alloc),
+        }
+    }
+
+    /// The tree that ends with this atom.
+    fn tree(self, last: Atom) -> Tree
+        ensures { tree_view result ≡ frame_tree (frame_view self) (atom_view last) }
+    {
+        let Frame {
+            conjunctions,
+            atoms,
+        } = self;
+        Joined {
+            front: conjunctions,
+            last: Joined { front: atoms, last },
+        }
+    }
+}
+
+/// The variable of this name.
+fn variable_operand(letters: &str) -> Option<Operand>
+    ensures { result ≡ option_map Variable (variable_of letters.now) }
+{
+    Var::of(letters).map(Operand::Variable)
+}
+
+/// The operand of a word.
+fn word_operand(letters: &str) -> Option<Operand>
+    ensures { result ≡ word_operand letters.now }
+{
+    if letters == "extra" {
+        return Some(Operand::Extra);
+    }
+    if letters == "extras" {
+        return Some(Operand::Extras);
+    }
+    if letters == "dependency_groups" {
+        return Some(Operand::Groups);
+    }
+    variable_operand(letters)
+}
+
+/// The operand of a token.
+#[tactic(auto, unfolding(crate::specs::Marker::Reading::operand_of))]
+fn operand(alloc: Global, token: Token<'_>) -> Result<Operand, MarkerError>
+    ensures { Gives MarkerError.Memory (λ o. o) result
+        (ok_or (operand_of (token_view token.entry)) MarkerError.Syntax) }
+{
+    match token {
+        Token::Word(letters) => word_operand(letters).ok_or(MarkerError::Syntax),
+        Token::Quoted(text) => {
+            let text = String::from_str(alloc, text)?;
+            Ok(Operand::Text(Label::new(text)))
+        }
+        Token::Open | Token::Close | Token::Sign(_) => Err(MarkerError::Syntax),
+    }
+}
+
+/// What may stand behind the left operand and this token.
+fn behind_left(left: Operand, token: Token<'_>) -> Option<Stage>
+    ensures { option_map stage_view result ≡ behind_left left (token_view token.entry) }
+{
+    match token {
+        Token::Sign(operator) => Some(Stage::Right(left, Comparator::By(operator))),
+        Token::Word("in") => Some(Stage::Right(left, Comparator::In)),
+        Token::Word("not") => Some(Stage::In(left)),
+        _ => None,
+    }
+}
+
+/// What may stand behind the left operand, `not` and this token.
+fn behind_not(left: Operand, token: Token<'_>) -> Option<Stage>
+    ensures { option_map stage_view result ≡ behind_not left (token_view token.entry) }
+{
+    match token {
+        Token::Word("in") => Some(Stage::Right(left, Comparator::NotIn)),
+        _ => None,
+    }
+}
+
+/// Takes the right operand of a comparison, which is noted.
+#[tactic(auto, using(crate::proofs::NoteLemmas::one_noted))]
+fn right_operand(
+    alloc: Global,
+    notes: &mut Notes,
+    left: Operand,
+    comparator: Comparator,
+    token: Token<'_>,
+) -> Result<Stage, MarkerError>
+    ensures stage { Gives MarkerError.Memory stage_view result
+        (ok_or (behind_right left comparator (token_view token.entry)) MarkerError.Syntax) }
+    ensures notes { OnOk result (NotesMore notes.old notes.new
+        (noted (at_right left comparator) (token_view token.entry))) }
+{
+    let right = operand(alloc, token)?;
+    notes.add(&left, comparator, &right);
+    let comparison = Comparison::new(alloc, left, comparator, right)?;
+    Ok(Stage::Rest(Atom::Leaf(comparison)))
+}
+
+impl Builder {
+    /// Nothing read yet.
+    pub(super) fn new(alloc: Global) -> Builder
+        ensures { place_view result Stage.Start ≡ start }
+    {
+        Builder {
+            outer: Vec::new(alloc),
+            inner: Frame::new(alloc),
+        }
+    }
+
+    /// Takes a `(`.
+    fn open(&mut self, alloc: Global) -> Result<Stage, MarkerError>
+        ensures { Gives MarkerError.Memory (place_view self.new) result (Ok (record {
+          outer = frame_view self.old.inner ∷ outer_view self.old;
+          inner = empty_frame;
+          stage = at_atom;
+        })) }
+    {
+        let frame = mem::replace(&mut self.inner, Frame::new(alloc));
+        self.outer.push(frame)?;
+        Ok(Stage::Start)
+    }
+
+    /// Takes an operand or a `(`, in front of an atom.
+    fn take_start(&mut self, alloc: Global, token: Token<'_>) -> Result<Stage, MarkerError>
+        ensures { Gives MarkerError.Memory (place_view self.new) result (ok_or
+            (behind_atom_start (outer_view self.old) (frame_view self.old.inner)
+                (token_view token.entry)) MarkerError.Syntax) }
+    {
+        match token {
+            Token::Open => self.open(alloc),
+            Token::Word(_) | Token::Quoted(_) => Ok(Stage::Operator(operand(alloc, token)?)),
+            Token::Close | Token::Sign(_) => Err(MarkerError::Syntax),
+        }
+    }
+
+    /// Takes a `)` behind this atom.
+    fn close(&mut self, alloc: Global, atom: Atom) -> Result<Stage, MarkerError>
+        ensures { Gives MarkerError.Memory (place_view self.new) result (ok_or
+            (behind_closing (outer_view self.old) (frame_view self.old.inner) (atom_view atom))
+            MarkerError.Syntax) }
+    {
+        let Some(frame) = self.outer.pop() else {
+            return Err(MarkerError::Syntax);
+        };
+        let inner = mem::replace(&mut self.inner, frame);
+        let group = Box::new(alloc, inner.tree(atom))?;
+        Ok(Stage::Rest(Atom::Group(group)))
+    }
+
+    /// Takes an `and` behind this atom.
+    fn join_and(&mut self, atom: Atom) -> Result<Stage, MarkerError>
+        ensures { Gives MarkerError.Memory (place_view self.new) result (Ok (record {
+          outer = outer_view self.old;
+          inner = record {
+            conjunctions = (frame_view self.old.inner).conjunctions;
+            atoms = (frame_view self.old.inner).atoms ++ atom_view atom ∷ [];
+          };
+          stage = at_atom;
+        })) }
+    {
+        self.inner.atoms.push(atom)?;
+        Ok(Stage::Start)
+    }
+
+    /// Takes an `or` behind this atom.
+    fn join_or(&mut self, alloc: Global, atom: Atom) -> Result<Stage, MarkerError>
+        ensures { Gives MarkerError.Memory (place_view self.new) result (Ok (record {
+          outer = outer_view self.old;
+          inner = record {
+            conjunctions = (frame_view self.old.inner).conjunctions
+                ++ frame_conjunction (frame_view self.old.inner) (atom_view atom) ∷ [];
+            atoms = [];
+          };
+          stage = at_atom;
+        })) }
+    {
+        let front = mem::replace(&mut self.inner.atoms, Vec::new(alloc));
+        self.inner.conjunctions.push(Joined { front, last: atom })?;
+        Ok(Stage::Start)
+    }
+
+    /// Takes a token behind this atom.
+    fn take_rest(
+        &mut self,
+        alloc: Global,
+        atom: Atom,
+        token: Token<'_>,
+    ) -> Result<Stage, MarkerError>
+        ensures { Gives MarkerError.Memory (place_view self.new) result (ok_or
+            (behind_atom (outer_view self.old) (frame_view self.old.inner) (atom_view atom)
+                (token_view token.entry)) MarkerError.Syntax) }
+    {
+        match token {
+            Token::Close => self.close(alloc, atom),
+            Token::Word("and") => self.join_and(atom),
+            Token::Word("or") => self.join_or(alloc, atom),
+            _ => Err(MarkerError::Syntax),
+        }
+    }
+
+    /// The stage behind one more token.
+    #[tactic(
+        auto,
+        using(crate::proofs::NoteLemmas::nothing_noted),
+        unfolding(crate::specs::Marker::Reading::step)
+    )]
+    pub(super) fn step(
+        &mut self,
+        alloc: Global,
+        notes: &mut Notes,
+        stage: Stage,
+        token: Token<'_>,
+    ) -> Result<Stage, MarkerError>
+        ensures place { Gives MarkerError.Memory (place_view self.new) result
+            (ok_or (step (place_view self.old stage) (token_view token.entry)) MarkerError.Syntax) }
+        ensures notes { OnOk result (NotesMore notes.old notes.new
+            (noted (stage_view stage) (token_view token.entry))) }
+    {
+        match stage {
+            Stage::Start => self.take_start(alloc, token),
+            Stage::Operator(left) => behind_left(left, token).ok_or(MarkerError::Syntax),
+            Stage::In(left) => behind_not(left, token).ok_or(MarkerError::Syntax),
+            Stage::Right(left, comparator) => right_operand(alloc, notes, left, comparator, token),
+            Stage::Rest(atom) => self.take_rest(alloc, atom, token),
+        }
+    }
+}

@@ -1,0 +1,194 @@
+-- Texts cut at a byte: what std's words say, in the words of `cut_at` and `pieces_at`.
+use Rattle.std.proofs.Common.{◌≡◌, ◌↔◌, ℕ, suc, ◌+◌, ◌-◌, ◌<◌, Bool, true, false, ◌==◌, ◌&&◌, ◌||◌, ◌⊎◌, bytes_eq, codes, cond, List, [], ◌∷◌, ◌++◌, length, take, drop, Option, Some, None, option_map, MatchOption, Bor, refl, sym, subst, ap, ◌∙◌, inl, inr, arith}
+use Rattle.std.proofs.Math.Bool.{and-true, true≢false}
+use Rattle.std.proofs.lemmas.Bool.Decides.{Decides-eqb}
+use Rattle.std.proofs.lemmas.List.{append_assoc, append_cancel_left, take-append-drop}
+use Rattle.std.proofs.lemmas.List.Elements.{All-cons}
+use Rattle.std.proofs.lemmas.List.Splits.{slice_split_at, slice_split_none}
+use Rattle.std.proofs.lemmas.Option.{same_Some}
+use Rattle.std.proofs.lemmas.List.{length-append}
+use Rattle.std.specs.Cmp.Lexicographic.{bytes_decides}
+use Rattle.std.specs.Str.Iter.{HasSubslice}
+use Rattle.std.specs.Str.Pattern.{FindsTextSuffix, StripsSuffix}
+use Rattle.std.specs.List.{All, after_first, before_first, list_any, position_or_len, slice_split}
+use Rattle.pyver_core.proofs.Sight.{option_sight, sight}
+use Rattle.pywheel_core.specs.Texts.{before_cut, begins_with, cut_at, has_pair, pieces_at}
+use Rattle.pywheel_core.specs.Inner.Places.{places_from}
+use Rattle.pywheel_core.specs.Tag.{are_tag_parts, is_tag_part, pieces}
+use Rattle.pywheel_core.specs.Wheel.Cut.{stem_of}
+use Rattle.pywheel_core.specs.declared.place.Place.{Place}
+
+pub cut-first : (c : ℕ) (s : List ℕ) → position_or_len (λ b. b == c) s < length s
+    → cut_at c s ≡ Some (before_first (λ b. b == c) s, after_first (λ b. b == c) s)
+cut-first c [] h = absurd (omega arith)
+cut-first c (b ∷ s) h =
+    let n = position_or_len (λ x. x == c) s in
+    let one : suc n ≡ 1 + n = omega arith in
+    let two : suc (n + 1) ≡ 1 + n + 1 = omega arith in
+    elim (sight (b == c)) [
+    | inl e ↦ rw e refl
+    | inr e ↦ let h2 = rw e at h in rw e (ap (option_map (before_cut b)) (cut-first c s (omega (arith, h2))) ∙ (λ i. Some (take (one i) (b ∷ s), drop (two i) (b ∷ s)))) ]
+
+pub cut-none : (c : ℕ) (s : List ℕ) → position_or_len (λ b. b == c) s ≡ length s → cut_at c s ≡ None
+cut-none c [] h = refl
+cut-none c (b ∷ s) h = elim (sight (b == c)) [
+    | inl e ↦ let h2 = rw e at h in absurd (omega (arith, h2))
+    | inr e ↦ let h2 = rw e at h in rw e (ap (option_map (before_cut b)) (cut-none c s (omega (arith, h2)))) ]
+
+-- what `split_once` answers
+pub split_once_is : (c : ℕ) (s : List ℕ) (r : Option (Bor (List ℕ) × Bor (List ℕ)))
+    → MatchOption r (position_or_len (λ b. b == c) s ≡ length s)
+    (λ x. (x.0.now ≡ before_first (λ b. b == c) s) × (x.1.now ≡ after_first (λ b. b == c) s) × (position_or_len (λ b. b == c) s < length s))
+    → option_map (λ x. (x.0.now, x.1.now)) r ≡ cut_at c s
+split_once_is c s None h = sym (cut-none c s h)
+split_once_is c s (Some x) h = (λ i. Some (h.0 i, h.1 i)) ∙ sym (cut-first c s h.2)
+
+-- what `strip_suffix` answers at `.whl`
+pub stem_is : (s : List ℕ) (r : Option (Bor (List ℕ)))
+    → MatchOption r (FindsTextSuffix (codes ".whl") s None) (λ x. StripsSuffix (FindsTextSuffix (codes ".whl")) s x.now)
+    → option_map (λ x. x.now) r ≡ stem_of s
+unfolding stem_of
+stem_is s None h =
+    let m = length s - 4 in
+    elim (sight (bytes_eq (drop m s) (codes ".whl"))) [
+    | inl e ↦ absurd (h (take m s) (sym (take-append-drop m s) ∙ ap (λ l. take m s ++ l) ((bytes_decides (drop m s) (codes ".whl")).0 e)))
+    | inr e ↦ rw e refl ]
+stem_is s (Some x) h =
+    let m = length s - 4 in
+    let whole : s ≡ take m s ++ codes ".whl" = subst (λ k. s ≡ take (length s - k) s ++ codes ".whl") h.1.0 h.1.1 in
+    let end : drop m s ≡ codes ".whl" = append_cancel_left (take m s) (drop m s) (codes ".whl") (take-append-drop m s ∙ whole) in
+    let test : bytes_eq (drop m s) (codes ".whl") ≡ true = (bytes_decides (drop m s) (codes ".whl")).1 end in
+    let front : x.now ≡ take m s = subst (λ k. x.now ≡ take (length s - k) s) h.1.0 h.2 in
+    rw test (ap Some front)
+
+-- two tests of the same
+pub same_test : (a b : Bool) → (a ≡ true → b ≡ true) → (b ≡ true → a ≡ true) → a ≡ b
+same_test true b f g = sym (f refl)
+same_test false true f g = absurd (true≢false (sym (g refl)))
+same_test false false f g = refl
+
+or_cases : (x y : Bool) → (x || y) ≡ true → (x ≡ true) ⊎ (y ≡ true)
+or_cases true y h = inl refl
+or_cases false y h = inr h
+
+or_right : (x y : Bool) → y ≡ true → (x || y) ≡ true
+or_right true y h = refl
+or_right false y h = h
+
+pub and_both : (x y : Bool) → (x && y) ≡ true → (x ≡ true) × (y ≡ true)
+and_both true y h = (refl, h)
+and_both false y h = absurd (true≢false (sym h))
+
+starts_with_it : (c : ℕ) (s : List ℕ) → begins_with c s ≡ true → (rest : List ℕ) × (s ≡ c ∷ rest)
+starts_with_it c [] h = absurd (true≢false (sym h))
+starts_with_it c (b ∷ s) h = (s, ap (λ x. x ∷ s) ((Decides-eqb b c).0 h))
+
+pair_stands : (c : ℕ) (s : List ℕ) → has_pair c s ≡ true → HasSubslice s (c ∷ (c ∷ []))
+pair_stands c [] h = absurd (true≢false (sym h))
+pair_stands c (b ∷ s) h = elim (or_cases ((b == c) && begins_with c s) (has_pair c s) h) [
+    | inl e ↦ let p = and_both (b == c) (begins_with c s) e in let r = starts_with_it c s p.1 in
+        ([], r.0, (λ i. (Decides-eqb b c).0 p.0 i ∷ r.1 i))
+    | inr e ↦ let x = pair_stands c s e in (b ∷ x.0, x.1, ap (λ l. b ∷ l) x.2) ]
+
+stands_pair : (c : ℕ) (front back : List ℕ) → has_pair c (front ++ (c ∷ (c ∷ back))) ≡ true
+stands_pair c [] back = let e : (c == c) ≡ true = (Decides-eqb c c).1 refl in rw e refl
+stands_pair c (b ∷ front) back = or_right _ (has_pair c (front ++ (c ∷ (c ∷ back)))) (stands_pair c front back)
+
+pub contains_pair : (c : ℕ) (s : List ℕ) (r : Bool) → (r ≡ true) ↔ HasSubslice s (c ∷ (c ∷ [])) → r ≡ has_pair c s
+contains_pair c s r h = same_test r (has_pair c s)
+    (λ e. let x = h.0 e in subst (λ t. has_pair c t ≡ true) (sym x.2) (stands_pair c x.0 x.1))
+    (λ e. h.1 (pair_stands c s e))
+
+-- ---- what a cut says of the text
+
+-- no such byte stands in the text
+abbrev pub Lacks : ℕ → List ℕ → Type 0
+Lacks c s = list_any (λ b. b == c) s ≡ false
+
+lacks_more : (c b : ℕ) (s : List ℕ) → (b == c) ≡ false → Lacks c s → Lacks c (b ∷ s)
+lacks_more c b s e h = rw e h
+
+pub cut_says : (c : ℕ) (s x y : List ℕ) → cut_at c s ≡ Some (x, y) → (s ≡ x ++ (c ∷ y)) × Lacks c x
+cut_says c [] x y h = absurd cc
+cut_says c (b ∷ s) x y h = elim (sight (b == c)) [
+    | inl e ↦ let q : Some ([], s) ≡ Some (x, y) = rw e at h in
+        let p : ([], s) ≡ (x, y) = same_Some ([], s) (x, y) q in
+        let front : [] ≡ x = ap (λ r. r.0) p in let back : s ≡ y = ap (λ r. r.1) p in
+        ((λ i. front i ++ ((Decides-eqb b c).0 e i ∷ back i)), subst (λ l. Lacks c l) front refl)
+    | inr e ↦ let q : option_map (before_cut b) (cut_at c s) ≡ Some (x, y) = rw e at h in
+        elim (option_sight (cut_at c s)) [
+        | inl none ↦ absurd (let z : None ≡ Some (x, y) = sym (ap (option_map (before_cut b)) none) ∙ q in cc)
+        | inr some ↦ let p : (b ∷ some.0.0, some.0.1) ≡ (x, y) = same_Some (b ∷ some.0.0, some.0.1) (x, y) (sym (ap (option_map (before_cut b)) some.1) ∙ q) in
+            let front : b ∷ some.0.0 ≡ x = ap (λ r. r.0) p in let back : some.0.1 ≡ y = ap (λ r. r.1) p in
+            let rest = cut_says c s some.0.0 some.0.1 some.1 in
+            (ap (λ l. b ∷ l) rest.0 ∙ (λ i. front i ++ (c ∷ back i)), subst (λ l. Lacks c l) front (lacks_more c b some.0.0 e rest.1)) ] ]
+
+pub no_cut_says : (c : ℕ) (s : List ℕ) → cut_at c s ≡ None → Lacks c s
+no_cut_says c [] h = refl
+no_cut_says c (b ∷ s) h = elim (sight (b == c)) [
+    | inl e ↦ absurd (let q : Some ([], s) ≡ None = rw e at h in cc)
+    | inr e ↦ let q : option_map (before_cut b) (cut_at c s) ≡ None = rw e at h in
+        elim (option_sight (cut_at c s)) [
+        | inl none ↦ lacks_more c b s e (no_cut_says c s none)
+        | inr some ↦ absurd (let z : Some (b ∷ some.0.0, some.0.1) ≡ None = sym (ap (option_map (before_cut b)) some.1) ∙ q in cc) ] ]
+
+-- and the other way round
+or_false_left : (x y : Bool) → (x || y) ≡ false → x ≡ false
+or_false_left true y h = h
+or_false_left false y h = refl
+
+or_false_right : (x y : Bool) → (x || y) ≡ false → y ≡ false
+or_false_right true y h = absurd (true≢false h)
+or_false_right false y h = h
+
+pub cut_joined : (c : ℕ) (x y : List ℕ) → Lacks c x → cut_at c (x ++ (c ∷ y)) ≡ Some (x, y)
+cut_joined c [] y h = let e : (c == c) ≡ true = (Decides-eqb c c).1 refl in rw e refl
+cut_joined c (b ∷ x) y h =
+    let e = or_false_left (b == c) (list_any (λ d. d == c) x) h in
+    let rest = or_false_right (b == c) (list_any (λ d. d == c) x) h in
+    rw e (ap (option_map (before_cut b)) (cut_joined c x y rest))
+
+pub cut_lacking : (c : ℕ) (x : List ℕ) → Lacks c x → cut_at c x ≡ None
+cut_lacking c [] h = refl
+cut_lacking c (b ∷ x) h =
+    let e = or_false_left (b == c) (list_any (λ d. d == c) x) h in
+    let rest = or_false_right (b == c) (list_any (λ d. d == c) x) h in
+    rw e (ap (option_map (before_cut b)) (cut_lacking c x rest))
+
+-- ---- pieces
+
+lacks_all : (c : ℕ) (s : List ℕ) → Lacks c s → All (λ b. (b == c) ≡ false) s
+lacks_all c [] h = λ k d l. absurd (omega arith)
+lacks_all c (b ∷ s) h = All-cons (λ d. (d == c) ≡ false) b s (or_false_left (b == c) (list_any (λ d. d == c) s) h)
+    (lacks_all c s (or_false_right (b == c) (list_any (λ d. d == c) s) h))
+
+pub pieces_cut : (c : ℕ) (s x y : List ℕ) → cut_at c s ≡ Some (x, y) → pieces_at c s ≡ x ∷ pieces_at c y
+pieces_cut c s x y h =
+    let p = cut_says c s x y h in
+    ap (pieces_at c) p.0 ∙ slice_split_at (λ b. b == c) x c y (lacks_all c x p.1) ((Decides-eqb c c).1 refl)
+
+pub pieces_whole : (c : ℕ) (s : List ℕ) → cut_at c s ≡ None → pieces_at c s ≡ s ∷ []
+pieces_whole c s h = slice_split_none (λ b. b == c) s (lacks_all c s (no_cut_says c s h))
+
+pub length_cut : (c : ℕ) (s x y : List ℕ) → cut_at c s ≡ Some (x, y) → length s ≡ length x + (1 + length y)
+length_cut c s x y h = ap length (cut_says c s x y h).0 ∙ (length-append x (c ∷ y) ∙ omega arith)
+
+-- ---- all pieces are parts of a tag
+
+pub parts_step : (s x y : List ℕ) → Some (x, y) ≡ cut_at 46 s → are_tag_parts (pieces s) ≡ (is_tag_part x && are_tag_parts (pieces y))
+parts_step s x y h = ap are_tag_parts (pieces_cut 46 s x y (sym h))
+
+pub parts_last : (s : List ℕ) → None ≡ cut_at 46 s → are_tag_parts (pieces s) ≡ is_tag_part s
+parts_last s h = ap are_tag_parts (pieces_whole 46 s (sym h)) ∙ and-true (is_tag_part s)
+
+pub places_step : (front : List Place) (start : ℕ) (s x y : List ℕ) → Some (x, y) ≡ cut_at 46 s
+    → front ++ places_from start (pieces s) ≡ (front ++ record { start = start; end = start + length x } ∷ []) ++ places_from (start + length x + 1) (pieces y)
+places_step front start s x y h = ap (λ ps. front ++ places_from start ps) (pieces_cut 46 s x y (sym h))
+    ∙ sym (append_assoc front (record { start = start; end = start + length x } ∷ []) (places_from (start + length x + 1) (pieces y)))
+
+pub places_last : (front : List Place) (start : ℕ) (s : List ℕ) → None ≡ cut_at 46 s
+    → front ++ places_from start (pieces s) ≡ front ++ record { start = start; end = start + length s } ∷ []
+places_last front start s h = ap (λ ps. front ++ places_from start ps) (pieces_whole 46 s (sym h))
+
+pub length_step : (s x y : List ℕ) → Some (x, y) ≡ cut_at 46 s → length s ≡ length x + (1 + length y)
+length_step s x y h = length_cut 46 s x y (sym h)

@@ -1,0 +1,8 @@
+use Rattle.std.proofs.Common.{◌≡◌, ◌++◌, map, take}
+use Rattle.std.specs.List.{flat_map}
+use Rattle.std.specs.Rc.{rc_str_bytes}
+use Rattle.pywheel_core.specs.Inner.Places.{tag_at}
+use Rattle.pywheel_core.proofs.tag_set.push_abis.Given as goal
+
+abbrev pub invariant-loop-abi : goal.invariant-loop-abi
+invariant-loop-abi l = l.tags.items ≡ l.initial.tags.items ++ flat_map (λ abi. map (λ platform. tag_at (rc_str_bytes l.text) l.python abi platform) l.platforms) (take l.abi-index l.abis)

@@ -1,0 +1,7 @@
+use Rattle.std.proofs.Common.{◌≡◌, ◌++◌, map, take}
+use Rattle.std.specs.Rc.{rc_str_bytes}
+use Rattle.pywheel_core.specs.Inner.Places.{tag_at}
+use Rattle.pywheel_core.proofs.tag_set.push_platforms.Given as goal
+
+abbrev pub invariant-loop-platform : goal.invariant-loop-platform
+invariant-loop-platform l = l.tags.items ≡ l.initial.tags.items ++ map (λ platform. tag_at (rc_str_bytes l.text) l.python l.abi platform) (take l.platform-index l.platforms)

@@ -1,0 +1,8 @@
+use Rattle.std.proofs.Common.{◌≡◌, ◌++◌, map, take}
+use Rattle.std.specs.List.{flat_map}
+use Rattle.std.specs.Rc.{rc_str_bytes}
+use Rattle.pywheel_core.specs.Inner.Places.{tag_at}
+use Rattle.pywheel_core.proofs.tag_set.push_tags.Given as goal
+
+abbrev pub invariant-loop-python : goal.invariant-loop-python
+invariant-loop-python l = l.tags.items ≡ l.initial.tags.items ++ flat_map (λ python. flat_map (λ abi. map (λ platform. tag_at (rc_str_bytes l.text) python abi platform) l.platforms) l.abis) (take l.python-index l.pythons)

@@ -1,0 +1,3 @@
+-- What serves contracts inside the crate alone.
+pub mod Lent
+pub mod Places

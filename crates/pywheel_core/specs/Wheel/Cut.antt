@@ -1,0 +1,33 @@
+-- The parts of a wheel's name (PEP 427, "File name convention").
+use Rattle.std.specs.Prelude.{ℕ, ◌-◌, Bool, bytes_eq, if◌then◌else◌, List, length, take, drop, codes, Option, Some, None, is_some}
+use Rattle.pyver_core.specs.Options.{◌>>=◌, either}
+use Rattle.pywheel_core.specs.Texts.{cut_at, three_parts}
+
+-- the parts as written; `tag_set` is the last three, with `-` between them
+pub record WheelParts : Type 0 where
+  pub name : List ℕ
+  pub version : List ℕ
+  pub build : Option (List ℕ)
+  pub tag_set : List ℕ
+
+-- what stands before the extension
+unfoldable pub stem_of : List ℕ → Option (List ℕ)
+stem_of text = if bytes_eq (drop (length text - 4) text) (codes ".whl") then Some (take (length text - 4) text) else None
+
+-- the parts behind the version: three, which are a tag set
+unfoldable pub unbuilt : List ℕ → Option (Option (List ℕ) × List ℕ)
+unbuilt text = if is_some (three_parts 45 text) then Some (None, text) else None
+
+-- or four, the first of which is the build tag
+unfoldable pub built : List ℕ → Option (Option (List ℕ) × List ℕ)
+built text = do
+  build ← cut_at 45 text
+  if is_some (three_parts 45 build.1) then Some (Some build.0, build.1) else None
+
+-- the five or six parts, with `-` between them
+unfoldable pub parts_of : List ℕ → Option WheelParts
+parts_of stem = do
+  name ← cut_at 45 stem
+  version ← cut_at 45 name.1
+  end ← either (unbuilt version.1) (built version.1)
+  Some (record { name = name.0; version = version.0; build = end.0; tag_set = end.1 })

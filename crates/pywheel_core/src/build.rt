@@ -1,0 +1,119 @@
+//! Build tags (PEP 427, "File name convention").
+
+ghost use Rattle.std.specs.Prelude.{◌≡◌, ◌+◌, ◌*◌, ◌<◌, ◌^◌, true, if◌then◌else◌, Ok, Err, SomeIff, length, take};
+ghost use Rattle.std.specs.Char.{digit_value, is_ascii, is_ascii_digit};
+ghost use Rattle.std.specs.List.{list_all, prefix_len};
+ghost use Rattle.std.specs.Str.Parse.{digits_value};
+ghost use Rattle.pyver_core.specs.Agreement.{Gives};
+ghost use Rattle.pywheel_core.specs.Wheel.Build.{build_cmp, build_number, build_rest, is_build};
+
+use crate::error::WheelError;
+use std::alloc::Global;
+use std::cmp::Ordering;
+use std::marker::Model;
+
+/// A build tag. Contracts see it as written.
+#[derive(Debug, Drop)]
+pub(crate) struct BuildTag {
+    text: String,
+    digits: usize,
+    number: u128,
+}
+
+impl Model for BuildTag {
+    ghost use Rattle.std.specs.Prelude.{◌≡◌, ℕ, List, true, string_bytes};
+    ghost use Rattle.std.specs.Char.{is_ascii_digit};
+    ghost use Rattle.std.specs.List.{prefix_len};
+    ghost use Rattle.pywheel_core.specs.Wheel.Build.{build_number, is_build};
+
+    ghost Value = { List ℕ };
+
+    ghost view = { λ b. string_bytes b.text };
+
+    ghost invariant = { λ b. (is_build (string_bytes b.text) ≡ true) × (b.digits ≡ prefix_len is_ascii_digit (string_bytes b.text))
+        × (b.number ≡ build_number (string_bytes b.text)) };
+}
+
+impl BuildTag {
+    /// The build tag that the text is.
+    pub(crate) fn parse(alloc: Global, text: &str) -> Result<BuildTag, WheelError>
+        ensures { Gives WheelError.Memory (λ b. b) result (if is_build text.now then Ok text.now else Err WheelError.Build) }
+    {
+        let digits = count_digits(text.as_bytes());
+        let Some(number) = number(&text.as_bytes()[..digits]) else {
+            return Err(WheelError::Build);
+        };
+        if digits == 0 || !is_ascii(text.as_bytes()) {
+            return Err(WheelError::Build);
+        }
+        let text = String::from_str(alloc, text)?;
+        Ok(BuildTag {
+            text,
+            digits,
+            number,
+        })
+    }
+
+    /// The build tag as written.
+    pub(crate) fn as_str(&self) -> &str
+        ensures { result.now ≡ self.now }
+    {
+        self.text.as_str()
+    }
+
+    /// The number of the digits in front.
+    pub(crate) fn number(&self) -> u128
+        ensures { result ≡ build_number self.now }
+    {
+        self.number
+    }
+
+    /// What stands after those digits.
+    pub(crate) fn rest(&self) -> &str
+        ensures { result.now ≡ build_rest self.now }
+    {
+        self.text.as_str().split_at(self.digits).1
+    }
+
+    /// The order of build tags: by number, then by what stands after it, by code point.
+    pub(crate) fn compare(&self, other: &BuildTag) -> Ordering
+        ensures { result ≡ build_cmp self.now other.now }
+    {
+        self.number
+            .cmp(&other.number)
+            .then(self.rest().cmp(other.rest()))
+    }
+}
+
+/// How many digits stand in front.
+fn count_digits(bytes: &[u8]) -> usize
+    ensures { result ≡ prefix_len is_ascii_digit bytes.now }
+{
+    bytes.iter().take_while(|byte| byte.is_ascii_digit()).count()
+}
+
+fn is_ascii(bytes: &[u8]) -> bool
+    ensures { result ≡ list_all is_ascii bytes.now }
+{
+    bytes.iter().all(|byte| byte.is_ascii())
+}
+
+/// The number of these digits, where it isn't past [`u128::MAX`].
+fn number(digits: &[u8]) -> Option<u128>
+    requires { list_all is_ascii_digit digits.now ≡ true }
+    ensures { SomeIff result (digits_value 10 digits.now < 2 ^ 128) (digits_value 10 digits.now) }
+{
+    let mut value = 0u128;
+    for digit in digits {
+        value = with_digit(value, *digit)?;
+    }
+    Some(value)
+}
+
+/// The number with one more digit, where it isn't past the limit.
+fn with_digit(value: u128, digit: u8) -> Option<u128>
+    requires { is_ascii_digit digit ≡ true }
+    ensures { SomeIff result (value * 10 + digit_value digit < 2 ^ 128) (value * 10 + digit_value digit) }
+{
+    value.checked_mul(10)?.checked_add(u128::from(digit - b'0'))
+}

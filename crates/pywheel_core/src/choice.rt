@@ -1,0 +1,105 @@
+//! The choice of a wheel.
+
+ghost use Rattle.std.specs.Prelude.{◌≡◌, None, option_map};
+ghost use Rattle.pywheel_core.specs.Choice.{IsBest, best, best_from, better, is_better, least_rank, rank_from, ranked};
+ghost use Rattle.pywheel_core.specs.Inner.Lent.{candidate_of};
+
+use crate::tag_list::TagList;
+use crate::wheel::WheelName;
+use std::cmp::Ordering;
+
+/// A compatible wheel, its rank and its place.
+#[derive(Clone, Copy)]
+pub(crate) struct Candidate<'a> {
+    pub(crate) rank: usize,
+    pub(crate) place: usize,
+    pub(crate) wheel: &'a WheelName,
+}
+
+/// The place of the best wheel: of those with a tag in the list, the one whose best tag stands first there;
+/// then the greater build; then the earlier place. `None` among the wheels is never chosen. It takes no
+/// memory and looks at each tag once.
+pub fn choose(wheels: &[Option<WheelName>], tags: &TagList) -> Option<usize>
+    ensures best { IsBest wheels.now tags.now result }
+    ensures exact { result ≡ best wheels.now tags.now }
+{
+    best_place(wheels, tags)
+}
+
+/// The place of the best wheel, by one pass.
+#[tactic(auto, unfolding(crate::specs::Choice::best))]
+fn best_place(wheels: &[Option<WheelName>], tags: &TagList) -> Option<usize>
+    ensures { result ≡ best wheels.now tags.now }
+{
+    Some(best_candidate(wheels, tags)?.place)
+}
+
+/// The best wheel.
+fn best_candidate<'a>(wheels: &'a [Option<WheelName>], tags: &TagList) -> Option<Candidate<'a>>
+    ensures { option_map candidate_of result ≡ best_from None 0 wheels.now tags.now }
+{
+    let mut best = None;
+    for (place, wheel) in wheels.iter().enumerate() {
+        best = better(best, compatible(place, wheel, tags));
+    }
+    best
+}
+
+/// The wheel at this place, where one is and has a tag in the list.
+#[tactic(auto, unfolding(crate::specs::Choice::ranked))]
+fn compatible<'a>(
+    place: usize,
+    wheel: &'a Option<WheelName>,
+    tags: &TagList,
+) -> Option<Candidate<'a>>
+    ensures { option_map candidate_of result ≡ ranked place wheel.now tags.now }
+{
+    let wheel = wheel.as_ref()?;
+    let rank = best_rank(wheel, tags)?;
+    Some(Candidate { rank, place, wheel })
+}
+
+/// The rank of the wheel's best tag.
+fn best_rank(wheel: &WheelName, tags: &TagList) -> Option<usize>
+    ensures { result ≡ rank_from None wheel.now.tags tags.now }
+{
+    let mut best = None;
+    for tag in wheel.tags() {
+        best = least_rank(best, tags.rank(tag));
+    }
+    best
+}
+
+/// The lesser of two ranks, of which either may be absent.
+fn least_rank(rank: Option<usize>, other: Option<usize>) -> Option<usize>
+    ensures { result ≡ least_rank rank other }
+{
+    match (rank, other) {
+        (None, other) => other,
+        (rank, None) => rank,
+        (Some(rank), Some(other)) => Some(if other < rank { other } else { rank }),
+    }
+}
+
+/// The better of two wheels, of which either may be absent and `later` stands at the later place.
+fn better<'a>(
+    first: Option<Candidate<'a>>,
+    later: Option<Candidate<'a>>,
+) -> Option<Candidate<'a>>
+    ensures { option_map candidate_of result ≡ better (option_map candidate_of first.entry) (option_map candidate_of later.entry) }
+{
+    match (first, later) {
+        (None, later) => later,
+        (first, None) => first,
+        (Some(first), Some(later)) => Some(if is_better(&later, &first) { later } else { first }),
+    }
+}
+
+/// Whether a wheel at a later place is better. Builds are compared only at equal ranks.
+fn is_better(later: &Candidate<'_>, first: &Candidate<'_>) -> bool
+    ensures { result ≡ is_better (candidate_of later.now) (candidate_of first.now) }
+{
+    later.rank < first.rank
+        || later.rank == first.rank
+            && first.wheel.compare_builds(later.wheel) == Ordering::Less
+}

@@ -1,0 +1,147 @@
+//! Texts cut at `-`: the parts of a tag, of a compressed tag set and of a wheel's name.
+
+ghost use Rattle.std.specs.Prelude.{◌≡◌, ◌+◌, length, option_map, IfOk};
+ghost use Rattle.std.specs.List.{list_all};
+ghost use Rattle.std.specs.Rc.{rc_str_bytes};
+ghost use Rattle.std.specs.Str.{str_to_ascii_lowercase};
+ghost use Rattle.pywheel_core.specs.Inner.Lent.{set_of, wheel_parts};
+ghost use Rattle.pywheel_core.specs.Inner.Places.{places_of};
+ghost use Rattle.pywheel_core.specs.Tag.{is_tag, is_tag_byte, is_tag_part};
+ghost use Rattle.pywheel_core.specs.Texts.{cut_at, three_parts};
+ghost use Rattle.pywheel_core.specs.Wheel.Cut.{built, parts_of, stem_of, unbuilt};
+
+use crate::place::Place;
+use std::alloc::{AllocError, Global};
+use std::rc::RcStr;
+
+/// Three parts of a text: those of a tag, or of a compressed tag set.
+#[derive(Clone, Copy)]
+pub(crate) struct TagSet<'a> {
+    pub(crate) python: &'a str,
+    pub(crate) abi: &'a str,
+    pub(crate) platform: &'a str,
+}
+
+/// The parts of a wheel's name as written; `tag_set` is the last three.
+#[derive(Clone, Copy)]
+pub(crate) struct StemParts<'a> {
+    pub(crate) name: &'a str,
+    pub(crate) version: &'a str,
+    pub(crate) build: Option<&'a str>,
+    pub(crate) tag_set: &'a str,
+}
+
+/// The text in lower case, to be shared.
+pub(crate) fn lowercase(alloc: Global, text: &str) -> Result<RcStr, AllocError>
+    ensures { IfOk result (λ lower. rc_str_bytes lower ≡ str_to_ascii_lowercase text.now) }
+{
+    let mut lower = String::from_str(alloc, text)?;
+    lower.make_ascii_lowercase();
+    RcStr::from_string(lower)
+}
+
+/// What stands before the first `-`, and what stands after it.
+fn cut(text: &str) -> Option<(&str, &str)>
+    ensures { option_map (λ x. (x.0.now, x.1.now)) result ≡ cut_at 45 text.now }
+{
+    text.split_once('-')
+}
+
+/// The three parts of a text with two `-`.
+#[tactic(auto, unfolding(crate::specs::Texts::three_parts))]
+pub(crate) fn three_parts(text: &str) -> Option<TagSet<'_>>
+    ensures { option_map set_of result ≡ three_parts 45 text.now }
+{
+    let (python, rest) = cut(text)?;
+    let (abi, platform) = cut(rest)?;
+    if cut(platform).is_some() {
+        return None;
+    }
+    Some(TagSet {
+        python,
+        abi,
+        platform,
+    })
+}
+
+/// What stands before `.whl`.
+#[tactic(auto, unfolding(crate::specs::Wheel::Cut::stem_of))]
+pub(crate) fn stem(text: &str) -> Option<&str>
+    ensures { option_map (λ x. x.now) result ≡ stem_of text.now }
+{
+    text.strip_suffix(".whl")
+}
+
+/// What stands behind the version, where no build tag does.
+#[tactic(auto, unfolding(crate::specs::Wheel::Cut::unbuilt))]
+fn unbuilt(text: &str) -> Option<(Option<&str>, &str)>
+    ensures { option_map (λ x. (option_map (λ b. b.now) x.0, x.1.now)) result ≡ unbuilt text.now }
+{
+    three_parts(text)?;
+    Some((None, text))
+}
+
+/// A build tag and what stands behind it.
+#[tactic(auto, unfolding(crate::specs::Wheel::Cut::built))]
+fn built(text: &str) -> Option<(Option<&str>, &str)>
+    ensures { option_map (λ x. (option_map (λ b. b.now) x.0, x.1.now)) result ≡ built text.now }
+{
+    let (build, rest) = cut(text)?;
+    three_parts(rest)?;
+    Some((Some(build), rest))
+}
+
+/// The five or six parts before `.whl`.
+#[tactic(auto, unfolding(crate::specs::Wheel::Cut::parts_of))]
+pub(crate) fn stem_parts(stem: &str) -> Option<StemParts<'_>>
+    ensures { option_map wheel_parts result ≡ parts_of stem.now }
+{
+    let (name, rest) = cut(stem)?;
+    let (version, rest) = cut(rest)?;
+    let (build, tag_set) = match unbuilt(rest) {
+        Some(end) => end,
+        None => built(rest)?,
+    };
+    Some(StemParts {
+        name,
+        version,
+        build,
+        tag_set,
+    })
+}
+
+/// Whether the text is one or more ASCII letters, digits and `_`.
+pub(crate) fn is_tag_part(part: &str) -> bool
+    ensures { result ≡ is_tag_part part.now }
+{
+    !part.is_empty() && has_tag_bytes(part.as_bytes())
+}
+
+fn has_tag_bytes(bytes: &[u8]) -> bool
+    ensures { result ≡ list_all is_tag_byte bytes.now }
+{
+    bytes.iter().all(|byte| byte.is_ascii_alphanumeric() || *byte == b'_')
+}
+
+impl TagSet<'_> {
+    /// Whether these are the parts of one tag.
+    pub(crate) fn is_tag(&self) -> bool
+        ensures { result ≡ is_tag (set_of self.now) }
+    {
+        is_tag_part(self.python) && is_tag_part(self.abi) && is_tag_part(self.platform)
+    }
+
+    /// The places of the three parts in the text that they make, which has this length.
+    pub(crate) fn places(&self, whole: usize) -> (Place, Place, Place)
+        requires { whole ≡ length self.now.python.now + length self.now.abi.now + length self.now.platform.now + 2 }
+        ensures { (result.0, result.1, result.2) ≡ places_of (set_of self.now) }
+    {
+        let python = self.python.len();
+        let abi = python + 1 + self.abi.len();
+        (
+            Place { start: 0, end: python },
+            Place { start: python + 1, end: abi },
+            Place { start: abi + 1, end: whole },
+        )
+    }
+}

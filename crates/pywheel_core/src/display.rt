@@ -1,0 +1,50 @@
+//! How tags and the names of wheels print.
+
+ghost use Rattle.std.specs.Prelude.{Some};
+ghost use Rattle.pywheel_core.specs.Tag.{tag_text};
+ghost use Rattle.pywheel_core.specs.Wheel.Value.{wheel_text};
+
+use crate::tag::Tag;
+use crate::wheel::WheelName;
+use std::fmt;
+
+/// The three parts, with `-` between them.
+impl fmt::Display for Tag {
+    ghost output = { λ t. Some (tag_text t) };
+
+    fn fmt<W: fmt::Write>(&self, f: &mut fmt::Formatter<W>) -> fmt::Result {
+        write!(f, "{}-{}-{}", self.python(), self.abi(), self.platform())
+    }
+}
+
+impl fmt::Debug for Tag {
+    fn fmt<W: fmt::Write>(&self, f: &mut fmt::Formatter<W>) -> fmt::Result {
+        write!(f, "Tag({self})")
+    }
+}
+
+/// The file name: the name and the build tag as written, the version in its normal form, the tags in lower
+/// case.
+impl fmt::Display for WheelName {
+    ghost output = { λ w. Some (wheel_text w) };
+
+    fn fmt<W: fmt::Write>(&self, f: &mut fmt::Formatter<W>) -> fmt::Result {
+        match self.build_text() {
+            Some(build) => write!(
+                f,
+                "{}-{}-{}-{}.whl",
+                self.name(),
+                self.version(),
+                build,
+                self.tag_set()
+            ),
+            None => write!(
+                f,
+                "{}-{}-{}.whl",
+                self.name(),
+                self.version(),
+                self.tag_set()
+            ),
+        }
+    }
+}

@@ -1,0 +1,112 @@
+//! Why a text is refused.
+
+ghost use Rattle.std.specs.Prelude.{◌≡◌};
+ghost use Rattle.pywheel_core.specs.Wheel.Refusal.{refusal_of};
+ghost use Rattle.pywheel_core.specs.declared.error.TagError.TheVariants as tag;
+ghost use Rattle.pywheel_core.specs.declared.error.TagListError.TheVariants as list;
+ghost use Rattle.pywheel_core.specs.declared.error.WheelError.TheVariants as wheel;
+
+use pyver_core::VersionError;
+use std::alloc::{AllocError, AllocFailed};
+use thiserror::Error;
+
+/// Why a text isn't taken as a tag.
+#[derive(Debug, Drop, Error)]
+pub enum TagError {
+    /// The text isn't three parts joined by `-`, each one or more ASCII letters, digits and `_`.
+    #[error("shape")]
+    Shape,
+    /// There was no memory for the tag.
+    #[error("memory")]
+    Memory,
+}
+
+/// Why texts aren't taken as a list of tags.
+#[derive(Debug, Drop, Error)]
+pub enum TagListError {
+    /// The text at this place, counted from 1, is the first that is no tag.
+    #[error("tag {0}")]
+    Tag(usize),
+    /// There was no memory for the list.
+    #[error("memory")]
+    Memory,
+}
+
+/// Why a text isn't taken as the name of a wheel, in the order in which these are judged.
+#[derive(Debug, Drop, Error)]
+pub enum WheelError {
+    /// The text doesn't end in `.whl`.
+    #[error("extension")]
+    Extension,
+    /// The text before `.whl` isn't five or six parts joined by `-`.
+    #[error("parts")]
+    Parts,
+    /// The name isn't one or more ASCII letters, digits, `_` and `.`, or `__` stands in it.
+    #[error("name")]
+    Name,
+    /// The version isn't one of PEP 440.
+    #[error("version")]
+    Version,
+    /// The build tag isn't ASCII with a digit in front, or its number is past [`u128::MAX`].
+    #[error("build")]
+    Build,
+    /// A piece of the last three parts can't stand in a tag, or they make more than 1,024 tags.
+    #[error("tags")]
+    Tags,
+    /// There was no memory for the name.
+    #[error("memory")]
+    Memory,
+}
+
+impl From<AllocError> for TagError {
+    ghost from_gives = { λ _ e. e ≡ tag.Memory };
+
+    fn from(_refused: AllocError) -> TagError {
+        TagError::Memory
+    }
+}
+
+impl From<AllocError> for TagListError {
+    ghost from_gives = { λ _ e. e ≡ list.Memory };
+
+    fn from(_refused: AllocError) -> TagListError {
+        TagListError::Memory
+    }
+}
+
+impl<T: Drop> From<AllocFailed<T>> for TagListError {
+    ghost from_gives = { λ _ e. e ≡ list.Memory };
+
+    fn from(_refused: AllocFailed<T>) -> TagListError {
+        TagListError::Memory
+    }
+}
+
+impl From<AllocError> for WheelError {
+    ghost from_gives = { λ _ e. e ≡ wheel.Memory };
+
+    fn from(_refused: AllocError) -> WheelError {
+        WheelError::Memory
+    }
+}
+
+impl<T: Drop> From<AllocFailed<T>> for WheelError {
+    ghost from_gives = { λ _ e. e ≡ wheel.Memory };
+
+    fn from(_refused: AllocFailed<T>) -> WheelError {
+        WheelError::Memory
+    }
+}
+
+/// A text that is no version refuses the name of the wheel.
+impl From<VersionError> for WheelError {
+    ghost from_gives = { λ refused e. e ≡ refusal_of refused };
+
+    fn from(refused: VersionError) -> WheelError {
+        match refused {
+            VersionError::Syntax => WheelError::Version,
+            VersionError::NumberTooLarge => WheelError::Version,
+            VersionError::Memory => WheelError::Memory,
+        }
+    }
+}

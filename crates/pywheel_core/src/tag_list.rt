@@ -1,0 +1,80 @@
+//! Lists of tags in the order of preference (PEP 425, "Use").
+
+ghost use Rattle.std.specs.Prelude.{◌≡◌, ◌==◌, length, map};
+ghost use Rattle.pyver_core.specs.Agreement.{Gives};
+ghost use Rattle.pywheel_core.specs.Tag.{at_place, rank_of, tag_of, tags_of};
+
+use crate::error::{TagError, TagListError};
+use crate::tag::Tag;
+use indexmap::IndexSet;
+use std::alloc::Global;
+use std::marker::Model;
+
+/// Distinct tags, the most preferred first. A tag's rank is its position.
+#[derive(Debug, Drop)]
+pub struct TagList {
+    tags: IndexSet<Tag>,
+}
+
+impl Model for TagList {
+    ghost use Rattle.std.specs.Prelude.{List};
+    ghost use Rattle.pywheel_core.specs.Tag.{TagValue};
+
+    ghost Value = { List TagValue };
+
+    ghost view = { λ l. l.tags.keys };
+}
+
+impl TagList {
+    /// The tags of the texts in order, each at its first place. `Tag` gives the place, from 1, of the first
+    /// text that is no tag. It takes the memory of the tags and of a table of them.
+    #[tactic(auto, unfolding(crate::specs::Tag::tags_of))]
+    pub fn parse(alloc: Global, texts: &[&str]) -> Result<TagList, TagListError>
+        ensures { Gives TagListError.Memory (λ l. l) result (tags_of (map (λ t. t.now) texts.now)) }
+    {
+        let mut tags = IndexSet::with_capacity(alloc, texts.len())?;
+        for (i, text) in texts.iter().enumerate() {
+            tags.insert_full(parse_at(alloc, i + 1, text)?)?;
+        }
+        Ok(TagList { tags })
+    }
+
+    /// The position of the tag, from 0, among the distinct tags. It takes no memory.
+    pub fn rank(&self, tag: &Tag) -> Option<usize>
+        ensures { result ≡ rank_of tag.now self.now }
+    {
+        self.tags.get_index_of(tag)
+    }
+
+    /// How many distinct tags there are.
+    pub fn len(&self) -> usize
+        ensures { result ≡ length self.now }
+    {
+        self.tags.len()
+    }
+
+    /// Whether there is no tag.
+    pub fn is_empty(&self) -> bool
+        ensures { result ≡ (length self.now == 0) }
+    {
+        self.tags.is_empty()
+    }
+
+    /// The distinct tags in order.
+    pub fn tags(&self) -> &[Tag]
+        ensures { result.now ≡ self.now }
+    {
+        self.tags.as_slice()
+    }
+}
+
+/// The tag that the text at this place is.
+fn parse_at(alloc: Global, place: usize, text: &str) -> Result<Tag, TagListError>
+    ensures { Gives TagListError.Memory (λ t. t) result (at_place place (tag_of text.now)) }
+{
+    match Tag::parse(alloc, text) {
+        Ok(tag) => Ok(tag),
+        Err(TagError::Shape) => Err(TagListError::Tag(place)),
+        Err(TagError::Memory) => Err(TagListError::Memory),
+    }
+}

@@ -1,0 +1,190 @@
+//! The names of wheels (PEP 427, "File name convention").
+
+ghost use Rattle.std.specs.Prelude.{◌≡◌, option_map, string_bytes};
+ghost use Rattle.std.specs.List.{list_all};
+ghost use Rattle.pyver_core.specs.Agreement.{Gives};
+ghost use Rattle.pywheel_core.specs.Inner.Lent.{wheel_parts};
+ghost use Rattle.pywheel_core.specs.Texts.{has_pair};
+ghost use Rattle.pywheel_core.specs.Wheel.Build.{build_number, build_rest, builds_cmp};
+ghost use Rattle.pywheel_core.specs.Wheel.Name.{is_wheel_name, is_wheel_name_byte};
+ghost use Rattle.pywheel_core.specs.Wheel.Reading.{build_in, name_in, version_in, wheel_in, wheel_of};
+
+use crate::build::BuildTag;
+use crate::cut::{StemParts, stem, stem_parts};
+use crate::error::WheelError;
+use crate::tag::Tag;
+use crate::tag_set::read_tag_set;
+use pyver_core::Version;
+use std::alloc::Global;
+use std::cmp::Ordering;
+use std::marker::Model;
+use std::rc::RcStr;
+
+/// The name of a wheel: what its file name says.
+#[derive(Debug, Drop)]
+pub struct WheelName {
+    name: String,
+    version: Version,
+    build: Option<Box<BuildTag>>,
+    tag_set: RcStr,
+    tags: Vec<Tag>,
+}
+
+impl Model for WheelName {
+    ghost use Rattle.std.specs.Prelude.{option_map, string_bytes};
+    ghost use Rattle.std.specs.Rc.{rc_str_bytes};
+    ghost use Rattle.pywheel_core.specs.Wheel.Value.{WheelValue};
+
+    ghost Value = { WheelValue };
+
+    ghost view = { λ w. record {
+      name = string_bytes w.name;
+      version = w.version;
+      build = option_map (λ b. b.value) w.build;
+      tag_set = rc_str_bytes w.tag_set;
+      tags = w.tags.items;
+    } };
+}
+
+impl WheelName {
+    /// What the text says as the name of a wheel: a name, a version, a build tag or none, and a compressed
+    /// tag set, joined by `-`, and `.whl` (PEP 427, "File name convention"). The refusals are judged in the
+    /// order of [`WheelError`]. It takes the memory of the name, the version, the build tag and the tags,
+    /// which share one text.
+    #[tactic(auto, unfolding(crate::specs::Wheel::Reading::wheel_of))]
+    pub fn parse(alloc: Global, text: &str) -> Result<WheelName, WheelError>
+        ensures { Gives WheelError.Memory (λ w. w) result (wheel_of text.now) }
+    {
+        let stem = stem(text).ok_or(WheelError::Extension)?;
+        let parts = stem_parts(stem).ok_or(WheelError::Parts)?;
+        WheelName::read(alloc, &parts)
+    }
+
+    /// What the parts say.
+    #[tactic(auto, unfolding(crate::specs::Wheel::Reading::wheel_in))]
+    fn read(alloc: Global, parts: &StemParts<'_>) -> Result<WheelName, WheelError>
+        ensures { Gives WheelError.Memory (λ w. w) result (wheel_in (wheel_parts parts.now)) }
+    {
+        let name = read_name(alloc, parts.name)?;
+        let version = read_version(alloc, parts.version)?;
+        let build = read_build(alloc, parts.build)?;
+        let (tag_set, tags) = read_tag_set(alloc, parts.tag_set)?;
+        Ok(WheelName {
+            name,
+            version,
+            build,
+            tag_set,
+            tags,
+        })
+    }
+
+    /// The name as written.
+    pub fn name(&self) -> &str
+        ensures { result.now ≡ self.now.name }
+    {
+        self.name.as_str()
+    }
+
+    /// The version.
+    pub fn version(&self) -> &Version
+        ensures { result.now ≡ self.now.version }
+    {
+        &self.version
+    }
+
+    /// The build tag, where there is one: the number of the digits in front, and what stands after them.
+    pub fn build(&self) -> Option<(u128, &str)>
+        ensures number { option_map (λ b. b.0) result ≡ option_map build_number self.now.build }
+        ensures rest { option_map (λ b. b.1.now) result ≡ option_map build_rest self.now.build }
+    {
+        let build = self.build.as_ref()?;
+        Some((build.number(), build.rest()))
+    }
+
+    /// The build tag as written, where there is one.
+    pub fn build_text(&self) -> Option<&str>
+        ensures { option_map (λ b. b.now) result ≡ self.now.build }
+    {
+        let build = self.build.as_ref()?;
+        Some(build.as_str())
+    }
+
+    /// The tags: all combinations of the three parts' pieces. The platform runs fastest, then the ABI.
+    pub fn tags(&self) -> &[Tag]
+        ensures { result.now ≡ self.now.tags }
+    {
+        &self.tags
+    }
+
+    /// The compressed tag set that stands for the tags, in lower case (PEP 425, "Compressed Tag Sets").
+    pub fn tag_set(&self) -> &str
+        ensures { result.now ≡ self.now.tag_set }
+    {
+        self.tag_set.as_str()
+    }
+
+    /// The order of the build tags, in which none is least.
+    pub(crate) fn compare_builds(&self, other: &WheelName) -> Ordering
+        ensures { result ≡ builds_cmp self.now.build other.now.build }
+    {
+        match (&self.build, &other.build) {
+            (None, None) => Ordering::Equal,
+            (None, Some(_)) => Ordering::Less,
+            (Some(_), None) => Ordering::Greater,
+            (Some(build), Some(other)) => build.compare(other),
+        }
+    }
+}
+
+/// The name, where it is one.
+#[tactic(auto, unfolding(crate::specs::Wheel::Reading::name_in))]
+fn read_name(alloc: Global, name: &str) -> Result<String, WheelError>
+    ensures { Gives WheelError.Memory (λ n. string_bytes n) result (name_in name.now) }
+{
+    if !is_wheel_name(name) {
+        return Err(WheelError::Name);
+    }
+    Ok(String::from_str(alloc, name)?)
+}
+
+fn is_wheel_name(name: &str) -> bool
+    ensures { result ≡ is_wheel_name name.now }
+{
+    !name.is_empty() && has_name_bytes(name.as_bytes()) && !has_double_underscore(name)
+}
+
+fn has_name_bytes(bytes: &[u8]) -> bool
+    ensures { result ≡ list_all is_wheel_name_byte bytes.now }
+{
+    bytes.iter().all(|byte| is_wheel_name_byte(*byte))
+}
+
+fn is_wheel_name_byte(byte: u8) -> bool
+    ensures { result ≡ is_wheel_name_byte byte }
+{
+    byte.is_ascii_alphanumeric() || matches!(byte, b'_' | b'.')
+}
+
+fn has_double_underscore(name: &str) -> bool
+    ensures { result ≡ has_pair 95 name.now }
+{
+    name.contains("__")
+}
+
+/// The version, where the text is one.
+#[tactic(auto, unfolding(crate::specs::Wheel::Reading::version_in))]
+fn read_version(alloc: Global, text: &str) -> Result<Version, WheelError>
+    ensures { Gives WheelError.Memory (λ v. v) result (version_in text.now) }
+{
+    Ok(Version::parse(alloc, text)?)
+}
+
+/// The build tag, where there is one.
+fn read_build(alloc: Global, build: Option<&str>) -> Result<Option<Box<BuildTag>>, WheelError>
+    ensures { Gives WheelError.Memory (λ b. option_map (λ x. x.value) b) result (build_in (option_map (λ b. b.now) build.entry)) }
+{
+    match build {
+        Some(build) => Ok(Some(Box::new(alloc, BuildTag::parse(alloc, build)?)?)),
+        None => Ok(None),
+    }
+}
