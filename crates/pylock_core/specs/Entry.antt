@@ -2,7 +2,7 @@
 -- bytes of its UTF-8.
 use Rattle.std.specs.Prelude.{ℕ, Bool, List, [], map, Option, unwrap_or, option_and_then}
 use Rattle.std.specs.Result.{result_ok}
-use Rattle.pyver_core.specs.declared.specifier.Specifier.{Specifier}
+use Rattle.pyver_core.specs.declared.set.specifier.Specifier.{Specifier}
 use Rattle.pymark_core.specs.Marker.Reading.{MarkerValue}
 use Rattle.pywheel_core.specs.Wheel.Value.{WheelValue}
 use Rattle.pywheel_core.specs.Wheel.Reading.{wheel_of}

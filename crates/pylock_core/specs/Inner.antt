@@ -1,6 +1,7 @@
 -- What serves the contracts of private functions alone.
 pub mod Index
 pub mod Names
+pub mod Parts
 pub mod Pass
 pub mod Progress
 pub mod Rows

@@ -1,6 +1,6 @@
 -- What a lock holds (PEP 751). A text is the list of the bytes of its UTF-8.
 use Rattle.std.specs.Prelude.{ℕ, List, Option}
-use Rattle.pyver_core.specs.declared.specifier.Specifier.{Specifier}
+use Rattle.pyver_core.specs.declared.set.specifier.Specifier.{Specifier}
 use Rattle.pymark_core.specs.Marker.Reading.{MarkerValue}
 use Rattle.pylock_core.specs.Entry.{EntryValue}
 

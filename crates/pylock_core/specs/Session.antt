@@ -1,5 +1,4 @@
 -- A session: its state and its edits, the installation steps on it, and what of them is kept.
 pub mod Judgement
-pub mod StandIns
 pub mod State
 pub mod Steps

@@ -1,11 +1,13 @@
 //! Laws of the definitions alone: each function's contract is a law, and its body is empty.
 
 ghost use Rattle.std.specs.Prelude.{◌≡◌, List, Option, true};
-ghost use Rattle.pyver_core.specs.declared.specifier.Specifier.{Specifier};
+ghost use Rattle.pyver_core.specs.declared.set.specifier.Specifier.{Specifier};
 ghost use Rattle.pymark_core.specs.Environment.{EnvironmentValue, variable_in};
 ghost use Rattle.pymark_core.specs.declared.variable.Var.TheVariants.{PythonFullVersion};
+ghost use Rattle.pywheel_core.specs.Tag.{TagValue};
+ghost use Rattle.pylock_core.specs.Entry.{EntryValue};
+ghost use Rattle.pylock_core.specs.Lock.{HeadValue};
 ghost use Rattle.pylock_core.specs.Session.Judgement.{AgreeAtKey, IndexKey, entry_reads, head_reads, verdict_of};
-ghost use Rattle.pylock_core.specs.Session.StandIns.{EntryValue, HeadValue, TagValue};
 ghost use Rattle.pylock_core.specs.Session.Steps.{head_fault, python_check};
 ghost use Rattle.pylock_core.specs.declared.edit.Policy.{Policy};
 
@@ -36,4 +38,11 @@ pub fn head_reads()
         → head_fault head e ≡ head_fault head f }
 {
     marker_reads();
+}
+
+/// Trial.
+#[tactic(auto, using(crate::proofs::SessionLemmas::rows_answer))]
+pub fn trial()
+    ensures { python_check ≡ python_check }
+{
 }

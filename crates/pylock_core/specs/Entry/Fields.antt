@@ -2,10 +2,10 @@
 use Rattle.std.specs.Prelude.{ℕ, Bool, false, List, [], ◌∷◌, Option, Some, None, unwrap_or, ok_or, Result, Ok, Err, if◌then◌else◌, ⊤}
 use Rattle.toml.specs.Data.{Data, Items, no_items, item, Members, as_str, as_bool, as_array, as_table}
 use Rattle.pyver_core.specs.Results.{◌>>=◌}
-use Rattle.pyver_core.specs.declared.specifier.Specifier.{Specifier}
+use Rattle.pyver_core.specs.declared.set.specifier.Specifier.{Specifier}
 use Rattle.pyver_core.specs.Parsed.{parsed_set}
 use Rattle.pymark_core.specs.Marker.Reading.{MarkerValue, marker_of}
-use Rattle.pyver_core.specs.Names.{is_name, norm}
+use Rattle.pyver_core.specs.Name.{is_name, norm}
 use Rattle.pylock_core.specs.declared.field.FieldError.{FieldError}
 use Rattle.pylock_core.specs.declared.field.FieldError.TheVariants.{Wrong}
 

@@ -4,7 +4,7 @@ use Rattle.std.specs.Prelude.{ℕ, codes, List, Option, ok_or, Result, Ok, Err}
 use Rattle.toml.specs.Data.{Data, Members, get_member, as_table}
 use Rattle.toml.specs.Parse.{parse_value}
 use Rattle.pyver_core.specs.Results.{◌>>=◌}
-use Rattle.pyver_core.specs.declared.specifier.Specifier.{Specifier}
+use Rattle.pyver_core.specs.declared.set.specifier.Specifier.{Specifier}
 use Rattle.pymark_core.specs.Marker.Reading.{MarkerValue}
 use Rattle.pylock_core.specs.Entry.{VcsValue, DirectoryValue, ArchiveValue, FileValue, EntryValue}
 use Rattle.pylock_core.specs.Entry.Fields.{present_in, optional, name_of, optional_text_in, marker_field, set_field}

@@ -38,4 +38,4 @@ HaveRoom lists reads from =
 
 -- each list increases
 abbrev pub AllRise : List (Vec ℕ Global) → Type 0
-AllRise lists = (key : ℕ) → Rises 0 (list_at lists key)
+AllRise lists = (key : ℕ) → key < 14 → Rises 0 (list_at lists key)

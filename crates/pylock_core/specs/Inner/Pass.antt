@@ -30,15 +30,18 @@ file_source None true Wheel = None
 file_source None true Source = Some source.Sdist
 file_source None false policy = None
 
-abbrev pub row_source : Row → Policy → Option PickSource
-row_source row policy =
-    if row.sources.vcs
+abbrev pub source_from : Sources → Option ℕ → Policy → Option PickSource
+source_from sources best policy =
+    if sources.vcs
     then Some source.Vcs
-    else if row.sources.directory
+    else if sources.directory
     then Some source.Directory
-    else if row.sources.archive
+    else if sources.archive
     then Some source.Archive
-    else file_source row.verdict.best row.sources.sdist policy
+    else file_source best sources.sdist policy
+
+abbrev pub row_source : Row → Policy → Option PickSource
+row_source row policy = source_from row.sources row.verdict.best policy
 
 -- whether a number is among these
 abbrev pub is_number : List ℕ → ℕ → Bool

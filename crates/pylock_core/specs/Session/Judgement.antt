@@ -2,7 +2,7 @@
 use Rattle.std.specs.Prelude.{◌≡◌, ℕ, ◌+◌, Bool, true, false, ◌||◌, ◌&&◌, List, [], ◌∷◌, ◌++◌, map, filter, Option, Some, None, is_some, if◌then◌else◌}
 use Rattle.std.specs.List.{list_any}
 use Rattle.std.specs.Str.{bytes_eq}
-use Rattle.pyver_core.specs.Names.{norm}
+use Rattle.pyver_core.specs.Name.{norm}
 use Rattle.pymark_core.specs.Environment.{EnvironmentValue}
 use Rattle.pymark_core.specs.Marker.Keys.{reads}
 use Rattle.pymark_core.specs.Marker.Reading.{MarkerValue}
@@ -12,7 +12,11 @@ use Rattle.pymark_core.specs.declared.marker.keys.Key.TheVariants.{Of, Extras, G
 use Rattle.pymark_core.specs.declared.variable.Var.{Var}
 use Rattle.pymark_core.specs.declared.variable.Var.TheVariants.{PythonFullVersion}
 use Rattle.pymark_core.specs.Variables.{variables}
-use Rattle.pylock_core.specs.Session.StandIns.{EntryValue, HeadValue, TagValue, Edit, Set, Unset, AddExtra, DropExtra, AddGroup, DropGroup, Tags, Add, Put, Del, SetPolicy}
+use Rattle.pywheel_core.specs.Tag.{TagValue}
+use Rattle.pylock_core.specs.Entry.{EntryValue}
+use Rattle.pylock_core.specs.Lock.{HeadValue}
+use Rattle.pylock_core.specs.declared.edit.Edit.{Edit}
+use Rattle.pylock_core.specs.declared.edit.Edit.TheVariants as edit
 use Rattle.pylock_core.specs.Session.State.{State, Policies, policy_of}
 use Rattle.pylock_core.specs.Session.Steps.{standing, best_wheel, head_fault, is_any}
 use Rattle.pylock_core.specs.declared.answer.FaultCode.{FaultCode}
@@ -59,38 +63,26 @@ pub data IndexKey : Type 0 where
 abbrev pub keys : List IndexKey
 keys = map (λ variable. Marked (Of variable)) variables ++ Marked Extras ∷ Marked Groups ∷ OfTags ∷ []
 
--- what the Python check of a set reads, if the set stands
-abbrev pub is_python : Var → Bool
-is_python PythonFullVersion = true
+-- whether a Python check reads the key
+abbrev pub is_python : Key → Bool
+is_python (Of PythonFullVersion) = true
 is_python _ = false
 
-abbrev pub check_reads : {A : Type 0} → IndexKey → Option A → Bool
-check_reads (Marked (Of variable)) set = is_python variable && is_some set
-check_reads (Marked Extras) set = false
-check_reads (Marked Groups) set = false
-check_reads OfTags set = false
-
-abbrev pub marker_reads : IndexKey → MarkerValue → Bool
-marker_reads (Marked key) m = reads key m.tree
-marker_reads OfTags m = false
-
-abbrev pub option_reads : IndexKey → Option MarkerValue → Bool
-option_reads key None = false
-option_reads key (Some m) = marker_reads key m
-
--- the choice among these wheels reads the tags, if there are wheels
-abbrev pub wheels_read : {A : Type 0} → IndexKey → List A → Bool
-wheels_read (Marked key) wheels = false
-wheels_read OfTags wheels = is_any wheels
+-- what an entry reads: its marker, its Python check, and the tags where it has wheels
+abbrev pub marker_reads : Key → Option MarkerValue → Bool
+marker_reads key None = false
+marker_reads key (Some m) = reads key m.tree
 
 abbrev pub entry_reads : IndexKey → EntryValue → Bool
-entry_reads key entry =
-    option_reads key entry.marker || check_reads key entry.requires_python
-    || wheels_read key entry.wheels
+entry_reads (Marked key) entry =
+    is_python key && is_some entry.requires_python || marker_reads key entry.marker
+entry_reads OfTags entry = is_any entry.wheels
 
+-- what the head reads: the markers of `environments` and its Python check
 abbrev pub head_reads : IndexKey → HeadValue → Bool
-head_reads key head =
-    list_any (marker_reads key) head.environments || check_reads key head.requires_python
+head_reads (Marked key) head =
+    is_python key && is_some head.requires_python || list_any (λ m. reads key m.tree) head.environments
+head_reads OfTags head = false
 
 -- two environments and tag lists have the same at the key
 abbrev pub AgreeAtKey : IndexKey → EnvironmentValue → EnvironmentValue → List TagValue → List TagValue → Type 0
@@ -111,7 +103,7 @@ abbrev pub readers : IndexKey → State → List ℕ
 readers key state =
     and_head (head_reads key state.head) (numbers_where (entry_reads key) state.entries)
 
--- for each of the keys what reads it
+-- for each of the keys, in their order, what reads it
 abbrev pub index_of : State → List (List ℕ)
 index_of state = map (λ key. readers key state) keys
 
@@ -119,17 +111,17 @@ index_of state = map (λ key. readers key state) keys
 
 -- the numbers of what is judged again after an edit, in increasing order
 abbrev pub touched : Edit → State → List ℕ
-touched (Set variable text) state = readers (Marked (Of variable)) state
-touched (Unset variable) state = readers (Marked (Of variable)) state
-touched (AddExtra name) state = readers (Marked Extras) state
-touched (DropExtra name) state = readers (Marked Extras) state
-touched (AddGroup name) state = readers (Marked Groups) state
-touched (DropGroup name) state = readers (Marked Groups) state
-touched (Tags tags) state = readers OfTags state
-touched (Add entry) state = (state.last + 1) ∷ []
-touched (Put n entry) state = n ∷ []
-touched (Del n) state = []
-touched (SetPolicy name policy) state =
+touched (edit.Set variable text) state = readers (Marked (Of variable)) state
+touched (edit.Unset variable) state = readers (Marked (Of variable)) state
+touched (edit.AddExtra name) state = readers (Marked Extras) state
+touched (edit.DropExtra name) state = readers (Marked Extras) state
+touched (edit.AddGroup name) state = readers (Marked Groups) state
+touched (edit.DropGroup name) state = readers (Marked Groups) state
+touched (edit.Tags tags) state = readers OfTags state
+touched (edit.Add entry) state = (state.last + 1) ∷ []
+touched (edit.Put n entry) state = n ∷ []
+touched (edit.Del n) state = []
+touched (edit.Policy name policy) state =
     numbers_where (λ entry. bytes_eq (norm name) entry.name) state.entries
 
 -- the numbers that the start judges: the head and every entry
@@ -142,5 +134,4 @@ all_numbers state = 0 ∷ map (λ e. e.0) state.entries
 pub record SessionValue : Type 0 where
   pub state : State
   pub verdicts : Verdicts
-  pub index : List (List ℕ)
   pub judged : List ℕ

@@ -6,9 +6,13 @@ use Rattle.std.specs.FinSet as set
 use Rattle.std.specs.List.{enumerate_from, list_any}
 use Rattle.std.specs.Ordering.{nat_cmp}
 use Rattle.std.specs.Str.{bytes_eq}
-use Rattle.pyver_core.specs.Names.{norm}
+use Rattle.pyver_core.specs.Name.{norm}
 use Rattle.pymark_core.specs.Environment.{EnvironmentValue, with_extra, with_group, with_variable, without_extra, without_group, without_variable}
-use Rattle.pylock_core.specs.Session.StandIns.{EntryValue, HeadValue, LockValue, TagValue, Edit, Set, Unset, AddExtra, DropExtra, AddGroup, DropGroup, Tags, Add, Put, Del, SetPolicy}
+use Rattle.pywheel_core.specs.Tag.{TagValue}
+use Rattle.pylock_core.specs.Entry.{EntryValue}
+use Rattle.pylock_core.specs.Lock.{HeadValue, LockValue}
+use Rattle.pylock_core.specs.declared.edit.Edit.{Edit}
+use Rattle.pylock_core.specs.declared.edit.Edit.TheVariants as edit
 use Rattle.pylock_core.specs.declared.edit.Policy.{Policy}
 use Rattle.pylock_core.specs.declared.edit.Policy.TheVariants.{Any, Wheel, Source}
 use Rattle.pylock_core.specs.declared.edit.EditError.{EditError}
@@ -97,22 +101,22 @@ with_next entry state =
 
 -- the state after an edit, or why the edit is refused
 abbrev pub apply : Edit → State → Result State EditError
-apply (Set variable text) state =
+apply (edit.Set variable text) state =
     Ok (in_environment (with_variable variable text state.environment) state)
-apply (Unset variable) state =
+apply (edit.Unset variable) state =
     Ok (in_environment (without_variable variable state.environment) state)
-apply (AddExtra name) state =
+apply (edit.AddExtra name) state =
     if_extra name state (in_environment (with_extra name state.environment) state)
-apply (DropExtra name) state =
+apply (edit.DropExtra name) state =
     if_extra name state (in_environment (without_extra name state.environment) state)
-apply (AddGroup name) state =
+apply (edit.AddGroup name) state =
     if_group name state (in_environment (with_group name state.environment) state)
-apply (DropGroup name) state =
+apply (edit.DropGroup name) state =
     if_group name state (in_environment (without_group name state.environment) state)
-apply (Tags tags) state = Ok (record state { tags = tags })
-apply (Add entry) state = with_next entry state
-apply (Put n entry) state =
+apply (edit.Tags tags) state = Ok (record state { tags = tags })
+apply (edit.Add entry) state = with_next entry state
+apply (edit.Put n entry) state =
     if_entry n state (record state { entries = with_entry n entry state.entries })
-apply (Del n) state = if_entry n state (record state { entries = without n state.entries })
-apply (SetPolicy name policy) state =
+apply (edit.Del n) state = if_entry n state (record state { entries = without n state.entries })
+apply (edit.Policy name policy) state =
     Ok (record state { policies = with_policy state.policies (norm name) policy })

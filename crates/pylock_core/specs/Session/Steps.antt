@@ -3,18 +3,21 @@ use Rattle.std.specs.Prelude.{ℕ, ◌+◌, Bool, true, false, ◌<◌, ◌&&◌
 use Rattle.std.specs.List.{list_any}
 use Rattle.std.specs.Str.{bytes_eq}
 use Rattle.pyver_core.specs.Options.{either}
-use Rattle.pyver_core.specs.Parts.{Parts}
-use Rattle.pyver_core.specs.Specifiers.{admits_all}
-use Rattle.pyver_core.specs.declared.specifier.Specifier.{Specifier}
+use Rattle.pyver_core.specs.Version.Parts.{Parts}
+use Rattle.pyver_core.specs.Set.Admission.{admits_all}
+use Rattle.pyver_core.specs.declared.set.specifier.Specifier.{Specifier}
 use Rattle.pymark_core.specs.Environment.{EnvironmentValue, variable_in}
 use Rattle.pymark_core.specs.Marker.Reading.{MarkerValue}
 use Rattle.pymark_core.specs.Marker.Value.{marker_value}
-use Rattle.pymark_core.specs.Parsed.{parsed_version}
+use Rattle.pyver_core.specs.Parsed.{parsed_version}
 use Rattle.pymark_core.specs.declared.fault.EvalFault.{EvalFault}
 use Rattle.pymark_core.specs.declared.fault.EvalFault.TheVariants.{Unset, Extra, Undefined, NumberTooLarge, Memory}
-use Rattle.pyver_core.specs.declared.error.VersionError.{VersionError}
+use Rattle.pyver_core.specs.declared.version.error.VersionError.{VersionError}
 use Rattle.pymark_core.specs.declared.variable.Var.TheVariants.{PythonFullVersion}
-use Rattle.pylock_core.specs.Session.StandIns.{EntryValue, HeadValue, TagValue, best, wheel_names}
+use Rattle.pywheel_core.specs.Choice.{best}
+use Rattle.pywheel_core.specs.Tag.{TagValue}
+use Rattle.pylock_core.specs.Entry.{EntryValue, wheel_names}
+use Rattle.pylock_core.specs.Lock.{HeadValue}
 use Rattle.pylock_core.specs.Session.State.{State, Policies, policy_of}
 use Rattle.pylock_core.specs.declared.answer.Answer.{Answer}
 use Rattle.pylock_core.specs.declared.answer.Answer.TheVariants.{Plan, Fault}
