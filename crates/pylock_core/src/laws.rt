@@ -47,7 +47,8 @@ pub fn head_reads()
     marker_reads();
 }
 
-/// Each pick of a plan names an entry that stands in the state, and that entry has the pick's source.
+/// Each pick of a plan names an entry that stands in the state, and that entry has the pick's
+/// source.
 pub fn picks_stand()
     ensures { (state : State) (plan : List Pick) → answer state ≡ Plan plan
         → All (IsPickAmong state.entries) plan }
