@@ -1,11 +1,15 @@
 mod FileNameLemmas
+mod IndexLemmas
+pub mod NameLemmas
+pub mod PassLemmas
+pub mod VerdictLemmas
+pub mod ReaderLemmas
+pub mod SessionLemmas
 mod TableLemmas
 mod FrontLemmas
 mod SharedLemmas
 pub mod EntryLemmas
 mod DistinctLemmas
 mod TextLemmas
-pub mod RowLemmas
-pub mod SlateLemmas
-pub mod StepLemmas
 mod VariableLemmas
+pub mod AnswerLemmas

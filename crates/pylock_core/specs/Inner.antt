@@ -1,3 +1,9 @@
--- What serves private contracts alone.
+-- What serves the contracts of private functions alone.
+pub mod Index
+pub mod Names
+pub mod Parts
+pub mod Pass
+pub mod Progress
+pub mod Rows
 pub mod Strings
 pub mod Shared

@@ -1,9 +1,6 @@
 pub mod Text
 pub mod Entry
+pub mod Session
 pub mod Lock
 pub mod Environment
-pub mod State
-pub mod Rows
-pub mod Steps
-pub mod Progress
 pub mod Inner

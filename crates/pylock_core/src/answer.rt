@@ -6,8 +6,14 @@ use std::marker::Model;
 /// The source that an entry is installed from (PEP 751, installation step 6).
 #[derive(Clone, Copy, Debug, PartialEq, Eq)]
 pub enum PickSource {
+    /// The entry's `vcs`.
+    Vcs,
     /// The entry's `directory`.
     Directory,
+    /// The entry's `archive`.
+    Archive,
+    /// One of the entry's `wheels`: its place among them, counted from 0.
+    Wheel(usize),
     /// The entry's `sdist`.
     Sdist,
 }
@@ -64,12 +70,37 @@ impl Plan {
 /// Why the installation steps end without a plan (PEP 751).
 #[derive(Clone, Copy, Debug, PartialEq, Eq)]
 pub enum FaultCode {
+    /// `python_full_version` is unset or no version.
+    PythonUnknown,
+    /// `requires-python` doesn't admit the version of Python.
+    PythonNotMet,
+    /// The marker compares a variable that isn't set.
+    MarkerUnset,
+    /// The marker compares `extra`, which has no value in a lock.
+    MarkerExtra,
+    /// The marker compares by an operator that has no meaning for its operands.
+    MarkerUndefined,
+    /// The marker compares with a version that has a number past the limit.
+    MarkerNumber,
+    /// None of the lock's `environments` is true.
+    NoEnvironment,
     /// An earlier entry of the same name is to be installed too (step 5).
     Ambiguous,
     /// The entry has sources of more than one kind (step 5).
     Sources,
     /// The entry has no source to install from (step 6).
     NoFile,
+}
+
+/// How an entry stands in step 5 by its marker and its Python check alone.
+#[derive(Clone, Copy, Debug, PartialEq, Eq)]
+pub enum Standing {
+    /// Its marker is false: it isn't installed.
+    Skipped,
+    /// Its marker or its Python check has this fault.
+    Faulty(FaultCode),
+    /// It is to be installed.
+    Active,
 }
 
 /// The answer of the installation steps.

@@ -1,15 +1,60 @@
 //! The edits of a session.
 
-/// An edit of a session. An entry is named by its number.
+use crate::entry::Entry;
+use pymark_core::Var;
+use pyver_core::Label;
+use pywheel_core::TagList;
+
+/// An edit of a session. An entry is named by its number; a name is taken in normal form (PEP 503).
 #[derive(Debug, Drop)]
 pub enum Edit {
+    /// Gives the variable the text.
+    Set(Var, Label),
+    /// Leaves the variable without a text.
+    Unset(Var),
+    /// Asks for the extra.
+    AddExtra(Label),
+    /// Asks for the extra no more.
+    DropExtra(Label),
+    /// Asks for the dependency group.
+    AddGroup(Label),
+    /// Asks for the dependency group no more.
+    DropGroup(Label),
+    /// Puts these tags in place of those that were there.
+    Tags(TagList),
+    /// Adds the entry after all others, with the next number.
+    Add(Entry),
+    /// Puts the entry in place of that of this number.
+    Put(u32, Entry),
     /// Takes the entry of this number out of the session; the number is never used again.
     Del(u32),
+    /// Gives the name the policy.
+    Policy(Label, Policy),
 }
 
 /// Why an edit is refused.
 #[derive(Debug, Drop)]
 pub enum EditError {
+    /// The lock names no such extra.
+    UnknownExtra,
+    /// The lock names no such group.
+    UnknownGroup,
     /// No entry has this number.
     NoEntry,
+    /// The number 100,000 was given out.
+    TooMany,
+    /// Memory ran out.
+    Memory,
+}
+
+/// Which kinds of files the entries of a name may be installed from, as pip's `--only-binary` and
+/// `--no-binary` say it. It acts on wheels and sdists alone.
+#[derive(Clone, Copy, Debug, PartialEq, Eq)]
+pub enum Policy {
+    /// Wheels and sdists.
+    Any,
+    /// No sdist.
+    Wheel,
+    /// No wheel.
+    Source,
 }

@@ -9,17 +9,17 @@ mod entry;
 mod environment;
 mod error;
 mod field;
+pub mod laws;
 mod lock;
 mod session;
-mod steps;
 #[cfg(test)]
 mod tests;
 mod text;
 
-pub use answer::{Answer, FaultCode, Pick, PickSource, Plan};
-pub use edit::{Edit, EditError};
+pub use answer::{Answer, FaultCode, Pick, PickSource, Plan, Standing};
+pub use edit::{Edit, EditError, Policy};
 pub use entry::{Archive, Directory, DistributionFile, Entry, Sdist, Vcs, WheelFile};
 pub use environment::read_environment;
 pub use error::{EntryError, EntryKey, EnvError, HeadKey, LockError};
 pub use lock::Lock;
-pub use session::Session;
+//pub use session::Session;

@@ -98,6 +98,14 @@ impl Environment {
         self.variables[variable.place()] = None;
     }
 
+    /// Asks for no extra and no group. It takes no memory.
+    pub fn ask_nothing(&mut self)
+        ensures { self.new ≡ record self.old { extras = set.empty; groups = set.empty } }
+    {
+        self.extras = NameSet::new(self.alloc);
+        self.groups = NameSet::new(self.alloc);
+    }
+
     /// Asks for the extra of this name, and answers whether it wasn't asked for. Where there is no
     /// memory for it, the extras stay.
     pub fn add_extra(&mut self, name: &str) -> Result<bool, AllocError>

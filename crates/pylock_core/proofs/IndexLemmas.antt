@@ -1,0 +1,154 @@
+-- Lemmas on increasing lists of numbers, and on the lists of an index.
+use Rattle.std.proofs.Common.{◌≡◌, ℕ, suc, zero, ◌+◌, ◌<◌, ◌≤◌, ◌∙◌, Bool, true, false, IsTrue, nat_eq, nat_lt, List, [], ◌∷◌, map, length, get_or, set, slice_index_or, Result, Ok, Err, IsOk, is_ok, cond, IfOk, vec_len, vec_capacity, subst, ap, sym, refl, eq-eqb, arith}
+use Rattle.std.specs.Global.{Global}
+use Rattle.std.specs.declared.vec.Vec.{Vec}
+use Rattle.std.specs.List.{insert, remove}
+use Rattle.std.specs.Result.{MatchResult}
+use Rattle.std.proofs.lemmas.Bool.{ne_eqb, lt-ltb, le-ltb, ltb-true, ltb-false, eqb-true, eqb-false}
+use Rattle.std.proofs.lemmas.List.{get_or-map, get_or-set_same, get_or-set_other, length-map}
+use Rattle.pylock_core.specs.Inner.Index.{Rises, put_in, take_out, moved, list_at}
+
+-- ---- one list
+
+pub rises_from : (n m : ℕ) (xs : List ℕ) → m ≤ n → Rises n xs → Rises m xs
+rises_from n m [] le r = tt
+rises_from n m (x ∷ xs) le r = (omega (arith, r.0), r.1)
+
+pub at_least : (n : ℕ) (xs : List ℕ) (j : ℕ) → Rises n xs → j < length xs → n ≤ get_or xs j 0
+at_least n [] j r within = absurd (omega arith)
+at_least n (x ∷ xs) zero r within = r.0
+at_least n (x ∷ xs) (suc j) r within =
+    let later : x + 1 ≤ get_or xs j 0 = at_least (x + 1) xs j r.1 (omega arith) in
+    omega (arith, r.0)
+
+pub in_order : (n : ℕ) (xs : List ℕ) → Rises n xs → (i j : ℕ) → i ≤ j → j < length xs → get_or xs i 0 ≤ get_or xs j 0
+in_order n [] r i j le within = absurd (omega arith)
+in_order n (x ∷ xs) r zero zero le within = omega arith
+in_order n (x ∷ xs) r zero (suc j) le within =
+    let later : x + 1 ≤ get_or xs j 0 = at_least (x + 1) xs j r.1 (omega arith) in
+    omega arith
+in_order n (x ∷ xs) r (suc i) zero le within = absurd (omega arith)
+in_order n (x ∷ xs) r (suc i) (suc j) le within = in_order (x + 1) xs r.1 i j (omega arith) (omega arith)
+
+differ : (n m : ℕ) → (n ≡ m → ⊥) → nat_eq n m ≡ false
+differ n m ne = ne_eqb n m ne
+
+pub put_in_at : (x : ℕ) (xs : List ℕ) (i : ℕ) → i ≤ length xs → ((k : ℕ) → k < i → get_or xs k 0 < x)
+    → ((k : ℕ) → i ≤ k → k < length xs → x < get_or xs k 0) → insert xs i x ≡ put_in x xs
+put_in_at x [] zero le below above = refl
+put_in_at x [] (suc i) le below above = absurd (omega arith)
+put_in_at x (y ∷ ys) zero le below above =
+    let first : x < y = above 0 (omega arith) (omega arith) in
+    sym (rw (le-ltb y x (omega arith), differ x y (λ same. omega arith)))
+put_in_at x (y ∷ ys) (suc i) le below above =
+    let first : y < x = below 0 (omega arith) in
+    ap (λ rest. y ∷ rest)
+    (put_in_at x ys i (omega arith) (λ k less. below (suc k) (omega arith)) (λ k le within. above (suc k) (omega arith) (omega arith)))
+    ∙ sym (rw (lt-ltb y x first))
+
+pub put_in_there : (n x : ℕ) (xs : List ℕ) (i : ℕ) → Rises n xs → i < length xs → get_or xs i 0 ≡ x → xs ≡ put_in x xs
+put_in_there n x [] i r within is = absurd (omega arith)
+put_in_there n x (y ∷ ys) zero r within is = sym (rw (le-ltb y x (omega (arith, is)), eq-eqb x y (sym is)))
+put_in_there n x (y ∷ ys) (suc i) r within is =
+    let later : y + 1 ≤ get_or ys i 0 = at_least (y + 1) ys i r.1 (omega arith) in
+    let less : y < x = omega (arith, is) in
+    ap (λ rest. y ∷ rest) (put_in_there (y + 1) x ys i r.1 (omega arith) is) ∙ sym (rw (lt-ltb y x less))
+
+pub take_out_at : (n x : ℕ) (xs : List ℕ) (i : ℕ) → Rises n xs → i < length xs → get_or xs i 0 ≡ x → remove xs i ≡ take_out x xs
+take_out_at n x [] i r within is = absurd (omega arith)
+take_out_at n x (y ∷ ys) zero r within is = sym (rw (eq-eqb x y (sym is)))
+take_out_at n x (y ∷ ys) (suc i) r within is =
+    let later : y + 1 ≤ get_or ys i 0 = at_least (y + 1) ys i r.1 (omega arith) in
+    let less : y < x = omega (arith, is) in
+    ap (λ rest. y ∷ rest) (take_out_at (y + 1) x ys i r.1 (omega arith) is) ∙ sym (rw (differ x y (λ same. omega arith)))
+
+pub take_out_absent : (x : ℕ) (xs : List ℕ) (i : ℕ) → i ≤ length xs → ((k : ℕ) → k < i → get_or xs k 0 < x)
+    → ((k : ℕ) → i ≤ k → k < length xs → x < get_or xs k 0) → xs ≡ take_out x xs
+take_out_absent x [] i le below above = refl
+take_out_absent x (y ∷ ys) zero le below above =
+    let first : x < y = above 0 (omega arith) (omega arith) in
+    ap (λ rest. y ∷ rest) (take_out_absent x ys zero (omega arith) (λ k less. absurd (omega arith)) (λ k le within. above (suc k) (omega arith) (omega arith)))
+    ∙ sym (rw (differ x y (λ same. omega arith)))
+take_out_absent x (y ∷ ys) (suc i) le below above =
+    let first : y < x = below 0 (omega arith) in
+    ap (λ rest. y ∷ rest)
+    (take_out_absent x ys i (omega arith) (λ k less. below (suc k) (omega arith)) (λ k le within. above (suc k) (omega arith) (omega arith)))
+    ∙ sym (rw (differ x y (λ same. omega arith)))
+
+-- what a search found or didn't find in an increasing list
+abbrev pub IsFound : List ℕ → ℕ → Result ℕ ℕ → Type 0
+IsFound xs x r = MatchResult r (λ i. (i < length xs) × (get_or xs i 0 ≡ x))
+    (λ i. (i ≤ length xs) × ((k : ℕ) → k < i → get_or xs k 0 < x) × ((k : ℕ) → i ≤ k → k < length xs → x < get_or xs k 0))
+
+-- where the call can't fail, it made the change
+pub made : {A E : Type 0} {X : Type 0} (r : Result A E) (x y : X) → IsOk r → cond (is_ok r) x y ≡ x
+made (Ok a) x y is = refl
+made (Err e) x y is = cc
+
+-- ---- the lists
+
+-- what holds below n and at n holds below n + 1
+pub below_more : (P : ℕ → Type 0) (n k : ℕ) → k < n + 1 → ((j : ℕ) → j < n → P j) → P n → P k
+below_more P n k less below at =
+    elim (nat_lt k n) as (λ b. nat_lt k n ≡ b → P k) [
+      | true ↦ λ is. below k (ltb-true k n is)
+      | false ↦ λ is. let above : n ≤ k = ltb-false k n is in let same : n ≡ k = omega arith in subst P same at
+    ] refl
+
+map_set : (lists : List (Vec ℕ Global)) (i : ℕ) (v : Vec ℕ Global) → map (λ list. list.items) (set lists i v) ≡ set (map (λ list. list.items) lists) i v.items
+map_set [] i v = refl
+map_set (x ∷ xs) zero v = refl
+map_set (x ∷ xs) (suc i) v = ap (λ rest. x.items ∷ rest) (map_set xs i v)
+
+pub list_at_item : (lists : List (Vec ℕ Global)) (key : ℕ) (v : Vec ℕ Global) → key < length lists → v ≡ get_or lists key v → list_at lists key ≡ v.items
+list_at_item lists key v within is = get_or-map (λ (list : Vec ℕ Global). list.items) lists key v [] within ∙ ap (λ list. list.items) (sym is)
+
+pub list_at_same : (lists : List (Vec ℕ Global)) (key : ℕ) (v : Vec ℕ Global) → key < length lists → list_at (set lists key v) key ≡ v.items
+list_at_same lists key v within =
+    ap (λ all. get_or all key []) (map_set lists key v)
+    ∙ get_or-set_same (map (λ list. list.items) lists) key v.items [] (omega (arith, length-map lists (λ (list : Vec ℕ Global). list.items)))
+
+pub list_at_other : (lists : List (Vec ℕ Global)) (key k : ℕ) (v : Vec ℕ Global) → (k ≡ key → ⊥) → list_at (set lists key v) k ≡ list_at lists k
+list_at_other lists key k v ne =
+    ap (λ all. get_or all k []) (map_set lists key v) ∙ get_or-set_other (map (λ list. list.items) lists) key k v.items [] ne
+
+-- at each key either the list that was written or the one that was there
+pub set_list : (P : List ℕ → Type 0) (lists : List (Vec ℕ Global)) (key k : ℕ) (v : Vec ℕ Global) → key < length lists
+    → (k ≡ key → P v.items) → ((k ≡ key → ⊥) → P (list_at lists k)) → P (list_at (set lists key v) k)
+set_list P lists key k v within at others =
+    elim (nat_eq k key) as (λ b. nat_eq k key ≡ b → P (list_at (set lists key v) k)) [
+      | true ↦ λ is. let same : k ≡ key = eqb-true k key is in
+          let place : key ≡ k = sym same in
+          subst (λ (j : ℕ). P (list_at (set lists key v) j)) place (subst P (sym (list_at_same lists key v within)) (at same))
+      | false ↦ λ is. let ne : (k ≡ key → ⊥) = eqb-false k key is in
+          subst P (sym (list_at_other lists key k v ne)) (others ne)
+    ] refl
+
+-- a list that keeps its numbers
+pub kept_at : (lists : List (Vec ℕ Global)) (key k : ℕ) (v w : Vec ℕ Global) → key < length lists → v.items ≡ (get_or lists key w).items
+    → list_at (set lists key v) k ≡ list_at lists k
+kept_at lists key k v w within kept =
+    let here : v.items ≡ list_at lists key = kept ∙ sym (get_or-map (λ (list : Vec ℕ Global). list.items) lists key w [] within) in
+    set_list (λ ns. ns ≡ list_at lists k) lists key k v within
+    (λ same. here ∙ ap (list_at lists) (sym same)) (λ ne. refl)
+
+-- a list that is changed, where those below it were
+pub changed_at : (lists old : List (Vec ℕ Global)) (key k : ℕ) (v w : Vec ℕ Global) (f : ℕ → List ℕ → List ℕ) → key < length lists → k < key + 1
+    → v.items ≡ f key (get_or lists key w).items → list_at lists key ≡ list_at old key
+    → (k < key → list_at lists k ≡ f k (list_at old k)) → list_at (set lists key v) k ≡ f k (list_at old k)
+changed_at lists old key k v w f within less changed same below =
+    let here : v.items ≡ f key (list_at old key) =
+        changed ∙ ap (f key) (sym (get_or-map (λ (list : Vec ℕ Global). list.items) lists key w [] within) ∙ same) in
+    set_list (λ ns. ns ≡ f k (list_at old k)) lists key k v within
+    (λ at. subst (λ (j : ℕ). v.items ≡ f j (list_at old j)) (sym at) here) (λ ne. below (omega arith))
+
+-- each list up to one that has room now
+pub room_at : (lists : List (Vec ℕ Global)) (key k : ℕ) (v d : Vec ℕ Global) (comes : ℕ → Bool) → key < length lists → k < key + 1
+    → (IsTrue (comes key) → vec_len v < vec_capacity v)
+    → (k < key → IsTrue (comes k) → vec_len (get_or lists k d) < vec_capacity (get_or lists k d))
+    → IsTrue (comes k) → vec_len (get_or (set lists key v) k d) < vec_capacity (get_or (set lists key v) k d)
+room_at lists key k v d comes within less now below =
+    below_more (λ j. (j < key → IsTrue (comes j) → vec_len (get_or lists j d) < vec_capacity (get_or lists j d)) → IsTrue (comes j) → vec_len (get_or (set lists key v) j d) < vec_capacity (get_or (set lists key v) j d)) key k less
+    (λ j under known come. rw (get_or-set_other lists key j v d (λ same. omega arith)) (known under come))
+    (λ known come. rw (get_or-set_same lists key v d within) (now come))
+    below

@@ -1,0 +1,101 @@
+-- Lemmas on the numbers of the rows that pass a test, and on what a change of a row makes of them.
+use Rattle.std.proofs.Common.{◌≡◌, ℕ, suc, zero, ◌+◌, ◌<◌, ◌≤◌, ◌∙◌, Bool, true, false, nat_eq, nat_lt, List, [], ◌∷◌, ◌++◌, map, length, get_or, set, Option, Some, None, cond, subst, ap, sym, refl, eq-eqb, arith}
+use Rattle.std.specs.List.{filter}
+use Rattle.std.proofs.lemmas.Bool.{ne_eqb, lt-ltb, le-ltb}
+use Rattle.pylock_core.specs.Inner.Index.{Rises, put_in, take_out, moved}
+use Rattle.pylock_core.specs.Inner.Rows.{in_rows, passes}
+use Rattle.pylock_core.specs.Session.Judgement.{numbers_where, and_head}
+use Rattle.pylock_core.proofs.IndexLemmas.{rises_from}
+
+-- the numbers of the rows that pass, n the first row's
+abbrev pub passing : {X : Type 0} → (X → Bool) → ℕ → List (Option X) → List ℕ
+passing test n rows = numbers_where test (in_rows n rows)
+
+-- with a row before them
+abbrev with_row : Bool → ℕ → List ℕ → List ℕ
+with_row true n ns = n ∷ ns
+with_row false n ns = ns
+
+passing_row : {X : Type 0} (test : X → Bool) (n : ℕ) (row : Option X) (rows : List (Option X))
+    → passing test n (row ∷ rows) ≡ with_row (passes test row) n (passing test (n + 1) rows)
+passing_row test n None rows = refl
+passing_row test n (Some x) rows = by (test x)
+  where
+    by : (b : Bool) → map (λ e. e.0) (cond b ((n, x) ∷ filter (λ e. test e.1) (in_rows (n + 1) rows)) (filter (λ e. test e.1) (in_rows (n + 1) rows))) ≡ with_row b n (passing test (n + 1) rows)
+    by true = refl
+    by false = refl
+
+rises_row : (b : Bool) (n : ℕ) (ns : List ℕ) → Rises (n + 1) ns → Rises n (with_row b n ns)
+rises_row true n ns r = (omega arith, r)
+rises_row false n ns r = rises_from (n + 1) n ns (omega arith) r
+
+pub passing_rises : {X : Type 0} (test : X → Bool) (n : ℕ) (rows : List (Option X)) → Rises n (passing test n rows)
+passing_rises test n [] = tt
+passing_rises test n (row ∷ rows) =
+    subst (Rises n) (sym (passing_row test n row rows)) (rises_row (passes test row) n (passing test (n + 1) rows) (passing_rises test (n + 1) rows))
+
+-- a number below all others
+put_in_front : (n m : ℕ) (ns : List ℕ) → n < m → Rises m ns → put_in n ns ≡ n ∷ ns
+put_in_front n m [] less r = refl
+put_in_front n m (x ∷ xs) less r = rw (le-ltb x n (omega (arith, r.0)), ne_eqb n x (λ same. omega (arith, r.0)))
+
+take_out_front : (n : ℕ) (ns : List ℕ) → take_out n (n ∷ ns) ≡ ns
+take_out_front n ns = rw (eq-eqb n n refl)
+
+-- the row itself changes
+moved_here : (was is : Bool) (n : ℕ) (ns : List ℕ) → Rises (n + 1) ns → with_row is n ns ≡ moved n was is (with_row was n ns)
+moved_here true true n ns r = refl
+moved_here true false n ns r = sym (take_out_front n ns)
+moved_here false true n ns r = sym (put_in_front n (n + 1) ns (omega arith) r)
+moved_here false false n ns r = refl
+
+-- a later row changes
+pub moved_later : (was is b : Bool) (n m : ℕ) (ns : List ℕ) → m < n → moved n was is (with_row b m ns) ≡ with_row b m (moved n was is ns)
+moved_later true true true n m ns less = refl
+moved_later true false true n m ns less = rw (ne_eqb n m (λ same. omega arith))
+moved_later false true true n m ns less = rw (lt-ltb m n less)
+moved_later false false true n m ns less = refl
+moved_later was is false n m ns less = refl
+
+-- a row is written
+pub passing_set : {X : Type 0} (test : X → Bool) (n m k : ℕ) (rows : List (Option X)) (row : Option X) → n ≡ m + k → k < length rows
+    → passing test m (set rows k row) ≡ moved n (passes test (get_or rows k None)) (passes test row) (passing test m rows)
+passing_set test n m k [] row here within = absurd (omega arith)
+passing_set test n m zero (old ∷ rows) row here within =
+    let same : n ≡ m = omega (arith, here) in
+    passing_row test m row rows
+    ∙ moved_here (passes test old) (passes test row) m (passing test (m + 1) rows) (passing_rises test (m + 1) rows)
+    ∙ ap (λ j. moved j (passes test old) (passes test row) (with_row (passes test old) m (passing test (m + 1) rows))) (sym same)
+    ∙ ap (moved n (passes test old) (passes test row)) (sym (passing_row test m old rows))
+passing_set test n m (suc k) (old ∷ rows) row here within =
+    passing_row test m old (set rows k row)
+    ∙ ap (with_row (passes test old) m) (passing_set test n (m + 1) k rows row (omega (arith, here)) (omega arith))
+    ∙ sym (moved_later (passes test (get_or rows k None)) (passes test row) (passes test old) n m (passing test (m + 1) rows) (omega (arith, here)))
+    ∙ ap (moved n (passes test (get_or rows k None)) (passes test row)) (sym (passing_row test m old rows))
+
+-- a row is added
+pub passing_push : {X : Type 0} (test : X → Bool) (n m : ℕ) (rows : List (Option X)) (x : X) → n ≡ m + length rows
+    → passing test m (rows ++ Some x ∷ []) ≡ moved n false (test x) (passing test m rows)
+passing_push test n m [] x here =
+    let same : n ≡ m = omega (arith, here) in
+    passing_row test m (Some x) [] ∙ moved_here false (test x) m [] tt ∙ ap (λ j. moved j false (test x) []) (sym same) ∙ none (test x)
+  where
+    none : (b : Bool) → moved n false b (with_row false m []) ≡ moved n false b []
+    none b = refl
+passing_push test n m (old ∷ rows) x here =
+    passing_row test m old (rows ++ Some x ∷ [])
+    ∙ ap (with_row (passes test old) m) (passing_push test n (m + 1) rows x (omega (arith, here)))
+    ∙ sym (moved_later false (test x) (passes test old) n m (passing test (m + 1) rows) (omega (arith, here)))
+    ∙ ap (moved n false (test x)) (sym (passing_row test m old rows))
+
+-- the head's number stands before all
+pub moved_head : (was is b : Bool) (n : ℕ) (ns : List ℕ) → 0 < n → and_head b (moved n was is ns) ≡ moved n was is (and_head b ns)
+moved_head true true true n ns less = refl
+moved_head true false true n ns less = sym (rw (ne_eqb n 0 (λ same. omega (arith, less, same))))
+moved_head false true true n ns less = sym (rw (lt-ltb 0 n less))
+moved_head false false true n ns less = refl
+moved_head was is false n ns less = refl
+
+pub head_rises : (b : Bool) (ns : List ℕ) → Rises 1 ns → Rises 0 (and_head b ns)
+head_rises true ns r = (omega arith, r)
+head_rises false ns r = rises_from 1 0 ns (omega arith) r

@@ -1,0 +1,347 @@
+-- Lemmas on the rows of a session and the entries that they belong to.
+use Rattle.std.proofs.Common.{◌≡◌, ℕ, suc, zero, ◌+◌, ◌<◌, ◌≤◌, ◌∙◌, Bool, true, false, ◌||◌, nat_eq, nat_lt, List, [], ◌∷◌, ◌++◌, map, length, get_or, set, Option, Some, None, IsSome, is_some, option_map, Result, Ok, Err, cond, subst, ap, sym, refl, eq-eqb, arith}
+use Rattle.std.specs.Str.{bytes_eq}
+use Rattle.std.proofs.lemmas.Bool.{ne_eqb, lt-ltb}
+use Rattle.pyver_core.specs.Options.{either}
+use Rattle.pymark_core.specs.Environment.{EnvironmentValue}
+use Rattle.pywheel_core.specs.Tag.{TagValue}
+use Rattle.pylock_core.specs.Entry.{EntryValue, FileValue, VcsValue, DirectoryValue, ArchiveValue}
+use Rattle.pylock_core.specs.Inner.Names.{IsNames, IsNumbering, number_in, policies_in, policy_at}
+use Rattle.pylock_core.specs.Inner.Parts.{IsJudged, IsNamed, IsSession, OfBoth, OfRows, row_again, rows_again, shown, sources_of, state_of}
+use Rattle.pylock_core.specs.Inner.Pass.{NamesBelow, checked_standing, conflict_among, file_source, is_number, pick_rows, picks_after_rows, put_row, row_source, row_standing, slate_rows, source_from}
+use Rattle.pylock_core.specs.Inner.Rows.{in_rows}
+use Rattle.pylock_core.specs.Session.Judgement.{VerdictValue, verdict_of}
+use Rattle.pylock_core.specs.Session.State.{Policies, State, entry_at, policy_of, with_entry, with_next, without}
+use Rattle.pylock_core.specs.Session.Steps.{FirstFault, answer, answer_after, answer_by, best_wheel, by_standing, has_conflict, head_fault, is_among, pick_before, picks, picks_after, put_before, sdist_source, slate, source_of, standing}
+use Rattle.pylock_core.specs.declared.answer.Answer.{Answer}
+use Rattle.pylock_core.specs.declared.answer.FaultCode.{FaultCode}
+use Rattle.pylock_core.specs.declared.answer.FaultCode.TheVariants.{Ambiguous, Sources as ManySources}
+use Rattle.pylock_core.specs.declared.answer.Pick.{Pick}
+use Rattle.pylock_core.specs.declared.answer.PickSource.{PickSource}
+use Rattle.pylock_core.specs.declared.answer.PickSource.TheVariants as source
+use Rattle.pylock_core.specs.declared.answer.Standing.{Standing}
+use Rattle.pylock_core.specs.declared.answer.Standing.TheVariants.{Skipped, Faulty, Active}
+use Rattle.pylock_core.specs.declared.edit.Policy.{Policy}
+use Rattle.pylock_core.specs.declared.edit.Policy.TheVariants.{Any, Wheel, Source}
+use Rattle.pylock_core.specs.declared.session.names.Names.{Names}
+use Rattle.pylock_core.specs.declared.session.parts.Parts.{Parts}
+use Rattle.pylock_core.specs.declared.session.row.Row.{Row}
+use Rattle.pylock_core.proofs.NameLemmas.{policy_of_in, policy_under, same_or_not, text_itself, text_other}
+
+-- ---- entries with their rows
+
+pub same_length : (P : EntryValue → Row → Type 0) (es : List (Option EntryValue)) (rs : List (Option Row)) → OfRows P es rs → length rs ≡ length es
+same_length P [] [] h = refl
+same_length P [] (r ∷ rs) h = absurd h
+same_length P (e ∷ es) [] h = absurd h
+same_length P (e ∷ es) (r ∷ rs) h = ap suc (same_length P es rs h.1)
+
+pub of_rows_set : (P : EntryValue → Row → Type 0) (es : List (Option EntryValue)) (rs : List (Option Row)) (k : ℕ) (e : Option EntryValue) (r : Option Row)
+    → OfRows P es rs → OfBoth P e r → OfRows P (set es k e) (set rs k r)
+of_rows_set P [] [] k e r h one = tt
+of_rows_set P [] (s ∷ rs) k e r h one = absurd h
+of_rows_set P (d ∷ es) [] k e r h one = absurd h
+of_rows_set P (d ∷ es) (s ∷ rs) zero e r h one = (one, h.1)
+of_rows_set P (d ∷ es) (s ∷ rs) (suc k) e r h one = (h.0, of_rows_set P es rs k e r h.1 one)
+
+pub of_rows_push : (P : EntryValue → Row → Type 0) (es : List (Option EntryValue)) (rs : List (Option Row)) (e : EntryValue) (r : Row)
+    → OfRows P es rs → P e r → OfRows P (es ++ Some e ∷ []) (rs ++ Some r ∷ [])
+of_rows_push P [] [] e r h one = (one, tt)
+of_rows_push P [] (s ∷ rs) e r h one = absurd h
+of_rows_push P (d ∷ es) [] e r h one = absurd h
+of_rows_push P (d ∷ es) (s ∷ rs) e r h one = (h.0, of_rows_push P es rs e r h.1 one)
+
+of_both_weaker : (P Q : EntryValue → Row → Type 0) → ((e : EntryValue) (r : Row) → P e r → Q e r) → (e : Option EntryValue) (r : Option Row) → OfBoth P e r → OfBoth Q e r
+of_both_weaker P Q weaker None None h = tt
+of_both_weaker P Q weaker None (Some r) h = absurd h
+of_both_weaker P Q weaker (Some e) None h = absurd h
+of_both_weaker P Q weaker (Some e) (Some r) h = weaker e r h
+
+pub of_rows_weaker : (P Q : EntryValue → Row → Type 0) → ((e : EntryValue) (r : Row) → P e r → Q e r) → (es : List (Option EntryValue)) (rs : List (Option Row)) → OfRows P es rs → OfRows Q es rs
+of_rows_weaker P Q weaker [] [] h = tt
+of_rows_weaker P Q weaker [] (r ∷ rs) h = absurd h
+of_rows_weaker P Q weaker (e ∷ es) [] h = absurd h
+of_rows_weaker P Q weaker (e ∷ es) (r ∷ rs) h = (of_both_weaker P Q weaker e r h.0, of_rows_weaker P Q weaker es rs h.1)
+
+of_both_and : (P Q : EntryValue → Row → Type 0) → (e : Option EntryValue) (r : Option Row) → OfBoth P e r → OfBoth Q e r → OfBoth (λ e r. P e r × Q e r) e r
+of_both_and P Q None None h k = tt
+of_both_and P Q None (Some r) h k = absurd h
+of_both_and P Q (Some e) None h k = absurd h
+of_both_and P Q (Some e) (Some r) h k = (h, k)
+
+pub of_rows_and : (P Q : EntryValue → Row → Type 0) → (es : List (Option EntryValue)) (rs : List (Option Row)) → OfRows P es rs → OfRows Q es rs → OfRows (λ e r. P e r × Q e r) es rs
+of_rows_and P Q [] [] h k = tt
+of_rows_and P Q [] (r ∷ rs) h k = absurd h
+of_rows_and P Q (e ∷ es) [] h k = absurd h
+of_rows_and P Q (e ∷ es) (r ∷ rs) h k = (of_both_and P Q e r h.0 k.0, of_rows_and P Q es rs h.1 k.1)
+
+-- ---- rows that are judged again
+
+named_one : (names : Names) (environment : EnvironmentValue) (tags : List TagValue) (policies : List Policy) (e : Option EntryValue) (r : Option Row)
+    → OfBoth (IsNamed names) e r → OfBoth (IsNamed names) e (row_again environment tags policies e r)
+named_one names environment tags policies None None h = tt
+named_one names environment tags policies None (Some r) h = absurd h
+named_one names environment tags policies (Some e) None h = absurd h
+named_one names environment tags policies (Some e) (Some r) h = record { name = h.name; sources = h.sources }
+
+pub named_again : (names : Names) (environment : EnvironmentValue) (tags : List TagValue) (policies : List Policy) (es : List (Option EntryValue)) (rs : List (Option Row))
+    → OfRows (IsNamed names) es rs → OfRows (IsNamed names) es (rows_again environment tags policies es rs)
+named_again names environment tags policies [] [] h = tt
+named_again names environment tags policies [] (r ∷ rs) h = absurd h
+named_again names environment tags policies (e ∷ es) [] h = absurd h
+named_again names environment tags policies (e ∷ es) (r ∷ rs) h =
+    (named_one names environment tags policies e r h.0, named_again names environment tags policies es rs h.1)
+
+judged_one : (names : Names) (environment : EnvironmentValue) (tags : List TagValue) (policies : List Policy) (e : Option EntryValue) (r : Option Row)
+    → OfBoth (IsNamed names) e r → OfBoth (IsJudged environment tags policies) e (row_again environment tags policies e r)
+judged_one names environment tags policies None None h = tt
+judged_one names environment tags policies None (Some r) h = absurd h
+judged_one names environment tags policies (Some e) None h = absurd h
+judged_one names environment tags policies (Some e) (Some r) h = refl
+
+pub judged_again : (names : Names) (environment : EnvironmentValue) (tags : List TagValue) (policies : List Policy) (es : List (Option EntryValue)) (rs : List (Option Row))
+    → OfRows (IsNamed names) es rs → OfRows (IsJudged environment tags policies) es (rows_again environment tags policies es rs)
+judged_again names environment tags policies [] [] h = tt
+judged_again names environment tags policies [] (r ∷ rs) h = absurd h
+judged_again names environment tags policies (e ∷ es) [] h = absurd h
+judged_again names environment tags policies (e ∷ es) (r ∷ rs) h =
+    (judged_one names environment tags policies e r h.0, judged_again names environment tags policies es rs h.1)
+
+-- ---- names
+
+below_one : (names : Names) → IsNames names → (e : Option EntryValue) (r : Option Row) → OfBoth (IsNamed names) e r → (row : Row) → r ≡ Some row → row.name < length names.policies.items
+below_one names is None None h row stands = let e : ◌≡◌ {A = Option Row} None (Some row) = stands in cc
+below_one names is None (Some r) h row stands = absurd h
+below_one names is (Some e) None h row stands = absurd h
+below_one names is (Some e) (Some r) h row stands =
+    let same : r.name ≡ row.name = ap (λ o. option_name o) stands in
+    subst (λ (n : ℕ). n < length names.policies.items) same (is.numbering.below e.name r.name h.name)
+  where
+    option_name : Option Row → ℕ
+    option_name None = 0
+    option_name (Some x) = x.name
+
+pub names_below : (names : Names) → IsNames names → (es : List (Option EntryValue)) (rs : List (Option Row)) → OfRows (IsNamed names) es rs → NamesBelow (length names.policies.items) rs
+names_below names is [] [] h k row stands = let e : ◌≡◌ {A = Option Row} None (Some row) = stands in cc
+names_below names is [] (r ∷ rs) h k row stands = absurd h
+names_below names is (e ∷ es) [] h k row stands = absurd h
+names_below names is (e ∷ es) (r ∷ rs) h zero row stands = below_one names is e r h.0 row stands
+names_below names is (e ∷ es) (r ∷ rs) h (suc k) row stands = names_below names is es rs h.1 k row stands
+
+-- the policy of an entry's name stands under the number that its row has
+pub policy_here : (names : Names) (q : List ℕ) (n : ℕ) → number_in names q ≡ Some n → policy_of (policies_in names) q ≡ policy_at names.policies.items n
+policy_here names q n is = policy_of_in names q ∙ ap (policy_under names.policies.items) is
+
+-- names that keep their numbers and policies
+pub record Kept (old new : Names) : Type 0 where
+  pub numbers : (q : List ℕ) (n : ℕ) → number_in old q ≡ Some n → number_in new q ≡ Some n
+  pub policies : policies_in new ≡ policies_in old
+
+pub named_kept : (old new : Names) → Kept old new → (es : List (Option EntryValue)) (rs : List (Option Row)) → OfRows (IsNamed old) es rs → OfRows (IsNamed new) es rs
+named_kept old new kept es rs h = of_rows_weaker (IsNamed old) (IsNamed new) (λ e r is. record { name = kept.numbers e.name r.name is.name; sources = is.sources }) es rs h
+
+pub judged_kept : (old new : Names) → Kept old new → (environment : EnvironmentValue) (tags : List TagValue) (es : List (Option EntryValue)) (rs : List (Option Row))
+    → OfRows (IsNamed old) es rs → OfRows (IsJudged environment tags old.policies.items) es rs → OfRows (IsJudged environment tags new.policies.items) es rs
+judged_kept old new kept environment tags es rs named judged =
+    of_rows_weaker (λ e r. IsNamed old e r × IsJudged environment tags old.policies.items e r) (IsJudged environment tags new.policies.items)
+    (λ e r is. is.1 ∙ ap (verdict_of e environment tags)
+      (sym (policy_here old e.name r.name is.0.name) ∙ ap (λ p. policy_of p e.name) (sym kept.policies)
+      ∙ policy_here new e.name r.name (kept.numbers e.name r.name is.0.name)))
+    es rs (of_rows_and (IsNamed old) (IsJudged environment tags old.policies.items) es rs named judged)
+
+pub session_kept : (parts : Parts) (names : Names) → Kept parts.names names → IsNames names → IsSession parts → IsSession (record parts { names = names })
+session_kept parts names kept is s = record {
+  few = s.few;
+  named = named_kept parts.names names kept parts.entries.items parts.rows.items s.named;
+  judged = judged_kept parts.names names kept parts.environment parts.tags parts.entries.items parts.rows.items s.named s.judged;
+  head = s.head;
+  names = is;
+}
+
+pub shown_kept : (parts : Parts) (names : Names) → Kept parts.names names → shown (record parts { names = names }) ≡ shown parts
+shown_kept parts names kept = ap (λ p. record (shown parts) { state = record (state_of parts) { policies = p } }) kept.policies
+
+-- ---- the entries of the state
+
+pub in_rows_push : {X : Type 0} (m n : ℕ) (rows : List (Option X)) (x : X) → n ≡ m + length rows → in_rows m (rows ++ Some x ∷ []) ≡ in_rows m rows ++ (n, x) ∷ []
+in_rows_push m n [] x here = let same : m ≡ n = omega (arith, here) in ap (λ k. (k, x) ∷ []) same
+in_rows_push m n (None ∷ rows) x here = in_rows_push (m + 1) n rows x (omega (arith, here))
+in_rows_push m n (Some y ∷ rows) x here = ap (λ rest. (m, y) ∷ rest) (in_rows_push (m + 1) n rows x (omega (arith, here)))
+
+other : (n m : ℕ) → (n ≡ m → ⊥) → nat_eq n m ≡ false
+other n m ne = ne_eqb n m ne
+
+with_entry_below : (n m : ℕ) (x : EntryValue) (rows : List (Option EntryValue)) → n < m → with_entry n x (in_rows m rows) ≡ in_rows m rows
+with_entry_below n m x [] below = refl
+with_entry_below n m x (None ∷ rows) below = with_entry_below n (m + 1) x rows (omega arith)
+with_entry_below n m x (Some e ∷ rows) below =
+    rw (other n m (λ same. omega (arith, same, below))) (ap (λ rest. (m, e) ∷ rest) (with_entry_below n (m + 1) x rows (omega arith)))
+
+pub with_entry_row : (n m k : ℕ) (x : EntryValue) (rows : List (Option EntryValue)) → n ≡ m + k → IsSome (get_or rows k None) → in_rows m (set rows k (Some x)) ≡ with_entry n x (in_rows m rows)
+with_entry_row n m k x [] here there = let e : false ≡ true = there in cc
+with_entry_row n m zero x (None ∷ rows) here there = let e : false ≡ true = there in cc
+with_entry_row n m zero x (Some e ∷ rows) here there =
+    sym (rw (eq-eqb n m (omega (arith, here))) (ap (λ rest. (m, x) ∷ rest) (with_entry_below n (m + 1) x rows (omega (arith, here)))))
+with_entry_row n m (suc k) x (None ∷ rows) here there = with_entry_row n (m + 1) k x rows (omega (arith, here)) there
+with_entry_row n m (suc k) x (Some e ∷ rows) here there =
+    sym (rw (other n m (λ same. omega (arith, same, here))) (ap (λ rest. (m, e) ∷ rest) (sym (with_entry_row n (m + 1) k x rows (omega (arith, here)) there))))
+
+without_below : (n m : ℕ) (rows : List (Option EntryValue)) → n < m → without n (in_rows m rows) ≡ in_rows m rows
+without_below n m [] below = refl
+without_below n m (None ∷ rows) below = without_below n (m + 1) rows (omega arith)
+without_below n m (Some e ∷ rows) below =
+    rw (other n m (λ same. omega (arith, same, below))) (ap (λ rest. (m, e) ∷ rest) (without_below n (m + 1) rows (omega arith)))
+
+pub without_row : (n m k : ℕ) (rows : List (Option EntryValue)) → n ≡ m + k → in_rows m (set rows k None) ≡ without n (in_rows m rows)
+without_row n m k [] here = refl
+without_row n m zero (None ∷ rows) here = sym (without_below n (m + 1) rows (omega (arith, here)))
+without_row n m zero (Some e ∷ rows) here = rw (eq-eqb n m (omega (arith, here))) (sym (without_below n (m + 1) rows (omega (arith, here))))
+without_row n m (suc k) (None ∷ rows) here = without_row n (m + 1) k rows (omega (arith, here))
+without_row n m (suc k) (Some e ∷ rows) here =
+    rw (other n m (λ same. omega (arith, same, here))) (ap (λ rest. (m, e) ∷ rest) (without_row n (m + 1) k rows (omega (arith, here))))
+
+entry_at_below : (n m : ℕ) (rows : List (Option EntryValue)) → n < m → entry_at n (in_rows m rows) ≡ None
+entry_at_below n m [] below = refl
+entry_at_below n m (None ∷ rows) below = entry_at_below n (m + 1) rows (omega arith)
+entry_at_below n m (Some e ∷ rows) below = rw (other n m (λ same. omega (arith, same, below))) (entry_at_below n (m + 1) rows (omega arith))
+
+pub entry_at_row : (n m k : ℕ) (rows : List (Option EntryValue)) → n ≡ m + k → entry_at n (in_rows m rows) ≡ get_or rows k None
+entry_at_row n m k [] here = refl
+entry_at_row n m zero (None ∷ rows) here = entry_at_below n (m + 1) rows (omega (arith, here))
+entry_at_row n m zero (Some e ∷ rows) here = rw (eq-eqb n m (omega (arith, here)))
+entry_at_row n m (suc k) (None ∷ rows) here = entry_at_row n (m + 1) k rows (omega (arith, here))
+entry_at_row n m (suc k) (Some e ∷ rows) here = rw (other n m (λ same. omega (arith, same, here))) (entry_at_row n (m + 1) k rows (omega (arith, here)))
+
+pub entry_at_zero : (rows : List (Option EntryValue)) → entry_at 0 (in_rows 1 rows) ≡ None
+entry_at_zero rows = entry_at_below 0 1 rows (omega arith)
+
+-- ---- the answer from the rows is that from the entries
+
+abbrev pub Both : Names → EnvironmentValue → List TagValue → EntryValue → Row → Type 0
+Both names environment tags e r = IsNamed names e r × IsJudged environment tags names.policies.items e r
+
+abbrev Pairs : Names → EnvironmentValue → List TagValue → List (ℕ × EntryValue) → List (ℕ × Row) → Type 0
+Pairs names environment tags [] [] = Unit {0}
+Pairs names environment tags [] (y ∷ ys) = ⊥
+Pairs names environment tags (x ∷ xs) [] = ⊥
+Pairs names environment tags (x ∷ xs) (y ∷ ys) = (x.0 ≡ y.0) × Both names environment tags x.1 y.1 × Pairs names environment tags xs ys
+
+abbrev SameSlated : Names → EnvironmentValue → List TagValue → Result (List (ℕ × EntryValue)) FirstFault → Result (List (ℕ × Row)) FirstFault → Type 0
+SameSlated names environment tags (Ok xs) (Ok ys) = Pairs names environment tags xs ys
+SameSlated names environment tags (Ok xs) (Err g) = ⊥
+SameSlated names environment tags (Err f) (Ok ys) = ⊥
+SameSlated names environment tags (Err f) (Err g) = f ≡ g
+
+put_same : (names : Names) (environment : EnvironmentValue) (tags : List TagValue) (n : ℕ) (e : EntryValue) (r : Row) → Both names environment tags e r
+    → (a : Result (List (ℕ × EntryValue)) FirstFault) (b : Result (List (ℕ × Row)) FirstFault) → SameSlated names environment tags a b
+    → SameSlated names environment tags (put_before (n, e) a) (put_row (n, r) b)
+put_same names environment tags n e r both (Ok xs) (Ok ys) h = (refl, both, h)
+put_same names environment tags n e r both (Ok xs) (Err g) h = absurd h
+put_same names environment tags n e r both (Err f) (Ok ys) h = absurd h
+put_same names environment tags n e r both (Err f) (Err g) h = h
+
+stand_same : (names : Names) (environment : EnvironmentValue) (tags : List TagValue) (n : ℕ) (e : EntryValue) (r : Row) → Both names environment tags e r
+    → (s : Standing) (shared conflict : Bool)
+    → (a c : Result (List (ℕ × EntryValue)) FirstFault) (b d : Result (List (ℕ × Row)) FirstFault) → SameSlated names environment tags a b → SameSlated names environment tags c d
+    → SameSlated names environment tags
+      (by_standing s a (λ code. Err (n, code)) (cond shared (Err (n, Ambiguous)) (cond conflict (Err (n, ManySources)) (put_before (n, e) c))))
+      (by_standing (by_standing s Skipped Faulty (checked_standing shared conflict)) b (λ code. Err (n, code)) (put_row (n, r) d))
+stand_same names environment tags n e r both Skipped shared conflict a c b d h k = h
+stand_same names environment tags n e r both (Faulty code) shared conflict a c b d h k = refl
+stand_same names environment tags n e r both Active true conflict a c b d h k = refl
+stand_same names environment tags n e r both Active false true a c b d h k = refl
+stand_same names environment tags n e r both Active false false a c b d h k = put_same names environment tags n e r both c d k
+
+stand_equal : (names : Names) (environment : EnvironmentValue) (tags : List TagValue) (n : ℕ) (e : EntryValue) (r : Row) → Both names environment tags e r
+    → (s t : Standing) → t ≡ s → (shared other : Bool) → other ≡ shared → (conflict also : Bool) → also ≡ conflict
+    → (a c : Result (List (ℕ × EntryValue)) FirstFault) (b d : Result (List (ℕ × Row)) FirstFault) → SameSlated names environment tags a b → SameSlated names environment tags c d
+    → SameSlated names environment tags
+      (by_standing s a (λ code. Err (n, code)) (cond shared (Err (n, Ambiguous)) (cond conflict (Err (n, ManySources)) (put_before (n, e) c))))
+      (by_standing (by_standing t Skipped Faulty (checked_standing other also)) b (λ code. Err (n, code)) (put_row (n, r) d))
+stand_equal names environment tags n e r both s t st shared other so conflict also ca a c b d h k =
+    rw (st, so, ca) (stand_same names environment tags n e r both s shared conflict a c b d h k)
+
+-- names and numbers that stand for each other
+abbrev SameNames : Names → List (List ℕ) → List ℕ → Type 0
+SameNames names ns ms = (q : List ℕ) (n : ℕ) → number_in names q ≡ Some n → is_among ns q ≡ is_number ms n
+
+same_number : (names : Names) → IsNames names → (q p : List ℕ) (n m : ℕ) → number_in names q ≡ Some n → number_in names p ≡ Some m → bytes_eq q p ≡ nat_eq n m
+same_number names is q p n m has_q has_p =
+    same_or_not q p
+    (λ same. let both : ◌≡◌ {A = Option ℕ} (Some n) (Some m) = sym has_q ∙ ap (number_in names) same ∙ has_p in
+      let equal : n ≡ m = cc in
+      (ap (bytes_eq q) (sym same) ∙ text_itself q) ∙ sym (eq-eqb n m equal))
+    (λ differs ne. differs ∙ sym (ne_eqb n m (λ equal. ne (is.numbering.apart q p m (has_q ∙ ap Some equal) has_p))))
+
+more_names : (names : Names) → IsNames names → (ns : List (List ℕ)) (ms : List ℕ) (p : List ℕ) (m : ℕ) → number_in names p ≡ Some m → SameNames names ns ms → SameNames names (p ∷ ns) (m ∷ ms)
+more_names names is ns ms p m has h q n has_q =
+    ap (λ b. b || is_among ns q) (same_number names is q p n m has_q has) ∙ ap (λ b. nat_eq n m || b) (h q n has_q)
+
+slate_same : (names : Names) (environment : EnvironmentValue) (tags : List TagValue) → IsNames names → (es : List (Option EntryValue)) (rs : List (Option Row)) (k : ℕ) (ns : List (List ℕ)) (ms : List ℕ)
+    → OfRows (Both names environment tags) es rs → SameNames names ns ms
+    → SameSlated names environment tags (slate (in_rows k es) environment ns) (slate_rows (in_rows k rs) ms)
+slate_same names environment tags is [] [] k ns ms h same = tt
+slate_same names environment tags is [] (r ∷ rs) k ns ms h same = absurd h
+slate_same names environment tags is (e ∷ es) [] k ns ms h same = absurd h
+slate_same names environment tags is (None ∷ es) (None ∷ rs) k ns ms h same = slate_same names environment tags is es rs (k + 1) ns ms h.1 same
+slate_same names environment tags is (None ∷ es) (Some r ∷ rs) k ns ms h same = absurd h.0
+slate_same names environment tags is (Some e ∷ es) (None ∷ rs) k ns ms h same = absurd h.0
+slate_same names environment tags is (Some e ∷ es) (Some r ∷ rs) k ns ms h same =
+    let stands : r.verdict.standing ≡ standing e environment = ap (λ v. v.standing) h.0.1 in
+    let conflict : conflict_among r.sources ≡ has_conflict e = ap conflict_among h.0.0.sources in
+    let shared : is_number ms r.name ≡ is_among ns e.name = sym (same e.name r.name h.0.0.name) in
+    let later = slate_same names environment tags is es rs (k + 1) ns ms h.1 same in
+    let after = slate_same names environment tags is es rs (k + 1) (e.name ∷ ns) (r.name ∷ ms) h.1 (more_names names is ns ms e.name r.name h.0.0.name same) in
+    stand_equal names environment tags k e r h.0 (standing e environment) r.verdict.standing stands (is_among ns e.name) (is_number ms r.name) shared (has_conflict e) (conflict_among r.sources) conflict
+    (slate (in_rows (k + 1) es) environment ns) (slate (in_rows (k + 1) es) environment (e.name ∷ ns)) (slate_rows (in_rows (k + 1) rs) ms) (slate_rows (in_rows (k + 1) rs) (r.name ∷ ms)) later after
+
+sdist_same : (file : Option FileValue) (policy : Policy) (e : EntryValue) → e.sdist ≡ file → sdist_source e policy ≡ file_source None (is_some file) policy
+sdist_same None Any e is = ap (option_map (λ sdist. source.Sdist)) is
+sdist_same None Wheel e is = refl
+sdist_same None Source e is = ap (option_map (λ sdist. source.Sdist)) is
+sdist_same (Some file) Any e is = ap (option_map (λ sdist. source.Sdist)) is
+sdist_same (Some file) Wheel e is = refl
+sdist_same (Some file) Source e is = ap (option_map (λ sdist. source.Sdist)) is
+
+source_same : (e : EntryValue) (tags : List TagValue) (policy : Policy) → source_of e tags policy ≡ source_from (sources_of e) (best_wheel e tags policy) policy
+source_same e tags policy = by e.vcs e.directory e.archive (best_wheel e tags policy)
+  where
+    by : (vcs : Option VcsValue) (directory : Option DirectoryValue) (archive : Option ArchiveValue) (best : Option ℕ)
+        → either (option_map (λ vcs. source.Vcs) vcs) (either (option_map (λ directory. source.Directory) directory) (either (option_map (λ archive. source.Archive) archive) (either (option_map source.Wheel best) (sdist_source e policy))))
+        ≡ source_from (record { vcs = is_some vcs; directory = is_some directory; archive = is_some archive; sdist = is_some e.sdist; wheels = (sources_of e).wheels }) best policy
+    by (Some v) d a b = refl
+    by None (Some d) a b = refl
+    by None None (Some a) b = refl
+    by None None None (Some b) = refl
+    by None None None None = sdist_same e.sdist policy e refl
+
+picks_same : (names : Names) (environment : EnvironmentValue) (tags : List TagValue) (xs : List (ℕ × EntryValue)) (ys : List (ℕ × Row)) → Pairs names environment tags xs ys
+    → picks xs tags (policies_in names) ≡ pick_rows ys names.policies.items
+picks_same names environment tags [] [] h = refl
+picks_same names environment tags [] (y ∷ ys) h = absurd h
+picks_same names environment tags (x ∷ xs) [] h = absurd h
+picks_same names environment tags (x ∷ xs) (y ∷ ys) h =
+    let named = h.1.0 in
+    let policy : policy_of (policies_in names) x.1.name ≡ policy_at names.policies.items y.1.name = policy_here names x.1.name y.1.name named.name in
+    let best : best_wheel x.1 tags (policy_at names.policies.items y.1.name) ≡ y.1.verdict.best = sym (ap (λ v. v.best) h.1.1) in
+    let chosen : source_of x.1 tags (policy_of (policies_in names) x.1.name) ≡ row_source y.1 (policy_at names.policies.items y.1.name) =
+        ap (source_of x.1 tags) policy ∙ source_same x.1 tags (policy_at names.policies.items y.1.name)
+        ∙ ap (λ s. source_from s (best_wheel x.1 tags (policy_at names.policies.items y.1.name)) (policy_at names.policies.items y.1.name)) (sym named.sources)
+        ∙ ap (λ b. source_from y.1.sources b (policy_at names.policies.items y.1.name)) best in
+    ap (λ n. pick_before n (source_of x.1 tags (policy_of (policies_in names) x.1.name)) (picks xs tags (policies_in names))) h.0
+    ∙ ap (λ s. pick_before y.0 s (picks xs tags (policies_in names))) chosen
+    ∙ ap (pick_before y.0 (row_source y.1 (policy_at names.policies.items y.1.name))) (picks_same names environment tags xs ys h.2)
+
+pub rows_answer : (names : Names) (environment : EnvironmentValue) (tags : List TagValue) → IsNames names → (es : List (Option EntryValue)) (rs : List (Option Row))
+    → OfRows (IsNamed names) es rs → OfRows (IsJudged environment tags names.policies.items) es rs
+    → answer_by (picks_after_rows (slate_rows (in_rows 1 rs) []) names.policies.items) ≡ answer_by (picks_after (slate (in_rows 1 es) environment []) tags (policies_in names))
+rows_answer names environment tags is es rs named judged =
+    ap answer_by (by (slate (in_rows 1 es) environment []) (slate_rows (in_rows 1 rs) [])
+      (slate_same names environment tags is es rs 1 [] [] (of_rows_and (IsNamed names) (IsJudged environment tags names.policies.items) es rs named judged) (λ q n has. refl)))
+  where
+    by : (a : Result (List (ℕ × EntryValue)) FirstFault) (b : Result (List (ℕ × Row)) FirstFault) → SameSlated names environment tags a b
+        → picks_after_rows b names.policies.items ≡ picks_after a tags (policies_in names)
+    by (Ok xs) (Ok ys) h = sym (picks_same names environment tags xs ys h)
+    by (Ok xs) (Err g) h = absurd h
+    by (Err f) (Ok ys) h = absurd h
+    by (Err f) (Err g) h = ap Err (sym h)

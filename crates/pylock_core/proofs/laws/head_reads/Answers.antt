@@ -1,0 +1,5 @@
+use Rattle.pylock_core.proofs.VerdictLemmas.{head_same}
+use Rattle.pylock_core.proofs.laws.head_reads.Goals as goal
+
+pub returns : goal.returns
+returns c = head_same c.marker_reads.ensures

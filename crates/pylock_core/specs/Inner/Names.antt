@@ -1,0 +1,54 @@
+-- The names of a session: each has a number, and by the number its policy and its entries.
+use Rattle.std.specs.Prelude.{◌≡◌, ℕ, ◌<◌, List, [], ◌∷◌, map, length, Option, Some, None, slice_index_or, string_bytes, vec_len, vec_capacity}
+use Rattle.std.specs.BTreeMap.{BTreeMap, get_by_text}
+use Rattle.std.specs.Cmp.Lexicographic.{slice_cmp}
+use Rattle.std.specs.FinMap as map_of
+use Rattle.std.specs.Global.{Global}
+use Rattle.std.specs.Ordering.{nat_cmp}
+use Rattle.std.specs.declared.string.String.{String}
+use Rattle.std.specs.declared.vec.Vec.{Vec}
+use Rattle.pylock_core.specs.Inner.Index.{list_at}
+use Rattle.pylock_core.specs.Session.State.{Policies, with_policy}
+use Rattle.pylock_core.specs.declared.edit.Policy.{Policy}
+use Rattle.pylock_core.specs.declared.edit.Policy.TheVariants.{Any}
+use Rattle.pylock_core.specs.declared.session.names.Names.{Names}
+
+-- the numbers are below the count, and no two names have the same
+pub record IsNumbering (number : List ℕ → Option ℕ) (count : ℕ) : Type 0 where
+  pub below : (name : List ℕ) (n : ℕ) → number name ≡ Some n → n < count
+  pub apart : (one other : List ℕ) (n : ℕ) → number one ≡ Some n → number other ≡ Some n → one ≡ other
+
+-- the number of a name
+abbrev pub number_in : Names → List ℕ → Option ℕ
+number_in names name = get_by_text names.numbers name
+
+-- the policy under a number
+abbrev pub policy_at : List Policy → ℕ → Policy
+policy_at policies n = slice_index_or policies n Any
+
+-- the policies of these names, each under its number
+abbrev pub policies_from : List (String Global × ℕ) → List Policy → Policies
+policies_from [] policies = map_of.empty
+policies_from (e ∷ es) policies =
+    with_policy (policies_from es policies) (string_bytes e.0) (policy_at policies e.1)
+
+abbrev pub policies_in : Names → Policies
+policies_in names = policies_from names.numbers.entries names.policies.items
+
+-- the numbers of the entries of a name
+abbrev pub members_under : List (Vec ℕ Global) → Option ℕ → List ℕ
+members_under members None = []
+members_under members (Some n) = list_at members n
+
+abbrev pub members_of : Names → List ℕ → List ℕ
+members_of names name = members_under names.members.items (number_in names name)
+
+-- each name has a number of its own, and under it a policy and entries
+pub record IsNames (names : Names) : Type 0 where
+  pub numbering : IsNumbering (number_in names) (length names.policies.items)
+  pub even : length names.members.items ≡ length names.policies.items
+
+-- under the number there is room for one more entry
+abbrev pub HasRoom : Names → ℕ → Type 0
+HasRoom names n =
+    (d : Vec ℕ Global) → vec_len (slice_index_or names.members.items n d) < vec_capacity (slice_index_or names.members.items n d)

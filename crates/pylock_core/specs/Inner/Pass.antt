@@ -1,0 +1,98 @@
+-- The installation steps over the flat rows of a session, where names are numbers.
+use Rattle.std.specs.Prelude.{◌≡◌, ◌<◌, ℕ, Bool, true, false, ◌&&◌, ◌||◌, not, nat_eq, nat_lt, List, [], ◌∷◌, ◌++◌, count_by, Option, Some, None, Result, Ok, Err, if◌then◌else◌, slice_index_or, slice_set}
+use Rattle.std.specs.List.{list_any}
+use Rattle.pylock_core.specs.Inner.Names.{policy_at}
+use Rattle.pylock_core.specs.Session.Judgement.{VerdictValue}
+use Rattle.pylock_core.specs.Session.Steps.{FirstFault, by_standing, pick_before}
+use Rattle.pylock_core.specs.declared.answer.FaultCode.{FaultCode}
+use Rattle.pylock_core.specs.declared.answer.FaultCode.TheVariants.{Ambiguous, Sources as ManySources, NoFile}
+use Rattle.pylock_core.specs.declared.answer.Pick.{Pick}
+use Rattle.pylock_core.specs.declared.answer.PickSource.{PickSource}
+use Rattle.pylock_core.specs.declared.answer.PickSource.TheVariants as source
+use Rattle.pylock_core.specs.declared.answer.Standing.{Standing}
+use Rattle.pylock_core.specs.declared.answer.Standing.TheVariants.{Skipped, Faulty, Active}
+use Rattle.pylock_core.specs.declared.edit.Policy.{Policy}
+use Rattle.pylock_core.specs.declared.edit.Policy.TheVariants.{Any, Wheel, Source}
+use Rattle.pylock_core.specs.declared.session.row.Sources.{Sources}
+use Rattle.pylock_core.specs.declared.session.row.Row.{Row}
+
+-- whether sources of more than one kind stand
+abbrev pub conflict_among : Sources → Bool
+conflict_among sources =
+    nat_lt 1 (count_by (λ stands. stands)
+      (sources.vcs ∷ sources.directory ∷ sources.archive ∷ (sources.sdist || sources.wheels) ∷ []))
+
+-- the best wheel, or an sdist that the policy allows
+abbrev pub file_source : Option ℕ → Bool → Policy → Option PickSource
+file_source (Some place) sdist policy = Some (source.Wheel place)
+file_source None true Any = Some source.Sdist
+file_source None true Wheel = None
+file_source None true Source = Some source.Sdist
+file_source None false policy = None
+
+abbrev pub source_from : Sources → Option ℕ → Policy → Option PickSource
+source_from sources best policy =
+    if sources.vcs
+    then Some source.Vcs
+    else if sources.directory
+    then Some source.Directory
+    else if sources.archive
+    then Some source.Archive
+    else file_source best sources.sdist policy
+
+abbrev pub row_source : Row → Policy → Option PickSource
+row_source row policy = source_from row.sources row.verdict.best policy
+
+-- whether a number is among these
+abbrev pub is_number : List ℕ → ℕ → Bool
+is_number numbers n = list_any (nat_eq n) numbers
+
+abbrev pub put_row : ℕ × Row → Result (List (ℕ × Row)) FirstFault
+    → Result (List (ℕ × Row)) FirstFault
+put_row e (Ok slated) = Ok (e ∷ slated)
+put_row e (Err fault) = Err fault
+
+-- how an entry stands that is to be installed by its own, where its name is shared or not, and its
+-- sources conflict or not
+abbrev pub checked_standing : Bool → Bool → Standing
+checked_standing shared conflict =
+    if shared then Faulty Ambiguous else if conflict then Faulty ManySources else Active
+
+-- how a row stands, where its name is shared or not
+abbrev pub row_standing : Row → Bool → Standing
+row_standing row shared =
+    by_standing row.verdict.standing Skipped Faulty (checked_standing shared (conflict_among row.sources))
+
+-- step 5
+abbrev pub slate_rows : List (ℕ × Row) → List ℕ → Result (List (ℕ × Row)) FirstFault
+slate_rows [] names = Ok []
+slate_rows (e ∷ es) names =
+    by_standing (row_standing e.1 (is_number names e.1.name))
+    (slate_rows es names)
+    (λ code. Err (e.0, code))
+    (put_row e (slate_rows es (e.1.name ∷ names)))
+
+-- step 6
+abbrev pub pick_rows : List (ℕ × Row) → List Policy → Result (List Pick) FirstFault
+pick_rows [] policies = Ok []
+pick_rows (e ∷ es) policies =
+    pick_before e.0 (row_source e.1 (policy_at policies e.1.name)) (pick_rows es policies)
+
+abbrev pub picks_after_rows : Result (List (ℕ × Row)) FirstFault → List Policy
+    → Result (List Pick) FirstFault
+picks_after_rows (Ok slated) policies = pick_rows slated policies
+picks_after_rows (Err fault) policies = Err fault
+
+-- the stamps after an entry that stands so, whose name has this number
+abbrev pub stamps_after : Standing → List Bool → ℕ → List Bool
+stamps_after Skipped stamps n = stamps
+stamps_after (Faulty code) stamps n = stamps
+stamps_after Active stamps n = slice_set stamps n true
+
+-- each of these numbers, and no other, has its stamp
+abbrev pub IsStamped : List Bool → List ℕ → Type 0
+IsStamped stamps names = (n : ℕ) → slice_index_or stamps n false ≡ is_number names n
+
+-- each row has a name below the count
+abbrev pub NamesBelow : ℕ → List (Option Row) → Type 0
+NamesBelow count rows = (k : ℕ) (row : Row) → slice_index_or rows k None ≡ Some row → row.name < count

@@ -1,0 +1,122 @@
+-- The state of a session, and what an edit makes of it.
+use Rattle.std.specs.Prelude.{ℕ, ◌+◌, Bool, not, ◌==◌, ◌||◌, nat_lt, List, [], ◌∷◌, ◌++◌, map, length, filter, Option, Some, None, is_some, unwrap_or, Result, Ok, Err, if◌then◌else◌}
+use Rattle.std.specs.Cmp.Lexicographic.{slice_cmp}
+use Rattle.std.specs.FinMap as map_of
+use Rattle.std.specs.FinSet as set
+use Rattle.std.specs.List.{enumerate_from, list_any}
+use Rattle.std.specs.Ordering.{nat_cmp}
+use Rattle.std.specs.Str.{bytes_eq}
+use Rattle.pyver_core.specs.Name.{norm}
+use Rattle.pymark_core.specs.Environment.{EnvironmentValue, with_extra, with_group, with_variable, without_extra, without_group, without_variable}
+use Rattle.pywheel_core.specs.Tag.{TagValue}
+use Rattle.pylock_core.specs.Entry.{EntryValue}
+use Rattle.pylock_core.specs.Lock.{HeadValue, LockValue}
+use Rattle.pylock_core.specs.declared.edit.Edit.{Edit}
+use Rattle.pylock_core.specs.declared.edit.Edit.TheVariants as edit
+use Rattle.pylock_core.specs.declared.edit.Policy.{Policy}
+use Rattle.pylock_core.specs.declared.edit.Policy.TheVariants.{Any, Wheel, Source}
+use Rattle.pylock_core.specs.declared.edit.EditError.{EditError}
+use Rattle.pylock_core.specs.declared.edit.EditError.TheVariants.{UnknownExtra, UnknownGroup, NoEntry, TooMany}
+
+-- the policies that edits gave, by name in normal form; a name that isn't here has `Any`
+abbrev pub Policies : Type 0
+Policies = map_of.FinMap (slice_cmp nat_cmp) Policy
+
+-- the head of the lock; the entries that are there, each with its number, in order; the last number
+-- given out; what the entries are judged by: the environment, the tags, the best first, the policies
+pub record State : Type 0 where
+  pub head : HeadValue
+  pub entries : List (ℕ × EntryValue)
+  pub last : ℕ
+  pub environment : EnvironmentValue
+  pub tags : List TagValue
+  pub policies : Policies
+
+-- the environment with no extra asked for, and of the groups these
+abbrev pub asking : List (List ℕ) → EnvironmentValue → EnvironmentValue
+asking groups environment = record environment { extras = set.empty; groups = set.from_list groups }
+
+-- the state at the start: the entries of the lock have the numbers 1, 2, .., no extra is asked for,
+-- and of the groups those that the lock names as the default
+abbrev pub first : LockValue → EnvironmentValue → List TagValue → State
+first lock environment tags = record {
+  head = lock.head;
+  entries = enumerate_from 1 lock.entries;
+  last = length lock.entries;
+  environment = asking lock.head.default_groups environment;
+  tags = tags;
+  policies = map_of.empty;
+}
+
+-- the entry of the number
+abbrev pub entry_at : ℕ → List (ℕ × EntryValue) → Option EntryValue
+entry_at n [] = None
+entry_at n (e ∷ es) = if n == e.0 then Some e.1 else entry_at n es
+
+-- the entries without that of the number
+abbrev pub without : ℕ → List (ℕ × EntryValue) → List (ℕ × EntryValue)
+without n es = filter (λ e. not (n == e.0)) es
+
+-- the entries with this one in place of that of the number
+abbrev pub with_entry : ℕ → EntryValue → List (ℕ × EntryValue) → List (ℕ × EntryValue)
+with_entry n entry es = map (λ e. (e.0, if n == e.0 then entry else e.1)) es
+
+-- whether the name, in normal form, is one of these
+abbrev pub is_known : List (List ℕ) → List ℕ → Bool
+is_known names name = list_any (bytes_eq (norm name)) names
+
+-- the policy of a name in normal form
+abbrev pub policy_of : Policies → List ℕ → Policy
+policy_of policies name = unwrap_or (map_of.get policies name) Any
+
+-- the policies where the name, in normal form, has this one
+abbrev pub with_policy : Policies → List ℕ → Policy → Policies
+with_policy policies name Any = map_of.remove policies name
+with_policy policies name Wheel = map_of.insert policies name Wheel
+with_policy policies name Source = map_of.insert policies name Source
+
+-- the state with this environment
+abbrev pub in_environment : EnvironmentValue → State → State
+in_environment environment state = record state { environment = environment }
+
+-- an extra may be asked for where the lock names it, a group where it names it, as a default or not
+abbrev pub if_extra : List ℕ → State → State → Result State EditError
+if_extra name state next = if is_known state.head.extras name then Ok next else Err UnknownExtra
+
+abbrev pub if_group : List ℕ → State → State → Result State EditError
+if_group name state next =
+    if is_known state.head.groups name || is_known state.head.default_groups name
+    then Ok next
+    else Err UnknownGroup
+
+abbrev pub if_entry : ℕ → State → State → Result State EditError
+if_entry n state next = if is_some (entry_at n state.entries) then Ok next else Err NoEntry
+
+-- the state with one more entry, which has the next number; the numbers end at 100,000
+abbrev pub with_next : EntryValue → State → Result State EditError
+with_next entry state =
+    if nat_lt state.last 100000
+    then Ok (record state { entries = state.entries ++ (state.last + 1, entry) ∷ []; last = state.last + 1 })
+    else Err TooMany
+
+-- the state after an edit, or why the edit is refused
+abbrev pub apply : Edit → State → Result State EditError
+apply (edit.Set variable text) state =
+    Ok (in_environment (with_variable variable text state.environment) state)
+apply (edit.Unset variable) state =
+    Ok (in_environment (without_variable variable state.environment) state)
+apply (edit.AddExtra name) state =
+    if_extra name state (in_environment (with_extra name state.environment) state)
+apply (edit.DropExtra name) state =
+    if_extra name state (in_environment (without_extra name state.environment) state)
+apply (edit.AddGroup name) state =
+    if_group name state (in_environment (with_group name state.environment) state)
+apply (edit.DropGroup name) state =
+    if_group name state (in_environment (without_group name state.environment) state)
+apply (edit.Tags tags) state = Ok (record state { tags = tags })
+apply (edit.Add entry) state = with_next entry state
+apply (edit.Put n entry) state =
+    if_entry n state (record state { entries = with_entry n entry state.entries })
+apply (edit.Del n) state = if_entry n state (record state { entries = without n state.entries })
+apply (edit.Policy name policy) state =
+    Ok (record state { policies = with_policy state.policies (norm name) policy })

@@ -1,0 +1,72 @@
+//! Laws of the definitions alone: each function's contract is a law, and its body is empty.
+
+ghost use Rattle.std.specs.Prelude.{◌≡◌, ℕ, List, Option, true};
+ghost use Rattle.std.specs.List.{All};
+ghost use Rattle.pyver_core.specs.declared.set.specifier.Specifier.{Specifier};
+ghost use Rattle.pymark_core.specs.Environment.{EnvironmentValue, variable_in};
+ghost use Rattle.pymark_core.specs.declared.variable.Var.TheVariants.{PythonFullVersion};
+ghost use Rattle.pywheel_core.specs.Tag.{TagValue};
+ghost use Rattle.pylock_core.specs.Entry.{EntryValue};
+ghost use Rattle.pylock_core.specs.Lock.{HeadValue};
+ghost use Rattle.pylock_core.specs.Session.Judgement.{AgreeAtKey, IndexKey, entry_reads, head_reads, verdict_of};
+ghost use Rattle.pylock_core.specs.Session.Picks.{IsFaultIn, IsPickAmong};
+ghost use Rattle.pylock_core.specs.Session.State.{State};
+ghost use Rattle.pylock_core.specs.Session.Steps.{answer, head_fault, python_check};
+ghost use Rattle.pylock_core.specs.declared.answer.Answer.TheVariants.{Plan, Fault};
+ghost use Rattle.pylock_core.specs.declared.answer.FaultCode.{FaultCode};
+ghost use Rattle.pylock_core.specs.declared.answer.Pick.{Pick};
+ghost use Rattle.pylock_core.specs.declared.edit.Policy.{Policy};
+
+use pymark_core::laws::marker_reads;
+use pywheel_core::laws::one_best_wheel;
+
+/// A Python check reads nothing but `python_full_version`.
+pub fn python_check_reads()
+    ensures { (set : Option (List Specifier)) (e f : EnvironmentValue)
+        → variable_in PythonFullVersion e ≡ variable_in PythonFullVersion f
+        → python_check set e ≡ python_check set f }
+{
+}
+
+/// An entry reads nothing but its keys: two environments and tag lists that agree on them give it the
+/// same verdict under a policy of its name.
+pub fn entry_reads()
+    ensures { (entry : EntryValue) (policy : Policy) (e f : EnvironmentValue) (tags others : List TagValue)
+        → ((key : IndexKey) → entry_reads key entry ≡ true → AgreeAtKey key e f tags others)
+        → verdict_of entry e tags policy ≡ verdict_of entry f others policy }
+{
+    marker_reads();
+}
+
+/// The head reads nothing but its keys.
+pub fn head_reads()
+    ensures { (head : HeadValue) (e f : EnvironmentValue) (tags others : List TagValue)
+        → ((key : IndexKey) → head_reads key head ≡ true → AgreeAtKey key e f tags others)
+        → head_fault head e ≡ head_fault head f }
+{
+    marker_reads();
+}
+
+/// Each pick of a plan names an entry that stands in the state, and that entry has the pick's
+/// source.
+pub fn picks_stand()
+    ensures { (state : State) (plan : List Pick) → answer state ≡ Plan plan
+        → All (IsPickAmong state.entries) plan }
+{
+    one_best_wheel();
+}
+
+/// A fault is the head's, or that of an entry that stands in the state.
+pub fn fault_stands()
+    ensures { (state : State) (id : ℕ) (code : FaultCode) → answer state ≡ Fault id code
+        → IsFaultIn state id code }
+{
+    one_best_wheel();
+}
+
+/// Trial.
+#[tactic(auto, using(crate::proofs::SessionLemmas::rows_answer))]
+pub fn trial()
+    ensures { python_check ≡ python_check }
+{
+}

@@ -1,0 +1,98 @@
+//! The names of a session: each has a number, and by the number its policy and its entries.
+
+ghost use Rattle.std.specs.Prelude.{◌≡◌, ℕ, ◌<◌, nat_eq, not, List, Some, IfOk, OnOk, IsTrue, length, option_map, if◌then◌else◌};
+ghost use Rattle.pylock_core.specs.Inner.Index.{Rises, list_at, moved};
+ghost use Rattle.pylock_core.specs.Inner.Names.{HasRoom, IsNames, members_of, number_in, policies_in, policy_at};
+ghost use Rattle.pylock_core.specs.Session.State.{with_policy};
+
+use crate::edit::Policy;
+use crate::session::index::{change, reserve_one};
+use crate::session::room::push_within;
+use std::alloc::{AllocError, Global};
+use std::collections::BTreeMap;
+
+/// The names that an entry or a policy ever had. Equal names have one number.
+#[derive(Debug, Drop)]
+pub(crate) struct Names {
+    pub(crate) numbers: BTreeMap<String, usize>,
+    /// The policy of each number.
+    pub(crate) policies: Vec<Policy>,
+    /// The numbers of the entries that have the name of each number, in increasing order.
+    pub(crate) members: Vec<Vec<u32>>,
+}
+
+/// The number of the name, which gets one here where it has none. Where there is no memory for it, all
+/// stays but for room.
+pub(crate) fn number_of(
+    alloc: Global,
+    names: &mut Names,
+    name: &str,
+) -> Result<usize, AllocError>
+    requires { IsNames names.old }
+    ensures found { IfOk result (λ number. number_in names.new name.now ≡ Some number) }
+    ensures kept { (q : List ℕ) (n : ℕ) → number_in names.old q ≡ Some n → number_in names.new q ≡ Some n }
+    ensures members { (q : List ℕ) → members_of names.new q ≡ members_of names.old q }
+    ensures policies { policies_in names.new ≡ policies_in names.old }
+    ensures is { IsNames names.new }
+{
+    if let Some(number) = names.numbers.get(name) {
+        return Ok(*number);
+    }
+    let number = names.policies.len();
+    names.policies.reserve(1)?;
+    names.members.reserve(1)?;
+    let key = String::from_str(alloc, name)?;
+    names.numbers.insert(key, number)?;
+    push_within(&mut names.policies, Policy::Any);
+    push_within(&mut names.members, Vec::new(alloc));
+    Ok(number)
+}
+
+/// The number of the name, if it has one.
+pub(crate) fn find(names: &Names, name: &str) -> Option<usize>
+    ensures { result ≡ number_in names.now name.now }
+{
+    names.numbers.get(name).copied()
+}
+
+/// Gives the name of this number the policy.
+pub(crate) fn set_policy(names: &mut Names, number: usize, policy: Policy)
+    requires is { IsNames names.old }
+    requires within { number < length names.old.policies.items }
+    ensures policies { (name : List ℕ) → number_in names.old name ≡ Some number
+        → policies_in names.new ≡ with_policy (policies_in names.old) name policy }
+    ensures members { (q : List ℕ) → members_of names.new q ≡ members_of names.old q }
+    ensures numbers { (q : List ℕ) → number_in names.new q ≡ number_in names.old q }
+    ensures is { IsNames names.new }
+{
+    names.policies[number] = policy;
+}
+
+/// Makes room for one more entry of the name of this number.
+pub(crate) fn reserve_member(names: &mut Names, number: usize) -> Result<(), AllocError>
+    requires is { IsNames names.old }
+    requires within { number < length names.old.policies.items }
+    ensures room { OnOk result (HasRoom names.new number) }
+    ensures members { (q : List ℕ) → members_of names.new q ≡ members_of names.old q }
+    ensures numbers { (q : List ℕ) → number_in names.new q ≡ number_in names.old q }
+    ensures policies { policies_in names.new ≡ policies_in names.old }
+    ensures is { IsNames names.new }
+{
+    reserve_one(&mut names.members[number], true)
+}
+
+/// Has the entry of this number under the name of that number, or not.
+pub(crate) fn change_member(names: &mut Names, number: usize, entry: u32, is: bool)
+    requires is { IsNames names.old }
+    requires within { number < length names.old.policies.items }
+    requires room { IsTrue is → HasRoom names.old number }
+    requires rises { Rises 0 (list_at names.old.members.items number) }
+    ensures members { (n : ℕ) → list_at names.new.members.items n ≡ (if nat_eq n number
+        then moved entry (not is) is (list_at names.old.members.items n)
+        else list_at names.old.members.items n) }
+    ensures numbers { (q : List ℕ) → number_in names.new q ≡ number_in names.old q }
+    ensures policies { policies_in names.new ≡ policies_in names.old }
+    ensures is { IsNames names.new }
+{
+    change(&mut names.members[number], entry, !is, is);
+}

@@ -1,0 +1,13 @@
+//! Growth made before it is used: what was reserved is filled without memory.
+
+ghost use Rattle.std.specs.Prelude.{◌≡◌, ◌<◌, ◌+◌, ◌++◌, ◌∷◌, [], vec_len, vec_capacity};
+
+/// Adds the item to a vector that has room for it.
+#[tactic(auto, using(crate::proofs::IndexLemmas::made))]
+pub(crate) fn push_within<T: Drop>(items: &mut Vec<T>, item: T)
+    requires { vec_len items.old < vec_capacity items.old }
+    ensures items { items.new.items ≡ items.old.items ++ item ∷ [] }
+    ensures len { vec_len items.new ≡ vec_len items.old + 1 }
+{
+    let _ = items.push(item);
+}

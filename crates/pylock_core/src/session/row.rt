@@ -1,0 +1,63 @@
+//! What an answer looks at: one small flat row for each entry.
+
+ghost use Rattle.std.specs.Prelude.{◌≡◌};
+ghost use Rattle.pylock_core.specs.Inner.Pass.{conflict_among, row_source};
+
+use crate::answer::PickSource;
+use crate::edit::Policy;
+use crate::session::verdict::Verdict;
+
+/// Which kinds of sources an entry has.
+#[derive(Clone, Copy, Debug)]
+pub(crate) struct Sources {
+    pub(crate) vcs: bool,
+    pub(crate) directory: bool,
+    pub(crate) archive: bool,
+    pub(crate) sdist: bool,
+    pub(crate) wheels: bool,
+}
+
+impl Sources {
+    /// Whether they are of more than one kind, an sdist and wheels being one.
+    pub(crate) fn has_conflict(&self) -> bool
+        ensures { result ≡ conflict_among self.now }
+    {
+        let kinds = u8::from(self.vcs)
+            + u8::from(self.directory)
+            + u8::from(self.archive)
+            + u8::from(self.sdist || self.wheels);
+        kinds > 1
+    }
+}
+
+/// The row of an entry: its verdict, the number of its name, and which sources it has.
+#[derive(Debug, Drop)]
+pub(crate) struct Row {
+    pub(crate) verdict: Verdict,
+    pub(crate) name: usize,
+    pub(crate) sources: Sources,
+}
+
+impl Row {
+    /// The source that the entry is installed from under this policy of its name.
+    pub(crate) fn source(&self, policy: Policy) -> Option<PickSource>
+        ensures { result ≡ row_source self.now policy }
+    {
+        if self.sources.vcs {
+            return Some(PickSource::Vcs);
+        }
+        if self.sources.directory {
+            return Some(PickSource::Directory);
+        }
+        if self.sources.archive {
+            return Some(PickSource::Archive);
+        }
+        if let Some(place) = self.verdict.best() {
+            return Some(PickSource::Wheel(place));
+        }
+        if self.sources.sdist && policy != Policy::Wheel {
+            return Some(PickSource::Sdist);
+        }
+        None
+    }
+}

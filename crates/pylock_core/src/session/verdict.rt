@@ -1,0 +1,229 @@
+//! Verdicts on entries and on the head, which a session keeps. They are made here alone.
+
+ghost use Rattle.std.specs.Prelude.{◌≡◌, ◌++◌, ◌∷◌, [], IfOk, OnOk};
+ghost use Rattle.std.specs.Option.{option_copied};
+ghost use Rattle.pylock_core.specs.Session.Judgement.{verdict_of};
+ghost use Rattle.pylock_core.specs.Session.Steps.{best_wheel, by_check, by_marker, by_standing, environments_check, head_fault, marker_code, python_check, standing};
+ghost use Rattle.pymark_core.specs.Marker.Value.{marker_value};
+ghost use Rattle.pylock_core.specs.declared.answer.Standing.TheVariants.{Skipped, Faulty, Active};
+
+use crate::answer::{FaultCode, Standing};
+use crate::edit::Policy;
+use crate::entry::Entry;
+use crate::lock::Head;
+use pymark_core::{Environment, EvalFault, Marker, Var};
+use pyver_core::SpecifierSet;
+use pywheel_core::{TagList, choose};
+use std::alloc::{AllocError, Global};
+use std::marker::Model;
+
+/// The verdict on an entry: how it stands by its marker and its Python check, and which of its wheels
+/// is the best under its name's policy.
+#[derive(Debug, Drop)]
+pub(crate) struct Verdict {
+    standing: Standing,
+    best: Option<usize>,
+}
+
+impl Model for Verdict {
+    ghost use Rattle.pylock_core.specs.Session.Judgement.{VerdictValue};
+
+    ghost Value = { VerdictValue };
+
+    ghost view = { λ v. record { standing = v.standing; best = v.best } };
+}
+
+/// The verdict on the head: its fault or none.
+#[derive(Debug, Drop)]
+pub(crate) struct HeadVerdict {
+    fault: Option<FaultCode>,
+}
+
+impl Model for HeadVerdict {
+    ghost use Rattle.std.specs.Prelude.{Option};
+    ghost use Rattle.pylock_core.specs.declared.answer.FaultCode.{FaultCode};
+
+    ghost Value = { Option FaultCode };
+
+    ghost view = { λ v. v.fault };
+}
+
+impl Verdict {
+    /// How the entry stands.
+    pub(crate) fn standing(&self) -> Standing
+        ensures { result ≡ self.now.standing }
+    {
+        self.standing
+    }
+
+    /// The place of the best wheel among those of the entry, from 0.
+    pub(crate) fn best(&self) -> Option<usize>
+        ensures { result ≡ self.now.best }
+    {
+        self.best
+    }
+}
+
+impl HeadVerdict {
+    /// The fault of the head.
+    pub(crate) fn fault(&self) -> Option<FaultCode>
+        ensures { result ≡ self.now }
+    {
+        self.fault
+    }
+}
+
+/// What entries and the head are judged by.
+#[derive(Clone, Copy)]
+pub(crate) struct Judge<'a> {
+    pub(crate) alloc: Global,
+    pub(crate) environment: &'a Environment,
+    pub(crate) tags: &'a TagList,
+}
+
+impl<'a> Judge<'a> {
+    /// Judges the entry of this number, whose name has this policy. The number goes onto the list.
+    pub(crate) fn entry(
+        &self,
+        number: u32,
+        entry: &Entry,
+        policy: Policy,
+        judged: &mut Vec<u32>,
+    ) -> Result<Verdict, AllocError>
+        ensures verdict { IfOk result (λ verdict. verdict
+            ≡ verdict_of entry.now self.now.environment.now self.now.tags.now policy) }
+        ensures judged { OnOk result (judged.new.items ≡ judged.old.items ++ number ∷ []) }
+    {
+        judged.push(number)?;
+        let standing = standing(self.alloc, entry, self.environment)?;
+        let best = best_wheel(entry, self.tags, policy);
+        Ok(Verdict { standing, best })
+    }
+
+    /// Judges the head, whose number is 0.
+    pub(crate) fn head(&self, head: &Head, judged: &mut Vec<u32>) -> Result<HeadVerdict, AllocError>
+        ensures verdict { IfOk result (λ verdict. verdict ≡ head_fault head.now self.now.environment.now) }
+        ensures judged { OnOk result (judged.new.items ≡ judged.old.items ++ 0 ∷ []) }
+    {
+        judged.push(0)?;
+        let fault = head_fault(self.alloc, head, self.environment)?;
+        Ok(HeadVerdict { fault })
+    }
+}
+
+/// The wheel that is chosen, unless the policy is to install from source.
+fn best_wheel(entry: &Entry, tags: &TagList, policy: Policy) -> Option<usize>
+    ensures { result ≡ best_wheel entry.now tags.now policy }
+{
+    match policy {
+        Policy::Source => None,
+        Policy::Any | Policy::Wheel => choose(entry.wheel_names(), tags),
+    }
+}
+
+/// How the entry stands.
+fn standing(
+    alloc: Global,
+    entry: &Entry,
+    environment: &Environment,
+) -> Result<Standing, AllocError>
+    ensures { IfOk result (λ found. found ≡ standing entry.now environment.now) }
+{
+    let marked = match entry.marker() {
+        Some(marker) => marker_standing(alloc, marker, environment)?,
+        None => Standing::Active,
+    };
+    Ok(after_check(marked, python_check(entry.requires_python(), environment)))
+}
+
+/// How an entry stands that stands so by its marker and has this fault or none of its Python check.
+fn after_check(marked: Standing, check: Option<FaultCode>) -> Standing
+    ensures { result ≡ by_standing marked Skipped Faulty (by_check check) }
+{
+    match (marked, check) {
+        (Standing::Active, Some(code)) => Standing::Faulty(code),
+        _ => marked,
+    }
+}
+
+/// How an entry stands by its marker.
+fn marker_standing(
+    alloc: Global,
+    marker: &Marker,
+    environment: &Environment,
+) -> Result<Standing, AllocError>
+    ensures { IfOk result (λ found. found ≡ by_marker (marker_value environment.now marker.now.tree) Active) }
+{
+    match marker.evaluate(alloc, environment) {
+        Ok(true) => Ok(Standing::Active),
+        Ok(false) => Ok(Standing::Skipped),
+        Err(EvalFault::Memory) => Err(AllocError),
+        Err(fault) => Ok(Standing::Faulty(marker_code(fault))),
+    }
+}
+
+/// The code of a fault of a marker.
+fn marker_code(fault: EvalFault) -> FaultCode
+    ensures { result ≡ marker_code fault }
+{
+    match fault {
+        EvalFault::Unset(_) => FaultCode::MarkerUnset,
+        EvalFault::Extra => FaultCode::MarkerExtra,
+        EvalFault::Undefined => FaultCode::MarkerUndefined,
+        EvalFault::NumberTooLarge => FaultCode::MarkerNumber,
+        EvalFault::Memory => FaultCode::MarkerUnset,
+    }
+}
+
+/// The fault of the Python check of a set, if the set stands.
+fn python_check(set: Option<&SpecifierSet>, environment: &Environment) -> Option<FaultCode>
+    ensures { result ≡ python_check (option_copied set.entry) environment.now }
+{
+    let set = set?;
+    match environment.version(Var::PythonFullVersion) {
+        Some(Ok(version)) => {
+            if set.admits(version) {
+                None
+            } else {
+                Some(FaultCode::PythonNotMet)
+            }
+        }
+        _ => Some(FaultCode::PythonUnknown),
+    }
+}
+
+/// The fault of the head.
+fn head_fault(
+    alloc: Global,
+    head: &Head,
+    environment: &Environment,
+) -> Result<Option<FaultCode>, AllocError>
+    ensures { IfOk result (λ fault. fault ≡ head_fault head.now environment.now) }
+{
+    let check = python_check(head.requires_python(), environment);
+    if check.is_some() {
+        return Ok(check);
+    }
+    environments_check(alloc, head.environments(), environment)
+}
+
+/// The fault of the key `environments`: the first marker that is true or faulty decides.
+fn environments_check(
+    alloc: Global,
+    markers: &[Marker],
+    environment: &Environment,
+) -> Result<Option<FaultCode>, AllocError>
+    ensures { IfOk result (λ fault. fault ≡ environments_check markers.now environment.now) }
+{
+    if markers.is_empty() {
+        return Ok(None);
+    }
+    for marker in markers {
+        match marker_standing(alloc, marker, environment)? {
+            Standing::Active => return Ok(None),
+            Standing::Faulty(code) => return Ok(Some(code)),
+            Standing::Skipped => {}
+        }
+    }
+    Ok(Some(FaultCode::NoEnvironment))
+}
