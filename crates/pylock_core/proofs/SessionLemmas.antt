@@ -1,7 +1,8 @@
 -- Lemmas on the rows of a session and the entries that they belong to.
-use Rattle.std.proofs.Common.{◌≡◌, ℕ, suc, zero, ◌+◌, ◌<◌, ◌≤◌, ◌∙◌, Bool, true, false, ◌||◌, nat_eq, nat_lt, List, [], ◌∷◌, ◌++◌, map, length, get_or, set, Option, Some, None, IsSome, is_some, option_map, Result, Ok, Err, cond, subst, ap, sym, refl, eq-eqb, arith}
+use Rattle.std.proofs.Common.{◌≡◌, ℕ, suc, zero, ◌+◌, ◌<◌, ◌≤◌, ◌∙◌, Bool, true, false, ◌||◌, nat_eq, nat_lt, List, [], ◌∷◌, ◌++◌, map, length, get_or, set, Option, Some, None, IsSome, IfSome, is_some, option_map, Result, Ok, Err, cond, subst, ap, sym, refl, eq-eqb, arith}
 use Rattle.std.specs.Str.{bytes_eq}
 use Rattle.std.proofs.lemmas.Bool.{ne_eqb, lt-ltb}
+use Rattle.std.proofs.lemmas.List.{get_or_default}
 use Rattle.pyver_core.specs.Options.{either}
 use Rattle.pymark_core.specs.Environment.{EnvironmentValue}
 use Rattle.pywheel_core.specs.Tag.{TagValue}
@@ -14,6 +15,7 @@ use Rattle.pylock_core.specs.Session.Judgement.{VerdictValue, verdict_of}
 use Rattle.pylock_core.specs.Session.State.{Policies, State, entry_at, policy_of, with_entry, with_next, without}
 use Rattle.pylock_core.specs.Session.Steps.{FirstFault, answer, answer_after, answer_by, best_wheel, by_standing, has_conflict, head_fault, is_among, pick_before, picks, picks_after, put_before, sdist_source, slate, source_of, standing}
 use Rattle.pylock_core.specs.declared.answer.Answer.{Answer}
+use Rattle.pylock_core.specs.declared.answer.Answer.TheVariants.{Fault}
 use Rattle.pylock_core.specs.declared.answer.FaultCode.{FaultCode}
 use Rattle.pylock_core.specs.declared.answer.FaultCode.TheVariants.{Ambiguous, Sources as ManySources}
 use Rattle.pylock_core.specs.declared.answer.Pick.{Pick}
@@ -26,7 +28,7 @@ use Rattle.pylock_core.specs.declared.edit.Policy.TheVariants.{Any, Wheel, Sourc
 use Rattle.pylock_core.specs.declared.session.names.Names.{Names}
 use Rattle.pylock_core.specs.declared.session.parts.Parts.{Parts}
 use Rattle.pylock_core.specs.declared.session.row.Row.{Row}
-use Rattle.pylock_core.proofs.NameLemmas.{policy_of_in, policy_under, same_or_not, text_itself, text_other}
+use Rattle.pylock_core.proofs.NameLemmas.{policy_of_in, policy_under, length_more, same_or_not, text_itself, text_other}
 
 -- ---- entries with their rows
 
@@ -345,3 +347,76 @@ rows_answer names environment tags is es rs named judged =
     by (Ok xs) (Err g) h = absurd h
     by (Err f) (Ok ys) h = absurd h
     by (Err f) (Err g) h = ap Err (sym h)
+
+-- ---- exits
+
+pub below_at : (count : ℕ) (rows : List (Option Row)) (place : ℕ) (o : Option Row) → NamesBelow count rows → place < length rows → o ≡ get_or rows place o → IfSome o (λ row. row.name < count)
+below_at count rows place None below within is = tt
+below_at count rows place (Some row) below within is = below place row (get_or_default rows place None (Some row) within ∙ sym is)
+
+pub some_within : {X : Type 0} (xs : List (Option X)) (k : ℕ) → IsSome (get_or xs k None) → k < length xs
+some_within [] k there = let e : false ≡ true = there in cc
+some_within (x ∷ xs) zero there = omega arith
+some_within (x ∷ xs) (suc k) there = let rest : k < length xs = some_within xs k there in omega (arith, rest)
+
+pub next_state : (state : State) (entry : EntryValue) (es more : List (Option EntryValue)) → state.entries ≡ in_rows 1 es → state.last ≡ length es → length es < 100000 → more ≡ es ++ Some entry ∷ []
+    → with_next entry state ≡ Ok (record state { entries = in_rows 1 more; last = length more })
+next_state state entry es more entries last room is =
+    let less : state.last < 100000 = omega (arith, last, room) in
+    let longer : state.last + 1 ≡ length more = omega (arith, last, ap length is, length_more es (Some entry)) in
+    let rows : state.entries ++ (state.last + 1, entry) ∷ [] ≡ in_rows 1 more =
+        ap (λ front. front ++ (state.last + 1, entry) ∷ []) entries ∙ sym (in_rows_push 1 (state.last + 1) es entry (omega (arith, last))) ∙ ap (in_rows 1) (sym is) in
+    rw (lt-ltb state.last 100000 less) (ap Ok (λ i. record state { entries = rows i; last = longer i }))
+
+-- the rows of a session in which all is judged again
+pub named_rows : (parts : Parts) (environment : EnvironmentValue) (tags : List TagValue) (policies : List Policy) (rows : List (Option Row)) → IsSession parts
+    → rows ≡ rows_again environment tags policies parts.entries.items parts.rows.items → OfRows (IsNamed parts.names) parts.entries.items rows
+named_rows parts environment tags policies rows s is =
+    subst (OfRows (IsNamed parts.names) parts.entries.items) (sym is) (named_again parts.names environment tags policies parts.entries.items parts.rows.items s.named)
+
+pub judged_rows : (parts : Parts) (environment : EnvironmentValue) (tags : List TagValue) (policies : List Policy) (rows : List (Option Row)) → IsSession parts
+    → rows ≡ rows_again environment tags policies parts.entries.items parts.rows.items → OfRows (IsJudged environment tags policies) parts.entries.items rows
+judged_rows parts environment tags policies rows s is =
+    subst (OfRows (IsJudged environment tags policies) parts.entries.items) (sym is) (judged_again parts.names environment tags policies parts.entries.items parts.rows.items s.named)
+
+pub session_even : (parts : Parts) → IsSession parts → length parts.rows.items ≡ length parts.entries.items
+session_even parts s = same_length (IsNamed parts.names) parts.entries.items parts.rows.items s.named
+
+pub session_below : (parts : Parts) → IsSession parts → NamesBelow (length parts.names.policies.items) parts.rows.items
+session_below parts s = names_below parts.names s.names parts.entries.items parts.rows.items s.named
+
+-- the answer of a session whose head has no fault
+pub session_answer : (parts : Parts) → IsSession parts → parts.head_verdict ≡ None
+    → answer_by (picks_after_rows (slate_rows (in_rows 1 parts.rows.items) []) parts.names.policies.items) ≡ answer (state_of parts)
+session_answer parts s none =
+    rows_answer parts.names parts.environment parts.tags s.names parts.entries.items parts.rows.items s.named s.judged
+    ∙ ap (λ fault. answer_after fault (answer_by (picks_after (slate (in_rows 1 parts.entries.items) parts.environment []) parts.tags (policies_in parts.names)))) (sym none ∙ s.head)
+
+pub session_fault : (parts : Parts) (code : FaultCode) → IsSession parts → parts.head_verdict ≡ Some code → Fault 0 code ≡ answer (state_of parts)
+session_fault parts code s some =
+    ap (λ fault. answer_after fault (answer_by (picks_after (slate (in_rows 1 parts.entries.items) parts.environment []) parts.tags (policies_in parts.names)))) (sym some ∙ s.head)
+
+-- the rows under a policy that is written
+pub session_policy : (parts : Parts) (one two : Names) (rows : List (Option Row)) → IsSession parts → Kept parts.names one → ((q : List ℕ) → number_in two q ≡ number_in one q)
+    → rows ≡ rows_again parts.environment parts.tags two.policies.items parts.entries.items parts.rows.items
+    → OfRows (IsNamed two) parts.entries.items rows × OfRows (IsJudged parts.environment parts.tags two.policies.items) parts.entries.items rows
+session_policy parts one two rows s kept numbers is =
+    let named_one = named_kept parts.names one kept parts.entries.items parts.rows.items s.named in
+    let named_two = of_rows_weaker (IsNamed one) (IsNamed two) (λ e r h. record { name = numbers e.name ∙ h.name; sources = h.sources }) parts.entries.items parts.rows.items named_one in
+    (subst (OfRows (IsNamed two) parts.entries.items) (sym is) (named_again two parts.environment parts.tags two.policies.items parts.entries.items parts.rows.items named_two),
+    subst (OfRows (IsJudged parts.environment parts.tags two.policies.items) parts.entries.items) (sym is) (judged_again two parts.environment parts.tags two.policies.items parts.entries.items parts.rows.items named_two))
+
+-- the state in which an entry was written
+pub written_state : (p : Parts) (old : State) (es : List (Option EntryValue)) (f : List (ℕ × EntryValue) → List (ℕ × EntryValue)) → state_of p ≡ old
+    → length es ≡ length p.entries.items → in_rows 1 es ≡ f (in_rows 1 p.entries.items)
+    → ◌≡◌ {A = State} (record (state_of p) { entries = in_rows 1 es; last = length es }) (record old { entries = f old.entries })
+written_state p old es f same long rows =
+    let first : ◌≡◌ {A = State} (record (state_of p) { entries = in_rows 1 es; last = length es }) (record (state_of p) { entries = f (state_of p).entries }) =
+        (λ i. record (state_of p) { entries = rows i; last = long i }) in
+    let next : State → State = λ s. record s { entries = f s.entries } in
+    first ∙ ap next same
+
+pub session_below_kept : (parts : Parts) (names : Names) (count : ℕ) → IsSession parts → Kept parts.names names → IsNames names → count ≡ length names.policies.items → NamesBelow count parts.rows.items
+session_below_kept parts names count s kept is same =
+    subst (λ (n : ℕ). NamesBelow n parts.rows.items) (sym same)
+    (names_below names is parts.entries.items parts.rows.items (named_kept parts.names names kept parts.entries.items parts.rows.items s.named))
