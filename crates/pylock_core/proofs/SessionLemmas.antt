@@ -1,5 +1,6 @@
 -- Lemmas on the rows of a session and the entries that they belong to.
-use Rattle.std.proofs.Common.{◌≡◌, ℕ, suc, zero, ◌+◌, ◌<◌, ◌≤◌, ◌∙◌, Bool, true, false, ◌||◌, nat_eq, nat_lt, List, [], ◌∷◌, ◌++◌, map, length, get_or, set, Option, Some, None, IsSome, IfSome, is_some, option_map, Result, Ok, Err, cond, subst, ap, sym, refl, eq-eqb, arith}
+use Rattle.std.proofs.Common.{◌≡◌, ℕ, suc, zero, ◌+◌, ◌-◌, ◌<◌, ◌≤◌, ◌∙◌, Bool, true, false, ◌||◌, nat_eq, nat_lt, List, [], ◌∷◌, ◌++◌, map, length, get_or, set, Option, Some, None, IsSome, IfSome, is_some, option_map, Result, Ok, Err, cond, append_assoc, subst, ap, sym, refl, eq-eqb, arith}
+use Rattle.std.specs.List.{enumerate_from}
 use Rattle.std.specs.Str.{bytes_eq}
 use Rattle.std.proofs.lemmas.Bool.{ne_eqb, lt-ltb}
 use Rattle.std.proofs.lemmas.List.{get_or_default}
@@ -12,7 +13,7 @@ use Rattle.pylock_core.specs.Inner.Parts.{IsJudged, IsNamed, IsSession, OfBoth, 
 use Rattle.pylock_core.specs.Inner.Pass.{NamesBelow, checked_standing, conflict_among, file_source, is_number, pick_rows, picks_after_rows, put_row, row_source, row_standing, slate_rows, source_from}
 use Rattle.pylock_core.specs.Inner.Rows.{in_rows}
 use Rattle.pylock_core.specs.Session.Judgement.{VerdictValue, verdict_of}
-use Rattle.pylock_core.specs.Session.State.{Policies, State, entry_at, policy_of, with_entry, with_next, without}
+use Rattle.pylock_core.specs.Session.State.{Policies, State, entry_at, if_entry, policy_of, with_entry, with_next, without}
 use Rattle.pylock_core.specs.Session.Steps.{FirstFault, answer, answer_after, answer_by, best_wheel, by_standing, has_conflict, head_fault, is_among, pick_before, picks, picks_after, put_before, sdist_source, slate, source_of, standing}
 use Rattle.pylock_core.specs.declared.answer.Answer.{Answer}
 use Rattle.pylock_core.specs.declared.answer.Answer.TheVariants.{Fault}
@@ -23,6 +24,8 @@ use Rattle.pylock_core.specs.declared.answer.PickSource.{PickSource}
 use Rattle.pylock_core.specs.declared.answer.PickSource.TheVariants as source
 use Rattle.pylock_core.specs.declared.answer.Standing.{Standing}
 use Rattle.pylock_core.specs.declared.answer.Standing.TheVariants.{Skipped, Faulty, Active}
+use Rattle.pylock_core.specs.declared.edit.EditError.{EditError}
+use Rattle.pylock_core.specs.declared.edit.EditError.TheVariants.{TooMany, NoEntry}
 use Rattle.pylock_core.specs.declared.edit.Policy.{Policy}
 use Rattle.pylock_core.specs.declared.edit.Policy.TheVariants.{Any, Wheel, Source}
 use Rattle.pylock_core.specs.declared.session.names.Names.{Names}
@@ -202,7 +205,7 @@ without_row n m (suc k) (None ∷ rows) here = without_row n (m + 1) k rows (ome
 without_row n m (suc k) (Some e ∷ rows) here =
     rw (other n m (λ same. omega (arith, same, here))) (ap (λ rest. (m, e) ∷ rest) (without_row n (m + 1) k rows (omega (arith, here))))
 
-entry_at_below : (n m : ℕ) (rows : List (Option EntryValue)) → n < m → entry_at n (in_rows m rows) ≡ None
+pub entry_at_below : (n m : ℕ) (rows : List (Option EntryValue)) → n < m → entry_at n (in_rows m rows) ≡ None
 entry_at_below n m [] below = refl
 entry_at_below n m (None ∷ rows) below = entry_at_below n (m + 1) rows (omega arith)
 entry_at_below n m (Some e ∷ rows) below = rw (other n m (λ same. omega (arith, same, below))) (entry_at_below n (m + 1) rows (omega arith))
@@ -420,3 +423,49 @@ pub session_below_kept : (parts : Parts) (names : Names) (count : ℕ) → IsSes
 session_below_kept parts names count s kept is same =
     subst (λ (n : ℕ). NamesBelow n parts.rows.items) (sym same)
     (names_below names is parts.entries.items parts.rows.items (named_kept parts.names names kept parts.entries.items parts.rows.items s.named))
+
+-- ---- numbers
+
+pub entry_at_past : (n m : ℕ) (rows : List (Option EntryValue)) → m + length rows ≤ n → entry_at n (in_rows m rows) ≡ None
+entry_at_past n m [] past = refl
+entry_at_past n m (None ∷ rows) past = entry_at_past n (m + 1) rows (omega arith)
+entry_at_past n m (Some e ∷ rows) past = rw (other n m (λ same. omega (arith, same, past))) (entry_at_past n (m + 1) rows (omega arith))
+
+-- what stands in the rows under a number
+pub ruleset row_numbers = (entry_at_row, entry_at_below, entry_at_past)
+
+-- an entry that is there
+pub place_there : (n : ℕ) (rows : List (Option EntryValue)) → IsSome (entry_at n (in_rows 1 rows)) → (0 < n) × IsSome (get_or rows (n - 1) None)
+place_there zero rows there = let none : entry_at 0 (in_rows 1 rows) ≡ None = entry_at_zero rows in let e : ◌≡◌ {A = Bool} false true = sym (ap is_some none) ∙ there in cc
+place_there (suc n) rows there =
+    let row : entry_at (suc n) (in_rows 1 rows) ≡ get_or rows (suc n - 1) None = entry_at_row (suc n) 1 (suc n - 1) rows (omega arith) in
+    (omega arith, sym (ap is_some row) ∙ there)
+
+pub accepted_there : (n : ℕ) (state next made : State) → IsSome (entry_at n state.entries) → made ≡ next → if_entry n state next ≡ Ok made
+accepted_there n state next made there same = rw there (ap Ok (sym same))
+
+-- ---- the start
+
+abbrev unwrap_ok : State → Result State EditError → State
+unwrap_ok other (Ok state) = state
+unwrap_ok other (Err error) = other
+
+-- the state with these entries after its own
+abbrev pub with_all : State → List EntryValue → State
+with_all state rest = record state { entries = state.entries ++ enumerate_from (state.last + 1) rest; last = state.last + length rest }
+
+pub with_all_next : (state next : State) (entry : EntryValue) (rest : List EntryValue) → with_next entry state ≡ Ok next → with_all next rest ≡ with_all state (entry ∷ rest)
+with_all_next state next entry rest is = by (nat_lt state.last 100000) is
+  where
+    more : State
+    more = record state { entries = state.entries ++ (state.last + 1, entry) ∷ []; last = state.last + 1 }
+
+    front : with_all more rest ≡ with_all state (entry ∷ rest)
+    front =
+      let entries : (state.entries ++ (state.last + 1, entry) ∷ []) ++ enumerate_from (state.last + 1 + 1) rest ≡ state.entries ++ enumerate_from (state.last + 1) (entry ∷ rest) = simp append_assoc in
+      let long : state.last + 1 + length rest ≡ state.last + length (entry ∷ rest) = omega arith in
+      (λ i. record state { entries = entries i; last = long i })
+
+    by : (b : Bool) → cond b (Ok more) (Err TooMany) ≡ Ok next → with_all next rest ≡ with_all state (entry ∷ rest)
+    by true same = let inner : next ≡ more = sym (ap (λ r. unwrap_ok more r) same) in ap (λ s. with_all s rest) inner ∙ front
+    by false same = let e : ◌≡◌ {A = Result State EditError} (Err TooMany) (Ok next) = same in cc

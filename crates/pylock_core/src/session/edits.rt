@@ -1,8 +1,10 @@
 //! The edits of a session, one by one, and its start.
 
-ghost use Rattle.std.specs.Prelude.{◌≡◌, ℕ, ◌+◌, ◌-◌, ◌<◌, ◌≤◌, ◌++◌, ◌∷◌, List, Some, Ok, Err, IfOk, IfErr, IfSome, IsNone, IsSome, OnErr, OnOk, ◌||◌, [], length, slice_index_or, string_bytes, map};
+ghost use Rattle.std.specs.Prelude.{◌≡◌, ℕ, ◌+◌, ◌-◌, ◌<◌, ◌≤◌, ◌++◌, ◌∷◌, List, Some, Ok, Err, IfOk, IfErr, IfSome, IsNone, IsSome, None, OnErr, OnOk, OnSome, ◌||◌, [], length, slice_index_or, string_bytes, map};
 ghost use Rattle.std.specs.FinMap as map_of;
 ghost use Rattle.std.specs.Option.{option_copied};
+ghost use Rattle.std.specs.List.{list_any};
+ghost use Rattle.std.specs.Str.{bytes_eq};
 ghost use Rattle.pyver_core.specs.Name.{norm};
 ghost use Rattle.pylock_core.specs.Inner.Parts.{IsSession, shown, state_of};
 ghost use Rattle.pylock_core.specs.Inner.Rows.{in_rows};
@@ -23,6 +25,7 @@ use std::alloc::{AllocError, Global};
 use std::collections::BTreeMap;
 
 /// The entry of the number, among the entries of which the first has the number 1.
+#[tactic(auto, using(crate::proofs::SessionLemmas::row_numbers))]
 pub(crate) fn entry_in(entries: &[Option<Entry>], number: u32) -> Option<&Entry>
     ensures { option_copied result ≡ entry_at number (in_rows 1 entries.now) }
 {
@@ -32,14 +35,14 @@ pub(crate) fn entry_in(entries: &[Option<Entry>], number: u32) -> Option<&Entry>
 
 /// The place of the entry of the number, if there is one.
 fn place_of(parts: &Parts, number: u32) -> Option<usize>
-    ensures there { IfSome result (λ place. (number ≡ place + 1) × IsSome (slice_index_or parts.now.entries.items place None)) }
+    ensures place { IfSome result (λ place. number ≡ place + 1) }
+    ensures there { IfSome result (λ place. IsSome (slice_index_or parts.now.entries.items place None)) }
+    ensures known { OnSome result (IsSome (entry_at number (in_rows 1 parts.now.entries.items))) }
     ensures absent { IsNone result → entry_at number (in_rows 1 parts.now.entries.items) ≡ None }
 {
-    let place = (number as usize).checked_sub(1)?;
-    if parts.entries.get(place)?.is_some() {
-        Some(place)
-    } else {
-        None
+    match entry_in(parts.entries.as_slice(), number) {
+        Some(_) => Some(number as usize - 1),
+        None => None,
     }
 }
 
@@ -58,7 +61,19 @@ fn is_known(alloc: Global, names: &[String], name: &str) -> Result<bool, AllocEr
     ensures { IfOk result (λ known. known ≡ is_known (map string_bytes names.now) name.now) }
 {
     let name = normal_name(alloc, name)?;
-    Ok(names.iter().any(|known| known.as_str() == name.as_str()))
+    Ok(has_name(names, name.as_str()))
+}
+
+/// Whether the name is one of these.
+fn has_name(names: &[String], name: &str) -> bool
+    ensures { result ≡ list_any (bytes_eq name.now) (map string_bytes names.now) }
+{
+    for known in names {
+        if name == known.as_str() {
+            return true;
+        }
+    }
+    false
 }
 
 /// Gives the variable the text.
