@@ -90,7 +90,7 @@ last [] x d (suc k) is = absurd (omega (arith, is))
 last (y ∷ ys) x d zero is = absurd (omega (arith, is))
 last (y ∷ ys) x d (suc k) is = last ys x d k (omega (arith, is))
 
-length_more : {X : Type 0} (xs : List X) (x : X) → length (xs ++ x ∷ []) ≡ length xs + 1
+pub length_more : {X : Type 0} (xs : List X) (x : X) → length (xs ++ x ∷ []) ≡ length xs + 1
 length_more [] x = omega arith
 length_more (y ∷ ys) x = let rest : length (ys ++ x ∷ []) ≡ length ys + 1 = length_more ys x in omega (arith, rest)
 

@@ -1,7 +1,9 @@
 -- Lemmas on the rows of a session and the entries that they belong to.
-use Rattle.std.proofs.Common.{◌≡◌, ℕ, suc, zero, ◌+◌, ◌<◌, ◌≤◌, ◌∙◌, Bool, true, false, ◌||◌, nat_eq, nat_lt, List, [], ◌∷◌, ◌++◌, map, length, get_or, set, Option, Some, None, IsSome, is_some, option_map, Result, Ok, Err, cond, subst, ap, sym, refl, eq-eqb, arith}
+use Rattle.std.proofs.Common.{◌≡◌, ℕ, suc, zero, ◌+◌, ◌-◌, ◌<◌, ◌≤◌, ◌∙◌, Bool, true, false, ◌||◌, nat_eq, nat_lt, List, [], ◌∷◌, ◌++◌, map, length, get_or, set, Option, Some, None, IsSome, IfSome, is_some, option_map, Result, Ok, Err, cond, append_assoc, subst, ap, sym, refl, eq-eqb, arith}
+use Rattle.std.specs.List.{enumerate_from}
 use Rattle.std.specs.Str.{bytes_eq}
 use Rattle.std.proofs.lemmas.Bool.{ne_eqb, lt-ltb}
+use Rattle.std.proofs.lemmas.List.{get_or_default}
 use Rattle.pyver_core.specs.Options.{either}
 use Rattle.pymark_core.specs.Environment.{EnvironmentValue}
 use Rattle.pywheel_core.specs.Tag.{TagValue}
@@ -11,9 +13,10 @@ use Rattle.pylock_core.specs.Inner.Parts.{IsJudged, IsNamed, IsSession, OfBoth, 
 use Rattle.pylock_core.specs.Inner.Pass.{NamesBelow, checked_standing, conflict_among, file_source, is_number, pick_rows, picks_after_rows, put_row, row_source, row_standing, slate_rows, source_from}
 use Rattle.pylock_core.specs.Inner.Rows.{in_rows}
 use Rattle.pylock_core.specs.Session.Judgement.{VerdictValue, verdict_of}
-use Rattle.pylock_core.specs.Session.State.{Policies, State, entry_at, policy_of, with_entry, with_next, without}
+use Rattle.pylock_core.specs.Session.State.{Policies, State, entry_at, if_entry, policy_of, with_entry, with_next, without}
 use Rattle.pylock_core.specs.Session.Steps.{FirstFault, answer, answer_after, answer_by, best_wheel, by_standing, has_conflict, head_fault, is_among, pick_before, picks, picks_after, put_before, sdist_source, slate, source_of, standing}
 use Rattle.pylock_core.specs.declared.answer.Answer.{Answer}
+use Rattle.pylock_core.specs.declared.answer.Answer.TheVariants.{Fault}
 use Rattle.pylock_core.specs.declared.answer.FaultCode.{FaultCode}
 use Rattle.pylock_core.specs.declared.answer.FaultCode.TheVariants.{Ambiguous, Sources as ManySources}
 use Rattle.pylock_core.specs.declared.answer.Pick.{Pick}
@@ -21,12 +24,14 @@ use Rattle.pylock_core.specs.declared.answer.PickSource.{PickSource}
 use Rattle.pylock_core.specs.declared.answer.PickSource.TheVariants as source
 use Rattle.pylock_core.specs.declared.answer.Standing.{Standing}
 use Rattle.pylock_core.specs.declared.answer.Standing.TheVariants.{Skipped, Faulty, Active}
+use Rattle.pylock_core.specs.declared.edit.EditError.{EditError}
+use Rattle.pylock_core.specs.declared.edit.EditError.TheVariants.{TooMany, NoEntry}
 use Rattle.pylock_core.specs.declared.edit.Policy.{Policy}
 use Rattle.pylock_core.specs.declared.edit.Policy.TheVariants.{Any, Wheel, Source}
 use Rattle.pylock_core.specs.declared.session.names.Names.{Names}
 use Rattle.pylock_core.specs.declared.session.parts.Parts.{Parts}
 use Rattle.pylock_core.specs.declared.session.row.Row.{Row}
-use Rattle.pylock_core.proofs.NameLemmas.{policy_of_in, policy_under, same_or_not, text_itself, text_other}
+use Rattle.pylock_core.proofs.NameLemmas.{policy_of_in, policy_under, length_more, same_or_not, text_itself, text_other}
 
 -- ---- entries with their rows
 
@@ -200,7 +205,7 @@ without_row n m (suc k) (None ∷ rows) here = without_row n (m + 1) k rows (ome
 without_row n m (suc k) (Some e ∷ rows) here =
     rw (other n m (λ same. omega (arith, same, here))) (ap (λ rest. (m, e) ∷ rest) (without_row n (m + 1) k rows (omega (arith, here))))
 
-entry_at_below : (n m : ℕ) (rows : List (Option EntryValue)) → n < m → entry_at n (in_rows m rows) ≡ None
+pub entry_at_below : (n m : ℕ) (rows : List (Option EntryValue)) → n < m → entry_at n (in_rows m rows) ≡ None
 entry_at_below n m [] below = refl
 entry_at_below n m (None ∷ rows) below = entry_at_below n (m + 1) rows (omega arith)
 entry_at_below n m (Some e ∷ rows) below = rw (other n m (λ same. omega (arith, same, below))) (entry_at_below n (m + 1) rows (omega arith))
@@ -345,3 +350,122 @@ rows_answer names environment tags is es rs named judged =
     by (Ok xs) (Err g) h = absurd h
     by (Err f) (Ok ys) h = absurd h
     by (Err f) (Err g) h = ap Err (sym h)
+
+-- ---- exits
+
+pub below_at : (count : ℕ) (rows : List (Option Row)) (place : ℕ) (o : Option Row) → NamesBelow count rows → place < length rows → o ≡ get_or rows place o → IfSome o (λ row. row.name < count)
+below_at count rows place None below within is = tt
+below_at count rows place (Some row) below within is = below place row (get_or_default rows place None (Some row) within ∙ sym is)
+
+pub some_within : {X : Type 0} (xs : List (Option X)) (k : ℕ) → IsSome (get_or xs k None) → k < length xs
+some_within [] k there = let e : false ≡ true = there in cc
+some_within (x ∷ xs) zero there = omega arith
+some_within (x ∷ xs) (suc k) there = let rest : k < length xs = some_within xs k there in omega (arith, rest)
+
+pub next_state : (state : State) (entry : EntryValue) (es more : List (Option EntryValue)) → state.entries ≡ in_rows 1 es → state.last ≡ length es → length es < 100000 → more ≡ es ++ Some entry ∷ []
+    → with_next entry state ≡ Ok (record state { entries = in_rows 1 more; last = length more })
+next_state state entry es more entries last room is =
+    let less : state.last < 100000 = omega (arith, last, room) in
+    let longer : state.last + 1 ≡ length more = omega (arith, last, ap length is, length_more es (Some entry)) in
+    let rows : state.entries ++ (state.last + 1, entry) ∷ [] ≡ in_rows 1 more =
+        ap (λ front. front ++ (state.last + 1, entry) ∷ []) entries ∙ sym (in_rows_push 1 (state.last + 1) es entry (omega (arith, last))) ∙ ap (in_rows 1) (sym is) in
+    rw (lt-ltb state.last 100000 less) (ap Ok (λ i. record state { entries = rows i; last = longer i }))
+
+-- the rows of a session in which all is judged again
+pub named_rows : (parts : Parts) (environment : EnvironmentValue) (tags : List TagValue) (policies : List Policy) (rows : List (Option Row)) → IsSession parts
+    → rows ≡ rows_again environment tags policies parts.entries.items parts.rows.items → OfRows (IsNamed parts.names) parts.entries.items rows
+named_rows parts environment tags policies rows s is =
+    subst (OfRows (IsNamed parts.names) parts.entries.items) (sym is) (named_again parts.names environment tags policies parts.entries.items parts.rows.items s.named)
+
+pub judged_rows : (parts : Parts) (environment : EnvironmentValue) (tags : List TagValue) (policies : List Policy) (rows : List (Option Row)) → IsSession parts
+    → rows ≡ rows_again environment tags policies parts.entries.items parts.rows.items → OfRows (IsJudged environment tags policies) parts.entries.items rows
+judged_rows parts environment tags policies rows s is =
+    subst (OfRows (IsJudged environment tags policies) parts.entries.items) (sym is) (judged_again parts.names environment tags policies parts.entries.items parts.rows.items s.named)
+
+pub session_even : (parts : Parts) → IsSession parts → length parts.rows.items ≡ length parts.entries.items
+session_even parts s = same_length (IsNamed parts.names) parts.entries.items parts.rows.items s.named
+
+pub session_below : (parts : Parts) → IsSession parts → NamesBelow (length parts.names.policies.items) parts.rows.items
+session_below parts s = names_below parts.names s.names parts.entries.items parts.rows.items s.named
+
+-- the answer of a session whose head has no fault
+pub session_answer : (parts : Parts) → IsSession parts → parts.head_verdict ≡ None
+    → answer_by (picks_after_rows (slate_rows (in_rows 1 parts.rows.items) []) parts.names.policies.items) ≡ answer (state_of parts)
+session_answer parts s none =
+    rows_answer parts.names parts.environment parts.tags s.names parts.entries.items parts.rows.items s.named s.judged
+    ∙ ap (λ fault. answer_after fault (answer_by (picks_after (slate (in_rows 1 parts.entries.items) parts.environment []) parts.tags (policies_in parts.names)))) (sym none ∙ s.head)
+
+pub session_fault : (parts : Parts) (code : FaultCode) → IsSession parts → parts.head_verdict ≡ Some code → Fault 0 code ≡ answer (state_of parts)
+session_fault parts code s some =
+    ap (λ fault. answer_after fault (answer_by (picks_after (slate (in_rows 1 parts.entries.items) parts.environment []) parts.tags (policies_in parts.names)))) (sym some ∙ s.head)
+
+-- the rows under a policy that is written
+pub session_policy : (parts : Parts) (one two : Names) (rows : List (Option Row)) → IsSession parts → Kept parts.names one → ((q : List ℕ) → number_in two q ≡ number_in one q)
+    → rows ≡ rows_again parts.environment parts.tags two.policies.items parts.entries.items parts.rows.items
+    → OfRows (IsNamed two) parts.entries.items rows × OfRows (IsJudged parts.environment parts.tags two.policies.items) parts.entries.items rows
+session_policy parts one two rows s kept numbers is =
+    let named_one = named_kept parts.names one kept parts.entries.items parts.rows.items s.named in
+    let named_two = of_rows_weaker (IsNamed one) (IsNamed two) (λ e r h. record { name = numbers e.name ∙ h.name; sources = h.sources }) parts.entries.items parts.rows.items named_one in
+    (subst (OfRows (IsNamed two) parts.entries.items) (sym is) (named_again two parts.environment parts.tags two.policies.items parts.entries.items parts.rows.items named_two),
+    subst (OfRows (IsJudged parts.environment parts.tags two.policies.items) parts.entries.items) (sym is) (judged_again two parts.environment parts.tags two.policies.items parts.entries.items parts.rows.items named_two))
+
+-- the state in which an entry was written
+pub written_state : (p : Parts) (old : State) (es : List (Option EntryValue)) (f : List (ℕ × EntryValue) → List (ℕ × EntryValue)) → state_of p ≡ old
+    → length es ≡ length p.entries.items → in_rows 1 es ≡ f (in_rows 1 p.entries.items)
+    → ◌≡◌ {A = State} (record (state_of p) { entries = in_rows 1 es; last = length es }) (record old { entries = f old.entries })
+written_state p old es f same long rows =
+    let first : ◌≡◌ {A = State} (record (state_of p) { entries = in_rows 1 es; last = length es }) (record (state_of p) { entries = f (state_of p).entries }) =
+        (λ i. record (state_of p) { entries = rows i; last = long i }) in
+    let next : State → State = λ s. record s { entries = f s.entries } in
+    first ∙ ap next same
+
+pub session_below_kept : (parts : Parts) (names : Names) (count : ℕ) → IsSession parts → Kept parts.names names → IsNames names → count ≡ length names.policies.items → NamesBelow count parts.rows.items
+session_below_kept parts names count s kept is same =
+    subst (λ (n : ℕ). NamesBelow n parts.rows.items) (sym same)
+    (names_below names is parts.entries.items parts.rows.items (named_kept parts.names names kept parts.entries.items parts.rows.items s.named))
+
+-- ---- numbers
+
+pub entry_at_past : (n m : ℕ) (rows : List (Option EntryValue)) → m + length rows ≤ n → entry_at n (in_rows m rows) ≡ None
+entry_at_past n m [] past = refl
+entry_at_past n m (None ∷ rows) past = entry_at_past n (m + 1) rows (omega arith)
+entry_at_past n m (Some e ∷ rows) past = rw (other n m (λ same. omega (arith, same, past))) (entry_at_past n (m + 1) rows (omega arith))
+
+-- what stands in the rows under a number
+pub ruleset row_numbers = (entry_at_row, entry_at_below, entry_at_past)
+
+-- an entry that is there
+pub place_there : (n : ℕ) (rows : List (Option EntryValue)) → IsSome (entry_at n (in_rows 1 rows)) → (0 < n) × IsSome (get_or rows (n - 1) None)
+place_there zero rows there = let none : entry_at 0 (in_rows 1 rows) ≡ None = entry_at_zero rows in let e : ◌≡◌ {A = Bool} false true = sym (ap is_some none) ∙ there in cc
+place_there (suc n) rows there =
+    let row : entry_at (suc n) (in_rows 1 rows) ≡ get_or rows (suc n - 1) None = entry_at_row (suc n) 1 (suc n - 1) rows (omega arith) in
+    (omega arith, sym (ap is_some row) ∙ there)
+
+pub accepted_there : (n : ℕ) (state next made : State) → IsSome (entry_at n state.entries) → made ≡ next → if_entry n state next ≡ Ok made
+accepted_there n state next made there same = rw there (ap Ok (sym same))
+
+-- ---- the start
+
+abbrev unwrap_ok : State → Result State EditError → State
+unwrap_ok other (Ok state) = state
+unwrap_ok other (Err error) = other
+
+-- the state with these entries after its own
+abbrev pub with_all : State → List EntryValue → State
+with_all state rest = record state { entries = state.entries ++ enumerate_from (state.last + 1) rest; last = state.last + length rest }
+
+pub with_all_next : (state next : State) (entry : EntryValue) (rest : List EntryValue) → with_next entry state ≡ Ok next → with_all next rest ≡ with_all state (entry ∷ rest)
+with_all_next state next entry rest is = by (nat_lt state.last 100000) is
+  where
+    more : State
+    more = record state { entries = state.entries ++ (state.last + 1, entry) ∷ []; last = state.last + 1 }
+
+    front : with_all more rest ≡ with_all state (entry ∷ rest)
+    front =
+      let entries : (state.entries ++ (state.last + 1, entry) ∷ []) ++ enumerate_from (state.last + 1 + 1) rest ≡ state.entries ++ enumerate_from (state.last + 1) (entry ∷ rest) = simp append_assoc in
+      let long : state.last + 1 + length rest ≡ state.last + length (entry ∷ rest) = omega arith in
+      (λ i. record state { entries = entries i; last = long i })
+
+    by : (b : Bool) → cond b (Ok more) (Err TooMany) ≡ Ok next → with_all next rest ≡ with_all state (entry ∷ rest)
+    by true same = let inner : next ≡ more = sym (ap (λ r. unwrap_ok more r) same) in ap (λ s. with_all s rest) inner ∙ front
+    by false same = let e : ◌≡◌ {A = Result State EditError} (Err TooMany) (Ok next) = same in cc

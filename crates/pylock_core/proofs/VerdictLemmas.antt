@@ -1,5 +1,6 @@
 -- Lemmas on what verdicts read.
-use Rattle.std.proofs.Common.{◌≡◌, ℕ, Bool, true, false, ◌||◌, ◌&&◌, List, [], ◌∷◌, map, Option, Some, None, is_some, Result, Ok, Err, ◌∙◌, ap, refl, sym}
+use Rattle.std.proofs.Common.{◌≡◌, ℕ, ◌+◌, ◌<◌, length, drop, get_or, arith, Bool, true, false, ◌||◌, ◌&&◌, List, [], ◌∷◌, map, Option, Some, None, is_some, Result, Ok, Err, ◌∙◌, ap, refl, sym}
+use Rattle.std.proofs.lemmas.List.{drop_more}
 use Rattle.std.specs.List.{list_any}
 use Rattle.pyver_core.specs.Options.{either}
 use Rattle.pyver_core.specs.declared.set.specifier.Specifier.{Specifier}
@@ -17,7 +18,10 @@ use Rattle.pywheel_core.specs.Tag.{TagValue}
 use Rattle.pylock_core.specs.Entry.{EntryValue, FileValue, wheel_name, wheel_names}
 use Rattle.pylock_core.specs.Lock.{HeadValue}
 use Rattle.pylock_core.specs.Session.Steps.{best_wheel, by_check, by_marker, decided_by, environments_check, first_true, head_fault, is_any, marked_standing, python_check, standing, text_check}
+use Rattle.pymark_core.specs.declared.fault.EvalFault.{EvalFault}
+use Rattle.pylock_core.specs.declared.answer.FaultCode.{FaultCode}
 use Rattle.pylock_core.specs.declared.answer.Standing.{Standing}
+use Rattle.pylock_core.specs.declared.answer.Standing.TheVariants.{Skipped, Faulty, Active}
 use Rattle.pylock_core.specs.declared.edit.Policy.{Policy}
 use Rattle.pylock_core.specs.declared.edit.Policy.TheVariants.{Any, Wheel, Source}
 
@@ -83,3 +87,25 @@ head_same reading head e f tags others agree =
       (check_same head.requires_python e f (λ is. agree (Marked (Of PythonFullVersion)) (or_left (is_some head.requires_python) (list_any (λ m. reads (Of PythonFullVersion) m.tree) head.environments) is)))
     ∙ ap (either (python_check head.requires_python f))
       (environments_same reading head.environments e f (λ k is. agree (Marked k) (or_right (is_python k && is_some head.requires_python) (list_any (λ m. reads k m.tree) head.environments) is)))
+
+-- a faulty marker decides
+pub first_faulty : (v : Result Bool EvalFault) (rest : Option FaultCode) (code : FaultCode) → by_marker v Active ≡ Faulty code → decided_by v rest ≡ Some code
+first_faulty (Ok true) rest code is = let e : ◌≡◌ {A = Standing} Active (Faulty code) = is in cc
+first_faulty (Ok false) rest code is = let e : ◌≡◌ {A = Standing} Skipped (Faulty code) = is in cc
+first_faulty (Err fault) rest code is = ap code_in is
+  where
+    code_in : Standing → Option FaultCode
+    code_in Skipped = None
+    code_in (Faulty c) = Some c
+    code_in Active = None
+
+any_decides : (ms : List MarkerValue) (e : EnvironmentValue) (i : ℕ) → i < length ms → first_true ms e ≡ environments_check ms e
+any_decides [] e i within = absurd (omega arith)
+any_decides (m ∷ ms) e i within = refl
+
+pub faulty_here : (ms : List MarkerValue) (e : EnvironmentValue) (i : ℕ) (m : MarkerValue) (code : FaultCode) → i < length ms → m ≡ get_or ms i m
+    → by_marker (marker_value e m.tree) Active ≡ Faulty code → first_true (drop i ms) e ≡ first_true ms e → Some code ≡ environments_check ms e
+faulty_here ms e i m code within item is left =
+    sym (first_faulty (marker_value e m.tree) (first_true (drop (i + 1) ms) e) code is)
+    ∙ ap (λ rest. first_true rest e) (sym (drop_more ms i m within ∙ ap (λ front. front ∷ drop (i + 1) ms) (sym item)))
+    ∙ left ∙ any_decides ms e i within

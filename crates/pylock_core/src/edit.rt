@@ -1,9 +1,13 @@
 //! The edits of a session.
 
+ghost use Rattle.std.specs.Prelude.{◌≡◌};
+ghost use Rattle.pylock_core.specs.declared.edit.EditError.TheVariants.{Memory};
+
 use crate::entry::Entry;
 use pymark_core::Var;
 use pyver_core::Label;
 use pywheel_core::TagList;
+use std::alloc::AllocError;
 
 /// An edit of a session. An entry is named by its number; a name is taken in normal form (PEP 503).
 #[derive(Debug, Drop)]
@@ -57,4 +61,12 @@ pub enum Policy {
     Wheel,
     /// No wheel.
     Source,
+}
+
+impl<E: Into<AllocError> + Drop> From<E> for EditError {
+    ghost from_gives = { λ _ e. e ≡ Memory };
+
+    fn from(_refused: E) -> EditError {
+        EditError::Memory
+    }
 }

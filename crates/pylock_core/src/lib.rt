@@ -22,4 +22,4 @@ pub use entry::{Archive, Directory, DistributionFile, Entry, Sdist, Vcs, WheelFi
 pub use environment::read_environment;
 pub use error::{EntryError, EntryKey, EnvError, HeadKey, LockError};
 pub use lock::Lock;
-//pub use session::Session;
+pub use session::Session;

@@ -1,5 +1,6 @@
 //! A session: the entries of a lock, edited and answered again.
 
+pub(crate) mod edits;
 pub(crate) mod index;
 pub(crate) mod names;
 pub(crate) mod parts;
@@ -7,3 +8,98 @@ pub(crate) mod pass;
 pub(crate) mod room;
 pub(crate) mod row;
 pub(crate) mod verdict;
+
+ghost use Rattle.std.specs.Prelude.{◌≡◌, Ok, Err, IfOk, IfErr};
+ghost use Rattle.std.specs.Option.{option_copied};
+ghost use Rattle.pylock_core.specs.Session.State.{apply, entry_at, first};
+ghost use Rattle.pylock_core.specs.Session.Steps.{answer};
+ghost use Rattle.pylock_core.specs.declared.edit.EditError.{EditError};
+ghost use Rattle.pylock_core.specs.declared.edit.EditError.TheVariants.{Memory};
+
+use crate::answer::Answer;
+use crate::edit::{Edit, EditError};
+use crate::entry::Entry;
+use crate::lock::Lock;
+use crate::session::parts::{Parts, answer};
+use crate::session::edits::{edit_parts, entry_in, start};
+use pymark_core::Environment;
+use pywheel_core::TagList;
+use std::alloc::{AllocError, Global};
+use std::marker::Model;
+
+/// The entries of a lock, each with its number, and what edits make of them. A number is never used
+/// again.
+#[derive(Debug, Drop)]
+pub struct Session {
+    parts: Parts,
+}
+
+impl Model for Session {
+    ghost use Rattle.pylock_core.specs.Session.Judgement.{SessionValue};
+
+    ghost use Rattle.std.specs.Coded.{codes, coded_list, coded_ℕ};
+    ghost use Rattle.std.specs.Cmp.Lexicographic.{slice_cmp};
+    ghost use Rattle.std.specs.FinMap as map_of;
+    ghost use Rattle.std.specs.Ordering.{nat_cmp};
+    ghost use Rattle.pymark_core.specs.Environment.{environment_code};
+    ghost use Rattle.pylock_core.specs.contracts.edit.Policy as policy;
+
+    ghost Value = { SessionValue };
+
+    ghost coded = { Prim.hlevel (codes, environment_code, map_of.code {R = slice_cmp nat_cmp} (coded_list coded_ℕ) policy.the_row.coded) };
+
+    ghost use Rattle.pylock_core.specs.Inner.Parts.{IsSession, shown};
+
+    ghost view = { λ s. shown s.parts };
+
+    ghost invariant = { λ s. IsSession s.parts };
+}
+
+impl Session {
+    /// A session on the entries of the lock, with the numbers 1, 2, .. in their order. No extra is asked
+    /// for, and of the groups the default ones, whatever sets the environment held. Takes memory for what
+    /// it keeps of each entry.
+    pub fn start(
+        alloc: Global,
+        lock: Lock,
+        environment: Environment,
+        tags: TagList,
+    ) -> Result<Session, AllocError>
+        ensures { IfOk result (λ session. session.state ≡ first lock environment tags) }
+    {
+        let parts = start(alloc, lock, environment, tags)?;
+        Ok(Session { parts })
+    }
+
+    /// Makes an edit, and answers how many judgements it made. A refused edit leaves the session as it
+    /// was. `Del` takes no memory.
+    pub fn edit(&mut self, edit: Edit) -> Result<u64, EditError>
+        ensures accepted { IfOk result (λ judgements. apply edit self.old.state ≡ Ok self.new.state) }
+        ensures refused { IfErr result (λ error. (error ≡ Memory → ⊥) → apply edit self.old.state ≡ Err error) }
+        ensures kept { IfErr result (λ error. self.new ≡ self.old) }
+    {
+        edit_parts(&mut self.parts, edit)
+    }
+
+    /// The answer of the installation steps (PEP 751) on the state as it stands. Changes nothing; takes
+    /// memory for a stamp for each name and for the picks.
+    pub fn answer(&self, alloc: Global) -> Result<Answer, AllocError>
+        ensures { IfOk result (λ found. found ≡ answer self.now.state) }
+    {
+        answer(alloc, &self.parts)
+    }
+
+    /// The entry of the number.
+    pub fn entry(&self, number: u32) -> Option<&Entry>
+        ensures { option_copied result ≡ entry_at number self.now.state.entries }
+    {
+        entry_in(self.parts.entries.as_slice(), number)
+    }
+
+    /// The numbers judged by the last accepted edit, or by the start where there was none.
+    pub fn judged(&self) -> &[u32]
+        ensures { result.now ≡ self.now.judged }
+    {
+        self.parts.judged.as_slice()
+    }
+}

@@ -32,9 +32,15 @@ pub record State : Type 0 where
   pub tags : List TagValue
   pub policies : Policies
 
+-- the environment in which these groups are asked for beside those that were
+abbrev pub asking_for : List (List ℕ) → EnvironmentValue → EnvironmentValue
+asking_for [] environment = environment
+asking_for (group ∷ groups) environment = asking_for groups (with_group group environment)
+
 -- the environment with no extra asked for, and of the groups these
 abbrev pub asking : List (List ℕ) → EnvironmentValue → EnvironmentValue
-asking groups environment = record environment { extras = set.empty; groups = set.from_list groups }
+asking groups environment =
+    asking_for groups (record environment { extras = set.empty; groups = set.empty })
 
 -- the state at the start: the entries of the lock have the numbers 1, 2, .., no extra is asked for,
 -- and of the groups those that the lock names as the default

@@ -1,6 +1,6 @@
 //! The names of a session: each has a number, and by the number its policy and its entries.
 
-ghost use Rattle.std.specs.Prelude.{◌≡◌, ℕ, ◌<◌, nat_eq, not, List, Some, IfOk, OnOk, IsTrue, length, option_map, if◌then◌else◌};
+ghost use Rattle.std.specs.Prelude.{◌≡◌, ℕ, ◌<◌, nat_eq, not, List, Some, IfOk, OnOk, IsTrue, length, option_map, slice_set, if◌then◌else◌};
 ghost use Rattle.pylock_core.specs.Inner.Index.{Rises, list_at, moved};
 ghost use Rattle.pylock_core.specs.Inner.Names.{HasRoom, IsNames, members_of, number_in, policies_in, policy_at};
 ghost use Rattle.pylock_core.specs.Session.State.{with_policy};
@@ -59,6 +59,7 @@ pub(crate) fn find(names: &Names, name: &str) -> Option<usize>
 pub(crate) fn set_policy(names: &mut Names, number: usize, policy: Policy)
     requires is { IsNames names.old }
     requires within { number < length names.old.policies.items }
+    ensures items { names.new.policies.items ≡ slice_set names.old.policies.items number policy }
     ensures policies { (name : List ℕ) → number_in names.old name ≡ Some number
         → policies_in names.new ≡ with_policy (policies_in names.old) name policy }
     ensures members { (q : List ℕ) → members_of names.new q ≡ members_of names.old q }

@@ -13,7 +13,7 @@ use crate::entry::Entry;
 use crate::lock::Head;
 use crate::session::names::{Names, number_of, set_policy};
 use crate::session::pass::answer_of;
-use crate::session::room::push_within;
+use crate::session::room::{push_within, put_at};
 use crate::session::row::{Row, Sources};
 use crate::session::verdict::{HeadVerdict, Judge};
 use pymark_core::Environment;
@@ -171,8 +171,8 @@ pub(crate) fn put(
     ensures err { OnErr result (shown parts.new ≡ shown parts.old) }
 {
     let row = make_row(parts, place as u32 + 1, &entry, judged)?;
-    parts.rows[place] = Some(row);
-    parts.entries[place] = Some(entry);
+    put_at(&mut parts.rows, place, Some(row));
+    put_at(&mut parts.entries, place, Some(entry));
     Ok(())
 }
 
@@ -184,8 +184,8 @@ pub(crate) fn del(parts: &mut Parts, place: usize)
     ensures ok { state_of parts.new
         ≡ record (state_of parts.old) { entries = without (place + 1) (state_of parts.old).entries } }
 {
-    parts.rows[place] = None;
-    parts.entries[place] = None;
+    put_at(&mut parts.rows, place, None);
+    put_at(&mut parts.entries, place, None);
 }
 
 /// Puts the environment in place of the one that was there. Where there is no memory for it, all stays.
@@ -246,6 +246,21 @@ pub(crate) fn change_tags(
     Ok(())
 }
 
+/// The policies with this one under the number.
+fn policies_with(
+    alloc: Global,
+    policies: &[Policy],
+    number: usize,
+    policy: Policy,
+) -> Result<Vec<Policy>, AllocError>
+    requires { number < length policies.now }
+    ensures { IfOk result (λ new. new.items ≡ slice_set policies.now number policy) }
+{
+    let mut new: Vec<Policy> = policies.iter().copied().collect(alloc)?;
+    put_at(&mut new, number, policy);
+    Ok(new)
+}
+
 /// Gives the name, in normal form, the policy. Where there is no memory for it, all that is shown stays.
 pub(crate) fn change_policy(
     parts: &mut Parts,
@@ -260,8 +275,12 @@ pub(crate) fn change_policy(
     ensures err { OnErr result (shown parts.new ≡ shown parts.old) }
 {
     let number = number_of(parts.alloc, &mut parts.names, name)?;
-    let mut policies = parts.names.policies.clone()?;
-    policies[number] = policy;
+    let policies = policies_with(
+        parts.alloc,
+        parts.names.policies.as_slice(),
+        number,
+        policy,
+    )?;
     let judge = Judge {
         alloc: parts.alloc,
         environment: &parts.environment,
