@@ -1,54 +1,62 @@
 -- The reply of a one-shot command: what it prints, and its status.
-use Rattle.std.specs.Prelude.{◌≡◌, ℕ, ◌++◌, Bool, true, false, if◌then◌else◌, List, [], ◌∷◌, codes, Option, Some, None, Result, Ok, Err}
-use Rattle.std.specs.List.{flat_map}
-use Rattle.std.specs.declared.alloc.AllocError.{AllocError}
-use Rattle.pyver_core.specs.Grammar.{has_large, numbers}
+pub mod Parsed
+use Rattle.std.specs.Prelude.{ℕ, Bool, true, false, if◌then◌else◌, List, [], ◌∷◌, codes, Some}
+use Rattle.std.specs.Prelude.{Result, Ok, Err}
+use Rattle.std.specs.Result.{result_map_both}
 use Rattle.pyver_core.specs.Names.{is_name, norm}
 use Rattle.pyver_core.specs.Normal.{normal}
-use Rattle.pyver_core.specs.Reading.{version_of}
-use Rattle.pyver_core.specs.SetGrammar.{specifier_numbers}
-use Rattle.pyver_core.specs.SetReading.{set_of}
+use Rattle.pyver_core.specs.Results.{◌>>=◌}
 use Rattle.pyver_core.specs.Specifiers.{admits_all}
 use Rattle.pyver_core.specs.declared.specifier.Specifier.{Specifier}
-use Rattle.pylock.specs.Fields.{field}
-use Rattle.pylock.specs.Print.{line_of}
+use Rattle.pyver_core.specs.declared.error.SpecifierError.{SpecifierError}
+use Rattle.pyver_core.specs.declared.error.SpecifierError.TheVariants as specifier
+use Rattle.pyver_core.specs.declared.error.VersionError.{VersionError}
+use Rattle.pyver_core.specs.declared.error.VersionError.TheVariants as version
+use Rattle.pylock.specs.Reply.Parsed.{parsed_version, parsed_set}
 use Rattle.pylock.specs.Report.{Report}
-use Rattle.pylock.specs.declared.queries.Query.{Query}
-use Rattle.pylock.specs.declared.queries.Query.TheVariants.{Version, Match, Name}
+use Rattle.pylock.specs.Text.Field.{field, line_of}
+use Rattle.pylock.specs.declared.reply.query.Query.{Query}
+use Rattle.pylock.specs.declared.reply.query.Query.TheVariants.{Version, Match, Name}
 
-infixl 10 ◌>>=◌
-abbrev pub ◌>>=◌ : {X Y W : Type 0} → Result X W → (X → Result Y W) → Result Y W
-(Ok x) >>= f = f x
-(Err word) >>= f = Err word
-
--- what a text spells; or the first word where it spells nothing, and the second where one of its numbers is past the limit
-abbrev pub within_limit : {X : Type 0} → (X → List ℕ) → List ℕ → List ℕ → Option X → Result X (List ℕ)
-within_limit numbers syntax number None = Err syntax
-within_limit numbers syntax number (Some x) = if has_large (numbers x) then Err number else Ok x
-
--- the numbers of a specifier set
-abbrev pub set_numbers : List Specifier → List ℕ
-set_numbers specifiers = flat_map specifier_numbers specifiers
+-- an answer, or the word of a refusal; want of memory is no refusal, and is never printed
+abbrev pub worded : {V E : Type 0} → (E → List ℕ) → Result V E → Result V (List ℕ)
+worded word read = result_map_both (λ v. v) word read
 
 -- `version TEXT`: the normal form
+abbrev pub version_word : VersionError → List ℕ
+version_word version.Syntax = codes "syntax"
+version_word version.NumberTooLarge = codes "number"
+version_word version.Memory = codes "memory"
+
 abbrev pub version_answer : List ℕ → Result (List ℕ) (List ℕ)
-version_answer text = within_limit numbers (codes "syntax") (codes "number") (version_of text) >>= (λ v. Ok (normal v))
+version_answer text = do
+  v ← worded version_word (parsed_version text)
+  Ok (normal v)
+
+-- `match SET VERSION`: whether the set admits the version
+abbrev pub set_word : SpecifierError → List ℕ
+set_word specifier.Syntax = codes "set-syntax"
+set_word specifier.NumberTooLarge = codes "set-number"
+set_word specifier.Memory = codes "memory"
+
+abbrev pub matched_word : VersionError → List ℕ
+matched_word version.Syntax = codes "version-syntax"
+matched_word version.NumberTooLarge = codes "version-number"
+matched_word version.Memory = codes "memory"
 
 abbrev pub truth_word : Bool → List ℕ
 truth_word true = codes "true"
 truth_word false = codes "false"
 
--- whether the specifiers admit the version
 abbrev pub admits_answer : List Specifier → List ℕ → Result (List ℕ) (List ℕ)
-admits_answer specifiers text =
-    within_limit numbers (codes "version-syntax") (codes "version-number") (version_of text)
-    >>= (λ v. Ok (truth_word (admits_all specifiers v)))
+admits_answer specifiers text = do
+  v ← worded matched_word (parsed_version text)
+  Ok (truth_word (admits_all specifiers v))
 
--- `match SET VERSION`: whether the set admits the version
 abbrev pub match_answer : List ℕ → List ℕ → Result (List ℕ) (List ℕ)
-match_answer set text =
-    within_limit set_numbers (codes "set-syntax") (codes "set-number") (set_of set)
-    >>= (λ specifiers. admits_answer specifiers text)
+match_answer set text = do
+  specifiers ← worded set_word (parsed_set set)
+  admits_answer specifiers text
 
 -- `name TEXT`: the normal form
 abbrev pub name_answer : List ℕ → Result (List ℕ) (List ℕ)
@@ -68,8 +76,3 @@ reply_of (Err word) = record { text = line_of (codes "refused") (word ∷ []); s
 -- what a query prints, and its status
 abbrev pub reply : Query → Report
 reply query = reply_of (query_answer query)
-
--- the reply stands behind what stood before, and its status is the result; nothing is said where a growth was refused
-abbrev pub Pushes : List ℕ → List ℕ → Report → Result ℕ AllocError → Type 0
-Pushes old new reply (Ok status) = (new ≡ old ++ reply.text) × (status ≡ reply.status)
-Pushes old new reply (Err refused) = Unit {0}

@@ -1,23 +1,26 @@
 -- The lines of an input, and what one line asks for.
-use Rattle.std.specs.Prelude.{ℕ, ◌-◌, ◌==◌, ◌&&◌, not, false, nat_lt, nat_le, Bool, List, [], ◌∷◌, length, take, if◌then◌else◌, Option, Some, None, Result, Ok, Err, codes}
+use Rattle.std.specs.Prelude.{ℕ, ◌-◌, ◌==◌, ◌&&◌, not, false, nat_lt, nat_le, Bool, codes, length, take}
+use Rattle.std.specs.Prelude.{List, [], ◌∷◌, if◌then◌else◌, Option, Some, None, Result, Ok, Err}
 use Rattle.std.specs.Option.{option_map, ok_or}
 use Rattle.std.specs.List.{before_first, after_first, list_any, list_all, ends_with}
 use Rattle.std.specs.Str.{is_utf8, bytes_eq}
 use Rattle.std.specs.Char.{is_ascii_digit}
 use Rattle.std.specs.Str.Parse.{digits_value}
 use Rattle.pylock_core.specs.declared.edit.Edit.TheVariants.{Del}
-use Rattle.pylock.specs.declared.lines.Command.{Command}
-use Rattle.pylock.specs.declared.lines.Command.TheVariants as command
-use Rattle.pylock.specs.declared.lines.LineRefusal.{LineRefusal}
-use Rattle.pylock.specs.declared.lines.LineRefusal.TheVariants as refusal
-use Rattle.pylock.specs.declared.lines.TheConstants.{LINE_LIMIT}
+use Rattle.pylock_core.specs.declared.edit.EditError.{EditError}
+use Rattle.pylock_core.specs.declared.edit.EditError.TheVariants as edit_error
+use Rattle.pylock.specs.declared.line.Command.{Command}
+use Rattle.pylock.specs.declared.line.Command.TheVariants as command
+use Rattle.pylock.specs.declared.line.LineRefusal.{LineRefusal}
+use Rattle.pylock.specs.declared.line.LineRefusal.TheVariants as refusal
 
 -- a byte put before the first line, or a line of its own where there is none
 abbrev pub onto_first : ℕ → List (List ℕ) → List (List ℕ)
 onto_first b [] = (b ∷ []) ∷ []
 onto_first b (line ∷ lines) = (b ∷ line) ∷ lines
 
--- The lines of an input, without their LFs: a line ends at LF, and what stands after the last LF is a line where it is not empty.
+-- The lines of an input, without their LFs: a line ends at LF, and what stands after the last LF is a line where it is
+-- not empty.
 abbrev pub input_lines : List ℕ → List (List ℕ)
 input_lines [] = []
 input_lines (b ∷ rest) = if b == 10 then [] ∷ input_lines rest else onto_first b (input_lines rest)
@@ -45,7 +48,8 @@ is_space b = b == 32
 -- one to six digits, the first not `0`
 abbrev pub is_entry_number : List ℕ → Bool
 is_entry_number [] = false
-is_entry_number (first ∷ rest) = not (first == 48) && nat_le (length (first ∷ rest)) 6 && list_all is_ascii_digit (first ∷ rest)
+is_entry_number (first ∷ rest) =
+    not (first == 48) && nat_le (length (first ∷ rest)) 6 && list_all is_ascii_digit (first ∷ rest)
 
 abbrev pub entry_number : List ℕ → Option ℕ
 entry_number text = if is_entry_number text then Some (digits_value 10 text) else None
@@ -56,7 +60,8 @@ show_after (Some argument) = Err refusal.Argument
 
 abbrev pub del_after : Option (List ℕ) → Result Command LineRefusal
 del_after None = Err refusal.Argument
-del_after (Some argument) = ok_or (option_map (λ number. command.Edit (Del number)) (entry_number argument)) refusal.Argument
+del_after (Some argument) =
+    ok_or (option_map (λ number. command.Edit (Del number)) (entry_number argument)) refusal.Argument
 
 -- what a command's word and its argument ask for
 abbrev pub command_after : List ℕ → Option (List ℕ) → Result Command LineRefusal
@@ -67,11 +72,20 @@ command_after word argument =
 -- The command is the text to the first space, and its argument what follows that space, absent where there is none.
 abbrev pub text_command : List ℕ → Result Command LineRefusal
 text_command text =
-    if list_any is_space text then command_after (before_first is_space text) (Some (after_first is_space text))
+    if list_any is_space text
+    then command_after (before_first is_space text) (Some (after_first is_space text))
     else command_after text None
+
+-- the most bytes that a line has before its LF, a CR counted
+abbrev pub line_limit : ℕ
+line_limit = 1048576
 
 -- what a line asks for, or its first refusal
 abbrev pub command_of : List ℕ → Result Command LineRefusal
 command_of line =
-    if nat_lt LINE_LIMIT (length line) then Err refusal.Long
+    if nat_lt line_limit (length line) then Err refusal.Long
     else (if is_utf8 (without_cr line) then text_command (without_cr line) else Err refusal.Text)
+
+-- how a refused edit refuses its line
+abbrev pub edit_refusal : EditError → LineRefusal
+edit_refusal edit_error.NoEntry = refusal.NoEntry

@@ -1,5 +1,5 @@
--- The fields of a printed line.
-use Rattle.std.specs.Prelude.{ℕ, Bool, ◌==◌, List, [], ◌∷◌, if◌then◌else◌, Option, Some, None, codes}
+-- The fields of a printed line, which ends in LF.
+use Rattle.std.specs.Prelude.{ℕ, Bool, ◌==◌, ◌++◌, List, [], ◌∷◌, if◌then◌else◌, Option, Some, None, codes}
 use Rattle.std.specs.List.{flat_map}
 use Rattle.std.specs.Str.{bytes_eq}
 
@@ -24,3 +24,11 @@ is_plain b = bytes_eq (escape b) (b ∷ [])
 abbrev pub field : Option (List ℕ) → List ℕ
 field None = codes "-"
 field (Some text) = if bytes_eq text (codes "-") then codes "\\-" else escaped text
+
+-- fields, each after a TAB
+abbrev pub tabbed : List (List ℕ) → List ℕ
+tabbed fields = flat_map (λ f. 9 ∷ f) fields
+
+-- a line of fields, joined by TABs
+abbrev pub line_of : List ℕ → List (List ℕ) → List ℕ
+line_of first rest = first ++ tabbed rest ++ codes "\n"

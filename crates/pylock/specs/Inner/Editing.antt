@@ -1,17 +1,20 @@
--- The editing of a session byte by byte: what `report` says of the lines, as a run has it in hand after a part of the input.
-use Rattle.std.specs.Prelude.{ℕ, ◌+◌, ◌==◌, ◌++◌, ◌||◌, Bool, false, if◌then◌else◌, List, [], ◌∷◌, length, take, min, Result, Ok, Err}
+-- The editing of a session byte by byte: what `report` says of the lines, as a run has it in hand after a part of the
+-- input.
+use Rattle.std.specs.Prelude.{ℕ, ◌+◌, ◌==◌, ◌++◌, ◌||◌, Bool, false, if◌then◌else◌, length, take, min}
+use Rattle.std.specs.Prelude.{List, [], ◌∷◌, Result, Ok, Err}
 use Rattle.std.specs.Result.{is_err}
 use Rattle.pylock_core.specs.State.{State}
 use Rattle.pylock_core.specs.Steps.{answer}
-use Rattle.pylock.specs.declared.lines.LineRefusal.{LineRefusal}
+use Rattle.pylock.specs.declared.line.LineRefusal.{LineRefusal}
 use Rattle.pylock.specs.Report.{is_plan, after_line, state_after, line_text}
-use Rattle.pylock.specs.declared.lines.TheConstants.{LINE_LIMIT}
+use Rattle.pylock.specs.Line.{line_limit}
 
 -- what is kept of a line: enough to tell that it is too long
 unfoldable pub kept : List ℕ → List ℕ
-kept line = take (LINE_LIMIT + 1) line
+kept line = take (line_limit + 1) line
 
--- the state of the session, whether its last answer was a plan, the number of ended lines, whether one of them was refused, and what is kept of the line that is being read
+-- the state of the session, whether its last answer was a plan, the number of ended lines, whether one of them was
+-- refused, and what is kept of the line that is being read
 pub record At : Type 0 where
   pub state : State
   pub plan : Bool
@@ -21,7 +24,13 @@ pub record At : Type 0 where
 
 -- before the first byte of the input
 abbrev pub start : State → At
-start state = record { state = state; plan = is_plan (answer state); ended = 0; refused = false; line = [] }
+start state = record {
+  state = state;
+  plan = is_plan (answer state);
+  ended = 0;
+  refused = false;
+  line = [];
+}
 
 -- whether the last answer is a plan, after a line
 abbrev pub plan_after : Bool → Result State LineRefusal → Bool
@@ -52,7 +61,8 @@ bytes_done at (b ∷ bs) = bytes_done (if b == 10 then end_line at else keep_byt
 
 abbrev pub bytes_text : At → List ℕ → List ℕ
 bytes_text at [] = []
-bytes_text at (b ∷ bs) = if b == 10 then end_text at ++ bytes_text (end_line at) bs else bytes_text (keep_byte at b) bs
+bytes_text at (b ∷ bs) =
+    if b == 10 then end_text at ++ bytes_text (end_line at) bs else bytes_text (keep_byte at b) bs
 
 -- the end of the input, where a line without LF counts if it is not empty
 abbrev pub finish : At → List ℕ → At
