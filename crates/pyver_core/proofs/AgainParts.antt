@@ -3,7 +3,8 @@ use Rattle.std.proofs.Common.{◌≡◌, ℕ, ◌≤◌, true, false, List, [], 
 use Rattle.std.specs.Prelude.{codes, ◌==◌}
 use Rattle.std.specs.Char.{is_ascii_digit, is_ascii_alphanumeric}
 use Rattle.pyver_core.specs.Grammar.{is_separator, is_dot, starts, IsNumber, IsTagged, IsPreWord, word_a, word_alpha, word_b, word_beta, word_c, word_rc, word_pre, word_preview, IsPre, IsPostWord, word_post, word_rev, word_r, IsPost, IsDev, IsLocal}
-use Rattle.pyver_core.specs.Reading.{◌>>=◌, onto, optional_at, many_at, after_separator, number_at, word_at, either, dotted_at, tail_at, pre_word_at, post_word_at, tagged_pre_at, dashed_at, tagged_post_at, dashed_or_tagged_post_at, tagged_dev_at, added_at, separated_at, local_at}
+use Rattle.pyver_core.specs.Options.{◌>>=◌, either}
+use Rattle.pyver_core.specs.Reading.{onto, optional_at, many_at, after_separator, number_at, word_at, dotted_at, tail_at, pre_word_at, post_word_at, tagged_pre_at, dashed_at, tagged_post_at, dashed_or_tagged_post_at, tagged_dev_at, added_at, separated_at, local_at}
 use Rattle.pyver_core.specs.declared.part.PreKind.{PreKind}
 use Rattle.pyver_core.specs.declared.part.LocalPart.{LocalPart}
 use Rattle.pyver_core.proofs.First.{begins_in, is_letter, begins_not, begins_wider, whites, digit_not_letter}

@@ -1,11 +1,11 @@
 -- Reading the pieces of a set one after the other.
 use Rattle.std.proofs.Common.{◌≡◌, ℕ, Bool, true, false, List, [], ◌∷◌, ◌++◌, Option, Some, None, refl, sym, ap, ◌∙◌, append_assoc, append-nil}
-use Rattle.std.specs.Prelude.{◌||◌, flat_map, option_map, IsTrue}
+use Rattle.std.specs.Prelude.{◌||◌, flat_map, option_map}
 use Rattle.std.specs.List.{list_all}
 use Rattle.std.proofs.lemmas.Grind.{flat_map-append}
 use Rattle.std.proofs.lemmas.Iterator.{YieldsList}
 use Rattle.pyver_core.specs.Grammar.{has_large, is_white}
-use Rattle.pyver_core.specs.SetGrammar.{IsLargeSet, specifier_numbers}
+use Rattle.pyver_core.specs.SetGrammar.{specifier_numbers}
 use Rattle.pyver_core.specs.SetReading.{specifier_of, specifiers_of}
 use Rattle.pyver_core.specs.declared.specifier.Specifier.{Specifier}
 use Rattle.pyver_core.proofs.Limits.{has_large-append, or_false, or_true, or_true_right}
@@ -101,17 +101,15 @@ read_large piece left all items more is_large s other some past r = record {
   large = λ _. more-numbers r.so_far s ∙ or_true_right _ _ past;
 }
 
-large-or-not : (b : Bool) → b ≡ false → IsTrue b → ⊥
-large-or-not b e h = let n : false ≡ true = sym e ∙ h in cc
-
-pub read_end : (all : List (List ℕ)) (items : List Specifier) → ReadSoFar [] all items false → (specifiers_of all ≡ Some items) × (IsLargeSet items → ⊥)
+pub read_end : (all : List (List ℕ)) (items : List Specifier) → ReadSoFar [] all items false
+    → (specifiers_of all ≡ Some items) × (has_large (flat_map specifier_numbers items) ≡ false)
 unfolding specifiers_of
 read_end all items r =
     let same = (r.small refl).0 in
     let within : has_large (flat_map specifier_numbers items) ≡ false = ap (λ xs. has_large (flat_map specifier_numbers xs)) same ∙ (r.small refl).1 in
-    (r.whole ∙ ap Some (append-nil r.so_far ∙ sym same), large-or-not _ within)
+    (r.whole ∙ ap Some (append-nil r.so_far ∙ sym same), within)
 
 pub read_end_large : (all : List (List ℕ)) (items : List Specifier) → ReadSoFar [] all items true
-    → (specifiers : List Specifier) × (specifiers_of all ≡ Some specifiers) × IsLargeSet specifiers
+    → (specifiers : List Specifier) × (specifiers_of all ≡ Some specifiers) × (has_large (flat_map specifier_numbers specifiers) ≡ true)
 unfolding specifiers_of
 read_end_large all items r = (r.so_far, r.whole ∙ ap Some (append-nil r.so_far), r.large refl)

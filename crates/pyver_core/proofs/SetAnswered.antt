@@ -1,12 +1,15 @@
 -- What parsing a specifier set answers, over the grammar.
-use Rattle.std.proofs.Common.{◌≡◌, List, ℕ, Some, None, Result, Ok, Err, sym, ◌∙◌}
-use Rattle.std.specs.Prelude.{IfOk, IsErrOf}
-use Rattle.pyver_core.specs.SetAnswer.{AnswersSet}
-use Rattle.pyver_core.specs.SetGrammar.{IsLargeSet, SetText}
+use Rattle.std.proofs.Common.{◌≡◌, true, false, List, ℕ, Some, None, Result, Ok, Err, refl, sym, ◌∙◌}
+use Rattle.std.specs.Prelude.{flat_map, IfOk, IsErrOf}
+use Rattle.pyver_core.specs.Agreement.{Gives}
+use Rattle.pyver_core.specs.Grammar.{has_large}
+use Rattle.pyver_core.specs.Parsed.{parsed_set}
+use Rattle.pyver_core.specs.SetGrammar.{IsLargeSet, SetText, specifier_numbers}
 use Rattle.pyver_core.specs.SetReading.{set_of}
 use Rattle.pyver_core.specs.declared.error.SpecifierError.{SpecifierError}
 use Rattle.pyver_core.specs.declared.error.SpecifierError.TheVariants.{Syntax, NumberTooLarge, Memory}
 use Rattle.pyver_core.specs.declared.specifier.Specifier.{Specifier}
+use Rattle.pyver_core.proofs.Outcomes.{outcome-Ok, outcome-large, outcome-syntax, within-false, within-true}
 use Rattle.pyver_core.proofs.SetAgain.{set_again}
 use Rattle.pyver_core.proofs.SetTakes.{set_takes}
 
@@ -14,18 +17,55 @@ use Rattle.pyver_core.proofs.SetTakes.{set_takes}
 abbrev pub Set : Type 0
 Set = Result (List Specifier) SpecifierError
 
-pub set_ok : (text : List ℕ) (r : Set) → AnswersSet (λ set. set) r (set_of text) → IfOk r (λ set. SetText text set)
-set_ok text (Ok set) a = set_takes text set a.0
+-- the numbers of a set
+abbrev numbers_of : List Specifier → List ℕ
+numbers_of specifiers = flat_map specifier_numbers specifiers
+
+-- the answer to a text
+abbrev pub GivesSet : List ℕ → Set → Type 0
+GivesSet text r = Gives Memory (λ set. set) r (parsed_set text)
+
+read : (text : List ℕ) (set : List Specifier) → parsed_set text ≡ Ok set → (set_of text ≡ Some set) × (IsLargeSet set → ⊥)
+unfolding parsed_set
+read text set e = outcome-Ok Syntax NumberTooLarge numbers_of (set_of text) set e
+
+pub set_ok : (text : List ℕ) (r : Set) → GivesSet text r → IfOk r (λ set. SetText text set)
+set_ok text (Ok set) a = set_takes text set (read text set a).0
 set_ok text (Err e) a = tt
 
-pub set_syntax : (text : List ℕ) (r : Set) → AnswersSet (λ set. set) r (set_of text) → IsErrOf r Syntax → (s : List Specifier) → SetText text s → ⊥
+pub set_fits : (text : List ℕ) (r : Set) → GivesSet text r → IfOk r (λ set. IsLargeSet set → ⊥)
+set_fits text (Ok set) a = (read text set a).1
+set_fits text (Err e) a = tt
+
+pub set_syntax : (text : List ℕ) (r : Set) → GivesSet text r → IsErrOf r Syntax → (s : List Specifier) → SetText text s → ⊥
+unfolding parsed_set
 set_syntax text (Ok set) a is s written = absurd cc
-set_syntax text (Err Syntax) a is s written = let both : None ≡ Some s = sym a ∙ set_again text s written in cc
+set_syntax text (Err Syntax) a is s written =
+    let none : set_of text ≡ None = outcome-syntax Syntax NumberTooLarge numbers_of (set_of text) (λ e. cc e) (a (λ e. cc e)) in
+    let both : None ≡ Some s = sym none ∙ set_again text s written in cc
 set_syntax text (Err NumberTooLarge) a is s written = absurd cc
 set_syntax text (Err Memory) a is s written = absurd cc
 
-pub set_large : (text : List ℕ) (r : Set) → AnswersSet (λ set. set) r (set_of text) → IsErrOf r NumberTooLarge → (s : List Specifier) × SetText text s × IsLargeSet s
+pub set_large : (text : List ℕ) (r : Set) → GivesSet text r → IsErrOf r NumberTooLarge → (s : List Specifier) × SetText text s × IsLargeSet s
+unfolding parsed_set
 set_large text (Ok set) a is = absurd cc
 set_large text (Err Syntax) a is = absurd cc
-set_large text (Err NumberTooLarge) a is = (a.0, set_takes text a.0 a.1, a.2)
+set_large text (Err NumberTooLarge) a is =
+    let some = outcome-large Syntax NumberTooLarge numbers_of (set_of text) (λ e. cc e) (a (λ e. cc e)) in
+    (some.0, set_takes text some.0 some.1, some.2)
 set_large text (Err Memory) a is = absurd cc
+
+-- what is made of the specifiers that a text writes
+pub set_within : (text : List ℕ) (set : List Specifier) → set_of text ≡ Some set
+    → has_large (numbers_of set) ≡ false → parsed_set text ≡ Ok set
+unfolding parsed_set
+set_within text set some small = rw some (within-false NumberTooLarge (numbers_of set) set small)
+
+pub set_past : (text : List ℕ) (set : List Specifier) → set_of text ≡ Some set
+    → has_large (numbers_of set) ≡ true → parsed_set text ≡ Err NumberTooLarge
+unfolding parsed_set
+set_past text set some past = rw some (within-true NumberTooLarge (numbers_of set) set past)
+
+pub set_refused : (text : List ℕ) → set_of text ≡ None → parsed_set text ≡ Err Syntax
+unfolding parsed_set
+set_refused text none = rw none refl

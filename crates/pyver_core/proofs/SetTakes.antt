@@ -12,7 +12,8 @@ use Rattle.std.proofs.lemmas.Slice.Eq.{starts_is}
 use Rattle.pyver_core.specs.Grammar.{Spells, is_white}
 use Rattle.pyver_core.specs.Parts.{Parts}
 use Rattle.pyver_core.specs.Prefix.{Prefix}
-use Rattle.pyver_core.specs.Reading.{after_white, base_at, either, version_of}
+use Rattle.pyver_core.specs.Options.{either}
+use Rattle.pyver_core.specs.Reading.{after_white, base_at, version_of}
 use Rattle.pyver_core.specs.SetGrammar.{ArePieces, IsOperand, IsSpecifier, SetText, SpellsArbitrary, SpellsPrefix, blank_piece, is_arbitrary, no_piece, specifier_piece}
 use Rattle.pyver_core.specs.SetReading.{arbitrary_of, behind_operator, compatible_of, is_star, operand_of, operator_among, operator_at, operators, prefix_of, public_of, set_of, specifier_of, specifiers_of}
 use Rattle.pyver_core.specs.SpecifierText.{operator_of, operator_text}

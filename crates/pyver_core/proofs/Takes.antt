@@ -9,7 +9,8 @@ use Rattle.std.proofs.lemmas.List.{take-append-drop}
 use Rattle.std.proofs.lemmas.List.Folds.{length-prefix_len}
 use Rattle.std.proofs.lemmas.Option.{cond_some}
 use Rattle.pyver_core.specs.Grammar.{is_white, is_separator, is_dot, starts, IsOptionalSeparator, IsCount, IsNumber, IsWord, AreBehind, IsSegment}
-use Rattle.pyver_core.specs.Reading.{◌>>=◌, onto, behind_at, many, many_at, after_white, after_separator, count_at, number_at, word_at, either, dotted_at, segment_of, segment_at, separated_at, added_at, dashed_at}
+use Rattle.pyver_core.specs.Options.{◌>>=◌, either}
+use Rattle.pyver_core.specs.Reading.{onto, behind_at, many, many_at, after_white, after_separator, count_at, number_at, word_at, dotted_at, segment_of, segment_at, separated_at, added_at, dashed_at}
 use Rattle.pyver_core.specs.declared.part.LocalPart.{LocalPart}
 use Rattle.pyver_core.proofs.Fronts.{list_all_front}
 use Rattle.pyver_core.proofs.Sight.{sight, option_sight}

@@ -6,7 +6,8 @@ use Rattle.std.proofs.lemmas.Bool.{eqb-true}
 use Rattle.std.proofs.lemmas.Option.{cond_some}
 use Rattle.pyver_core.specs.Parts.{Parts}
 use Rattle.pyver_core.specs.Grammar.{is_white, is_separator, is_dot, starts, IsNumber, IsWord, IsPrefix, IsEpoch, IsRelease, IsTagged, IsPreWord, word_a, word_alpha, word_b, word_beta, word_c, word_rc, word_pre, word_preview, IsPre, IsPostWord, word_post, word_rev, word_r, IsPost, IsDev, IsSegment, IsLocal, Spells}
-use Rattle.pyver_core.specs.Reading.{◌>>=◌, onto, optional_at, many_at, after_white, after_separator, number_at, word_at, either_at, after_prefix, head_at, dotted_at, base_at, tail_at, pre_word_at, post_word_at, tagged_pre_at, dashed_at, tagged_post_at, dashed_or_tagged_post_at, tagged_dev_at, separated_at, added_at, local_at, parts_at, version_of}
+use Rattle.pyver_core.specs.Options.{◌>>=◌}
+use Rattle.pyver_core.specs.Reading.{onto, optional_at, many_at, after_white, after_separator, number_at, word_at, either_at, after_prefix, head_at, dotted_at, base_at, tail_at, pre_word_at, post_word_at, tagged_pre_at, dashed_at, tagged_post_at, dashed_or_tagged_post_at, tagged_dev_at, separated_at, added_at, local_at, parts_at, version_of}
 use Rattle.pyver_core.specs.declared.part.PreKind.{PreKind}
 use Rattle.pyver_core.specs.declared.part.PreKind.TheVariants.{A, B, Rc}
 use Rattle.pyver_core.specs.declared.part.LocalPart.{LocalPart}

@@ -1,5 +1,4 @@
 pub mod Agreement
-pub mod Answer
 pub mod Borrowed
 pub mod Drafted
 pub mod Grammar
@@ -10,12 +9,12 @@ pub mod Normal
 pub mod Options
 pub mod Order
 pub mod OrderLaws
+pub mod Parsed
 pub mod Parts
 pub mod Phases
 pub mod Prefix
 pub mod Reading
 pub mod Results
-pub mod SetAnswer
 pub mod SetGrammar
 pub mod SetReading
 pub mod Specified

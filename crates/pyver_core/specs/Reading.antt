@@ -6,6 +6,7 @@ use Rattle.std.specs.Char.{is_ascii_digit, is_ascii_alphanumeric}
 use Rattle.std.specs.List.{list_all, prefix_len}
 use Rattle.std.specs.Str.{str_to_ascii_lowercase}
 use Rattle.std.specs.Str.Parse.{digits_value}
+use Rattle.pyver_core.specs.Options.{◌>>=◌, either}
 use Rattle.pyver_core.specs.Parts.{Parts}
 use Rattle.pyver_core.specs.Grammar.{is_white, is_separator, is_dot, starts}
 use Rattle.pyver_core.specs.declared.part.PreKind.{PreKind}
@@ -14,16 +15,6 @@ use Rattle.pyver_core.specs.declared.part.LocalPart.{LocalPart}
 use Rattle.pyver_core.specs.declared.part.LocalPart.TheVariants.{Number, Text}
 
 -- ---- steps
-
-infixl 10 ◌>>=◌
-abbrev pub ◌>>=◌ : {X Y : Type 0} → Option X → (X → Option Y) → Option Y
-None >>= f = None
-(Some x) >>= f = f x
-
--- the first that is there
-abbrev pub either : {X : Type 0} → Option X → Option X → Option X
-either None other = other
-either (Some x) other = Some x
 
 -- an item before others
 abbrev pub onto : {X : Type 0} → X → List X × List ℕ → List X × List ℕ

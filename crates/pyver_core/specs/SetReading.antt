@@ -5,7 +5,8 @@ use Rattle.std.specs.List.{list_all, prefix_len, slice_split, starts_with}
 use Rattle.pyver_core.specs.Grammar.{is_white}
 use Rattle.pyver_core.specs.Parts.{Parts}
 use Rattle.pyver_core.specs.Prefix.{Prefix}
-use Rattle.pyver_core.specs.Reading.{◌>>=◌, after_white, base_at, either, version_of}
+use Rattle.pyver_core.specs.Options.{◌>>=◌, either}
+use Rattle.pyver_core.specs.Reading.{after_white, base_at, version_of}
 use Rattle.pyver_core.specs.SetGrammar.{is_arbitrary}
 use Rattle.pyver_core.specs.SpecifierText.{operator_text}
 use Rattle.pyver_core.specs.declared.specifier.Operator.{Operator}

@@ -4,7 +4,7 @@ ghost use Rattle.std.specs.Prelude.{◌≡◌};
 ghost use Rattle.pyver_core.specs.declared.error.SpecifierError.TheVariants as specifier;
 ghost use Rattle.pyver_core.specs.declared.error.VersionError.TheVariants as version;
 
-use std::alloc::{AllocError, AllocFailed};
+use std::alloc::AllocError;
 use thiserror::Error;
 
 /// Why a text isn't taken as a version.
@@ -35,34 +35,18 @@ pub enum SpecifierError {
     Memory,
 }
 
-impl From<AllocError> for VersionError {
+impl<E: Into<AllocError> + Drop> From<E> for VersionError {
     ghost from_gives = { λ _ e. e ≡ version.Memory };
 
-    fn from(_refused: AllocError) -> VersionError {
+    fn from(_refused: E) -> VersionError {
         VersionError::Memory
     }
 }
 
-impl From<AllocError> for SpecifierError {
+impl<E: Into<AllocError> + Drop> From<E> for SpecifierError {
     ghost from_gives = { λ _ e. e ≡ specifier.Memory };
 
-    fn from(_refused: AllocError) -> SpecifierError {
-        SpecifierError::Memory
-    }
-}
-
-impl<T: Drop> From<AllocFailed<T>> for VersionError {
-    ghost from_gives = { λ _ e. e ≡ version.Memory };
-
-    fn from(_refused: AllocFailed<T>) -> VersionError {
-        VersionError::Memory
-    }
-}
-
-impl<T: Drop> From<AllocFailed<T>> for SpecifierError {
-    ghost from_gives = { λ _ e. e ≡ specifier.Memory };
-
-    fn from(_refused: AllocFailed<T>) -> SpecifierError {
+    fn from(_refused: E) -> SpecifierError {
         SpecifierError::Memory
     }
 }

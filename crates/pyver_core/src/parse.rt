@@ -1,10 +1,10 @@
 //! Versions from their texts.
 
 ghost use Rattle.std.specs.Prelude.{◌≡◌, IfOk, IsErrOf};
-ghost use Rattle.pyver_core.specs.Answer.{Answers};
+ghost use Rattle.pyver_core.specs.Agreement.{Gives};
 ghost use Rattle.pyver_core.specs.Grammar.{Spells, IsLarge};
+ghost use Rattle.pyver_core.specs.Parsed.{parsed_version};
 ghost use Rattle.pyver_core.specs.Parts.{Parts};
-ghost use Rattle.pyver_core.specs.Reading.{version_of};
 
 use crate::error::VersionError;
 use crate::reading::read_version;
@@ -23,17 +23,19 @@ impl Version {
         ensures fits { IfOk result (λ v. IsLarge v → ⊥) }
 
         ensures syntax { IsErrOf result VersionError.Syntax → (p : Parts) → Spells text.now p → ⊥ }
-        ensures large { IsErrOf result VersionError.NumberTooLarge → (p : Parts) × Spells text.now p × IsLarge p }
+        ensures large { IsErrOf result VersionError.NumberTooLarge
+            → (p : Parts) × Spells text.now p × IsLarge p }
 
         // The same, over the one answer of the grammar.
-        ensures exact { Answers result (version_of text.now) }
+        ensures exact { Gives VersionError.Memory (λ v. v) result (parsed_version text.now) }
     {
-        read_whole(alloc, text.as_bytes())
+        version_from_bytes(alloc, text.as_bytes())
     }
 }
 
-fn read_whole(alloc: Global, bytes: &[u8]) -> Result<Version, VersionError>
-    ensures { Answers result (version_of bytes.now) }
+#[tactic(auto, using(crate::proofs::Answered::version_refused))]
+fn version_from_bytes(alloc: Global, bytes: &[u8]) -> Result<Version, VersionError>
+    ensures { Gives VersionError.Memory (λ v. v) result (parsed_version bytes.now) }
 {
     match read_version(bytes) {
         Some(draft) => draft.to_version(alloc),

@@ -1,10 +1,10 @@
 //! Specifier sets from their texts.
 
 ghost use Rattle.std.specs.Prelude.{◌≡◌, List, ◌∷◌, ◌++◌, [], IfOk, IsErrOf, MatchBool, true, false};
+ghost use Rattle.pyver_core.specs.Agreement.{Gives};
 ghost use Rattle.pyver_core.specs.Grammar.{has_large};
-ghost use Rattle.pyver_core.specs.SetAnswer.{AnswersSet};
+ghost use Rattle.pyver_core.specs.Parsed.{parsed_set};
 ghost use Rattle.pyver_core.specs.SetGrammar.{IsLargeSet, SetText, specifier_numbers};
-ghost use Rattle.pyver_core.specs.SetReading.{set_of};
 ghost use Rattle.pyver_core.specs.Specified.{specified};
 ghost use Rattle.pyver_core.specs.declared.specifier.Specifier.{Specifier};
 
@@ -31,14 +31,14 @@ impl SpecifierSet {
             → (s : List Specifier) × SetText text.now s × IsLargeSet s }
 
         // The same, over the one answer of the grammar.
-        ensures exact { AnswersSet (λ set. set) result (set_of text.now) }
+        ensures exact { Gives SpecifierError.Memory (λ set. set) result (parsed_set text.now) }
     {
-        read_set(alloc, text)
+        set_from_text(alloc, text)
     }
 }
 
-fn read_set(alloc: Global, text: &str) -> Result<SpecifierSet, SpecifierError>
-    ensures { AnswersSet (λ set. set) result (set_of text.now) }
+fn set_from_text(alloc: Global, text: &str) -> Result<SpecifierSet, SpecifierError>
+    ensures { Gives SpecifierError.Memory (λ set. set) result (parsed_set text.now) }
 {
     let items = read_items(alloc, text)?;
     Ok(SpecifierSet::from_items(alloc, items)?)
@@ -46,7 +46,7 @@ fn read_set(alloc: Global, text: &str) -> Result<SpecifierSet, SpecifierError>
 
 /// The specifiers of a set. A number past the limit is answered only once the whole text was read.
 fn read_items(alloc: Global, text: &str) -> Result<Vec<Specifier>, SpecifierError>
-    ensures { AnswersSet (λ items. items.items) result (set_of text.now) }
+    ensures { Gives SpecifierError.Memory (λ items. items.items) result (parsed_set text.now) }
 {
     let mut items = Vec::new(alloc);
     let mut is_large = false;

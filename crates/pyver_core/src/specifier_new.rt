@@ -1,10 +1,10 @@
 //! Specifiers from an operator and the text of an operand.
 
 ghost use Rattle.std.specs.Prelude.{◌≡◌, IfOk, IsErrOf, IsTrue};
+ghost use Rattle.pyver_core.specs.Agreement.{Gives};
 ghost use Rattle.pyver_core.specs.Grammar.{has_large};
-ghost use Rattle.pyver_core.specs.SetAnswer.{AnswersSpecifier};
+ghost use Rattle.pyver_core.specs.Parsed.{parsed_operand};
 ghost use Rattle.pyver_core.specs.SetGrammar.{IsOperand, specifier_numbers};
-ghost use Rattle.pyver_core.specs.SetReading.{operand_of};
 ghost use Rattle.pyver_core.specs.SpecifierText.{operator_of};
 ghost use Rattle.pyver_core.specs.declared.specifier.Specifier.{Specifier};
 
@@ -34,14 +34,20 @@ impl Specifier {
             × IsTrue (has_large (specifier_numbers s)) }
 
         // The same, over the one answer of the grammar.
-        ensures exact { AnswersSpecifier result (operand_of operator operand.now) }
+        ensures exact { Gives SpecifierError.Memory (λ s. s) result
+            (parsed_operand operator operand.now) }
     {
-        read_one(alloc, operator, operand)
+        specifier_from_operand(alloc, operator, operand)
     }
 }
 
-fn read_one(alloc: Global, operator: Operator, operand: &str) -> Result<Specifier, SpecifierError>
-    ensures { AnswersSpecifier result (operand_of operator operand.now) }
+#[tactic(auto, using(crate::proofs::OperandAnswered::operand_refused))]
+fn specifier_from_operand(
+    alloc: Global,
+    operator: Operator,
+    operand: &str,
+) -> Result<Specifier, SpecifierError>
+    ensures { Gives SpecifierError.Memory (λ s. s) result (parsed_operand operator operand.now) }
 {
     let Some(draft) = read_operand(operator, operand) else {
         return Err(SpecifierError::Syntax);

@@ -11,6 +11,7 @@ use Rattle.pyver_core.specs.SetReading.{set_of, specifier_of}
 use Rattle.pyver_core.specs.Specified.{specified}
 use Rattle.pyver_core.specs.declared.specifier.Specifier.{Specifier}
 use Rattle.pyver_core.proofs.ReadSoFar.{ReadSoFar, next_piece, no_piece, read_blank, read_end, read_end_large, read_large, read_refused, read_start, read_within}
+use Rattle.pyver_core.proofs.SetAnswered.{set_past, set_refused, set_within}
 use Rattle.pyver_core.proofs.set_parse.read_items.Goals as goal
 
 abbrev pieces : List ℕ → List (List ℕ)
@@ -50,7 +51,7 @@ returns-in_default c =
     c.in-Some.ensures.steps c.loop-piece.invariant in
     let other : list_all is_white c.in-Some.piece.now ≡ false = ap (list_all is_white) (sym c.as_bytes.ensures.value) ∙ sym c.is_blank.ensures ∙ c.if-is_blank.false in
     let none : specifier_of c.in-Some.piece.now ≡ None = rw c.in_default.is at (sym c.read_specifier.ensures) in
-    read_refused c.in-Some.piece.now at.0 (pieces c.args.text.now) c.loop-piece.items.items c.loop-piece.is_large other none at.2
+    λ _. set_refused c.args.text.now (read_refused c.in-Some.piece.now at.0 (pieces c.args.text.now) c.loop-piece.items.items c.loop-piece.is_large other none at.2)
 
 pub loop-piece-preserved-then-not-is_within : goal.loop-piece-preserved-then-not-is_within
 loop-piece-preserved-then-not-is_within c =
@@ -86,7 +87,8 @@ returns-then-is_large c =
     let i = c.loop-piece.invariant in
     let none = no_piece (split_steps FindsChar (λ a b. b ≡ a)) (λ y. y.now) c.loop-piece.piece-iterator i.0 i.1 c.next.new.self c.in-None.ensures.steps in
     let r : ReadSoFar i.0 (pieces c.args.text.now) c.loop-piece.items.items true = rw c.if-is_large.true at i.2 in
-    read_end_large (pieces c.args.text.now) c.loop-piece.items.items (subst (λ left. ReadSoFar left (pieces c.args.text.now) c.loop-piece.items.items true) none r)
+    let all = read_end_large (pieces c.args.text.now) c.loop-piece.items.items (subst (λ left. ReadSoFar left (pieces c.args.text.now) c.loop-piece.items.items true) none r) in
+    λ _. set_past c.args.text.now all.0 all.1 all.2
 
 pub returns : goal.returns
 unfolding set_of
@@ -94,4 +96,5 @@ returns c =
     let i = c.loop-piece.invariant in
     let none = no_piece (split_steps FindsChar (λ a b. b ≡ a)) (λ y. y.now) c.loop-piece.piece-iterator i.0 i.1 c.next.new.self c.in-None.ensures.steps in
     let r : ReadSoFar i.0 (pieces c.args.text.now) c.loop-piece.items.items false = rw c.if-is_large.false at i.2 in
-    read_end (pieces c.args.text.now) c.loop-piece.items.items (subst (λ left. ReadSoFar left (pieces c.args.text.now) c.loop-piece.items.items false) none r)
+    let all = read_end (pieces c.args.text.now) c.loop-piece.items.items (subst (λ left. ReadSoFar left (pieces c.args.text.now) c.loop-piece.items.items false) none r) in
+    set_within c.args.text.now c.loop-piece.items.items all.0 all.1
