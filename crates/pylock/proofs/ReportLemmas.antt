@@ -5,7 +5,7 @@ use Rattle.pylock_core.specs.State.{State}
 use Rattle.pylock_core.specs.Steps.{answer}
 use Rattle.pylock.specs.Faults.{HasFailed}
 use Rattle.pylock.specs.Moves.{WritesFront}
-use Rattle.pylock.specs.Lines.{input_lines}
+use Rattle.pylock.specs.Line.{input_lines}
 use Rattle.pylock.specs.Report.{standing_text, lines_report, is_plan, state_after_all}
 use Rattle.pylock.specs.Editing.{At, start, bytes_done, bytes_text, finished, finished_text, lines_begun}
 use Rattle.pylock.specs.EditingFaults.{IsOutputFault}
