@@ -2,18 +2,18 @@
 -- grammar is refused for that, and only then one with a number past the limit.
 use Rattle.std.specs.Prelude.{ℕ, if◌then◌else◌, List, Result, Ok, Err, ok_or}
 use Rattle.std.specs.List.{flat_map}
-use Rattle.pyver_core.specs.Grammar.{has_large, numbers}
-use Rattle.pyver_core.specs.Parts.{Parts}
-use Rattle.pyver_core.specs.Reading.{version_of}
+use Rattle.pyver_core.specs.Version.Grammar.{has_large, numbers}
+use Rattle.pyver_core.specs.Version.Parts.{Parts}
+use Rattle.pyver_core.specs.Version.Reading.{version_of}
 use Rattle.pyver_core.specs.Results.{◌>>=◌}
-use Rattle.pyver_core.specs.SetGrammar.{specifier_numbers}
-use Rattle.pyver_core.specs.SetReading.{operand_of, set_of}
-use Rattle.pyver_core.specs.declared.error.SpecifierError.{SpecifierError}
-use Rattle.pyver_core.specs.declared.error.SpecifierError.TheVariants as specifier
-use Rattle.pyver_core.specs.declared.error.VersionError.{VersionError}
-use Rattle.pyver_core.specs.declared.error.VersionError.TheVariants as version
-use Rattle.pyver_core.specs.declared.specifier.Operator.{Operator}
-use Rattle.pyver_core.specs.declared.specifier.Specifier.{Specifier}
+use Rattle.pyver_core.specs.Set.Grammar.{specifier_numbers}
+use Rattle.pyver_core.specs.Set.Reading.{operand_of, set_of}
+use Rattle.pyver_core.specs.declared.set.error.SpecifierError.{SpecifierError}
+use Rattle.pyver_core.specs.declared.set.error.SpecifierError.TheVariants as specifier
+use Rattle.pyver_core.specs.declared.version.error.VersionError.{VersionError}
+use Rattle.pyver_core.specs.declared.version.error.VersionError.TheVariants as version
+use Rattle.pyver_core.specs.declared.set.specifier.Operator.{Operator}
+use Rattle.pyver_core.specs.declared.set.specifier.Specifier.{Specifier}
 
 -- the value, or the refusal where one of these numbers is past the limit
 abbrev pub within_limit : {X E : Type 0} → E → List ℕ → X → Result X E

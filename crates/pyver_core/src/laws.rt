@@ -1,16 +1,17 @@
 //! Laws of the definitions alone: each function's contract is a law, and its body is empty.
 
-ghost use Rattle.std.specs.Prelude.{◌≡◌, ℕ, List, [], ◌∷◌, ◌++◌, Some, false, replicate, true};
+ghost use Rattle.std.specs.Prelude.{◌≡◌, ℕ, List, [], ◌∷◌, ◌++◌, Ok, Some, false, replicate, true};
 ghost use Rattle.std.specs.Char.{to_ascii_lowercase};
 ghost use Rattle.std.specs.List.{list_all};
-ghost use Rattle.pyver_core.specs.Parts.{Parts};
-ghost use Rattle.pyver_core.specs.Grammar.{Spells, is_separator, starts};
-ghost use Rattle.pyver_core.specs.Names.{norm};
-ghost use Rattle.pyver_core.specs.Normal.{normal};
-ghost use Rattle.pyver_core.specs.Order.{version_cmp};
-ghost use Rattle.pyver_core.specs.Reading.{version_of};
-ghost use Rattle.pyver_core.specs.SetGrammar.{SetText};
-ghost use Rattle.pyver_core.specs.declared.specifier.Specifier.{Specifier};
+ghost use Rattle.pyver_core.specs.Version.FromParts.{version_from};
+ghost use Rattle.pyver_core.specs.Version.Parts.{Parts};
+ghost use Rattle.pyver_core.specs.Version.Grammar.{Spells, is_separator, starts};
+ghost use Rattle.pyver_core.specs.Name.{norm};
+ghost use Rattle.pyver_core.specs.Version.Normal.{normal};
+ghost use Rattle.pyver_core.specs.Version.Order.{version_cmp};
+ghost use Rattle.pyver_core.specs.Version.Reading.{version_of};
+ghost use Rattle.pyver_core.specs.Set.Grammar.{SetText};
+ghost use Rattle.pyver_core.specs.declared.set.specifier.Specifier.{Specifier};
 
 /// A text spells at most one version, and so does the normal form of what it spells: the same one
 /// (PEP 440, "Normalization").
@@ -27,6 +28,13 @@ pub fn version_of_spells()
 /// What a text spells, [`Version::parse`](crate::Version::parse) reads.
 pub fn version_of_is_complete()
     ensures { (text : List ℕ) (p : Parts) → Spells text p → version_of text ≡ Some p }
+{}
+
+/// [`Version::from_parts`](crate::Version::from_parts) takes the parts that a text spells, and no others; and
+/// their normal form is such a text.
+pub fn parts_have_a_spelling()
+    ensures made { (p v : Parts) → version_from p ≡ Ok v → (v ≡ p) × Spells (normal p) p }
+    ensures spelt { (text : List ℕ) (p : Parts) → Spells text p → version_from p ≡ Ok p }
 {}
 
 /// A text writes at most one specifier set.

@@ -3,8 +3,8 @@
 ghost use Rattle.std.specs.Prelude.{◌≡◌, IfOk, string_bytes};
 ghost use Rattle.std.specs.List.{list_all};
 ghost use Rattle.std.specs.Option.{option_copied};
-ghost use Rattle.pyver_core.specs.Grammar.{is_separator};
-ghost use Rattle.pyver_core.specs.Names.{is_name, is_name_byte, is_name_end, norm};
+ghost use Rattle.pyver_core.specs.Version.Grammar.{is_separator};
+ghost use Rattle.pyver_core.specs.Name.{is_name, is_name_byte, is_name_end, norm};
 
 use std::alloc::{AllocError, Global};
 

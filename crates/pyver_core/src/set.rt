@@ -1,12 +1,25 @@
 //! Specifier sets (PEP 440, "Version specifiers").
 
 ghost use Rattle.std.specs.Prelude.{◌≡◌, IfOk};
-ghost use Rattle.pyver_core.specs.SpecifierText.{set_text};
-ghost use Rattle.pyver_core.specs.Specifiers.{admits_all};
+ghost use Rattle.std.specs.Cmp.{partial_equiv_from_equiv};
+ghost use Rattle.pyver_core.specs.Inner.EqualityLaws.{set_equivalence};
+ghost use Rattle.pyver_core.specs.Set.Equality.{set_eq};
+ghost use Rattle.pyver_core.specs.Set.Normal.{set_text};
+ghost use Rattle.pyver_core.specs.Set.Admission.{admits_all};
 
-use crate::set_text::set_text;
-use crate::specifier::Specifier;
+mod admission;
+mod error;
+mod normal;
+mod operand;
+mod parse;
+mod reading;
+mod specifier;
+
 use crate::version::Version;
+pub use error::SpecifierError;
+use normal::set_text;
+pub(crate) use specifier::Operand;
+pub use specifier::{Operator, ReleasePrefix, Specifier};
 use std::alloc::{AllocError, Global};
 use std::marker::Model;
 
@@ -22,8 +35,8 @@ pub struct SpecifierSet {
 
 impl Model for SpecifierSet {
     ghost use Rattle.std.specs.Prelude.{◌≡◌, List, string_bytes};
-    ghost use Rattle.pyver_core.specs.SpecifierText.{set_text};
-    ghost use Rattle.pyver_core.specs.declared.specifier.Specifier.{Specifier};
+    ghost use Rattle.pyver_core.specs.Set.Normal.{set_text};
+    ghost use Rattle.pyver_core.specs.declared.set.specifier.Specifier.{Specifier};
 
     ghost Value = { List Specifier };
 
@@ -64,4 +77,31 @@ impl SpecifierSet {
     {
         self.items.iter().all(|specifier| specifier.admits(version))
     }
+}
+
+/// A copy takes memory for the specifiers and the normal form.
+impl Clone for SpecifierSet {
+    ghost is_clone = { λ set copy. copy ≡ set };
+
+    fn clone(&self) -> Result<SpecifierSet, AllocError> {
+        Ok(SpecifierSet {
+            items: self.items.clone()?,
+            text: self.text.clone()?,
+        })
+    }
+}
+
+/// Equal as they are written: the same specifiers in the same order. It takes no memory.
+impl PartialEq for SpecifierSet {
+    ghost eq = { set_eq };
+
+    ghost laws = { partial_equiv_from_equiv set_equivalence };
+
+    fn eq(&self, other: &SpecifierSet) -> bool {
+        self.items == other.items
+    }
+}
+
+impl Eq for SpecifierSet {
+    ghost laws = { set_equivalence };
 }

@@ -1,13 +1,27 @@
-//! Versions and their readers.
+//! Versions (PEP 440): their parts, texts and order.
 
 ghost use Rattle.std.specs.Prelude.{◌≡◌, ◌≢◌, [], IfOk};
-ghost use Rattle.pyver_core.specs.Borrowed.{parts_of};
-ghost use Rattle.pyver_core.specs.Normal.{normal};
-ghost use Rattle.pyver_core.specs.Parts.{is_postrelease, is_prerelease};
+ghost use Rattle.pyver_core.specs.Inner.PartsRef.{parts_of};
+ghost use Rattle.pyver_core.specs.Version.Normal.{normal};
+ghost use Rattle.pyver_core.specs.Version.Parts.{is_postrelease, is_prerelease};
 
-use crate::part::{LocalPart, PreKind};
-use crate::parts::PartsRef;
-use crate::text::normal_text;
+mod error;
+mod from_parts;
+mod hashing;
+mod normal;
+mod order;
+mod parse;
+mod part;
+mod parts_ref;
+pub(crate) mod reading;
+
+pub use error::VersionError;
+pub use from_parts::{PartsError, VersionParts};
+use normal::normal_text;
+pub(crate) use normal::{push_epoch, push_release};
+pub(crate) use order::compare;
+pub use part::{Label, LocalPart, PreKind};
+pub(crate) use parts_ref::PartsRef;
 use std::alloc::{AllocError, Global};
 use std::marker::Model;
 
@@ -27,8 +41,8 @@ pub struct Version {
 
 impl Model for Version {
     ghost use Rattle.std.specs.Prelude.{◌≡◌, ◌≢◌, [], string_bytes};
-    ghost use Rattle.pyver_core.specs.Parts.{Parts};
-    ghost use Rattle.pyver_core.specs.Normal.{normal};
+    ghost use Rattle.pyver_core.specs.Version.Parts.{Parts};
+    ghost use Rattle.pyver_core.specs.Version.Normal.{normal};
 
     ghost Value = { Parts };
 
@@ -52,27 +66,20 @@ impl Model for Version {
 }
 
 impl Version {
-    /// The version with these parts. `release` is not empty.
-    pub(crate) fn from_parts(
-        alloc: Global,
-        epoch: u128,
-        release: Vec<u128>,
-        pre: Option<(PreKind, u128)>,
-        post: Option<u128>,
-        dev: Option<u128>,
-        local: Vec<LocalPart>,
-    ) -> Result<Version, AllocError>
-        requires { release.items ≢ [] }
-        ensures { IfOk result (λ v. v ≡ record {
-          epoch = epoch;
-          release = release.items;
-          pre = pre;
-          post = post;
-          dev = dev;
-          local = local.items;
-        }) }
+    /// The version with these parts, of which the release is not empty.
+    pub(crate) fn with_parts(alloc: Global, parts: VersionParts) -> Result<Version, AllocError>
+        requires { parts.release ≢ [] }
+        ensures { IfOk result (λ v. v ≡ parts) }
     {
-        let parts = PartsRef {
+        let VersionParts {
+            epoch,
+            release,
+            pre,
+            post,
+            dev,
+            local,
+        } = parts;
+        let lent = PartsRef {
             epoch,
             release: &release,
             pre,
@@ -80,7 +87,7 @@ impl Version {
             dev,
             local: &local,
         };
-        let text = normal_text(alloc, &parts)?;
+        let text = normal_text(alloc, &lent)?;
         Ok(Version {
             epoch,
             release,
@@ -168,5 +175,22 @@ impl Version {
         ensures { result ≡ is_postrelease self.now }
     {
         self.post.is_some()
+    }
+}
+
+/// A copy takes memory for the release, the local part and the normal form.
+impl Clone for Version {
+    ghost is_clone = { λ version copy. copy ≡ version };
+
+    fn clone(&self) -> Result<Version, AllocError> {
+        Ok(Version {
+            epoch: self.epoch,
+            release: self.release.clone()?,
+            pre: self.pre,
+            post: self.post,
+            dev: self.dev,
+            local: self.local.clone()?,
+            text: self.text.clone()?,
+        })
     }
 }

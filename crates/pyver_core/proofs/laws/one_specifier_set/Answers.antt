@@ -1,4 +1,4 @@
-use Rattle.pyver_core.proofs.SetAgain.{one_set}
+use Rattle.pyver_core.proofs.Lemmas.Set.Complete.{one_set}
 use Rattle.pyver_core.proofs.laws.one_specifier_set.Goals as goal
 
 pub returns : goal.returns

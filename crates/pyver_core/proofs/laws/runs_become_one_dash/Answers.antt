@@ -1,4 +1,4 @@
-use Rattle.pyver_core.proofs.NameRuns.{norm-empty, norm-other, norm-run}
+use Rattle.pyver_core.proofs.Lemmas.Name.Runs.{norm-empty, norm-other, norm-run}
 use Rattle.pyver_core.proofs.laws.runs_become_one_dash.Goals as goal
 
 pub returns : goal.returns

@@ -1,4 +1,4 @@
-use Rattle.pyver_core.proofs.AgainVersion.{version_again}
+use Rattle.pyver_core.proofs.Lemmas.Version.Complete.Whole.{version_again}
 use Rattle.pyver_core.proofs.laws.version_of_is_complete.Goals as goal
 
 pub returns : goal.returns

@@ -1,9 +1,9 @@
 use Rattle.std.proofs.Common.{◌≡◌, ◌∙◌, ap, sym, true, false, string_bytes}
 use Rattle.std.proofs.lemmas.List.{nil_from_length}
 use Rattle.std.specs.declared.str.Chars.{Chars}
-use Rattle.pyver_core.specs.Grammar.{is_separator}
-use Rattle.pyver_core.specs.Names.{norm}
-use Rattle.pyver_core.proofs.Collapse.{last-step, norm-collapse, step-first, step-further, step-other}
+use Rattle.pyver_core.specs.Version.Grammar.{is_separator}
+use Rattle.pyver_core.specs.Name.{norm}
+use Rattle.pyver_core.proofs.Lemmas.Name.Collapse.{last-step, norm-collapse, step-first, step-further, step-other}
 use Rattle.pyver_core.proofs.name.normal_name.Goals as goal
 
 pub loop-character-init : goal.loop-character-init

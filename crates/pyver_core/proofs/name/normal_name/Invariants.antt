@@ -1,6 +1,6 @@
 use Rattle.std.proofs.Common.{◌≡◌, ◌++◌, string_bytes}
-use Rattle.pyver_core.proofs.Collapse.{collapse}
-use Rattle.pyver_core.specs.Names.{norm}
+use Rattle.pyver_core.proofs.Lemmas.Name.Collapse.{collapse}
+use Rattle.pyver_core.specs.Name.{norm}
 use Rattle.pyver_core.proofs.name.normal_name.Given as goal
 
 abbrev pub invariant-loop-character : goal.invariant-loop-character

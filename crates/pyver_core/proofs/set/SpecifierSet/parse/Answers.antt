@@ -1,4 +1,4 @@
-use Rattle.pyver_core.proofs.SetAnswered.{set_fits, set_large, set_ok, set_syntax}
+use Rattle.pyver_core.proofs.Lemmas.Set.Answers.{set_fits, set_large, set_ok, set_syntax}
 use Rattle.pyver_core.proofs.set.SpecifierSet.parse.Goals as goal
 
 pub returns-clause-ok : goal.returns-clause-ok

@@ -1,4 +1,4 @@
-use Rattle.pyver_core.proofs.Answered.{answered_fits, answered_ok, answered_syntax, answered_large}
+use Rattle.pyver_core.proofs.Lemmas.Version.Answers.{answered_fits, answered_ok, answered_syntax, answered_large}
 use Rattle.pyver_core.proofs.version.Version.parse.Goals as goal
 
 pub returns-clause-ok : goal.returns-clause-ok

@@ -1,0 +1,5 @@
+pub mod Name
+pub mod Outcomes
+pub mod Set
+pub mod Sight
+pub mod Version

@@ -1,0 +1,15 @@
+pub mod Answers
+pub mod Complete
+pub mod Decimal
+pub mod FirstBytes
+pub mod FromParts
+pub mod Fronts
+pub mod Hashes
+pub mod InTurn
+pub mod Limits
+pub mod Many
+pub mod NormalForm
+pub mod OrderZeros
+pub mod Sound
+pub mod TrailingZeros
+pub mod TwoNumbers

@@ -1,0 +1,205 @@
+-- A piece in the form that the grammar asks for is taken from the front of a text, and no more.
+use Rattle.std.proofs.Common.{◌≡◌, ℕ, ◌≤◌, Bool, true, false, List, [], ◌∷◌, ◌++◌, length, take, drop, Option, Some, None, refl, sym, ap, subst, ◌∙◌, append_assoc, arith, inl, inr}
+use Rattle.std.specs.Prelude.{codes, bytes_eq, ◌==◌}
+use Rattle.std.specs.Char.{is_ascii_digit, is_ascii_alphanumeric, to_ascii_lowercase}
+use Rattle.std.specs.Cmp.Lexicographic.{bytes_decides}
+use Rattle.std.specs.List.{list_all, prefix_len}
+use Rattle.std.specs.Str.{str_to_ascii_lowercase}
+use Rattle.std.specs.Str.Parse.{digits_value}
+use Rattle.std.proofs.lemmas.List.{take_at, drop_at, take-map, map-append, length-map}
+use Rattle.std.proofs.lemmas.Bool.{eqb-true}
+use Rattle.pyver_core.specs.Version.Grammar.{is_white, is_separator, is_dot, starts, IsOptionalSeparator, IsCount, IsNumber, IsWord, AreBehind, IsSegment}
+use Rattle.pyver_core.specs.Version.Reading.{onto, behind_at, many_at, after_white, after_separator, count_at, number_at, word_at, tail_at, dotted_number_at, segment_of, segment_at, separated_segment_at, added_segment_at}
+use Rattle.pyver_core.specs.declared.version.part.LocalPart.{LocalPart}
+use Rattle.pyver_core.specs.declared.version.part.LocalPart.TheVariants.{Number, Text}
+use Rattle.pyver_core.proofs.Lemmas.Version.FirstBytes.{is_letter, digit_not_separator, separator_not_alphanumeric}
+use Rattle.pyver_core.proofs.Lemmas.Version.Fronts.{one_more}
+use Rattle.pyver_core.proofs.Lemmas.Version.Many.{Shrinks, dotted_shrinks, separated_shrinks, many_at-none, many_at-some}
+use Rattle.pyver_core.proofs.Lemmas.Sight.{sight, chosen, refused}
+
+-- ---- fronts
+
+pub all_cons : (test : ℕ → Bool) (b : ℕ) (rest : List ℕ) → list_all test (b ∷ rest) ≡ true → (test b ≡ true) × (list_all test rest ≡ true)
+all_cons test b rest e = elim (sight (test b)) [
+  | inl passes ↦ (passes, rw passes at e)
+  | inr fails ↦ absurd (let n : false ≡ true = rw fails at e in cc)
+]
+
+pub prefix_len_exact : (test : ℕ → Bool) (front next : List ℕ) → list_all test front ≡ true → starts test next ≡ false → prefix_len test (front ++ next) ≡ length front
+prefix_len_exact test [] [] all stops = refl
+prefix_len_exact test [] (b ∷ next) all stops = rw stops refl
+prefix_len_exact test (b ∷ front) next all stops =
+    let c = all_cons test b front all in
+    let passes : test b ≡ true = c.0 in
+    rw (passes, prefix_len_exact test front next c.1 stops) (one_more (length front))
+
+pub taken_exact : (test : ℕ → Bool) (front next : List ℕ) → list_all test front ≡ true → starts test next ≡ false → take (prefix_len test (front ++ next)) (front ++ next) ≡ front
+taken_exact test front next all stops = take_at front next (prefix_len test (front ++ next)) (sym (prefix_len_exact test front next all stops))
+
+pub dropped_exact : (test : ℕ → Bool) (front next : List ℕ) → list_all test front ≡ true → starts test next ≡ false → drop (prefix_len test (front ++ next)) (front ++ next) ≡ next
+dropped_exact test front next all stops = drop_at front next (prefix_len test (front ++ next)) (sym (prefix_len_exact test front next all stops))
+
+-- what all bytes pass, the first one passes
+pub starts_all : (test : ℕ → Bool) (front next : List ℕ) → 1 ≤ length front → list_all test front ≡ true → starts test (front ++ next) ≡ true
+starts_all test [] next has all = absurd (omega arith)
+starts_all test (b ∷ front) next has all = (all_cons test b front all).0
+
+-- where each byte passes one test, the first byte fails another
+pub starts_none : (test fails : ℕ → Bool) → ((b : ℕ) → test b ≡ true → fails b ≡ false) → (front next : List ℕ) → list_all test front ≡ true → starts fails next ≡ false → starts fails (front ++ next) ≡ false
+starts_none test fails apart [] next all stops = stops
+starts_none test fails apart (b ∷ front) next all stops = apart b (all_cons test b front all).0
+
+pub white_again : (before body : List ℕ) → list_all is_white before ≡ true → starts is_white body ≡ false → after_white (before ++ body) ≡ body
+white_again before body all stops = dropped_exact is_white before body all stops
+
+-- ---- separators
+
+pub no_separator : (text : List ℕ) → starts is_separator text ≡ false → after_separator text ≡ text
+no_separator [] e = refl
+no_separator (b ∷ rest) e = refused (is_separator b) rest (b ∷ rest) e
+
+pub separator_again : (before rest : List ℕ) → IsOptionalSeparator before → (before ≡ [] → starts is_separator rest ≡ false) → after_separator (before ++ rest) ≡ rest
+separator_again [] rest is stops = no_separator rest (stops refl)
+separator_again (b ∷ []) rest is stops = chosen (is_separator b) rest (b ∷ rest) (all_cons is_separator b [] is.0).0
+separator_again (b ∷ c ∷ before) rest is stops = absurd (omega (arith, is.1))
+
+-- ---- numbers
+
+pub count_again : (digits : List ℕ) (n : ℕ) (next : List ℕ) → IsCount digits n → starts is_ascii_digit next ≡ false → count_at (digits ++ next) ≡ (n, next)
+count_again digits n next is stops =
+    rw (taken_exact is_ascii_digit digits next is.digits stops, dropped_exact is_ascii_digit digits next is.digits stops) (ap (λ (v : ℕ). (v, next)) is.value)
+
+pub number_again : (digits : List ℕ) (n : ℕ) (next : List ℕ) → IsNumber digits n → starts is_ascii_digit next ≡ false → number_at (digits ++ next) ≡ Some (n, next)
+number_again digits n next is stops =
+    let starts_so : starts is_ascii_digit (digits ++ next) ≡ true = starts_all is_ascii_digit digits next is.0 is.1.digits in
+    chosen (starts is_ascii_digit (digits ++ next)) (Some (count_at (digits ++ next))) None starts_so ∙ ap (λ (x : ℕ × List ℕ). Some x) (count_again digits n next is.1 stops)
+
+pub no_number : (text : List ℕ) → starts is_ascii_digit text ≡ false → number_at text ≡ None
+no_number text e = refused (starts is_ascii_digit text) (Some (count_at text)) None e
+
+not_behind : (digits next : List ℕ) → list_all is_ascii_digit digits ≡ true → (digits ≡ [] → starts is_separator next ≡ false) → starts is_separator (digits ++ next) ≡ false
+not_behind [] next all stops = stops refl
+not_behind (b ∷ digits) next all stops = digit_not_separator b (all_cons is_ascii_digit b digits all).0
+
+-- at most one separator and digits, behind a word
+pub tail_again : (after digits : List ℕ) (n : ℕ) (next : List ℕ) → IsOptionalSeparator after → IsCount digits n → (after ++ digits ≡ [] → starts is_separator next ≡ false) → starts is_ascii_digit next ≡ false → tail_at (after ++ (digits ++ next)) ≡ (n, next)
+tail_again after digits n next is_after is_digits greedy stops =
+    let stops_after : after ≡ [] → starts is_separator (digits ++ next) ≡ false = λ no_after.
+    not_behind digits next is_digits.digits (λ no_digits. greedy (ap (λ (a : List ℕ). a ++ digits) no_after ∙ no_digits)) in
+    ap (λ (text : List ℕ). count_at text) (separator_again after (digits ++ next) is_after stops_after) ∙ count_again digits n next is_digits stops
+
+-- ---- words
+
+length_word : (word written : List ℕ) → IsWord word written → length written ≡ length word
+length_word word written is = sym (length-map written to_ascii_lowercase) ∙ ap (λ (w : List ℕ). length w) is
+
+-- the bytes at the front in lower case
+lowered : (n : ℕ) (word written rest : List ℕ) → IsWord word written → str_to_ascii_lowercase (take n (written ++ rest)) ≡ take n (word ++ str_to_ascii_lowercase rest)
+lowered n word written rest is = sym (take-map to_ascii_lowercase n (written ++ rest)) ∙ ap (λ (t : List ℕ). take n t) (map-append to_ascii_lowercase written rest ∙ ap (λ (t : List ℕ). t ++ str_to_ascii_lowercase rest) is)
+
+pub word_again : (word written rest : List ℕ) → IsWord word written → word_at word (written ++ rest) ≡ Some rest
+word_again word written rest is =
+    let len = length_word word written is in
+    let front : take (length word) (written ++ rest) ≡ written = take_at written rest (length word) len in
+    let test : bytes_eq (str_to_ascii_lowercase (take (length word) (written ++ rest))) word ≡ true = (bytes_decides (str_to_ascii_lowercase (take (length word) (written ++ rest))) word).1 (ap (λ (t : List ℕ). str_to_ascii_lowercase t) front ∙ is) in
+    chosen (bytes_eq (str_to_ascii_lowercase (take (length word) (written ++ rest))) word) (Some (drop (length word) (written ++ rest))) None test ∙ ap (λ (t : List ℕ). Some t) (drop_at written rest (length word) len)
+
+-- a text that begins with one word doesn't begin with another
+pub other_word : (other word written rest : List ℕ) → IsWord word written → bytes_eq (take (length other) (word ++ str_to_ascii_lowercase rest)) other ≡ false → word_at other (written ++ rest) ≡ None
+other_word other word written rest is e =
+    refused (bytes_eq (str_to_ascii_lowercase (take (length other) (written ++ rest))) other) (Some (drop (length other) (written ++ rest))) None
+    (ap (λ (t : List ℕ). bytes_eq t other) (lowered (length other) word written rest is) ∙ e)
+
+pub no_word : (c : ℕ) (word text : List ℕ) → starts (is_letter c) text ≡ false → word_at (c ∷ word) text ≡ None
+no_word c word [] e = refl
+no_word c word (b ∷ text) e = rw e refl
+
+-- ---- items behind a byte
+
+-- an item is read again
+abbrev pub ItemAgain : {X : Type 0} → (ℕ → Bool) → (List ℕ → X → Type 0) → (List ℕ → Option (X × List ℕ)) → Type 0
+ItemAgain {X} stop IsItem read = (item : List ℕ) (x : X) (next : List ℕ) → IsItem item x → starts stop next ≡ false → read (item ++ next) ≡ Some (x, next)
+
+pub behind_again : {X : Type 0} (opens stop : ℕ → Bool) (IsItem : List ℕ → X → Type 0) (read : List ℕ → Option (X × List ℕ)) → ItemAgain stop IsItem read → (b : ℕ) (item : List ℕ) (x : X) (next : List ℕ) → opens b ≡ true → IsItem item x → starts stop next ≡ false → behind_at opens read (b ∷ (item ++ next)) ≡ Some (x, next)
+behind_again opens stop IsItem read again b item x next opened is stops = chosen (opens b) (read (item ++ next)) None opened ∙ again item x next is stops
+
+pub not_behind_byte : {X : Type 0} (opens : ℕ → Bool) (read : List ℕ → Option (X × List ℕ)) (text : List ℕ) → starts opens text ≡ false → behind_at opens read text ≡ None
+not_behind_byte opens read [] e = refl
+not_behind_byte opens read (b ∷ rest) e = refused (opens b) (read rest) None e
+
+abbrev pub BehindAgain : {X : Type 0} → (ℕ → Bool) → (ℕ → Bool) → (List ℕ → X → Type 0) → (List ℕ → Option (X × List ℕ)) → Type 0
+BehindAgain {X} opens stop IsItem read = (b : ℕ) (item : List ℕ) (x : X) (next : List ℕ) → opens b ≡ true → IsItem item x → starts stop next ≡ false → read (b ∷ (item ++ next)) ≡ Some (x, next)
+
+behind_starts : {X : Type 0} (opens stop : ℕ → Bool) (IsItem : List ℕ → X → Type 0) → ((b : ℕ) → opens b ≡ true → stop b ≡ false) → (piece : List ℕ) (xs : List X) (next : List ℕ) → AreBehind opens IsItem piece xs → starts stop next ≡ false → starts stop (piece ++ next) ≡ false
+behind_starts opens stop IsItem apart piece [] next are stops = subst (λ (t : List ℕ). starts stop (t ++ next) ≡ false) (sym are) stops
+behind_starts opens stop IsItem apart piece (x ∷ xs) next are stops = subst (λ (t : List ℕ). starts stop (t ++ next) ≡ false) (sym are.3) (apart are.0 are.4)
+
+pub many_again : {X : Type 0} (opens stop : ℕ → Bool) (IsItem : List ℕ → X → Type 0) (read : List ℕ → Option (X × List ℕ)) → Shrinks read → BehindAgain opens stop IsItem read → ((b : ℕ) → opens b ≡ true → stop b ≡ false)
+    → (piece : List ℕ) (xs : List X) (next : List ℕ) → AreBehind opens IsItem piece xs → starts stop next ≡ false → read next ≡ None → many_at read (piece ++ next) ≡ (xs, next)
+many_again opens stop IsItem read shrinks again apart piece [] next are stops ends =
+    ap (λ (t : List ℕ). many_at read (t ++ next)) are ∙ many_at-none read next ends
+many_again {X} opens stop IsItem read shrinks again apart piece (x ∷ xs) next are stops ends =
+    let rest = are.2 ++ next in
+    let whole : piece ++ next ≡ are.0 ∷ (are.1 ++ rest) = ap (λ (t : List ℕ). t ++ next) are.3 ∙ ap (λ (t : List ℕ). are.0 ∷ t) (append_assoc are.1 are.2 next) in
+    let first = again are.0 are.1 x rest are.4 are.5 (behind_starts opens stop IsItem apart are.2 xs next are.6 stops) in
+    let others = many_again opens stop IsItem read shrinks again apart are.2 xs next are.6 stops ends in
+    ap (λ (t : List ℕ). many_at read t) whole ∙ (many_at-some read shrinks (are.0 ∷ (are.1 ++ rest)) (x, rest) first ∙ ap (λ (r : List X × List ℕ). onto x r) others)
+
+dot_not_digit : (b : ℕ) → is_dot b ≡ true → is_ascii_digit b ≡ false
+dot_not_digit b e = rw (eqb-true b 46 e) refl
+
+pub dotted_again : (piece : List ℕ) (ns : List ℕ) (next : List ℕ) → AreBehind is_dot IsNumber piece ns → starts is_ascii_digit next ≡ false → dotted_number_at next ≡ None → many_at dotted_number_at (piece ++ next) ≡ (ns, next)
+unfolding dotted_number_at
+dotted_again = many_again is_dot is_ascii_digit IsNumber dotted_number_at dotted_shrinks (behind_again is_dot is_ascii_digit IsNumber number_at number_again) dot_not_digit
+
+pub no_dotted : (text : List ℕ) → starts is_dot text ≡ false → dotted_number_at text ≡ None
+unfolding dotted_number_at
+no_dotted text e = not_behind_byte is_dot number_at text e
+
+-- ---- segments
+
+digit_alphanumeric : (b : ℕ) → is_ascii_digit b ≡ true → is_ascii_alphanumeric b ≡ true
+digit_alphanumeric b e = rw e refl
+
+all_alphanumeric : (run : List ℕ) → list_all is_ascii_digit run ≡ true → list_all is_ascii_alphanumeric run ≡ true
+all_alphanumeric [] all = refl
+all_alphanumeric (b ∷ run) all =
+    let c = all_cons is_ascii_digit b run all in
+    rw (digit_alphanumeric b c.0, all_alphanumeric run c.1) refl
+
+segment_is : (run : List ℕ) (s : LocalPart) → IsSegment run s → (1 ≤ length run) × (list_all is_ascii_alphanumeric run ≡ true) × (segment_of run ≡ s)
+segment_is run (Number n) is = (is.0, all_alphanumeric run is.1.digits, chosen (list_all is_ascii_digit run) (Number (digits_value 10 run)) (Text (str_to_ascii_lowercase run)) is.1.digits ∙ ap (λ (v : ℕ). Number v) is.1.value)
+segment_is [] (Text label) is = absurd (let n : true ≡ false = is.1 in cc)
+segment_is (b ∷ run) (Text label) is = (omega arith, is.0, refused (list_all is_ascii_digit (b ∷ run)) (Number (digits_value 10 (b ∷ run))) (Text (str_to_ascii_lowercase (b ∷ run))) is.1 ∙ ap (λ (v : List ℕ). Text v) is.2)
+
+segment_again : ItemAgain is_ascii_alphanumeric IsSegment segment_at
+unfolding segment_at
+segment_again run s next is stops =
+    let i = segment_is run s is in
+    let starts_so : starts is_ascii_alphanumeric (run ++ next) ≡ true = starts_all is_ascii_alphanumeric run next i.0 i.1 in
+    let n = prefix_len is_ascii_alphanumeric (run ++ next) in
+    chosen (starts is_ascii_alphanumeric (run ++ next)) (Some (segment_of (take n (run ++ next)), drop n (run ++ next))) None starts_so
+    ∙ (ap (λ (t : List ℕ). Some (segment_of t, drop n (run ++ next))) (taken_exact is_ascii_alphanumeric run next i.1 stops)
+    ∙ (ap (λ (t : List ℕ). Some (segment_of run, t)) (dropped_exact is_ascii_alphanumeric run next i.1 stops) ∙ ap (λ (v : LocalPart). Some (v, next)) i.2))
+
+pub separated_again : (piece : List ℕ) (ss : List LocalPart) (next : List ℕ) → AreBehind is_separator IsSegment piece ss → starts is_ascii_alphanumeric next ≡ false → separated_segment_at next ≡ None → many_at separated_segment_at (piece ++ next) ≡ (ss, next)
+unfolding separated_segment_at
+separated_again = many_again is_separator is_ascii_alphanumeric IsSegment separated_segment_at separated_shrinks (behind_again is_separator is_ascii_alphanumeric IsSegment segment_at segment_again) separator_not_alphanumeric
+
+pub separated_starts : (piece : List ℕ) (ss : List LocalPart) (next : List ℕ) → AreBehind is_separator IsSegment piece ss → starts is_ascii_alphanumeric next ≡ false → starts is_ascii_alphanumeric (piece ++ next) ≡ false
+separated_starts = behind_starts is_separator is_ascii_alphanumeric IsSegment separator_not_alphanumeric
+
+pub dotted_starts : (stop : ℕ → Bool) → stop 46 ≡ false → (piece : List ℕ) (ns : List ℕ) (next : List ℕ) → AreBehind is_dot IsNumber piece ns → starts stop next ≡ false → starts stop (piece ++ next) ≡ false
+dotted_starts stop at_dot = behind_starts is_dot stop IsNumber (λ b e. rw (eqb-true b 46 e) at_dot)
+
+pub no_separated : (text : List ℕ) → starts is_separator text ≡ false → separated_segment_at text ≡ None
+unfolding separated_segment_at
+no_separated text e = not_behind_byte is_separator segment_at text e
+
+pub added_again : (item : List ℕ) (s : LocalPart) (next : List ℕ) → IsSegment item s → starts is_ascii_alphanumeric next ≡ false → added_segment_at (codes "+" ++ (item ++ next)) ≡ Some (s, next)
+unfolding added_segment_at
+added_again item s next is stops = segment_again item s next is stops
+
+pub no_added : (text : List ℕ) → starts (λ b. b == 43) text ≡ false → added_segment_at text ≡ None
+unfolding added_segment_at
+no_added text e = not_behind_byte (λ b. b == 43) segment_at text e

@@ -1,0 +1,126 @@
+-- The parts that make a version are those that a text spells.
+use Rattle.std.proofs.Common.{◌≡◌, ℕ, suc, Bool, true, false, not, ◌&&◌, List, [], ◌∷◌, length, Result, Ok, Err, refl, sym, ap, ◌∙◌, arith, inl, inr}
+use Rattle.std.specs.Prelude.{◌==◌, if◌then◌else◌, IfErr, IfOk, flat_map}
+use Rattle.std.specs.Char.{is_ascii_digit, is_ascii_alphanumeric, is_ascii_lowercase, to_ascii_lowercase}
+use Rattle.std.specs.List.{list_all}
+use Rattle.std.specs.Str.{str_to_ascii_lowercase}
+use Rattle.std.proofs.lemmas.Bool.Decides.{nat_tests}
+use Rattle.pyver_core.specs.Agreement.{Gives}
+use Rattle.pyver_core.specs.Version.FromParts.{is_segment, is_segment_byte, version_from}
+use Rattle.pyver_core.specs.Version.Grammar.{AreBehind, IsLocal, IsRelease, IsSegment, Spells, is_separator}
+use Rattle.pyver_core.specs.Version.Normal.{dotted_number, dotted_segment, decimal_text, local_text, normal, release_text, segment_text}
+use Rattle.pyver_core.specs.Version.Parts.{Parts}
+use Rattle.pyver_core.specs.declared.version.from_parts.PartsError.{PartsError}
+use Rattle.pyver_core.specs.declared.version.from_parts.PartsError.TheVariants.{EmptyRelease, LocalSegment, Memory}
+use Rattle.pyver_core.specs.declared.version.part.LocalPart.{LocalPart}
+use Rattle.pyver_core.specs.declared.version.part.LocalPart.TheVariants.{Number, Text}
+use Rattle.pyver_core.proofs.Lemmas.Sight.{sight}
+use Rattle.pyver_core.proofs.Lemmas.Version.Complete.Pieces.{all_cons}
+use Rattle.pyver_core.proofs.Lemmas.Version.NormalForm.{all_lower_digits, dotted_spelt, normal_spells_parts, number_spelt}
+
+-- ---- segments
+
+byte_alphanumeric : (b : ℕ) → is_segment_byte b ≡ true → is_ascii_alphanumeric b ≡ true
+byte_alphanumeric b e = grind (arith, nat_tests)
+
+byte_lower : (b : ℕ) → is_segment_byte b ≡ true → to_ascii_lowercase b ≡ b
+byte_lower b e = grind (arith, nat_tests)
+
+byte_of_lower : (b : ℕ) → is_ascii_alphanumeric b ≡ true → is_segment_byte (to_ascii_lowercase b) ≡ true
+byte_of_lower b e = grind (arith, nat_tests)
+
+all_alphanumeric : (label : List ℕ) → list_all is_segment_byte label ≡ true → list_all is_ascii_alphanumeric label ≡ true
+all_alphanumeric [] e = refl
+all_alphanumeric (b ∷ rest) e = let c = all_cons is_segment_byte b rest e in rw (byte_alphanumeric b c.0) (all_alphanumeric rest c.1)
+
+all_lower : (label : List ℕ) → list_all is_segment_byte label ≡ true → str_to_ascii_lowercase label ≡ label
+all_lower [] e = refl
+all_lower (b ∷ rest) e = let c = all_cons is_segment_byte b rest e in rw (byte_lower b c.0) (ap (λ (r : List ℕ). b ∷ r) (all_lower rest c.1))
+
+all_bytes : (run : List ℕ) → list_all is_ascii_alphanumeric run ≡ true → list_all is_segment_byte (str_to_ascii_lowercase run) ≡ true
+all_bytes [] e = refl
+all_bytes (b ∷ rest) e = let c = all_cons is_ascii_alphanumeric b rest e in rw (byte_of_lower b c.0) (all_bytes rest c.1)
+
+and_first : (a b : Bool) → (a && b) ≡ true → a ≡ true
+and_first true b e = refl
+and_first false b e = e
+
+and_second : (a b : Bool) → (a && b) ≡ true → b ≡ true
+and_second true b e = e
+and_second false b e = absurd (let n : false ≡ true = e in cc)
+
+not_true : (b : Bool) → not b ≡ true → b ≡ false
+not_true true e = absurd (let n : false ≡ true = e in cc)
+not_true false e = refl
+
+segment_spells : (s : LocalPart) → is_segment s ≡ true → IsSegment (segment_text s) s
+segment_spells (Number n) e = number_spelt n
+segment_spells (Text label) e =
+    let bytes = and_first _ _ e in
+    (all_alphanumeric label bytes, not_true _ (and_second _ _ e), all_lower label bytes)
+
+segments_spell : (ss : List LocalPart) → list_all is_segment ss ≡ true → AreBehind is_separator IsSegment (flat_map dotted_segment ss) ss
+segments_spell [] e = refl
+segments_spell (s ∷ ss) e =
+    (46, segment_text s, flat_map dotted_segment ss, refl, refl, segment_spells s (and_first _ _ e), segments_spell ss (and_second _ _ e))
+
+local_spells : (ss : List LocalPart) → list_all is_segment ss ≡ true → IsLocal (local_text ss) ss
+local_spells [] e = refl
+local_spells (s ∷ ss) e = (segment_text s, flat_map dotted_segment ss, refl, segment_spells s (and_first _ _ e), segments_spell ss (and_second _ _ e))
+
+release_spells : (n : ℕ) (ns : List ℕ) → IsRelease (release_text (n ∷ ns)) (n ∷ ns)
+release_spells n ns = (decimal_text n, flat_map dotted_number ns, refl, number_spelt n, dotted_spelt ns)
+
+spelt_segment : (run : List ℕ) (s : LocalPart) → IsSegment run s → is_segment s ≡ true
+spelt_segment run (Number n) is = refl
+spelt_segment run (Text label) is =
+    let bytes : list_all is_segment_byte label ≡ true = ap (list_all is_segment_byte) (sym is.2) ∙ all_bytes run is.0 in
+    let letter : list_all is_ascii_digit label ≡ false = ap (list_all is_ascii_digit) (sym is.2) ∙ (all_lower_digits run ∙ is.1) in
+    rw (bytes, letter) refl
+
+spelt_segments : (piece : List ℕ) (ss : List LocalPart) → AreBehind is_separator IsSegment piece ss → list_all is_segment ss ≡ true
+spelt_segments piece [] is = refl
+spelt_segments piece (s ∷ ss) is = rw (spelt_segment is.1 s is.5) (spelt_segments is.2 ss is.6)
+
+spelt_local : (text : List ℕ) (ss : List LocalPart) → IsLocal text ss → list_all is_segment ss ≡ true
+spelt_local text [] is = refl
+spelt_local text (s ∷ ss) is = rw (spelt_segment is.0 s is.3) (spelt_segments is.1 ss is.4)
+
+-- ---- versions
+
+abbrev judged : List ℕ → List LocalPart → Parts → Result Parts PartsError
+judged release local p = if length release == 0 then Err EmptyRelease else (if list_all is_segment local then Ok p else Err LocalSegment)
+
+not_zero : (n : ℕ) → (suc n == 0) ≡ false
+not_zero n = grind (arith, nat_tests)
+
+spelt_judged : (text : List ℕ) (ns : List ℕ) (local : List LocalPart) (p : Parts) → IsRelease text ns → list_all is_segment local ≡ true → judged ns local p ≡ Ok p
+spelt_judged text [] local p is e = absurd is
+spelt_judged text (n ∷ ns) local p is e = rw (not_zero (length ns), e) refl
+
+pub spelt_from : (text : List ℕ) (p : Parts) → Spells text p → version_from p ≡ Ok p
+spelt_from text p s = spelt_judged s.release p.release p.local p s.is_release (spelt_local s.local p.local s.is_local)
+
+judged_Ok : (ns : List ℕ) (local : List LocalPart) (p v : Parts) → judged ns local p ≡ Ok v
+    → (p ≡ v) × IsRelease (release_text ns) ns × (list_all is_segment local ≡ true)
+judged_Ok [] local p v e = absurd cc
+judged_Ok (n ∷ ns) local p v e = elim (sight (list_all is_segment local)) [
+  | inl all ↦ (let same : Ok p ≡ Ok v = rw (not_zero (length ns), all) at e in cc, release_spells n ns, all)
+  | inr other ↦ absurd (let no : Err LocalSegment ≡ Ok v = rw (not_zero (length ns), other) at e in cc)
+]
+
+pub from_spells : (p v : Parts) → version_from p ≡ Ok v → (v ≡ p) × Spells (normal p) p
+from_spells p v e =
+    let both = judged_Ok p.release p.local p v e in
+    (sym both.0, normal_spells_parts p both.1 (local_spells p.local both.2))
+
+pub made_ok : (p : Parts) (r : Result Parts PartsError) → Gives Memory (λ v. v) r (version_from p) → IfOk r (λ v. (v ≡ p) × Spells (normal v) v)
+made_ok p (Ok v) a =
+    let both = from_spells p v a in
+    (both.0, rw both.0 both.1)
+made_ok p (Err e) a = tt
+
+pub made_refused : (p : Parts) (r : Result Parts PartsError) → Gives Memory (λ v. v) r (version_from p)
+    → IfErr r (λ e. (e ≡ Memory → ⊥) → (text : List ℕ) → Spells text p → ⊥)
+made_refused p (Ok v) a = tt
+made_refused p (Err e) a = λ other text s. let both : Ok p ≡ Err e = sym (spelt_from text p s) ∙ a other in cc

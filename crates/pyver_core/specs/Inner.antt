@@ -1,0 +1,11 @@
+-- What serves private contracts and the laws of traits alone: no public contract rests on its wording.
+pub mod Draft
+pub mod EqualityLaws
+pub mod HashLaws
+pub mod Limit
+pub mod Operand
+pub mod OrderLaws
+pub mod PartsRef
+pub mod Phase
+pub mod Releases
+pub mod SpecifierDraft

@@ -1,0 +1,8 @@
+-- Versions (PEP 440, "Version scheme").
+pub mod FromParts
+pub mod Grammar
+pub mod Hashing
+pub mod Normal
+pub mod Order
+pub mod Parts
+pub mod Reading

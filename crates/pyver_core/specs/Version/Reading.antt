@@ -1,0 +1,156 @@
+-- Reading a version from the left: the parts that a text spells, as a function. It gives an answer exactly
+-- where `Spells` holds, and the parts of which it holds: the laws `version_of_spells` and
+-- `version_of_is_complete`. Each reader gives what it read at the front of a text, and the text behind it.
+use Rattle.std.specs.Prelude.{ℕ, zero, suc, Bool, ◌==◌, if◌then◌else◌, List, [], ◌∷◌, length, take, drop, codes, bytes_eq, Option, Some, None, option_map, unwrap_or}
+use Rattle.std.specs.Char.{is_ascii_digit, is_ascii_alphanumeric}
+use Rattle.std.specs.List.{list_all, prefix_len}
+use Rattle.std.specs.Str.{str_to_ascii_lowercase}
+use Rattle.std.specs.Str.Parse.{digits_value}
+use Rattle.pyver_core.specs.Options.{◌>>=◌, either}
+use Rattle.pyver_core.specs.Version.Parts.{Parts}
+use Rattle.pyver_core.specs.Version.Grammar.{is_white, is_separator, is_dot, starts}
+use Rattle.pyver_core.specs.declared.version.part.PreKind.{PreKind}
+use Rattle.pyver_core.specs.declared.version.part.PreKind.TheVariants.{A, B, Rc}
+use Rattle.pyver_core.specs.declared.version.part.LocalPart.{LocalPart}
+use Rattle.pyver_core.specs.declared.version.part.LocalPart.TheVariants.{Number, Text}
+
+-- ---- steps
+
+-- an item before others
+abbrev pub onto : {X : Type 0} → X → List X × List ℕ → List X × List ℕ
+onto x others = (x ∷ others.0, others.1)
+
+-- what is read where it can be read, and else nothing
+abbrev pub optional_at : {X : Type 0} → (List ℕ → Option (X × List ℕ)) → List ℕ → Option X × List ℕ
+optional_at read text = unwrap_or (option_map (λ x. (Some x.0, x.1)) (read text)) (None, text)
+
+-- what is read behind one byte of a class
+abbrev pub behind_at : {X : Type 0} → (ℕ → Bool) → (List ℕ → Option (X × List ℕ)) → List ℕ → Option (X × List ℕ)
+behind_at opens read [] = None
+behind_at opens read (b ∷ rest) = if opens b then read rest else None
+
+-- items as long as one can be read, at most so many
+unfoldable pub many : {X : Type 0} → (List ℕ → Option (X × List ℕ)) → ℕ → List ℕ → List X × List ℕ
+many read zero text = ([], text)
+many read (suc n) text = unwrap_or (option_map (λ x. onto x.0 (many read n x.1)) (read text)) ([], text)
+
+-- items as long as one can be read
+unfoldable pub many_at : {X : Type 0} → (List ℕ → Option (X × List ℕ)) → List ℕ → List X × List ℕ
+many_at read text = many read (length text) text
+
+-- ---- white space, separators, numbers and words
+
+abbrev pub after_white : List ℕ → List ℕ
+after_white text = drop (prefix_len is_white text) text
+
+abbrev pub after_separator : List ℕ → List ℕ
+after_separator [] = []
+after_separator (b ∷ rest) = if is_separator b then rest else b ∷ rest
+
+-- digits or none
+abbrev pub count_at : List ℕ → ℕ × List ℕ
+count_at text = (digits_value 10 (take (prefix_len is_ascii_digit text) text), drop (prefix_len is_ascii_digit text) text)
+
+-- one digit or more
+abbrev pub number_at : List ℕ → Option (ℕ × List ℕ)
+number_at text = if starts is_ascii_digit text then Some (count_at text) else None
+
+-- the text behind a word, which is in lower case here and in any case there
+abbrev pub word_at : List ℕ → List ℕ → Option (List ℕ)
+word_at word text = if bytes_eq (str_to_ascii_lowercase (take (length word) text)) word then Some (drop (length word) text) else None
+
+-- the text behind the longer of two words, or else the shorter
+abbrev pub either_at : List ℕ → List ℕ → List ℕ → Option (List ℕ)
+either_at longer shorter text = either (word_at longer text) (word_at shorter text)
+
+-- ---- the epoch and the release
+
+abbrev pub after_prefix : List ℕ → List ℕ
+after_prefix text = unwrap_or (word_at (codes "v") text) text
+
+-- the epoch and the first number of the release
+unfoldable pub head_at : List ℕ → Option ((ℕ × ℕ) × List ℕ)
+head_at text = do
+  first ← number_at text
+  if starts (λ b. b == 33) first.1 then (number_at (drop 1 first.1) >>= λ second. Some ((first.0, second.0), second.1)) else Some ((0, first.0), first.1)
+
+unfoldable pub dotted_number_at : List ℕ → Option (ℕ × List ℕ)
+dotted_number_at text = behind_at is_dot number_at text
+
+-- the epoch and the release, behind the prefix
+unfoldable pub base_at : List ℕ → Option ((ℕ × List ℕ) × List ℕ)
+base_at text = do
+  head ← head_at (after_prefix text)
+  let others = many_at dotted_number_at head.1
+  Some ((head.0.0, head.0.1 ∷ others.0), others.1)
+
+-- ---- pre, post and dev
+
+-- what stands behind the word of a part: at most one separator, digits or none
+abbrev pub tail_at : List ℕ → ℕ × List ℕ
+tail_at text = count_at (after_separator text)
+
+unfoldable pub pre_word_at : List ℕ → Option (PreKind × List ℕ)
+pre_word_at text = either (option_map (λ rest. (A, rest)) (either_at (codes "alpha") (codes "a") text))
+    (either (option_map (λ rest. (B, rest)) (either_at (codes "beta") (codes "b") text))
+    (either (option_map (λ rest. (Rc, rest)) (either_at (codes "preview") (codes "pre") text))
+    (option_map (λ rest. (Rc, rest)) (either_at (codes "rc") (codes "c") text))))
+
+unfoldable pub post_word_at : List ℕ → Option (List ℕ)
+post_word_at text = either (word_at (codes "post") text) (either_at (codes "rev") (codes "r") text)
+
+unfoldable pub tagged_pre_at : List ℕ → Option ((PreKind × ℕ) × List ℕ)
+tagged_pre_at text = do
+  word ← pre_word_at (after_separator text)
+  Some ((word.0, (tail_at word.1).0), (tail_at word.1).1)
+
+unfoldable pub tagged_post_at : List ℕ → Option (ℕ × List ℕ)
+tagged_post_at text = do
+  rest ← post_word_at (after_separator text)
+  Some (tail_at rest)
+
+unfoldable pub dashed_number_at : List ℕ → Option (ℕ × List ℕ)
+dashed_number_at text = behind_at (λ b. b == 45) number_at text
+
+unfoldable pub dashed_or_tagged_post_at : List ℕ → Option (ℕ × List ℕ)
+dashed_or_tagged_post_at text = either (dashed_number_at text) (tagged_post_at text)
+
+unfoldable pub tagged_dev_at : List ℕ → Option (ℕ × List ℕ)
+tagged_dev_at text = do
+  rest ← word_at (codes "dev") (after_separator text)
+  Some (tail_at rest)
+
+-- ---- the local part
+
+abbrev pub segment_of : List ℕ → LocalPart
+segment_of run = if list_all is_ascii_digit run then Number (digits_value 10 run) else Text (str_to_ascii_lowercase run)
+
+unfoldable pub segment_at : List ℕ → Option (LocalPart × List ℕ)
+segment_at text = if starts is_ascii_alphanumeric text then Some (segment_of (take (prefix_len is_ascii_alphanumeric text) text), drop (prefix_len is_ascii_alphanumeric text) text) else None
+
+unfoldable pub separated_segment_at : List ℕ → Option (LocalPart × List ℕ)
+separated_segment_at text = behind_at is_separator segment_at text
+
+unfoldable pub added_segment_at : List ℕ → Option (LocalPart × List ℕ)
+added_segment_at text = behind_at (λ b. b == 43) segment_at text
+
+unfoldable pub local_at : List ℕ → List LocalPart × List ℕ
+local_at text = unwrap_or (option_map (λ first. onto first.0 (many_at separated_segment_at first.1)) (added_segment_at text)) ([], text)
+
+-- ---- the whole text
+
+-- the parts behind the release
+unfoldable pub parts_at : ℕ × List ℕ → List ℕ → Parts × List ℕ
+parts_at base text =
+    let pre = optional_at tagged_pre_at text in
+    let post = optional_at dashed_or_tagged_post_at pre.1 in
+    let dev = optional_at tagged_dev_at post.1 in
+    let local = local_at dev.1 in
+    (record { epoch = base.0; release = base.1; pre = pre.0; post = post.0; dev = dev.0; local = local.0 }, local.1)
+
+-- The parts that the text spells.
+unfoldable pub version_of : List ℕ → Option Parts
+version_of text = do
+  base ← base_at (after_white text)
+  let parts = parts_at base.0 base.1
+  if list_all is_white parts.1 then Some parts.0 else None

@@ -1,0 +1,131 @@
+//! Which versions a specifier admits (PEP 440, "Version specifiers").
+
+ghost use Rattle.std.specs.Prelude.{◌≡◌, ◌==◌, length, nat_eq};
+ghost use Rattle.std.specs.List.{list_all, starts_with};
+ghost use Rattle.pyver_core.specs.Inner.PartsRef.{parts_of};
+ghost use Rattle.pyver_core.specs.Version.Order.{is_before, is_same, with_zeros};
+ghost use Rattle.pyver_core.specs.Set.Admission.{admits, has_base_of, has_local, is_above, is_at_least, is_at_most, is_below, is_compatible, matches, matches_prefix};
+
+use crate::set::Specifier;
+use crate::version::{PartsRef, Version, compare};
+
+impl Specifier {
+    /// Whether the specifier admits the version. It takes no memory.
+    pub fn admits(&self, version: &Version) -> bool
+        ensures { result ≡ admits self.now version.now }
+    {
+        match self {
+            Specifier::Equal(operand) => matches(operand, version),
+            Specifier::EqualPrefix(prefix) => {
+                matches_prefix(prefix.epoch(), prefix.release(), version)
+            }
+            Specifier::NotEqual(operand) => !matches(operand, version),
+            Specifier::NotEqualPrefix(prefix) => {
+                !matches_prefix(prefix.epoch(), prefix.release(), version)
+            }
+            Specifier::AtMost(operand) => is_at_most(operand, version),
+            Specifier::AtLeast(operand) => is_at_least(operand, version),
+            Specifier::Before(operand) => is_below(operand, version),
+            Specifier::After(operand) => is_above(operand, version),
+            Specifier::Compatible(operand) => is_compatible(operand, version),
+            Specifier::Arbitrary(text) => version.text().eq_ignore_ascii_case(text.as_str()),
+        }
+    }
+}
+
+fn is_before(left: &PartsRef<'_>, right: &PartsRef<'_>) -> bool
+    ensures { result ≡ is_before (parts_of left.now) (parts_of right.now) }
+{
+    compare(left, right).is_lt()
+}
+
+fn is_same(left: &PartsRef<'_>, right: &PartsRef<'_>) -> bool
+    ensures { result ≡ is_same (parts_of left.now) (parts_of right.now) }
+{
+    compare(left, right).is_eq()
+}
+
+fn has_local(version: &Version) -> bool
+    ensures { result ≡ has_local version.now }
+{
+    !version.local().is_empty()
+}
+
+fn matches(operand: &Version, version: &Version) -> bool
+    ensures { result ≡ matches operand.now version.now }
+{
+    let parts = version.parts();
+    if has_local(operand) {
+        is_same(&parts, &operand.parts())
+    } else {
+        is_same(&parts.public_part(), &operand.parts())
+    }
+}
+
+fn matches_prefix(epoch: u128, release: &[u128], version: &Version) -> bool
+    ensures { result ≡ matches_prefix epoch release.now version.now }
+{
+    version.epoch() == epoch && begins_with(version.release(), release)
+}
+
+/// Whether a release begins with these numbers, as if it ended in as many zeros as it lacks.
+#[tactic(auto, using(crate::proofs::Lemmas::Set::Prefixes::begins_short))]
+fn begins_with(release: &[u128], prefix: &[u128]) -> bool
+    ensures { result ≡ starts_with nat_eq (with_zeros (length prefix.now) release.now) prefix.now }
+{
+    if prefix.len() <= release.len() {
+        return release.starts_with(prefix);
+    }
+    let (front, rest) = prefix.split_at(release.len());
+    front == release && is_zeros(rest)
+}
+
+fn is_zeros(numbers: &[u128]) -> bool
+    ensures { result ≡ list_all (λ n. n == 0) numbers.now }
+{
+    numbers.iter().all(|number| *number == 0)
+}
+
+fn has_base_of(operand: &Version, version: &Version) -> bool
+    ensures { result ≡ has_base_of operand.now version.now }
+{
+    is_same(
+        &version.parts().base_release(),
+        &operand.parts().base_release(),
+    )
+}
+
+fn is_at_most(operand: &Version, version: &Version) -> bool
+    ensures { result ≡ is_at_most operand.now version.now }
+{
+    !is_before(&operand.parts(), &version.parts().public_part())
+}
+
+fn is_at_least(operand: &Version, version: &Version) -> bool
+    ensures { result ≡ is_at_least operand.now version.now }
+{
+    !is_before(&version.parts().public_part(), &operand.parts())
+}
+
+fn is_below(operand: &Version, version: &Version) -> bool
+    ensures { result ≡ is_below operand.now version.now }
+{
+    version < operand
+        && !(!operand.is_prerelease() && version.is_prerelease() && has_base_of(operand, version))
+}
+
+fn is_above(operand: &Version, version: &Version) -> bool
+    ensures { result ≡ is_above operand.now version.now }
+{
+    operand < version
+        && !(!operand.is_postrelease() && version.is_postrelease() && has_base_of(operand, version))
+        && !(has_local(version) && is_same(&version.parts().public_part(), &operand.parts()))
+}
+
+fn is_compatible(operand: &Version, version: &Version) -> bool
+    ensures { result ≡ is_compatible operand.now version.now }
+{
+    let release = operand.release();
+    is_at_least(operand, version)
+        && matches_prefix(operand.epoch(), &release[..release.len() - 1], version)
+}

@@ -1,0 +1,72 @@
+//! What stands behind the operator of a specifier.
+
+ghost use Rattle.std.specs.Prelude.{◌≡◌, option_map};
+ghost use Rattle.std.specs.List.{prefix_len};
+ghost use Rattle.pyver_core.specs.Inner.Draft.{draft_parts};
+ghost use Rattle.pyver_core.specs.Set.Grammar.{is_arbitrary};
+ghost use Rattle.pyver_core.specs.Set.Reading.{arbitrary_of, compatible_of, is_star, prefix_of, public_of};
+ghost use Rattle.pyver_core.specs.Inner.SpecifierDraft.{base_prefix};
+
+use super::operator::past_white_text;
+use crate::version::reading::{
+    Base, Draft, is_blank, is_white_byte, past_white, read_base, read_version,
+};
+
+/// Whether `.*` is all that stands there, but for white space.
+fn is_star(bytes: &[u8]) -> bool
+    ensures { result ≡ is_star bytes.now }
+{
+    match bytes {
+        [b'.', b'*', rest @ ..] => is_blank(rest),
+        _ => false,
+    }
+}
+
+/// The epoch and the release of `R.*`.
+#[tactic(auto, unfolding(crate::specs::Set::Reading::prefix_of))]
+pub(super) fn read_prefix(bytes: &[u8]) -> Option<Base<'_>>
+    ensures { option_map base_prefix result ≡ prefix_of bytes.now }
+{
+    let (base, rest) = read_base(past_white(bytes))?;
+    is_star(rest).then_some(base)
+}
+
+/// A version without a local part.
+#[tactic(auto, unfolding(crate::specs::Set::Reading::public_of))]
+pub(super) fn read_public(bytes: &[u8]) -> Option<Draft<'_>>
+    ensures { option_map draft_parts result ≡ public_of bytes.now }
+{
+    let draft = read_version(bytes)?;
+    draft.local.is_empty().then_some(draft)
+}
+
+/// A version without a local part and with two numbers or more in its release.
+#[tactic(auto, unfolding(crate::specs::Set::Reading::compatible_of))]
+pub(super) fn read_compatible(bytes: &[u8]) -> Option<Draft<'_>>
+    ensures { option_map draft_parts result ≡ compatible_of bytes.now }
+{
+    let draft = read_public(bytes)?;
+    draft.base.release.has_two().then_some(draft)
+}
+
+fn is_arbitrary_byte(byte: u8) -> bool
+    ensures { result ≡ is_arbitrary byte }
+{
+    !(is_white_byte(byte) || matches!(byte, b';' | b')' | b','))
+}
+
+fn arbitrary_len(bytes: &[u8]) -> usize
+    ensures { result ≡ prefix_len is_arbitrary bytes.now }
+{
+    bytes.iter().take_while(|b| is_arbitrary_byte(**b)).count()
+}
+
+/// The text behind `===`, which has no white space, `;`, `)` or `,` in it.
+#[tactic(auto, using(crate::proofs::Lemmas::Set::Boundaries::boundary_behind_arbitrary), unfolding(crate::specs::Set::Reading::arbitrary_of))]
+pub(super) fn read_arbitrary(text: &str) -> Option<&str>
+    ensures { option_map (λ t. t.now) result ≡ arbitrary_of text.now }
+{
+    let text = past_white_text(text);
+    let (run, rest) = text.split_at(arbitrary_len(text.as_bytes()));
+    (!run.is_empty() && is_blank(rest.as_bytes())).then_some(run)
+}

@@ -1,0 +1,43 @@
+//! Versions from their texts.
+
+ghost use Rattle.std.specs.Prelude.{◌≡◌, IfOk, IsErrOf};
+ghost use Rattle.pyver_core.specs.Agreement.{Gives};
+ghost use Rattle.pyver_core.specs.Version.Grammar.{Spells, IsLarge};
+ghost use Rattle.pyver_core.specs.Parsed.{parsed_version};
+ghost use Rattle.pyver_core.specs.Version.Parts.{Parts};
+
+use super::reading::read_version;
+use crate::version::{Version, VersionError};
+use std::alloc::Global;
+
+impl Version {
+    /// The version that the text spells (PEP 440, "Version scheme").
+    ///
+    /// Letter case, alternative spellings and leading zeros don't matter, and white space (TAB, LF, VT,
+    /// FF, CR, space) may stand at both ends. `NumberTooLarge` is answered only to a text that follows
+    /// the grammar as a whole, so `Syntax` comes first. A refusal as `Syntax` takes no memory; a version
+    /// takes that of its release, its local part and its normal form.
+    pub fn parse(alloc: Global, text: &str) -> Result<Version, VersionError>
+        ensures ok { IfOk result (λ v. Spells text.now v) }
+        ensures fits { IfOk result (λ v. IsLarge v → ⊥) }
+
+        ensures syntax { IsErrOf result VersionError.Syntax → (p : Parts) → Spells text.now p → ⊥ }
+        ensures large { IsErrOf result VersionError.NumberTooLarge
+            → (p : Parts) × Spells text.now p × IsLarge p }
+
+        // The same, over the one answer of the grammar.
+        ensures exact { Gives VersionError.Memory (λ v. v) result (parsed_version text.now) }
+    {
+        version_from_bytes(alloc, text.as_bytes())
+    }
+}
+
+#[tactic(auto, using(crate::proofs::Lemmas::Version::Answers::version_refused))]
+fn version_from_bytes(alloc: Global, bytes: &[u8]) -> Result<Version, VersionError>
+    ensures { Gives VersionError.Memory (λ v. v) result (parsed_version bytes.now) }
+{
+    match read_version(bytes) {
+        Some(draft) => draft.to_version(alloc),
+        None => Err(VersionError::Syntax),
+    }
+}

@@ -1,0 +1,49 @@
+//! The parts of a version, lent: what a comparison reads, and what the normal form is written from.
+
+ghost use Rattle.std.specs.Prelude.{◌≡◌};
+ghost use Rattle.pyver_core.specs.Version.Parts.{base_release, public_part};
+
+use crate::version::{LocalPart, PreKind};
+
+/// The parts of a version, lent for a comparison or to be written.
+#[derive(Clone, Copy)]
+pub(crate) struct PartsRef<'a> {
+    pub(crate) epoch: u128,
+    pub(crate) release: &'a [u128],
+    pub(crate) pre: Option<(PreKind, u128)>,
+    pub(crate) post: Option<u128>,
+    pub(crate) dev: Option<u128>,
+    pub(crate) local: &'a [LocalPart],
+}
+
+impl<'a> PartsRef<'a> {
+    ghost use Rattle.pyver_core.specs.Inner.PartsRef.{parts_of};
+
+    /// The parts without the local part.
+    pub(crate) fn public_part(&self) -> PartsRef<'a>
+        ensures { parts_of result ≡ public_part (parts_of self.now) }
+    {
+        PartsRef {
+            epoch: self.epoch,
+            release: self.release,
+            pre: self.pre,
+            post: self.post,
+            dev: self.dev,
+            local: &[],
+        }
+    }
+
+    /// The epoch and the release alone.
+    pub(crate) fn base_release(&self) -> PartsRef<'a>
+        ensures { parts_of result ≡ base_release (parts_of self.now) }
+    {
+        PartsRef {
+            epoch: self.epoch,
+            release: self.release,
+            pre: None,
+            post: None,
+            dev: None,
+            local: &[],
+        }
+    }
+}
