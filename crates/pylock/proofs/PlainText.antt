@@ -3,7 +3,7 @@ use Rattle.std.proofs.Common.{◌≡◌, ◌∙◌, ℕ, true, List, [], ◌∷�
 use Rattle.std.proofs.lemmas.Bool.{and_parts}
 use Rattle.std.proofs.lemmas.Slice.Eq.{bytes_eq-Decides}
 use Rattle.std.specs.List.{list_all}
-use Rattle.pylock.specs.Fields.{escape, escaped, is_plain}
+use Rattle.pylock.specs.Text.Field.{escape, escaped, is_plain}
 
 -- it stands in a field as it is
 pub plain_stands : (text : List ℕ) → list_all is_plain text ≡ true → escaped text ≡ text

@@ -5,3 +5,4 @@ pub mod Faults
 pub mod Edited
 pub mod Hashes
 pub mod Reply
+pub mod Pieces

@@ -1,5 +1,4 @@
 -- The reply of a one-shot command: what it prints, and its status.
-pub mod Parsed
 use Rattle.std.specs.Prelude.{ℕ, Bool, true, false, if◌then◌else◌, List, [], ◌∷◌, codes, Some}
 use Rattle.std.specs.Prelude.{Result, Ok, Err}
 use Rattle.std.specs.Result.{result_map_both}
@@ -12,11 +11,11 @@ use Rattle.pyver_core.specs.declared.error.SpecifierError.{SpecifierError}
 use Rattle.pyver_core.specs.declared.error.SpecifierError.TheVariants as specifier
 use Rattle.pyver_core.specs.declared.error.VersionError.{VersionError}
 use Rattle.pyver_core.specs.declared.error.VersionError.TheVariants as version
-use Rattle.pylock.specs.Reply.Parsed.{parsed_version, parsed_set}
+use Rattle.pyver_core.specs.Parsed.{parsed_version, parsed_set}
 use Rattle.pylock.specs.Report.{Report}
 use Rattle.pylock.specs.Text.Field.{field, line_of}
-use Rattle.pylock.specs.declared.reply.query.Query.{Query}
-use Rattle.pylock.specs.declared.reply.query.Query.TheVariants.{Version, Match, Name}
+use Rattle.pylock.specs.declared.reply.queries.Query.{Query}
+use Rattle.pylock.specs.declared.reply.queries.Query.TheVariants.{Version, Match, Name}
 
 -- an answer, or the word of a refusal; want of memory is no refusal, and is never printed
 abbrev pub worded : {V E : Type 0} → (E → List ℕ) → Result V E → Result V (List ℕ)

@@ -10,7 +10,7 @@ use Rattle.pylock_core.specs.Lock.{lock_of}
 use Rattle.pylock_core.specs.State.{State, first, apply}
 use Rattle.pylock_core.specs.Steps.{answer}
 use Rattle.pylock_core.specs.declared.answer.Answer.{Answer}
-use Rattle.pylock_core.specs.declared.answer.Answer.TheVariants.{Plan, Fault}
+use Rattle.pylock_core.specs.declared.answer.Answer.TheVariants as answers
 use Rattle.pylock.specs.Line.{input_lines, ended_lines, command_of, edit_refusal}
 use Rattle.pylock.specs.Text.Plan.{answer_text}
 use Rattle.pylock.specs.Text.Refusal.{refused_text, refusal_text}
@@ -73,8 +73,8 @@ any_refused state (line ∷ lines) =
     is_err (after_line state line) || any_refused (state_after state line) lines
 
 abbrev pub is_plan : Answer → Bool
-is_plan (Plan picks) = true
-is_plan (Fault id code) = false
+is_plan (answers.Plan picks) = true
+is_plan (answers.Fault id code) = false
 
 -- 0: the last answer is a plan and no line was refused
 abbrev pub lines_status : State → List (List ℕ) → ℕ

@@ -1,8 +1,10 @@
 //! The command line.
-ghost use Rattle.std.specs.Prelude.{◌≡◌, [], map, false, true, is_some, IfOk, IfErr, OnOk, IfSome, IfNone};
-ghost use Rattle.clap.specs.Words.{app_of, fault_of, subcommand_of, subcommand_rows_of, with_subcommand};
+ghost use Rattle.std.specs.Prelude.{◌≡◌, [], map, false, true, IfOk, IfErr, OnOk, IfSome, IfNone};
+ghost use Rattle.clap.specs.Words.{app_of, fault_of, subcommand_of, subcommand_rows_of};
+ghost use Rattle.clap.specs.Words.{with_subcommand};
 ghost use Rattle.clap.specs.declared.builder.command.Command.TheViews.{out-Command as fields_of};
-ghost use Rattle.pylock.specs.CommandLine.{IsRefusal, IsTask, match_app, name_app, pylock_app, select_app, version_app};
+ghost use Rattle.pylock.specs.CommandLine.{IsRefusal, IsTask, is_lacking, pylock_app};
+ghost use Rattle.pylock.specs.CommandLine.{match_app, name_app, select_app, version_app};
 
 use clap::error::ErrorKind;
 use clap::{Arg, ArgMatches, Command};
@@ -26,7 +28,8 @@ pub enum Task<'a> {
 /// Why there is no task.
 #[derive(Debug, Drop)]
 pub enum CommandError {
-    /// Clap refuses the words, or they ask for help. The error says which stream and status it wants.
+    /// Clap refuses the words, or they ask for help or the version. The error says which stream and
+    /// status it wants.
     Refused(clap::Error),
     /// A growth was refused.
     Memory,
@@ -43,7 +46,7 @@ impl From<AllocError> for CommandError {
 }
 
 impl From<clap::Error> for CommandError {
-    ghost use Rattle.pylock.specs.CommandError.{Keeps};
+    ghost use Rattle.pylock.specs.CommandLine.{Keeps};
 
     ghost from_gives = { Keeps };
 
@@ -54,6 +57,9 @@ impl From<clap::Error> for CommandError {
         }
     }
 }
+
+/// The version of the program, which stands on the first line of a run without words too.
+const VERSION: &str = "1";
 
 const ABOUT: &str = "Selects from a lock what an installer installs";
 
@@ -69,7 +75,14 @@ Edits come as lines on standard input:
   del ID  remove the entry with this number
 
 Status: 0, the last answer is a plan and no line was refused; 1, otherwise;
-2, the lock or the environment is refused; 3, a file or a stream failed.";
+2, the lock, the environment or the command line is refused; 3, a line on
+standard error says why it ended early:
+  pylock: file    a file can't be read or has more than 268,435,456 bytes
+  pylock: read    a read of standard input failed
+  pylock: write   a write to standard output failed
+  pylock: input   the input has more than 1,000,000 lines or more than
+                  268,435,456 bytes
+  pylock: memory  memory ran out";
 
 const VERSION_ABOUT: &str = "Print the normal form of a version (PEP 440)";
 
@@ -77,7 +90,8 @@ const VERSION_HELP: &str = "A version, such as 1.0rc1; one that begins with - is
 
 const VERSION_REPLY: &str = "\
 Prints the normal form, or refused, TAB and one of the words syntax and number.
-Status: 0, it is a version; 1, it is refused; 3, the output failed.";
+Status: 0, it is a version; 1, it is refused; 3, the output failed or memory
+ran out.";
 
 const MATCH_ABOUT: &str = "Print whether a specifier set admits a version (PEP 440)";
 
@@ -86,7 +100,8 @@ const SET_HELP: &str = "A specifier set, such as '>=2.8.1, ==2.8.*'";
 const MATCH_REPLY: &str = "\
 Prints true or false, or refused, TAB and one of the words set-syntax,
 set-number, version-syntax and version-number.
-Status: 0, an answer; 1, a text is refused; 3, the output failed.";
+Status: 0, an answer; 1, a text is refused; 3, the output failed or memory ran
+out.";
 
 const NAME_ABOUT: &str = "Print the normal form of a name (PEP 503)";
 
@@ -94,7 +109,8 @@ const NAME_HELP: &str = "The name of a package, an extra or a group";
 
 const NAME_REPLY: &str = "\
 Prints the normal form, or refused, TAB and the word name.
-Status: 0, it is a name; 1, it is refused; 3, the output failed.";
+Status: 0, it is a name; 1, it is refused; 3, the output failed or memory ran
+out.";
 
 /// `select LOCK ENV`.
 fn select_command<'a>(alloc: Global) -> Result<Command<'a>, AllocError>
@@ -183,7 +199,7 @@ fn add_name<'a>(alloc: Global, pylock: Command<'a>) -> Result<Command<'a>, Alloc
 fn pylock_command<'a>(alloc: Global) -> Result<Command<'a>, AllocError>
     ensures { IfOk result (λ c. app_of c ≡ pylock_app) }
 {
-    let pylock = Command::new(alloc, "pylock").about(ABOUT);
+    let pylock = Command::new(alloc, "pylock").about(ABOUT).version(VERSION);
     let pylock = add_select(alloc, pylock)?;
     let pylock = add_version(alloc, pylock)?;
     let pylock = add_match(alloc, pylock)?;
@@ -193,7 +209,7 @@ fn pylock_command<'a>(alloc: Global) -> Result<Command<'a>, AllocError>
 /// The task that clap's matches give: none where a subcommand lacks a text.
 fn task_of<'a>(matches: &ArgMatches<'a>) -> Option<Task<'a>>
     ensures some { IfSome result (IsTask (subcommand_rows_of matches.now)) }
-    ensures none { IfNone result (is_some (subcommand_rows_of matches.now) ≡ true) }
+    ensures none { IfNone result (is_lacking (subcommand_rows_of matches.now) ≡ true) }
 {
     let Some((name, found)) = matches.subcommand() else {
         return Some(Task::Bare);
@@ -208,11 +224,12 @@ fn task_of<'a>(matches: &ArgMatches<'a>) -> Option<Task<'a>>
 }
 
 /// The task that `words` ask for, of which the first is the program's name. A text of the task is one
-/// of the words.
+/// of the words. A refusal is clap's, or says that a text of the subcommand is missing.
 ///
 /// It takes memory for the command line's description, for what is found and for the text of an error.
 pub fn command<'a>(alloc: Global, words: &'a [&'a str]) -> Result<Task<'a>, CommandError>
-    ensures task { IfOk result (IsTask (subcommand_of pylock_app (map (λ w. w.now) words.entry.now))) }
+    ensures task { IfOk result
+        (IsTask (subcommand_of pylock_app (map (λ w. w.now) words.entry.now))) }
     ensures taken { OnOk result (fault_of pylock_app (map (λ w. w.now) words.entry.now) ≡ []) }
     ensures refused { IfErr result (IsRefusal (map (λ w. w.now) words.entry.now)) }
 {
@@ -223,41 +240,6 @@ pub fn command<'a>(alloc: Global, words: &'a [&'a str]) -> Result<Task<'a>, Comm
         None => {
             let kind = ErrorKind::MissingRequiredArgument;
             Err(CommandError::Refused(app.error(kind, "an argument is missing")?))
-        }
-    }
-}
-
-#[cfg(test)]
-mod tests {
-    use super::*;
-    use std::test::Fail;
-
-    #[test]
-    fn reads_words(rt: HostRuntime) -> Result<(), Fail> {
-        assert!(rt; matches!(command(rt.alloc(), &["pylock"])?, Task::Bare));
-        let task = command(rt.alloc(), &["pylock", "select", "a", "b"])?;
-        assert!(rt; matches!(task, Task::Select("a", "b")));
-        let task = command(rt.alloc(), &["pylock", "select", "--", "-a", "-b"])?;
-        assert!(rt; matches!(task, Task::Select("-a", "-b")));
-        let task = command(rt.alloc(), &["pylock", "name", "--", "-a"])?;
-        assert!(rt; matches!(task, Task::Name("-a")));
-        let task = command(rt.alloc(), &["pylock", "version", "1"])?;
-        assert!(rt; matches!(task, Task::Version("1")));
-        let task = command(rt.alloc(), &["pylock", "match", "", "1"])?;
-        assert!(rt; matches!(task, Task::Match("", "1")));
-        Ok(())
-    }
-
-    #[test]
-    fn refuses_words(rt: HostRuntime) {
-        for words in [
-            ["pylock", "fly", "a"].as_slice(),
-            &["pylock", "select", "a"],
-            &["pylock", "select", "a", "b", "c"],
-            &["pylock", "match", "a"],
-        ] {
-            let refused = command(rt.alloc(), words);
-            assert!(rt; matches!(refused, Err(CommandError::Refused(_))));
         }
     }
 }

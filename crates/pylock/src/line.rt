@@ -4,7 +4,8 @@ ghost use Rattle.std.specs.Prelude.{◌≡◌};
 ghost use Rattle.std.specs.Option.{option_copied};
 ghost use Rattle.std.specs.List.{list_all};
 ghost use Rattle.std.specs.Char.{is_ascii_digit};
-ghost use Rattle.pylock.specs.Lines.{command_of, text_command, without_cr, entry_number, is_entry_number, command_after};
+ghost use Rattle.pylock.specs.Line.{command_of, text_command, without_cr, entry_number};
+ghost use Rattle.pylock.specs.Line.{is_entry_number, command_after};
 
 use pylock_core::{Edit, EditError};
 
@@ -37,7 +38,7 @@ pub enum LineRefusal {
 
 impl From<EditError> for LineRefusal {
     ghost use Rattle.std.specs.Prelude.{◌≡◌};
-    ghost use Rattle.pylock.specs.Refusals.{edit_refusal};
+    ghost use Rattle.pylock.specs.Line.{edit_refusal};
 
     ghost from_gives = { λ error refused. refused ≡ edit_refusal error };
 

@@ -2,30 +2,22 @@
 #![tactic(auto)]
 
 mod command;
-mod editing;
-mod ends;
-mod fault;
-mod files;
-#[cfg(test)]
-mod growths;
-mod lines;
-mod memory;
-mod printing;
-mod queries;
-mod refusals;
+mod line;
 mod reply;
-mod run;
-mod streams;
-mod writing;
+mod report;
+mod stream;
+#[cfg(test)]
+mod tests;
+mod text;
 
 use crate::command::{CommandError, Task, command};
-use crate::fault::RunFault;
-use crate::files::{FileFault, read_whole};
-use crate::queries::Query;
 use crate::reply::query;
-use crate::run::run;
-use crate::streams::{FromRead, ToWrite};
-use crate::writing::write_all;
+use crate::reply::queries::Query;
+use crate::report::fault::RunFault;
+use crate::report::run::run;
+use crate::stream::whole::{FileFault, read_whole};
+use crate::stream::wrapper::{FromRead, ToWrite};
+use crate::stream::writer::write_all;
 use std::process::ExitCode;
 use std::{env, fs, io};
 

@@ -1,16 +1,20 @@
 //! The replies of the one-shot commands.
 
 ghost use Rattle.std.specs.Prelude.{◌≡◌, ◌++◌, IfOk, OnOk, OnErr, IfErr, Ok, Err};
-ghost use Rattle.std.specs.Io.KnownBytes.{append_known};
-ghost use Rattle.pylock.specs.EditingFaults.{IsOutputFault};
-ghost use Rattle.pylock.specs.Moves.{WritesFront};
-ghost use Rattle.pylock.specs.Reply.{reply, reply_of, Pushes, version_answer, match_answer, admits_answer, truth_word, name_answer, query_answer};
+ghost use Rattle.std.specs.Io.KnownBytes.{Appends};
+ghost use Rattle.pylock.specs.Inner.Reply.{Pushes};
+ghost use Rattle.pylock.specs.Reply.{reply, reply_of, query_answer, version_answer, match_answer};
+ghost use Rattle.pylock.specs.Reply.{admits_answer, truth_word, name_answer};
+ghost use Rattle.pylock.specs.Report.Fault.{HasCause};
+ghost use Rattle.pylock.specs.Stream.{TakesFront, one_more};
 
-use crate::ends::Sink;
-use crate::fault::RunFault;
-use crate::printing::push_field;
-use crate::queries::Query;
-use crate::writing::write_all;
+pub mod queries;
+
+use crate::reply::queries::Query;
+use crate::report::fault::RunFault;
+use crate::stream::Sink;
+use crate::stream::writer::write_all;
+use crate::text::field::push_field;
 use pyver_core::{SpecifierError, SpecifierSet, Version, VersionError, is_name, normal_name};
 use std::alloc::{AllocError, Global};
 
@@ -18,11 +22,20 @@ use std::alloc::{AllocError, Global};
 /// a text is refused. After a fault a front of the reply is written. Takes memory for what it parses and
 /// for the reply.
 pub fn query<W: Sink>(alloc: Global, query: Query<'_>, writer: &mut W) -> Result<u8, RunFault>
-    ensures text { OnOk result (W.held writer.new ≡ append_known (W.held writer.old) (reply query.entry).text) }
+    ensures text { OnOk result (Appends (W.value writer.old).held (W.value writer.new).held
+        (reply query.entry).text) }
     ensures status { IfOk result (λ status. status ≡ (reply query.entry).status) }
-    ensures counted { OnOk result (W.failures writer.new ≡ W.failures writer.old) }
-    ensures front { OnErr result (WritesFront (W.held writer.old) (W.held writer.new) (reply query.entry).text) }
-    ensures fault { IfErr result (IsOutputFault (W.failures writer.old) (W.failures writer.new)) }
+    ensures counted { OnOk result
+        ((W.value writer.new).failures ≡ (W.value writer.old).failures) }
+    ensures front { OnErr result (TakesFront (W.value writer.old) (W.value writer.new)
+        (reply query.entry).text) }
+
+    // A write failed, or a growth was refused and no write failed.
+    ensures fault { IfErr result (HasCause
+        ⊥
+        ((W.value writer.new).failures ≡ one_more (W.value writer.old).failures)
+        ⊥
+        ((W.value writer.new).failures ≡ (W.value writer.old).failures)) }
 {
     let mut out = Vec::new(alloc);
     let status = push_reply(alloc, &mut out, query)?;
@@ -114,6 +127,3 @@ fn push_refusal(out: &mut Vec<u8>, word: &str) -> Result<u8, AllocError>
     out.push(b'\n')?;
     Ok(1)
 }
-
-#[cfg(test)]
-mod tests;

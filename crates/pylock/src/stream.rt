@@ -1,10 +1,15 @@
 //! Where the program's bytes come from and where they go.
 //!
-//! A source tells contracts the bytes that are to come, a sink those that it holds; each may tell
+//! A source tells contracts the bytes that are to come, a sink those that it took; each may tell
 //! nothing. Both tell how often they failed, a count that stops at its last value.
-ghost use Rattle.std.specs.Prelude.{◌≡◌, ℕ, ◌<◌, ◌≤◌, List, Option, length, take, IfOk, OnOk, OnErr};
-ghost use Rattle.std.specs.Io.KnownBytes.{prepend_known, append_known, IsAtEnd};
-ghost use Rattle.pylock.specs.Faults.{one_more};
+ghost use Rattle.std.specs.Prelude.{◌≡◌, ◌<◌, ◌≤◌, length, IfOk, OnErr, OnOk};
+ghost use Rattle.std.specs.Io.KnownBytes.{ReadConsumes, WriteAppends};
+ghost use Rattle.pylock.specs.Stream.{SourceValue, SinkValue, one_more};
+
+pub mod memory;
+pub mod whole;
+pub mod wrapper;
+pub mod writer;
 
 /// A read or a write that failed. What failed is not told.
 #[derive(Clone, Copy, Debug, PartialEq, Eq)]
@@ -12,38 +17,32 @@ pub struct IoFault;
 
 /// Bytes to read.
 pub trait Source {
-    // The bytes to come, where they are told.
-    ghost rest: { Self → Option (List ℕ) };
-
-    ghost failures: { Self → ℕ };
+    ghost value: { Self → SourceValue };
 
     /// Moves bytes off the front of what is to come into the front of `buf`, and answers how many;
     /// none only at the end, or where `buf` is empty. Past those the contents of `buf` are open.
     /// A call that fails moves none.
     fn read(&mut self, buf: &mut [u8]) -> Result<usize, IoFault>
         ensures bound { IfOk result (λ n. n ≤ length buf.new) }
-        ensures given { IfOk result (λ n. rest self.old ≡ prepend_known (take n buf.new) (rest self.new)) }
-        ensures end { IfOk result (λ n. n ≡ 0 → 0 < length buf.old → IsAtEnd (rest self.new)) }
-        ensures counted { OnOk result (failures self.new ≡ failures self.old) }
-        ensures err { OnErr result (rest self.new ≡ rest self.old) }
-        ensures err_counted { OnErr result (failures self.new ≡ one_more (failures self.old)) };
+        ensures given { ReadConsumes (value self.old).rest (value self.new).rest result buf.new }
+        ensures counted { OnOk result ((value self.new).failures ≡ (value self.old).failures) }
+        ensures failed { OnErr result
+            ((value self.new).failures ≡ one_more (value self.old).failures) };
 }
 
 /// Where bytes are written.
 pub trait Sink {
-    // The bytes taken so far, where they are told.
-    ghost held: { Self → Option (List ℕ) };
-
-    ghost failures: { Self → ℕ };
+    ghost value: { Self → SinkValue };
 
     /// Takes bytes off the front of `piece`, and answers how many. To take none of a piece that has
     /// some counts as a failure, as an `Err` does. A call that fails takes none.
     fn write(&mut self, piece: &[u8]) -> Result<usize, IoFault>
         ensures bound { IfOk result (λ n. n ≤ length piece.now) }
-        ensures taken { IfOk result (λ n. held self.new ≡ append_known (held self.old) (take n piece.now)) }
-        ensures counted { IfOk result (λ n. (n ≡ 0 → length piece.now ≡ 0) → failures self.new ≡ failures self.old) }
+        ensures taken { WriteAppends (value self.old).held (value self.new).held result piece.now }
+        ensures counted { IfOk result (λ n. (n ≡ 0 → length piece.now ≡ 0)
+            → (value self.new).failures ≡ (value self.old).failures) }
         ensures stuck { IfOk result (λ n. n ≡ 0 → 0 < length piece.now
-            → failures self.new ≡ one_more (failures self.old)) }
-        ensures err { OnErr result (held self.new ≡ held self.old) }
-        ensures err_counted { OnErr result (failures self.new ≡ one_more (failures self.old)) };
+            → (value self.new).failures ≡ one_more (value self.old).failures) }
+        ensures failed { OnErr result
+            ((value self.new).failures ≡ one_more (value self.old).failures) };
 }

@@ -13,7 +13,7 @@ use Rattle.pylock_core.specs.declared.error.LockError.TheVariants as lock_error
 use Rattle.pylock.specs.declared.line.LineRefusal.{LineRefusal}
 use Rattle.pylock.specs.declared.line.LineRefusal.TheVariants as refusal
 use Rattle.pylock.specs.declared.report.opening.OpenError.{OpenError}
-use Rattle.pylock.specs.declared.report.opening.OpenError.TheVariants as open
+use Rattle.pylock.specs.declared.report.opening.OpenError.TheVariants as open_error
 use Rattle.pylock.specs.Text.Field.{line_of}
 
 abbrev pub line_word : LineRefusal → List ℕ
@@ -76,6 +76,6 @@ environment_text error = line_of (codes "environment") (environment_words error)
 
 -- what is printed in place of a report; want of memory is no refusal, and is never printed
 abbrev pub refusal_text : OpenError → List ℕ
-refusal_text (open.Lock error) = lock_text error
-refusal_text (open.Environment error) = environment_text error
-refusal_text open.Memory = []
+refusal_text (open_error.Lock error) = lock_text error
+refusal_text (open_error.Environment error) = environment_text error
+refusal_text open_error.Memory = []

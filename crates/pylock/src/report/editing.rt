@@ -1,16 +1,20 @@
 //! The editing of a session by the bytes of the input, in whatever pieces they come.
 
-ghost use Rattle.std.specs.Prelude.{◌≡◌, ◌++◌, ◌<◌, ◌≤◌, ◌+◌, Ok, Err, OnOk, IfOk, IfErr, OnErr, length, take, not, ◌&&◌, if◌then◌else◌};
+ghost use Rattle.std.specs.Prelude.{◌≡◌, ◌++◌, ◌<◌, ◌≤◌, ◌+◌, not, ◌&&◌, if◌then◌else◌, length, take};
+ghost use Rattle.std.specs.Prelude.{Ok, Err, OnOk, IfOk, IfErr, OnErr};
 ghost use Rattle.pylock_core.specs.Steps.{answer};
 ghost use Rattle.std.specs.List.{position};
-ghost use Rattle.pylock.specs.Lines.{is_lf};
+ghost use Rattle.pylock.specs.Line.{is_lf};
 ghost use Rattle.pylock.specs.Report.{is_plan, after_line, standing_text};
-ghost use Rattle.pylock.specs.Editing.{start, kept, end_line, end_text, bytes_done, bytes_text, finished, finished_text, lines_begun};
-ghost use Rattle.pylock.specs.EditingFaults.{IsTakeFault};
+ghost use Rattle.pylock.specs.Report.Run.{most_lines};
+ghost use Rattle.pylock.specs.Inner.Editing.{start, kept, end_line, end_text, bytes_done, bytes_text};
+ghost use Rattle.pylock.specs.Inner.Editing.{finished, finished_text, lines_begun};
+ghost use Rattle.pylock.specs.Inner.Faults.{IsTakeFault};
 
-use crate::fault::RunFault;
-use crate::lines::{Command, LINE_LIMIT, LineRefusal, read_line};
-use crate::printing::{push_answer, push_refused};
+use crate::line::{Command, LINE_LIMIT, LineRefusal, read_line};
+use crate::report::fault::RunFault;
+use crate::text::plan::push_answer;
+use crate::text::refusal::push_refused;
 use pylock_core::{Answer, Session};
 use std::alloc::{AllocError, Global};
 use std::marker::Model;
@@ -29,21 +33,28 @@ pub struct Editing {
     ended: u64,
     /// Whether one of them was refused.
     refused: bool,
-    /// What is kept of the line that is being read: of a line that is too long, `LINE_LIMIT + 1` bytes.
+    /// What is kept of the line that is being read: of one that is too long, `LINE_LIMIT + 1` bytes.
     line: Vec<u8>,
 }
 
 impl Model for Editing {
     ghost use Rattle.std.specs.Prelude.{◌≤◌, ◌+◌, min, vec_len};
-    ghost use Rattle.pylock.specs.declared.lines.TheConstants.{LINE_LIMIT};
-    ghost use Rattle.pylock.specs.declared.editing.TheConstants.{LINES};
-    ghost use Rattle.pylock.specs.Editing.{At};
+    ghost use Rattle.pylock.specs.Inner.Editing.{At};
+    ghost use Rattle.pylock.specs.Line.{line_limit};
+    ghost use Rattle.pylock.specs.Report.Run.{most_lines};
 
     ghost Value = { At };
 
-    ghost view = { λ e. record { state = e.session; plan = e.plan; ended = e.ended; refused = e.refused; line = e.line.items } };
+    ghost view = { λ e. record {
+      state = e.session;
+      plan = e.plan;
+      ended = e.ended;
+      refused = e.refused;
+      line = e.line.items;
+    } };
 
-    ghost invariant = { λ e. (vec_len e.line ≤ LINE_LIMIT + 1) × (e.ended + min 1 (vec_len e.line) ≤ LINES) };
+    ghost invariant = { λ e. (vec_len e.line ≤ line_limit + 1)
+        × (e.ended + min 1 (vec_len e.line) ≤ most_lines) };
 }
 
 impl Editing {
@@ -69,7 +80,8 @@ impl Editing {
         requires { 0 < length bytes.now }
         ensures some { IfOk result (λ count. (0 < count) × (count ≤ length bytes.now)) }
         ensures editing { IfOk result (λ count. self.new ≡ bytes_done self.old (take count bytes.now)) }
-        ensures text { IfOk result (λ count. out.new.items ≡ out.old.items ++ bytes_text self.old (take count bytes.now)) }
+        ensures text { IfOk result (λ count. out.new.items
+            ≡ out.old.items ++ bytes_text self.old (take count bytes.now)) }
         ensures fault { IfErr result (IsTakeFault self.old.ended) }
     {
         if self.ended == LINES {
@@ -92,7 +104,7 @@ impl Editing {
     pub fn finish(&mut self, out: &mut Vec<u8>) -> Result<(), AllocError>
         ensures editing { OnOk result (self.new ≡ finished self.old) }
         ensures text { OnOk result (out.new.items ≡ out.old.items ++ finished_text self.old) }
-        ensures within { lines_begun self.old ≤ LINES }
+        ensures within { lines_begun self.old ≤ most_lines }
     {
         if self.line.is_empty() {
             return Ok(());
@@ -110,7 +122,7 @@ impl Editing {
     /// Keeps more bytes of the line, as far as they are needed to tell that it is too long.
     #[tactic(auto, using(crate::proofs::EditingLemmas::kept_room))]
     fn keep(&mut self, bytes: &[u8]) -> Result<(), AllocError>
-        requires { self.old.ended < LINES }
+        requires { self.old.ended < most_lines }
         ensures { OnOk result (self.new ≡ record self.old { line = kept (self.old.line ++ bytes.now) }) }
     {
         let room = LINE_LIMIT + 1 - self.line.len();
@@ -119,9 +131,9 @@ impl Editing {
     }
 
     /// Ends the line, and pushes the answer after it or its refusal.
-    #[tactic(auto, unfolding(crate::specs::Editing::end_line, crate::specs::Editing::end_text))]
+    #[tactic(auto, unfolding(crate::specs::Inner::Editing::end_line, crate::specs::Inner::Editing::end_text))]
     fn end_line(&mut self, out: &mut Vec<u8>) -> Result<(), AllocError>
-        requires { self.old.ended < LINES }
+        requires { self.old.ended < most_lines }
         ensures editing { OnOk result (self.new ≡ end_line self.old) }
         ensures text { OnOk result (out.new.items ≡ out.old.items ++ end_text self.old) }
     {

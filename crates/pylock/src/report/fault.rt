@@ -1,7 +1,7 @@
 //! Why a run ends before its report.
 
 ghost use Rattle.std.specs.Prelude.{◌≡◌};
-ghost use Rattle.pylock.specs.declared.fault.RunFault.TheVariants.{Memory};
+ghost use Rattle.pylock.specs.declared.report.fault.RunFault.TheVariants.{Memory};
 
 use std::alloc::AllocError;
 

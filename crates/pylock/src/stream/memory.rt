@@ -1,10 +1,10 @@
-//! Ends over memory: they tell all their bytes, move them in small pieces, and fail when they are told to.
-ghost use Rattle.std.specs.Prelude.{◌≡◌, ℕ, ◌<◌, ◌≤◌, ◌-◌, ◌↔◌, List, [], ◌++◌, Option, Some, None, length, take, drop, min, IsTrue, IfOk, OnOk, OnErr, IsErr};
-ghost use Rattle.std.specs.Io.KnownBytes.{prepend_known, append_known, IsAtEnd};
-ghost use Rattle.pylock.specs.Faults.{one_more};
-ghost use Rattle.pylock.specs.MemoryEnds.{FailsNext, after_call};
+//! A source and a sink over memory: they tell all their bytes, move them in small pieces, and fail when they are told to.
+ghost use Rattle.std.specs.Prelude.{◌≡◌, ◌<◌, ◌≤◌, ◌-◌, ◌↔◌, [], ◌++◌, Some, None};
+ghost use Rattle.std.specs.Prelude.{length, take, min, IsTrue, IfOk, OnOk, OnErr, IsErr};
+ghost use Rattle.pylock.specs.Stream.{one_more};
+ghost use Rattle.pylock.specs.Stream.Memory.{FailsNext, after_call};
 
-use crate::ends::{IoFault, Sink, Source};
+use crate::stream::{IoFault, Sink, Source};
 use std::alloc::{AllocError, Global};
 use std::marker::Model;
 
@@ -31,11 +31,16 @@ pub struct Pieces<'a> {
 
 impl<'a> Model for Pieces<'a> {
     ghost use Rattle.std.specs.Prelude.{◌≤◌};
-    ghost use Rattle.pylock.specs.MemoryEnds.{PiecesState};
+    ghost use Rattle.pylock.specs.Stream.Memory.{PiecesValue};
 
-    ghost Value = { PiecesState };
+    ghost Value = { PiecesValue };
 
-    ghost view = { λ p. record { rest = p.rest.now; piece = p.piece; fails_in = p.fails_in; failures = p.failures } };
+    ghost view = { λ p. record {
+      rest = p.rest.now;
+      piece = p.piece;
+      fails_in = p.fails_in;
+      failures = p.failures;
+    } };
 
     ghost invariant = { λ p. 1 ≤ p.piece };
 }
@@ -45,7 +50,12 @@ impl<'a> Pieces<'a> {
     /// counted from 1, fails.
     pub fn new(bytes: &'a [u8], piece: usize, fail_at: Option<u64>) -> Pieces<'a>
         requires { 1 ≤ piece }
-        ensures { result ≡ record { rest = bytes.entry.now; piece = piece; fails_in = fail_at; failures = 0 } }
+        ensures { result ≡ record {
+          rest = bytes.entry.now;
+          piece = piece;
+          fails_in = fail_at;
+          failures = 0;
+        } }
     {
         Pieces {
             rest: bytes,
@@ -57,13 +67,12 @@ impl<'a> Pieces<'a> {
 }
 
 impl<'a> Source for Pieces<'a> {
-    ghost rest = { λ p. Some p.rest };
-
-    ghost failures = { λ p. p.failures };
+    ghost value = { λ p. record { rest = Some p.rest; failures = p.failures } };
 
     fn read(&mut self, buf: &mut [u8]) -> Result<usize, IoFault>
         ensures fails { IsErr result ↔ FailsNext self.old.fails_in }
-        ensures count { IfOk result (λ n. n ≡ min (min (length self.old.rest) (length buf.new)) self.old.piece) }
+        ensures count { IfOk result (λ n. n
+            ≡ min (min (length self.old.rest) (length buf.new)) self.old.piece) }
         ensures given { IfOk result (λ n. self.old.rest ≡ take n buf.new ++ self.new.rest) }
         ensures end { IfOk result (λ n. n ≡ 0 → 0 < length buf.old → self.new.rest ≡ []) }
         ensures ok { OnOk result (self.new ≡ record self.old {
@@ -99,11 +108,17 @@ pub struct Room {
 
 impl Model for Room {
     ghost use Rattle.std.specs.Prelude.{◌≤◌, vec_len, vec_capacity};
-    ghost use Rattle.pylock.specs.MemoryEnds.{RoomState};
+    ghost use Rattle.pylock.specs.Stream.Memory.{RoomValue};
 
-    ghost Value = { RoomState };
+    ghost Value = { RoomValue };
 
-    ghost view = { λ r. record { held = r.bytes.items; room = r.room; piece = r.piece; fails_in = r.fails_in; failures = r.failures } };
+    ghost view = { λ r. record {
+      held = r.bytes.items;
+      room = r.room;
+      piece = r.piece;
+      fails_in = r.fails_in;
+      failures = r.failures;
+    } };
 
     ghost invariant = { λ r. (vec_len r.bytes ≤ r.room) × (r.room ≤ vec_capacity r.bytes) };
 }
@@ -117,7 +132,13 @@ impl Room {
         piece: usize,
         fail_at: Option<u64>,
     ) -> Result<Room, AllocError>
-        ensures { IfOk result (λ r. r ≡ record { held = []; room = room; piece = piece; fails_in = fail_at; failures = 0 }) }
+        ensures { IfOk result (λ r. r ≡ record {
+          held = [];
+          room = room;
+          piece = piece;
+          fails_in = fail_at;
+          failures = 0;
+        }) }
     {
         Ok(Room {
             bytes: Vec::with_capacity(alloc, room)?,
@@ -137,9 +158,7 @@ impl Room {
 }
 
 impl Sink for Room {
-    ghost held = { λ r. Some r.held };
-
-    ghost failures = { λ r. r.failures };
+    ghost value = { λ r. record { held = Some r.held; failures = r.failures } };
 
     fn write(&mut self, piece: &[u8]) -> Result<usize, IoFault>
         ensures fails { IsErr result ↔ FailsNext self.old.fails_in }
@@ -172,33 +191,5 @@ impl Sink for Room {
             self.failures = self.failures.saturating_add(1);
         }
         Ok(count)
-    }
-}
-
-#[cfg(test)]
-mod tests {
-    use super::*;
-    use std::test::Fail;
-
-    #[test]
-    fn gives_pieces(rt: HostRuntime) {
-        let mut pieces = Pieces::new(b"hello", 3, Some(2));
-        let mut buffer = [0; 4];
-        assert_eq!(rt; pieces.read(&mut buffer), Ok(3));
-        assert_eq!(rt; buffer, [104, 101, 108, 0]);
-        assert_eq!(rt; pieces.read(&mut buffer), Err(IoFault));
-        assert_eq!(rt; pieces.read(&mut buffer), Ok(2));
-        assert_eq!(rt; pieces.read(&mut buffer), Ok(0));
-    }
-
-    #[test]
-    fn takes_pieces(rt: HostRuntime) -> Result<(), Fail> {
-        let mut room = Room::new(rt.alloc(), 4, 3, Some(2))?;
-        assert_eq!(rt; room.write(b"hello"), Ok(3));
-        assert_eq!(rt; room.write(b"lo"), Err(IoFault));
-        assert_eq!(rt; room.write(b"lo"), Ok(1));
-        assert_eq!(rt; room.write(b"o"), Ok(0));
-        assert_eq!(rt; room.bytes(), b"hell".as_slice());
-        Ok(())
     }
 }

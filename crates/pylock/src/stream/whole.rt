@@ -1,9 +1,11 @@
 //! Reads a source to its end.
-ghost use Rattle.std.specs.Prelude.{◌≡◌, ◌<◌, ◌≤◌, length, vec_len, false, None, IsTrue, IfOk, IfErr, OnOk};
-ghost use Rattle.std.specs.Io.KnownBytes.{prepend_known, IsAtEnd};
-ghost use Rattle.pylock.specs.FileFault.{IsCause};
+ghost use Rattle.std.specs.Prelude.{◌≡◌, ◌<◌, ◌≤◌, ◌-◌, length, vec_len, false, IsTrue};
+ghost use Rattle.std.specs.Prelude.{IfOk, IfErr, OnOk};
+ghost use Rattle.std.specs.Io.KnownBytes.{IsAtEnd};
+ghost use Rattle.pylock.specs.Inner.Pieces.{GivesPiece};
+ghost use Rattle.pylock.specs.Stream.Whole.{GivesAll, IsCause};
 
-use crate::ends::Source;
+use crate::stream::Source;
 use std::alloc::{AllocError, Global};
 
 /// How many bytes are asked for at once.
@@ -21,7 +23,7 @@ pub enum FileFault {
 }
 
 impl From<AllocError> for FileFault {
-    ghost use Rattle.pylock.specs.declared.files.FileFault.TheVariants.{Memory};
+    ghost use Rattle.pylock.specs.declared.stream.whole.FileFault.TheVariants.{Memory};
 
     ghost from_gives = { λ _ fault. fault ≡ Memory };
 
@@ -47,14 +49,13 @@ fn read_piece<R: Source>(
 ) -> Result<bool, FileFault>
     requires room { 0 < length buffer.old }
     requires within { vec_len bytes.old ≤ limit }
-    ensures kept { OnOk result (prepend_known bytes.old.items (R.rest reader.old)
-        ≡ prepend_known bytes.new.items (R.rest reader.new)) }
+    ensures gave { OnOk result (GivesPiece (R.value reader.old) (R.value reader.new)
+        bytes.old.items bytes.new.items) }
     ensures within { OnOk result (vec_len bytes.new ≤ limit) }
     ensures grew { IfOk result (λ more. IsTrue more → vec_len bytes.old < vec_len bytes.new) }
-    ensures end { IfOk result (λ more. more ≡ false → IsAtEnd (R.rest reader.new)) }
-    ensures counted { OnOk result (R.failures reader.new ≡ R.failures reader.old) }
-    ensures fault { IfErr result (IsCause limit (prepend_known bytes.old.items (R.rest reader.old))
-        (R.rest reader.new) (R.failures reader.old) (R.failures reader.new)) }
+    ensures end { IfOk result (λ more. more ≡ false → IsAtEnd (R.value reader.new).rest) }
+    ensures fault { IfErr result (IsCause (limit - vec_len bytes.old)
+        (R.value reader.old) (R.value reader.new)) }
 {
     let Ok(count) = reader.read(buffer) else {
         return Err(FileFault::Read);
@@ -76,12 +77,9 @@ fn read_pieces<R: Source>(
     limit: u64,
 ) -> Result<Vec<u8>, FileFault>
     requires { 0 < length buffer.old }
-    ensures ok { IfOk result (λ bytes. R.rest reader.old ≡ prepend_known bytes.items (R.rest reader.new)) }
-    ensures end { OnOk result (IsAtEnd (R.rest reader.new)) }
-    ensures within { IfOk result (λ bytes. vec_len bytes ≤ limit) }
-    ensures counted { OnOk result (R.failures reader.new ≡ R.failures reader.old) }
-    ensures fault { IfErr result (IsCause limit (R.rest reader.old) (R.rest reader.new)
-        (R.failures reader.old) (R.failures reader.new)) }
+    ensures all { IfOk result (λ bytes. GivesAll limit (R.value reader.old) (R.value reader.new)
+        bytes.items) }
+    ensures fault { IfErr result (IsCause limit (R.value reader.old) (R.value reader.new)) }
 {
     let mut bytes = Vec::new(alloc);
     'pieces: while read_piece(reader, buffer, &mut bytes, limit)? {}
@@ -97,61 +95,10 @@ pub fn read_whole<R: Source>(
     reader: &mut R,
     limit: u64,
 ) -> Result<Vec<u8>, FileFault>
-    ensures ok { IfOk result (λ bytes. R.rest reader.old ≡ prepend_known bytes.items (R.rest reader.new)) }
-    ensures end { OnOk result (IsAtEnd (R.rest reader.new)) }
-    ensures within { IfOk result (λ bytes. vec_len bytes ≤ limit) }
-    ensures counted { OnOk result (R.failures reader.new ≡ R.failures reader.old) }
-    ensures fault { IfErr result (IsCause limit (R.rest reader.old) (R.rest reader.new)
-        (R.failures reader.old) (R.failures reader.new)) }
+    ensures all { IfOk result (λ bytes. GivesAll limit (R.value reader.old) (R.value reader.new)
+        bytes.items) }
+    ensures fault { IfErr result (IsCause limit (R.value reader.old) (R.value reader.new)) }
 {
     let mut buffer = piece_buffer(alloc)?;
     read_pieces(alloc, reader, &mut buffer, limit)
-}
-
-#[cfg(test)]
-mod tests {
-    use super::*;
-    use crate::ends::IoFault;
-    use crate::memory::Pieces;
-    use std::test::Fail;
-
-    /// Gives zeros without end.
-    #[derive(Drop)]
-    struct Endless;
-
-    impl Source for Endless {
-        ghost rest = { λ _. None };
-
-        ghost failures = { λ _. 0 };
-
-        fn read(&mut self, buf: &mut [u8]) -> Result<usize, IoFault> {
-            buf.fill(0);
-            Ok(buf.len())
-        }
-    }
-
-    #[test]
-    fn reads_up_to_the_limit(rt: HostRuntime) -> Result<(), Fail> {
-        for piece in [1, 3, 10, 64] {
-            let ten = read_whole(rt.alloc(), &mut Pieces::new(b"0123456789", piece, None), 10)?;
-            assert_eq!(rt; ten.as_slice(), b"0123456789".as_slice());
-            let eleven = read_whole(
-                rt.alloc(),
-                &mut Pieces::new(b"0123456789a", piece, None),
-                10,
-            );
-            assert_eq!(rt; eleven.err(), Some(FileFault::Limit));
-        }
-        let endless = read_whole(rt.alloc(), &mut Endless, 10);
-        assert_eq!(rt; endless.err(), Some(FileFault::Limit));
-        let empty = read_whole(rt.alloc(), &mut Pieces::new(b"", 1, None), 0)?;
-        assert!(rt; empty.is_empty());
-        Ok(())
-    }
-
-    #[test]
-    fn tells_a_failed_read(rt: HostRuntime) {
-        let after_three = read_whole(rt.alloc(), &mut Pieces::new(b"0123456789", 3, Some(2)), 10);
-        assert_eq!(rt; after_three.err(), Some(FileFault::Read));
-    }
 }

@@ -1,7 +1,8 @@
-//! Ends over std's readers and writers: they tell no bytes, and answer each error as a failure.
-ghost use Rattle.std.specs.Prelude.{◌≡◌, ◌<◌, ◌≤◌, None};
+//! A source over a reader of std and a sink over a writer: they tell the bytes that these tell, and answer each error as
+//! a failure.
+ghost use Rattle.std.specs.Prelude.{◌≡◌, ◌<◌, ◌≤◌};
 
-use crate::ends::{IoFault, Sink, Source};
+use crate::stream::{IoFault, Sink, Source};
 use std::io::{Read, Write};
 
 /// A source over a reader. An interrupted read counts as a failure too.
@@ -14,16 +15,15 @@ pub struct FromRead<R> {
 impl<R: Read> FromRead<R> {
     /// A source of what the reader gives. It takes no memory.
     pub fn new(inner: R) -> FromRead<R>
-        ensures { ⟦<FromRead<R> as Source>⟧.failures result ≡ 0 }
+        ensures { ⟦<FromRead<R> as Source>⟧.value result
+            ≡ record { rest = R.remaining inner; failures = 0 } }
     {
         FromRead { inner, failures: 0 }
     }
 }
 
 impl<R: Read> Source for FromRead<R> {
-    ghost rest = { λ _. None };
-
-    ghost failures = { λ source. source.failures };
+    ghost value = { λ s. record { rest = R.remaining s.inner; failures = s.failures } };
 
     fn read(&mut self, buf: &mut [u8]) -> Result<usize, IoFault> {
         match self.inner.read(buf) {
@@ -46,16 +46,15 @@ pub struct ToWrite<W> {
 impl<W: Write> ToWrite<W> {
     /// A sink that hands everything to the writer. It takes no memory.
     pub fn new(inner: W) -> ToWrite<W>
-        ensures { ⟦<ToWrite<W> as Sink>⟧.failures result ≡ 0 }
+        ensures { ⟦<ToWrite<W> as Sink>⟧.value result
+            ≡ record { held = W.contents inner; failures = 0 } }
     {
         ToWrite { inner, failures: 0 }
     }
 }
 
 impl<W: Write> Sink for ToWrite<W> {
-    ghost held = { λ _. None };
-
-    ghost failures = { λ sink. sink.failures };
+    ghost value = { λ s. record { held = W.contents s.inner; failures = s.failures } };
 
     fn write(&mut self, piece: &[u8]) -> Result<usize, IoFault> {
         match self.inner.write(piece) {
@@ -70,25 +69,5 @@ impl<W: Write> Sink for ToWrite<W> {
                 Err(IoFault)
             }
         }
-    }
-}
-
-#[cfg(test)]
-mod tests {
-    use super::*;
-    use crate::files::read_whole;
-    use crate::writing::write_all;
-    use std::test::Fail;
-
-    #[test]
-    fn wraps_readers_and_writers(rt: HostRuntime) -> Result<(), Fail> {
-        let mut text = Vec::new(rt.alloc());
-        assert_eq!(rt;
-            write_all(&mut ToWrite::new(&mut text), b"pylock 1\n"),
-            Ok(())
-        );
-        let bytes = read_whole(rt.alloc(), &mut FromRead::new(text.as_slice()), 9)?;
-        assert_eq!(rt; bytes.as_slice(), b"pylock 1\n".as_slice());
-        Ok(())
     }
 }

@@ -3,12 +3,12 @@
 //! answers just what it answers with ample memory.
 
 use crate::command::{CommandError, Task, command};
-use crate::fault::RunFault;
-use crate::files::{FileFault, read_whole};
-use crate::memory::{Pieces, Room};
-use crate::queries::Query;
 use crate::reply::query;
-use crate::run::run;
+use crate::reply::queries::Query;
+use crate::report::fault::RunFault;
+use crate::report::run::run;
+use crate::stream::memory::{Pieces, Room};
+use crate::stream::whole::{FileFault, read_whole};
 use pylock_core::{
     Answer, Edit, EditError, Entry, EnvError, Lock, LockError, Session, read_environment,
 };

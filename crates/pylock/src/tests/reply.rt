@@ -1,9 +1,9 @@
 //! Worked examples of the one-shot commands.
 
-use super::query;
-use crate::fault::RunFault;
-use crate::memory::Room;
-use crate::queries::Query;
+use crate::reply::query;
+use crate::reply::queries::Query;
+use crate::report::fault::RunFault;
+use crate::stream::memory::Room;
 use std::test::Fail;
 
 const GREATEST: &str = "340282366920938463463374607431768211455";

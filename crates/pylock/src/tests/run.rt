@@ -1,9 +1,9 @@
 //! Worked examples of runs over memory.
 
-use super::run;
-use crate::ends::{IoFault, Source};
-use crate::fault::RunFault;
-use crate::memory::{Pieces, Room};
+use crate::report::fault::RunFault;
+use crate::report::run::run;
+use crate::stream::memory::{Pieces, Room};
+use crate::stream::{IoFault, Source};
 use std::alloc::{AllocError, Global};
 use std::test::Fail;
 
@@ -214,9 +214,7 @@ struct Endless;
 impl Source for Endless {
     ghost use Rattle.std.specs.Prelude.{None};
 
-    ghost rest = { λ _. None };
-
-    ghost failures = { λ _. 0 };
+    ghost value = { λ _. record { rest = None; failures = 0 } };
 
     fn read(&mut self, buf: &mut [u8]) -> Result<usize, IoFault> {
         buf.fill(b'x');

@@ -1,101 +1,17 @@
-//! The printed text, pushed onto the bytes that stand before it.
+//! Answers: the lines of a plan, or a fault.
 
-ghost use Rattle.std.specs.Prelude.{◌≡◌, ◌++◌, ◌∷◌, [], OnOk, string_bytes, codes, decimal, length};
-ghost use Rattle.std.specs.List.{flat_map, list_all};
-ghost use Rattle.std.specs.Option.{option_copied};
+ghost use Rattle.std.specs.Prelude.{◌≡◌, ◌++◌, ◌∷◌, OnOk, string_bytes};
+ghost use Rattle.std.specs.List.{flat_map};
 ghost use Rattle.pylock_core.specs.Entry.{text_pairs};
-ghost use Rattle.pylock.specs.Fields.{escape, escaped, field, is_plain};
-ghost use Rattle.pylock.specs.Print.{tabbed, hashes_text, escaped_hash, more_hashes, directory_fields, sdist_fields, source_fields, plan_line, pick_text, answer_text, fault_text, line_of, refused_text};
 ghost use Rattle.pylock_core.specs.declared.answer.Answer.TheVariants.{Plan};
+ghost use Rattle.pylock.specs.Inner.Hashes.{escaped_hash, more_hashes};
+ghost use Rattle.pylock.specs.Text.Field.{field, tabbed};
+ghost use Rattle.pylock.specs.Text.Plan.{hashes_text, directory_fields, sdist_fields, source_fields};
+ghost use Rattle.pylock.specs.Text.Plan.{plan_line, pick_text, answer_text, fault_text};
 
-use crate::lines::LineRefusal;
+use crate::text::field::{push_decimal, push_escaped, push_last_word, push_next};
 use pylock_core::{Answer, Directory, Entry, FaultCode, Pick, PickSource, Sdist, Session};
 use std::alloc::AllocError;
-
-/// Pushes the decimal digits of a number.
-#[tactic(auto, using(std::proofs::lemmas::Fmt::decimal_step, std::proofs::lemmas::Fmt::decimal_digit, std::proofs::Common::append_assoc))]
-pub fn push_decimal(out: &mut Vec<u8>, number: u64) -> Result<(), AllocError>
-    ensures { OnOk result (out.new.items ≡ out.old.items ++ decimal number) }
-{
-    if number >= 10 {
-        push_decimal(out, number / 10)?;
-    }
-    out.push(b'0' + (number % 10) as u8)?;
-    Ok(())
-}
-
-/// Pushes a field: a text, or one that is absent.
-pub fn push_field(out: &mut Vec<u8>, text: Option<&str>) -> Result<(), AllocError>
-    ensures { OnOk result (out.new.items ≡ out.old.items ++ field (option_copied text.entry)) }
-{
-    match text {
-        None => out.extend_from_slice(b"-")?,
-        Some("-") => out.extend_from_slice(b"\\-")?,
-        Some(text) => push_escaped(out, text)?,
-    }
-    Ok(())
-}
-
-/// Pushes a text with its escapes.
-#[tactic(auto, using(crate::proofs::PlainText::plain_stands))]
-pub fn push_escaped(out: &mut Vec<u8>, text: &str) -> Result<(), AllocError>
-    ensures { OnOk result (out.new.items ≡ out.old.items ++ escaped text.now) }
-{
-    if is_plain_text(text.as_bytes()) {
-        out.extend_from_slice(text.as_bytes())?;
-        Ok(())
-    } else {
-        push_escapes(out, text.as_bytes())
-    }
-}
-
-/// Whether the text stands in a field as it is, as nearly each does. It looks at each byte, so that several
-/// are judged at once.
-fn is_plain_text(text: &[u8]) -> bool
-    ensures { result ≡ list_all is_plain text.now }
-{
-    let mut plain = true;
-    for byte in text {
-        plain &= is_plain(*byte);
-    }
-    plain
-}
-
-fn is_plain(byte: u8) -> bool
-    ensures { result ≡ is_plain byte }
-{
-    !matches!(byte, b'\t' | b'\n' | b'\r' | b'\\')
-}
-
-fn push_escapes(out: &mut Vec<u8>, text: &[u8]) -> Result<(), AllocError>
-    ensures { OnOk result (out.new.items ≡ out.old.items ++ escaped text.now) }
-{
-    for byte in text {
-        push_escape(out, *byte)?;
-    }
-    Ok(())
-}
-
-fn push_escape(out: &mut Vec<u8>, byte: u8) -> Result<(), AllocError>
-    ensures { OnOk result (out.new.items ≡ out.old.items ++ escape byte) }
-{
-    match byte {
-        b'\t' => out.extend_from_slice(b"\\t")?,
-        b'\n' => out.extend_from_slice(b"\\n")?,
-        b'\r' => out.extend_from_slice(b"\\r")?,
-        b'\\' => out.extend_from_slice(b"\\\\")?,
-        _ => out.push(byte)?,
-    }
-    Ok(())
-}
-
-/// Pushes a TAB and a field.
-fn push_next(out: &mut Vec<u8>, text: Option<&str>) -> Result<(), AllocError>
-    ensures { OnOk result (out.new.items ≡ out.old.items ++ 9 ∷ field (option_copied text.entry)) }
-{
-    out.push(b'\t')?;
-    push_field(out, text)
-}
 
 fn push_hash(out: &mut Vec<u8>, hash: &(String, String)) -> Result<(), AllocError>
     ensures { OnOk result (out.new.items ≡ out.old.items ++ escaped_hash (string_bytes hash.now.0, string_bytes hash.now.1)) }
@@ -232,31 +148,5 @@ fn push_fault(out: &mut Vec<u8>, id: u32, code: FaultCode) -> Result<(), AllocEr
     };
     out.extend_from_slice(b"fault ")?;
     push_decimal(out, u64::from(id))?;
-    push_last_word(out, word)
-}
-
-/// Pushes a TAB, a word and the LF of its line.
-fn push_last_word(out: &mut Vec<u8>, word: &[u8]) -> Result<(), AllocError>
-    ensures { OnOk result (out.new.items ≡ out.old.items ++ line_of [] (word.now ∷ [])) }
-{
-    out.push(b'\t')?;
-    out.extend_from_slice(word)?;
-    out.push(b'\n')?;
-    Ok(())
-}
-
-/// Pushes the refusal of a line, whose number counts from 1.
-pub fn push_refused(out: &mut Vec<u8>, number: u64, refusal: LineRefusal) -> Result<(), AllocError>
-    ensures { OnOk result (out.new.items ≡ out.old.items ++ refused_text number refusal) }
-{
-    let word: &[u8] = match refusal {
-        LineRefusal::Long => b"long",
-        LineRefusal::Text => b"text",
-        LineRefusal::Command => b"command",
-        LineRefusal::Argument => b"argument",
-        LineRefusal::NoEntry => b"no-entry",
-    };
-    out.extend_from_slice(b"refused ")?;
-    push_decimal(out, number)?;
     push_last_word(out, word)
 }

@@ -1,16 +1,48 @@
-//! The printed refusals of a lock and an environment.
+//! Refusals of lines, of locks and of environments.
 
 ghost use Rattle.std.specs.Prelude.{◌≡◌, ◌++◌, ◌∷◌, [], OnOk};
-ghost use Rattle.pylock.specs.Print.{tabbed, head_word, key_word, entry_word, lock_words, lock_text, environment_words, environment_text};
+ghost use Rattle.pylock.specs.Text.Field.{tabbed};
+ghost use Rattle.pylock.specs.Text.Refusal.{head_word, key_word, entry_word, lock_words, lock_text};
+ghost use Rattle.pylock.specs.Text.Refusal.{environment_words, environment_text};
+ghost use Rattle.pylock.specs.Text.Refusal.{refused_text, refusal_text};
 ghost use Rattle.pylock_core.specs.declared.error.LockError.TheVariants.{Head, Entry};
 ghost use Rattle.pylock_core.specs.declared.error.EnvError.TheVariants.{Tag};
 
-use crate::printing::push_decimal;
+use crate::line::LineRefusal;
+use crate::report::opening::OpenError;
+use crate::text::field::{push_decimal, push_last_word};
 use pylock_core::{EntryError, EntryKey, EnvError, HeadKey, LockError};
 use std::alloc::AllocError;
 
+/// Pushes the refusal of a line, whose number counts from 1.
+pub fn push_refused(out: &mut Vec<u8>, number: u64, refusal: LineRefusal) -> Result<(), AllocError>
+    ensures { OnOk result (out.new.items ≡ out.old.items ++ refused_text number refusal) }
+{
+    let word: &[u8] = match refusal {
+        LineRefusal::Long => b"long",
+        LineRefusal::Text => b"text",
+        LineRefusal::Command => b"command",
+        LineRefusal::Argument => b"argument",
+        LineRefusal::NoEntry => b"no-entry",
+    };
+    out.extend_from_slice(b"refused ")?;
+    push_decimal(out, number)?;
+    push_last_word(out, word)
+}
+
+/// Pushes the line of a refused lock or environment. Want of memory prints nothing.
+pub fn push_refusal(out: &mut Vec<u8>, error: &OpenError) -> Result<(), AllocError>
+    ensures { OnOk result (out.new.items ≡ out.old.items ++ refusal_text error.now) }
+{
+    match error {
+        OpenError::Lock(error) => push_lock_error(out, error),
+        OpenError::Environment(error) => push_environment_error(out, error),
+        OpenError::Memory => Ok(()),
+    }
+}
+
 /// Pushes the line of a refused lock.
-pub fn push_lock_error(out: &mut Vec<u8>, error: &LockError) -> Result<(), AllocError>
+fn push_lock_error(out: &mut Vec<u8>, error: &LockError) -> Result<(), AllocError>
     ensures { OnOk result (out.new.items ≡ out.old.items ++ lock_text error.now) }
 {
     out.extend_from_slice(b"lock")?;
@@ -20,7 +52,7 @@ pub fn push_lock_error(out: &mut Vec<u8>, error: &LockError) -> Result<(), Alloc
 }
 
 /// Pushes the line of a refused environment.
-pub fn push_environment_error(out: &mut Vec<u8>, error: &EnvError) -> Result<(), AllocError>
+fn push_environment_error(out: &mut Vec<u8>, error: &EnvError) -> Result<(), AllocError>
     ensures { OnOk result (out.new.items ≡ out.old.items ++ environment_text error.now) }
 {
     out.extend_from_slice(b"environment")?;

@@ -1,8 +1,8 @@
 use Rattle.std.proofs.Common.{◌≡◌, ◌∙◌, sym, ap, subst}
 use Rattle.std.specs.Str.{IsUtf8}
-use Rattle.pylock.specs.Lines.{text_command, without_cr}
+use Rattle.pylock.specs.Line.{text_command, without_cr}
 use Rattle.pylock.proofs.LineLemmas.{command_of_text, command_of_not_text}
-use Rattle.pylock.proofs.lines.read_line.Goals as goal
+use Rattle.pylock.proofs.line.read_line.Goals as goal
 
 pub returns-in-Ok : goal.returns-in-Ok
 returns-in-Ok c =

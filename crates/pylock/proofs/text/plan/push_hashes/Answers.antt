@@ -1,10 +1,10 @@
 use Rattle.std.proofs.Common.{◌≡◌, ◌∷◌, ◌++◌, ap, sym, ◌∙◌, rules}
 use Rattle.std.proofs.lemmas.Result.{on_ok_weaker}
 use Rattle.pylock_core.specs.Entry.{text_pairs}
-use Rattle.pylock.specs.Fields.{field}
-use Rattle.pylock.specs.Print.{hashes_text}
-use Rattle.pylock.proofs.PrintLemmas.{pushed_hashes}
-use Rattle.pylock.proofs.printing.push_hashes.Goals as goal
+use Rattle.pylock.specs.Text.Field.{field}
+use Rattle.pylock.specs.Text.Plan.{hashes_text}
+use Rattle.pylock.proofs.TextLemmas.{pushed_hashes}
+use Rattle.pylock.proofs.text.plan.push_hashes.Goals as goal
 
 pub returns : goal.returns
 returns c =

@@ -4,8 +4,9 @@ use Rattle.std.specs.List.{join_with_byte}
 use Rattle.std.specs.Str.{bytes_eq}
 use Rattle.std.specs.Prelude.{codes}
 use Rattle.std.proofs.lemmas.List.Concat.{flat_map-append}
-use Rattle.pylock.specs.Fields.{escape, escaped, field}
-use Rattle.pylock.specs.Print.{hash_text, hashes_text, escaped_hash, more_hashes}
+use Rattle.pylock.specs.Text.Field.{escape, escaped, field}
+use Rattle.pylock.specs.Text.Plan.{hash_text, hashes_text}
+use Rattle.pylock.specs.Inner.Hashes.{escaped_hash, more_hashes}
 
 and-false : (b : Bool) → (b && false) ≡ false
 and-false true = refl
