@@ -2,15 +2,15 @@
 use Rattle.std.specs.Prelude.{ℕ, Bool, true, false, if◌then◌else◌, List, [], ◌∷◌, codes, Some}
 use Rattle.std.specs.Prelude.{Result, Ok, Err}
 use Rattle.std.specs.Result.{result_map_both}
-use Rattle.pyver_core.specs.Names.{is_name, norm}
-use Rattle.pyver_core.specs.Normal.{normal}
+use Rattle.pyver_core.specs.Name.{is_name, norm}
+use Rattle.pyver_core.specs.Version.Normal.{normal}
 use Rattle.pyver_core.specs.Results.{◌>>=◌}
-use Rattle.pyver_core.specs.Specifiers.{admits_all}
-use Rattle.pyver_core.specs.declared.specifier.Specifier.{Specifier}
-use Rattle.pyver_core.specs.declared.error.SpecifierError.{SpecifierError}
-use Rattle.pyver_core.specs.declared.error.SpecifierError.TheVariants as specifier
-use Rattle.pyver_core.specs.declared.error.VersionError.{VersionError}
-use Rattle.pyver_core.specs.declared.error.VersionError.TheVariants as version
+use Rattle.pyver_core.specs.Set.Admission.{admits_all}
+use Rattle.pyver_core.specs.declared.set.specifier.Specifier.{Specifier}
+use Rattle.pyver_core.specs.declared.set.error.SpecifierError.{SpecifierError}
+use Rattle.pyver_core.specs.declared.set.error.SpecifierError.TheVariants as specifier
+use Rattle.pyver_core.specs.declared.version.error.VersionError.{VersionError}
+use Rattle.pyver_core.specs.declared.version.error.VersionError.TheVariants as version
 use Rattle.pyver_core.specs.Parsed.{parsed_version, parsed_set}
 use Rattle.pylock.specs.Report.{Report}
 use Rattle.pylock.specs.Text.Field.{field, line_of}

@@ -12,7 +12,7 @@ returns-in_err-done-clause-front g c =
 pub returns-in_err-done-clause-fault : goal.returns-in_err-done-clause-fault
 returns-in_err-done-clause-fault g c =
     let p = err_from_is_err_and c.from_residual.result c.from_residual.ensures.1 in
-    rw (p.1, p.2) (Fed-fault (g.W.Sink.value c.args.writer.now) _ _ _ _ _ _ _ _ _ c.in_err-done.field-0.0 c.bytes.invariant (take_rest c.args.piece.now c.bytes.done) c.in_err-done.ensures.fault)
+    rw (p.1, p.2) (Fed-fault (g.W.Sink.value c.args.writer.now) _ (g.W.Sink.value c.feed_some.new.writer) _ _ _ _ _ _ _ c.in_err-done.field-0.0 c.bytes.invariant (take_rest c.args.piece.now c.bytes.done) c.in_err-done.ensures.fault)
 
 pub bytes-preserved : goal.bytes-preserved
 bytes-preserved g c =
