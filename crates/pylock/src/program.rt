@@ -149,11 +149,7 @@ pub struct Inputs {
 }
 
 /// Reads the lock and then the environment. Takes memory for both.
-pub fn read_inputs<F: Files>(
-    files: &F,
-    lock: &str,
-    environment: &str,
-) -> Result<Inputs, FileFault>
+pub fn read_inputs<F: Files>(files: &F, lock: &str, environment: &str) -> Result<Inputs, FileFault>
     ensures lock { IfOk result (λ inputs. IfSome (F.content files.now lock.now)
         (λ known. inputs.lock.items ≡ known)) }
     ensures environment { IfOk result (λ inputs. IfSome (F.content files.now environment.now)

@@ -20,6 +20,12 @@ impl<R: Read> FromRead<R> {
     {
         FromRead { inner, failures: 0 }
     }
+
+    /// The reader.
+    #[cfg(test)]
+    pub fn into_inner(self) -> R {
+        self.inner
+    }
 }
 
 impl<R: Read> Source for FromRead<R> {
@@ -50,6 +56,12 @@ impl<W: Write> ToWrite<W> {
             ≡ record { held = W.contents inner; failures = 0 } }
     {
         ToWrite { inner, failures: 0 }
+    }
+
+    /// The writer.
+    #[cfg(test)]
+    pub fn into_inner(self) -> W {
+        self.inner
     }
 }
 

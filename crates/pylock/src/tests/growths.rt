@@ -3,8 +3,8 @@
 //! answers just what it answers with ample memory.
 
 use crate::command::{CommandError, Task, command};
-use crate::reply::query;
 use crate::reply::queries::Query;
+use crate::reply::query;
 use crate::report::fault::RunFault;
 use crate::report::run::run;
 use crate::stream::memory::{Pieces, Room};

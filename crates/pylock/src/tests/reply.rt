@@ -1,7 +1,7 @@
 //! Worked examples of the one-shot commands.
 
-use crate::reply::query;
 use crate::reply::queries::Query;
+use crate::reply::query;
 use crate::report::fault::RunFault;
 use crate::stream::memory::Room;
 use std::test::Fail;
