@@ -1,5 +1,6 @@
 -- The lines of an input, and what one line asks for.
-use Rattle.std.specs.Prelude.{ℕ, ◌-◌, ◌==◌, ◌&&◌, not, false, nat_lt, nat_le, Bool, codes, length, take}
+use Rattle.std.specs.Prelude.{ℕ, ◌-◌, ◌==◌, ◌&&◌, not, false, nat_lt, nat_le, Bool, codes, length}
+use Rattle.std.specs.Prelude.{take}
 use Rattle.std.specs.Prelude.{List, [], ◌∷◌, if◌then◌else◌, Option, Some, None, Result, Ok, Err}
 use Rattle.std.specs.Option.{option_map, ok_or}
 use Rattle.std.specs.List.{before_first, after_first, list_any, list_all, ends_with}
@@ -19,8 +20,8 @@ abbrev pub onto_first : ℕ → List (List ℕ) → List (List ℕ)
 onto_first b [] = (b ∷ []) ∷ []
 onto_first b (line ∷ lines) = (b ∷ line) ∷ lines
 
--- The lines of an input, without their LFs: a line ends at LF, and what stands after the last LF is a line where it is
--- not empty.
+-- The lines of an input, without their LFs: a line ends at LF, and what stands after the last LF is
+-- a line where it is not empty.
 abbrev pub input_lines : List ℕ → List (List ℕ)
 input_lines [] = []
 input_lines (b ∷ rest) = if b == 10 then [] ∷ input_lines rest else onto_first b (input_lines rest)
@@ -37,7 +38,8 @@ ended_lines (b ∷ rest) = if b == 10 then [] ∷ ended_lines rest else onto_end
 
 -- the line without one CR at its end
 abbrev pub without_cr : List ℕ → List ℕ
-without_cr line = if ends_with (λ a b. a == b) line (13 ∷ []) then take (length line - 1) line else line
+without_cr line =
+    if ends_with (λ a b. a == b) line (13 ∷ []) then take (length line - 1) line else line
 
 abbrev pub is_lf : ℕ → Bool
 is_lf b = b == 10
@@ -61,7 +63,8 @@ show_after (Some argument) = Err refusal.Argument
 abbrev pub del_after : Option (List ℕ) → Result Command LineRefusal
 del_after None = Err refusal.Argument
 del_after (Some argument) =
-    ok_or (option_map (λ number. command.Edit (Del number)) (entry_number argument)) refusal.Argument
+    ok_or (option_map (λ number. command.Edit (Del number)) (entry_number argument))
+    refusal.Argument
 
 -- what a command's word and its argument ask for
 abbrev pub command_after : List ℕ → Option (List ℕ) → Result Command LineRefusal
@@ -69,7 +72,8 @@ command_after word argument =
     if bytes_eq word (codes "show") then show_after argument
     else (if bytes_eq word (codes "del") then del_after argument else Err refusal.Command)
 
--- The command is the text to the first space, and its argument what follows that space, absent where there is none.
+-- The command is the text to the first space, and its argument what follows that space, absent
+-- where there is none.
 abbrev pub text_command : List ℕ → Result Command LineRefusal
 text_command text =
     if list_any is_space text

@@ -3,7 +3,8 @@ use Rattle.std.specs.Prelude.{ℕ, List, codes, if◌then◌else◌}
 use Rattle.pylock.specs.declared.command.Task.{Task}
 use Rattle.pylock.specs.declared.command.Task.TheVariants as task
 use Rattle.pylock.specs.declared.program.Failure.{Failure}
-use Rattle.pylock.specs.declared.program.Failure.TheVariants.{NotText, File, Read, Write, Input, Memory}
+use Rattle.pylock.specs.declared.program.Failure.TheVariants.{NotText, File, Read, Write, Input}
+use Rattle.pylock.specs.declared.program.Failure.TheVariants.{Memory}
 use Rattle.pylock.specs.declared.program.Work.{Work}
 use Rattle.pylock.specs.declared.program.Work.TheVariants.{Greet, Select, Ask}
 use Rattle.pylock.specs.declared.reply.queries.Query.TheVariants as query
@@ -12,7 +13,8 @@ use Rattle.pylock.specs.declared.report.fault.RunFault.TheVariants as run
 use Rattle.pylock.specs.declared.stream.whole.FileFault.{FileFault}
 use Rattle.pylock.specs.declared.stream.whole.FileFault.TheVariants as file
 
--- what each task comes to; `select` reads its first file as the lock and its second as the environment
+-- what each task comes to; `select` reads its first file as the lock and its second as the
+-- environment
 abbrev pub work_of : Task → Work
 work_of task.Bare = Greet
 work_of (task.Select lock environment) = Select lock environment

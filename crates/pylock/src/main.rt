@@ -1,4 +1,5 @@
-//! `pylock`: selects from a pylock.toml lock what an installer installs, and answers questions on versions and names.
+//! `pylock`: selects from a pylock.toml lock what an installer installs, and answers questions on
+//! versions and names.
 #![tactic(auto)]
 
 mod command;

@@ -18,9 +18,9 @@ use crate::text::field::push_field;
 use pyver_core::{SpecifierError, SpecifierSet, Version, VersionError, is_name, normal_name};
 use std::alloc::{AllocError, Global};
 
-/// Writes the reply of a one-shot command, and answers the program's status: 0 for an answer, 1 where
-/// a text is refused. After a fault a front of the reply is written. Takes memory for what it parses and
-/// for the reply.
+/// Writes the reply of a one-shot command, and answers the program's status: 0 for an answer, 1
+/// where a text is refused. After a fault a front of the reply is written. Takes memory for what it
+/// parses and for the reply.
 pub fn query<W: Sink>(alloc: Global, query: Query<'_>, writer: &mut W) -> Result<u8, RunFault>
     ensures text { OnOk result (Appends (W.value writer.old).held (W.value writer.new).held
         (reply query.entry).text) }
@@ -67,7 +67,8 @@ fn push_version(alloc: Global, out: &mut Vec<u8>, text: &str) -> Result<u8, Allo
 }
 
 fn push_match(alloc: Global, out: &mut Vec<u8>, set: &str, version: &str) -> Result<u8, AllocError>
-    ensures { Pushes out.old.items out.new.items (reply_of (match_answer set.now version.now)) result }
+    ensures { Pushes out.old.items out.new.items
+        (reply_of (match_answer set.now version.now)) result }
 {
     match SpecifierSet::parse(alloc, set) {
         Ok(set) => push_admits(alloc, out, &set, version),
@@ -84,7 +85,8 @@ fn push_admits(
     set: &SpecifierSet,
     version: &str,
 ) -> Result<u8, AllocError>
-    ensures { Pushes out.old.items out.new.items (reply_of (admits_answer set.now version.now)) result }
+    ensures { Pushes out.old.items out.new.items
+        (reply_of (admits_answer set.now version.now)) result }
 {
     match Version::parse(alloc, version) {
         Ok(version) => push_answer(out, truth_word(set.admits(&version))),

@@ -1,4 +1,5 @@
-//! Worked examples of runs, of the one-shot commands, of the command line, of the program and of streams.
+//! Worked examples of runs, of the one-shot commands, of the command line, of the program and of
+//! streams.
 
 mod command;
 mod growths;

@@ -1,5 +1,5 @@
-//! Sources and sinks over memory and over readers and writers of std, the loop that writes and the reading of a whole
-//! source.
+//! Sources and sinks over memory and over readers and writers of std, the loop that writes and the
+//! reading of a whole source.
 
 use crate::stream::memory::{Pieces, Room};
 use crate::stream::whole::{FileFault, read_whole};

@@ -6,7 +6,8 @@ ghost use Rattle.pylock_core.specs.Entry.{text_pairs};
 ghost use Rattle.pylock_core.specs.declared.answer.Answer.TheVariants.{Plan};
 ghost use Rattle.pylock.specs.Inner.Hashes.{escaped_hash, more_hashes};
 ghost use Rattle.pylock.specs.Text.Field.{field, tabbed};
-ghost use Rattle.pylock.specs.Text.Plan.{hashes_text, directory_fields, sdist_fields, source_fields};
+ghost use Rattle.pylock.specs.Text.Plan.{hashes_text, directory_fields, sdist_fields};
+ghost use Rattle.pylock.specs.Text.Plan.{source_fields};
 ghost use Rattle.pylock.specs.Text.Plan.{plan_line, pick_text, answer_text, fault_text};
 
 use crate::text::field::{push_decimal, push_escaped, push_last_word, push_next};
@@ -14,7 +15,8 @@ use pylock_core::{Answer, Directory, Entry, FaultCode, Pick, PickSource, Sdist, 
 use std::alloc::AllocError;
 
 fn push_hash(out: &mut Vec<u8>, hash: &(String, String)) -> Result<(), AllocError>
-    ensures { OnOk result (out.new.items ≡ out.old.items ++ escaped_hash (string_bytes hash.now.0, string_bytes hash.now.1)) }
+    ensures { OnOk result (out.new.items
+        ≡ out.old.items ++ escaped_hash (string_bytes hash.now.0, string_bytes hash.now.1)) }
 {
     let (algorithm, value) = hash;
     push_escaped(out, algorithm.as_str())?;
@@ -24,7 +26,8 @@ fn push_hash(out: &mut Vec<u8>, hash: &(String, String)) -> Result<(), AllocErro
 
 /// Pushes a TAB and the field of the hashes.
 fn push_hashes(out: &mut Vec<u8>, hashes: &[(String, String)]) -> Result<(), AllocError>
-    ensures { OnOk result (out.new.items ≡ out.old.items ++ 9 ∷ field (hashes_text (text_pairs hashes.now))) }
+    ensures { OnOk result (out.new.items
+        ≡ out.old.items ++ 9 ∷ field (hashes_text (text_pairs hashes.now))) }
 {
     let Some((first, rest)) = hashes.split_first() else {
         return push_next(out, None);
@@ -45,7 +48,8 @@ fn push_more_hashes(out: &mut Vec<u8>, hashes: &[(String, String)]) -> Result<()
 }
 
 fn push_directory(out: &mut Vec<u8>, directory: &Directory) -> Result<(), AllocError>
-    ensures { OnOk result (out.new.items ≡ out.old.items ++ tabbed (directory_fields directory.now)) }
+    ensures { OnOk result (out.new.items
+        ≡ out.old.items ++ tabbed (directory_fields directory.now)) }
 {
     let kind: &[u8] = if directory.editable() {
         b"\teditable"
@@ -71,7 +75,8 @@ fn push_sdist(out: &mut Vec<u8>, sdist: &Sdist) -> Result<(), AllocError>
 }
 
 fn push_source(out: &mut Vec<u8>, entry: &Entry, source: PickSource) -> Result<(), AllocError>
-    ensures { OnOk result (out.new.items ≡ out.old.items ++ tabbed (source_fields entry.now source)) }
+    ensures { OnOk result (out.new.items
+        ≡ out.old.items ++ tabbed (source_fields entry.now source)) }
 {
     match source {
         PickSource::Directory => match entry.directory() {
@@ -111,7 +116,8 @@ fn push_pick(out: &mut Vec<u8>, session: &Session, pick: &Pick) -> Result<(), Al
 }
 
 fn push_picks(out: &mut Vec<u8>, session: &Session, picks: &[Pick]) -> Result<(), AllocError>
-    ensures { OnOk result (out.new.items ≡ out.old.items ++ flat_map (pick_text session.now) picks.now) }
+    ensures { OnOk result (out.new.items
+        ≡ out.old.items ++ flat_map (pick_text session.now) picks.now) }
 {
     for pick in picks {
         push_pick(out, session, pick)?;
@@ -130,7 +136,8 @@ pub fn push_answer(out: &mut Vec<u8>, session: &Session, answer: &Answer) -> Res
 }
 
 fn push_plan(out: &mut Vec<u8>, session: &Session, picks: &[Pick]) -> Result<(), AllocError>
-    ensures { OnOk result (out.new.items ≡ out.old.items ++ answer_text session.now (Plan picks.now)) }
+    ensures { OnOk result (out.new.items
+        ≡ out.old.items ++ answer_text session.now (Plan picks.now)) }
 {
     out.extend_from_slice(b"plan ")?;
     push_decimal(out, picks.len() as u64)?;
