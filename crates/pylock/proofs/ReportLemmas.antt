@@ -77,19 +77,19 @@ stops_between state source source' sink mid sink' at fault begins first stop =
           (Pours-flush sink mid (standing_text state) [] first refl) fault_at.front));
       cause = HasCause-map _ _ _ _ _ _ _ _ fault
           (λ read. (
-          read.0,
-          read.1 ∙ first.counted,
-          subst (λ t. Appends sink.held sink'.held (standing_text state ++ t)) (prints_ended state input)
-          (Appends-trans sink.held mid.held sink'.held (standing_text state) (bytes_text (start state) input) first.held read.2),
+            read.0,
+            read.1 ∙ first.counted,
+            subst (λ t. Appends sink.held sink'.held (standing_text state ++ t)) (prints_ended state input)
+                (Appends-trans sink.held mid.held sink'.held (standing_text state) (bytes_text (start state) input) first.held read.2),
           ))
           (λ write. (write.0, write.1 ∙ ap one_more first.counted))
           (λ past. (
-          past.0,
-          past.1 ∙ first.counted,
-          ⊎_elim
-          (λ lines. inl (subst (λ n. most_lines < n) (lines_of_input state input) lines))
-          (λ bytes. inr (past_all (length input) most_bytes bytes))
-          past.2,
+            past.0,
+            past.1 ∙ first.counted,
+            ⊎_elim
+                (λ lines. inl (subst (λ n. most_lines < n) (lines_of_input state input) lines))
+                (λ bytes. inr (past_all (length input) most_bytes bytes))
+                past.2,
           ))
           (λ memory. (memory.0, memory.1 ∙ first.counted))
           fault_at.cause;
@@ -148,8 +148,8 @@ session_reports state source source' sink mid late sink' at last end status begi
       reads = edited.reads;
       writes = whole.counted;
       ends = inr (
-      at_end,
-      (subst (λ n. n ≤ most_lines) (ap (λ a. lines_begun a) edited.editing ∙ lines_of_input state input) lines, edited.within),
+        at_end,
+        (subst (λ n. n ≤ most_lines) (ap (λ a. lines_begun a) edited.editing ∙ lines_of_input state input) lines, edited.within),
       );
     }
 

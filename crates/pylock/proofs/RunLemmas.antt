@@ -247,12 +247,12 @@ EditFault-after source s source' sink k sink' start at total out fault before af
           (λ read. (read.0 ∙ ap one_more reads, read.1 ∙ writes, held-more sink k sink' start at xs ys edited.writes edited.editing read.2))
           (λ write. (write.0 ∙ reads, write.1 ∙ ap one_more writes))
           (λ input. (
-          input.0 ∙ reads,
-          input.1 ∙ writes,
-          ⊎_elim
-          (λ lines. inl (subst (λ a. most_lines < lines_begun a) (done-more start at (bytes_done at ys) xs ys edited.editing refl) lines))
-          (λ bytes. inr (size-past xs ys total most_bytes edited.size bytes))
-          input.2,
+            input.0 ∙ reads,
+            input.1 ∙ writes,
+            ⊎_elim
+                (λ lines. inl (subst (λ a. most_lines < lines_begun a) (done-more start at (bytes_done at ys) xs ys edited.editing refl) lines))
+                (λ bytes. inr (size-past xs ys total most_bytes edited.size bytes))
+                input.2,
           ))
           (λ memory. (memory.0 ∙ reads, memory.1 ∙ writes))
           after.cause;

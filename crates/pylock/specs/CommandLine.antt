@@ -5,7 +5,8 @@ use Rattle.std.specs.Str.{bytes_eq}
 use Rattle.clap.specs.Words.{App, IsAmong, Row, Rule, Text, fault_of, first_of, kind_of, new_app}
 use Rattle.clap.specs.Words.{new_rule, subcommand_of, with_rule, with_subcommand}
 use Rattle.clap.specs.declared.error.Error.{Error}
-use Rattle.clap.specs.declared.error.kind.ErrorKind.TheVariants.{MissingRequiredArgument, OutOfMemory}
+use Rattle.clap.specs.declared.error.kind.ErrorKind.TheVariants.{MissingRequiredArgument}
+use Rattle.clap.specs.declared.error.kind.ErrorKind.TheVariants.{OutOfMemory}
 use Rattle.pylock.specs.declared.command.CommandError.{CommandError}
 use Rattle.pylock.specs.declared.command.CommandError.TheVariants.{Refused, Memory}
 use Rattle.pylock.specs.declared.command.Task.{Task}
@@ -18,7 +19,8 @@ place_rule id = record (new_rule id) { required = true }
 -- `select LOCK ENV`
 abbrev pub select_app : App
 select_app =
-    with_rule (with_rule (new_app (codes "select")) (place_rule (codes "LOCK"))) (place_rule (codes "ENV"))
+    with_rule (with_rule (new_app (codes "select")) (place_rule (codes "LOCK")))
+    (place_rule (codes "ENV"))
 
 -- `version TEXT`
 abbrev pub version_app : App
@@ -27,7 +29,8 @@ version_app = with_rule (new_app (codes "version")) (place_rule (codes "TEXT"))
 -- `match SET VERSION`
 abbrev pub match_app : App
 match_app =
-    with_rule (with_rule (new_app (codes "match")) (place_rule (codes "SET"))) (place_rule (codes "VERSION"))
+    with_rule (with_rule (new_app (codes "match")) (place_rule (codes "SET")))
+    (place_rule (codes "VERSION"))
 
 -- `name TEXT`
 abbrev pub name_app : App
@@ -53,9 +56,11 @@ pub record HasTexts (found : Option (Text × List Row)) (name : Text) (texts : L
 -- the subcommand of a task, and the texts of its arguments by name
 abbrev pub call_of : Task → Option (Text × List (Text × Text))
 call_of Bare = None
-call_of (Select lock env) = Some (codes "select", (codes "LOCK", lock.now) ∷ (codes "ENV", env.now) ∷ [])
+call_of (Select lock env) =
+    Some (codes "select", (codes "LOCK", lock.now) ∷ (codes "ENV", env.now) ∷ [])
 call_of (Version text) = Some (codes "version", (codes "TEXT", text.now) ∷ [])
-call_of (Match set version) = Some (codes "match", (codes "SET", set.now) ∷ (codes "VERSION", version.now) ∷ [])
+call_of (Match set version) =
+    Some (codes "match", (codes "SET", set.now) ∷ (codes "VERSION", version.now) ∷ [])
 call_of (Name text) = Some (codes "name", (codes "TEXT", text.now) ∷ [])
 
 -- the words have no subcommand, or this one with these texts
@@ -76,7 +81,8 @@ abbrev pub lacks_text : Text → List Row → Bool
 lacks_text name rows =
     if bytes_eq name (codes "select") then lacks rows (codes "LOCK") || lacks rows (codes "ENV")
     else if bytes_eq name (codes "version") then lacks rows (codes "TEXT")
-    else if bytes_eq name (codes "match") then lacks rows (codes "SET") || lacks rows (codes "VERSION")
+    else if bytes_eq name (codes "match")
+    then lacks rows (codes "SET") || lacks rows (codes "VERSION")
     else if bytes_eq name (codes "name") then lacks rows (codes "TEXT")
     else true
 
@@ -84,12 +90,13 @@ abbrev pub is_lacking : Option (Text × List Row) → Bool
 is_lacking None = false
 is_lacking (Some found) = lacks_text found.0 found.1
 
--- Why words are refused: clap has this kind of error for them; or the kind is that of a missing text, and one is
--- missing. Want of memory says nothing of the words.
+-- Why words are refused: clap has this kind of error for them; or the kind is that of a missing
+-- text, and one is missing. Want of memory says nothing of the words.
 abbrev pub IsRefusal : List Text → CommandError → Type 0
 IsRefusal words (Refused error) = (kind_of error ≢ OutOfMemory)
     × (IsAmong (kind_of error) (fault_of pylock_app words)
-    ⊎ ((kind_of error ≡ MissingRequiredArgument) × (is_lacking (subcommand_of pylock_app words) ≡ true)))
+    ⊎ ((kind_of error ≡ MissingRequiredArgument)
+    × (is_lacking (subcommand_of pylock_app words) ≡ true)))
 IsRefusal words Memory = Unit {0}
 
 -- what becomes of an error of clap's: it is the refusal, unless memory ran out

@@ -17,8 +17,8 @@ abbrev pub onto_first : ℕ → List (List ℕ) → List (List ℕ)
 onto_first b [] = (b ∷ []) ∷ []
 onto_first b (line ∷ lines) = (b ∷ line) ∷ lines
 
--- The lines of an input, without their LFs: a line ends at LF, and what stands after the last LF is a line where it is
--- not empty.
+-- The lines of an input, without their LFs: a line ends at LF, and what stands after the last LF is
+-- a line where it is not empty.
 abbrev pub input_lines : List ℕ → List (List ℕ)
 input_lines [] = []
 input_lines (b ∷ rest) = if b == 10 then [] ∷ input_lines rest else onto_first b (input_lines rest)
@@ -35,12 +35,14 @@ ended_lines (b ∷ rest) = if b == 10 then [] ∷ ended_lines rest else onto_end
 
 -- the line without one CR at its end
 abbrev pub without_cr : List ℕ → List ℕ
-without_cr line = if ends_with (λ a b. a == b) line (13 ∷ []) then take (length line - 1) line else line
+without_cr line =
+    if ends_with (λ a b. a == b) line (13 ∷ []) then take (length line - 1) line else line
 
 abbrev pub is_lf : ℕ → Bool
 is_lf b = b == 10
 
--- The command is the text to the first space, and its argument what follows that space, absent where there is none.
+-- The command is the text to the first space, and its argument what follows that space, absent
+-- where there is none.
 abbrev pub text_command : List ℕ → Result Command LineRefusal
 text_command text =
     if list_any is_space text

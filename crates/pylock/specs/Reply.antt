@@ -53,7 +53,8 @@ faulty code = record { text = line_of (codes "fault") (fault_word code ∷ []); 
 abbrev pub unread : EnvError → Report
 unread error = record { text = environment_text error; status = 2 }
 
--- a step of an answer, or what is printed in its place; want of memory is no refusal, and is never printed
+-- a step of an answer, or what is printed in its place; want of memory is no refusal, and is never
+-- printed
 abbrev pub or_else : {V E : Type 0} → (E → Report) → Result V E → Result V Report
 or_else report step = result_map_both (λ v. v) report step
 
@@ -98,7 +99,9 @@ match_answer set text = do
 -- `name TEXT`: the normal form
 abbrev pub name_answer : List ℕ → Result (List ℕ) Report
 name_answer text =
-    if is_name text then Ok (line_of (field (Some (norm text))) []) else Err (refused (codes "name"))
+    if is_name text
+    then Ok (line_of (field (Some (norm text))) [])
+    else Err (refused (codes "name"))
 
 -- `marker TEXT ENV`: whether the marker is true; its text is judged before the environment
 abbrev pub marker_word : MarkerError → List ℕ

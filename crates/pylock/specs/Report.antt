@@ -24,8 +24,8 @@ use Rattle.pylock.specs.declared.report.opening.OpenError.TheVariants.{Lock, Env
 abbrev pub refused_by : {V E : Type 0} → (E → OpenError) → Result V E → Result V OpenError
 refused_by refusal read = result_map_both (λ v. v) refusal read
 
--- the state in which a run begins, from the bytes of the lock and of the environment; or the lock's refusal, and then
--- the environment's
+-- the state in which a run begins, from the bytes of the lock and of the environment; or the lock's
+-- refusal, and then the environment's
 unfoldable pub opened : List ℕ → List ℕ → Result State OpenError
 opened lock environment = do
   lock ← refused_by Lock (lock_of lock)
@@ -86,8 +86,8 @@ pub record Report : Type 0 where
   pub text : List ℕ
   pub status : ℕ
 
--- The report on what a run begins with and on lines: a refused lock or environment is all that is reported; else it is
--- the first answer, and what the lines print.
+-- The report on what a run begins with and on lines: a refused lock or environment is all that is
+-- reported; else it is the first answer, and what the lines print.
 abbrev pub report_on : Result State OpenError → List (List ℕ) → Report
 report_on (Err refusal) lines = record { text = refusal_text refusal; status = 2 }
 report_on (Ok state) lines = record {

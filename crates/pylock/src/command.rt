@@ -223,10 +223,11 @@ fn task_of<'a>(matches: &ArgMatches<'a>) -> Option<Task<'a>>
     }
 }
 
-/// The task that `words` ask for, of which the first is the program's name. A text of the task is one
-/// of the words. A refusal is clap's, or says that a text of the subcommand is missing.
+/// The task that `words` ask for, of which the first is the program's name. A text of the task is
+/// one of the words. A refusal is clap's, or says that a text of the subcommand is missing.
 ///
-/// It takes memory for the command line's description, for what is found and for the text of an error.
+/// It takes memory for the command line's description, for what is found and for the text of an
+/// error.
 pub fn command<'a>(alloc: Global, words: &'a [&'a str]) -> Result<Task<'a>, CommandError>
     ensures task { IfOk result
         (IsTask (subcommand_of pylock_app (map (λ w. w.now) words.entry.now))) }

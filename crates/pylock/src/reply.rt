@@ -9,7 +9,8 @@ ghost use Rattle.pyver_core.specs.Name.{norm};
 ghost use Rattle.pywheel_core.specs.Tag.{tag_text};
 ghost use Rattle.pylock.specs.Inner.Reply.{Pushes};
 ghost use Rattle.pylock.specs.Reply.{reply, reply_of, version_answer, match_answer, admits_answer};
-ghost use Rattle.pylock.specs.Reply.{truth_word, name_answer, marker_answer, judged_answer, value_answer};
+ghost use Rattle.pylock.specs.Reply.{truth_word, name_answer, marker_answer, judged_answer};
+ghost use Rattle.pylock.specs.Reply.{value_answer};
 ghost use Rattle.pylock.specs.Reply.{requirement_answer, requirement_line, names_text};
 ghost use Rattle.pylock.specs.Reply.{specifiers_text, wheel_answer, wheel_line};
 ghost use Rattle.pylock.specs.Reply.{refused, faulty};
@@ -32,9 +33,9 @@ use pyver_core::{SpecifierError, SpecifierSet, Version, VersionError, is_name, n
 use pywheel_core::{Tag, WheelError, WheelName};
 use std::alloc::{AllocError, Global};
 
-/// Writes the reply of a one-shot command, and answers the program's status: 0 for an answer, 1 where
-/// a text is refused. After a fault a front of the reply is written. Takes memory for what it parses and
-/// for the reply.
+/// Writes the reply of a one-shot command, and answers the program's status: 0 for an answer, 1
+/// where a text is refused. After a fault a front of the reply is written. Takes memory for what it
+/// parses and for the reply.
 pub fn query<W: Sink>(alloc: Global, query: Query<'_>, writer: &mut W) -> Result<u8, RunFault>
     ensures text { OnOk result (Appends (W.value writer.old).held (W.value writer.new).held
         (reply query.entry).text) }

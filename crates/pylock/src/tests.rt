@@ -1,7 +1,9 @@
-//! Worked examples of runs, of the one-shot commands, of the command line and of streams.
+//! Worked examples of runs, of the one-shot commands, of the command line, of the program and of
+//! streams.
 
 mod command;
 mod growths;
+mod program;
 mod reply;
 mod run;
 mod stream;

@@ -8,7 +8,8 @@ use Rattle.pylock.specs.Report.Run.{most_bytes, most_lines}
 use Rattle.pylock.specs.Stream.{SourceValue, SinkValue, TakesFront, one_more}
 use Rattle.pylock.specs.declared.report.fault.RunFault.{RunFault}
 
--- the reader gave some bytes, the session was edited by them, what they print was written, and no call failed
+-- the reader gave some bytes, the session was edited by them, what they print was written, and no
+-- call failed
 pub record Edited (source source' : SourceValue) (sink sink' : SinkValue) (start at : At)
     (total new_total : ℕ) : Type 0 where
   pub given : List ℕ
@@ -43,7 +44,8 @@ IsReadFault total source source' fault = HasCause
     ⊥
     fault
 
--- the fault, after some bytes of which a front of what they print was written; where a read failed, all of it
+-- the fault, after some bytes of which a front of what they print was written; where a read failed,
+-- all of it
 pub record EditFault (source source' : SourceValue) (sink sink' : SinkValue) (start : At)
     (total : ℕ) (fault : RunFault) : Type 0 where
   pub given : List ℕ

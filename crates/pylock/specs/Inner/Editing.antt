@@ -1,6 +1,7 @@
--- The editing of a session byte by byte: what `report` says of the lines, as a run has it in hand after a part of the
--- input.
-use Rattle.std.specs.Prelude.{ℕ, ◌+◌, ◌==◌, ◌++◌, ◌||◌, Bool, false, if◌then◌else◌, length, take, min}
+-- The editing of a session byte by byte: what `report` says of the lines, as a run has it in hand
+-- after a part of the input.
+use Rattle.std.specs.Prelude.{ℕ, ◌+◌, ◌==◌, ◌++◌, ◌||◌, Bool, false, if◌then◌else◌, length, take}
+use Rattle.std.specs.Prelude.{min}
 use Rattle.std.specs.Prelude.{List, [], ◌∷◌, Result, Ok, Err}
 use Rattle.std.specs.Result.{is_err}
 use Rattle.pylock_core.specs.Session.State.{State}
@@ -13,8 +14,8 @@ use Rattle.pylock.specs.Line.{line_limit}
 unfoldable pub kept : List ℕ → List ℕ
 kept line = take (line_limit + 1) line
 
--- the state of the session, whether its last answer was a plan, the number of ended lines, whether one of them was
--- refused, and what is kept of the line that is being read
+-- the state of the session, whether its last answer was a plan, the number of ended lines, whether
+-- one of them was refused, and what is kept of the line that is being read
 pub record At : Type 0 where
   pub state : State
   pub plan : Bool

@@ -66,8 +66,8 @@ unset_after argument = do
   variable ← variable_in name
   Ok (edit.Unset variable)
 
--- The argument of `extra+` and `extra-`, and of `group+` and `group-`: a name. Whether the lock knows it is the edit's
--- to judge, and refused by the same word.
+-- The argument of `extra+` and `extra-`, and of `group+` and `group-`: a name. Whether the lock
+-- knows it is the edit's to judge, and refused by the same word.
 unfoldable pub name_after : LineRefusal → Option (List ℕ) → Result (List ℕ) LineRefusal
 name_after refused argument = do
   text ← given argument

@@ -2,7 +2,8 @@
 use Rattle.pylock.specs.declared.report.fault.RunFault.{RunFault}
 use Rattle.pylock.specs.declared.report.fault.RunFault.TheVariants as fault
 
--- which fault has which cause: a read that failed, a write that failed, an input past a limit, a refused growth
+-- which fault has which cause: a read that failed, a write that failed, an input past a limit, a
+-- refused growth
 abbrev pub HasCause : (read write input memory : Type 0) → RunFault → Type 0
 HasCause read write input memory fault.Read = read
 HasCause read write input memory fault.Write = write

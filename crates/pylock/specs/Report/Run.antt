@@ -22,9 +22,9 @@ IsWithinLimits input = (length (input_lines input) ≤ most_lines) × (length in
 abbrev pub PassesALimit : List ℕ → Type 0
 PassesALimit input = (most_lines < length (input_lines input)) ⊎ (most_bytes < length input)
 
--- A run from its beginning that ends with a status: the writer took exactly the text of the report on the input that
--- the reader gave, and the status is the report's. No read and no write failed. Unless the lock or the environment is
--- refused, the input came to its end within both limits.
+-- A run from its beginning that ends with a status: the writer took exactly the text of the report
+-- on the input that the reader gave, and the status is the report's. No read and no write failed.
+-- Unless the lock or the environment is refused, the input came to its end within both limits.
 pub record Reports (begins : Result State OpenError) (source source' : SourceValue)
     (sink sink' : SinkValue) (status : ℕ) : Type 0 where
   pub input : List ℕ
@@ -35,10 +35,11 @@ pub record Reports (begins : Result State OpenError) (source source' : SourceVal
   pub writes : sink'.failures ≡ sink.failures
   pub ends : IsErr begins ⊎ (IsAtEnd source'.rest × IsWithinLimits input)
 
--- A run that ends with the fault that was met first: the writer took a front of the report's text. `Read` says that one
--- read failed and no write, and that the writer took exactly the text of the report on the lines whose LF stands in
--- what the reader gave; `Write` that one write failed and no read; `Input` that the reader gave an input that passes a
--- limit, and neither failed; `Memory` that neither failed.
+-- A run that ends with the fault that was met first: the writer took a front of the report's text.
+-- `Read` says that one read failed and no write, and that the writer took exactly the text of the
+-- report on the lines whose LF stands in what the reader gave; `Write` that one write failed and no
+-- read; `Input` that the reader gave an input that passes a limit, and neither failed; `Memory`
+-- that neither failed.
 pub record Stops (begins : Result State OpenError) (source source' : SourceValue)
     (sink sink' : SinkValue) (fault : RunFault) : Type 0 where
   pub input : List ℕ

@@ -1,15 +1,16 @@
 -- A source and a sink over memory, as contracts see them.
 use Rattle.std.specs.Prelude.{◌≡◌, ℕ, ◌-◌, List, Option, None, Some, nat_le, if◌then◌else◌}
 
--- a source over memory: the bytes to come, how many a call moves at most, in how many calls it fails, and its failures
+-- a source over memory: the bytes to come, how many a call moves at most, in how many calls it
+-- fails, and its failures
 pub record PiecesValue : Type 0 where
   pub rest : List ℕ
   pub piece : ℕ
   pub fails_in : Option ℕ
   pub failures : ℕ
 
--- a sink over memory: the bytes taken, how many it holds at most, how many a call moves at most, in how many calls it
--- fails, and its failures
+-- a sink over memory: the bytes taken, how many it holds at most, how many a call moves at most, in
+-- how many calls it fails, and its failures
 pub record RoomValue : Type 0 where
   pub held : List ℕ
   pub room : ℕ

@@ -1,9 +1,11 @@
 -- The fields of a printed line, which ends in LF.
-use Rattle.std.specs.Prelude.{ℕ, Bool, ◌==◌, ◌++◌, List, [], ◌∷◌, if◌then◌else◌, Option, Some, None, codes}
+use Rattle.std.specs.Prelude.{ℕ, Bool, ◌==◌, ◌++◌, List, [], ◌∷◌, if◌then◌else◌, Option, Some, None}
+use Rattle.std.specs.Prelude.{codes}
 use Rattle.std.specs.List.{flat_map}
 use Rattle.std.specs.Str.{bytes_eq}
 
--- how a byte of a text stands in a field: TAB, LF, CR and the backslash are written with a backslash
+-- how a byte of a text stands in a field: TAB, LF, CR and the backslash are written with a
+-- backslash
 abbrev pub escape : ℕ → List ℕ
 escape b =
     if b == 9 then codes "\\t"

@@ -13,7 +13,8 @@ use std::alloc::{AllocError, Global};
 
 /// The argument, which has to be there.
 pub fn given<'a>(argument: Option<&'a str>) -> Result<&'a str, LineRefusal>
-    ensures { Gives LineRefusal.Memory (λ text. text.now) result (given (option_copied argument.entry)) }
+    ensures { Gives LineRefusal.Memory (λ text. text.now) result
+        (given (option_copied argument.entry)) }
 {
     argument.ok_or(LineRefusal::Argument)
 }
@@ -30,7 +31,8 @@ pub fn filled(text: &str) -> Result<&str, LineRefusal>
 
 /// What stands before and behind the first space, which has to be there.
 pub fn around_space(text: &str) -> Result<(&str, &str), LineRefusal>
-    ensures { Gives LineRefusal.Memory (λ cut. (cut.0.now, cut.1.now)) result (around_space text.now) }
+    ensures { Gives LineRefusal.Memory (λ cut. (cut.0.now, cut.1.now)) result
+        (around_space text.now) }
 {
     match text.split_once(' ') {
         Some((front, back)) => Ok((front, back)),

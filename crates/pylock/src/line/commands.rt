@@ -84,7 +84,8 @@ fn set(alloc: Global, argument: Option<&str>) -> Result<Edit, LineRefusal>
 
 #[tactic(auto, unfolding(crate::specs::Line::Commands::unset_after))]
 fn unset(argument: Option<&str>) -> Result<Edit, LineRefusal>
-    ensures { Gives LineRefusal.Memory (λ e. e) result (unset_after (option_copied argument.entry)) }
+    ensures { Gives LineRefusal.Memory (λ e. e) result
+        (unset_after (option_copied argument.entry)) }
 {
     let variable = variable_in(filled(given(argument)?)?)?;
     Ok(Edit::Unset(variable))
@@ -158,7 +159,8 @@ fn del(argument: Option<&str>) -> Result<Edit, LineRefusal>
 
 #[tactic(auto, unfolding(crate::specs::Line::Commands::policy_after))]
 fn policy(alloc: Global, argument: Option<&str>) -> Result<Edit, LineRefusal>
-    ensures { Gives LineRefusal.Memory (λ e. e) result (policy_after (option_copied argument.entry)) }
+    ensures { Gives LineRefusal.Memory (λ e. e) result
+        (policy_after (option_copied argument.entry)) }
 {
     let (name, word) = around_space(given(argument)?)?;
     let policy = policy_in(word)?;

@@ -1,6 +1,7 @@
 //! The editing of a session by the bytes of the input, in whatever pieces they come.
 
-ghost use Rattle.std.specs.Prelude.{◌≡◌, ◌++◌, ◌<◌, ◌≤◌, ◌+◌, not, ◌&&◌, if◌then◌else◌, length, take};
+ghost use Rattle.std.specs.Prelude.{◌≡◌, ◌++◌, ◌<◌, ◌≤◌, ◌+◌, not, ◌&&◌, if◌then◌else◌, length};
+ghost use Rattle.std.specs.Prelude.{take};
 ghost use Rattle.std.specs.Prelude.{Ok, Err, OnOk, IfOk, IfErr, OnErr};
 ghost use Rattle.pylock_core.specs.Session.Steps.{answer};
 ghost use Rattle.std.specs.List.{position};
@@ -8,7 +9,8 @@ ghost use Rattle.pyver_core.specs.Agreement.{Gives};
 ghost use Rattle.pylock.specs.Line.{is_lf};
 ghost use Rattle.pylock.specs.Report.{is_plan, after_line, standing_text};
 ghost use Rattle.pylock.specs.Report.Run.{most_lines};
-ghost use Rattle.pylock.specs.Inner.Editing.{start, kept, end_line, end_text, bytes_done, bytes_text};
+ghost use Rattle.pylock.specs.Inner.Editing.{start, kept, end_line, end_text, bytes_done};
+ghost use Rattle.pylock.specs.Inner.Editing.{bytes_text};
 ghost use Rattle.pylock.specs.Inner.Editing.{finished, finished_text, lines_begun};
 ghost use Rattle.pylock.specs.Inner.Faults.{IsTakeFault};
 
@@ -36,7 +38,8 @@ pub struct Editing {
     ended: u64,
     /// Whether one of them was refused.
     refused: bool,
-    /// What is kept of the line that is being read: of one that is too long, `LINE_LIMIT + 1` bytes.
+    /// What is kept of the line that is being read: of one that is too long, `LINE_LIMIT + 1`
+    /// bytes.
     line: Vec<u8>,
 }
 
@@ -77,12 +80,13 @@ impl Editing {
         })
     }
 
-    /// Takes the bytes up to the first LF and that LF, or all bytes where there is none, and answers
-    /// how many. Where a line ends, what it prints is pushed.
+    /// Takes the bytes up to the first LF and that LF, or all bytes where there is none, and
+    /// answers how many. Where a line ends, what it prints is pushed.
     pub fn take(&mut self, bytes: &[u8], out: &mut Vec<u8>) -> Result<usize, RunFault>
         requires { 0 < length bytes.now }
         ensures some { IfOk result (λ count. (0 < count) × (count ≤ length bytes.now)) }
-        ensures editing { IfOk result (λ count. self.new ≡ bytes_done self.old (take count bytes.now)) }
+        ensures editing { IfOk result (λ count. self.new
+            ≡ bytes_done self.old (take count bytes.now)) }
         ensures text { IfOk result (λ count. out.new.items
             ≡ out.old.items ++ bytes_text self.old (take count bytes.now)) }
         ensures fault { IfErr result (IsTakeFault self.old.ended) }
@@ -126,7 +130,8 @@ impl Editing {
     #[tactic(auto, using(crate::proofs::EditingLemmas::kept_room))]
     fn keep(&mut self, bytes: &[u8]) -> Result<(), AllocError>
         requires { self.old.ended < most_lines }
-        ensures { OnOk result (self.new ≡ record self.old { line = kept (self.old.line ++ bytes.now) }) }
+        ensures { OnOk result (self.new
+            ≡ record self.old { line = kept (self.old.line ++ bytes.now) }) }
     {
         let room = LINE_LIMIT + 1 - self.line.len();
         let count = bytes.len().min(room);

@@ -26,7 +26,8 @@ impl From<AllocError> for OpenError {
     }
 }
 
-/// Reads the lock and then the environment, and starts the session on both. It takes memory for all three.
+/// Reads the lock and then the environment, and starts the session on both. It takes memory for all
+/// three.
 #[tactic(auto, unfolding(crate::specs::Report::opened))]
 pub fn open(alloc: Global, lock: &[u8], env: &[u8]) -> Result<Session, OpenError>
     ensures { Gives refusal.Memory (λ session. session.state) result (opened lock.now env.now) }

@@ -1,10 +1,12 @@
 //! A run: edits a session by the lines of its input, and writes what they print.
 
-ghost use Rattle.std.specs.Prelude.{◌≡◌, ◌++◌, ◌<◌, ◌≤◌, ◌+◌, [], Ok, IsErr, IsTrue, false, length, take};
+ghost use Rattle.std.specs.Prelude.{◌≡◌, ◌++◌, ◌<◌, ◌≤◌, ◌+◌, [], Ok, IsErr, IsTrue, false, length};
+ghost use Rattle.std.specs.Prelude.{take};
 ghost use Rattle.std.specs.Prelude.{OnOk, IfOk, IfErr, OnErr};
 ghost use Rattle.std.specs.Io.KnownBytes.{Consumes, IsAtEnd};
 ghost use Rattle.pylock.specs.Inner.Edited.{Edited, EditsAll, IsReadFault, EditFault};
-ghost use Rattle.pylock.specs.Inner.Editing.{start, bytes_done, bytes_text, finished, finished_text};
+ghost use Rattle.pylock.specs.Inner.Editing.{start, bytes_done, bytes_text, finished};
+ghost use Rattle.pylock.specs.Inner.Editing.{finished_text};
 ghost use Rattle.pylock.specs.Inner.Editing.{lines_begun};
 ghost use Rattle.pylock.specs.Inner.Faults.{IsWriteFault, IsFeedFault, IsOutputFault};
 ghost use Rattle.pylock.specs.Inner.Writes.{Writes, Pours};
@@ -244,14 +246,15 @@ fn refuse<W: Sink>(alloc: Global, error: &OpenError, writer: &mut W) -> Result<u
     Ok(2)
 }
 
-/// Runs `select`: edits a session on the lock by the lines of the input, and writes the first answer
-/// and what each line prints. It answers the status: 0 where the last answer is a plan and no line was
-/// refused, 1 otherwise, 2 where the lock or the environment is refused.
+/// Runs `select`: edits a session on the lock by the lines of the input, and writes the first
+/// answer and what each line prints. It answers the status: 0 where the last answer is a plan and
+/// no line was refused, 1 otherwise, 2 where the lock or the environment is refused.
 ///
 /// It is one pass: the input is read in pieces of at most 65,536 bytes, and before each read all is
 /// written that the lines print which have ended. Where the lock or the environment is refused,
-/// nothing is read. It keeps the line that is being read, of a line that is too long no more than tells
-/// so, and takes memory for the session, the kept line, a piece, and what stands to be written.
+/// nothing is read. It keeps the line that is being read, of a line that is too long no more than
+/// tells so, and takes memory for the session, the kept line, a piece, and what stands to be
+/// written.
 pub fn run<R: Source, W: Sink>(
     alloc: Global,
     lock: &[u8],

@@ -1,4 +1,5 @@
-//! A source and a sink over memory: they tell all their bytes, move them in small pieces, and fail when they are told to.
+//! A source and a sink over memory: they tell all their bytes, move them in small pieces, and fail
+//! when they are told to.
 ghost use Rattle.std.specs.Prelude.{◌≡◌, ◌<◌, ◌≤◌, ◌-◌, ◌↔◌, [], ◌++◌, Some, None};
 ghost use Rattle.std.specs.Prelude.{length, take, min, IsTrue, IfOk, OnOk, OnErr, IsErr};
 ghost use Rattle.pylock.specs.Stream.{one_more};
@@ -124,8 +125,8 @@ impl Model for Room {
 }
 
 impl Room {
-    /// Holds `room` bytes at most, and takes at most `piece` of them at each call. The call with the
-    /// number `fail_at`, counted from 1, fails. All the memory is taken here.
+    /// Holds `room` bytes at most, and takes at most `piece` of them at each call. The call with
+    /// the number `fail_at`, counted from 1, fails. All the memory is taken here.
     pub fn new(
         alloc: Global,
         room: usize,

@@ -86,8 +86,8 @@ fn read_pieces<R: Source>(
     Ok(bytes)
 }
 
-/// All bytes up to the end of `reader`, of which there may be `limit`. What is met first, a read that
-/// fails or a byte past the limit, is the fault; what was given before it is lost.
+/// All bytes up to the end of `reader`, of which there may be `limit`. What is met first, a read
+/// that fails or a byte past the limit, is the fault; what was given before it is lost.
 ///
 /// It asks for at most 65,536 bytes at once, and takes memory for them and for what it answers.
 pub fn read_whole<R: Source>(

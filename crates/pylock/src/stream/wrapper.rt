@@ -1,5 +1,5 @@
-//! A source over a reader of std and a sink over a writer: they tell the bytes that these tell, and answer each error as
-//! a failure.
+//! A source over a reader of std and a sink over a writer: they tell the bytes that these tell, and
+//! answer each error as a failure.
 ghost use Rattle.std.specs.Prelude.{◌≡◌, ◌<◌, ◌≤◌};
 
 use crate::stream::{IoFault, Sink, Source};
@@ -19,6 +19,12 @@ impl<R: Read> FromRead<R> {
             ≡ record { rest = R.remaining inner; failures = 0 } }
     {
         FromRead { inner, failures: 0 }
+    }
+
+    /// The reader.
+    #[cfg(test)]
+    pub fn into_inner(self) -> R {
+        self.inner
     }
 }
 
@@ -50,6 +56,12 @@ impl<W: Write> ToWrite<W> {
             ≡ record { held = W.contents inner; failures = 0 } }
     {
         ToWrite { inner, failures: 0 }
+    }
+
+    /// The writer.
+    #[cfg(test)]
+    pub fn into_inner(self) -> W {
+        self.inner
     }
 }
 

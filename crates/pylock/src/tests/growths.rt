@@ -1,10 +1,10 @@
-//! Calls whose growths are refused in turn: `tools/growths/run` runs each of these tests once for each of its
-//! growths, that one refused. A test passes where the call answers want of memory and leaves what it should, or
-//! answers just what it answers with ample memory.
+//! Calls whose growths are refused in turn: `tools/growths/run` runs each of these tests once for
+//! each of its growths, that one refused. A test passes where the call answers want of memory and
+//! leaves what it should, or answers just what it answers with ample memory.
 
 use crate::command::{CommandError, Task, command};
-use crate::reply::query;
 use crate::reply::queries::Query;
+use crate::reply::query;
 use crate::report::fault::RunFault;
 use crate::report::run::run;
 use crate::stream::memory::{Pieces, Room};

@@ -207,6 +207,28 @@ fn writes_before_it_reads_on(rt: HostRuntime) -> Result<(), Fail> {
     Ok(())
 }
 
+/// A line of exactly the limit, one byte more, and the same with a CR that counts.
+#[test]
+fn limits_a_line(rt: HostRuntime) -> Result<(), Fail> {
+    let alloc = rt.alloc();
+    for (length, end, word) in [
+        (1_048_576, "\n", "command"),
+        (1_048_577, "\n", "long"),
+        (1_048_575, "\r\n", "command"),
+        (1_048_576, "\r\n", "long"),
+        (1_048_576, "", "command"),
+        (1_048_577, "", "long"),
+    ] {
+        let mut input = vec![in alloc; b'x'; length]?;
+        input.extend_from_slice(end.as_bytes())?;
+        let done = ran(alloc, HEAD.as_bytes(), ENVIRONMENT.as_bytes(), &input)?;
+        let want = format!(in alloc; "plan 0\nrefused 1\t{word}\n")?;
+        assert_eq!(rt; done.answer, Ok(1));
+        assert_eq!(rt; done.room.bytes(), want.as_bytes());
+    }
+    Ok(())
+}
+
 /// A reader without end.
 #[derive(Drop)]
 struct Endless;

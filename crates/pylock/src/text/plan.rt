@@ -16,7 +16,8 @@ use pylock_core::{Session, Vcs};
 use std::alloc::AllocError;
 
 fn push_hash(out: &mut Vec<u8>, hash: &(String, String)) -> Result<(), AllocError>
-    ensures { OnOk result (out.new.items ≡ out.old.items ++ escaped_hash (string_bytes hash.now.0, string_bytes hash.now.1)) }
+    ensures { OnOk result (out.new.items
+        ≡ out.old.items ++ escaped_hash (string_bytes hash.now.0, string_bytes hash.now.1)) }
 {
     let (algorithm, value) = hash;
     push_escaped(out, algorithm.as_str())?;
@@ -26,7 +27,8 @@ fn push_hash(out: &mut Vec<u8>, hash: &(String, String)) -> Result<(), AllocErro
 
 /// Pushes a TAB and the field of the hashes.
 fn push_hashes(out: &mut Vec<u8>, hashes: &[(String, String)]) -> Result<(), AllocError>
-    ensures { OnOk result (out.new.items ≡ out.old.items ++ 9 ∷ field (hashes_text (text_pairs hashes.now))) }
+    ensures { OnOk result (out.new.items
+        ≡ out.old.items ++ 9 ∷ field (hashes_text (text_pairs hashes.now))) }
 {
     let Some((first, rest)) = hashes.split_first() else {
         return push_next(out, None);
@@ -160,7 +162,8 @@ fn push_pick(out: &mut Vec<u8>, session: &Session, pick: &Pick) -> Result<(), Al
 }
 
 fn push_picks(out: &mut Vec<u8>, session: &Session, picks: &[Pick]) -> Result<(), AllocError>
-    ensures { OnOk result (out.new.items ≡ out.old.items ++ flat_map (pick_text session.now.state) picks.now) }
+    ensures { OnOk result (out.new.items
+        ≡ out.old.items ++ flat_map (pick_text session.now.state) picks.now) }
 {
     for pick in picks {
         push_pick(out, session, pick)?;
@@ -170,7 +173,8 @@ fn push_picks(out: &mut Vec<u8>, session: &Session, picks: &[Pick]) -> Result<()
 
 /// Pushes an answer on the state of its session.
 pub fn push_answer(out: &mut Vec<u8>, session: &Session, answer: &Answer) -> Result<(), AllocError>
-    ensures { OnOk result (out.new.items ≡ out.old.items ++ answer_text session.now.state answer.now) }
+    ensures { OnOk result (out.new.items
+        ≡ out.old.items ++ answer_text session.now.state answer.now) }
 {
     match answer {
         Answer::Plan(plan) => push_plan(out, session, plan.picks()),
@@ -179,7 +183,8 @@ pub fn push_answer(out: &mut Vec<u8>, session: &Session, answer: &Answer) -> Res
 }
 
 fn push_plan(out: &mut Vec<u8>, session: &Session, picks: &[Pick]) -> Result<(), AllocError>
-    ensures { OnOk result (out.new.items ≡ out.old.items ++ answer_text session.now.state (Plan picks.now)) }
+    ensures { OnOk result (out.new.items
+        ≡ out.old.items ++ answer_text session.now.state (Plan picks.now)) }
 {
     out.extend_from_slice(b"plan ")?;
     push_decimal(out, picks.len() as u64)?;

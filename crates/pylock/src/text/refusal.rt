@@ -105,7 +105,8 @@ fn push_head(out: &mut Vec<u8>, key: &HeadKey) -> Result<(), AllocError>
 }
 
 fn push_entry_error(out: &mut Vec<u8>, place: usize, error: &EntryError) -> Result<(), AllocError>
-    ensures { OnOk result (out.new.items ≡ out.old.items ++ tabbed (lock_words (Entry place error.now))) }
+    ensures { OnOk result (out.new.items
+        ≡ out.old.items ++ tabbed (lock_words (Entry place error.now))) }
 {
     out.extend_from_slice(b"\tentry\t")?;
     push_decimal(out, place as u64)?;
@@ -113,7 +114,8 @@ fn push_entry_error(out: &mut Vec<u8>, place: usize, error: &EntryError) -> Resu
 }
 
 fn push_tag(out: &mut Vec<u8>, place: usize) -> Result<(), AllocError>
-    ensures { OnOk result (out.new.items ≡ out.old.items ++ tabbed (environment_words (Tag place))) }
+    ensures { OnOk result (out.new.items
+        ≡ out.old.items ++ tabbed (environment_words (Tag place))) }
 {
     out.extend_from_slice(b"\ttag\t")?;
     push_decimal(out, place as u64)
