@@ -43,8 +43,9 @@ command_of_not_text line short none =
 -- no space stands in a text that can't be cut at one
 pub no_space : (text : List ℕ) → position_or_len is_space text ≡ length text → list_any is_space text ≡ false
 no_space [] none = refl
-no_space (b ∷ bs) none = step (is_space b) none
+no_space (b ∷ bs) none = step (no_space bs) (is_space b) none
   where
-    step : (t : Bool) → cond (not t) (suc (position_or_len is_space bs)) 0 ≡ suc (length bs) → (t || list_any is_space bs) ≡ false
-    step true e = absurd (omega arith)
-    step false e = no_space bs (omega arith)
+    step : (position_or_len is_space bs ≡ length bs → list_any is_space bs ≡ false)
+        → (t : Bool) → cond (not t) (suc (position_or_len is_space bs)) 0 ≡ suc (length bs) → (t || list_any is_space bs) ≡ false
+    step rest true e = absurd (omega arith)
+    step rest false e = rest (omega arith)
