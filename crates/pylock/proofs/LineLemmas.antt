@@ -1,5 +1,5 @@
 -- Lemmas on the text of one line.
-use Rattle.std.proofs.Common.{◌≡◌, ℕ, ◌<◌, ◌≤◌, ◌^◌, List, [], ◌∷◌, length, Bool, true, false, cond, Result, Ok, Err, Some, None, arith, rules, not, suc, ◌==◌, ◌&&◌, ◌||◌, nat_le, refl, ap}
+use Rattle.std.proofs.Common.{◌≡◌, ℕ, ◌<◌, ◌≤◌, ◌^◌, List, [], ◌∷◌, length, Bool, true, false, cond, Result, Ok, Err, Some, None, arith, rules, not, ◌+◌, ◌==◌, ◌&&◌, ◌||◌, nat_le, refl, ap}
 use Rattle.std.specs.List.{list_all, list_any, position_or_len}
 use Rattle.std.specs.Char.{is_ascii_digit}
 use Rattle.std.specs.Str.{IsUtf8}
@@ -46,6 +46,6 @@ no_space [] none = refl
 no_space (b ∷ bs) none = step (no_space bs) (is_space b) none
   where
     step : (position_or_len is_space bs ≡ length bs → list_any is_space bs ≡ false)
-        → (t : Bool) → cond (not t) (suc (position_or_len is_space bs)) 0 ≡ suc (length bs) → (t || list_any is_space bs) ≡ false
+        → (t : Bool) → cond (not t) (1 + position_or_len is_space bs) 0 ≡ length (b ∷ bs) → (t || list_any is_space bs) ≡ false
     step rest true e = absurd (omega arith)
     step rest false e = rest (omega arith)

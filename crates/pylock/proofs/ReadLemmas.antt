@@ -1,7 +1,7 @@
 -- How far the reading of a whole source has come.
-use Rattle.std.proofs.Common.{◌≡◌, ℕ, ◌+◌, ◌-◌, ◌<◌, ◌≤◌, List, [], ◌++◌, length, take, refl, sym, ap, ◌∙◌, subst, length-append, arith}
+use Rattle.std.proofs.Common.{◌≡◌, ℕ, ◌+◌, ◌-◌, ◌<◌, ◌≤◌, List, [], ◌++◌, length, take, refl, sym, ap, ◌∙◌, subst, length-append, arith, Result, Ok, Err, IfOk, OnErr, Some}
 use Rattle.std.proofs.KnownBytes.{Consumes-nil, Consumes-trans, Consumes-kept}
-use Rattle.std.specs.Io.KnownBytes.{Consumes, Keeps, IsAtEnd}
+use Rattle.std.specs.Io.KnownBytes.{Consumes, Keeps, IsAtEnd, ReadConsumes}
 use Rattle.pylock.specs.Inner.Pieces.{GivesPiece}
 use Rattle.pylock.specs.Stream.{SourceValue, one_more}
 use Rattle.pylock.specs.Stream.Whole.{GivesWithin, GivesPast, GivesAll, IsCause}
@@ -78,3 +78,9 @@ cause_within limit old new piece within gave = record { given = piece; gave = ga
 
 pub cause_none : (limit : ℕ) (old new : SourceValue) → Keeps old.rest new.rest → GivesWithin limit old new
 cause_none limit old new kept = record { given = []; gave = Consumes-keeps old new kept; within = omega arith }
+
+-- a call over known bytes
+pub ReadConsumes-known : {E : Type 0} (r : Result ℕ E) (old new buf : List ℕ) → IfOk r (λ n. old ≡ take n buf ++ new)
+    → IfOk r (λ n. n ≡ 0 → 0 < length buf → new ≡ []) → OnErr r (new ≡ old) → ReadConsumes (Some old) (Some new) r buf
+ReadConsumes-known (Ok n) old new buf given end kept = (given, end)
+ReadConsumes-known (Err e) old new buf given end kept = kept

@@ -75,7 +75,7 @@ impl<'a> Source for Pieces<'a> {
         ensures count { IfOk result (λ n. n
             ≡ min (min (length self.old.rest) (length buf.new)) self.old.piece) }
         ensures given { IfOk result (λ n. self.old.rest ≡ take n buf.new ++ self.new.rest) }
-        ensures end { IfOk result (λ n. n ≡ 0 → 0 < length buf.old → self.new.rest ≡ []) }
+        ensures end { IfOk result (λ n. n ≡ 0 → 0 < length buf.new → self.new.rest ≡ []) }
         ensures ok { OnOk result (self.new ≡ record self.old {
           rest = self.new.rest;
           fails_in = after_call self.old.fails_in;

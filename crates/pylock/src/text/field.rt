@@ -44,8 +44,7 @@ pub fn push_escaped(out: &mut Vec<u8>, text: &str) -> Result<(), AllocError>
     }
 }
 
-/// Whether the text stands in a field as it is, as nearly each does. It looks at each byte and has
-/// no branch, so that many are judged at once.
+/// Whether the text stands in a field as it is, as nearly each does.
 fn is_plain_text(text: &[u8]) -> bool
     ensures { result ≡ list_all is_plain text.now }
 {
@@ -59,7 +58,7 @@ fn is_plain_text(text: &[u8]) -> bool
 fn is_plain(byte: u8) -> bool
     ensures { result ≡ is_plain byte }
 {
-    !((byte == b'\t') | (byte == b'\n') | (byte == b'\r') | (byte == b'\\'))
+    !matches!(byte, b'\t' | b'\n' | b'\r' | b'\\')
 }
 
 fn push_escapes(out: &mut Vec<u8>, text: &[u8]) -> Result<(), AllocError>
