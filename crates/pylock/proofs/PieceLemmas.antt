@@ -30,8 +30,7 @@ pub one_piece : (text : List ℕ) (s t : Split ℕ) (x : Bor (List ℕ)) (front 
     → split_steps FindsChar (λ a b. b ≡ a) s (Some x) t → PiecesAt text s front
     → next ≡ front ++ filter is_filled (x.now ∷ []) → PiecesAt text t next
 one_piece text s t x front next step i pushed =
-    let n = next_piece (split_steps FindsChar (λ a b. b ≡ a)) (λ y. y.now) s i.0 i.1 x t step in
-    (
+    let n = next_piece (split_steps FindsChar (λ a b. b ≡ a)) (λ y. y.now) s i.0 i.1 x t step in (
       n.0,
       n.2,
       ap (λ f. f ++ filter is_filled n.0) pushed ∙ append_assoc front (filter is_filled (x.now ∷ [])) (filter is_filled n.0)

@@ -234,7 +234,9 @@ fn requirement_command<'a>(alloc: Global) -> Result<Command<'a>, AllocError>
     ensures app { IfOk result (λ c. app_of c ≡ requirement_app) }
     ensures local { IfOk result (λ c. (fields_of c).has_globals ≡ false) }
 {
-    let text = Arg::new(alloc, "TEXT").required(true).help(REQUIREMENT_HELP);
+    let text = Arg::new(alloc, "TEXT")
+        .required(true)
+        .help(REQUIREMENT_HELP);
     Command::new(alloc, "requirement")
         .about(REQUIREMENT_ABOUT)
         .after_help(REQUIREMENT_REPLY)

@@ -276,11 +276,7 @@ fn push_wheel(alloc: Global, out: &mut Vec<u8>, text: &str) -> Result<u8, AllocE
     }
 }
 
-fn push_wheel_line(
-    alloc: Global,
-    out: &mut Vec<u8>,
-    wheel: &WheelName,
-) -> Result<u8, AllocError>
+fn push_wheel_line(alloc: Global, out: &mut Vec<u8>, wheel: &WheelName) -> Result<u8, AllocError>
     ensures { Pushes out.old.items out.new.items (reply_of (Ok (wheel_line wheel.now))) result }
 {
     let name = normal_name(alloc, wheel.name())?;

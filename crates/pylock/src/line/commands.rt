@@ -190,11 +190,7 @@ fn policy_in(word: &str) -> Result<Policy, LineRefusal>
 
 /// The argument, which has to be a name.
 #[tactic(auto, unfolding(crate::specs::Line::Commands::name_after))]
-fn name(
-    alloc: Global,
-    unknown: LineRefusal,
-    argument: Option<&str>,
-) -> Result<Label, LineRefusal>
+fn name(alloc: Global, unknown: LineRefusal, argument: Option<&str>) -> Result<Label, LineRefusal>
     ensures { Gives LineRefusal.Memory (λ l. l) result
         (name_after unknown (option_copied argument.entry)) }
 {

@@ -95,13 +95,16 @@ fn whole_run(rt: HostRuntime) {
 }
 
 /// A line of each command that takes memory.
-const EDITS: &[u8] = b"set os_name nt\nunset os_name\nextra+ X\nextra- x\ngroup+ G\ngroup- g\ntags py3-none-any\nadd {name = \"a\", archive = {path = \"p\"}}\nput 1 {name = \"a\", vcs = {type = \"git\", url = \"g\", commit-id = \"f0\"}}\npolicy A wheel\ndel 1\n";
+const EDITS: &[u8] =
+    b"set os_name nt\nunset os_name\nextra+ X\nextra- x\ngroup+ G\ngroup- g\ntags py3-none-any\nadd {name = \"a\", archive = {path = \"p\"}}\nput 1 {name = \"a\", vcs = {type = \"git\", url = \"g\", commit-id = \"f0\"}}\npolicy A wheel\ndel 1\n";
 
-const EDITED: &[u8] = b"plan 0\nplan 0\nplan 0\nplan 0\nplan 0\nplan 0\nplan 0\nplan 0\nplan 1\n1\ta\t-\tarchive\t-\tp\t-\t-\t-\nplan 1\n1\ta\t-\tvcs\t-\tg\t-\tgit@f0\t-\nplan 1\n1\ta\t-\tvcs\t-\tg\t-\tgit@f0\t-\nplan 0\n";
+const EDITED: &[u8] =
+    b"plan 0\nplan 0\nplan 0\nplan 0\nplan 0\nplan 0\nplan 0\nplan 0\nplan 1\n1\ta\t-\tarchive\t-\tp\t-\t-\t-\nplan 1\n1\ta\t-\tvcs\t-\tg\t-\tgit@f0\t-\nplan 1\n1\ta\t-\tvcs\t-\tg\t-\tgit@f0\t-\nplan 0\n";
 
 #[test]
 fn every_command(rt: HostRuntime) {
-    let lock = b"lock-version = \"1.0\"\ncreated-by = \"t\"\nextras = [\"x\"]\ndependency-groups = [\"g\"]\n";
+    let lock =
+        b"lock-version = \"1.0\"\ncreated-by = \"t\"\nextras = [\"x\"]\ndependency-groups = [\"g\"]\n";
     let Ok(mut writer) = Room::new(rt.alloc(), 4096, 4096, None) else {
         return;
     };
@@ -130,7 +133,10 @@ fn queries(rt: HostRuntime) {
         (Query::Match("~=1", "1"), b"refused\tset-syntax\n"),
         (Query::Name("A.-_B"), b"a-b\n"),
         (
-            Query::Marker("os_name == 'posix' and '1.0' == '1'", ENVIRONMENT.as_bytes()),
+            Query::Marker(
+                "os_name == 'posix' and '1.0' == '1'",
+                ENVIRONMENT.as_bytes(),
+            ),
             b"true\n",
         ),
         (

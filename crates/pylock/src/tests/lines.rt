@@ -191,3 +191,145 @@ fn takes_edit_lines(rt: HostRuntime) -> Result<(), Fail> {
     }
     Ok(())
 }
+
+/// The place of the example of refusals among the edits.
+const REFUSALS: usize = 2;
+
+/// The input of that example with CR and LF after each line, in pieces of any size.
+#[test]
+fn cuts_edit_lines_anyhow(rt: HostRuntime) -> Result<(), Fail> {
+    let case = EDITS[REFUSALS];
+    let lock = format!(in rt.alloc(); "{HEAD}\n")?;
+    let mut input = Vec::new(rt.alloc());
+    for line in case.input.lines() {
+        input.extend_from_slice(line.as_bytes())?;
+        input.extend_from_slice(b"\r\n")?;
+    }
+    for piece in [1, 2, 3, 65_535, 65_536] {
+        let mut reader = Pieces::new(&input, piece, None);
+        let mut room = Room::new(rt.alloc(), 65_536, 1, None)?;
+        let environment = case.environment.as_bytes();
+        let answer = run(
+            rt.alloc(),
+            lock.as_bytes(),
+            environment,
+            &mut reader,
+            &mut room,
+        );
+        assert_eq!(rt; answer, Ok(1));
+        assert_eq!(rt; room.bytes(), case.text.as_bytes());
+    }
+    Ok(())
+}
+
+/// Each write of that example failing in turn.
+#[test]
+fn edit_lines_meet_a_failed_write(rt: HostRuntime) -> Result<(), Fail> {
+    let case = EDITS[REFUSALS];
+    let lock = format!(in rt.alloc(); "{HEAD}\n")?;
+    for call in 1..=case.text.len() as u64 {
+        let mut reader = Pieces::new(case.input.as_bytes(), 65_536, None);
+        let mut room = Room::new(rt.alloc(), 65_536, 1, Some(call))?;
+        let environment = case.environment.as_bytes();
+        let answer = run(
+            rt.alloc(),
+            lock.as_bytes(),
+            environment,
+            &mut reader,
+            &mut room,
+        );
+        assert_eq!(rt; answer, Err(RunFault::Write));
+        assert!(rt; case.text.as_bytes().starts_with(room.bytes()));
+    }
+    Ok(())
+}
+
+/// Each read of that example failing in turn: the first answer is written.
+#[test]
+fn edit_lines_meet_a_failed_read(rt: HostRuntime) -> Result<(), Fail> {
+    let case = EDITS[REFUSALS];
+    let lock = format!(in rt.alloc(); "{HEAD}\n")?;
+    for call in 1..=case.input.len() as u64 + 1 {
+        let mut reader = Pieces::new(case.input.as_bytes(), 1, Some(call));
+        let mut room = Room::new(rt.alloc(), 65_536, 65_536, None)?;
+        let environment = case.environment.as_bytes();
+        let answer = run(
+            rt.alloc(),
+            lock.as_bytes(),
+            environment,
+            &mut reader,
+            &mut room,
+        );
+        assert_eq!(rt; answer, Err(RunFault::Read));
+        assert!(rt; room.bytes().starts_with(b"plan 0\n"));
+        assert!(rt; case.text.as_bytes().starts_with(room.bytes()));
+    }
+    Ok(())
+}
+
+/// A lock of that many of these members.
+fn lock_of(alloc: Global, member: &str, count: usize) -> Result<String, AllocError> {
+    let mut lock = String::from_str(alloc, HEAD)?;
+    lock.push_str("packages = [")?;
+    for _ in 0..count {
+        lock.push_str(member)?;
+        lock.push_str(",")?;
+    }
+    lock.push_str("]\n")?;
+    Ok(lock)
+}
+
+/// A lock has at most 100,000 entries, and none further has a number.
+#[test]
+fn entries_end_at_a_hundred_thousand(rt: HostRuntime) -> Result<(), Fail> {
+    let environment = b"{\"environment\":{},\"tags\":[]}";
+    let skipped = "{name=\"a\", marker=\"'a' == 'b'\"}";
+    for (member, count, input, text, status) in [
+        ("1", 100_001, "", "lock\ttoo-many\n", 2),
+        ("1", 100_000, "", "lock\tentry\t1\tnot-table\n", 2),
+        (
+            skipped,
+            100_000,
+            "del 100000\nadd {name = \"b\"}\n",
+            "plan 0\nplan 0\nrefused 2\ttoo-many\n",
+            1,
+        ),
+    ] {
+        let lock = lock_of(rt.alloc(), member, count)?;
+        let mut reader = Pieces::new(input.as_bytes(), 65_536, None);
+        let mut room = Room::new(rt.alloc(), 65_536, 65_536, None)?;
+        let answer = run(
+            rt.alloc(),
+            lock.as_bytes(),
+            environment,
+            &mut reader,
+            &mut room,
+        );
+        assert_eq!(rt; answer, Ok(status));
+        assert_eq!(rt; room.bytes(), text.as_bytes());
+    }
+    Ok(())
+}
+
+/// Every front of a lock and of an environment is read or refused.
+#[test]
+fn reads_every_front(rt: HostRuntime) -> Result<(), Fail> {
+    let case = SELECTIONS[6];
+    let lock = format!(in rt.alloc(); "{HEAD}{}\n", case.lock)?;
+    for end in 0..lock.len() {
+        let mut reader = Pieces::new(b"", 1, None);
+        let mut room = Room::new(rt.alloc(), 65_536, 65_536, None)?;
+        let environment = case.environment.as_bytes();
+        let front = &lock.as_bytes()[..end];
+        let answer = run(rt.alloc(), front, environment, &mut reader, &mut room);
+        assert!(rt; answer.is_ok(), "{end}");
+    }
+    for end in 0..case.environment.len() {
+        let mut reader = Pieces::new(b"", 1, None);
+        let mut room = Room::new(rt.alloc(), 65_536, 65_536, None)?;
+        let front = &case.environment.as_bytes()[..end];
+        let answer = run(rt.alloc(), lock.as_bytes(), front, &mut reader, &mut room);
+        assert_eq!(rt; answer, Ok(2), "{end}");
+    }
+    Ok(())
+}

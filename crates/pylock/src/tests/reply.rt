@@ -97,8 +97,7 @@ fn a_failed_write_leaves_a_front(rt: HostRuntime) -> Result<(), Fail> {
 const E0: &[u8] = b"{\"environment\":{},\"tags\":[]}";
 
 /// Python 3.12.0.
-const PYTHON: &[u8] =
-    b"{\"environment\":{\"python_full_version\":\"3.12.0\"},\"tags\":[]}";
+const PYTHON: &[u8] = b"{\"environment\":{\"python_full_version\":\"3.12.0\"},\"tags\":[]}";
 
 /// A POSIX system.
 const POSIX: &[u8] = b"{\"environment\":{\"os_name\":\"posix\"},\"tags\":[]}";
@@ -108,8 +107,7 @@ fn markers_are_judged(rt: HostRuntime) -> Result<(), Fail> {
     let old: &[u8] = b"{\"environment\":{\"python_version\":\"3.1\"},\"tags\":[]}";
     let linux: &[u8] =
         b"{\"environment\":{\"platform_release\":\"5.15.0-91-generic\"},\"tags\":[]}";
-    let other: &[u8] =
-        b"{\"environment\":{\"platform_release\":\"10.0-x-generic\"},\"tags\":[]}";
+    let other: &[u8] = b"{\"environment\":{\"platform_release\":\"10.0-x-generic\"},\"tags\":[]}";
     for (marker, environment, text, status) in [
         ("python_version in \"3.8 3.12\"", old, "true", 0),
         ("platform_release >= \"5\"", linux, "true", 0),
@@ -210,7 +208,11 @@ fn requirements_have_five_fields(rt: HostRuntime) -> Result<(), Fail> {
             "pip\t-\t-\thttps://h/p.zip#sha1=x\tos_name=='nt'",
             0,
         ),
-        ("pip @ https://h/p.zip;x", "pip\t-\t-\thttps://h/p.zip;x\t-", 0),
+        (
+            "pip @ https://h/p.zip;x",
+            "pip\t-\t-\thttps://h/p.zip;x\t-",
+            0,
+        ),
         ("a @ ;", "a\t-\t-\t;\t-", 0),
         (" A.b ( ) ", "a-b\t-\t-\t-\t-", 0),
         ("a[B_b,b.B]", "a\tb-b,b-b\t-\t-\t-", 0),
@@ -223,7 +225,11 @@ fn requirements_have_five_fields(rt: HostRuntime) -> Result<(), Fail> {
     ] {
         let mut room = Room::new(rt.alloc(), 100, 100, None)?;
         let asked = Query::Requirement(requirement);
-        assert_eq!(rt; query(rt.alloc(), asked, &mut room), Ok(status), "{requirement}");
+        assert_eq!(rt;
+            query(rt.alloc(), asked, &mut room),
+            Ok(status),
+            "{requirement}"
+        );
         let line = format!(in rt.alloc(); "{text}\n")?;
         assert_eq!(rt; room.bytes(), line.as_bytes(), "{requirement}");
     }

@@ -11,8 +11,9 @@ ghost use Rattle.pylock.specs.Text.Plan.{archive_fields, file_fields, source_fie
 ghost use Rattle.pylock.specs.Text.Plan.{plan_line, pick_text, answer_text, fault_text};
 
 use crate::text::field::{push_decimal, push_escaped, push_last_word, push_next};
-use pylock_core::{Answer, Archive, Directory, DistributionFile, Entry, FaultCode, Pick, PickSource};
-use pylock_core::{Session, Vcs};
+use pylock_core::{
+    Answer, Archive, Directory, DistributionFile, Entry, FaultCode, Pick, PickSource, Session, Vcs,
+};
 use std::alloc::AllocError;
 
 fn push_hash(out: &mut Vec<u8>, hash: &(String, String)) -> Result<(), AllocError>
