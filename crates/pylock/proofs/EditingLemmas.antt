@@ -6,14 +6,14 @@ use Rattle.std.specs.List.{position, position_or_len}
 use Rattle.std.proofs.lemmas.Bool.{cases_lt, lt-ltb, le-ltb, eqb-true, false≢true}
 use Rattle.std.proofs.lemmas.List.Sums.{prefix_len_passes}
 use Rattle.std.specs.Result.{is_err, result_unwrap_or}
-use Rattle.pylock_core.specs.State.{State}
+use Rattle.pylock_core.specs.Session.State.{State}
 use Rattle.pyver_core.specs.Results.{◌>>=◌}
 use Rattle.pylock.specs.Line.{is_lf, input_lines, ended_lines, onto_first, onto_ended, command_of, line_limit}
 use Rattle.pylock.specs.Report.{is_plan, after_line, after_command, outcome_text, lines_text, state_after_all, any_refused}
 use Rattle.pylock.specs.Inner.Editing.{At, start, lines_begun, plan_after, kept, end_line, end_text, keep_byte, bytes_done, bytes_text, finish, finish_text, finished, finished_text}
-use Rattle.pylock_core.specs.Steps.{answer}
-use Rattle.pylock.specs.declared.line.LineRefusal.{LineRefusal}
-use Rattle.pylock.specs.declared.line.LineRefusal.TheVariants as refusal
+use Rattle.pylock_core.specs.Session.Steps.{answer}
+use Rattle.pylock.specs.declared.line.refusal.LineRefusal.{LineRefusal}
+use Rattle.pylock.specs.declared.line.refusal.LineRefusal.TheVariants as refusal
 
 -- no cutting of the input changes what it does
 

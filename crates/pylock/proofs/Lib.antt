@@ -7,3 +7,5 @@ pub mod ReadLemmas
 pub mod WriteLemmas
 pub mod RunLemmas
 pub mod ReportLemmas
+pub mod ReplyLemmas
+pub mod PieceLemmas

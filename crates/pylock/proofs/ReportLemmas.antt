@@ -2,8 +2,8 @@
 use Rattle.std.proofs.Common.{◌≡◌, ℕ, ◌+◌, ◌<◌, ◌≤◌, List, [], ◌++◌, length, cond, ◌&&◌, not, Result, Ok, Err, IsErr, IfOk, OnOk, IfErr, OnErr, refl, sym, ap, ◌∙◌, arith, append_assoc, subst, inl, inr, ⊎_elim}
 use Rattle.std.proofs.KnownBytes.{Appends-trans, Consumes-nil}
 use Rattle.std.specs.Io.KnownBytes.{Appends, Consumes, IsAtEnd}
-use Rattle.pylock_core.specs.State.{State}
-use Rattle.pylock_core.specs.Steps.{answer}
+use Rattle.pylock_core.specs.Session.State.{State}
+use Rattle.pylock_core.specs.Session.Steps.{answer}
 use Rattle.pylock.specs.Inner.Edited.{EditsAll, EditFault}
 use Rattle.pylock.specs.Inner.Editing.{At, start, bytes_done, bytes_text, finished, finished_text, lines_begun}
 use Rattle.pylock.specs.Inner.Faults.{IsOutputFault}

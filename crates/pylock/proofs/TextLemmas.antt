@@ -1,5 +1,5 @@
 -- Lemmas on the printed text.
-use Rattle.std.proofs.Common.{◌≡◌, ℕ, List, [], ◌∷◌, ◌++◌, Bool, true, false, cond, refl, ap, sym, ◌∙◌, append_assoc, append-nil, map, eqb, ◌&&◌}
+use Rattle.std.proofs.Common.{◌≡◌, ℕ, List, [], ◌∷◌, ◌++◌, Bool, true, false, cond, Some, refl, ap, sym, ◌∙◌, append_assoc, append-nil, map, eqb, ◌&&◌}
 use Rattle.std.specs.List.{join_with_byte}
 use Rattle.std.specs.Str.{bytes_eq}
 use Rattle.std.specs.Prelude.{codes}
@@ -12,11 +12,11 @@ and-false : (b : Bool) → (b && false) ≡ false
 and-false true = refl
 and-false false = refl
 
--- a text with `=` in it is not `-`
-not_dash : (front rest : List ℕ) → bytes_eq (front ++ 61 ∷ rest) (45 ∷ []) ≡ false
-not_dash [] rest = refl
-not_dash (b ∷ []) rest = and-false (eqb b 45)
-not_dash (b ∷ c ∷ front) rest = and-false (eqb b 45)
+-- a text with another mark in it is not `-`
+not_dash : (mark : ℕ) (front rest : List ℕ) → eqb mark 45 ≡ false → bytes_eq (front ++ mark ∷ rest) (45 ∷ []) ≡ false
+not_dash mark [] rest other = ap (λ t. t && bytes_eq rest []) other
+not_dash mark (b ∷ []) rest other = and-false (eqb b 45)
+not_dash mark (b ∷ c ∷ front) rest other = and-false (eqb b 45)
 
 escaped-hash_text : (hash : List ℕ × List ℕ) → escaped (hash_text hash) ≡ escaped_hash hash
 escaped-hash_text hash =
@@ -42,7 +42,7 @@ pub field-hashes : (hash : List ℕ × List ℕ) (hashes : List (List ℕ × Lis
 field-hashes hash hashes =
     let text = join_with_byte 44 (map hash_text (hash ∷ hashes)) in
     let parts = joined hash hashes in
-    let other : bytes_eq text (45 ∷ []) ≡ false = ap (λ t. bytes_eq t (45 ∷ [])) parts.1 ∙ not_dash hash.0 parts.0 in
+    let other : bytes_eq text (45 ∷ []) ≡ false = ap (λ t. bytes_eq t (45 ∷ [])) parts.1 ∙ not_dash 61 hash.0 parts.0 refl in
     ap (λ t. cond t (codes "\\-") (escaped text)) other ∙ escaped-hashes hash hashes
 
 -- one push after another
@@ -53,3 +53,11 @@ pushed_hashes old tab one all hash hashes tabbed first more =
     ∙ append_assoc (old ++ 9 ∷ []) (escaped_hash hash) (more_hashes hashes)
     ∙ append_assoc old (9 ∷ []) (escaped_hash hash ++ more_hashes hashes)
     ∙ ap (λ t. old ++ 9 ∷ t) (sym (field-hashes hash hashes))
+
+-- the field of a revision
+pub field_revision : (kind commit : List ℕ) → field (Some (kind ++ codes "@" ++ commit)) ≡ escaped kind ++ codes "@" ++ escaped commit
+field_revision kind commit =
+    let text = kind ++ codes "@" ++ commit in
+    let other : bytes_eq text (45 ∷ []) ≡ false = ap (λ t. bytes_eq t (45 ∷ [])) (append_assoc kind (codes "@") commit) ∙ not_dash 64 kind commit refl in
+    ap (λ t. cond t (codes "\\-") (escaped text)) other
+    ∙ flat_map-append escape (kind ++ codes "@") commit ∙ ap (λ t. t ++ escaped commit) (flat_map-append escape kind (codes "@"))

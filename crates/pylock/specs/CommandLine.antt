@@ -11,6 +11,7 @@ use Rattle.pylock.specs.declared.command.CommandError.{CommandError}
 use Rattle.pylock.specs.declared.command.CommandError.TheVariants.{Refused, Memory}
 use Rattle.pylock.specs.declared.command.Task.{Task}
 use Rattle.pylock.specs.declared.command.Task.TheVariants.{Bare, Select, Version, Match, Name}
+use Rattle.pylock.specs.declared.command.Task.TheVariants.{Marker, Requirement, Wheel}
 
 -- an argument that stands at its place and has to be there
 abbrev pub place_rule : Text → Rule
@@ -36,15 +37,38 @@ match_app =
 abbrev pub name_app : App
 name_app = with_rule (new_app (codes "name")) (place_rule (codes "TEXT"))
 
+-- `marker TEXT ENV`
+abbrev pub marker_app : App
+marker_app =
+    with_rule (with_rule (new_app (codes "marker")) (place_rule (codes "TEXT")))
+    (place_rule (codes "ENV"))
+
+-- `requirement TEXT`
+abbrev pub requirement_app : App
+requirement_app = with_rule (new_app (codes "requirement")) (place_rule (codes "TEXT"))
+
+-- `wheel TEXT`
+abbrev pub wheel_app : App
+wheel_app = with_rule (new_app (codes "wheel")) (place_rule (codes "TEXT"))
+
 -- `pylock`, which tells its version
 abbrev pub top_app : App
 top_app =
     let app = new_app (codes "pylock") in
     record app { top = record app.top { has_version = true } }
 
-abbrev pub pylock_app : App
-pylock_app = with_subcommand (with_subcommand (with_subcommand (with_subcommand top_app
+-- the run, and the commands on versions and names
+abbrev pub with_first : App → App
+with_first app = with_subcommand (with_subcommand (with_subcommand (with_subcommand app
     select_app.top) version_app.top) match_app.top) name_app.top
+
+-- the commands on markers, requirements and wheels
+abbrev pub with_further : App → App
+with_further app = with_subcommand (with_subcommand (with_subcommand app
+    marker_app.top) requirement_app.top) wheel_app.top
+
+abbrev pub pylock_app : App
+pylock_app = with_further (with_first top_app)
 
 -- the words have this subcommand, and each of these arguments of it, by name, has this text
 pub record HasTexts (found : Option (Text × List Row)) (name : Text) (texts : List (Text × Text))
@@ -62,6 +86,10 @@ call_of (Version text) = Some (codes "version", (codes "TEXT", text.now) ∷ [])
 call_of (Match set version) =
     Some (codes "match", (codes "SET", set.now) ∷ (codes "VERSION", version.now) ∷ [])
 call_of (Name text) = Some (codes "name", (codes "TEXT", text.now) ∷ [])
+call_of (Marker text env) =
+    Some (codes "marker", (codes "TEXT", text.now) ∷ (codes "ENV", env.now) ∷ [])
+call_of (Requirement text) = Some (codes "requirement", (codes "TEXT", text.now) ∷ [])
+call_of (Wheel text) = Some (codes "wheel", (codes "TEXT", text.now) ∷ [])
 
 -- the words have no subcommand, or this one with these texts
 abbrev pub IsCall : Option (Text × List Row) → Option (Text × List (Text × Text)) → Type 0
@@ -84,6 +112,10 @@ lacks_text name rows =
     else if bytes_eq name (codes "match")
     then lacks rows (codes "SET") || lacks rows (codes "VERSION")
     else if bytes_eq name (codes "name") then lacks rows (codes "TEXT")
+    else if bytes_eq name (codes "marker")
+    then lacks rows (codes "TEXT") || lacks rows (codes "ENV")
+    else if bytes_eq name (codes "requirement") then lacks rows (codes "TEXT")
+    else if bytes_eq name (codes "wheel") then lacks rows (codes "TEXT")
     else true
 
 abbrev pub is_lacking : Option (Text × List Row) → Bool

@@ -6,7 +6,7 @@ use Rattle.pylock.specs.declared.program.Failure.{Failure}
 use Rattle.pylock.specs.declared.program.Failure.TheVariants.{NotText, File, Read, Write, Input}
 use Rattle.pylock.specs.declared.program.Failure.TheVariants.{Memory}
 use Rattle.pylock.specs.declared.program.Work.{Work}
-use Rattle.pylock.specs.declared.program.Work.TheVariants.{Greet, Select, Ask}
+use Rattle.pylock.specs.declared.program.Work.TheVariants.{Greet, Select, Judge, Ask}
 use Rattle.pylock.specs.declared.reply.queries.Query.TheVariants as query
 use Rattle.pylock.specs.declared.report.fault.RunFault.{RunFault}
 use Rattle.pylock.specs.declared.report.fault.RunFault.TheVariants as run
@@ -21,6 +21,9 @@ work_of (task.Select lock environment) = Select lock environment
 work_of (task.Version text) = Ask (query.Version text)
 work_of (task.Match set version) = Ask (query.Match set version)
 work_of (task.Name text) = Ask (query.Name text)
+work_of (task.Marker text environment) = Judge text environment
+work_of (task.Requirement text) = Ask (query.Requirement text)
+work_of (task.Wheel text) = Ask (query.Wheel text)
 
 -- what the program prints without words
 abbrev pub greeting : List ℕ

@@ -6,17 +6,18 @@ use Rattle.std.specs.Prelude.{List, [], ◌∷◌, Result, Ok, Err}
 use Rattle.std.specs.Result.{is_err, result_map_both, result_unwrap_or}
 use Rattle.pyver_core.specs.Results.{◌>>=◌}
 use Rattle.pylock_core.specs.Environment.{env_of}
-use Rattle.pylock_core.specs.Lock.{lock_of}
-use Rattle.pylock_core.specs.State.{State, first, apply}
-use Rattle.pylock_core.specs.Steps.{answer}
+use Rattle.pylock_core.specs.Lock.Reading.{lock_of}
+use Rattle.pylock_core.specs.Session.State.{State, first, apply}
+use Rattle.pylock_core.specs.Session.Steps.{answer}
 use Rattle.pylock_core.specs.declared.answer.Answer.{Answer}
 use Rattle.pylock_core.specs.declared.answer.Answer.TheVariants as answers
-use Rattle.pylock.specs.Line.{input_lines, ended_lines, command_of, edit_refusal}
+use Rattle.pylock.specs.Line.{input_lines, ended_lines, command_of}
+use Rattle.pylock.specs.Line.Refusal.{edit_refusal}
 use Rattle.pylock.specs.Text.Plan.{answer_text}
 use Rattle.pylock.specs.Text.Refusal.{refused_text, refusal_text}
-use Rattle.pylock.specs.declared.line.Command.{Command}
-use Rattle.pylock.specs.declared.line.Command.TheVariants as command
-use Rattle.pylock.specs.declared.line.LineRefusal.{LineRefusal}
+use Rattle.pylock.specs.declared.line.commands.Command.{Command}
+use Rattle.pylock.specs.declared.line.commands.Command.TheVariants as command
+use Rattle.pylock.specs.declared.line.refusal.LineRefusal.{LineRefusal}
 use Rattle.pylock.specs.declared.report.opening.OpenError.{OpenError}
 use Rattle.pylock.specs.declared.report.opening.OpenError.TheVariants.{Lock, Environment}
 
@@ -28,8 +29,8 @@ refused_by refusal read = result_map_both (λ v. v) refusal read
 unfoldable pub opened : List ℕ → List ℕ → Result State OpenError
 opened lock environment = do
   lock ← refused_by Lock (lock_of lock)
-  _ ← refused_by Environment (env_of environment)
-  Ok (first lock)
+  read ← refused_by Environment (env_of environment)
+  Ok (first lock read.0 read.1)
 
 -- the state after a command, or why it is refused
 abbrev pub after_command : State → Command → Result State LineRefusal

@@ -5,6 +5,8 @@ ghost use Rattle.clap.specs.Words.{with_subcommand};
 ghost use Rattle.clap.specs.declared.builder.command.Command.TheViews.{out-Command as fields_of};
 ghost use Rattle.pylock.specs.CommandLine.{IsRefusal, IsTask, is_lacking, pylock_app};
 ghost use Rattle.pylock.specs.CommandLine.{match_app, name_app, select_app, version_app};
+ghost use Rattle.pylock.specs.CommandLine.{marker_app, requirement_app, wheel_app};
+ghost use Rattle.pylock.specs.CommandLine.{with_first, with_further};
 
 use clap::error::ErrorKind;
 use clap::{Arg, ArgMatches, Command};
@@ -23,6 +25,12 @@ pub enum Task<'a> {
     Match(&'a str, &'a str),
     /// `name`, with the text of a name.
     Name(&'a str),
+    /// `marker`, with the text of a marker and the path of the environment.
+    Marker(&'a str, &'a str),
+    /// `requirement`, with the text of a requirement.
+    Requirement(&'a str),
+    /// `wheel`, with the file name of a wheel.
+    Wheel(&'a str),
 }
 
 /// Why there is no task.
@@ -71,8 +79,18 @@ const ENV_HELP: &str = "The path of the environment: JSON with marker variables 
 
 const SELECT_LINES: &str = "\
 Edits come as lines on standard input:
-  show    print the answer again
-  del ID  remove the entry with this number
+  show                print the answer again
+  set NAME VALUE      give a marker variable a text: set python_version 3.12
+  unset NAME          leave it without one: unset platform_release
+  extra+ NAME         ask for an extra of the lock: extra+ test
+  extra- NAME         ask for it no more: extra- test
+  group+ NAME         ask for a dependency group of the lock: group+ dev
+  group- NAME         ask for it no more: group- dev
+  tags TAG TAG ..     wheel tags, the most preferred first: tags py3-none-any
+  add ENTRY           one more entry: add {name = \"a\", directory = {path = \"a\"}}
+  put ID ENTRY        this entry in place of one: put 1 {name = \"a\"}
+  del ID              remove the entry with this number: del 1
+  policy NAME POLICY  files of this name, any, wheel or source: policy numpy wheel
 
 Status: 0, the last answer is a plan and no line was refused; 1, otherwise;
 2, the lock, the environment or the command line is refused; 3, a line on
@@ -111,6 +129,39 @@ const NAME_REPLY: &str = "\
 Prints the normal form, or refused, TAB and the word name.
 Status: 0, it is a name; 1, it is refused; 3, the output failed or memory ran
 out.";
+
+const MARKER_ABOUT: &str = "Print whether a marker holds in an environment (PEP 508)";
+
+const MARKER_HELP: &str = "A marker, such as 'python_version >= \"3.8\"'";
+
+const MARKER_REPLY: &str = "\
+Prints true or false; or fault, TAB and one of the codes marker-unset,
+marker-extra, marker-undefined and marker-number; or refused, TAB and one of
+the words too-deep, syntax and set-misuse; or the refusal of the environment,
+as select does.
+Status: 0, an answer; 1, a fault or a refused text; 2, the environment is
+refused; 3, a file can't be read, the output failed or memory ran out.";
+
+const REQUIREMENT_ABOUT: &str = "Print the parts of a requirement (PEP 508)";
+
+const REQUIREMENT_HELP: &str = "A requirement, such as 'requests[security] >= 2.8.1'";
+
+const REQUIREMENT_REPLY: &str = "\
+Prints name, extras, specifier set, URL and marker, with a TAB between each
+two; or refused, TAB and one of the words name, extras, specifier, url, marker
+and trailing.
+Status: 0, it is a requirement; 1, it is refused; 3, the output failed or
+memory ran out.";
+
+const WHEEL_ABOUT: &str = "Print the parts of a wheel's file name (PEP 427)";
+
+const WHEEL_HELP: &str = "A file name, such as numpy-2.2.1-cp312-cp312-win_amd64.whl";
+
+const WHEEL_REPLY: &str = "\
+Prints name, version, build and tags, with a TAB between each two; or refused,
+TAB and one of the words extension, parts, name, version, build and tags.
+Status: 0, it is the name of a wheel; 1, it is refused; 3, the output failed or
+memory ran out.";
 
 /// `select LOCK ENV`.
 fn select_command<'a>(alloc: Global) -> Result<Command<'a>, AllocError>
@@ -164,6 +215,46 @@ fn name_command<'a>(alloc: Global) -> Result<Command<'a>, AllocError>
         .arg(text)
 }
 
+/// `marker TEXT ENV`.
+fn marker_command<'a>(alloc: Global) -> Result<Command<'a>, AllocError>
+    ensures app { IfOk result (λ c. app_of c ≡ marker_app) }
+    ensures local { IfOk result (λ c. (fields_of c).has_globals ≡ false) }
+{
+    let text = Arg::new(alloc, "TEXT").required(true).help(MARKER_HELP);
+    let env = Arg::new(alloc, "ENV").required(true).help(ENV_HELP);
+    Command::new(alloc, "marker")
+        .about(MARKER_ABOUT)
+        .after_help(MARKER_REPLY)
+        .arg(text)?
+        .arg(env)
+}
+
+/// `requirement TEXT`.
+fn requirement_command<'a>(alloc: Global) -> Result<Command<'a>, AllocError>
+    ensures app { IfOk result (λ c. app_of c ≡ requirement_app) }
+    ensures local { IfOk result (λ c. (fields_of c).has_globals ≡ false) }
+{
+    let text = Arg::new(alloc, "TEXT")
+        .required(true)
+        .help(REQUIREMENT_HELP);
+    Command::new(alloc, "requirement")
+        .about(REQUIREMENT_ABOUT)
+        .after_help(REQUIREMENT_REPLY)
+        .arg(text)
+}
+
+/// `wheel TEXT`.
+fn wheel_command<'a>(alloc: Global) -> Result<Command<'a>, AllocError>
+    ensures app { IfOk result (λ c. app_of c ≡ wheel_app) }
+    ensures local { IfOk result (λ c. (fields_of c).has_globals ≡ false) }
+{
+    let text = Arg::new(alloc, "TEXT").required(true).help(WHEEL_HELP);
+    Command::new(alloc, "wheel")
+        .about(WHEEL_ABOUT)
+        .after_help(WHEEL_REPLY)
+        .arg(text)
+}
+
 /// Adds `select LOCK ENV`.
 fn add_select<'a>(alloc: Global, pylock: Command<'a>) -> Result<Command<'a>, AllocError>
     ensures { IfOk result (λ c. app_of c ≡ with_subcommand (app_of pylock.entry) select_app.top) }
@@ -196,14 +287,56 @@ fn add_name<'a>(alloc: Global, pylock: Command<'a>) -> Result<Command<'a>, Alloc
     pylock.subcommand(name)
 }
 
-fn pylock_command<'a>(alloc: Global) -> Result<Command<'a>, AllocError>
-    ensures { IfOk result (λ c. app_of c ≡ pylock_app) }
+/// Adds `marker TEXT ENV`.
+fn add_marker<'a>(alloc: Global, pylock: Command<'a>) -> Result<Command<'a>, AllocError>
+    ensures { IfOk result (λ c. app_of c ≡ with_subcommand (app_of pylock.entry) marker_app.top) }
 {
-    let pylock = Command::new(alloc, "pylock").about(ABOUT).version(VERSION);
+    let marker = marker_command(alloc)?;
+    pylock.subcommand(marker)
+}
+
+/// Adds `requirement TEXT`.
+fn add_requirement<'a>(alloc: Global, pylock: Command<'a>) -> Result<Command<'a>, AllocError>
+    ensures { IfOk result
+        (λ c. app_of c ≡ with_subcommand (app_of pylock.entry) requirement_app.top) }
+{
+    let requirement = requirement_command(alloc)?;
+    pylock.subcommand(requirement)
+}
+
+/// Adds `wheel TEXT`.
+fn add_wheel<'a>(alloc: Global, pylock: Command<'a>) -> Result<Command<'a>, AllocError>
+    ensures { IfOk result (λ c. app_of c ≡ with_subcommand (app_of pylock.entry) wheel_app.top) }
+{
+    let wheel = wheel_command(alloc)?;
+    pylock.subcommand(wheel)
+}
+
+/// Adds the run and the commands on versions and names.
+fn add_first<'a>(alloc: Global, pylock: Command<'a>) -> Result<Command<'a>, AllocError>
+    ensures { IfOk result (λ c. app_of c ≡ with_first (app_of pylock.entry)) }
+{
     let pylock = add_select(alloc, pylock)?;
     let pylock = add_version(alloc, pylock)?;
     let pylock = add_match(alloc, pylock)?;
     add_name(alloc, pylock)
+}
+
+/// Adds the commands on markers, requirements and wheels.
+fn add_further<'a>(alloc: Global, pylock: Command<'a>) -> Result<Command<'a>, AllocError>
+    ensures { IfOk result (λ c. app_of c ≡ with_further (app_of pylock.entry)) }
+{
+    let pylock = add_marker(alloc, pylock)?;
+    let pylock = add_requirement(alloc, pylock)?;
+    add_wheel(alloc, pylock)
+}
+
+fn pylock_command<'a>(alloc: Global) -> Result<Command<'a>, AllocError>
+    ensures { IfOk result (λ c. app_of c ≡ pylock_app) }
+{
+    let pylock = Command::new(alloc, "pylock").about(ABOUT).version(VERSION);
+    let pylock = add_first(alloc, pylock)?;
+    add_further(alloc, pylock)
 }
 
 /// The task that clap's matches give: none where a subcommand lacks a text.
@@ -219,6 +352,9 @@ fn task_of<'a>(matches: &ArgMatches<'a>) -> Option<Task<'a>>
         "version" => Some(Task::Version(found.get_str("TEXT")?)),
         "match" => Some(Task::Match(found.get_str("SET")?, found.get_str("VERSION")?)),
         "name" => Some(Task::Name(found.get_str("TEXT")?)),
+        "marker" => Some(Task::Marker(found.get_str("TEXT")?, found.get_str("ENV")?)),
+        "requirement" => Some(Task::Requirement(found.get_str("TEXT")?)),
+        "wheel" => Some(Task::Wheel(found.get_str("TEXT")?)),
         _ => None,
     }
 }

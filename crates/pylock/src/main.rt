@@ -1,5 +1,5 @@
 //! `pylock`: selects from a pylock.toml lock what an installer installs, and answers questions on
-//! versions and names.
+//! versions, names, markers, requirements and wheels.
 #![tactic(auto)]
 
 mod command;
@@ -14,6 +14,7 @@ mod text;
 
 use crate::command::{CommandError, Task, command};
 use crate::program::{Failure, Files, Work, greet, read_file, read_inputs, words_failure, work_of};
+use crate::reply::queries::Query;
 use crate::reply::query;
 use crate::report::run::run;
 use crate::stream::whole::FileFault;
@@ -56,6 +57,11 @@ fn perform(rt: &HostRuntime, task: Task<'_>) -> Result<u8, Failure> {
                 &mut writer,
             )?;
             Ok(status)
+        }
+        Work::Judge(marker, env) => {
+            let environment = HostFiles { rt }.read(env)?;
+            let asked = Query::Marker(marker, &environment);
+            Ok(query(rt.alloc(), asked, &mut writer)?)
         }
         Work::Ask(asked) => Ok(query(rt.alloc(), asked, &mut writer)?),
     }

@@ -29,6 +29,8 @@ pub enum Work<'a> {
     Greet,
     /// A run on the lock and the environment that stand in these files.
     Select(&'a str, &'a str),
+    /// The reply to `marker`: a marker, and the file in which the environment stands.
+    Judge(&'a str, &'a str),
     /// A reply.
     Ask(Query<'a>),
 }
@@ -43,6 +45,9 @@ pub fn work_of(task: Task<'_>) -> Work<'_>
         Task::Version(text) => Work::Ask(Query::Version(text)),
         Task::Match(set, version) => Work::Ask(Query::Match(set, version)),
         Task::Name(text) => Work::Ask(Query::Name(text)),
+        Task::Marker(text, env) => Work::Judge(text, env),
+        Task::Requirement(text) => Work::Ask(Query::Requirement(text)),
+        Task::Wheel(text) => Work::Ask(Query::Wheel(text)),
     }
 }
 

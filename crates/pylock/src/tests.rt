@@ -3,6 +3,7 @@
 
 mod command;
 mod growths;
+mod lines;
 mod program;
 mod reply;
 mod run;

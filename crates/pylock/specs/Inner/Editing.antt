@@ -4,9 +4,9 @@ use Rattle.std.specs.Prelude.{ℕ, ◌+◌, ◌==◌, ◌++◌, ◌||◌, Bool, 
 use Rattle.std.specs.Prelude.{min}
 use Rattle.std.specs.Prelude.{List, [], ◌∷◌, Result, Ok, Err}
 use Rattle.std.specs.Result.{is_err}
-use Rattle.pylock_core.specs.State.{State}
-use Rattle.pylock_core.specs.Steps.{answer}
-use Rattle.pylock.specs.declared.line.LineRefusal.{LineRefusal}
+use Rattle.pylock_core.specs.Session.State.{State}
+use Rattle.pylock_core.specs.Session.Steps.{answer}
+use Rattle.pylock.specs.declared.line.refusal.LineRefusal.{LineRefusal}
 use Rattle.pylock.specs.Report.{is_plan, after_line, state_after, line_text}
 use Rattle.pylock.specs.Line.{line_limit}
 

@@ -1,7 +1,7 @@
 -- What a run does, in terms of the bytes that its reader gave and of those that its writer took.
 use Rattle.std.specs.Prelude.{◌≡◌, ℕ, ◌<◌, ◌≤◌, ◌⊎◌, List, length, Result, IsErr}
 use Rattle.std.specs.Io.KnownBytes.{Appends, Consumes, IsAtEnd}
-use Rattle.pylock_core.specs.State.{State}
+use Rattle.pylock_core.specs.Session.State.{State}
 use Rattle.pylock.specs.Line.{input_lines, ended_lines}
 use Rattle.pylock.specs.Report.{report_on}
 use Rattle.pylock.specs.Report.Fault.{HasCause}

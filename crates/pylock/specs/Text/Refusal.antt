@@ -10,18 +10,28 @@ use Rattle.pylock_core.specs.declared.error.HeadKey.{HeadKey}
 use Rattle.pylock_core.specs.declared.error.HeadKey.TheVariants as head_key
 use Rattle.pylock_core.specs.declared.error.LockError.{LockError}
 use Rattle.pylock_core.specs.declared.error.LockError.TheVariants as lock_error
-use Rattle.pylock.specs.declared.line.LineRefusal.{LineRefusal}
-use Rattle.pylock.specs.declared.line.LineRefusal.TheVariants as refusal
+use Rattle.pylock.specs.declared.line.refusal.LineRefusal.{LineRefusal}
+use Rattle.pylock.specs.declared.line.refusal.LineRefusal.TheVariants as refusal
 use Rattle.pylock.specs.declared.report.opening.OpenError.{OpenError}
 use Rattle.pylock.specs.declared.report.opening.OpenError.TheVariants as open_error
 use Rattle.pylock.specs.Text.Field.{line_of}
 
+-- the word of a line's refusal; want of memory is none, and is never printed
 abbrev pub line_word : LineRefusal → List ℕ
 line_word refusal.Long = codes "long"
 line_word refusal.Text = codes "text"
 line_word refusal.Command = codes "command"
 line_word refusal.Argument = codes "argument"
+line_word refusal.Variable = codes "variable"
+line_word refusal.Extra = codes "extra"
+line_word refusal.Group = codes "group"
+line_word refusal.Tag = codes "tag"
+line_word refusal.Toml = codes "toml"
+line_word refusal.Entry = codes "entry"
+line_word refusal.TooMany = codes "too-many"
 line_word refusal.NoEntry = codes "no-entry"
+line_word refusal.Name = codes "name"
+line_word refusal.Memory = codes "memory"
 
 -- the refusal of the line of this number, counted from 1
 abbrev pub refused_text : ℕ → LineRefusal → List ℕ
@@ -43,6 +53,7 @@ key_word entry_key.Sdist = codes "sdist"
 key_word entry_key.Wheels = codes "wheels"
 
 abbrev pub entry_word : EntryError → List ℕ
+entry_word entry_error.Toml = codes "toml"
 entry_word entry_error.NotTable = codes "not-table"
 entry_word entry_error.Name = codes "name"
 entry_word (entry_error.Key key) = key_word key

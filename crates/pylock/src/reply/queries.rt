@@ -9,4 +9,11 @@ pub enum Query<'a> {
     Match(&'a str, &'a str),
     /// The normal form of a name (PEP 503).
     Name(&'a str),
+    /// The value of a marker in an environment, which is given by the bytes of its JSON text (PEP
+    /// 508).
+    Marker(&'a str, &'a [u8]),
+    /// The parts of a requirement (PEP 508).
+    Requirement(&'a str),
+    /// The parts of a wheel's file name (PEP 427).
+    Wheel(&'a str),
 }

@@ -3,8 +3,9 @@
 ghost use Rattle.std.specs.Prelude.{◌≡◌, ◌++◌, ◌<◌, ◌≤◌, ◌+◌, not, ◌&&◌, if◌then◌else◌, length};
 ghost use Rattle.std.specs.Prelude.{take};
 ghost use Rattle.std.specs.Prelude.{Ok, Err, OnOk, IfOk, IfErr, OnErr};
-ghost use Rattle.pylock_core.specs.Steps.{answer};
+ghost use Rattle.pylock_core.specs.Session.Steps.{answer};
 ghost use Rattle.std.specs.List.{position};
+ghost use Rattle.pyver_core.specs.Agreement.{Gives};
 ghost use Rattle.pylock.specs.Line.{is_lf};
 ghost use Rattle.pylock.specs.Report.{is_plan, after_line, standing_text};
 ghost use Rattle.pylock.specs.Report.Run.{most_lines};
@@ -13,7 +14,9 @@ ghost use Rattle.pylock.specs.Inner.Editing.{bytes_text};
 ghost use Rattle.pylock.specs.Inner.Editing.{finished, finished_text, lines_begun};
 ghost use Rattle.pylock.specs.Inner.Faults.{IsTakeFault};
 
-use crate::line::{Command, LINE_LIMIT, LineRefusal, read_line};
+use crate::line::commands::Command;
+use crate::line::refusal::LineRefusal;
+use crate::line::{LINE_LIMIT, read_line};
 use crate::report::fault::RunFault;
 use crate::text::plan::push_answer;
 use crate::text::refusal::push_refused;
@@ -49,7 +52,7 @@ impl Model for Editing {
     ghost Value = { At };
 
     ghost view = { λ e. record {
-      state = e.session;
+      state = e.session.state;
       plan = e.plan;
       ended = e.ended;
       refused = e.refused;
@@ -63,8 +66,8 @@ impl Model for Editing {
 impl Editing {
     /// Pushes the first answer.
     pub fn start(alloc: Global, session: Session, out: &mut Vec<u8>) -> Result<Editing, AllocError>
-        ensures editing { IfOk result (λ editing. editing ≡ start session) }
-        ensures text { OnOk result (out.new.items ≡ out.old.items ++ standing_text session) }
+        ensures editing { IfOk result (λ editing. editing ≡ start session.state) }
+        ensures text { OnOk result (out.new.items ≡ out.old.items ++ standing_text session.state) }
     {
         let plan = push_standing(alloc, &session, out)?;
         Ok(Editing {
@@ -142,11 +145,12 @@ impl Editing {
         ensures editing { OnOk result (self.new ≡ end_line self.old) }
         ensures text { OnOk result (out.new.items ≡ out.old.items ++ end_text self.old) }
     {
-        let outcome = obey(&mut self.session, &self.line);
+        let outcome = obey(self.alloc, &mut self.session, &self.line);
         self.ended += 1;
         self.line.clear();
         match outcome {
             Ok(()) => self.plan = push_standing(self.alloc, &self.session, out)?,
+            Err(LineRefusal::Memory) => return Err(AllocError),
             Err(refusal) => {
                 self.refused = true;
                 push_refused(out, self.ended, refusal)?;
@@ -158,12 +162,12 @@ impl Editing {
 
 /// Does what the line says.
 #[tactic(auto, unfolding(crate::specs::Report::after_line))]
-fn obey(session: &mut Session, line: &[u8]) -> Result<(), LineRefusal>
-    ensures accepted { OnOk result (after_line session.old line.now ≡ Ok session.new) }
-    ensures refused { IfErr result (λ refused. after_line session.old line.now ≡ Err refused) }
+fn obey(alloc: Global, session: &mut Session, line: &[u8]) -> Result<(), LineRefusal>
+    ensures obeyed { Gives LineRefusal.Memory (λ _. session.new.state) result
+        (after_line session.old.state line.now) }
     ensures unchanged { OnErr result (session.new ≡ session.old) }
 {
-    match read_line(line)? {
+    match read_line(alloc, line)? {
         Command::Show => {}
         Command::Edit(edit) => {
             session.edit(edit)?;
@@ -174,8 +178,8 @@ fn obey(session: &mut Session, line: &[u8]) -> Result<(), LineRefusal>
 
 /// Pushes the answer as it stands, and answers whether it is a plan.
 fn push_standing(alloc: Global, session: &Session, out: &mut Vec<u8>) -> Result<bool, AllocError>
-    ensures plan { IfOk result (λ plan. plan ≡ is_plan (answer session.now)) }
-    ensures text { OnOk result (out.new.items ≡ out.old.items ++ standing_text session.now) }
+    ensures plan { IfOk result (λ plan. plan ≡ is_plan (answer session.now.state)) }
+    ensures text { OnOk result (out.new.items ≡ out.old.items ++ standing_text session.now.state) }
 {
     let answer = session.answer(alloc)?;
     push_answer(out, session, &answer)?;

@@ -30,7 +30,7 @@ impl From<AllocError> for OpenError {
 /// three.
 #[tactic(auto, unfolding(crate::specs::Report::opened))]
 pub fn open(alloc: Global, lock: &[u8], env: &[u8]) -> Result<Session, OpenError>
-    ensures { Gives refusal.Memory (λ session. session) result (opened lock.now env.now) }
+    ensures { Gives refusal.Memory (λ session. session.state) result (opened lock.now env.now) }
 {
     let lock = match Lock::read(alloc, lock) {
         Ok(lock) => lock,
@@ -38,7 +38,7 @@ pub fn open(alloc: Global, lock: &[u8], env: &[u8]) -> Result<Session, OpenError
         Err(error) => return Err(OpenError::Lock(error)),
     };
     match read_environment(alloc, env) {
-        Ok(()) => Ok(Session::start(alloc, lock)?),
+        Ok((environment, tags)) => Ok(Session::start(alloc, lock, environment, tags)?),
         Err(EnvError::Memory) => Err(OpenError::Memory),
         Err(error) => Err(OpenError::Environment(error)),
     }

@@ -183,12 +183,12 @@ fn begin<W: Sink>(
     writer: &mut W,
 ) -> Result<Editing, RunFault>
     requires { first.old.items ≡ [] }
-    ensures editing { IfOk result (λ editing. editing ≡ start session) }
+    ensures editing { IfOk result (λ editing. editing ≡ start session.state) }
     ensures written { OnOk result (Writes (W.value writer.old) (W.value writer.new)
-        (standing_text session)) }
+        (standing_text session.state)) }
     ensures empty { OnOk result (first.new.items ≡ []) }
     ensures front { OnErr result (TakesFront (W.value writer.old) (W.value writer.new)
-        (standing_text session)) }
+        (standing_text session.state)) }
     ensures fault { IfErr result (IsOutputFault (W.value writer.old) (W.value writer.new)) }
 {
     let editing = Editing::start(alloc, session, first)?;
@@ -218,10 +218,10 @@ fn edit_all<R: Source, W: Sink>(
     reader: &mut R,
     writer: &mut W,
 ) -> Result<u8, RunFault>
-    ensures reports { IfOk result (Reports (Ok session) (R.value reader.old) (R.value reader.new)
-        (W.value writer.old) (W.value writer.new)) }
-    ensures stops { IfErr result (Stops (Ok session) (R.value reader.old) (R.value reader.new)
-        (W.value writer.old) (W.value writer.new)) }
+    ensures reports { IfOk result (Reports (Ok session.state)
+        (R.value reader.old) (R.value reader.new) (W.value writer.old) (W.value writer.new)) }
+    ensures stops { IfErr result (Stops (Ok session.state)
+        (R.value reader.old) (R.value reader.new) (W.value writer.old) (W.value writer.new)) }
 {
     let mut buffer = piece_buffer(alloc)?;
     let mut out = Vec::new(alloc);

@@ -16,6 +16,12 @@ fn reads_words(rt: HostRuntime) -> Result<(), Fail> {
     assert!(rt; matches!(task, Task::Version("1")));
     let task = command(rt.alloc(), &["pylock", "match", "", "1"])?;
     assert!(rt; matches!(task, Task::Match("", "1")));
+    let task = command(rt.alloc(), &["pylock", "marker", "a", "b"])?;
+    assert!(rt; matches!(task, Task::Marker("a", "b")));
+    let task = command(rt.alloc(), &["pylock", "requirement", "a >= 1"])?;
+    assert!(rt; matches!(task, Task::Requirement("a >= 1")));
+    let task = command(rt.alloc(), &["pylock", "wheel", "a.whl"])?;
+    assert!(rt; matches!(task, Task::Wheel("a.whl")));
     Ok(())
 }
 
@@ -26,6 +32,9 @@ fn refuses_words(rt: HostRuntime) {
         &["pylock", "select", "a"],
         &["pylock", "select", "a", "b", "c"],
         &["pylock", "match", "a"],
+        &["pylock", "marker", "a"],
+        &["pylock", "requirement"],
+        &["pylock", "wheel", "a", "b"],
     ] {
         let refused = command(rt.alloc(), words);
         assert!(rt; matches!(refused, Err(CommandError::Refused(_))));

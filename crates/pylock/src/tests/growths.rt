@@ -51,7 +51,10 @@ fn session_answers(rt: HostRuntime) {
     let Ok(lock) = Lock::read(rt.alloc(), LOCK.as_bytes()) else {
         return;
     };
-    let Ok(mut session) = Session::start(rt.alloc(), lock) else {
+    let Ok((environment, tags)) = read_environment(rt.alloc(), ENVIRONMENT.as_bytes()) else {
+        return;
+    };
+    let Ok(mut session) = Session::start(rt.alloc(), lock, environment, tags) else {
         return;
     };
     // Whether it is refused memory or not, an answer changes nothing.
@@ -91,6 +94,34 @@ fn whole_run(rt: HostRuntime) {
     }
 }
 
+/// A line of each command that takes memory.
+const EDITS: &[u8] =
+    b"set os_name nt\nunset os_name\nextra+ X\nextra- x\ngroup+ G\ngroup- g\ntags py3-none-any\nadd {name = \"a\", archive = {path = \"p\"}}\nput 1 {name = \"a\", vcs = {type = \"git\", url = \"g\", commit-id = \"f0\"}}\npolicy A wheel\ndel 1\n";
+
+const EDITED: &[u8] =
+    b"plan 0\nplan 0\nplan 0\nplan 0\nplan 0\nplan 0\nplan 0\nplan 0\nplan 1\n1\ta\t-\tarchive\t-\tp\t-\t-\t-\nplan 1\n1\ta\t-\tvcs\t-\tg\t-\tgit@f0\t-\nplan 1\n1\ta\t-\tvcs\t-\tg\t-\tgit@f0\t-\nplan 0\n";
+
+#[test]
+fn every_command(rt: HostRuntime) {
+    let lock =
+        b"lock-version = \"1.0\"\ncreated-by = \"t\"\nextras = [\"x\"]\ndependency-groups = [\"g\"]\n";
+    let Ok(mut writer) = Room::new(rt.alloc(), 4096, 4096, None) else {
+        return;
+    };
+    let mut reader = Pieces::new(EDITS, 4096, None);
+    let environment = ENVIRONMENT.as_bytes();
+    match run(rt.alloc(), lock, environment, &mut reader, &mut writer) {
+        Ok(status) => {
+            assert_eq!(rt; status, 0);
+            assert_eq!(rt; writer.bytes(), EDITED);
+        }
+        Err(fault) => {
+            assert_eq!(rt; fault, RunFault::Memory);
+            assert!(rt; EDITED.starts_with(writer.bytes()));
+        }
+    }
+}
+
 #[test]
 fn queries(rt: HostRuntime) {
     for (asked, reply) in [
@@ -101,6 +132,21 @@ fn queries(rt: HostRuntime) {
         (Query::Match("~=2.2.post3, ==2.*", "2.9"), b"true\n"),
         (Query::Match("~=1", "1"), b"refused\tset-syntax\n"),
         (Query::Name("A.-_B"), b"a-b\n"),
+        (
+            Query::Marker(
+                "os_name == 'posix' and '1.0' == '1'",
+                ENVIRONMENT.as_bytes(),
+            ),
+            b"true\n",
+        ),
+        (
+            Query::Requirement("A.b[B_b, c] >=1.0 ; os_name == 'nt'"),
+            b"a-b\tb-b,c\t>=1.0\t-\tos_name == 'nt'\n",
+        ),
+        (
+            Query::Wheel("Foo_Bar-1.0-1b-py2.py3-none-any.whl"),
+            b"foo-bar\t1.0\t1b\tpy2-none-any py3-none-any\n",
+        ),
     ] {
         let Ok(mut writer) = Room::new(rt.alloc(), 100, 7, None) else {
             return;

@@ -79,6 +79,10 @@ fn says_how_it_ends(rt: HostRuntime) {
     assert!(rt; matches!(work_of(Task::Select("l", "e")), Work::Select("l", "e")));
     let matched = work_of(Task::Match("<2", "1"));
     assert!(rt; matches!(matched, Work::Ask(Query::Match("<2", "1"))));
+    assert!(rt; matches!(work_of(Task::Marker("m", "e")), Work::Judge("m", "e")));
+    let required = work_of(Task::Requirement("r"));
+    assert!(rt; matches!(required, Work::Ask(Query::Requirement("r"))));
+    assert!(rt; matches!(work_of(Task::Wheel("w")), Work::Ask(Query::Wheel("w"))));
     assert_eq!(rt; Failure::NotText.status(), 2);
     assert_eq!(rt; Failure::from(FileFault::Limit), Failure::File);
     assert_eq!(rt; Failure::from(RunFault::Input).message(), "input");

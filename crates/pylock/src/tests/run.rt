@@ -120,7 +120,7 @@ fn refuses_locks_and_environments(rt: HostRuntime) -> Result<(), Fail> {
         ("lock-version = \"1.0\"", ENVIRONMENT, "lock\tcreated-by\n"),
         ("lock-version = \"1.0", ENVIRONMENT, "lock\ttoml\n"),
         (
-            "lock-version = \"1.0\"\ncreated-by = \"t\"\nextras = []",
+            "lock-version = \"1.0\"\ncreated-by = \"t\"\nextras = [\"-\"]",
             ENVIRONMENT,
             "lock\thead\textras\n",
         ),
@@ -148,8 +148,8 @@ fn refuses_locks_and_environments(rt: HostRuntime) -> Result<(), Fail> {
         (HEAD, "{\"environment\":{}}", "environment\tshape\n"),
         (
             HEAD,
-            "{\"environment\":{},\"tags\":[\"py3-none-any\"]}",
-            "environment\ttag\t1\n",
+            "{\"environment\":{},\"tags\":[\"py3-none-any\",\"py3\"]}",
+            "environment\ttag\t2\n",
         ),
     ] {
         let done = ran(alloc, lock.as_bytes(), env.as_bytes(), b"")?;
@@ -165,7 +165,7 @@ fn refuses_locks_and_environments(rt: HostRuntime) -> Result<(), Fail> {
 
 /// Lines that a hostile peer could send.
 fn hostile_input(alloc: Global) -> Result<Vec<u8>, AllocError> {
-    let mut input = Vec::from_slice(alloc, b"fly\n")?;
+    let mut input = Vec::from_slice(alloc, b"put 1 {name = \"a\"\n")?;
     input.extend_from_slice(&vec![in alloc; b'x'; 1_048_577]?)?;
     input.extend_from_slice(b"\n\xff\nshow\r\nshow")?;
     Ok(input)
@@ -176,7 +176,7 @@ fn cuts_the_input_anyhow(rt: HostRuntime) -> Result<(), Fail> {
     let alloc = rt.alloc();
     let input = hostile_input(alloc)?;
     let want = format!(in alloc;
-        "{FIRST_ANSWER}refused 1\tcommand\nrefused 2\tlong\nrefused 3\ttext\n{FIRST_ANSWER}{FIRST_ANSWER}"
+        "{FIRST_ANSWER}refused 1\ttoml\nrefused 2\tlong\nrefused 3\ttext\n{FIRST_ANSWER}{FIRST_ANSWER}"
     )?;
     for piece in [1, 2, 3, 65_535, 65_536] {
         let mut reader = Pieces::new(&input, piece, None);

@@ -8,7 +8,7 @@ ghost use Rattle.pylock.specs.Text.Refusal.{refused_text, refusal_text};
 ghost use Rattle.pylock_core.specs.declared.error.LockError.TheVariants.{Head, Entry};
 ghost use Rattle.pylock_core.specs.declared.error.EnvError.TheVariants.{Tag};
 
-use crate::line::LineRefusal;
+use crate::line::refusal::LineRefusal;
 use crate::report::opening::OpenError;
 use crate::text::field::{push_decimal, push_last_word};
 use pylock_core::{EntryError, EntryKey, EnvError, HeadKey, LockError};
@@ -23,7 +23,16 @@ pub fn push_refused(out: &mut Vec<u8>, number: u64, refusal: LineRefusal) -> Res
         LineRefusal::Text => b"text",
         LineRefusal::Command => b"command",
         LineRefusal::Argument => b"argument",
+        LineRefusal::Variable => b"variable",
+        LineRefusal::Extra => b"extra",
+        LineRefusal::Group => b"group",
+        LineRefusal::Tag => b"tag",
+        LineRefusal::Toml => b"toml",
+        LineRefusal::Entry => b"entry",
+        LineRefusal::TooMany => b"too-many",
         LineRefusal::NoEntry => b"no-entry",
+        LineRefusal::Name => b"name",
+        LineRefusal::Memory => b"memory",
     };
     out.extend_from_slice(b"refused ")?;
     push_decimal(out, number)?;
@@ -52,7 +61,7 @@ fn push_lock_error(out: &mut Vec<u8>, error: &LockError) -> Result<(), AllocErro
 }
 
 /// Pushes the line of a refused environment.
-fn push_environment_error(out: &mut Vec<u8>, error: &EnvError) -> Result<(), AllocError>
+pub fn push_environment_error(out: &mut Vec<u8>, error: &EnvError) -> Result<(), AllocError>
     ensures { OnOk result (out.new.items ≡ out.old.items ++ environment_text error.now) }
 {
     out.extend_from_slice(b"environment")?;
@@ -136,6 +145,7 @@ fn entry_word(error: &EntryError) -> &'static [u8]
     ensures { result.now ≡ entry_word error.now }
 {
     match error {
+        EntryError::Toml => b"toml",
         EntryError::NotTable => b"not-table",
         EntryError::Name => b"name",
         EntryError::Key(key) => key_word(key),

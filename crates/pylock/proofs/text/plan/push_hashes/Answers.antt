@@ -1,6 +1,6 @@
 use Rattle.std.proofs.Common.{◌≡◌, ◌∷◌, ◌++◌, ap, sym, ◌∙◌, rules}
 use Rattle.std.proofs.lemmas.Result.{on_ok_weaker}
-use Rattle.pylock_core.specs.Entry.{text_pairs}
+use Rattle.pylock_core.specs.Inner.Strings.{text_pairs}
 use Rattle.pylock.specs.Text.Field.{field}
 use Rattle.pylock.specs.Text.Plan.{hashes_text}
 use Rattle.pylock.proofs.TextLemmas.{pushed_hashes}

@@ -1,7 +1,7 @@
 use Rattle.std.proofs.Common.{◌≡◌, true, ◌∙◌}
-use Rattle.pylock.specs.Line.{is_entry_number}
+use Rattle.pylock.specs.Line.Argument.{is_entry_number}
 use Rattle.pylock.proofs.LineLemmas.{parsed_entry_number}
-use Rattle.pylock.proofs.line.parse_entry_number.Goals as goal
+use Rattle.pylock.proofs.line.argument.parse_entry_number.Goals as goal
 
 pub returns : goal.returns
 returns c =
