@@ -3,13 +3,17 @@
 
 mod clock;
 mod locks;
+mod markers;
 mod versions;
+mod wheels;
 
 use std::alloc::AllocError;
 use std::{env, fs};
 
 const USAGE: &str =
     "bench versions    nanoseconds for each parse, comparison and match of versions, beside semver
+bench markers     nanoseconds for each parse and value of markers, and parse of requirements
+bench wheels      nanoseconds for each parse and choice of wheels
 bench lock FILE   milliseconds for reading a lock, beside toml alone
 ";
 
@@ -17,6 +21,8 @@ fn main(rt: HostRuntime) -> anyhow::Result<()> {
     let words: Vec<String> = env::args(&rt)?.skip(1).collect(rt.alloc())?;
     match words.as_slice() {
         [word] if word.as_str() == "versions" => versions::time_versions(&rt),
+        [word] if word.as_str() == "markers" => markers::time_markers(&rt),
+        [word] if word.as_str() == "wheels" => wheels::time_wheels(&rt),
         [word, file] if word.as_str() == "lock" => {
             let bytes = fs::read(&rt, file.as_str())?;
             locks::time_lock(&rt, &bytes)
