@@ -1,5 +1,5 @@
 -- Steps of the code that builds a marker's tree.
-use Rattle.std.proofs.Common.{◌≡◌, ℕ, Bool, true, false, List, [], ◌∷◌, ◌++◌, map, Option, Some, None, Ok, ok_or, length, ◌<◌, refl, ap, sym, ◌∙◌, inl, inr, arith}
+use Rattle.std.proofs.Common.{◌≡◌, ℕ, true, false, List, [], ◌∷◌, ◌++◌, map, Option, Some, None, Ok, ok_or, length, ◌<◌, refl, ap, sym, inl, inr, arith}
 use Rattle.std.specs.Prelude.{codes, option_map, reverse, ◌==◌}
 use Rattle.std.specs.Str.{bytes_eq}
 use Rattle.std.specs.Global.{Box}

@@ -1,5 +1,5 @@
 -- Where the text of a requirement may be cut: behind a name, behind a URL, and round a byte.
-use Rattle.std.proofs.Common.{◌≡◌, ℕ, ◌+◌, ◌<◌, ◌≤◌, Bool, true, false, cond, not, List, length, get_or, Option, Some, None, refl, sym, subst, ap, ◌∙◌, arith, inl, inr}
+use Rattle.std.proofs.Common.{◌≡◌, ℕ, ◌<◌, ◌≤◌, Bool, true, false, cond, not, List, length, get_or, Option, Some, None, refl, sym, subst, ap, ◌∙◌, arith, inl, inr}
 use Rattle.std.specs.Prelude.{◌==◌, MatchOption, nat_lt, option_map}
 use Rattle.std.specs.List.{after_first, before_first, position_or_len, prefix_len}
 use Rattle.std.specs.Str.{IsCharBoundary, IsUtf8}

@@ -1,10 +1,10 @@
 -- What the answer of parsing says of the text.
-use Rattle.std.proofs.Common.{◌≡◌, ◌⊎◌, ℕ, Bool, true, false, List, [], Option, Some, None, Result, Ok, Err, ok_or, refl, ap, sym, subst, ◌∙◌, inl, inr}
+use Rattle.std.proofs.Common.{◌≡◌, ℕ, true, false, List, Option, Some, None, Result, Ok, Err, ok_or, refl, ap, sym, subst, ◌∙◌, inl, inr}
 use Rattle.std.specs.Prelude.{IfOk, IsErrOf}
 use Rattle.pyver_core.specs.Agreement.{Gives}
 use Rattle.pyver_core.specs.Options.{◌>>=◌}
 use Rattle.pymark_core.proofs.BuilderLemmas.{some_from_ok}
-use Rattle.pymark_core.proofs.Choices.{bind_some, cases_bool, chosen}
+use Rattle.pymark_core.proofs.Choices.{bind_some, chosen}
 use Rattle.pymark_core.proofs.ReadingSound.{read_sound}
 use Rattle.pymark_core.proofs.TokensLemmas.{from_err}
 use Rattle.pymark_core.specs.Inner.ReadingComplete.{read_again}

@@ -1,12 +1,12 @@
 -- What is noted of comparisons.
-use Rattle.std.proofs.Common.{◌≡◌, Bool, true, false, ◌||◌, List, [], ◌∷◌, ◌++◌, refl, ap, sym, ◌∙◌}
+use Rattle.std.proofs.Common.{◌≡◌, ◌||◌, [], ◌∷◌, ◌++◌, ap, sym, ◌∙◌}
 use Rattle.std.proofs.lemmas.List.Folds.{list_any-append}
 use Rattle.std.proofs.Math.Bool.{or-false}
 use Rattle.pymark_core.specs.Inner.Building.{NotesMore}
 use Rattle.pymark_core.specs.Marker.Comparison.{ComparisonValue}
 use Rattle.pymark_core.specs.Marker.Grammar.{is_misuse}
 use Rattle.pymark_core.specs.declared.marker.notes.Notes.{Notes}
-use Rattle.pymark_core.specs.Marker.Keys.{comparison_keys, comparison_reads, has_key, is_in, is_key, operand_keys}
+use Rattle.pymark_core.specs.Marker.Keys.{comparison_reads, has_key, is_in, is_key, operand_keys}
 use Rattle.pymark_core.specs.declared.marker.keys.Key.{Key}
 use Rattle.pymark_core.specs.declared.operand.Operand.{Operand}
 

@@ -1,11 +1,11 @@
 -- What is noted while a marker is read is what its tree compares.
-use Rattle.std.proofs.Common.{◌≡◌, ◌⊎◌, Bool, true, false, cond, ◌||◌, List, [], ◌∷◌, ◌++◌, Option, Some, None, Ok, ok_or, refl, ap, sym, ◌∙◌, inl, inr}
+use Rattle.std.proofs.Common.{◌≡◌, Bool, true, false, ◌||◌, List, [], ◌∷◌, ◌++◌, Option, Some, Ok, ok_or, refl, ap, sym, ◌∙◌, inl, inr}
 use Rattle.std.specs.Prelude.{ℕ, codes, option_map}
 use Rattle.std.specs.Option.{option_to_list}
 use Rattle.std.specs.List.{list_any}
 use Rattle.std.specs.Str.{IsUtf8, bytes_eq}
 use Rattle.pyver_core.specs.Options.{◌>>=◌}
-use Rattle.std.proofs.Math.Bool.{or_assoc, or-false}
+use Rattle.std.proofs.Math.Bool.{or_assoc}
 use Rattle.std.proofs.lemmas.List.Folds.{list_any-append}
 use Rattle.pymark_core.proofs.BuilderLemmas.{some_from_ok}
 use Rattle.pymark_core.proofs.Choices.{chosen, map_some}
@@ -15,7 +15,7 @@ use Rattle.pymark_core.specs.Marker.Grammar.{atom_comparisons, comparisons, conj
 use Rattle.pymark_core.specs.Marker.Keys.{comparison_reads, is_in}
 use Rattle.pymark_core.specs.Marker.Reading.{Frame, Place, Stage, at_atom, at_operator, at_in, at_right, at_rest, behind_atom, behind_atom_start, behind_closing, behind_left, behind_not, behind_right, empty_frame, end_at, finish, frame_conjunction, frame_tree, operand_of, place_behind, read, staged, start, step, tree_text}
 use Rattle.pymark_core.specs.Marker.Token.{Token, opening, closing, sign, word, quoted, tokens}
-use Rattle.pymark_core.specs.Marker.Tree.{Tree, Conjunction, Atom, last, or, only, and, leaf, group, conjunction_of, tree_of}
+use Rattle.pymark_core.specs.Marker.Tree.{Tree, Conjunction, Atom, leaf, group, conjunction_of, tree_of}
 use Rattle.pymark_core.specs.declared.marker.error.MarkerError.TheVariants.{Syntax}
 use Rattle.pymark_core.specs.declared.marker.keys.Key.{Key}
 use Rattle.pymark_core.specs.declared.marker.notes.Notes.{Notes}

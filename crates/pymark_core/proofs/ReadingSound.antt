@@ -1,21 +1,18 @@
 -- What is read is written so: the tree that reading gives has these tokens.
-use Rattle.std.proofs.Common.{◌≡◌, ◌⊎◌, ℕ, Bool, true, false, cond, List, [], ◌∷◌, ◌++◌, Option, Some, None, refl, sym, ap, ◌∙◌, inl, inr}
+use Rattle.std.proofs.Common.{◌≡◌, ℕ, true, List, [], ◌∷◌, ◌++◌, Option, Some, refl, sym, ap, ◌∙◌, inl, inr}
 use Rattle.std.specs.Prelude.{codes, option_map}
 use Rattle.std.specs.Str.{bytes_eq}
 use Rattle.std.proofs.lemmas.Slice.Eq.{bytes_eq-Decides}
-use Rattle.pyver_core.specs.declared.set.specifier.Operator.{Operator}
 use Rattle.pymark_core.proofs.Choices.{bind_some, chosen, found_passes, map_some}
-use Rattle.pymark_core.specs.Marker.Comparison.{ComparisonValue}
-use Rattle.pymark_core.specs.Marker.Grammar.{tree_tokens, conjunction_tokens, atom_tokens, comparison_tokens, comparator_tokens, operand_token}
+use Rattle.pymark_core.specs.Marker.Grammar.{tree_tokens, conjunction_tokens, atom_tokens, comparator_tokens, operand_token}
 use Rattle.pymark_core.specs.Marker.Reading.{Frame, Place, Stage, at_atom, at_operator, at_in, at_right, at_rest, behind_atom, behind_atom_start, behind_closing, behind_left, behind_not, behind_right, empty_frame, end_at, finish, frame_conjunction, frame_tree, operand_of, place_behind, read, staged, start, step, word_operand}
 use Rattle.pymark_core.specs.Marker.Token.{Token, opening, closing, sign, word, quoted}
-use Rattle.pymark_core.specs.Marker.Tree.{Tree, Conjunction, Atom, last, or, only, and, leaf, group, conjunction_of, tree_of}
+use Rattle.pymark_core.specs.Marker.Tree.{Tree, Conjunction, Atom, leaf, group, conjunction_of, tree_of}
 use Rattle.pymark_core.specs.Variables.{variable_name, variable_of, variables}
 use Rattle.pymark_core.specs.declared.operand.Comparator.{Comparator}
 use Rattle.pymark_core.specs.declared.operand.Comparator.TheVariants.{By, In, NotIn}
 use Rattle.pymark_core.specs.declared.operand.Operand.{Operand}
 use Rattle.pymark_core.specs.declared.operand.Operand.TheVariants.{Text, Variable, Extra, Extras, Groups}
-use Rattle.pymark_core.specs.declared.variable.Var.{Var}
 
 -- ---- what was read up to a place, in front of the tokens behind it
 

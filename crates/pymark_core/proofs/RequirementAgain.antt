@@ -1,9 +1,9 @@
 -- A requirement's text is read as the requirement that it is.
-use Rattle.std.proofs.Common.{◌≡◌, ◌⊎◌, ℕ, ◌+◌, ◌-◌, ◌<◌, ◌≤◌, Bool, true, false, cond, not, ◌&&◌, ◌||◌, List, [], ◌∷◌, ◌++◌, length, take, drop, map, Option, Some, None, ok_or, Result, Ok, Err, ◌∙◌, ap, refl, sym, inl, inr, append_assoc, append-nil, length-append, arith}
+use Rattle.std.proofs.Common.{◌≡◌, ℕ, ◌+◌, ◌-◌, ◌<◌, Bool, true, false, cond, not, ◌&&◌, ◌||◌, List, [], ◌∷◌, ◌++◌, length, take, drop, map, Option, Some, None, ok_or, Result, Ok, Err, ◌∙◌, ap, refl, sym, inl, inr, append_assoc, append-nil, length-append, arith}
 use Rattle.std.specs.Prelude.{◌==◌, nat_lt, option_map, slice_get, unwrap_or}
 use Rattle.std.specs.List.{after_first, before_first, list_all, list_any, position_or_len, prefix_len, slice_split}
 use Rattle.std.proofs.Math.Dec.{eqb-suc-zero}
-use Rattle.std.proofs.Math.Seq.{drop-append-add, drop-append_seam, take-append_seam}
+use Rattle.std.proofs.Math.Seq.{drop-append-add, take-append_seam}
 use Rattle.std.proofs.lemmas.Bool.{le-ltb}
 use Rattle.std.proofs.lemmas.List.{get_or_push}
 use Rattle.std.proofs.lemmas.Option.{slice_get-get_or}
@@ -15,7 +15,7 @@ use Rattle.pyver_core.specs.Version.Grammar.{is_white, starts}
 use Rattle.pyver_core.specs.Version.Reading.{after_white}
 use Rattle.pyver_core.specs.declared.set.specifier.Specifier.{Specifier}
 use Rattle.pyver_core.proofs.Lemmas.Version.Complete.Pieces.{dropped_exact, prefix_len_exact, taken_exact, white_again}
-use Rattle.pymark_core.specs.Marker.Reading.{MarkerValue, marker_of}
+use Rattle.pymark_core.specs.Marker.Reading.{MarkerValue}
 use Rattle.pymark_core.specs.Requirement.Grammar.{ExtrasText, IsExtras, IsWithin, Lacks, MarkerPart, Req, SetText, SourceText, UrlText}
 use Rattle.pymark_core.specs.Requirement.Reading.{Source, around, behind, cut_at, cut_source, extras_at, extras_behind, extras_from, extras_in, marker_in, marker_text_at, name_at, names_in, refused_as, requirement_of, set_source, source_at, source_from, url_len, url_source, within_from, within_parentheses, before_end}
 use Rattle.pymark_core.specs.Requirement.Value.{RequirementValue}

@@ -1,11 +1,11 @@
 -- What is read of a requirement, the text is.
-use Rattle.std.proofs.Common.{◌≡◌, ◌⊎◌, ℕ, ◌+◌, ◌-◌, ◌<◌, ◌≤◌, Bool, true, false, cond, not, ◌&&◌, ◌||◌, List, [], ◌∷◌, ◌++◌, length, take, drop, map, get_or, Option, Some, None, ok_or, Result, Ok, Err, ◌∙◌, ap, refl, sym, subst, inl, inr, append_assoc, append-nil, length-append, arith}
+use Rattle.std.proofs.Common.{◌≡◌, ℕ, ◌+◌, ◌-◌, ◌<◌, ◌≤◌, Bool, true, false, cond, not, ◌&&◌, ◌||◌, List, [], ◌∷◌, ◌++◌, length, take, drop, map, get_or, Option, Some, None, ok_or, Result, Ok, Err, ◌∙◌, ap, refl, sym, subst, inl, inr, append_assoc, append-nil, arith}
 use Rattle.std.specs.Prelude.{◌==◌, nat_lt, option_map, slice_get, unwrap_or}
-use Rattle.std.specs.List.{after_first, before_first, list_all, list_any, position_or_len, prefix_len, slice_split}
+use Rattle.std.specs.List.{list_all, list_any, prefix_len, slice_split}
 use Rattle.std.proofs.lemmas.Bool.{cases_lt, ltb-false}
 use Rattle.std.proofs.lemmas.Bool.Decides.{Decides-eqb, Decides-ltb}
 use Rattle.std.proofs.lemmas.List.{drop_all, drop_more, take-append-drop, take_all}
-use Rattle.std.proofs.lemmas.List.Sums.{prefix_len-le-length, prefix_len_stops}
+use Rattle.std.proofs.lemmas.List.Sums.{prefix_len_stops}
 use Rattle.std.proofs.lemmas.List.Folds.{length-prefix_len}
 use Rattle.std.proofs.lemmas.Option.{slice_get-get_or}
 use Rattle.pyver_core.specs.Name.{is_name, is_name_byte}
@@ -16,8 +16,8 @@ use Rattle.pyver_core.specs.Version.Reading.{after_white}
 use Rattle.pyver_core.specs.declared.set.specifier.Specifier.{Specifier}
 use Rattle.pyver_core.proofs.Lemmas.Version.Fronts.{list_all_front}
 use Rattle.pymark_core.specs.Marker.Reading.{MarkerValue, marker_of}
-use Rattle.pymark_core.specs.Requirement.Grammar.{ExtrasText, IsExtras, IsGap, IsWithin, Lacks, MarkerPart, Req, SetText, SourceText, UrlText}
-use Rattle.pymark_core.specs.Requirement.Reading.{Source, around, before_end, behind, cut_at, cut_source, extra_in, extras_at, extras_behind, extras_from, extras_in, marker_in, marker_text_at, name_at, names_in, refused_as, requirement_of, set_source, source_at, source_from, url_len, url_source, within_from, within_parentheses}
+use Rattle.pymark_core.specs.Requirement.Grammar.{ExtrasText, IsExtras, IsGap, IsWithin, Lacks, MarkerPart, Req, SourceText}
+use Rattle.pymark_core.specs.Requirement.Reading.{Source, around, before_end, behind, cut_at, extra_in, extras_at, extras_behind, extras_from, extras_in, marker_in, marker_text_at, name_at, names_in, refused_as, requirement_of, set_source, source_at, source_from, url_len, url_source, within_from, within_parentheses}
 use Rattle.pymark_core.specs.Requirement.Value.{RequirementValue}
 use Rattle.pymark_core.specs.White.{trimmed}
 use Rattle.pymark_core.specs.declared.requirement.error.RequirementError.{RequirementError}

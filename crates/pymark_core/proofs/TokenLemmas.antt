@@ -1,6 +1,6 @@
 -- The token at the front of a text.
 use Rattle.std.proofs.Common.{◌≡◌, ℕ, ◌<◌, ◌+◌, true, List, [], ◌∷◌, length, get_or, drop, Option, Some, None, refl, ap, arith, drop-drop}
-use Rattle.std.specs.Prelude.{option_map, if◌then◌else◌, nat_eq}
+use Rattle.std.specs.Prelude.{option_map, nat_eq}
 use Rattle.std.specs.List.{starts_with}
 use Rattle.std.proofs.lemmas.Bool.Decides.{nat_tests}
 use Rattle.pyver_core.specs.Set.Reading.{behind_operator, operators}

@@ -1,7 +1,5 @@
 -- What the code keeps of a comparison, seen as the comparison.
-use Rattle.std.specs.Prelude.{◌≡◌, ℕ, List, Option, Some, None, Result, string_bytes}
-use Rattle.pyver_core.specs.declared.set.error.SpecifierError.{SpecifierError}
-use Rattle.pyver_core.specs.declared.set.specifier.Specifier.{Specifier}
+use Rattle.std.specs.Prelude.{◌≡◌}
 use Rattle.pyver_core.specs.Parsed.{parsed_operand}
 use Rattle.pymark_core.specs.declared.comparison.Left.{Left}
 use Rattle.pymark_core.specs.declared.comparison.Left.TheVariants as left

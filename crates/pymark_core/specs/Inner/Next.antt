@@ -1,5 +1,5 @@
 -- The next token of a text, behind white space.
-use Rattle.std.specs.Prelude.{ℕ, ◌==◌, if◌then◌else◌, List, [], ◌∷◌, length, Option, Some, None}
+use Rattle.std.specs.Prelude.{ℕ, ◌==◌, if◌then◌else◌, List, length, Option, Some, None}
 use Rattle.std.specs.Prelude.{option_map}
 use denote.Ref.{Bor}
 use Rattle.pyver_core.specs.Version.Reading.{after_white}

@@ -1,16 +1,16 @@
 -- What is written out as tokens is read again: reading a tree's tokens gives the tree.
-use Rattle.std.proofs.Common.{◌≡◌, ℕ, true, List, [], ◌∷◌, ◌++◌, Option, Some, None, refl, sym, ap}
+use Rattle.std.proofs.Common.{◌≡◌, List, [], ◌∷◌, ◌++◌, Some, refl, ap}
 use Rattle.std.proofs.Common.{◌∙◌, append_assoc}
 use Rattle.std.proofs.lemmas.List.{append-nil}
 use Rattle.std.specs.Prelude.{codes}
 use Rattle.pymark_core.specs.Marker.Comparison.{ComparisonValue}
 use Rattle.pymark_core.specs.Marker.Grammar.{tree_tokens, conjunction_tokens, atom_tokens}
 use Rattle.pymark_core.specs.Marker.Grammar.{comparison_tokens, comparator_tokens, operand_token}
-use Rattle.pymark_core.specs.Marker.Reading.{Frame, Place, Stage, at_atom, at_operator, at_in}
-use Rattle.pymark_core.specs.Marker.Reading.{at_right, at_rest, empty_frame, end_at, finish}
-use Rattle.pymark_core.specs.Marker.Reading.{frame_conjunction, frame_tree, operand_of}
-use Rattle.pymark_core.specs.Marker.Reading.{place_behind, read, start, step}
-use Rattle.pymark_core.specs.Marker.Token.{Token, opening, closing, sign, word, quoted}
+use Rattle.pymark_core.specs.Marker.Reading.{Frame, Place, Stage, at_atom, at_operator}
+use Rattle.pymark_core.specs.Marker.Reading.{at_right, at_rest, finish}
+use Rattle.pymark_core.specs.Marker.Reading.{operand_of}
+use Rattle.pymark_core.specs.Marker.Reading.{read, start, step}
+use Rattle.pymark_core.specs.Marker.Token.{Token, opening, closing, word}
 use Rattle.pymark_core.specs.Marker.Tree.{Tree, Conjunction, Atom, last, or, only, and, leaf, group}
 use Rattle.pymark_core.specs.Marker.Tree.{conjunction_of, tree_of}
 use Rattle.pymark_core.specs.Variables.{variable_name}

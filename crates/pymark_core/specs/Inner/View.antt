@@ -1,5 +1,5 @@
 -- The tree that the code keeps, seen as a tree of markers.
-use Rattle.std.specs.Prelude.{List, map}
+use Rattle.std.specs.Prelude.{map}
 use Rattle.pymark_core.specs.Marker.Tree as tree
 use Rattle.pymark_core.specs.Marker.Tree.{Conjunction, Tree, conjunction_of, tree_of}
 use Rattle.pymark_core.specs.declared.marker.tree.Atom.{Atom}

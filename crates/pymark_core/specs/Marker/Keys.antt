@@ -1,5 +1,5 @@
 -- What of an environment a marker reads.
-use Rattle.std.specs.Prelude.{ℕ, Bool, false, true, ◌==◌, ◌||◌, List, [], ◌∷◌, map, ◌++◌, filter}
+use Rattle.std.specs.Prelude.{ℕ, Bool, false, ◌==◌, List, [], ◌∷◌, map, ◌++◌, filter}
 use Rattle.std.specs.Prelude.{slice_index_or}
 use Rattle.std.specs.List.{list_any}
 use Rattle.pymark_core.specs.Marker.Comparison.{ComparisonValue}

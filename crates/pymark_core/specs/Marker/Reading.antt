@@ -1,11 +1,10 @@
 -- Reading a marker from the left: the tree that a text is, as a function. It gives an answer
 -- exactly where `MarkerText` holds, and the tree of which it holds: the laws
 -- `tree_text_is_complete` and `marker_of_is_complete`.
-use Rattle.std.specs.Prelude.{ℕ, Bool, if◌then◌else◌, List, [], ◌∷◌, ◌++◌, codes, Option, Some}
-use Rattle.std.specs.Prelude.{None, option_map, Result, Ok, Err, ok_or}
+use Rattle.std.specs.Prelude.{ℕ, if◌then◌else◌, List, [], ◌∷◌, ◌++◌, codes, Option, Some}
+use Rattle.std.specs.Prelude.{None, option_map, Result, Ok, Err}
 use Rattle.std.specs.Str.{bytes_eq}
 use Rattle.pyver_core.specs.Options.{◌>>=◌}
-use Rattle.pymark_core.specs.Marker.Comparison.{ComparisonValue}
 use Rattle.pymark_core.specs.Marker.Depth.{is_deep}
 use Rattle.pymark_core.specs.Marker.Grammar.{has_misuse}
 use Rattle.pymark_core.specs.Marker.Token.{Token, tokens, opening, closing, sign, word, quoted}

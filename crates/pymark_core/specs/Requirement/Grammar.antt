@@ -1,6 +1,6 @@
 -- Which texts are which requirements (PEP 508, "Grammar"): a relation over the ways to cut the
 -- whole text.
-use Rattle.std.specs.Prelude.{◌≡◌, ◌⊎◌, ℕ, Bool, true, false, not, ◌==◌, List, [], ◌++◌, codes, map}
+use Rattle.std.specs.Prelude.{◌≡◌, ◌⊎◌, ℕ, true, false, not, ◌==◌, List, [], ◌++◌, codes, map}
 use Rattle.std.specs.Prelude.{Option, Some, None, Ok}
 use Rattle.std.specs.List.{list_all, list_any, slice_split}
 use Rattle.pyver_core.specs.Name.{is_name, is_name_byte}

@@ -1,6 +1,6 @@
 -- Reading a requirement from the left: its parts, or the first refusal (PEP 508, "Grammar"). White
 -- space may stand between the parts.
-use Rattle.std.specs.Prelude.{ℕ, Bool, false, not, ◌==◌, nat_lt, ◌-◌, if◌then◌else◌, List, [], ◌∷◌}
+use Rattle.std.specs.Prelude.{ℕ, false, not, ◌==◌, nat_lt, ◌-◌, if◌then◌else◌, List, [], ◌∷◌}
 use Rattle.std.specs.Prelude.{length, take, drop, slice_get, Option, Some, None, option_map, ok_or}
 use Rattle.std.specs.Prelude.{unwrap_or, Result, Ok, Err}
 use Rattle.std.specs.List.{after_first, before_first, list_all, position_or_len, prefix_len}

@@ -1,5 +1,4 @@
 use Rattle.std.proofs.Common.{Ok}
-use Rattle.std.specs.Prelude.{ok_or}
 use Rattle.pymark_core.proofs.MarkerLemmas.{marker_says, marker_whole}
 use Rattle.pymark_core.proofs.laws.marker_of_is_complete.Goals as goal
 

@@ -1,4 +1,4 @@
-use Rattle.std.proofs.Common.{◌≡◌, subst, List, sym}
+use Rattle.std.proofs.Common.{subst, List, sym}
 use Rattle.pymark_core.proofs.BuilderLemmas.{noted_right}
 use Rattle.pymark_core.proofs.NoteLemmas.{one_noted}
 use Rattle.pymark_core.specs.Inner.Building.{NotesMore}

@@ -1,4 +1,4 @@
-use Rattle.std.proofs.Common.{◌≡◌, ℕ, ◌+◌, ◌*◌, map, take}
+use Rattle.std.proofs.Common.{◌≡◌, ◌+◌, ◌*◌, map, take}
 use Rattle.pymark_core.specs.Inner.View.{atom_view, conjunction_view}
 use Rattle.pymark_core.proofs.marker.copy.+copy.Given as goal
 

@@ -1,7 +1,7 @@
-use Rattle.std.proofs.Common.{◌≡◌, ap, sym, ◌∙◌, arith, rules}
-use Rattle.std.specs.Prelude.{ok_or, Ok, Err, Some, None}
+use Rattle.std.proofs.Common.{◌≡◌, ap, sym, ◌∙◌, rules}
+use Rattle.std.specs.Prelude.{ok_or, Ok, Some, None}
 use Rattle.std.proofs.lemmas.Result.{err_from_is_err_and}
-use Rattle.pymark_core.proofs.NotedLemmas.{Kept, Reading, kept_end, kept_start, kept_step}
+use Rattle.pymark_core.proofs.NotedLemmas.{kept_end, kept_step}
 use Rattle.pymark_core.proofs.TokensLemmas.{front_less, turn, turn_bad, turn_end, turn_stuck}
 use Rattle.pymark_core.specs.Inner.Building.{place_view}
 use Rattle.pymark_core.specs.Inner.Next.{next_front}

@@ -1,4 +1,4 @@
-use Rattle.std.proofs.Common.{◌∙◌, ap, sym}
+use Rattle.std.proofs.Common.{◌∙◌, sym}
 use Rattle.std.specs.FinSet.{contains, remove}
 use Rattle.pymark_core.proofs.Texts.{contains-seen, seen-taken}
 use Rattle.pymark_core.proofs.names.NameSet.drop_name.Goals as goal

@@ -1,4 +1,4 @@
-use Rattle.std.proofs.Common.{arith, ◌≡◌, ◌∙◌, ◌∷◌, ◌++◌, [], Bor, List, ℕ, None, Some, ap, map, sym, subst}
+use Rattle.std.proofs.Common.{arith, ◌≡◌, ◌∙◌, ◌∷◌, Bor, List, ℕ, Some, ap, map, sym, subst}
 use Rattle.std.specs.List.{slice_split}
 use Rattle.std.specs.Prelude.{◌==◌, string_bytes}
 use Rattle.std.specs.Str.Iter.{split_steps}

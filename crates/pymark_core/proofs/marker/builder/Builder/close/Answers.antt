@@ -1,4 +1,4 @@
-use Rattle.std.proofs.Common.{◌≡◌, ap, sym, ◌∙◌}
+use Rattle.std.proofs.Common.{ap, ◌∙◌}
 use Rattle.std.specs.Prelude.{ok_or}
 use Rattle.pymark_core.proofs.BuilderLemmas.{closed}
 use Rattle.pymark_core.specs.Marker.Reading.{frame_tree}

@@ -1,4 +1,4 @@
-use Rattle.std.proofs.Common.{◌≡◌, ◌||◌, ap, ◌∙◌}
+use Rattle.std.proofs.Common.{◌||◌, ap, ◌∙◌}
 use Rattle.std.proofs.Math.Bool.{or_assoc}
 use Rattle.pymark_core.proofs.NoteLemmas.{both_read}
 use Rattle.pymark_core.specs.Marker.Keys.{is_in, operand_keys, has_key}
