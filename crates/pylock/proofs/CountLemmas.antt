@@ -38,6 +38,9 @@ lines-cons b bs other =
 no_lines : (xs ys : List ℕ) → lines xs ≡ 0 → lines ys ≡ 0 → lines (xs ++ ys) ≡ 0
 no_lines xs ys none also = let both = lines-append xs ys in omega (arith, both, none, also)
 
+adds : (xs ys : List ℕ) (m n : ℕ) → lines xs ≡ m → lines ys ≡ n → lines (xs ++ ys) ≡ m + n
+adds xs ys m n h k = lines-append xs ys ∙ ap (λ t. t + lines ys) h ∙ ap (λ t. m + t) k
+
 one_of : (b : Bool) (xs ys : List ℕ) (n : ℕ) → lines xs ≡ n → lines ys ≡ n → lines (cond b xs ys) ≡ n
 one_of true xs ys n h k = h
 one_of false xs ys n h k = k
@@ -94,11 +97,7 @@ tabbed_none (f ∷ fields) h = no_lines (9 ∷ f) (tabbed fields) (lines-cons 9 
 
 line_one : (first : List ℕ) (fields : List (List ℕ)) → lines first ≡ 0 → NoLines fields → lines (line_of first fields) ≡ 1
 line_one first fields none h =
-    let all = lines-append first (tabbed fields ++ codes "\n") in
-    let end = lines-append (tabbed fields) (codes "\n") in
-    let tabs = tabbed_none fields h in
-    let last : lines (codes "\n") ≡ 1 = refl in
-    omega (arith, all, end, tabs, last, none)
+    adds (first ++ tabbed fields) (codes "\n") 0 1 (no_lines first (tabbed fields) none (tabbed_none fields h)) refl
 
 vcs_none : (vcs : VcsValue) → NoLines (vcs_fields vcs)
 vcs_none vcs = (refl, (refl, (field_none (Some (place_of vcs.location)), (refl, (field_none (Some (revision vcs)), (field_none vcs.subdirectory, tt))))))
@@ -152,19 +151,17 @@ pick_one state pick h =
 picks_lines : (state : State) (plan : List Pick) → All (IsPickAmong state.entries) plan → lines (flat_map (pick_text state) plan) ≡ length plan
 picks_lines state [] h = refl
 picks_lines state (pick ∷ plan) h =
-    let all = lines-append (pick_text state pick) (flat_map (pick_text state) plan) in
     let one = pick_one state pick (All-head (IsPickAmong state.entries) pick plan h) in
     let more = picks_lines state plan (All-tail (IsPickAmong state.entries) pick plan h) in
-    omega (arith, all, one, more)
+    let next : 1 + length plan ≡ suc (length plan) = omega arith in
+    adds (pick_text state pick) (flat_map (pick_text state) plan) 1 (length plan) one more ∙ next
 
 pub plan_text_lines : (state : State) (plan : List Pick) → All (IsPickAmong state.entries) plan → lines (answer_text state (Plan plan)) ≡ length plan + 1
 plan_text_lines state plan h =
+    let n = length plan in
     let rest = flat_map (pick_text state) plan in
-    let front = lines-append (codes "plan ") (decimal (length plan) ++ codes "\n" ++ rest) in
-    let number = lines-append (decimal (length plan)) (codes "\n" ++ rest) in
-    let end = lines-append (codes "\n") rest in
-    let word : lines (codes "plan ") ≡ 0 = refl in
-    let last : lines (codes "\n") ≡ 1 = refl in
-    let none = decimal_none (length plan) in
-    let more = picks_lines state plan h in
-    omega (arith, front, number, end, word, last, none, more)
+    let all : 1 + length plan ≡ length plan + 1 = omega arith in
+    adds (codes "plan " ++ decimal n ++ codes "\n") rest 1 n
+    (adds (codes "plan " ++ decimal n) (codes "\n") 0 1 (no_lines (codes "plan ") (decimal n) refl (decimal_none n)) refl)
+    (picks_lines state plan h)
+    ∙ all
