@@ -9,3 +9,4 @@ pub mod RunLemmas
 pub mod ReportLemmas
 pub mod ReplyLemmas
 pub mod PieceLemmas
+pub mod CountLemmas

@@ -3,6 +3,7 @@
 #![tactic(auto)]
 
 mod command;
+pub mod laws;
 mod line;
 mod program;
 mod reply;
