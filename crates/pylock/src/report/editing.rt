@@ -45,11 +45,25 @@ pub struct Editing {
 
 impl Model for Editing {
     ghost use Rattle.std.specs.Prelude.{◌≤◌, ◌+◌, min, vec_len};
+    ghost use Rattle.std.specs.Cmp.Lexicographic.{slice_cmp};
+    ghost use Rattle.std.specs.Coded.{codes, coded_list, coded_ℕ};
+    ghost use Rattle.std.specs.FinMap as map_of;
+    ghost use Rattle.std.specs.Ordering.{nat_cmp};
+    ghost use Rattle.pymark_core.specs.Environment.{environment_code};
+    ghost use Rattle.pymark_core.specs.Inner.Coding.{marker_code};
+    ghost use Rattle.pylock_core.specs.contracts.edit.Policy as policy;
     ghost use Rattle.pylock.specs.Inner.Editing.{At};
     ghost use Rattle.pylock.specs.Line.{line_limit};
     ghost use Rattle.pylock.specs.Report.Run.{most_lines};
 
     ghost Value = { At };
+
+    ghost coded = { Prim.hlevel (
+      codes,
+      marker_code,
+      environment_code,
+      map_of.code {R = slice_cmp nat_cmp} (coded_list coded_ℕ) policy.the_row.coded,
+    ) };
 
     ghost view = { λ e. record {
       state = e.session.state;
