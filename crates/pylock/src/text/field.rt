@@ -5,7 +5,6 @@ ghost use Rattle.std.specs.List.{list_all};
 ghost use Rattle.std.specs.Option.{option_copied};
 ghost use Rattle.pylock.specs.Text.Field.{escape, escaped, field, is_plain, line_of};
 
-use memchr::{memchr, memchr3};
 use std::alloc::AllocError;
 
 /// Pushes the decimal digits of a number.
@@ -46,11 +45,20 @@ pub fn push_escaped(out: &mut Vec<u8>, text: &str) -> Result<(), AllocError>
 }
 
 /// Whether the text stands in a field as it is, as nearly each does.
-#[tactic(auto, using(crate::proofs::PlainText::plain_where_one_stands))]
 fn is_plain_text(text: &[u8]) -> bool
     ensures { result ≡ list_all is_plain text.now }
 {
-    memchr3(b'\t', b'\n', b'\r', text).is_none() && memchr(b'\\', text).is_none()
+    let mut plain = true;
+    for byte in text {
+        plain &= is_plain(*byte);
+    }
+    plain
+}
+
+fn is_plain(byte: u8) -> bool
+    ensures { result ≡ is_plain byte }
+{
+    !matches!(byte, b'\t' | b'\n' | b'\r' | b'\\')
 }
 
 fn push_escapes(out: &mut Vec<u8>, text: &[u8]) -> Result<(), AllocError>
