@@ -39,8 +39,12 @@ pub struct Entry {
 impl Model for Entry {
     ghost use Rattle.std.specs.Prelude.{option_map, string_bytes};
     ghost use Rattle.pylock_core.specs.Entry.{EntryValue};
+    ghost use Rattle.std.specs.Coded.{codes};
+    ghost use Rattle.pymark_core.specs.Inner.Coding.{marker_code};
 
     ghost Value = { EntryValue };
+
+    ghost coded = { Prim.hlevel (codes, marker_code) };
 
     ghost view = { λ e. record {
       name = string_bytes e.name;

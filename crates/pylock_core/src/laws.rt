@@ -63,10 +63,3 @@ pub fn fault_stands()
 {
     one_best_wheel();
 }
-
-/// Trial.
-#[tactic(auto, using(crate::proofs::SessionLemmas::rows_answer))]
-pub fn trial()
-    ensures { python_check ≡ python_check }
-{
-}

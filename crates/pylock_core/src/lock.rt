@@ -27,8 +27,12 @@ pub struct Lock {
 impl Model for Lock {
     ghost use Rattle.std.specs.Prelude.{◌≤◌, vec_len};
     ghost use Rattle.pylock_core.specs.Lock.{LockValue};
+    ghost use Rattle.std.specs.Coded.{codes};
+    ghost use Rattle.pymark_core.specs.Inner.Coding.{marker_code};
 
     ghost Value = { LockValue };
+
+    ghost coded = { Prim.hlevel (codes, marker_code) };
 
     ghost view = { λ l. record { head = l.head; entries = l.entries.items } };
 

@@ -42,11 +42,12 @@ impl Model for Session {
     ghost use Rattle.std.specs.FinMap as map_of;
     ghost use Rattle.std.specs.Ordering.{nat_cmp};
     ghost use Rattle.pymark_core.specs.Environment.{environment_code};
+    ghost use Rattle.pymark_core.specs.Inner.Coding.{marker_code};
     ghost use Rattle.pylock_core.specs.contracts.edit.Policy as policy;
 
     ghost Value = { SessionValue };
 
-    ghost coded = { Prim.hlevel (codes, environment_code, map_of.code {R = slice_cmp nat_cmp} (coded_list coded_ℕ) policy.the_row.coded) };
+    ghost coded = { Prim.hlevel (codes, environment_code, marker_code, map_of.code {R = slice_cmp nat_cmp} (coded_list coded_ℕ) policy.the_row.coded) };
 
     ghost use Rattle.pylock_core.specs.Inner.Parts.{IsSession, shown};
 

@@ -30,8 +30,12 @@ pub(crate) struct Head {
 impl Model for Head {
     ghost use Rattle.std.specs.Prelude.{map, string_bytes};
     ghost use Rattle.pylock_core.specs.Lock.{HeadValue};
+    ghost use Rattle.std.specs.Coded.{codes};
+    ghost use Rattle.pymark_core.specs.Inner.Coding.{marker_code};
 
     ghost Value = { HeadValue };
+
+    ghost coded = { Prim.hlevel (codes, marker_code) };
 
     ghost view = { λ h. record {
       environments = h.environments.items;
