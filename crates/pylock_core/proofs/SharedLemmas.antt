@@ -38,7 +38,6 @@ formed_ok {V = V} (Ok y) x is = ap Ok (ap value is)
     value : Result V FieldError → V
     value (Ok x) = x
     value (Err e) = y
-
 formed_ok (Err e) x is = absurd (none-some x (ap result_ok is))
 
 -- a table that gained what its text is read as

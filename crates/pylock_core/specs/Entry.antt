@@ -7,7 +7,6 @@ use Rattle.pymark_core.specs.Marker.Reading.{MarkerValue}
 use Rattle.pywheel_core.specs.Wheel.Value.{WheelValue}
 use Rattle.pywheel_core.specs.Wheel.Reading.{wheel_of}
 use Rattle.pylock_core.specs.Entry.FileName.{file_name_of}
-
 pub mod FileName
 pub mod Fields
 pub mod Sources

@@ -1,5 +1,6 @@
 -- The text of an environment: the variables and the tags of the Python that is installed for.
-use Rattle.std.specs.Prelude.{ℕ, codes, List, [], ◌∷◌, Option, Some, None, option_and_then, option_map, ok_or, Result, Ok, Err}
+use Rattle.std.specs.Prelude.{ℕ, codes, List, [], ◌∷◌, Option, Some, None, option_and_then}
+use Rattle.std.specs.Prelude.{option_map, ok_or, Result, Ok, Err}
 use Rattle.serde_json.specs.Data.{Data, Items, no_items, item, Members}
 use Rattle.serde_json.specs.Find.{get, get_member, as_str, as_array, as_object}
 use Rattle.serde_json.specs.Read.{read}
@@ -39,7 +40,8 @@ with_member variable members environment =
     >>= (λ text. Ok (with_text variable text environment))
 
 -- the same of each of these variables
-unfoldable pub with_members : List Var → Members → EnvironmentValue → Result EnvironmentValue EnvError
+unfoldable pub with_members : List Var → Members → EnvironmentValue
+    → Result EnvironmentValue EnvError
 with_members [] ms environment = Ok environment
 with_members (variable ∷ more) ms environment =
     with_member variable ms environment >>= with_members more ms

@@ -3,7 +3,6 @@ use Rattle.std.specs.Prelude.{ℕ, List, Option}
 use Rattle.pyver_core.specs.declared.set.specifier.Specifier.{Specifier}
 use Rattle.pymark_core.specs.Marker.Reading.{MarkerValue}
 use Rattle.pylock_core.specs.Entry.{EntryValue}
-
 pub mod Head
 pub mod Reading
 

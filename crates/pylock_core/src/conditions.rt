@@ -86,10 +86,7 @@ fn shared_marker(
     Ok(marker)
 }
 
-fn known_marker<'a>(
-    table: &'a BTreeMap<String, Rc<Marker>>,
-    text: &str,
-) -> Option<&'a Rc<Marker>>
+fn known_marker<'a>(table: &'a BTreeMap<String, Rc<Marker>>, text: &str) -> Option<&'a Rc<Marker>>
     requires { AllRead marker_of (λ m. m.value) table.now.entries }
     ensures { IfSome result (λ m. marker_of text.now ≡ Ok m.now.value) }
 {
@@ -133,7 +130,11 @@ impl Sets {
     }
 
     /// The set of the text that the value is.
-    pub(crate) fn read(&mut self, alloc: Global, value: Value) -> Result<Rc<SpecifierSet>, FieldError>
+    pub(crate) fn read(
+        &mut self,
+        alloc: Global,
+        value: Value,
+    ) -> Result<Rc<SpecifierSet>, FieldError>
         ensures { Gives FieldError.Memory (λ s. s.value) result (set_field (view value)) }
     {
         let text = into_text(value)?;

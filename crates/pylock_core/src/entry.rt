@@ -17,15 +17,14 @@ mod wheels;
 pub use archive::Archive;
 pub use directory::Directory;
 pub use file::{DistributionFile, Sdist, WheelFile};
-pub use vcs::Vcs;
-pub(crate) use read::read_entry;
-
 use pymark_core::Marker;
 use pyver_core::SpecifierSet;
 use pywheel_core::WheelName;
+pub(crate) use read::read_entry;
 use sources::Sources;
 use std::marker::Model;
 use std::rc::Rc;
+pub use vcs::Vcs;
 
 /// A package of the lock (PEP 751, `packages`).
 #[derive(Debug, Drop)]

@@ -6,7 +6,9 @@ ghost use Rattle.serde_json.specs.View.{view, items_view, members_view};
 ghost use Rattle.pyver_core.specs.Agreement.{Gives};
 ghost use Rattle.pymark_core.specs.Environment.{empty};
 ghost use Rattle.pymark_core.specs.Variables.{variable_name, variables};
-ghost use Rattle.pylock_core.specs.Environment.{members_in, tags_in, text_in, with_member, with_members, texts_in, tag_refusal, listed, env_in, value_of, env_of};
+ghost use Rattle.pylock_core.specs.Environment.{members_in, tags_in, text_in, with_member};
+ghost use Rattle.pylock_core.specs.Environment.{with_members, texts_in, tag_refusal, listed};
+ghost use Rattle.pylock_core.specs.Environment.{env_in, value_of, env_of};
 
 use crate::error::EnvError;
 use crate::text::as_text;
@@ -30,9 +32,9 @@ const VARIABLES: [Var; 11] = [
     Var::ImplementationVersion,
 ];
 
-/// Reads the text of an environment: a JSON object with `environment`, an object whose members named
-/// like a variable of markers are texts, and `tags`, a list of texts, each a tag (PEP 425). Other
-/// members are ignored. The refusals come in the order of `EnvError`.
+/// Reads the text of an environment: a JSON object with `environment`, an object whose members
+/// named like a variable of markers are texts, and `tags`, a list of texts, each a tag (PEP 425).
+/// Other members are ignored. The refusals come in the order of `EnvError`.
 ///
 /// Gives the environment with these variables set and nothing asked for, and the list of the tags.
 /// Takes memory for the JSON value and for both of them.

@@ -1,10 +1,12 @@
-//! The fields of a TOML table, taken by value, so that a string of the document moves into the lock.
+//! The fields of a TOML table, taken by value, so that a string of the document moves into the
+//! lock.
 ghost use Rattle.std.specs.Prelude.{◌≡◌, ℕ, List, false, option_map, string_bytes};
 ghost use Rattle.toml.specs.Data.{get_member, same_key};
 ghost use Rattle.toml.specs.View.{view, items_view, table_view};
 ghost use Rattle.pyver_core.specs.Agreement.{Gives};
 ghost use Rattle.pylock_core.specs.declared.field.FieldError.TheVariants as field;
-ghost use Rattle.pylock_core.specs.Entry.Fields.{required, text_of, members_of, name_of, text_in, optional_text_in, flag_in, items_in};
+ghost use Rattle.pylock_core.specs.Entry.Fields.{required, text_of, members_of, name_of, text_in};
+ghost use Rattle.pylock_core.specs.Entry.Fields.{optional_text_in, flag_in, items_in};
 
 use pyver_core::{is_name, normal_name};
 use std::alloc::{AllocError, Global};

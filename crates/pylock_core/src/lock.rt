@@ -8,9 +8,8 @@ mod head;
 mod packages;
 mod read;
 
-pub(crate) use head::Head;
-
 use crate::entry::Entry;
+pub(crate) use head::Head;
 use pymark_core::Marker;
 use pyver_core::SpecifierSet;
 use std::marker::Model;
@@ -37,8 +36,8 @@ impl Model for Lock {
 }
 
 impl Lock {
-    /// The markers of the key `environments`, in their order: the lock is for an environment where one
-    /// of them is true, or for every one where there is none.
+    /// The markers of the key `environments`, in their order: the lock is for an environment where
+    /// one of them is true, or for every one where there is none.
     pub fn environments(&self) -> &[Marker]
         ensures { result.now ≡ self.now.head.environments }
     {
@@ -59,7 +58,8 @@ impl Lock {
         self.head.extras()
     }
 
-    /// The names of the key `dependency-groups` in normal form (PEP 503), each once, in their order.
+    /// The names of the key `dependency-groups` in normal form (PEP 503), each once, in their
+    /// order.
     pub fn groups(&self) -> &[String]
         ensures { map string_bytes result.now ≡ self.now.head.groups }
     {

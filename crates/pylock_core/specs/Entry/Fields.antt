@@ -1,6 +1,8 @@
 -- The fields of a TOML table, each read as its form says. A table is the list of its members.
-use Rattle.std.specs.Prelude.{ℕ, Bool, false, List, [], ◌∷◌, Option, Some, None, unwrap_or, ok_or, Result, Ok, Err, if◌then◌else◌, ⊤}
-use Rattle.toml.specs.Data.{Data, Items, no_items, item, Members, as_str, as_bool, as_array, as_table}
+use Rattle.std.specs.Prelude.{ℕ, Bool, false, List, [], ◌∷◌, Option, Some, None, unwrap_or, ok_or}
+use Rattle.std.specs.Prelude.{Result, Ok, Err, if◌then◌else◌, ⊤}
+use Rattle.toml.specs.Data.{Data, Items, no_items, item, Members, as_str, as_bool, as_array}
+use Rattle.toml.specs.Data.{as_table}
 use Rattle.pyver_core.specs.Results.{◌>>=◌}
 use Rattle.pyver_core.specs.declared.set.specifier.Specifier.{Specifier}
 use Rattle.pyver_core.specs.Parsed.{parsed_set}

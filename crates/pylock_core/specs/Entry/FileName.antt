@@ -1,5 +1,7 @@
--- The file name of an sdist or a wheel (PEP 751, `packages.sdist.name`): the key `name`, which may be left out where the path or the URL ends in it. A text is the list of the bytes of its UTF-8.
-use Rattle.std.specs.Prelude.{ℕ, Bool, ◌||◌, ◌==◌, List, [], ◌∷◌, Option, Some, None, option_and_then, if◌then◌else◌}
+-- The file name of an sdist or a wheel (PEP 751, `packages.sdist.name`): the key `name`, which may
+-- be left out where the path or the URL ends in it. A text is the list of the bytes of its UTF-8.
+use Rattle.std.specs.Prelude.{ℕ, Bool, ◌||◌, ◌==◌, List, [], ◌∷◌, Option, Some, None}
+use Rattle.std.specs.Prelude.{option_and_then, if◌then◌else◌}
 use Rattle.std.specs.List.{before_first, after_last}
 use Rattle.std.specs.Str.{is_utf8}
 use Rattle.pyver_core.specs.Options.{either}
@@ -22,11 +24,14 @@ present (b ∷ bs) = Some (b ∷ bs)
 abbrev pub last_of_path : List ℕ → List ℕ
 last_of_path path = after_last ends_segment path
 
--- what stands before the fragment and the query of a URL, after its last `/` (RFC 3986, sections 3.3 to 3.5)
+-- what stands before the fragment and the query of a URL, after its last `/` (RFC 3986, sections
+-- 3.3 to 3.5)
 abbrev pub last_of_url : List ℕ → List ℕ
-last_of_url url = after_last is_slash (before_first (λ b. b == 63) (before_first (λ b. b == 35) url))
+last_of_url url =
+    after_last is_slash (before_first (λ b. b == 63) (before_first (λ b. b == 35) url))
 
--- the text with its escapes decoded (RFC 3986, section 2.1), or the text itself where the decoded bytes are not UTF-8
+-- the text with its escapes decoded (RFC 3986, section 2.1), or the text itself where the decoded
+-- bytes are not UTF-8
 abbrev pub decoded : List ℕ → List ℕ
 decoded text = if is_utf8 (percent_decode text) then percent_decode text else text
 

@@ -1,5 +1,5 @@
--- The reading of an entry (PEP 751, `packages`): its keys in order; the first that isn't of its form
--- is the entry's refusal.
+-- The reading of an entry (PEP 751, `packages`): its keys in order; the first that isn't of its
+-- form is the entry's refusal.
 use Rattle.std.specs.Prelude.{ℕ, codes, List, Option, ok_or, Result, Ok, Err}
 use Rattle.toml.specs.Data.{Data, Members, get_member, as_table}
 use Rattle.toml.specs.Parse.{parse_value}
@@ -7,7 +7,8 @@ use Rattle.pyver_core.specs.Results.{◌>>=◌}
 use Rattle.pyver_core.specs.declared.set.specifier.Specifier.{Specifier}
 use Rattle.pymark_core.specs.Marker.Reading.{MarkerValue}
 use Rattle.pylock_core.specs.Entry.{VcsValue, DirectoryValue, ArchiveValue, FileValue, EntryValue}
-use Rattle.pylock_core.specs.Entry.Fields.{present_in, optional, name_of, optional_text_in, marker_field, set_field}
+use Rattle.pylock_core.specs.Entry.Fields.{present_in, optional, name_of, optional_text_in}
+use Rattle.pylock_core.specs.Entry.Fields.{marker_field, set_field}
 use Rattle.pylock_core.specs.Entry.Sources.{vcs_of, directory_of, archive_of, file_of, files_in}
 use Rattle.pylock_core.specs.declared.field.FieldError.{FieldError}
 use Rattle.pylock_core.specs.declared.field.FieldError.TheVariants as field
@@ -57,7 +58,13 @@ sources_in vcs directory archive sdist wheels = do
   archive ← archive_in archive
   sdist ← sdist_in sdist
   wheels ← wheels_in wheels
-  Ok (record { vcs = vcs; directory = directory; archive = archive; sdist = sdist; wheels = wheels })
+  Ok (record {
+    vcs = vcs;
+    directory = directory;
+    archive = archive;
+    sdist = sdist;
+    wheels = wheels;
+  })
 
 -- ---- the whole entry
 
@@ -98,12 +105,12 @@ entry_in d = do
   name ← name_in (get_member (codes "name") members)
   version ← version_in (get_member (codes "version") members)
   sources ←
-    sources_in
-    (get_member (codes "vcs") members)
-    (get_member (codes "directory") members)
-    (get_member (codes "archive") members)
-    (get_member (codes "sdist") members)
-    (get_member (codes "wheels") members)
+      sources_in
+      (get_member (codes "vcs") members)
+      (get_member (codes "directory") members)
+      (get_member (codes "archive") members)
+      (get_member (codes "sdist") members)
+      (get_member (codes "wheels") members)
   marker ← marker_in (get_member (codes "marker") members)
   requires_python ← requires_python_in (get_member (codes "requires-python") members)
   Ok (entry_with name version sources marker requires_python)

@@ -2,8 +2,10 @@
 use Rattle.std.specs.Prelude.{ℕ, ◌||◌, codes, List, [], ◌∷◌, Option, is_some, unwrap_or, Result, Ok}
 use Rattle.toml.specs.Data.{Data, Members, no_members, member, get_member}
 use Rattle.pyver_core.specs.Results.{◌>>=◌}
-use Rattle.pylock_core.specs.Entry.{LocationValue, VcsValue, DirectoryValue, ArchiveValue, FileValue}
-use Rattle.pylock_core.specs.Entry.Fields.{required, optional, each, text_of, members_of, text_in, optional_text_in, flag_in, items_in}
+use Rattle.pylock_core.specs.Entry.{LocationValue, VcsValue, DirectoryValue, ArchiveValue}
+use Rattle.pylock_core.specs.Entry.{FileValue}
+use Rattle.pylock_core.specs.Entry.Fields.{required, optional, each, text_of, members_of, text_in}
+use Rattle.pylock_core.specs.Entry.Fields.{optional_text_in, flag_in, items_in}
 use Rattle.pylock_core.specs.declared.field.FieldError.{FieldError}
 
 -- the keys `url` and `path`, at least one of them

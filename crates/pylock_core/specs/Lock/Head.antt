@@ -1,5 +1,6 @@
 -- The head of a lock (PEP 751): its keys in order; the first that isn't of its form is the refusal.
-use Rattle.std.specs.Prelude.{ℕ, Bool, not, ◌&&◌, ◌==◌, codes, nat_eq, List, [], ◌∷◌, drop, filter, length, Option, Result, Ok, Err, ⊤}
+use Rattle.std.specs.Prelude.{ℕ, Bool, not, ◌&&◌, ◌==◌, codes, nat_eq, List, [], ◌∷◌, drop, filter}
+use Rattle.std.specs.Prelude.{length, Option, Result, Ok, Err, ⊤}
 use Rattle.std.specs.Char.{is_ascii_digit}
 use Rattle.std.specs.List.{list_all, starts_with}
 use Rattle.std.specs.Str.{bytes_eq}
@@ -8,13 +9,16 @@ use Rattle.pyver_core.specs.Results.{◌>>=◌}
 use Rattle.pyver_core.specs.declared.set.specifier.Specifier.{Specifier}
 use Rattle.pymark_core.specs.Marker.Reading.{MarkerValue}
 use Rattle.pylock_core.specs.Lock.{HeadValue}
-use Rattle.pylock_core.specs.Entry.Fields.{required, optional, each, text_in, items_in, name_of, marker_field, set_field}
+use Rattle.pylock_core.specs.Entry.Fields.{required, optional, each, text_in, items_in, name_of}
+use Rattle.pylock_core.specs.Entry.Fields.{marker_field, set_field}
 use Rattle.pylock_core.specs.declared.field.FieldError.{FieldError}
 use Rattle.pylock_core.specs.declared.field.FieldError.TheVariants as field
 use Rattle.pylock_core.specs.declared.error.LockError.{LockError}
 use Rattle.pylock_core.specs.declared.error.LockError.TheVariants as error
 use Rattle.pylock_core.specs.declared.error.HeadKey.{HeadKey}
-use Rattle.pylock_core.specs.declared.error.HeadKey.TheVariants.{Environments, RequiresPython, Extras, DependencyGroups, DefaultGroups}
+use Rattle.pylock_core.specs.declared.error.HeadKey.TheVariants.{Environments, RequiresPython}
+use Rattle.pylock_core.specs.declared.error.HeadKey.TheVariants.{Extras, DependencyGroups}
+use Rattle.pylock_core.specs.declared.error.HeadKey.TheVariants.{DefaultGroups}
 
 -- the lock's refusal for a field that has this one
 abbrev pub refusal_for : LockError → FieldError → LockError

@@ -1,6 +1,7 @@
--- The reading of a lock of version 1 (PEP 751) from the bytes of its text. Each step gives a value or
--- a refusal; the first refusal, in the order of the steps, is the lock's.
-use Rattle.std.specs.Prelude.{ℕ, codes, nat_lt, List, [], ◌∷◌, suc, Option, ok_or, Result, Ok, Err, if◌then◌else◌, ⊤}
+-- The reading of a lock of version 1 (PEP 751) from the bytes of its text. Each step gives a value
+-- or a refusal; the first refusal, in the order of the steps, is the lock's.
+use Rattle.std.specs.Prelude.{ℕ, codes, nat_lt, List, [], ◌∷◌, suc, Option, ok_or, Result, Ok, Err}
+use Rattle.std.specs.Prelude.{if◌then◌else◌, ⊤}
 use Rattle.toml.specs.Data.{Data, Items, no_items, item, Members, get_member}
 use Rattle.toml.specs.Parse.{parse_document}
 use Rattle.pyver_core.specs.Results.{◌>>=◌}
@@ -12,7 +13,8 @@ use Rattle.pylock_core.specs.Lock.Head.{or_refused, lock_version_in, created_by_
 use Rattle.pylock_core.specs.Text.{text_of}
 use Rattle.pylock_core.specs.declared.error.EntryError.{EntryError}
 use Rattle.pylock_core.specs.declared.error.LockError.{LockError}
-use Rattle.pylock_core.specs.declared.error.LockError.TheVariants.{NotText, Toml, Packages, TooMany, Entry}
+use Rattle.pylock_core.specs.declared.error.LockError.TheVariants.{NotText, Toml, Packages, TooMany}
+use Rattle.pylock_core.specs.declared.error.LockError.TheVariants.{Entry}
 
 -- ---- the list of entries (PEP 751, `packages`)
 
@@ -55,12 +57,12 @@ lock_in lock = do
   _ ← lock_version_in (get_member (codes "lock-version") lock)
   _ ← created_by_in (get_member (codes "created-by") lock)
   head ←
-    head_in
-    (get_member (codes "environments") lock)
-    (get_member (codes "requires-python") lock)
-    (get_member (codes "extras") lock)
-    (get_member (codes "dependency-groups") lock)
-    (get_member (codes "default-groups") lock)
+      head_in
+      (get_member (codes "environments") lock)
+      (get_member (codes "requires-python") lock)
+      (get_member (codes "extras") lock)
+      (get_member (codes "dependency-groups") lock)
+      (get_member (codes "default-groups") lock)
   entries ← entries_in (get_member (codes "packages") lock)
   Ok (record { head = head; entries = entries })
 

@@ -2,22 +2,23 @@
 ghost use Rattle.std.specs.Prelude.{◌≡◌, ◌==◌, ◌<◌, option_map, IfOk, string_bytes};
 ghost use Rattle.std.specs.Option.{option_copied};
 ghost use Rattle.std.specs.List.{before_first, after_last};
-ghost use Rattle.pylock_core.specs.Entry.FileName.{is_slash, ends_segment, present, last_of_path, last_of_url, decoded, file_name_of};
+ghost use Rattle.pylock_core.specs.Entry.FileName.{is_slash, ends_segment, present, last_of_path};
+ghost use Rattle.pylock_core.specs.Entry.FileName.{last_of_url, decoded, file_name_of};
 
 use percent_encoding::{DecodeError, percent_decode};
 use std::alloc::{AllocError, Global};
 
-/// The file name that the key `name` gives, else the path, else the URL. Nothing where each of them is absent or ends
-/// in an empty name.
+/// The file name that the key `name` gives, else the path, else the URL. Nothing where each of them
+/// is absent or ends in an empty name.
 pub(crate) fn file_name(
     alloc: Global,
     name: Option<&str>,
     path: Option<&str>,
     url: Option<&str>,
 ) -> Result<Option<String>, AllocError>
-    ensures { IfOk result
-        (λ file. option_map string_bytes file
-        ≡ file_name_of (option_copied name.entry) (option_copied path.entry) (option_copied url.entry)) }
+    ensures { IfOk result (λ file. option_map string_bytes file
+        ≡ file_name_of (option_copied name.entry) (option_copied path.entry)
+        (option_copied url.entry)) }
 {
     let written = name.and_then(present).or(path.and_then(path_file_name));
     match (written, url) {
@@ -35,7 +36,8 @@ fn path_file_name(path: &str) -> Option<&str>
 
 /// The last segment of the URL's path, percent-decoded where the decoded bytes are text.
 fn url_file_name(alloc: Global, url: &str) -> Result<Option<String>, AllocError>
-    ensures { IfOk result (λ file. option_map string_bytes file ≡ present (decoded (last_of_url url.now))) }
+    ensures { IfOk result
+        (λ file. option_map string_bytes file ≡ present (decoded (last_of_url url.now))) }
 {
     let name = decoded(alloc, last_of_url(url))?;
     Ok(if name.is_empty() { None } else { Some(name) })

@@ -23,7 +23,10 @@ impl Model for Location {
 
     ghost Value = { LocationValue };
 
-    ghost view = { λ l. record { url = option_map string_bytes l.url; path = option_map string_bytes l.path } };
+    ghost view = { λ l. record {
+      url = option_map string_bytes l.url;
+      path = option_map string_bytes l.path;
+    } };
 }
 
 impl Location {

@@ -2,7 +2,8 @@
 ghost use Rattle.std.specs.Prelude.{◌≡◌, option_map};
 ghost use Rattle.toml.specs.View.{view};
 ghost use Rattle.pyver_core.specs.Agreement.{Gives};
-ghost use Rattle.pylock_core.specs.Entry.Reading.{refusal_for, vcs_in, directory_in, archive_in, sdist_in, wheels_in, sources_in};
+ghost use Rattle.pylock_core.specs.Entry.Reading.{refusal_for, vcs_in, directory_in, archive_in};
+ghost use Rattle.pylock_core.specs.Entry.Reading.{sdist_in, wheels_in, sources_in};
 
 use crate::entry::archive::Archive;
 use crate::entry::directory::Directory;
@@ -96,10 +97,7 @@ fn read_directory(field: Option<Value>) -> Result<Option<Directory>, EntryError>
     }
 }
 
-fn read_archive(
-    alloc: Global,
-    field: Option<Value>,
-) -> Result<Option<Archive>, EntryError>
+fn read_archive(alloc: Global, field: Option<Value>) -> Result<Option<Archive>, EntryError>
     ensures { Gives EntryError.Memory (λ a. a) result (archive_in (option_map view field)) }
 {
     match field {
@@ -111,10 +109,7 @@ fn read_archive(
     }
 }
 
-fn read_sdist(
-    alloc: Global,
-    field: Option<Value>,
-) -> Result<Option<Sdist>, EntryError>
+fn read_sdist(alloc: Global, field: Option<Value>) -> Result<Option<Sdist>, EntryError>
     ensures { Gives EntryError.Memory (λ s. s) result (sdist_in (option_map view field)) }
 {
     match field {

@@ -87,7 +87,12 @@ impl Vcs {
         let commit_id = text(fields.commit_id)?;
         let location = Location::read(fields.url, fields.path)?;
         let subdirectory = optional_text(fields.subdirectory)?;
-        Ok(Vcs { kind, commit_id, location, subdirectory })
+        Ok(Vcs {
+            kind,
+            commit_id,
+            location,
+            subdirectory,
+        })
     }
 }
 

@@ -4,7 +4,8 @@ ghost use Rattle.std.specs.Option.{option_copied};
 ghost use Rattle.toml.specs.View.{view, items_view};
 ghost use Rattle.pyver_core.specs.Agreement.{Gives};
 ghost use Rattle.pylock_core.specs.Entry.Fields.{each, marker_field, name_of, set_field};
-ghost use Rattle.pylock_core.specs.Lock.Head.{refusal_for, names_in, markers_in, environments_in, requires_python_in, head_names_in, head_in};
+ghost use Rattle.pylock_core.specs.Lock.Head.{refusal_for, names_in, markers_in, environments_in};
+ghost use Rattle.pylock_core.specs.Lock.Head.{requires_python_in, head_names_in, head_in};
 
 use crate::conditions::{read_marker, read_set};
 use crate::error::{HeadKey, LockError};

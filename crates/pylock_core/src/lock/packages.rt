@@ -3,7 +3,8 @@ ghost use Rattle.std.specs.Prelude.{◌≡◌, ◌≤◌, IfOk, OnOk, length, op
 ghost use Rattle.toml.specs.View.{view, items_view};
 ghost use Rattle.pyver_core.specs.Agreement.{Gives};
 ghost use Rattle.pylock_core.specs.Entry.Reading.{entry_in};
-ghost use Rattle.pylock_core.specs.Lock.Reading.{at_place, entries_in, entries_of, packages_in, room_for};
+ghost use Rattle.pylock_core.specs.Lock.Reading.{at_place, entries_in, entries_of, packages_in};
+ghost use Rattle.pylock_core.specs.Lock.Reading.{room_for};
 
 use crate::conditions::Conditions;
 use crate::entry::{Entry, read_entry};

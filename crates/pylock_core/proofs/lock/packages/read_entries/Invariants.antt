@@ -8,7 +8,7 @@ use Rattle.pylock_core.proofs.lock.packages.read_entries.Given as goal
 abbrev pub invariant-loop-value : goal.invariant-loop-value
 invariant-loop-value l = record {
   gives :
-    after_front l.entries.items (entries_of (vec_len l.entries + 1) (items_view l.value-iterator.rest.items))
-    ≡ entries_of 1 (items_view l.fn.values.items);
+      after_front l.entries.items (entries_of (vec_len l.entries + 1) (items_view l.value-iterator.rest.items))
+      ≡ entries_of 1 (items_view l.fn.values.items);
   len : vec_len l.entries + length l.value-iterator.rest.items ≡ vec_len l.fn.values;
 }

@@ -1,0 +1,7 @@
+//! Worked examples of locks, entries and environments.
+
+mod entries;
+mod environments;
+mod growths;
+mod locks;
+mod sources;
