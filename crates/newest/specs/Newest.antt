@@ -1,5 +1,6 @@
 -- The newest of the versions that a specifier set admits.
-use Rattle.std.specs.Prelude.{◌≡◌, ◌&&◌, if◌then◌else◌, true, false, List, Option, Some, None, All, Contains}
+use Rattle.std.specs.Prelude.{◌≡◌, ◌&&◌, if◌then◌else◌, true, false, List, Option, Some, None, All}
+use Rattle.std.specs.Prelude.{Contains}
 use Rattle.pyver_core.specs.Set.Admission.{admits_all}
 use Rattle.pyver_core.specs.Version.Order.{before, is_before}
 use Rattle.pyver_core.specs.Version.Parts.{Parts}

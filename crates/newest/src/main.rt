@@ -1,4 +1,4 @@
-//! Prints the newest of the given versions that a specifier set admits, or `none`: `newest SET VERSION..`.
+//! `newest SET VERSION..` prints the newest of the versions that a specifier set admits, or `none`.
 #![tactic(auto)]
 
 ghost use Rattle.std.specs.Prelude.{◌≡◌};
@@ -11,7 +11,7 @@ use std::env;
 const USAGE: &str =
     "newest SET VERSION..    the newest of the versions that the set admits, or `none`\n";
 
-/// The newest of the versions that the set admits, the first of equal ones; `None` where it admits none.
+/// The newest of the versions that the set admits, or `None` where it admits none.
 fn newest<'a>(versions: &'a [Version], set: &SpecifierSet) -> Option<&'a Version>
     ensures { PicksNewest set.now versions.now (option_copied result) }
 {

@@ -1,4 +1,5 @@
--- What serves private contracts and the laws of traits alone: no public contract rests on its wording.
+-- What serves private contracts and the laws of traits alone: no public contract rests on its
+-- wording.
 pub mod Draft
 pub mod EqualityLaws
 pub mod HashLaws

@@ -1,4 +1,5 @@
 pub mod Agreement
+pub mod Digits
 pub mod Inner
 pub mod Name
 pub mod Options

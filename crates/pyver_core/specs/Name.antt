@@ -1,5 +1,6 @@
 -- Names (PEP 508, "Names") and their normal form (PEP 503, "Normalized Names").
-use Rattle.std.specs.Prelude.{ℕ, ◌-◌, ◌&&◌, ◌||◌, Bool, false, if◌then◌else◌, List, [], ◌∷◌, length, slice_get, Option, option_map, unwrap_or}
+use Rattle.std.specs.Prelude.{ℕ, ◌-◌, ◌&&◌, ◌||◌, Bool, false, if◌then◌else◌, List, [], ◌∷◌, length}
+use Rattle.std.specs.Prelude.{slice_get, Option, option_map, unwrap_or}
 use Rattle.std.specs.Char.{is_ascii_alphanumeric, to_ascii_lowercase}
 use Rattle.std.specs.List.{list_all}
 use Rattle.pyver_core.specs.Version.Grammar.{is_separator, starts}
@@ -12,12 +13,14 @@ is_name_byte b = is_ascii_alphanumeric b || is_separator b
 abbrev pub is_name_end : Option ℕ → Bool
 is_name_end byte = unwrap_or (option_map is_ascii_alphanumeric byte) false
 
--- a name: one or more ASCII letters, digits and separators, of which the first and the last are no separators
+-- a name: one or more ASCII letters, digits and separators, of which the first and the last are no
+-- separators
 abbrev pub is_name : List ℕ → Bool
-is_name text = list_all is_name_byte text && (is_name_end (slice_get text 0) && is_name_end (slice_get text (length text - 1)))
+is_name text = list_all is_name_byte text
+    && (is_name_end (slice_get text 0) && is_name_end (slice_get text (length text - 1)))
 
--- the normal form of any text: each longest run of separators becomes one `-`, that is, the last of a run
--- becomes `-` and the others go; ASCII letters become lower case, and every other byte stays
+-- the normal form of any text: each longest run of separators becomes one `-`, that is, the last of
+-- a run becomes `-` and the others go; ASCII letters become lower case, and every other byte stays
 unfoldable pub norm : List ℕ → List ℕ
 norm [] = []
 norm (b ∷ rest) =

@@ -1,12 +1,11 @@
--- What a text is read as: the one thing that it spells, or the reason why it is refused. A text that follows no
--- grammar is refused for that, and only then one with a number past the limit.
+-- What a text is read as: the one thing that it spells, or the reason why it is refused. A text
+-- that follows no grammar is refused for that, and only then one with a number past the limit.
 use Rattle.std.specs.Prelude.{ℕ, if◌then◌else◌, List, Result, Ok, Err, ok_or}
-use Rattle.std.specs.List.{flat_map}
 use Rattle.pyver_core.specs.Version.Grammar.{has_large, numbers}
 use Rattle.pyver_core.specs.Version.Parts.{Parts}
 use Rattle.pyver_core.specs.Version.Reading.{version_of}
 use Rattle.pyver_core.specs.Results.{◌>>=◌}
-use Rattle.pyver_core.specs.Set.Grammar.{specifier_numbers}
+use Rattle.pyver_core.specs.Set.Grammar.{set_numbers, specifier_numbers}
 use Rattle.pyver_core.specs.Set.Reading.{operand_of, set_of}
 use Rattle.pyver_core.specs.declared.set.error.SpecifierError.{SpecifierError}
 use Rattle.pyver_core.specs.declared.set.error.SpecifierError.TheVariants as specifier
@@ -35,4 +34,4 @@ parsed_operand operator text = do
 unfoldable pub parsed_set : List ℕ → Result (List Specifier) SpecifierError
 parsed_set text = do
   specifiers ← ok_or (set_of text) specifier.Syntax
-  within_limit specifier.NumberTooLarge (flat_map specifier_numbers specifiers) specifiers
+  within_limit specifier.NumberTooLarge (set_numbers specifiers) specifiers

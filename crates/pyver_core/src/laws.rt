@@ -10,7 +10,9 @@ ghost use Rattle.pyver_core.specs.Name.{norm};
 ghost use Rattle.pyver_core.specs.Version.Normal.{normal};
 ghost use Rattle.pyver_core.specs.Version.Order.{version_cmp};
 ghost use Rattle.pyver_core.specs.Version.Reading.{version_of};
+ghost use Rattle.pyver_core.specs.Set.Equality.{set_eq, specifier_eq};
 ghost use Rattle.pyver_core.specs.Set.Grammar.{SetText};
+ghost use Rattle.pyver_core.specs.Set.Normal.{set_text, specifier_text};
 ghost use Rattle.pyver_core.specs.declared.set.specifier.Specifier.{Specifier};
 
 /// A text spells at most one version, and so does the normal form of what it spells: the same one
@@ -30,8 +32,8 @@ pub fn version_of_is_complete()
     ensures { (text : List ℕ) (p : Parts) → Spells text p → version_of text ≡ Some p }
 {}
 
-/// [`Version::from_parts`](crate::Version::from_parts) takes the parts that a text spells, and no others; and
-/// their normal form is such a text.
+/// [`Version::from_parts`](crate::Version::from_parts) takes the parts that a text spells, and no
+/// others; and their normal form is such a text.
 pub fn parts_have_a_spelling()
     ensures made { (p v : Parts) → version_from p ≡ Ok v → (v ≡ p) × Spells (normal p) p }
     ensures spelt { (text : List ℕ) (p : Parts) → Spells text p → version_from p ≡ Ok p }
@@ -42,14 +44,21 @@ pub fn one_specifier_set()
     ensures { (text : List ℕ) (s t : List Specifier) → SetText text s → SetText text t → s ≡ t }
 {}
 
+/// Specifiers and sets that are equal as they are written have the same normal form.
+pub fn equal_ones_print_alike()
+    ensures specifiers { (s t : Specifier) → specifier_eq s t ≡ true
+        → specifier_text s ≡ specifier_text t }
+    ensures sets { (s t : List Specifier) → set_eq s t ≡ true → set_text s ≡ set_text t }
+{}
+
 /// Zeros at the end of a release make no difference to the order of versions.
 pub fn trailing_zeros_are_no_difference()
     ensures { (v w : Parts) (n : ℕ)
         → version_cmp (record v { release = v.release ++ replicate n 0 }) w ≡ version_cmp v w }
 {}
 
-/// The normal form of a name, read from the left: a run of separators that no separator follows is one
-/// `-`, and any other byte is itself in lower case.
+/// The normal form of a name, read from the left: a run of separators that no separator follows is
+/// one `-`, and any other byte is itself in lower case.
 pub fn runs_become_one_dash()
     ensures empty { norm [] ≡ [] }
     ensures run { (b : ℕ) (run rest : List ℕ) → list_all is_separator (b ∷ run) ≡ true

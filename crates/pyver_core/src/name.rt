@@ -8,8 +8,8 @@ ghost use Rattle.pyver_core.specs.Name.{is_name, is_name_byte, is_name_end, norm
 
 use std::alloc::{AllocError, Global};
 
-/// Whether the text is a name: one or more ASCII letters, digits, `.`, `_` and `-`, first and last a
-/// letter or a digit. It takes no memory.
+/// Whether the text is a name: one or more ASCII letters, digits, `.`, `_` and `-`, first and last
+/// a letter or a digit. It takes no memory.
 pub fn is_name(text: &str) -> bool
     ensures { result ≡ is_name text.now }
 {
@@ -36,7 +36,8 @@ fn is_name_end(byte: Option<&u8>) -> bool
 }
 
 /// The normal form of any text: each longest run of `.`, `_` and `-` becomes one `-`, ASCII letters
-/// become lower case, and other characters stay. It takes the memory of one text as long as the given one.
+/// become lower case, and other characters stay. It takes the memory of one text as long as the
+/// given one.
 pub fn normal_name(alloc: Global, text: &str) -> Result<String, AllocError>
     ensures { IfOk result (λ name. string_bytes name ≡ norm text.now) }
 {

@@ -23,8 +23,8 @@ pub use specifier::{Operator, ReleasePrefix, Specifier};
 use std::alloc::{AllocError, Global};
 use std::marker::Model;
 
-/// Specifiers that all have to hold, kept in the order in which they were written, with their normal
-/// form. The empty set admits every version.
+/// Specifiers that all have to hold, kept in the order in which they were written, with their
+/// normal form. The empty set admits every version.
 ///
 /// Contracts see the list of the specifiers, since the normal form follows from it.
 #[derive(Debug, Drop)]

@@ -1,12 +1,11 @@
 -- The pass over the wheels, a step at a time.
-use Rattle.std.proofs.Common.{◌≡◌, ℕ, suc, ◌+◌, ◌<◌, ◌≤◌, List, [], ◌∷◌, length, drop, map, slice_index_or, Option, Some, None, Result, Ok, Err, Bor, refl, sym, ap, ◌∙◌, arith}
+use Rattle.std.proofs.Common.{◌≡◌, ℕ, suc, ◌+◌, ◌<◌, ◌≤◌, List, length, drop, map, slice_index_or, Option, Ok, Bor, ap, ◌∙◌, arith}
 use Rattle.std.proofs.lemmas.List.{drop_more}
 use Rattle.std.proofs.lemmas.List.{drop_all}
 use Rattle.pyver_core.specs.Results.{◌>>=◌}
 use Rattle.pywheel_core.specs.Choice.{Ranked, best_from, better, least_rank, rank_from, ranked}
 use Rattle.pywheel_core.specs.Tag.{TagValue, at_place, rank_of, tag_of, tags_after, with_tag}
 use Rattle.pywheel_core.specs.Wheel.Value.{WheelValue}
-use Rattle.pywheel_core.specs.declared.error.TagListError.{TagListError}
 
 pub rank_step : (rank : Option ℕ) (own tags : List TagValue) (i : ℕ) (d : TagValue) → i < length own
     → rank_from rank (drop i own) tags ≡ rank_from (least_rank rank (rank_of (slice_index_or own i d) tags)) (drop (i + 1) own) tags

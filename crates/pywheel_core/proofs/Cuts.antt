@@ -1,5 +1,5 @@
 -- Texts cut at a byte: what std's words say, in the words of `cut_at` and `pieces_at`.
-use Rattle.std.proofs.Common.{◌≡◌, ◌↔◌, ℕ, suc, ◌+◌, ◌-◌, ◌<◌, Bool, true, false, ◌==◌, ◌&&◌, ◌||◌, ◌⊎◌, bytes_eq, codes, cond, List, [], ◌∷◌, ◌++◌, length, take, drop, Option, Some, None, option_map, MatchOption, Bor, refl, sym, subst, ap, ◌∙◌, inl, inr, arith}
+use Rattle.std.proofs.Common.{◌≡◌, ◌↔◌, ℕ, suc, ◌+◌, ◌-◌, ◌<◌, Bool, true, false, ◌==◌, ◌&&◌, ◌||◌, ◌⊎◌, bytes_eq, codes, List, [], ◌∷◌, ◌++◌, length, take, drop, Option, Some, None, option_map, MatchOption, Bor, refl, sym, subst, ap, ◌∙◌, inl, inr, arith}
 use Rattle.std.proofs.Math.Bool.{and-true, true≢false}
 use Rattle.std.proofs.lemmas.Bool.Decides.{Decides-eqb}
 use Rattle.std.proofs.lemmas.List.{append_assoc, append_cancel_left, take-append-drop}
@@ -10,8 +10,8 @@ use Rattle.std.proofs.lemmas.List.{length-append}
 use Rattle.std.specs.Cmp.Lexicographic.{bytes_decides}
 use Rattle.std.specs.Str.Iter.{HasSubslice}
 use Rattle.std.specs.Str.Pattern.{FindsTextSuffix, StripsSuffix}
-use Rattle.std.specs.List.{All, after_first, before_first, list_any, position_or_len, slice_split}
-use Rattle.pyver_core.proofs.Sight.{option_sight, sight}
+use Rattle.std.specs.List.{All, after_first, before_first, list_any, position_or_len}
+use Rattle.pyver_core.proofs.Lemmas.Sight.{option_sight, sight}
 use Rattle.pywheel_core.specs.Texts.{before_cut, begins_with, cut_at, has_pair, pieces_at}
 use Rattle.pywheel_core.specs.Inner.Places.{places_from}
 use Rattle.pywheel_core.specs.Tag.{are_tag_parts, is_tag_part, pieces}
@@ -26,14 +26,16 @@ cut-first c (b ∷ s) h =
     let one : suc n ≡ 1 + n = omega arith in
     let two : suc (n + 1) ≡ 1 + n + 1 = omega arith in
     elim (sight (b == c)) [
-    | inl e ↦ rw e refl
-    | inr e ↦ let h2 = rw e at h in rw e (ap (option_map (before_cut b)) (cut-first c s (omega (arith, h2))) ∙ (λ i. Some (take (one i) (b ∷ s), drop (two i) (b ∷ s)))) ]
+      | inl e ↦ rw e refl
+      | inr e ↦ let h2 = rw e at h in rw e (ap (option_map (before_cut b)) (cut-first c s (omega (arith, h2))) ∙ (λ i. Some (take (one i) (b ∷ s), drop (two i) (b ∷ s))))
+    ]
 
 pub cut-none : (c : ℕ) (s : List ℕ) → position_or_len (λ b. b == c) s ≡ length s → cut_at c s ≡ None
 cut-none c [] h = refl
 cut-none c (b ∷ s) h = elim (sight (b == c)) [
-    | inl e ↦ let h2 = rw e at h in absurd (omega (arith, h2))
-    | inr e ↦ let h2 = rw e at h in rw e (ap (option_map (before_cut b)) (cut-none c s (omega (arith, h2)))) ]
+  | inl e ↦ let h2 = rw e at h in absurd (omega (arith, h2))
+  | inr e ↦ let h2 = rw e at h in rw e (ap (option_map (before_cut b)) (cut-none c s (omega (arith, h2))))
+]
 
 -- what `split_once` answers
 pub split_once_is : (c : ℕ) (s : List ℕ) (r : Option (Bor (List ℕ) × Bor (List ℕ)))
@@ -51,8 +53,9 @@ unfolding stem_of
 stem_is s None h =
     let m = length s - 4 in
     elim (sight (bytes_eq (drop m s) (codes ".whl"))) [
-    | inl e ↦ absurd (h (take m s) (sym (take-append-drop m s) ∙ ap (λ l. take m s ++ l) ((bytes_decides (drop m s) (codes ".whl")).0 e)))
-    | inr e ↦ rw e refl ]
+      | inl e ↦ absurd (h (take m s) (sym (take-append-drop m s) ∙ ap (λ l. take m s ++ l) ((bytes_decides (drop m s) (codes ".whl")).0 e)))
+      | inr e ↦ rw e refl
+    ]
 stem_is s (Some x) h =
     let m = length s - 4 in
     let whole : s ≡ take m s ++ codes ".whl" = subst (λ k. s ≡ take (length s - k) s ++ codes ".whl") h.1.0 h.1.1 in
@@ -86,9 +89,10 @@ starts_with_it c (b ∷ s) h = (s, ap (λ x. x ∷ s) ((Decides-eqb b c).0 h))
 pair_stands : (c : ℕ) (s : List ℕ) → has_pair c s ≡ true → HasSubslice s (c ∷ (c ∷ []))
 pair_stands c [] h = absurd (true≢false (sym h))
 pair_stands c (b ∷ s) h = elim (or_cases ((b == c) && begins_with c s) (has_pair c s) h) [
-    | inl e ↦ let p = and_both (b == c) (begins_with c s) e in let r = starts_with_it c s p.1 in
-        ([], r.0, (λ i. (Decides-eqb b c).0 p.0 i ∷ r.1 i))
-    | inr e ↦ let x = pair_stands c s e in (b ∷ x.0, x.1, ap (λ l. b ∷ l) x.2) ]
+  | inl e ↦ let p = and_both (b == c) (begins_with c s) e in let r = starts_with_it c s p.1 in
+      ([], r.0, (λ i. (Decides-eqb b c).0 p.0 i ∷ r.1 i))
+  | inr e ↦ let x = pair_stands c s e in (b ∷ x.0, x.1, ap (λ l. b ∷ l) x.2)
+]
 
 stands_pair : (c : ℕ) (front back : List ℕ) → has_pair c (front ++ (c ∷ (c ∷ back))) ≡ true
 stands_pair c [] back = let e : (c == c) ≡ true = (Decides-eqb c c).1 refl in rw e refl
@@ -111,26 +115,30 @@ lacks_more c b s e h = rw e h
 pub cut_says : (c : ℕ) (s x y : List ℕ) → cut_at c s ≡ Some (x, y) → (s ≡ x ++ (c ∷ y)) × Lacks c x
 cut_says c [] x y h = absurd cc
 cut_says c (b ∷ s) x y h = elim (sight (b == c)) [
-    | inl e ↦ let q : Some ([], s) ≡ Some (x, y) = rw e at h in
-        let p : ([], s) ≡ (x, y) = same_Some ([], s) (x, y) q in
-        let front : [] ≡ x = ap (λ r. r.0) p in let back : s ≡ y = ap (λ r. r.1) p in
-        ((λ i. front i ++ ((Decides-eqb b c).0 e i ∷ back i)), subst (λ l. Lacks c l) front refl)
-    | inr e ↦ let q : option_map (before_cut b) (cut_at c s) ≡ Some (x, y) = rw e at h in
-        elim (option_sight (cut_at c s)) [
+  | inl e ↦ let q : Some ([], s) ≡ Some (x, y) = rw e at h in
+      let p : ([], s) ≡ (x, y) = same_Some ([], s) (x, y) q in
+      let front : [] ≡ x = ap (λ r. r.0) p in let back : s ≡ y = ap (λ r. r.1) p in
+      ((λ i. front i ++ ((Decides-eqb b c).0 e i ∷ back i)), subst (λ l. Lacks c l) front refl)
+  | inr e ↦ let q : option_map (before_cut b) (cut_at c s) ≡ Some (x, y) = rw e at h in
+      elim (option_sight (cut_at c s)) [
         | inl none ↦ absurd (let z : None ≡ Some (x, y) = sym (ap (option_map (before_cut b)) none) ∙ q in cc)
         | inr some ↦ let p : (b ∷ some.0.0, some.0.1) ≡ (x, y) = same_Some (b ∷ some.0.0, some.0.1) (x, y) (sym (ap (option_map (before_cut b)) some.1) ∙ q) in
             let front : b ∷ some.0.0 ≡ x = ap (λ r. r.0) p in let back : some.0.1 ≡ y = ap (λ r. r.1) p in
             let rest = cut_says c s some.0.0 some.0.1 some.1 in
-            (ap (λ l. b ∷ l) rest.0 ∙ (λ i. front i ++ (c ∷ back i)), subst (λ l. Lacks c l) front (lacks_more c b some.0.0 e rest.1)) ] ]
+            (ap (λ l. b ∷ l) rest.0 ∙ (λ i. front i ++ (c ∷ back i)), subst (λ l. Lacks c l) front (lacks_more c b some.0.0 e rest.1))
+      ]
+]
 
 pub no_cut_says : (c : ℕ) (s : List ℕ) → cut_at c s ≡ None → Lacks c s
 no_cut_says c [] h = refl
 no_cut_says c (b ∷ s) h = elim (sight (b == c)) [
-    | inl e ↦ absurd (let q : Some ([], s) ≡ None = rw e at h in cc)
-    | inr e ↦ let q : option_map (before_cut b) (cut_at c s) ≡ None = rw e at h in
-        elim (option_sight (cut_at c s)) [
+  | inl e ↦ absurd (let q : Some ([], s) ≡ None = rw e at h in cc)
+  | inr e ↦ let q : option_map (before_cut b) (cut_at c s) ≡ None = rw e at h in
+      elim (option_sight (cut_at c s)) [
         | inl none ↦ lacks_more c b s e (no_cut_says c s none)
-        | inr some ↦ absurd (let z : Some (b ∷ some.0.0, some.0.1) ≡ None = sym (ap (option_map (before_cut b)) some.1) ∙ q in cc) ] ]
+        | inr some ↦ absurd (let z : Some (b ∷ some.0.0, some.0.1) ≡ None = sym (ap (option_map (before_cut b)) some.1) ∙ q in cc)
+      ]
+]
 
 -- and the other way round
 or_false_left : (x y : Bool) → (x || y) ≡ false → x ≡ false

@@ -1,5 +1,7 @@
 pub mod Best
 pub mod Choosing
 pub mod Cuts
+pub mod Naming
+pub mod NamingParts
 pub mod Pieces
 pub mod Versions

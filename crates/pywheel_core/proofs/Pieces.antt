@@ -1,8 +1,8 @@
 -- Where the parts of a tag set and their pieces stand in its text.
-use Rattle.std.proofs.Common.{◌≡◌, ℕ, ◌+◌, ◌*◌, ◌-◌, ◌<◌, ◌≤◌, Bool, true, false, ◌==◌, ◌&&◌, List, [], ◌∷◌, ◌++◌, length, map, take, drop, Option, Some, None, Result, Ok, refl, sym, ap, subst, ◌∙◌, inl, inr, arith}
+use Rattle.std.proofs.Common.{◌≡◌, ℕ, ◌+◌, ◌*◌, ◌-◌, ◌≤◌, true, ◌==◌, ◌&&◌, List, [], ◌∷◌, ◌++◌, length, map, take, drop, Some, None, Result, Ok, refl, sym, ap, subst, ◌∙◌, inl, inr, arith}
 use Rattle.std.specs.Char.{is_ascii}
 use Rattle.std.specs.Str.{str_to_ascii_lowercase}
-use Rattle.std.specs.List.{All, flat_map, join_with_byte, list_all, slice_split}
+use Rattle.std.specs.List.{flat_map, join_with_byte, list_all}
 use Rattle.std.proofs.Math.Seq.{drop-append_seam, take-append_seam}
 use Rattle.std.proofs.lemmas.Bool.Decides.{nat_tests}
 use Rattle.std.proofs.Math.Nat.{le-mul_of_pos_right, mul_comm}
@@ -12,9 +12,9 @@ use Rattle.std.proofs.lemmas.Simd.{map-map}
 use Rattle.std.proofs.lemmas.List.Elements.{All-cons}
 use Rattle.std.proofs.lemmas.List.Folds.{flat_map-map, list_all-append}
 use Rattle.std.proofs.lemmas.List.Splits.{join_with_byte-slice_split, length-slice_split}
-use Rattle.pyver_core.proofs.Sight.{option_sight, sight}
+use Rattle.pyver_core.proofs.Lemmas.Sight.{option_sight}
 use Rattle.pywheel_core.specs.Inner.Places.{AreWithin, IsAsciiText, IsWithin, at, places_from, places_of, tag_at}
-use Rattle.pywheel_core.specs.Tag.{TagParts, are_tag_parts, has_tag_parts, is_tag, is_tag_byte, is_tag_part, is_tag_set, pieces, tag_count, tag_of, tag_with, tags_in, triples}
+use Rattle.pywheel_core.specs.Tag.{TagParts, are_tag_parts, has_tag_parts, is_tag, is_tag_byte, is_tag_part, is_tag_set, pieces, tag_of, tag_with, tags_in, triples}
 use Rattle.pywheel_core.specs.Texts.{cut_at, three_parts}
 use Rattle.pywheel_core.specs.declared.error.WheelError.{WheelError}
 use Rattle.pywheel_core.specs.declared.place.Place.{Place}
@@ -38,18 +38,20 @@ pub pieces_stand : (text front : List ℕ) (ps : List (List ℕ)) (back : List �
     → text ≡ front ++ (join_with_byte 46 ps ++ back)
     → (map (at text) (places_from start ps) ≡ ps) × AreWithin text (places_from start ps)
 pieces_stand text front [] back start e h = (refl, λ k d l. absurd (omega arith))
-pieces_stand text front (p ∷ []) back start e h =
-    (ap (λ x. x ∷ []) (at_front text front p back start e h),
-    All-cons (IsWithin text) (record { start = start; end = start + length p }) [] (within_front text front p back start e h) (λ k d l. absurd (omega arith)))
+pieces_stand text front (p ∷ []) back start e h = (
+  ap (λ x. x ∷ []) (at_front text front p back start e h),
+  All-cons (IsWithin text) (record { start = start; end = start + length p }) [] (within_front text front p back start e h) (λ k d l. absurd (omega arith)),
+)
 pieces_stand text front (p ∷ (q ∷ ps)) back start e h =
     let rest = join_with_byte 46 (q ∷ ps) in
     let whole : text ≡ front ++ (p ++ ((46 ∷ rest) ++ back)) = h ∙ ap (λ l. front ++ l) (append_assoc p (46 ∷ rest) back) in
     let further : text ≡ (front ++ (p ++ (46 ∷ []))) ++ (rest ++ back) =
     whole ∙ (ap (λ l. front ++ l) (sym (append_assoc p (46 ∷ []) (rest ++ back))) ∙ sym (append_assoc front (p ++ (46 ∷ [])) (rest ++ back))) in
     let n : length (front ++ (p ++ (46 ∷ []))) ≡ length front + (length p + 1) = length-append front (p ++ (46 ∷ [])) ∙ ap (λ k. length front + k) (length-append p (46 ∷ [])) in
-    let others = pieces_stand text (front ++ (p ++ (46 ∷ []))) (q ∷ ps) back (start + length p + 1) (omega (arith, n, e)) further in
-    ((λ i. at_front text front p ((46 ∷ rest) ++ back) start e whole i ∷ others.0 i),
-    All-cons (IsWithin text) (record { start = start; end = start + length p }) (places_from (start + length p + 1) (q ∷ ps)) (within_front text front p ((46 ∷ rest) ++ back) start e whole) others.1)
+    let others = pieces_stand text (front ++ (p ++ (46 ∷ []))) (q ∷ ps) back (start + length p + 1) (omega (arith, n, e)) further in (
+      (λ i. at_front text front p ((46 ∷ rest) ++ back) start e whole i ∷ others.0 i),
+      All-cons (IsWithin text) (record { start = start; end = start + length p }) (places_from (start + length p + 1) (q ∷ ps)) (within_front text front p ((46 ∷ rest) ++ back) start e whole) others.1,
+    )
 
 -- the pieces of a part that stands in the text
 pub part_stands : (text front part back : List ℕ) (start : ℕ) → start ≡ length front → text ≡ front ++ (part ++ back)
@@ -68,18 +70,21 @@ pub three_say : (c : ℕ) (text : List ℕ) (s : TagParts) → three_parts c tex
     → (text ≡ s.0 ++ (c ∷ (s.1 ++ (c ∷ s.2)))) × Lacks c s.0 × Lacks c s.1 × Lacks c s.2
 unfolding three_parts
 three_say c text s h = elim (option_sight (cut_at c text)) [
-    | inl none ↦ absurd (let z : None ≡ Some s = rw none at h in cc)
-    | inr f ↦ let h2 = rw f.1 at h in elim (option_sight (cut_at c f.0.1)) [
-        | inl none ↦ absurd (let z : None ≡ Some s = rw none at h2 in cc)
-        | inr g ↦ let h3 = rw g.1 at h2 in elim (option_sight (cut_at c g.0.1)) [
-            | inl none ↦
-                let z : Some (f.0.0, g.0.0, g.0.1) ≡ Some s = rw none at h3 in
-                let p : (f.0.0, g.0.0, g.0.1) ≡ s = same_Some (f.0.0, g.0.0, g.0.1) s z in
-                let first = cut_says c text f.0.0 f.0.1 f.1 in
-                let second = cut_says c f.0.1 g.0.0 g.0.1 g.1 in
-                subst (λ x. (text ≡ x.0 ++ (c ∷ (x.1 ++ (c ∷ x.2)))) × Lacks c x.0 × Lacks c x.1 × Lacks c x.2) p
-                    (first.0 ∙ ap (λ l. f.0.0 ++ (c ∷ l)) second.0, first.1, second.1, no_cut_says c g.0.1 none)
-            | inr more ↦ absurd (let z : None ≡ Some s = rw more.1 at h3 in cc) ] ] ]
+  | inl none ↦ absurd (let z : None ≡ Some s = rw none at h in cc)
+  | inr f ↦ let h2 = rw f.1 at h in elim (option_sight (cut_at c f.0.1)) [
+    | inl none ↦ absurd (let z : None ≡ Some s = rw none at h2 in cc)
+    | inr g ↦ let h3 = rw g.1 at h2 in elim (option_sight (cut_at c g.0.1)) [
+      | inl none ↦
+          let z : Some (f.0.0, g.0.0, g.0.1) ≡ Some s = rw none at h3 in
+          let p : (f.0.0, g.0.0, g.0.1) ≡ s = same_Some (f.0.0, g.0.0, g.0.1) s z in
+          let first = cut_says c text f.0.0 f.0.1 f.1 in
+          let second = cut_says c f.0.1 g.0.0 g.0.1 g.1 in
+          subst (λ x. (text ≡ x.0 ++ (c ∷ (x.1 ++ (c ∷ x.2)))) × Lacks c x.0 × Lacks c x.1 × Lacks c x.2) p
+          (first.0 ∙ ap (λ l. f.0.0 ++ (c ∷ l)) second.0, first.1, second.1, no_cut_says c g.0.1 none)
+      | inr more ↦ absurd (let z : None ≡ Some s = rw more.1 at h3 in cc)
+    ]
+  ]
+]
 
 -- ---- ASCII
 
@@ -135,9 +140,11 @@ three_stand text s h =
     ∙ ap (λ l. ((s.0 ++ (45 ∷ [])) ++ (s.1 ++ (45 ∷ []))) ++ l) (sym (append-nil s.2)))) in
     let n : length (s.0 ++ (45 ∷ [])) ≡ length s.0 + 1 = length-append s.0 (45 ∷ []) in
     let m : length (s.1 ++ (45 ∷ [])) ≡ length s.1 + 1 = length-append s.1 (45 ∷ []) in
-    let k = length-append (s.0 ++ (45 ∷ [])) (s.1 ++ (45 ∷ [])) in
-    (([], 45 ∷ (s.1 ++ (45 ∷ s.2)), refl, whole), (s.0 ++ (45 ∷ []), 45 ∷ s.2, sym n, second),
-    ((s.0 ++ (45 ∷ [])) ++ (s.1 ++ (45 ∷ [])), [], omega (arith, n, m, k), third))
+    let k = length-append (s.0 ++ (45 ∷ [])) (s.1 ++ (45 ∷ [])) in (
+      ([], 45 ∷ (s.1 ++ (45 ∷ s.2)), refl, whole),
+      (s.0 ++ (45 ∷ []), 45 ∷ s.2, sym n, second),
+      ((s.0 ++ (45 ∷ [])) ++ (s.1 ++ (45 ∷ [])), [], omega (arith, n, m, k), third),
+    )
 
 -- what a compressed tag set's text is, and the places of the pieces in it
 pub record SetStands (text : List ℕ) (s : TagParts) (pythons abis platforms : List Place) : Type 0 where
@@ -167,7 +174,7 @@ set_stands text s h ok =
       abis_within = abi.1;
       platforms_within = platform.1;
       tags = triples_at text (places_from 0 (pieces s.0)) (places_from (length s.0 + 1) (pieces s.1)) (places_from (length s.0 + 1 + length s.1 + 1) (pieces s.2))
-        ∙ (λ i. triples (python.0 i) (abi.0 i) (platform.0 i));
+          ∙ (λ i. triples (python.0 i) (abi.0 i) (platform.0 i));
     }
 
 abbrev pub made_of : List Place → Result (List Place) WheelError

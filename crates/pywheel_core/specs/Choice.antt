@@ -1,10 +1,12 @@
--- The choice of a wheel (PEP 425, "Use"; PEP 427, "File name convention", on the build tag): of the wheels with
--- a tag in the list, the one whose best tag stands first there; then the greater build; then the earlier place.
-use Rattle.std.specs.Prelude.{◌≡◌, ◌≢◌, ◌⊎◌, ℕ, suc, ◌<◌, ◌≤◌, Bool, ◌==◌, ◌&&◌, ◌||◌, nat_lt, if◌then◌else◌, List, [], ◌∷◌, slice_get, Option, Some, None, option_map}
+-- The choice of a wheel (PEP 425, "Use"; PEP 427, "File name convention", on the build tag): of the
+-- wheels with a tag in the list, the one whose best tag stands first there; then the greater build;
+-- then the earlier place.
+use Rattle.std.specs.Prelude.{◌≡◌, ◌≢◌, ◌⊎◌, ℕ, suc, ◌<◌, ◌≤◌, Bool, ◌==◌, ◌&&◌, ◌||◌, nat_lt}
+use Rattle.std.specs.Prelude.{if◌then◌else◌, List, [], ◌∷◌, slice_get, Option, Some, None}
+use Rattle.std.specs.Prelude.{option_map}
 use Rattle.std.specs.List.{Contains}
 use Rattle.std.specs.Ordering.{is_lt}
-use Rattle.std.specs.declared.cmp.Ordering.{Ordering}
-use Rattle.std.specs.declared.cmp.Ordering.TheVariants.{Less, Equal, Greater}
+use Rattle.std.specs.declared.cmp.Ordering.TheVariants.{Less, Equal}
 use Rattle.pywheel_core.specs.Tag.{TagValue, rank_of}
 use Rattle.pywheel_core.specs.Wheel.Build.{builds_cmp}
 use Rattle.pywheel_core.specs.Wheel.Value.{WheelValue}
@@ -14,14 +16,15 @@ use Rattle.pywheel_core.specs.Wheel.Value.{WheelValue}
 -- the least position in the list of a tag among these
 pub record IsRank (own tags : List TagValue) (rank : ℕ) : Type 0 where
   pub stands : (t : TagValue) × Contains own t × (rank_of t tags ≡ Some rank)
-  pub least : (t : TagValue) (other : ℕ) → Contains own t → rank_of t tags ≡ Some other → rank ≤ other
+  pub least : (t : TagValue) (s : ℕ) → Contains own t → rank_of t tags ≡ Some s → rank ≤ s
 
 -- a wheel stands there, and this is its rank
 abbrev pub IsCompatible : List (Option WheelValue) → List TagValue → ℕ → WheelValue → ℕ → Type 0
-IsCompatible wheels tags place w rank = (slice_get wheels place ≡ Some (Some w)) × IsRank w.tags tags rank
+IsCompatible wheels tags place w rank =
+    (slice_get wheels place ≡ Some (Some w)) × IsRank w.tags tags rank
 
--- a wheel, its rank and its place; another comes behind it: a greater rank, or the same rank and a lesser
--- build, or the same rank and build and a later place
+-- a wheel, its rank and its place; another comes behind it: a greater rank, or the same rank and a
+-- lesser build, or the same rank and build and a later place
 pub record Ranked : Type 0 where
   pub rank : ℕ
   pub build : Option (List ℕ)
@@ -30,15 +33,19 @@ pub record Ranked : Type 0 where
 abbrev pub ComesBehind : Ranked → Ranked → Type 0
 ComesBehind best other = (best.rank < other.rank)
     ⊎ (((best.rank ≡ other.rank) × (builds_cmp other.build best.build ≡ Less))
-    ⊎ ((best.rank ≡ other.rank) × (builds_cmp other.build best.build ≡ Equal) × (best.place < other.place)))
+    ⊎ ((best.rank ≡ other.rank) × (builds_cmp other.build best.build ≡ Equal)
+    × (best.place < other.place)))
 
--- the best place is a compatible one, and every other compatible place comes behind it; no place is best where
--- none is compatible
+-- the best place is a compatible one, and every other compatible place comes behind it; no place is
+-- best where none is compatible
 abbrev pub IsBest : List (Option WheelValue) → List TagValue → Option ℕ → Type 0
-IsBest wheels tags None = (place : ℕ) (w : WheelValue) (rank : ℕ) → IsCompatible wheels tags place w rank → ⊥
-IsBest wheels tags (Some place) = (w : WheelValue) × (rank : ℕ) × IsCompatible wheels tags place w rank
-    × ((place2 : ℕ) (v : WheelValue) (rank2 : ℕ) → IsCompatible wheels tags place2 v rank2 → place2 ≢ place
-    → ComesBehind (record { rank = rank; build = w.build; place = place }) (record { rank = rank2; build = v.build; place = place2 }))
+IsBest wheels tags None =
+    (place : ℕ) (w : WheelValue) (rank : ℕ) → IsCompatible wheels tags place w rank → ⊥
+IsBest wheels tags (Some place) =
+    (w : WheelValue) × (rank : ℕ) × IsCompatible wheels tags place w rank
+    × ((other : ℕ) (v : WheelValue) (rank2 : ℕ) → IsCompatible wheels tags other v rank2
+    → other ≢ place → ComesBehind (record { rank = rank; build = w.build; place = place })
+    (record { rank = rank2; build = v.build; place = other }))
 
 -- ---- the one answer, as a function: the law `one_best_wheel`
 
@@ -56,11 +63,14 @@ rank_from rank (t ∷ own) tags = rank_from (least_rank rank (rank_of t tags)) o
 -- the wheel that stands at a place, where one does and is compatible
 unfoldable pub ranked : ℕ → Option WheelValue → List TagValue → Option Ranked
 ranked place None tags = None
-ranked place (Some w) tags = option_map (λ rank. record { rank = rank; build = w.build; place = place }) (rank_from None w.tags tags)
+ranked place (Some w) tags =
+    option_map (λ rank. record { rank = rank; build = w.build; place = place })
+    (rank_from None w.tags tags)
 
 -- whether a later wheel is better: a lesser rank, or the same rank and a greater build
 abbrev pub is_better : Ranked → Ranked → Bool
-is_better later first = nat_lt later.rank first.rank || ((later.rank == first.rank) && is_lt (builds_cmp first.build later.build))
+is_better later first = nat_lt later.rank first.rank
+    || ((later.rank == first.rank) && is_lt (builds_cmp first.build later.build))
 
 -- the better of two, of which either may be absent
 abbrev pub better : Option Ranked → Option Ranked → Option Ranked
@@ -69,9 +79,11 @@ better (Some first) None = Some first
 better (Some first) (Some later) = if is_better later first then Some later else Some first
 
 -- the best of one and of the wheels from a place on
-unfoldable pub best_from : Option Ranked → ℕ → List (Option WheelValue) → List TagValue → Option Ranked
+unfoldable pub best_from : Option Ranked → ℕ → List (Option WheelValue) → List TagValue
+    → Option Ranked
 best_from first place [] tags = first
-best_from first place (w ∷ wheels) tags = best_from (better first (ranked place w tags)) (suc place) wheels tags
+best_from first place (w ∷ wheels) tags =
+    best_from (better first (ranked place w tags)) (suc place) wheels tags
 
 -- the place of the best wheel
 unfoldable pub best : List (Option WheelValue) → List TagValue → Option ℕ

@@ -1,6 +1,5 @@
 pub mod Choice
 pub mod Inner
-pub mod Parsed
 pub mod Tag
 pub mod TagLaws
 pub mod Texts

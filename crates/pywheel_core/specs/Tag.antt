@@ -1,5 +1,7 @@
 -- Tags of wheels (PEP 425, "Details"), and lists of tags in the order of preference ("Use").
-use Rattle.std.specs.Prelude.{ℕ, ◌*◌, suc, Bool, ◌==◌, ◌&&◌, ◌||◌, nat_le, nat_lt, nat_eq, if◌then◌else◌, List, [], ◌∷◌, ◌++◌, length, map, Option, Some, None, ok_or, position, Result, Ok, Err}
+use Rattle.std.specs.Prelude.{ℕ, ◌*◌, suc, Bool, ◌==◌, ◌&&◌, ◌||◌, nat_le, nat_lt, nat_eq}
+use Rattle.std.specs.Prelude.{if◌then◌else◌, List, [], ◌∷◌, ◌++◌, length, map, Option, ok_or}
+use Rattle.std.specs.Prelude.{position, Result, Ok, Err}
 use Rattle.std.specs.Char.{is_ascii_alphanumeric}
 use Rattle.std.specs.Cmp.Lexicographic.{pointwise}
 use Rattle.std.specs.List.{flat_map, list_all, list_any}
@@ -70,10 +72,11 @@ at_place place (Err e) = Err (list.Tag place)
 -- the tags of these texts, the first of which has this place, after the tags before them
 abbrev pub tags_after : List TagValue → ℕ → List (List ℕ) → Result (List TagValue) TagListError
 tags_after tags place [] = Ok tags
-tags_after tags place (text ∷ texts) = at_place place (tag_of text) >>= λ t. tags_after (with_tag tags t) (suc place) texts
+tags_after tags place (text ∷ texts) =
+    at_place place (tag_of text) >>= λ t. tags_after (with_tag tags t) (suc place) texts
 
--- the distinct tags of the texts in order, each at its first place; or the place of the first text that is
--- no tag, counted from 1
+-- the distinct tags of the texts in order, each at its first place; or the place of the first text
+-- that is no tag, counted from 1
 unfoldable pub tags_of : List (List ℕ) → Result (List TagValue) TagListError
 tags_of texts = tags_after [] 1 texts
 
@@ -102,7 +105,8 @@ tag_count set = length (pieces set.0) * (length (pieces set.1) * length (pieces 
 
 -- all pieces are parts of a tag
 abbrev pub has_tag_parts : TagParts → Bool
-has_tag_parts set = are_tag_parts (pieces set.0) && (are_tag_parts (pieces set.1) && are_tag_parts (pieces set.2))
+has_tag_parts set = are_tag_parts (pieces set.0)
+    && (are_tag_parts (pieces set.1) && are_tag_parts (pieces set.2))
 
 -- and the tags aren't too many
 abbrev pub is_tag_set : TagParts → Bool

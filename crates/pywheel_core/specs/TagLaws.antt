@@ -7,7 +7,9 @@ use Rattle.std.proofs.lemmas.Cmp.{and_equiv, on_equiv}
 use Rattle.pywheel_core.specs.Tag.{TagValue, tag_eq, text_eq}
 
 pub tag_equiv : IsEquivalence tag_eq
-tag_equiv = and_equiv (on_equiv (λ t. t.python) nat_list_eq_equiv) (and_equiv (on_equiv (λ t. t.abi) nat_list_eq_equiv) (on_equiv (λ t. t.platform) nat_list_eq_equiv))
+tag_equiv = and_equiv (on_equiv (λ t. t.python) nat_list_eq_equiv)
+    (and_equiv (on_equiv (λ t. t.abi) nat_list_eq_equiv)
+    (on_equiv (λ t. t.platform) nat_list_eq_equiv))
 
 -- the three parts, one after the other
 unfoldable pub fed_tag : TagValue → fed.HashWrites
@@ -20,6 +22,9 @@ both false c e = absurd cc
 pub alike : (a b : TagValue) → tag_eq a b ≡ true → fed_tag a ≡ fed_tag b
 unfolding fed_tag
 alike a b e =
-    let p = both (text_eq a.python b.python) (text_eq a.abi b.abi && text_eq a.platform b.platform) e in
+    let rest = text_eq a.abi b.abi && text_eq a.platform b.platform in
+    let p = both (text_eq a.python b.python) rest e in
     let q = both (text_eq a.abi b.abi) (text_eq a.platform b.platform) p.1 in
-    λ i. fed.str ((bytes_decides a.python b.python).0 p.0 i) ++ (fed.str ((bytes_decides a.abi b.abi).0 q.0 i) ++ fed.str ((bytes_decides a.platform b.platform).0 q.1 i))
+    λ i. fed.str ((bytes_decides a.python b.python).0 p.0 i)
+    ++ (fed.str ((bytes_decides a.abi b.abi).0 q.0 i)
+    ++ fed.str ((bytes_decides a.platform b.platform).0 q.1 i))

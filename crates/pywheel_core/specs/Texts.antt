@@ -1,5 +1,6 @@
 -- Texts that are cut at a byte.
-use Rattle.std.specs.Prelude.{ℕ, Bool, false, ◌==◌, ◌&&◌, ◌||◌, if◌then◌else◌, List, [], ◌∷◌, Option, Some, None, is_none, option_map}
+use Rattle.std.specs.Prelude.{ℕ, Bool, false, ◌==◌, ◌&&◌, ◌||◌, if◌then◌else◌, List, [], ◌∷◌}
+use Rattle.std.specs.Prelude.{Option, Some, None, is_none, option_map}
 use Rattle.std.specs.List.{slice_split}
 use Rattle.pyver_core.specs.Options.{◌>>=◌}
 
@@ -7,10 +8,12 @@ use Rattle.pyver_core.specs.Options.{◌>>=◌}
 abbrev pub before_cut : ℕ → List ℕ × List ℕ → List ℕ × List ℕ
 before_cut b parts = (b ∷ parts.0, parts.1)
 
--- what stands before the first such byte, and what stands after it; nothing where the text has no such byte
+-- what stands before the first such byte, and what stands after it; nothing where the text has no
+-- such byte
 abbrev pub cut_at : ℕ → List ℕ → Option (List ℕ × List ℕ)
 cut_at byte [] = None
-cut_at byte (b ∷ rest) = if b == byte then Some ([], rest) else option_map (before_cut b) (cut_at byte rest)
+cut_at byte (b ∷ rest) =
+    if b == byte then Some ([], rest) else option_map (before_cut b) (cut_at byte rest)
 
 -- the three parts of a text with two such bytes, which stand between them
 unfoldable pub three_parts : ℕ → List ℕ → Option (List ℕ × List ℕ × List ℕ)

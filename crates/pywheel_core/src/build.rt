@@ -1,6 +1,7 @@
 //! Build tags (PEP 427, "File name convention").
 
-ghost use Rattle.std.specs.Prelude.{◌≡◌, ◌+◌, ◌*◌, ◌<◌, ◌^◌, true, if◌then◌else◌, Ok, Err, SomeIff, length, take};
+ghost use Rattle.std.specs.Prelude.{◌≡◌, ◌+◌, ◌*◌, ◌<◌, ◌^◌, true, if◌then◌else◌, Ok, Err, SomeIff};
+ghost use Rattle.std.specs.Prelude.{length, take};
 ghost use Rattle.std.specs.Char.{digit_value, is_ascii, is_ascii_digit};
 ghost use Rattle.std.specs.List.{list_all, prefix_len};
 ghost use Rattle.std.specs.Str.Parse.{digits_value};
@@ -8,7 +9,7 @@ ghost use Rattle.pyver_core.specs.Agreement.{Gives};
 ghost use Rattle.pywheel_core.specs.Wheel.Build.{build_cmp, build_number, build_rest, is_build};
 
 use crate::error::WheelError;
-use std::alloc::Global;
+use std::alloc::{AllocError, Global};
 use std::cmp::Ordering;
 use std::marker::Model;
 
@@ -30,14 +31,16 @@ impl Model for BuildTag {
 
     ghost view = { λ b. string_bytes b.text };
 
-    ghost invariant = { λ b. (is_build (string_bytes b.text) ≡ true) × (b.digits ≡ prefix_len is_ascii_digit (string_bytes b.text))
+    ghost invariant = { λ b. (is_build (string_bytes b.text) ≡ true)
+        × (b.digits ≡ prefix_len is_ascii_digit (string_bytes b.text))
         × (b.number ≡ build_number (string_bytes b.text)) };
 }
 
 impl BuildTag {
     /// The build tag that the text is.
     pub(crate) fn parse(alloc: Global, text: &str) -> Result<BuildTag, WheelError>
-        ensures { Gives WheelError.Memory (λ b. b) result (if is_build text.now then Ok text.now else Err WheelError.Build) }
+        ensures { Gives WheelError.Memory (λ b. b) result
+            (if is_build text.now then Ok text.now else Err WheelError.Build) }
     {
         let digits = count_digits(text.as_bytes());
         let Some(number) = number(&text.as_bytes()[..digits]) else {
@@ -85,11 +88,27 @@ impl BuildTag {
     }
 }
 
+/// A copy takes memory for the text.
+impl Clone for BuildTag {
+    ghost is_clone = { λ build copy. copy ≡ build };
+
+    fn clone(&self) -> Result<BuildTag, AllocError> {
+        Ok(BuildTag {
+            text: self.text.clone()?,
+            digits: self.digits,
+            number: self.number,
+        })
+    }
+}
+
 /// How many digits stand in front.
 fn count_digits(bytes: &[u8]) -> usize
     ensures { result ≡ prefix_len is_ascii_digit bytes.now }
 {
-    bytes.iter().take_while(|byte| byte.is_ascii_digit()).count()
+    bytes
+        .iter()
+        .take_while(|byte| byte.is_ascii_digit())
+        .count()
 }
 
 fn is_ascii(bytes: &[u8]) -> bool
@@ -113,7 +132,8 @@ fn number(digits: &[u8]) -> Option<u128>
 /// The number with one more digit, where it isn't past the limit.
 fn with_digit(value: u128, digit: u8) -> Option<u128>
     requires { is_ascii_digit digit ≡ true }
-    ensures { SomeIff result (value * 10 + digit_value digit < 2 ^ 128) (value * 10 + digit_value digit) }
+    ensures { SomeIff result (value * 10 + digit_value digit < 2 ^ 128)
+        (value * 10 + digit_value digit) }
 {
     value.checked_mul(10)?.checked_add(u128::from(digit - b'0'))
 }

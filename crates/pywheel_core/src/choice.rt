@@ -1,7 +1,8 @@
 //! The choice of a wheel.
 
 ghost use Rattle.std.specs.Prelude.{◌≡◌, None, option_map};
-ghost use Rattle.pywheel_core.specs.Choice.{IsBest, best, best_from, better, is_better, least_rank, rank_from, ranked};
+ghost use Rattle.pywheel_core.specs.Choice.{IsBest, best, best_from, better, is_better, least_rank};
+ghost use Rattle.pywheel_core.specs.Choice.{rank_from, ranked};
 ghost use Rattle.pywheel_core.specs.Inner.Lent.{candidate_of};
 
 use crate::tag_list::TagList;
@@ -16,9 +17,9 @@ pub(crate) struct Candidate<'a> {
     pub(crate) wheel: &'a WheelName,
 }
 
-/// The place of the best wheel: of those with a tag in the list, the one whose best tag stands first there;
-/// then the greater build; then the earlier place. `None` among the wheels is never chosen. It takes no
-/// memory and looks at each tag once.
+/// The place of the best wheel: of those with a tag in the list, the one whose best tag stands
+/// first there; then the greater build; then the earlier place. `None` among the wheels is never
+/// chosen. It takes no memory and looks at each tag once.
 pub fn choose(wheels: &[Option<WheelName>], tags: &TagList) -> Option<usize>
     ensures best { IsBest wheels.now tags.now result }
     ensures exact { result ≡ best wheels.now tags.now }
@@ -82,16 +83,18 @@ fn least_rank(rank: Option<usize>, other: Option<usize>) -> Option<usize>
 }
 
 /// The better of two wheels, of which either may be absent and `later` stands at the later place.
-fn better<'a>(
-    first: Option<Candidate<'a>>,
-    later: Option<Candidate<'a>>,
-) -> Option<Candidate<'a>>
-    ensures { option_map candidate_of result ≡ better (option_map candidate_of first.entry) (option_map candidate_of later.entry) }
+fn better<'a>(first: Option<Candidate<'a>>, later: Option<Candidate<'a>>) -> Option<Candidate<'a>>
+    ensures { option_map candidate_of result
+        ≡ better (option_map candidate_of first.entry) (option_map candidate_of later.entry) }
 {
     match (first, later) {
         (None, later) => later,
         (first, None) => first,
-        (Some(first), Some(later)) => Some(if is_better(&later, &first) { later } else { first }),
+        (Some(first), Some(later)) => Some(if is_better(&later, &first) {
+            later
+        } else {
+            first
+        }),
     }
 }
 
@@ -100,6 +103,5 @@ fn is_better(later: &Candidate<'_>, first: &Candidate<'_>) -> bool
     ensures { result ≡ is_better (candidate_of later.now) (candidate_of first.now) }
 {
     later.rank < first.rank
-        || later.rank == first.rank
-            && first.wheel.compare_builds(later.wheel) == Ordering::Less
+        || later.rank == first.rank && first.wheel.compare_builds(later.wheel) == Ordering::Less
 }

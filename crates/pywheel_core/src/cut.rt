@@ -120,7 +120,9 @@ pub(crate) fn is_tag_part(part: &str) -> bool
 fn has_tag_bytes(bytes: &[u8]) -> bool
     ensures { result ≡ list_all is_tag_byte bytes.now }
 {
-    bytes.iter().all(|byte| byte.is_ascii_alphanumeric() || *byte == b'_')
+    bytes
+        .iter()
+        .all(|byte| byte.is_ascii_alphanumeric() || *byte == b'_')
 }
 
 impl TagSet<'_> {
@@ -133,15 +135,25 @@ impl TagSet<'_> {
 
     /// The places of the three parts in the text that they make, which has this length.
     pub(crate) fn places(&self, whole: usize) -> (Place, Place, Place)
-        requires { whole ≡ length self.now.python.now + length self.now.abi.now + length self.now.platform.now + 2 }
+        requires { whole ≡ length self.now.python.now + length self.now.abi.now
+            + length self.now.platform.now + 2 }
         ensures { (result.0, result.1, result.2) ≡ places_of (set_of self.now) }
     {
         let python = self.python.len();
         let abi = python + 1 + self.abi.len();
         (
-            Place { start: 0, end: python },
-            Place { start: python + 1, end: abi },
-            Place { start: abi + 1, end: whole },
+            Place {
+                start: 0,
+                end: python,
+            },
+            Place {
+                start: python + 1,
+                end: abi,
+            },
+            Place {
+                start: abi + 1,
+                end: whole,
+            },
         )
     }
 }

@@ -23,11 +23,12 @@ impl fmt::Debug for Tag {
     }
 }
 
-/// The file name: the name and the build tag as written, the version in its normal form, the tags in lower
-/// case.
+/// The file name: the name and the build tag as written, the version in its normal form, the tags
+/// in lower case.
 impl fmt::Display for WheelName {
     ghost output = { λ w. Some (wheel_text w) };
 
+    #[tactic(auto, unfolding(crate::specs::Wheel::Value::wheel_text))]
     fn fmt<W: fmt::Write>(&self, f: &mut fmt::Formatter<W>) -> fmt::Result {
         match self.build_text() {
             Some(build) => write!(

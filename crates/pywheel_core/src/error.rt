@@ -1,13 +1,11 @@
 //! Why a text is refused.
 
 ghost use Rattle.std.specs.Prelude.{◌≡◌};
-ghost use Rattle.pywheel_core.specs.Wheel.Refusal.{refusal_of};
 ghost use Rattle.pywheel_core.specs.declared.error.TagError.TheVariants as tag;
 ghost use Rattle.pywheel_core.specs.declared.error.TagListError.TheVariants as list;
 ghost use Rattle.pywheel_core.specs.declared.error.WheelError.TheVariants as wheel;
 
-use pyver_core::VersionError;
-use std::alloc::{AllocError, AllocFailed};
+use std::alloc::AllocError;
 use thiserror::Error;
 
 /// Why a text isn't taken as a tag.
@@ -58,55 +56,26 @@ pub enum WheelError {
     Memory,
 }
 
-impl From<AllocError> for TagError {
+impl<E: Into<AllocError> + Drop> From<E> for TagError {
     ghost from_gives = { λ _ e. e ≡ tag.Memory };
 
-    fn from(_refused: AllocError) -> TagError {
+    fn from(_refused: E) -> TagError {
         TagError::Memory
     }
 }
 
-impl From<AllocError> for TagListError {
+impl<E: Into<AllocError> + Drop> From<E> for TagListError {
     ghost from_gives = { λ _ e. e ≡ list.Memory };
 
-    fn from(_refused: AllocError) -> TagListError {
+    fn from(_refused: E) -> TagListError {
         TagListError::Memory
     }
 }
 
-impl<T: Drop> From<AllocFailed<T>> for TagListError {
-    ghost from_gives = { λ _ e. e ≡ list.Memory };
-
-    fn from(_refused: AllocFailed<T>) -> TagListError {
-        TagListError::Memory
-    }
-}
-
-impl From<AllocError> for WheelError {
+impl<E: Into<AllocError> + Drop> From<E> for WheelError {
     ghost from_gives = { λ _ e. e ≡ wheel.Memory };
 
-    fn from(_refused: AllocError) -> WheelError {
+    fn from(_refused: E) -> WheelError {
         WheelError::Memory
-    }
-}
-
-impl<T: Drop> From<AllocFailed<T>> for WheelError {
-    ghost from_gives = { λ _ e. e ≡ wheel.Memory };
-
-    fn from(_refused: AllocFailed<T>) -> WheelError {
-        WheelError::Memory
-    }
-}
-
-/// A text that is no version refuses the name of the wheel.
-impl From<VersionError> for WheelError {
-    ghost from_gives = { λ refused e. e ≡ refusal_of refused };
-
-    fn from(refused: VersionError) -> WheelError {
-        match refused {
-            VersionError::Syntax => WheelError::Version,
-            VersionError::NumberTooLarge => WheelError::Version,
-            VersionError::Memory => WheelError::Memory,
-        }
     }
 }

@@ -6,6 +6,7 @@ mod choice;
 mod cut;
 mod display;
 mod error;
+pub mod laws;
 mod place;
 mod tag;
 mod tag_list;

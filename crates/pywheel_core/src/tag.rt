@@ -38,7 +38,8 @@ impl Model for Tag {
 
     ghost view = { λ t. tag_at (rc_str_bytes t.text) t.python t.abi t.platform };
 
-    ghost invariant = { λ t. IsAsciiText (rc_str_bytes t.text) × IsWithin (rc_str_bytes t.text) t.python
+    ghost invariant = { λ t. IsAsciiText (rc_str_bytes t.text)
+        × IsWithin (rc_str_bytes t.text) t.python
         × IsWithin (rc_str_bytes t.text) t.abi × IsWithin (rc_str_bytes t.text) t.platform };
 }
 
@@ -59,8 +60,9 @@ impl Tag {
         }
     }
 
-    /// The tag that the text is, in any case: three parts joined by `-`, each one or more ASCII letters,
-    /// digits and `_` (PEP 425, "Details"). It takes the memory of one text as long as the given one.
+    /// The tag that the text is, in any case: three parts joined by `-`, each one or more ASCII
+    /// letters, digits and `_` (PEP 425, "Details"). It takes the memory of one text as long as the
+    /// given one.
     #[tactic(auto, unfolding(crate::specs::Tag::tag_of))]
     pub fn parse(alloc: Global, text: &str) -> Result<Tag, TagError>
         ensures { Gives TagError.Memory (λ t. t) result (tag_of text.now) }
@@ -133,11 +135,6 @@ impl Clone for Tag {
     ghost is_clone = { λ tag copy. copy ≡ tag };
 
     fn clone(&self) -> Result<Tag, AllocError> {
-        Ok(Tag::new(
-            self.text.clone()?,
-            self.python,
-            self.abi,
-            self.platform,
-        ))
+        Ok(Tag::new(self.text.clone()?, self.python, self.abi, self.platform))
     }
 }

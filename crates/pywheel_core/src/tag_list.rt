@@ -7,7 +7,7 @@ ghost use Rattle.pywheel_core.specs.Tag.{at_place, rank_of, tag_of, tags_of};
 use crate::error::{TagError, TagListError};
 use crate::tag::Tag;
 use indexmap::IndexSet;
-use std::alloc::Global;
+use std::alloc::{AllocError, Global};
 use std::marker::Model;
 
 /// Distinct tags, the most preferred first. A tag's rank is its position.
@@ -26,8 +26,8 @@ impl Model for TagList {
 }
 
 impl TagList {
-    /// The tags of the texts in order, each at its first place. `Tag` gives the place, from 1, of the first
-    /// text that is no tag. It takes the memory of the tags and of a table of them.
+    /// The tags of the texts in order, each at its first place. `Tag` gives the place, from 1, of
+    /// the first text that is no tag. It takes the memory of the tags and of a table of them.
     #[tactic(auto, unfolding(crate::specs::Tag::tags_of))]
     pub fn parse(alloc: Global, texts: &[&str]) -> Result<TagList, TagListError>
         ensures { Gives TagListError.Memory (λ l. l) result (tags_of (map (λ t. t.now) texts.now)) }
@@ -65,6 +65,17 @@ impl TagList {
         ensures { result.now ≡ self.now }
     {
         self.tags.as_slice()
+    }
+}
+
+/// A copy takes memory for the table; its tags share their texts.
+impl Clone for TagList {
+    ghost is_clone = { λ tags copy. copy ≡ tags };
+
+    fn clone(&self) -> Result<TagList, AllocError> {
+        Ok(TagList {
+            tags: self.tags.clone()?,
+        })
     }
 }
 

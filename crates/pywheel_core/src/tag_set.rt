@@ -1,12 +1,15 @@
 //! Compressed tag sets (PEP 425, "Compressed Tag Sets").
 
-ghost use Rattle.std.specs.Prelude.{◌≡◌, ◌==◌, ◌+◌, ◌<◌, ◌^◌, ◌++◌, true, Ok, Some, OnErr, OnOk, SomeIff, count_by, length, map, option_map};
+ghost use Rattle.std.specs.Prelude.{◌≡◌, ◌==◌, ◌+◌, ◌<◌, ◌^◌, ◌++◌, true, Ok, Some, OnErr, OnOk};
+ghost use Rattle.std.specs.Prelude.{SomeIff, count_by, length, map, option_map};
 ghost use Rattle.std.specs.List.{flat_map};
 ghost use Rattle.std.specs.Rc.{rc_str_bytes};
 ghost use Rattle.pyver_core.specs.Agreement.{Gives};
 ghost use Rattle.pywheel_core.specs.Inner.Lent.{set_of};
-ghost use Rattle.pywheel_core.specs.Inner.Places.{AreWithin, IsAsciiText, IsWithin, places_from, tag_at};
-ghost use Rattle.pywheel_core.specs.Tag.{are_tag_parts, has_tag_parts, is_tag_set, pieces, tag_count, tags_in};
+ghost use Rattle.pywheel_core.specs.Inner.Places.{AreWithin, IsAsciiText, IsWithin, places_from};
+ghost use Rattle.pywheel_core.specs.Inner.Places.{tag_at};
+ghost use Rattle.pywheel_core.specs.Tag.{are_tag_parts, has_tag_parts, is_tag_set, pieces};
+ghost use Rattle.pywheel_core.specs.Tag.{tag_count, tags_in};
 ghost use Rattle.pywheel_core.specs.Texts.{cut_at, three_parts};
 ghost use Rattle.pywheel_core.specs.Wheel.Reading.{set_tags_in, tag_set_in};
 
@@ -20,11 +23,12 @@ use std::rc::RcStr;
 /// The most tags that a compressed tag set may stand for.
 const TAGS_LIMIT: usize = 1024;
 
-/// A compressed tag set in lower case, and every tag that it stands for: the platform runs fastest, then
-/// the ABI. How many there are is judged before one is made.
+/// A compressed tag set in lower case, and every tag that it stands for: the platform runs fastest,
+/// then the ABI. How many there are is judged before one is made.
 #[tactic(auto, unfolding(crate::specs::Wheel::Reading::tag_set_in))]
 pub(crate) fn read_tag_set(alloc: Global, text: &str) -> Result<(RcStr, Vec<Tag>), WheelError>
-    ensures { Gives WheelError.Memory (λ x. (rc_str_bytes x.0, x.1.items)) result (tag_set_in text.now) }
+    ensures { Gives WheelError.Memory (λ x. (rc_str_bytes x.0, x.1.items)) result
+        (tag_set_in text.now) }
 {
     let text = lowercase(alloc, text)?;
     let tags = read_tags(alloc, &text)?;
@@ -42,9 +46,11 @@ fn read_tags(alloc: Global, text: &RcStr) -> Result<Vec<Tag>, WheelError>
 }
 
 impl TagSet<'_> {
-    /// How many tags there are, where all pieces can stand in a tag and there are no more than may be.
+    /// How many tags there are, where all pieces can stand in a tag and there are no more than may
+    /// be.
     fn small_count(&self) -> Option<usize>
-        ensures { SomeIff result (is_tag_set (set_of self.now) ≡ true) (tag_count (set_of self.now)) }
+        ensures { SomeIff result (is_tag_set (set_of self.now) ≡ true)
+            (tag_count (set_of self.now)) }
     {
         if !self.has_tag_parts() {
             return None;
@@ -61,7 +67,8 @@ impl TagSet<'_> {
 
     /// How many tags there are, where a `usize` holds that.
     fn count(&self) -> Option<usize>
-        ensures { SomeIff result (tag_count (set_of self.now) < 2 ^ 64) (tag_count (set_of self.now)) }
+        ensures { SomeIff result (tag_count (set_of self.now) < 2 ^ 64)
+            (tag_count (set_of self.now)) }
     {
         let pairs = count_pieces(self.abi).checked_mul(count_pieces(self.platform))?;
         count_pieces(self.python).checked_mul(pairs)
@@ -95,7 +102,9 @@ fn push_tags(
     requires pythons { AreWithin (rc_str_bytes text.now) pythons.now }
     requires abis { AreWithin (rc_str_bytes text.now) abis.now }
     requires platforms { AreWithin (rc_str_bytes text.now) platforms.now }
-    ensures added { OnOk result (tags.new.items ≡ tags.old.items ++ flat_map (λ python. flat_map (λ abi. map (λ platform. tag_at (rc_str_bytes text.now) python abi platform) platforms.now) abis.now) pythons.now) }
+    ensures added { OnOk result (tags.new.items ≡ tags.old.items
+        ++ flat_map (λ python. flat_map (λ abi. map (λ platform.
+        tag_at (rc_str_bytes text.now) python abi platform) platforms.now) abis.now) pythons.now) }
     ensures memory { OnErr result (result ≡ Err WheelError.Memory) }
 {
     for python in pythons {
@@ -116,7 +125,9 @@ fn push_abis(
     requires python { IsWithin (rc_str_bytes text.now) python }
     requires abis { AreWithin (rc_str_bytes text.now) abis.now }
     requires platforms { AreWithin (rc_str_bytes text.now) platforms.now }
-    ensures added { OnOk result (tags.new.items ≡ tags.old.items ++ flat_map (λ abi. map (λ platform. tag_at (rc_str_bytes text.now) python abi platform) platforms.now) abis.now) }
+    ensures added { OnOk result (tags.new.items ≡ tags.old.items
+        ++ flat_map (λ abi. map (λ platform.
+        tag_at (rc_str_bytes text.now) python abi platform) platforms.now) abis.now) }
     ensures memory { OnErr result (result ≡ Err WheelError.Memory) }
 {
     for abi in abis {
@@ -137,7 +148,8 @@ fn push_platforms(
     requires python { IsWithin (rc_str_bytes text.now) python }
     requires abi { IsWithin (rc_str_bytes text.now) abi }
     requires platforms { AreWithin (rc_str_bytes text.now) platforms.now }
-    ensures added { OnOk result (tags.new.items ≡ tags.old.items ++ map (λ platform. tag_at (rc_str_bytes text.now) python abi platform) platforms.now) }
+    ensures added { OnOk result (tags.new.items ≡ tags.old.items
+        ++ map (λ platform. tag_at (rc_str_bytes text.now) python abi platform) platforms.now) }
     ensures memory { OnErr result (result ≡ Err WheelError.Memory) }
 {
     for platform in platforms {
@@ -183,7 +195,8 @@ fn count_dots(bytes: &[u8]) -> usize
 /// The places of the pieces in a text where the part stands at `start`.
 fn piece_places(alloc: Global, start: usize, part: &str) -> Result<Vec<Place>, WheelError>
     requires { start + length part.now < 2 ^ 64 }
-    ensures { Gives WheelError.Memory (λ v. v.items) result (Ok (places_from start (pieces part.now))) }
+    ensures { Gives WheelError.Memory (λ v. v.items) result
+        (Ok (places_from start (pieces part.now))) }
 {
     let mut places = Vec::new(alloc);
     let mut start = start;

@@ -7,15 +7,16 @@ ghost use Rattle.pywheel_core.specs.Inner.Lent.{wheel_parts};
 ghost use Rattle.pywheel_core.specs.Texts.{has_pair};
 ghost use Rattle.pywheel_core.specs.Wheel.Build.{build_number, build_rest, builds_cmp};
 ghost use Rattle.pywheel_core.specs.Wheel.Name.{is_wheel_name, is_wheel_name_byte};
-ghost use Rattle.pywheel_core.specs.Wheel.Reading.{build_in, name_in, version_in, wheel_in, wheel_of};
+ghost use Rattle.pywheel_core.specs.Wheel.Reading.{build_in, name_in, version_in, wheel_in};
+ghost use Rattle.pywheel_core.specs.Wheel.Reading.{wheel_of};
 
 use crate::build::BuildTag;
 use crate::cut::{StemParts, stem, stem_parts};
 use crate::error::WheelError;
 use crate::tag::Tag;
 use crate::tag_set::read_tag_set;
-use pyver_core::Version;
-use std::alloc::Global;
+use pyver_core::{Version, VersionError};
+use std::alloc::{AllocError, Global};
 use std::cmp::Ordering;
 use std::marker::Model;
 use std::rc::RcStr;
@@ -47,10 +48,10 @@ impl Model for WheelName {
 }
 
 impl WheelName {
-    /// What the text says as the name of a wheel: a name, a version, a build tag or none, and a compressed
-    /// tag set, joined by `-`, and `.whl` (PEP 427, "File name convention"). The refusals are judged in the
-    /// order of [`WheelError`]. It takes the memory of the name, the version, the build tag and the tags,
-    /// which share one text.
+    /// What the text says as the name of a wheel: a name, a version, a build tag or none, and a
+    /// compressed tag set, joined by `-`, and `.whl` (PEP 427, "File name convention"). The
+    /// refusals are judged in the order of [`WheelError`]. It takes the memory of the name, the
+    /// version, the build tag and the tags, which share one text.
     #[tactic(auto, unfolding(crate::specs::Wheel::Reading::wheel_of))]
     pub fn parse(alloc: Global, text: &str) -> Result<WheelName, WheelError>
         ensures { Gives WheelError.Memory (λ w. w) result (wheel_of text.now) }
@@ -92,7 +93,8 @@ impl WheelName {
         &self.version
     }
 
-    /// The build tag, where there is one: the number of the digits in front, and what stands after them.
+    /// The build tag, where there is one: the number of the digits in front, and what stands after
+    /// them.
     pub fn build(&self) -> Option<(u128, &str)>
         ensures number { option_map (λ b. b.0) result ≡ option_map build_number self.now.build }
         ensures rest { option_map (λ b. b.1.now) result ≡ option_map build_rest self.now.build }
@@ -109,14 +111,16 @@ impl WheelName {
         Some(build.as_str())
     }
 
-    /// The tags: all combinations of the three parts' pieces. The platform runs fastest, then the ABI.
+    /// The tags: all combinations of the three parts' pieces. The platform runs fastest, then the
+    /// ABI.
     pub fn tags(&self) -> &[Tag]
         ensures { result.now ≡ self.now.tags }
     {
         &self.tags
     }
 
-    /// The compressed tag set that stands for the tags, in lower case (PEP 425, "Compressed Tag Sets").
+    /// The compressed tag set that stands for the tags, in lower case (PEP 425, "Compressed Tag
+    /// Sets").
     pub fn tag_set(&self) -> &str
         ensures { result.now ≡ self.now.tag_set }
     {
@@ -133,6 +137,22 @@ impl WheelName {
             (Some(_), None) => Ordering::Greater,
             (Some(build), Some(other)) => build.compare(other),
         }
+    }
+}
+
+/// A copy takes memory for the name, the version, the build tag and the list of the tags, whose
+/// text it shares.
+impl Clone for WheelName {
+    ghost is_clone = { λ wheel copy. copy ≡ wheel };
+
+    fn clone(&self) -> Result<WheelName, AllocError> {
+        Ok(WheelName {
+            name: self.name.clone()?,
+            version: self.version.clone()?,
+            build: self.build.clone()?,
+            tag_set: self.tag_set.clone()?,
+            tags: self.tags.clone()?,
+        })
     }
 }
 
@@ -176,12 +196,17 @@ fn has_double_underscore(name: &str) -> bool
 fn read_version(alloc: Global, text: &str) -> Result<Version, WheelError>
     ensures { Gives WheelError.Memory (λ v. v) result (version_in text.now) }
 {
-    Ok(Version::parse(alloc, text)?)
+    match Version::parse(alloc, text) {
+        Ok(version) => Ok(version),
+        Err(VersionError::Memory) => Err(WheelError::Memory),
+        Err(_) => Err(WheelError::Version),
+    }
 }
 
 /// The build tag, where there is one.
 fn read_build(alloc: Global, build: Option<&str>) -> Result<Option<Box<BuildTag>>, WheelError>
-    ensures { Gives WheelError.Memory (λ b. option_map (λ x. x.value) b) result (build_in (option_map (λ b. b.now) build.entry)) }
+    ensures { Gives WheelError.Memory (λ b. option_map (λ x. x.value) b) result
+        (build_in (option_map (λ b. b.now) build.entry)) }
 {
     match build {
         Some(build) => Ok(Some(Box::new(alloc, BuildTag::parse(alloc, build)?)?)),

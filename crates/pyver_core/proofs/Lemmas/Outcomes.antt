@@ -1,7 +1,6 @@
 -- What is read and judged by its numbers: which outcome says what of the reader.
 use Rattle.std.proofs.Common.{◌≡◌, ℕ, Bool, true, false, List, Option, Some, None, Result, Ok, Err, refl, sym, ap, ◌∙◌, inl, inr}
 use Rattle.std.specs.Prelude.{IsTrue, ok_or}
-use Rattle.pyver_core.specs.Agreement.{Gives}
 use Rattle.pyver_core.specs.Version.Grammar.{has_large}
 use Rattle.pyver_core.specs.Parsed.{within_limit}
 use Rattle.pyver_core.specs.Results.{◌>>=◌}

@@ -1,6 +1,7 @@
 pub mod Answers
 pub mod Boundaries
 pub mod Complete
+pub mod EqualText
 pub mod OperandAnswers
 pub mod Operators
 pub mod Prefixes

@@ -1,5 +1,6 @@
 -- Equal versions are hashed alike.
-use Rattle.std.proofs.Common.{◌≡◌, ℕ, ◌++◌, Option, Some, None, true, pos, refl, sym, ap, ◌∙◌, arith}
+use Rattle.std.proofs.Common.{◌≡◌, ℕ, ◌++◌, Option, Some, None, true, refl, sym, ap, ◌∙◌}
+use Rattle.std.proofs.Common.{arith}
 use Rattle.std.specs.Cmp.{Equal-is}
 use Rattle.std.specs.FinMap.{IsAntisymmetric, nat_cmp-IsAntisymmetric, slice_cmp-IsAntisymmetric}
 use Rattle.std.specs.Hash as fed
@@ -7,11 +8,12 @@ use Rattle.std.specs.Option.{option_cmp}
 use Rattle.std.specs.Ordering.{eq_by_cmp, nat_cmp, ordering_then}
 use Rattle.std.specs.declared.cmp.Ordering.{Ordering}
 use Rattle.std.specs.declared.cmp.Ordering.TheVariants.{Less, Equal, Greater}
-use Rattle.pyver_core.specs.Version.Hashing.{pre_input, segment_input, version_input, without_trailing_zeros}
-use Rattle.pyver_core.specs.Version.Order.{dev_cmp, phase_number, phase_rank, segment_cmp, version_cmp}
+use Rattle.pyver_core.specs.Version.Hashing.{pre_input, segment_input, version_input}
+use Rattle.pyver_core.specs.Version.Hashing.{without_trailing_zeros}
+use Rattle.pyver_core.specs.Version.Order.{dev_cmp, phase_number, phase_rank, segment_cmp}
+use Rattle.pyver_core.specs.Version.Order.{version_cmp}
 use Rattle.pyver_core.specs.Version.Parts.{Parts}
 use Rattle.pyver_core.specs.Inner.Releases.{release_cmp_without_zeros}
-use Rattle.pyver_core.specs.declared.version.part.LocalPart.{LocalPart}
 use Rattle.pyver_core.specs.declared.version.part.LocalPart.TheVariants.{Number, Text}
 use Rattle.pyver_core.specs.declared.version.part.PreKind.{PreKind}
 use Rattle.pyver_core.specs.declared.version.part.PreKind.TheVariants.{A, B, Rc}
@@ -46,10 +48,12 @@ segment_cmp-tie : IsAntisymmetric segment_cmp
 segment_cmp-tie (Number m) (Number n) e = ap Number (nat_cmp-tie m n e)
 segment_cmp-tie (Number m) (Text b) e = cc e
 segment_cmp-tie (Text a) (Number n) e = cc e
-segment_cmp-tie (Text a) (Text b) e = ap Text (slice_cmp-IsAntisymmetric nat_cmp-IsAntisymmetric a b e)
+segment_cmp-tie (Text a) (Text b) e =
+    ap Text (slice_cmp-IsAntisymmetric nat_cmp-IsAntisymmetric a b e)
 
 -- no pre-release ranks as one of the letters
-none-some : (letter : PreKind) (n : ℕ) (post dev : Option ℕ) → phase_rank None post dev ≡ phase_rank (Some (letter, n)) post dev → ⊥
+none-some : (letter : PreKind) (n : ℕ) (post dev : Option ℕ)
+    → phase_rank None post dev ≡ phase_rank (Some (letter, n)) post dev → ⊥
 none-some A n None None rank = omega arith
 none-some A n None (Some d) rank = omega arith
 none-some A n (Some k) dev rank = omega arith
@@ -65,7 +69,8 @@ phase-same : (p q : Option (PreKind × ℕ)) (post dev : Option ℕ)
     → phase_rank p post dev ≡ phase_rank q post dev → phase_number p ≡ phase_number q → p ≡ q
 phase-same None None post dev rank number = refl
 phase-same None (Some (letter, n)) post dev rank number = absurd (none-some letter n post dev rank)
-phase-same (Some (letter, m)) None post dev rank number = absurd (none-some letter m post dev (sym rank))
+phase-same (Some (letter, m)) None post dev rank number =
+    absurd (none-some letter m post dev (sym rank))
 phase-same (Some (A, m)) (Some (A, n)) post dev rank number = ap (λ (k : ℕ). Some (A, k)) number
 phase-same (Some (A, m)) (Some (B, n)) post dev rank number = absurd (omega arith)
 phase-same (Some (A, m)) (Some (Rc, n)) post dev rank number = absurd (omega arith)
@@ -97,7 +102,8 @@ version_cmp-Equal v w e =
     let post : v.post ≡ w.post = option_cmp-tie _ _ (then_first _ _ e4) in
     let dev : v.dev ≡ w.dev = dev_cmp-tie _ _ (then_first _ _ e5) in
     let number : phase_number v.pre ≡ phase_number w.pre = nat_cmp-tie _ _ (then_first _ _ e3) in
-    let rank : phase_rank v.pre v.post v.dev ≡ phase_rank w.pre w.post w.dev = nat_cmp-tie _ _ (then_first _ _ e2) in
+    let rank : phase_rank v.pre v.post v.dev ≡ phase_rank w.pre w.post w.dev =
+    nat_cmp-tie _ _ (then_first _ _ e2) in
     let beside : phase_rank v.pre v.post v.dev ≡ phase_rank w.pre v.post v.dev =
     rank ∙ (λ i. phase_rank w.pre (sym post i) (sym dev i)) in
     let released = sym (release_cmp_without_zeros v.release w.release) ∙ then_first _ _ e1 in
@@ -115,5 +121,6 @@ pub alike : (v w : Parts) → eq_by_cmp version_cmp v w ≡ true → version_inp
 unfolding version_input
 alike v w e =
     let s = version_cmp-Equal v w ((Equal-is (version_cmp v w)).0 e) in
-    λ i. fed.u128 (s.epoch i) ++ (fed.slice fed.u128 (s.release i) ++ (fed.option pre_input (s.pre i)
-    ++ (fed.option fed.u128 (s.post i) ++ (fed.option fed.u128 (s.dev i) ++ fed.slice segment_input (s.local i)))))
+    λ i. fed.u128 (s.epoch i) ++ (fed.slice fed.u128 (s.release i)
+    ++ (fed.option pre_input (s.pre i) ++ (fed.option fed.u128 (s.post i)
+    ++ (fed.option fed.u128 (s.dev i) ++ fed.slice segment_input (s.local i)))))

@@ -6,7 +6,8 @@ use Rattle.std.specs.Cmp.{IsTotalOrder, nat_cmp_total, on_total, then_total}
 use Rattle.std.specs.Cmp.Lexicographic.{lists_total, nat_list_cmp_total, options_total, slice_cmp}
 use Rattle.std.specs.declared.cmp.Ordering.{Ordering}
 use Rattle.std.specs.declared.cmp.Ordering.TheVariants.{Less, Equal, Greater}
-use Rattle.pyver_core.specs.Version.Order.{dev_cmp, phase_number, phase_rank, release_cmp, segment_cmp, version_cmp}
+use Rattle.pyver_core.specs.Version.Order.{dev_cmp, phase_number, phase_rank, release_cmp}
+use Rattle.pyver_core.specs.Version.Order.{segment_cmp, version_cmp}
 use Rattle.pyver_core.specs.Version.Parts.{Parts}
 use Rattle.pyver_core.specs.Inner.Releases.{release_cmp_without_zeros}
 use Rattle.pyver_core.specs.Version.Hashing.{without_trailing_zeros}
@@ -14,18 +15,21 @@ use Rattle.pyver_core.specs.declared.version.part.LocalPart.{LocalPart}
 use Rattle.pyver_core.specs.declared.version.part.LocalPart.TheVariants.{Number, Text}
 
 -- an order that answers as a total one does is total
-total_along : {K : Type 0} (R S : K → K → Ordering) → IsTotalOrder S → ((x y : K) → R x y ≡ S x y) → IsTotalOrder R
+total_along : {K : Type 0} (R S : K → K → Ordering) → IsTotalOrder S
+    → ((x y : K) → R x y ≡ S x y) → IsTotalOrder R
 total_along R S total same = subst IsTotalOrder (λ i x y. sym (same x y) i) total
 
 pub release_total : IsTotalOrder release_cmp
-release_total = total_along release_cmp (on without_trailing_zeros (slice_cmp nat_cmp)) (on_total without_trailing_zeros nat_list_cmp_total) release_cmp_without_zeros
+release_total = total_along release_cmp (on without_trailing_zeros (slice_cmp nat_cmp))
+    (on_total without_trailing_zeros nat_list_cmp_total) release_cmp_without_zeros
 
 -- 0 for a developmental release, which stands first, and 1 for none
 abbrev dev_rank : Option ℕ → ℕ
 dev_rank (Some n) = 0
 dev_rank None = 1
 
-dev_cmp-ranks : (a b : Option ℕ) → dev_cmp a b ≡ then_cmp (on dev_rank nat_cmp) (option_cmp nat_cmp) a b
+dev_cmp-ranks : (a b : Option ℕ)
+    → dev_cmp a b ≡ then_cmp (on dev_rank nat_cmp) (option_cmp nat_cmp) a b
 dev_cmp-ranks (Some m) (Some n) = refl
 dev_cmp-ranks (Some m) None = refl
 dev_cmp-ranks None (Some n) = refl
@@ -49,7 +53,8 @@ segment_number (Text text) = 0
 segment_number (Number n) = n
 
 abbrev segment_rank_cmp : LocalPart → LocalPart → Ordering
-segment_rank_cmp = then_cmp (on segment_rank nat_cmp) (then_cmp (on segment_number nat_cmp) (on segment_letters (slice_cmp nat_cmp)))
+segment_rank_cmp = then_cmp (on segment_rank nat_cmp)
+    (then_cmp (on segment_number nat_cmp) (on segment_letters (slice_cmp nat_cmp)))
 
 then-Equal : (r : Ordering) → ordering_then r Equal ≡ r
 then-Equal Less = refl
@@ -65,7 +70,8 @@ segment_cmp-ranks (Text a) (Text b) = refl
 pub segment_total : IsTotalOrder segment_cmp
 segment_total = total_along segment_cmp segment_rank_cmp
     (then_total (on_total segment_rank nat_cmp_total)
-    (then_total (on_total segment_number nat_cmp_total) (on_total segment_letters nat_list_cmp_total)))
+    (then_total (on_total segment_number nat_cmp_total)
+    (on_total segment_letters nat_list_cmp_total)))
     segment_cmp-ranks
 
 -- the six comparisons as one, the phase by its rank and its number
@@ -92,7 +98,8 @@ version_cmp-joined : (v w : Parts) → version_cmp v w ≡ joined_cmp v w
 unfolding version_cmp
 version_cmp-joined v w =
     let last = slice_cmp segment_cmp v.local w.local in
-    ap (λ (r : Ordering). ordering_then (nat_cmp v.epoch w.epoch) (ordering_then (release_cmp v.release w.release)
+    ap (λ (r : Ordering). ordering_then (nat_cmp v.epoch w.epoch)
+    (ordering_then (release_cmp v.release w.release)
     (ordering_then (nat_cmp (phase_rank v.pre v.post v.dev) (phase_rank w.pre w.post w.dev))
     (ordering_then (nat_cmp (phase_number v.pre) (phase_number w.pre))
     (ordering_then (option_cmp nat_cmp v.post w.post) (ordering_then (dev_cmp v.dev w.dev) r))))))

@@ -5,7 +5,11 @@ use Rattle.pyver_core.specs.declared.version.reading.base.Base.{Base}
 use Rattle.pyver_core.specs.declared.set.reading.draft.SpecifierDraft.{SpecifierDraft}
 use Rattle.pyver_core.specs.declared.set.reading.draft.SpecifierDraft.TheVariants as draft
 use Rattle.pyver_core.specs.declared.set.specifier.Specifier.{Specifier}
-use Rattle.pyver_core.specs.declared.set.specifier.Specifier.TheVariants.{Equal, EqualPrefix, NotEqual, NotEqualPrefix, AtMost, AtLeast, Before, After, Compatible, Arbitrary}
+use Rattle.pyver_core.specs.declared.set.specifier.Specifier.TheVariants.{Equal, EqualPrefix}
+use Rattle.pyver_core.specs.declared.set.specifier.Specifier.TheVariants.{NotEqual, NotEqualPrefix}
+use Rattle.pyver_core.specs.declared.set.specifier.Specifier.TheVariants.{AtMost, AtLeast, Before}
+use Rattle.pyver_core.specs.declared.set.specifier.Specifier.TheVariants.{After, Compatible}
+use Rattle.pyver_core.specs.declared.set.specifier.Specifier.TheVariants.{Arbitrary}
 
 abbrev pub base_prefix : Base → Prefix
 base_prefix b = record { epoch = b.epoch; release = b.release }

@@ -1,12 +1,18 @@
 -- Which versions a specifier admits (PEP 440, "Version specifiers").
-use Rattle.std.specs.Prelude.{ℕ, ◌-◌, ◌==◌, ◌&&◌, Bool, not, if◌then◌else◌, List, length, take, nat_eq}
+use Rattle.std.specs.Prelude.{ℕ, ◌-◌, ◌==◌, ◌&&◌, Bool, not, if◌then◌else◌, List, length, take}
+use Rattle.std.specs.Prelude.{nat_eq}
 use Rattle.std.specs.List.{list_all, starts_with}
 use Rattle.std.specs.Str.{bytes_eq, str_to_ascii_lowercase}
 use Rattle.pyver_core.specs.Version.Normal.{normal}
 use Rattle.pyver_core.specs.Version.Order.{is_before, is_same, with_zeros}
-use Rattle.pyver_core.specs.Version.Parts.{Parts, base_release, is_postrelease, is_prerelease, public_part}
+use Rattle.pyver_core.specs.Version.Parts.{Parts, base_release, is_postrelease, is_prerelease}
+use Rattle.pyver_core.specs.Version.Parts.{public_part}
 use Rattle.pyver_core.specs.declared.set.specifier.Specifier.{Specifier}
-use Rattle.pyver_core.specs.declared.set.specifier.Specifier.TheVariants.{Equal, EqualPrefix, NotEqual, NotEqualPrefix, AtMost, AtLeast, Before, After, Compatible, Arbitrary}
+use Rattle.pyver_core.specs.declared.set.specifier.Specifier.TheVariants.{Equal, EqualPrefix}
+use Rattle.pyver_core.specs.declared.set.specifier.Specifier.TheVariants.{NotEqual, NotEqualPrefix}
+use Rattle.pyver_core.specs.declared.set.specifier.Specifier.TheVariants.{AtMost, AtLeast, Before}
+use Rattle.pyver_core.specs.declared.set.specifier.Specifier.TheVariants.{After, Compatible}
+use Rattle.pyver_core.specs.declared.set.specifier.Specifier.TheVariants.{Arbitrary}
 
 -- whether a version has a local part
 abbrev pub has_local : Parts → Bool
@@ -16,9 +22,11 @@ has_local v = not (length v.local == 0)
 abbrev pub matches : Parts → Parts → Bool
 matches v c = if has_local v then is_same c v else is_same (public_part c) v
 
--- "Version matching", a prefix: the same epoch, and the release of c, padded with zeros, begins with these numbers
+-- "Version matching", a prefix: the same epoch, and the release of c, padded with zeros, begins
+-- with these numbers
 abbrev pub matches_prefix : ℕ → List ℕ → Parts → Bool
-matches_prefix epoch release c = (c.epoch == epoch) && starts_with nat_eq (with_zeros (length release) c.release) release
+matches_prefix epoch release c =
+    (c.epoch == epoch) && starts_with nat_eq (with_zeros (length release) c.release) release
 
 -- whether the base releases are the same version
 abbrev pub has_base_of : Parts → Parts → Bool
@@ -35,15 +43,17 @@ is_at_least v c = not (is_before (public_part c) v)
 abbrev pub is_below : Parts → Parts → Bool
 is_below v c = is_before c v && not (not (is_prerelease v) && (is_prerelease c && has_base_of v c))
 
--- "Exclusive ordered comparison": `>V` admits no post-release of V, unless V is a post-release, and no V with
--- a local part
+-- "Exclusive ordered comparison": `>V` admits no post-release of V, unless V is a post-release, and
+-- no V with a local part
 abbrev pub is_above : Parts → Parts → Bool
 is_above v c = is_before v c
-    && (not (not (is_postrelease v) && (is_postrelease c && has_base_of v c)) && not (has_local c && is_same (public_part c) v))
+    && (not (not (is_postrelease v) && (is_postrelease c && has_base_of v c))
+    && not (has_local c && is_same (public_part c) v))
 
 -- "Compatible release": at least V, and the release begins with V's without its last number
 abbrev pub is_compatible : Parts → Parts → Bool
-is_compatible v c = is_at_least v c && matches_prefix v.epoch (take (length v.release - 1) v.release) c
+is_compatible v c =
+    is_at_least v c && matches_prefix v.epoch (take (length v.release - 1) v.release) c
 
 -- "Arbitrary equality": the normal form is this text, letter case ignored
 abbrev pub is_spelled : List ℕ → Parts → Bool

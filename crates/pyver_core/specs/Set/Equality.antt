@@ -1,12 +1,14 @@
--- When specifiers are equal as they are written. Their order and each zero count: `>=1.0` isn't `>=1`, though
--- both admit the same versions. Letter case, spellings and white space don't, as in the normal form.
+-- When specifiers are equal as they are written. Their order and each zero count: `>=1.0` isn't
+-- `>=1`, though both admit the same versions. Letter case, spellings and white space don't, as in
+-- the normal form.
 use Rattle.std.specs.Prelude.{ℕ, Bool, nat_eq, List, [], ◌∷◌, codes}
 use Rattle.std.specs.Cmp.Lexicographic.{pointwise}
 use Rattle.pyver_core.specs.Set.Normal.{operator_of, operator_text}
 use Rattle.pyver_core.specs.Set.Prefix.{Prefix}
 use Rattle.pyver_core.specs.Version.Normal.{normal}
 use Rattle.pyver_core.specs.declared.set.specifier.Specifier.{Specifier}
-use Rattle.pyver_core.specs.declared.set.specifier.Specifier.TheVariants.{Equal, EqualPrefix, NotEqual}
+use Rattle.pyver_core.specs.declared.set.specifier.Specifier.TheVariants.{Equal, EqualPrefix}
+use Rattle.pyver_core.specs.declared.set.specifier.Specifier.TheVariants.{NotEqual}
 use Rattle.pyver_core.specs.declared.set.specifier.Specifier.TheVariants.{NotEqualPrefix, AtMost}
 use Rattle.pyver_core.specs.declared.set.specifier.Specifier.TheVariants.{AtLeast, Before, After}
 use Rattle.pyver_core.specs.declared.set.specifier.Specifier.TheVariants.{Compatible, Arbitrary}

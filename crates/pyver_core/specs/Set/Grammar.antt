@@ -1,13 +1,19 @@
--- Which texts are which specifier sets (PEP 440, "Version specifiers"). A relation over the ways to cut the
--- whole text, in the terms of the version grammar.
-use Rattle.std.specs.Prelude.{◌≡◌, ℕ, ◌≤◌, Bool, true, ◌==◌, ◌||◌, not, IsTrue, nat_eq, List, [], ◌∷◌, ◌++◌, length, codes}
+-- Which texts are which specifier sets (PEP 440, "Version specifiers"). A relation over the ways to
+-- cut the whole text, in the terms of the version grammar.
+use Rattle.std.specs.Prelude.{◌≡◌, ℕ, ◌≤◌, Bool, true, ◌==◌, ◌||◌, not, IsTrue, nat_eq, List, []}
+use Rattle.std.specs.Prelude.{◌∷◌, ◌++◌, length, codes}
 use Rattle.std.specs.List.{list_all, flat_map, slice_split, starts_with}
-use Rattle.pyver_core.specs.Version.Grammar.{IsEpoch, IsPrefix, IsRelease, Spells, has_large, is_white, numbers}
+use Rattle.pyver_core.specs.Version.Grammar.{IsEpoch, IsPrefix, IsRelease, Spells, has_large}
+use Rattle.pyver_core.specs.Version.Grammar.{is_white, numbers}
 use Rattle.pyver_core.specs.Set.Prefix.{Prefix}
 use Rattle.pyver_core.specs.Set.Normal.{operator_of, operator_text}
 use Rattle.pyver_core.specs.declared.set.specifier.Operator.{Operator}
 use Rattle.pyver_core.specs.declared.set.specifier.Specifier.{Specifier}
-use Rattle.pyver_core.specs.declared.set.specifier.Specifier.TheVariants.{Equal, EqualPrefix, NotEqual, NotEqualPrefix, AtMost, AtLeast, Before, After, Compatible, Arbitrary}
+use Rattle.pyver_core.specs.declared.set.specifier.Specifier.TheVariants.{Equal, EqualPrefix}
+use Rattle.pyver_core.specs.declared.set.specifier.Specifier.TheVariants.{NotEqual, NotEqualPrefix}
+use Rattle.pyver_core.specs.declared.set.specifier.Specifier.TheVariants.{AtMost, AtLeast, Before}
+use Rattle.pyver_core.specs.declared.set.specifier.Specifier.TheVariants.{After, Compatible}
+use Rattle.pyver_core.specs.declared.set.specifier.Specifier.TheVariants.{Arbitrary}
 
 -- ---- operands, with the white space round them
 
@@ -39,8 +45,9 @@ pub record SpellsArbitrary (text label : List ℕ) : Type 0 where
   pub allowed : list_all is_arbitrary label ≡ true
   pub is_after : list_all is_white after ≡ true
 
--- The operand of each specifier: a version, which may have a local part behind `==` and `!=` alone and has two
--- numbers or more behind `~=`; a prefix; anything. `Spells` allows for white space round a version.
+-- The operand of each specifier: a version, which may have a local part behind `==` and `!=` alone
+-- and has two numbers or more behind `~=`; a prefix; anything. `Spells` allows for white space
+-- round a version.
 abbrev pub IsOperand : List ℕ → Specifier → Type 0
 IsOperand text (Equal v) = Spells text v
 IsOperand text (EqualPrefix p) = SpellsPrefix text p
@@ -55,23 +62,26 @@ IsOperand text (Arbitrary label) = SpellsArbitrary text label
 
 -- ---- specifiers and sets
 
--- A piece of a set: white space, an operator, and its operand with the white space round it. The operator is
--- the longest that stands there.
+-- A piece of a set: white space, an operator, and its operand with the white space round it. The
+-- operator is the longest that stands there.
 pub record IsSpecifier (piece : List ℕ) (s : Specifier) : Type 0 where
   pub before : List ℕ
   pub operand : List ℕ
   pub whole : piece ≡ before ++ (operator_text (operator_of s) ++ operand)
   pub is_before : list_all is_white before ≡ true
   pub is_operand : IsOperand operand s
-  pub longest : (other : Operator) → starts_with nat_eq (operator_text (operator_of s) ++ operand) (operator_text other) ≡ true
+  pub longest : (other : Operator)
+      → starts_with nat_eq (operator_text (operator_of s) ++ operand) (operator_text other) ≡ true
       → length (operator_text other) ≤ length (operator_text (operator_of s))
 
 -- pieces and their specifiers: white space alone is none
 pub data ArePieces : List (List ℕ) → List Specifier → Type 0 where
   no_piece : ArePieces [] []
   blank_piece : (piece : List ℕ) (rest : List (List ℕ)) (specifiers : List Specifier)
-      → list_all is_white piece ≡ true → ArePieces rest specifiers → ArePieces (piece ∷ rest) specifiers
-  specifier_piece : (piece : List ℕ) (rest : List (List ℕ)) (s : Specifier) (specifiers : List Specifier)
+      → list_all is_white piece ≡ true → ArePieces rest specifiers
+      → ArePieces (piece ∷ rest) specifiers
+  specifier_piece : (piece : List ℕ) (rest : List (List ℕ))
+      (s : Specifier) (specifiers : List Specifier)
       → IsSpecifier piece s → ArePieces rest specifiers → ArePieces (piece ∷ rest) (s ∷ specifiers)
 
 -- The text is the set: cut at commas, its pieces are the specifiers.
@@ -92,6 +102,10 @@ specifier_numbers (After v) = numbers v
 specifier_numbers (Compatible v) = numbers v
 specifier_numbers (Arbitrary label) = []
 
+-- the numbers of all specifiers
+abbrev pub set_numbers : List Specifier → List ℕ
+set_numbers specifiers = flat_map specifier_numbers specifiers
+
 -- a number of a specifier is past the limit
 abbrev pub IsLargeSet : List Specifier → Type 0
-IsLargeSet specifiers = IsTrue (has_large (flat_map specifier_numbers specifiers))
+IsLargeSet specifiers = IsTrue (has_large (set_numbers specifiers))

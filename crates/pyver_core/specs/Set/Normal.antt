@@ -6,7 +6,11 @@ use Rattle.pyver_core.specs.Set.Prefix.{Prefix}
 use Rattle.pyver_core.specs.declared.set.specifier.Operator.{Operator}
 use Rattle.pyver_core.specs.declared.set.specifier.Operator.TheVariants as operator
 use Rattle.pyver_core.specs.declared.set.specifier.Specifier.{Specifier}
-use Rattle.pyver_core.specs.declared.set.specifier.Specifier.TheVariants.{Equal, EqualPrefix, NotEqual, NotEqualPrefix, AtMost, AtLeast, Before, After, Compatible, Arbitrary}
+use Rattle.pyver_core.specs.declared.set.specifier.Specifier.TheVariants.{Equal, EqualPrefix}
+use Rattle.pyver_core.specs.declared.set.specifier.Specifier.TheVariants.{NotEqual, NotEqualPrefix}
+use Rattle.pyver_core.specs.declared.set.specifier.Specifier.TheVariants.{AtMost, AtLeast, Before}
+use Rattle.pyver_core.specs.declared.set.specifier.Specifier.TheVariants.{After, Compatible}
+use Rattle.pyver_core.specs.declared.set.specifier.Specifier.TheVariants.{Arbitrary}
 
 abbrev pub operator_text : Operator → List ℕ
 operator_text operator.Equal = codes "=="

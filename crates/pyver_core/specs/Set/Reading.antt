@@ -1,6 +1,7 @@
--- Reading a specifier set from the left: the specifiers that a text has, as a function. It gives an answer
--- exactly where `SetText` holds, and the specifiers of which it holds.
-use Rattle.std.specs.Prelude.{ℕ, ◌==◌, ◌&&◌, nat_eq, nat_le, nat_lt, if◌then◌else◌, List, [], ◌∷◌, length, take, drop, codes, Option, Some, None, option_map, Bool}
+-- Reading a specifier set from the left: the specifiers that a text has, as a function. It gives an
+-- answer exactly where `SetText` holds, and the specifiers of which it holds.
+use Rattle.std.specs.Prelude.{ℕ, ◌==◌, ◌&&◌, nat_eq, nat_le, nat_lt, if◌then◌else◌, List, [], ◌∷◌}
+use Rattle.std.specs.Prelude.{length, take, drop, codes, Option, Some, None, option_map, Bool}
 use Rattle.std.specs.List.{list_all, prefix_len, slice_split, starts_with}
 use Rattle.pyver_core.specs.Version.Grammar.{is_white}
 use Rattle.pyver_core.specs.Version.Parts.{Parts}
@@ -12,23 +13,30 @@ use Rattle.pyver_core.specs.Set.Normal.{operator_text}
 use Rattle.pyver_core.specs.declared.set.specifier.Operator.{Operator}
 use Rattle.pyver_core.specs.declared.set.specifier.Operator.TheVariants as operator
 use Rattle.pyver_core.specs.declared.set.specifier.Specifier.{Specifier}
-use Rattle.pyver_core.specs.declared.set.specifier.Specifier.TheVariants.{Equal, EqualPrefix, NotEqual, NotEqualPrefix, AtMost, AtLeast, Before, After, Compatible, Arbitrary}
+use Rattle.pyver_core.specs.declared.set.specifier.Specifier.TheVariants.{Equal, EqualPrefix}
+use Rattle.pyver_core.specs.declared.set.specifier.Specifier.TheVariants.{NotEqual, NotEqualPrefix}
+use Rattle.pyver_core.specs.declared.set.specifier.Specifier.TheVariants.{AtMost, AtLeast, Before}
+use Rattle.pyver_core.specs.declared.set.specifier.Specifier.TheVariants.{After, Compatible}
+use Rattle.pyver_core.specs.declared.set.specifier.Specifier.TheVariants.{Arbitrary}
 
 -- ---- operators
 
 -- the operators, the longer ones first
 abbrev pub operators : List Operator
-operators = operator.Arbitrary ∷ operator.Compatible ∷ operator.Equal ∷ operator.NotEqual ∷ operator.AtMost
-    ∷ operator.AtLeast ∷ operator.Before ∷ operator.After ∷ []
+operators = operator.Arbitrary ∷ operator.Compatible ∷ operator.Equal ∷ operator.NotEqual
+    ∷ operator.AtMost ∷ operator.AtLeast ∷ operator.Before ∷ operator.After ∷ []
 
 -- the text behind an operator
 abbrev pub behind_operator : Operator → List ℕ → Option (List ℕ)
-behind_operator o text = if starts_with nat_eq text (operator_text o) then Some (drop (length (operator_text o)) text) else None
+behind_operator o text =
+    if starts_with nat_eq text (operator_text o) then Some (drop (length (operator_text o)) text)
+    else None
 
 -- the first of the operators that stands at the front, and the text behind it
 abbrev pub operator_among : List Operator → List ℕ → Option (Operator × List ℕ)
 operator_among [] text = None
-operator_among (o ∷ others) text = either (option_map (λ rest. (o, rest)) (behind_operator o text)) (operator_among others text)
+operator_among (o ∷ others) text =
+    either (option_map (λ rest. (o, rest)) (behind_operator o text)) (operator_among others text)
 
 unfoldable pub operator_at : List ℕ → Option (Operator × List ℕ)
 operator_at text = operator_among operators text
@@ -60,11 +68,14 @@ compatible_of text = do
 unfoldable pub arbitrary_of : List ℕ → Option (List ℕ)
 arbitrary_of text =
     let run = prefix_len is_arbitrary (after_white text) in
-    if nat_lt 0 run && list_all is_white (drop run (after_white text)) then Some (take run (after_white text)) else None
+    if nat_lt 0 run && list_all is_white (drop run (after_white text))
+    then Some (take run (after_white text)) else None
 
 unfoldable pub operand_of : Operator → List ℕ → Option Specifier
-operand_of operator.Equal text = either (option_map EqualPrefix (prefix_of text)) (option_map Equal (version_of text))
-operand_of operator.NotEqual text = either (option_map NotEqualPrefix (prefix_of text)) (option_map NotEqual (version_of text))
+operand_of operator.Equal text =
+    either (option_map EqualPrefix (prefix_of text)) (option_map Equal (version_of text))
+operand_of operator.NotEqual text =
+    either (option_map NotEqualPrefix (prefix_of text)) (option_map NotEqual (version_of text))
 operand_of operator.AtMost text = option_map AtMost (public_of text)
 operand_of operator.AtLeast text = option_map AtLeast (public_of text)
 operand_of operator.Before text = option_map Before (public_of text)

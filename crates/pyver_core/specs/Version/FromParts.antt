@@ -1,11 +1,13 @@
--- Which parts make a version: those that a text spells (the law `parts_have_a_spelling`). PEP 440, "Public
--- version identifiers" and "Local version identifiers".
-use Rattle.std.specs.Prelude.{ℕ, ◌==◌, ◌&&◌, ◌||◌, not, if◌then◌else◌, Bool, true, List, length, Result, Ok, Err}
+-- Which parts make a version: those that a text spells (the law `parts_have_a_spelling`). PEP 440,
+-- "Public version identifiers" and "Local version identifiers".
+use Rattle.std.specs.Prelude.{ℕ, ◌==◌, ◌&&◌, ◌||◌, not, if◌then◌else◌, Bool, true, length}
+use Rattle.std.specs.Prelude.{Result, Ok, Err}
 use Rattle.std.specs.Char.{is_ascii_digit, is_ascii_lowercase}
 use Rattle.std.specs.List.{list_all}
 use Rattle.pyver_core.specs.Version.Parts.{Parts}
 use Rattle.pyver_core.specs.declared.version.from_parts.PartsError.{PartsError}
-use Rattle.pyver_core.specs.declared.version.from_parts.PartsError.TheVariants.{EmptyRelease, LocalSegment}
+use Rattle.pyver_core.specs.declared.version.from_parts.PartsError.TheVariants.{EmptyRelease}
+use Rattle.pyver_core.specs.declared.version.from_parts.PartsError.TheVariants.{LocalSegment}
 use Rattle.pyver_core.specs.declared.version.part.LocalPart.{LocalPart}
 use Rattle.pyver_core.specs.declared.version.part.LocalPart.TheVariants.{Number, Text}
 
@@ -18,7 +20,8 @@ abbrev pub is_segment : LocalPart → Bool
 is_segment (Number n) = true
 is_segment (Text label) = list_all is_segment_byte label && not (list_all is_ascii_digit label)
 
--- the version with these parts: its release has a number, and each part of its local part is a segment
+-- the version with these parts: its release has a number, and each part of its local part is a
+-- segment
 abbrev pub version_from : Parts → Result Parts PartsError
 version_from parts =
     if length parts.release == 0 then Err EmptyRelease

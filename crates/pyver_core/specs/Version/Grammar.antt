@@ -1,8 +1,9 @@
--- Which texts spell which parts (PEP 440, "Public version identifiers", "Local version identifiers" and
--- "Normalization", with the pattern of its appendix "Parsing version strings with regular expressions").
--- A relation over the ways to cut the whole text: each part is a piece of the text in one of its forms.
--- Numbers are whole numbers of any size.
-use Rattle.std.specs.Prelude.{◌≡◌, ◌⊎◌, ℕ, ◌≤◌, ◌^◌, Bool, true, false, ◌==◌, ◌||◌, ◌&&◌, nat_le, IsTrue, List, [], ◌∷◌, ◌++◌, length, codes, Option, Some, None}
+-- Which texts spell which parts (PEP 440, "Public version identifiers", "Local version identifiers"
+-- and "Normalization", with the pattern of its appendix "Parsing version strings with regular
+-- expressions"). A relation over the ways to cut the whole text: each part is a piece of the text
+-- in one of its forms. Numbers are whole numbers of any size.
+use Rattle.std.specs.Prelude.{◌≡◌, ◌⊎◌, ℕ, ◌≤◌, ◌^◌, Bool, true, false, ◌==◌, ◌||◌, ◌&&◌, nat_le}
+use Rattle.std.specs.Prelude.{IsTrue, List, [], ◌∷◌, ◌++◌, length, codes, Option, Some, None}
 use Rattle.std.specs.Char.{is_ascii_digit, is_ascii_alphanumeric}
 use Rattle.std.specs.List.{list_all, list_any, flat_map}
 use Rattle.std.specs.Str.{str_to_ascii_lowercase}
@@ -53,9 +54,12 @@ IsWord word text = str_to_ascii_lowercase text ≡ word
 -- items one after the other, each of them behind one byte of a class
 abbrev pub AreBehind : {X : Type 0} → (ℕ → Bool) → (List ℕ → X → Type 0) → List ℕ → List X → Type 0
 AreBehind opens IsItem text [] = text ≡ []
-AreBehind opens IsItem text (x ∷ xs) = (b : ℕ) × (item : List ℕ) × (rest : List ℕ) × (text ≡ b ∷ (item ++ rest)) × (opens b ≡ true) × IsItem item x × AreBehind opens IsItem rest xs
+AreBehind opens IsItem text (x ∷ xs) = (b : ℕ) × (item : List ℕ) × (rest : List ℕ)
+    × (text ≡ b ∷ (item ++ rest)) × (opens b ≡ true) × IsItem item x
+    × AreBehind opens IsItem rest xs
 
--- ---- the parts. Each takes the text that it is, what it says, and where that matters the text behind it.
+-- ---- the parts. Each takes the text that it is, what it says, and where that matters the text
+-- behind it.
 
 -- nothing, or `v`
 abbrev pub IsPrefix : List ℕ → Type 0
@@ -63,15 +67,17 @@ IsPrefix text = (text ≡ []) ⊎ IsWord (codes "v") text
 
 -- nothing, which stands for 0, or digits and `!`
 abbrev pub IsEpoch : List ℕ → ℕ → Type 0
-IsEpoch text n = ((text ≡ []) × (n ≡ 0)) ⊎ ((digits : List ℕ) × (text ≡ digits ++ codes "!") × IsNumber digits n)
+IsEpoch text n = ((text ≡ []) × (n ≡ 0))
+    ⊎ ((digits : List ℕ) × (text ≡ digits ++ codes "!") × IsNumber digits n)
 
 -- digits, and any number of: a dot, digits
 abbrev pub IsRelease : List ℕ → List ℕ → Type 0
 IsRelease text [] = ⊥
-IsRelease text (n ∷ ns) = (first : List ℕ) × (rest : List ℕ) × (text ≡ first ++ rest) × IsNumber first n × AreBehind is_dot IsNumber rest ns
+IsRelease text (n ∷ ns) = (first : List ℕ) × (rest : List ℕ)
+    × (text ≡ first ++ rest) × IsNumber first n × AreBehind is_dot IsNumber rest ns
 
--- a part with a word: at most one separator, the word, at most one separator, digits or none. A separator
--- behind the word belongs to the part, so that none follows a part that ends in its word.
+-- a part with a word: at most one separator, the word, at most one separator, digits or none. A
+-- separator behind the word belongs to the part, so that none follows a part that ends in its word.
 pub record IsTagged (word text : List ℕ) (n : ℕ) (next : List ℕ) : Type 0 where
   pub before : List ℕ
   pub written : List ℕ
@@ -108,21 +114,26 @@ pub data IsPostWord : List ℕ → Type 0 where
 -- `-` and digits, or a part with a word
 abbrev pub IsPost : List ℕ → Option ℕ → List ℕ → Type 0
 IsPost text None next = text ≡ []
-IsPost text (Some n) next = ((digits : List ℕ) × (text ≡ codes "-" ++ digits) × IsNumber digits n) ⊎ ((word : List ℕ) × IsPostWord word × IsTagged word text n next)
+IsPost text (Some n) next = ((digits : List ℕ) × (text ≡ codes "-" ++ digits) × IsNumber digits n)
+    ⊎ ((word : List ℕ) × IsPostWord word × IsTagged word text n next)
 
 abbrev pub IsDev : List ℕ → Option ℕ → List ℕ → Type 0
 IsDev text None next = text ≡ []
 IsDev text (Some n) next = IsTagged (codes "dev") text n next
 
--- a segment of the local part: digits alone are a number, other letters and digits a text in lower case
+-- a segment of the local part: digits alone are a number, other letters and digits a text in lower
+-- case
 abbrev pub IsSegment : List ℕ → LocalPart → Type 0
 IsSegment text (Number n) = IsNumber text n
-IsSegment text (Text label) = (list_all is_ascii_alphanumeric text ≡ true) × (list_all is_ascii_digit text ≡ false) × (str_to_ascii_lowercase text ≡ label)
+IsSegment text (Text label) = (list_all is_ascii_alphanumeric text ≡ true)
+    × (list_all is_ascii_digit text ≡ false) × (str_to_ascii_lowercase text ≡ label)
 
 -- nothing, or `+` and segments with one separator between two of them
 abbrev pub IsLocal : List ℕ → List LocalPart → Type 0
 IsLocal text [] = text ≡ []
-IsLocal text (s ∷ ss) = (first : List ℕ) × (rest : List ℕ) × (text ≡ codes "+" ++ (first ++ rest)) × IsSegment first s × AreBehind is_separator IsSegment rest ss
+IsLocal text (s ∷ ss) = (first : List ℕ) × (rest : List ℕ)
+    × (text ≡ codes "+" ++ (first ++ rest)) × IsSegment first s
+    × AreBehind is_separator IsSegment rest ss
 
 -- ---- the whole text
 
@@ -137,7 +148,8 @@ pub record Spells (text : List ℕ) (p : Parts) : Type 0 where
   pub dev : List ℕ
   pub local : List ℕ
   pub after : List ℕ
-  pub whole : text ≡ before ++ (prefix ++ (epoch ++ (release ++ (pre ++ (post ++ (dev ++ (local ++ after)))))))
+  pub whole : text ≡ before ++ (prefix ++ (epoch ++ (release
+      ++ (pre ++ (post ++ (dev ++ (local ++ after)))))))
   pub is_before : list_all is_white before ≡ true
   pub is_prefix : IsPrefix prefix
   pub is_epoch : IsEpoch epoch p.epoch
@@ -165,7 +177,8 @@ number_in_segment (Text label) = []
 
 -- the numbers of the parts
 abbrev pub numbers : Parts → List ℕ
-numbers p = p.epoch ∷ (p.release ++ (number_in_pre p.pre ++ (number_in p.post ++ (number_in p.dev ++ flat_map number_in_segment p.local))))
+numbers p = p.epoch ∷ (p.release ++ (number_in_pre p.pre ++ (number_in p.post
+    ++ (number_in p.dev ++ flat_map number_in_segment p.local))))
 
 -- whether one of the numbers is past 340,282,366,920,938,463,463,374,607,431,768,211,455
 abbrev pub has_large : List ℕ → Bool

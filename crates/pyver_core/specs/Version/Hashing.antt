@@ -1,6 +1,6 @@
--- What is hashed of a version: its parts, the release without the zeros at its end, so that equal versions are
--- hashed alike.
-use Rattle.std.specs.Prelude.{ℕ, zero, suc, List, [], ◌∷◌, ◌++◌, Option, pos}
+-- What is hashed of a version: its parts, the release without the zeros at its end, so that equal
+-- versions are hashed alike.
+use Rattle.std.specs.Prelude.{ℕ, zero, suc, List, [], ◌∷◌, ◌++◌, pos}
 use Rattle.std.specs.Hash as fed
 use Rattle.pyver_core.specs.Version.Parts.{Parts}
 use Rattle.pyver_core.specs.declared.version.part.LocalPart.{LocalPart}
@@ -33,5 +33,6 @@ segment_input (Number n) = fed.isize (pos 1) ++ fed.u128 n
 
 -- the parts, the release without the zeros at its end
 unfoldable pub version_input : Parts → fed.HashWrites
-version_input v = fed.u128 v.epoch ++ (fed.slice fed.u128 (without_trailing_zeros v.release) ++ (fed.option pre_input v.pre
-    ++ (fed.option fed.u128 v.post ++ (fed.option fed.u128 v.dev ++ fed.slice segment_input v.local))))
+version_input v = fed.u128 v.epoch ++ (fed.slice fed.u128 (without_trailing_zeros v.release)
+    ++ (fed.option pre_input v.pre ++ (fed.option fed.u128 v.post
+    ++ (fed.option fed.u128 v.dev ++ fed.slice segment_input v.local))))

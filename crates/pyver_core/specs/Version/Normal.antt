@@ -1,5 +1,6 @@
 -- The normal form of a version (PEP 440, "Normalization").
-use Rattle.std.specs.Prelude.{ℕ, zero, suc, ◌+◌, List, [], ◌∷◌, ◌++◌, map, codes, Option, Some, None}
+use Rattle.std.specs.Prelude.{ℕ, zero, suc, ◌+◌, List, [], ◌∷◌, ◌++◌, map, codes, Option, Some}
+use Rattle.std.specs.Prelude.{None}
 use Rattle.std.specs.Int.Digits.{digits_of}
 use Rattle.std.specs.List.{flat_map}
 use Rattle.pyver_core.specs.Version.Parts.{Parts}
@@ -62,4 +63,5 @@ local_text (first ∷ rest) = codes "+" ++ segment_text first ++ flat_map dotted
 -- the normal form: the normal forms of the parts, one after the other
 abbrev pub normal : Parts → List ℕ
 normal p = epoch_text p.epoch
-    ++ (release_text p.release ++ (pre_text p.pre ++ (post_text p.post ++ (dev_text p.dev ++ local_text p.local))))
+    ++ (release_text p.release ++ (pre_text p.pre
+    ++ (post_text p.post ++ (dev_text p.dev ++ local_text p.local))))

@@ -1,5 +1,6 @@
 -- The order of versions (PEP 440, "Summary of permitted suffixes and relative ordering").
-use Rattle.std.specs.Prelude.{◌≡◌, ℕ, ◌-◌, List, [], ◌∷◌, ◌++◌, length, replicate, Option, Some, None, Bool}
+use Rattle.std.specs.Prelude.{◌≡◌, ℕ, ◌-◌, List, [], ◌∷◌, ◌++◌, length, replicate, Option, Some}
+use Rattle.std.specs.Prelude.{None, Bool}
 use Rattle.std.specs.Ordering.{is_eq, is_lt, nat_cmp, ordering_then}
 use Rattle.std.specs.Option.{option_cmp}
 use Rattle.std.specs.Cmp.Lexicographic.{slice_cmp}
@@ -56,8 +57,8 @@ abbrev pub in_turn : List Ordering → Ordering
 in_turn [] = Equal
 in_turn (first ∷ rest) = ordering_then first (in_turn rest)
 
--- the epoch, the release, the phase, the post-release (none is least), the developmental release, and
--- the local part segment by segment, a proper prefix being less and no local part the least
+-- the epoch, the release, the phase, the post-release (none is least), the developmental release,
+-- and the local part segment by segment, a proper prefix being less and no local part the least
 unfoldable pub version_cmp : Parts → Parts → Ordering
 version_cmp v w = in_turn (
     nat_cmp v.epoch w.epoch

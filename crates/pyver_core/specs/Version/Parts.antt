@@ -1,12 +1,12 @@
--- What a version is to a contract: its parts (PEP 440, "Public version identifiers" and "Local version
--- identifiers"). Numbers are whole numbers of any size.
+-- What a version is to a contract: its parts (PEP 440, "Public version identifiers" and "Local
+-- version identifiers"). Numbers are whole numbers of any size.
 use Rattle.std.specs.Prelude.{ℕ, List, [], Option, None, Bool, ◌||◌, is_some}
 use Rattle.pyver_core.specs.declared.version.part.PreKind.{PreKind}
 use Rattle.pyver_core.specs.declared.version.part.LocalPart.{LocalPart}
 
--- the epoch, the numbers of the release, the letter and number of a pre-release, the numbers of a post-
--- and of a developmental release, and the segments of the local part, of which there are none where the
--- version has no local part
+-- the epoch, the numbers of the release, the letter and number of a pre-release, the numbers of a
+-- post- and of a developmental release, and the segments of the local part, of which there are none
+-- where the version has no local part
 pub record Parts : Type 0 where
   pub epoch : ℕ
   pub release : List ℕ
@@ -21,7 +21,14 @@ public_part v = record v { local = [] }
 
 -- the epoch and the release alone
 abbrev pub base_release : Parts → Parts
-base_release v = record { epoch = v.epoch; release = v.release; pre = None; post = None; dev = None; local = [] }
+base_release v = record {
+  epoch = v.epoch;
+  release = v.release;
+  pre = None;
+  post = None;
+  dev = None;
+  local = [];
+}
 
 -- a developmental release counts as a pre-release (PEP 440, "Handling of pre-releases")
 abbrev pub is_prerelease : Parts → Bool

@@ -1,7 +1,9 @@
--- Reading a version from the left: the parts that a text spells, as a function. It gives an answer exactly
--- where `Spells` holds, and the parts of which it holds: the laws `version_of_spells` and
--- `version_of_is_complete`. Each reader gives what it read at the front of a text, and the text behind it.
-use Rattle.std.specs.Prelude.{ℕ, zero, suc, Bool, ◌==◌, if◌then◌else◌, List, [], ◌∷◌, length, take, drop, codes, bytes_eq, Option, Some, None, option_map, unwrap_or}
+-- Reading a version from the left: the parts that a text spells, as a function. It gives an answer
+-- exactly where `Spells` holds, and the parts of which it holds: the laws `version_of_spells` and
+-- `version_of_is_complete`. Each reader gives what it read at the front of a text, and the text
+-- behind it.
+use Rattle.std.specs.Prelude.{ℕ, zero, suc, Bool, ◌==◌, if◌then◌else◌, List, [], ◌∷◌, length, take}
+use Rattle.std.specs.Prelude.{drop, codes, bytes_eq, Option, Some, None, option_map, unwrap_or}
 use Rattle.std.specs.Char.{is_ascii_digit, is_ascii_alphanumeric}
 use Rattle.std.specs.List.{list_all, prefix_len}
 use Rattle.std.specs.Str.{str_to_ascii_lowercase}
@@ -25,14 +27,16 @@ abbrev pub optional_at : {X : Type 0} → (List ℕ → Option (X × List ℕ)) 
 optional_at read text = unwrap_or (option_map (λ x. (Some x.0, x.1)) (read text)) (None, text)
 
 -- what is read behind one byte of a class
-abbrev pub behind_at : {X : Type 0} → (ℕ → Bool) → (List ℕ → Option (X × List ℕ)) → List ℕ → Option (X × List ℕ)
+abbrev pub behind_at : {X : Type 0} → (ℕ → Bool) → (List ℕ → Option (X × List ℕ))
+    → List ℕ → Option (X × List ℕ)
 behind_at opens read [] = None
 behind_at opens read (b ∷ rest) = if opens b then read rest else None
 
 -- items as long as one can be read, at most so many
 unfoldable pub many : {X : Type 0} → (List ℕ → Option (X × List ℕ)) → ℕ → List ℕ → List X × List ℕ
 many read zero text = ([], text)
-many read (suc n) text = unwrap_or (option_map (λ x. onto x.0 (many read n x.1)) (read text)) ([], text)
+many read (suc n) text =
+    unwrap_or (option_map (λ x. onto x.0 (many read n x.1)) (read text)) ([], text)
 
 -- items as long as one can be read
 unfoldable pub many_at : {X : Type 0} → (List ℕ → Option (X × List ℕ)) → List ℕ → List X × List ℕ
@@ -49,7 +53,9 @@ after_separator (b ∷ rest) = if is_separator b then rest else b ∷ rest
 
 -- digits or none
 abbrev pub count_at : List ℕ → ℕ × List ℕ
-count_at text = (digits_value 10 (take (prefix_len is_ascii_digit text) text), drop (prefix_len is_ascii_digit text) text)
+count_at text =
+    let run = prefix_len is_ascii_digit text in
+    (digits_value 10 (take run text), drop run text)
 
 -- one digit or more
 abbrev pub number_at : List ℕ → Option (ℕ × List ℕ)
@@ -57,7 +63,9 @@ number_at text = if starts is_ascii_digit text then Some (count_at text) else No
 
 -- the text behind a word, which is in lower case here and in any case there
 abbrev pub word_at : List ℕ → List ℕ → Option (List ℕ)
-word_at word text = if bytes_eq (str_to_ascii_lowercase (take (length word) text)) word then Some (drop (length word) text) else None
+word_at word text =
+    if bytes_eq (str_to_ascii_lowercase (take (length word) text)) word
+    then Some (drop (length word) text) else None
 
 -- the text behind the longer of two words, or else the shorter
 abbrev pub either_at : List ℕ → List ℕ → List ℕ → Option (List ℕ)
@@ -72,7 +80,9 @@ after_prefix text = unwrap_or (word_at (codes "v") text) text
 unfoldable pub head_at : List ℕ → Option ((ℕ × ℕ) × List ℕ)
 head_at text = do
   first ← number_at text
-  if starts (λ b. b == 33) first.1 then (number_at (drop 1 first.1) >>= λ second. Some ((first.0, second.0), second.1)) else Some ((0, first.0), first.1)
+  if starts (λ b. b == 33) first.1
+      then (number_at (drop 1 first.1) >>= λ second. Some ((first.0, second.0), second.1))
+      else Some ((0, first.0), first.1)
 
 unfoldable pub dotted_number_at : List ℕ → Option (ℕ × List ℕ)
 dotted_number_at text = behind_at is_dot number_at text
@@ -91,7 +101,8 @@ abbrev pub tail_at : List ℕ → ℕ × List ℕ
 tail_at text = count_at (after_separator text)
 
 unfoldable pub pre_word_at : List ℕ → Option (PreKind × List ℕ)
-pre_word_at text = either (option_map (λ rest. (A, rest)) (either_at (codes "alpha") (codes "a") text))
+pre_word_at text =
+    either (option_map (λ rest. (A, rest)) (either_at (codes "alpha") (codes "a") text))
     (either (option_map (λ rest. (B, rest)) (either_at (codes "beta") (codes "b") text))
     (either (option_map (λ rest. (Rc, rest)) (either_at (codes "preview") (codes "pre") text))
     (option_map (λ rest. (Rc, rest)) (either_at (codes "rc") (codes "c") text))))
@@ -123,10 +134,15 @@ tagged_dev_at text = do
 -- ---- the local part
 
 abbrev pub segment_of : List ℕ → LocalPart
-segment_of run = if list_all is_ascii_digit run then Number (digits_value 10 run) else Text (str_to_ascii_lowercase run)
+segment_of run =
+    if list_all is_ascii_digit run then Number (digits_value 10 run)
+    else Text (str_to_ascii_lowercase run)
 
 unfoldable pub segment_at : List ℕ → Option (LocalPart × List ℕ)
-segment_at text = if starts is_ascii_alphanumeric text then Some (segment_of (take (prefix_len is_ascii_alphanumeric text) text), drop (prefix_len is_ascii_alphanumeric text) text) else None
+segment_at text =
+    let run = prefix_len is_ascii_alphanumeric text in
+    if starts is_ascii_alphanumeric text then Some (segment_of (take run text), drop run text)
+    else None
 
 unfoldable pub separated_segment_at : List ℕ → Option (LocalPart × List ℕ)
 separated_segment_at text = behind_at is_separator segment_at text
@@ -135,7 +151,10 @@ unfoldable pub added_segment_at : List ℕ → Option (LocalPart × List ℕ)
 added_segment_at text = behind_at (λ b. b == 43) segment_at text
 
 unfoldable pub local_at : List ℕ → List LocalPart × List ℕ
-local_at text = unwrap_or (option_map (λ first. onto first.0 (many_at separated_segment_at first.1)) (added_segment_at text)) ([], text)
+local_at text = unwrap_or
+    (option_map (λ first. onto first.0 (many_at separated_segment_at first.1))
+    (added_segment_at text))
+    ([], text)
 
 -- ---- the whole text
 
@@ -145,8 +164,17 @@ parts_at base text =
     let pre = optional_at tagged_pre_at text in
     let post = optional_at dashed_or_tagged_post_at pre.1 in
     let dev = optional_at tagged_dev_at post.1 in
-    let local = local_at dev.1 in
-    (record { epoch = base.0; release = base.1; pre = pre.0; post = post.0; dev = dev.0; local = local.0 }, local.1)
+    let local = local_at dev.1 in (
+      record {
+        epoch = base.0;
+        release = base.1;
+        pre = pre.0;
+        post = post.0;
+        dev = dev.0;
+        local = local.0;
+      },
+      local.1,
+    )
 
 -- The parts that the text spells.
 unfoldable pub version_of : List ℕ → Option Parts

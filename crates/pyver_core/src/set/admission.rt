@@ -4,7 +4,9 @@ ghost use Rattle.std.specs.Prelude.{◌≡◌, ◌==◌, length, nat_eq};
 ghost use Rattle.std.specs.List.{list_all, starts_with};
 ghost use Rattle.pyver_core.specs.Inner.PartsRef.{parts_of};
 ghost use Rattle.pyver_core.specs.Version.Order.{is_before, is_same, with_zeros};
-ghost use Rattle.pyver_core.specs.Set.Admission.{admits, has_base_of, has_local, is_above, is_at_least, is_at_most, is_below, is_compatible, matches, matches_prefix};
+ghost use Rattle.pyver_core.specs.Set.Admission.{admits, has_base_of, has_local, is_above};
+ghost use Rattle.pyver_core.specs.Set.Admission.{is_at_least, is_at_most, is_below, is_compatible};
+ghost use Rattle.pyver_core.specs.Set.Admission.{matches, matches_prefix};
 
 use crate::set::Specifier;
 use crate::version::{PartsRef, Version, compare};

@@ -3,8 +3,10 @@
 ghost use Rattle.std.specs.Prelude.{◌≡◌, ◌++◌, IfOk, OnOk, Some, string_bytes};
 ghost use Rattle.std.specs.Fmt.{WritesOnOk, padded};
 ghost use Rattle.std.specs.List.{flat_map};
-ghost use Rattle.pyver_core.specs.Version.Normal.{decimal_text, dotted_number, epoch_text, release_text};
-ghost use Rattle.pyver_core.specs.Set.Normal.{operand_text, operator_text, prefix_text, set_text, specifier_text};
+ghost use Rattle.pyver_core.specs.Version.Normal.{decimal_text, dotted_number, epoch_text};
+ghost use Rattle.pyver_core.specs.Version.Normal.{release_text};
+ghost use Rattle.pyver_core.specs.Set.Normal.{operand_text, operator_text, prefix_text, set_text};
+ghost use Rattle.pyver_core.specs.Set.Normal.{specifier_text};
 
 use crate::set::{Operand, Operator, ReleasePrefix, Specifier, SpecifierSet};
 use crate::version::{push_epoch, push_release};
@@ -27,7 +29,8 @@ pub(crate) fn set_text(alloc: Global, specifiers: &[Specifier]) -> Result<String
 }
 
 fn push_specifier(text: &mut String, specifier: &Specifier) -> Result<(), AllocError>
-    ensures { OnOk result (string_bytes text.new ≡ string_bytes text.old ++ specifier_text specifier.now) }
+    ensures { OnOk result (string_bytes text.new
+        ≡ string_bytes text.old ++ specifier_text specifier.now) }
 {
     text.push_str(specifier.operator().as_str())?;
     push_operand(text, specifier)
@@ -44,7 +47,8 @@ fn push_operand(text: &mut String, specifier: &Specifier) -> Result<(), AllocErr
 }
 
 fn push_prefix(text: &mut String, prefix: &ReleasePrefix) -> Result<(), AllocError>
-    ensures { OnOk result (string_bytes text.new ≡ string_bytes text.old ++ prefix_text prefix.now) }
+    ensures { OnOk result (string_bytes text.new
+        ≡ string_bytes text.old ++ prefix_text prefix.now) }
 {
     push_epoch(text, prefix.epoch())?;
     push_release(text, prefix.release())?;

@@ -16,9 +16,9 @@ use std::alloc::Global;
 impl Specifier {
     /// The specifier with this operator and operand (PEP 440, "Version specifiers").
     ///
-    /// White space (TAB, LF, VT, FF, CR, space) may stand round the operand. `NumberTooLarge` is answered
-    /// only to an operand that follows the grammar, so `Syntax` comes first. A refusal as `Syntax` takes
-    /// no memory.
+    /// White space (TAB, LF, VT, FF, CR, space) may stand round the operand. `NumberTooLarge` is
+    /// answered only to an operand that follows the grammar, so `Syntax` comes first. A refusal as
+    /// `Syntax` takes no memory.
     pub fn new(
         alloc: Global,
         operator: Operator,

@@ -1,6 +1,7 @@
 //! Specifier sets from their texts.
 
-ghost use Rattle.std.specs.Prelude.{◌≡◌, List, ◌∷◌, ◌++◌, [], IfOk, IsErrOf, MatchBool, true, false};
+ghost use Rattle.std.specs.Prelude.{◌≡◌, List, ◌∷◌, ◌++◌, [], IfOk, IsErrOf, MatchBool, true};
+ghost use Rattle.std.specs.Prelude.{false};
 ghost use Rattle.pyver_core.specs.Agreement.{Gives};
 ghost use Rattle.pyver_core.specs.Version.Grammar.{has_large};
 ghost use Rattle.pyver_core.specs.Parsed.{parsed_set};
@@ -15,18 +16,19 @@ use crate::version::reading::is_blank;
 use std::alloc::{AllocError, Global};
 
 impl SpecifierSet {
-    /// The set that the text writes (PEP 440, "Version specifiers"): specifiers with commas between them,
-    /// in any of the forms of their operators and versions.
+    /// The set that the text writes (PEP 440, "Version specifiers"): specifiers with commas between
+    /// them, in any of the forms of their operators and versions.
     ///
-    /// White space (TAB, LF, VT, FF, CR, space) may stand round each operator and operand, and pieces of
-    /// white space alone are passed over. `NumberTooLarge` is answered only to a text that follows the
-    /// grammar as a whole, so `Syntax` comes first. A set takes memory for its specifiers and its normal
-    /// form.
+    /// White space (TAB, LF, VT, FF, CR, space) may stand round each operator and operand, and
+    /// pieces of white space alone are passed over. `NumberTooLarge` is answered only to a text
+    /// that follows the grammar as a whole, so `Syntax` comes first. A set takes memory for its
+    /// specifiers and its normal form.
     pub fn parse(alloc: Global, text: &str) -> Result<SpecifierSet, SpecifierError>
         ensures ok { IfOk result (λ set. SetText text.now set) }
         ensures fits { IfOk result (λ set. IsLargeSet set → ⊥) }
 
-        ensures syntax { IsErrOf result SpecifierError.Syntax → (s : List Specifier) → SetText text.now s → ⊥ }
+        ensures syntax { IsErrOf result SpecifierError.Syntax
+            → (s : List Specifier) → SetText text.now s → ⊥ }
         ensures large { IsErrOf result SpecifierError.NumberTooLarge
             → (s : List Specifier) × SetText text.now s × IsLargeSet s }
 
@@ -68,15 +70,16 @@ fn read_items(alloc: Global, text: &str) -> Result<Vec<Specifier>, SpecifierErro
     Ok(items)
 }
 
-/// Puts the specifier behind the others and answers true, or answers false where one of its numbers is
-/// past the limit.
+/// Puts the specifier behind the others and answers true, or answers false where one of its numbers
+/// is past the limit.
 fn push_within_limit(
     alloc: Global,
     items: &mut Vec<Specifier>,
     draft: &SpecifierDraft<'_>,
 ) -> Result<bool, AllocError>
     ensures { IfOk result (λ is_within. MatchBool is_within
-        ((items.new.items ≡ items.old.items ++ draft_specifier draft.now ∷ []) × (has_large (specifier_numbers (draft_specifier draft.now)) ≡ false))
+        ((items.new.items ≡ items.old.items ++ draft_specifier draft.now ∷ [])
+        × (has_large (specifier_numbers (draft_specifier draft.now)) ≡ false))
         (has_large (specifier_numbers (draft_specifier draft.now)) ≡ true)) }
 {
     match draft.to_specifier(alloc) {

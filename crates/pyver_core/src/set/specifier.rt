@@ -211,8 +211,8 @@ fn is_same_operand(left: &Operand<'_>, right: &Operand<'_>) -> bool
     }
 }
 
-/// Equal as they are written: the same operator, and the same normal form of the operand. So `>=1.0`
-/// isn't `>=1`, though both admit the same versions. It takes no memory.
+/// Equal as they are written: the same operator, and the same normal form of the operand. So
+/// `>=1.0` isn't `>=1`, though both admit the same versions. It takes no memory.
 impl PartialEq for Specifier {
     ghost eq = { specifier_eq };
 

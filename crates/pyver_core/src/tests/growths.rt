@@ -1,6 +1,6 @@
-//! Calls whose growths are refused in turn: `tools/growths/run` runs each of these tests once for each of its
-//! growths, that one refused. A test passes where the call answers want of memory, or just what it answers
-//! with ample memory.
+//! Calls whose growths are refused in turn: `tools/growths/run` runs each of these tests once for
+//! each of its growths, that one refused. A test passes where the call answers want of memory, or
+//! just what it answers with ample memory.
 
 use crate::{
     Operator, PartsError, Specifier, SpecifierError, SpecifierSet, Version, VersionError,

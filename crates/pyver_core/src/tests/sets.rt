@@ -1,5 +1,5 @@
-//! Specifier sets: what they admit, their text, their refusals. The candidates of each operator are those of
-//! PEP 440, "Version specifiers".
+//! Specifier sets: what they admit, their text, their refusals. The candidates of each operator are
+//! those of PEP 440, "Version specifiers".
 
 use crate::{SpecifierError, SpecifierSet, Version};
 use std::process::Abort;

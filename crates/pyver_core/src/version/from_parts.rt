@@ -21,7 +21,8 @@ pub enum PartsError {
     /// The release has no number.
     #[error("release")]
     EmptyRelease,
-    /// A text of the local part isn't made of ASCII digits and letters in lower case, or has no letter.
+    /// A text of the local part isn't made of ASCII digits and letters in lower case, or has no
+    /// letter.
     #[error("local")]
     LocalSegment,
     /// There was no memory for the normal form.
@@ -70,9 +71,10 @@ impl Model for VersionParts {
 }
 
 impl Version {
-    /// The version with these parts, which its normal form spells. They are refused where no text spells
-    /// them: the release needs a number, and each text of the local part is made of ASCII digits and
-    /// letters in lower case, at least one of them a letter. It takes memory for the normal form.
+    /// The version with these parts, which its normal form spells. They are refused where no text
+    /// spells them: the release needs a number, and each text of the local part is made of ASCII
+    /// digits and letters in lower case, at least one of them a letter. It takes memory for the
+    /// normal form.
     pub fn from_parts(alloc: Global, parts: VersionParts) -> Result<Version, PartsError>
         ensures ok { IfOk result (λ v. (v ≡ parts) × Spells (normal v) v) }
         ensures refused { IfErr result (λ e. (e ≡ PartsError.Memory → ⊥)

@@ -4,14 +4,18 @@ ghost use Rattle.std.specs.Prelude.{◌≡◌, ◌++◌, IfOk, OnOk, Some, strin
 ghost use Rattle.std.specs.Fmt.{padded};
 ghost use Rattle.std.specs.List.{flat_map};
 ghost use Rattle.pyver_core.specs.Inner.PartsRef.{parts_of};
-ghost use Rattle.pyver_core.specs.Version.Normal.{decimal_text, dev_text, dotted_number, dotted_segment, epoch_text, letters, local_text, normal, post_text, pre_text, release_text, segment_text};
+ghost use Rattle.pyver_core.specs.Version.Normal.{decimal_text, dev_text, dotted_number};
+ghost use Rattle.pyver_core.specs.Version.Normal.{dotted_segment, epoch_text, letters, local_text};
+ghost use Rattle.pyver_core.specs.Version.Normal.{normal, post_text, pre_text, release_text};
+ghost use Rattle.pyver_core.specs.Version.Normal.{segment_text};
 
 use crate::version::{LocalPart, PartsRef, PreKind, Version};
 use std::alloc::{AllocError, Global};
 use std::fmt;
 use std::fmt::Write;
 
-/// The room that a normal form begins with, which nearly each keeps to. The C library's allocator gives no less.
+/// The room that a normal form begins with, which nearly each keeps to. The C library's allocator
+/// gives no less.
 const USUAL_LENGTH: usize = 24;
 
 /// The normal form of a version with these parts.
@@ -51,7 +55,8 @@ pub(crate) fn push_epoch(text: &mut String, epoch: u128) -> Result<(), AllocErro
 
 /// Writes the numbers of a release.
 pub(crate) fn push_release(text: &mut String, release: &[u128]) -> Result<(), AllocError>
-    ensures { OnOk result (string_bytes text.new ≡ string_bytes text.old ++ release_text release.now) }
+    ensures { OnOk result (string_bytes text.new
+        ≡ string_bytes text.old ++ release_text release.now) }
 {
     if let Some((first, rest)) = release.split_first() {
         push_number(text, *first)?;
@@ -126,7 +131,8 @@ fn push_local(text: &mut String, local: &[LocalPart]) -> Result<(), AllocError>
 }
 
 fn push_segment(text: &mut String, segment: &LocalPart) -> Result<(), AllocError>
-    ensures { OnOk result (string_bytes text.new ≡ string_bytes text.old ++ segment_text segment.now) }
+    ensures { OnOk result (string_bytes text.new
+        ≡ string_bytes text.old ++ segment_text segment.now) }
 {
     match segment {
         LocalPart::Number(number) => push_number(text, *number),

@@ -1,10 +1,12 @@
 //! The order of versions (PEP 440, "Summary of permitted suffixes and relative ordering").
 
 ghost use Rattle.std.specs.Prelude.{◌≡◌, refl};
-ghost use Rattle.std.specs.Cmp.{eq_by_cmp_equiv, partial_equiv_from_equiv, partial_order_from_total};
+ghost use Rattle.std.specs.Cmp.{eq_by_cmp_equiv, partial_equiv_from_equiv};
+ghost use Rattle.std.specs.Cmp.{partial_order_from_total};
 ghost use Rattle.std.specs.Ordering.{as_partial_cmp, eq_by_cmp, nat_cmp, ordering_then};
 ghost use Rattle.pyver_core.specs.Inner.PartsRef.{parts_of};
-ghost use Rattle.pyver_core.specs.Version.Order.{dev_cmp, phase_number, phase_rank, release_cmp, version_cmp};
+ghost use Rattle.pyver_core.specs.Version.Order.{dev_cmp, phase_number, phase_rank, release_cmp};
+ghost use Rattle.pyver_core.specs.Version.Order.{version_cmp};
 ghost use Rattle.pyver_core.specs.Inner.Phase.{phase_of};
 ghost use Rattle.pyver_core.specs.Inner.OrderLaws.{version_total};
 ghost use Rattle.pyver_core.specs.Version.Hashing.{without_trailing_zeros};
@@ -34,7 +36,7 @@ fn compare_releases(left: &[u128], right: &[u128]) -> Ordering
 }
 
 /// A release without the zeros at its end.
-#[tactic(auto, using(crate::proofs::Lemmas::Version::TrailingZeros::strip_zero, crate::proofs::Lemmas::Version::TrailingZeros::stripped_at))]
+#[tactic(auto, using(crate::proofs::Lemmas::Version::TrailingZeros::trailing_zeros))]
 pub(crate) fn without_trailing_zeros(release: &[u128]) -> &[u128]
     ensures { result.now ≡ without_trailing_zeros release.now }
 {
@@ -68,7 +70,8 @@ fn phase_of(parts: &PartsRef<'_>) -> Phase
 
 fn compare_phases(left: &PartsRef<'_>, right: &PartsRef<'_>) -> Ordering
     ensures { result ≡ ordering_then
-        (nat_cmp (phase_rank left.now.pre left.now.post left.now.dev) (phase_rank right.now.pre right.now.post right.now.dev))
+        (nat_cmp (phase_rank left.now.pre left.now.post left.now.dev)
+        (phase_rank right.now.pre right.now.post right.now.dev))
         (nat_cmp (phase_number left.now.pre) (phase_number right.now.pre)) }
 {
     phase_of(left).cmp(&phase_of(right))

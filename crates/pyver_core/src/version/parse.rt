@@ -13,10 +13,10 @@ use std::alloc::Global;
 impl Version {
     /// The version that the text spells (PEP 440, "Version scheme").
     ///
-    /// Letter case, alternative spellings and leading zeros don't matter, and white space (TAB, LF, VT,
-    /// FF, CR, space) may stand at both ends. `NumberTooLarge` is answered only to a text that follows
-    /// the grammar as a whole, so `Syntax` comes first. A refusal as `Syntax` takes no memory; a version
-    /// takes that of its release, its local part and its normal form.
+    /// Letter case, alternative spellings and leading zeros don't matter, and white space (TAB, LF,
+    /// VT, FF, CR, space) may stand at both ends. `NumberTooLarge` is answered only to a text that
+    /// follows the grammar as a whole, so `Syntax` comes first. A refusal as `Syntax` takes no
+    /// memory; a version takes that of its release, its local part and its normal form.
     pub fn parse(alloc: Global, text: &str) -> Result<Version, VersionError>
         ensures ok { IfOk result (λ v. Spells text.now v) }
         ensures fits { IfOk result (λ v. IsLarge v → ⊥) }

@@ -11,7 +11,12 @@ abbrev pub set_of : TagSet → TagParts
 set_of set = (set.python.now, set.abi.now, set.platform.now)
 
 abbrev pub wheel_parts : StemParts → WheelParts
-wheel_parts parts = record { name = parts.name.now; version = parts.version.now; build = option_map (λ b. b.now) parts.build; tag_set = parts.tag_set.now }
+wheel_parts parts = record {
+  name = parts.name.now;
+  version = parts.version.now;
+  build = option_map (λ b. b.now) parts.build;
+  tag_set = parts.tag_set.now;
+}
 
 abbrev pub candidate_of : Candidate → Ranked
 candidate_of c = record { rank = c.rank; build = c.wheel.now.build; place = c.place }

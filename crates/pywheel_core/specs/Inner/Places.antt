@@ -22,16 +22,22 @@ IsAsciiText text = list_all is_ascii text ≡ true
 
 -- the tag whose parts stand at these places
 abbrev pub tag_at : List ℕ → Place → Place → Place → TagValue
-tag_at text python abi platform = record { python = at text python; abi = at text abi; platform = at text platform }
+tag_at text python abi platform =
+    record { python = at text python; abi = at text abi; platform = at text platform }
 
 -- the places of pieces that follow one another from a place on, with one byte between two of them
 abbrev pub places_from : ℕ → List (List ℕ) → List Place
 places_from start [] = []
-places_from start (piece ∷ pieces) = record { start = start; end = start + length piece } ∷ places_from (start + length piece + 1) pieces
+places_from start (piece ∷ pieces) =
+    record { start = start; end = start + length piece }
+    ∷ places_from (start + length piece + 1) pieces
 
 -- the places of three parts in the text that they make with one byte between two of them
 abbrev pub places_of : TagParts → Place × Place × Place
 places_of set =
     let python = length set.0 in
-    let abi = python + 1 + length set.1 in
-    (record { start = 0; end = python }, record { start = python + 1; end = abi }, record { start = abi + 1; end = abi + 1 + length set.2 })
+    let abi = python + 1 + length set.1 in (
+      record { start = 0; end = python },
+      record { start = python + 1; end = abi },
+      record { start = abi + 1; end = abi + 1 + length set.2 },
+    )

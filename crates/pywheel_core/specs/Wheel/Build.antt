@@ -1,7 +1,7 @@
--- Build tags (PEP 427, "File name convention": "Must start with a digit. Acts as a tie-breaker .. Sort as an
--- empty tuple if unspecified, else sort as a two-item tuple with the first item being the initial digits as an
--- int, and the second item being the remainder of the tag as a str").
-use Rattle.std.specs.Prelude.{ℕ, ◌^◌, Bool, ◌&&◌, nat_lt, List, length, take, drop, Option}
+-- Build tags (PEP 427, "File name convention": "Must start with a digit. Acts as a tie-breaker ..
+-- Sort as an empty tuple if unspecified, else sort as a two-item tuple with the first item being
+-- the initial digits as an int, and the second item being the remainder of the tag as a str").
+use Rattle.std.specs.Prelude.{ℕ, ◌^◌, Bool, ◌&&◌, nat_lt, List, take, drop, Option}
 use Rattle.std.specs.Char.{is_ascii, is_ascii_digit}
 use Rattle.std.specs.Cmp.Lexicographic.{slice_cmp}
 use Rattle.std.specs.List.{list_all, prefix_len}
@@ -25,7 +25,8 @@ build_rest build = drop (prefix_len is_ascii_digit build) build
 -- ASCII, with a digit or more in front, whose number isn't past
 -- 340,282,366,920,938,463,463,374,607,431,768,211,455
 abbrev pub is_build : List ℕ → Bool
-is_build build = list_all is_ascii build && (nat_lt 0 (prefix_len is_ascii_digit build) && nat_lt (build_number build) (2 ^ 128))
+is_build build = list_all is_ascii build
+    && (nat_lt 0 (prefix_len is_ascii_digit build) && nat_lt (build_number build) (2 ^ 128))
 
 -- by number, then by the rest, by code point
 abbrev pub build_cmp : List ℕ → List ℕ → Ordering

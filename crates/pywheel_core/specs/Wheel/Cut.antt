@@ -1,5 +1,6 @@
 -- The parts of a wheel's name (PEP 427, "File name convention").
-use Rattle.std.specs.Prelude.{ℕ, ◌-◌, Bool, bytes_eq, if◌then◌else◌, List, length, take, drop, codes, Option, Some, None, is_some}
+use Rattle.std.specs.Prelude.{ℕ, ◌-◌, bytes_eq, if◌then◌else◌, List, length, take, drop, codes}
+use Rattle.std.specs.Prelude.{Option, Some, None, is_some}
 use Rattle.pyver_core.specs.Options.{◌>>=◌, either}
 use Rattle.pywheel_core.specs.Texts.{cut_at, three_parts}
 
@@ -12,7 +13,8 @@ pub record WheelParts : Type 0 where
 
 -- what stands before the extension
 unfoldable pub stem_of : List ℕ → Option (List ℕ)
-stem_of text = if bytes_eq (drop (length text - 4) text) (codes ".whl") then Some (take (length text - 4) text) else None
+stem_of text = if bytes_eq (drop (length text - 4) text) (codes ".whl")
+    then Some (take (length text - 4) text) else None
 
 -- the parts behind the version: three, which are a tag set
 unfoldable pub unbuilt : List ℕ → Option (Option (List ℕ) × List ℕ)

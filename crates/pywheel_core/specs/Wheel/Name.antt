@@ -10,4 +10,5 @@ is_wheel_name_byte b = is_ascii_alphanumeric b || ((b == 95) || (b == 46))
 
 -- one or more of these, without `__`
 abbrev pub is_wheel_name : List ℕ → Bool
-is_wheel_name name = (nat_lt 0 (length name) && list_all is_wheel_name_byte name) && not (has_pair 95 name)
+is_wheel_name name =
+    (nat_lt 0 (length name) && list_all is_wheel_name_byte name) && not (has_pair 95 name)

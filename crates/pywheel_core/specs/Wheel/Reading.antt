@@ -1,11 +1,11 @@
--- Reading the name of a wheel: the first refusal in order, or what the name says. It gives an answer exactly
--- where `Wheel` holds, and that of which it holds: the law `wheel_of_is_the_answer`.
+-- Reading the name of a wheel: the first refusal in order, or what the name says. It gives an
+-- answer exactly where `Wheel` holds, and that of which it holds: the law `wheel_of_is_the_answer`.
 use Rattle.std.specs.Prelude.{ℕ, if◌then◌else◌, List, Option, Some, None, ok_or, Result, Ok, Err}
 use Rattle.std.specs.Str.{str_to_ascii_lowercase}
-use Rattle.pyver_core.specs.Parts.{Parts}
+use Rattle.pyver_core.specs.Version.Parts.{Parts}
 use Rattle.pyver_core.specs.Results.{◌>>=◌}
-use Rattle.pyver_core.specs.declared.error.VersionError.{VersionError}
-use Rattle.pywheel_core.specs.Parsed.{parsed_version}
+use Rattle.pyver_core.specs.declared.version.error.VersionError.{VersionError}
+use Rattle.pyver_core.specs.Parsed.{parsed_version}
 use Rattle.pywheel_core.specs.Tag.{TagValue, is_tag_set, tags_in}
 use Rattle.pywheel_core.specs.Texts.{three_parts}
 use Rattle.pywheel_core.specs.Wheel.Build.{is_build}

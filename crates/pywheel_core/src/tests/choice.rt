@@ -47,7 +47,13 @@ fn rank_then_build_then_place(rt: HostRuntime) -> Result<(), Fail> {
 fn the_best_of_a_wheels_tags_counts(rt: HostRuntime) -> Result<(), Fail> {
     let texts = ["cp312-cp312-win32", "py3-none-any", "py2-none-any"];
     let tags = TagList::parse(rt.alloc(), &texts)?;
-    let found = wheels(&rt, &["a-1-py3-none-any.whl", "a-1-py2.cp312-none.cp312-any.win32.whl"])?;
+    let found = wheels(
+        &rt,
+        &[
+            "a-1-py3-none-any.whl",
+            "a-1-py2.cp312-none.cp312-any.win32.whl",
+        ],
+    )?;
     assert_eq!(rt; choose(found.as_slice(), &tags), Some(1));
     Ok(())
 }

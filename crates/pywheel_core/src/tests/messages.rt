@@ -18,8 +18,14 @@ fn refusals_print_their_words(rt: HostRuntime) -> Result<(), Fail> {
     }
     assert_eq!(rt; TagError::Shape.to_string(rt.alloc())?.as_str(), "shape");
     assert_eq!(rt; TagError::Memory.to_string(rt.alloc())?.as_str(), "memory");
-    assert_eq!(rt; TagListError::Tag(2).to_string(rt.alloc())?.as_str(), "tag 2");
-    assert_eq!(rt; TagListError::Memory.to_string(rt.alloc())?.as_str(), "memory");
+    assert_eq!(rt;
+        TagListError::Tag(2).to_string(rt.alloc())?.as_str(),
+        "tag 2"
+    );
+    assert_eq!(rt;
+        TagListError::Memory.to_string(rt.alloc())?.as_str(),
+        "memory"
+    );
     Ok(())
 }
 

@@ -60,3 +60,13 @@ fn a_list_names_its_first_bad_text(rt: HostRuntime) -> Result<(), Fail> {
     assert!(rt; TagList::parse(rt.alloc(), &[])?.is_empty());
     Ok(())
 }
+
+#[test]
+fn copies_of_lists_have_the_same_ranks(rt: HostRuntime) -> Result<(), Fail> {
+    let tags = TagList::parse(rt.alloc(), &["py3-none-any", "py2-none-any"])?;
+    let copy = tags.clone()?;
+    assert_eq!(rt; copy.len(), 2);
+    let rank = copy.rank(&Tag::parse(rt.alloc(), "py2-none-any")?);
+    assert_eq!(rt; rank, Some(1));
+    Ok(())
+}

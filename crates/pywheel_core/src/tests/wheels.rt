@@ -159,12 +159,27 @@ fn names_of_the_standard(rt: HostRuntime) -> Result<(), Fail> {
 #[test]
 fn names_print_as_file_names(rt: HostRuntime) -> Result<(), Fail> {
     for (text, printed) in [
-        ("Foo_Bar-V1.0-1b-Py3-none-any.whl", "Foo_Bar-1.0-1b-py3-none-any.whl"),
+        (
+            "Foo_Bar-V1.0-1b-Py3-none-any.whl",
+            "Foo_Bar-1.0-1b-py3-none-any.whl",
+        ),
         ("a-1-py2.py3-none-any.whl", "a-1-py2.py3-none-any.whl"),
     ] {
         let wheel = WheelName::parse(rt.alloc(), text)?;
         assert_eq!(rt; wheel.tag_set().is_empty(), false);
         assert_eq!(rt; wheel.to_string(rt.alloc())?.as_str(), printed);
+    }
+    Ok(())
+}
+
+#[test]
+fn copies_print_alike(rt: HostRuntime) -> Result<(), Fail> {
+    for text in [
+        "foo_bar-1.0-1b-py2.py3-none-any.whl",
+        "a-1-py3-none-any.whl",
+    ] {
+        let copy = WheelName::parse(rt.alloc(), text)?.clone()?;
+        assert_eq!(rt; copy.to_string(rt.alloc())?.as_str(), text);
     }
     Ok(())
 }

@@ -43,3 +43,5 @@ stripped_at xs zero fits other = refl
 stripped_at xs (suc n) fits other =
     let e = take-last xs (suc n) (omega arith) fits in
     ap without_trailing_zeros e ∙ push_other (take (suc n - 1) xs) (get_or xs (suc n - 1) 0) (other (omega arith)) ∙ sym e
+
+pub ruleset trailing_zeros = (strip_zero, stripped_at)

@@ -34,7 +34,8 @@ impl SpecifierDraft<'_> {
 
     /// The specifier in memory of its own.
     pub(crate) fn to_specifier(&self, alloc: Global) -> Result<Specifier, VersionError>
-        ensures { Makes (λ s. s) result (draft_specifier self.now) (specifier_numbers (draft_specifier self.now)) }
+        ensures { Makes (λ s. s) result (draft_specifier self.now)
+            (specifier_numbers (draft_specifier self.now)) }
     {
         Ok(match self {
             SpecifierDraft::Equal(draft) => Specifier::Equal(draft.to_version(alloc)?),

@@ -4,7 +4,8 @@ ghost use Rattle.std.specs.Prelude.{◌≡◌, option_map};
 ghost use Rattle.std.specs.List.{prefix_len};
 ghost use Rattle.pyver_core.specs.Inner.Draft.{draft_parts};
 ghost use Rattle.pyver_core.specs.Set.Grammar.{is_arbitrary};
-ghost use Rattle.pyver_core.specs.Set.Reading.{arbitrary_of, compatible_of, is_star, prefix_of, public_of};
+ghost use Rattle.pyver_core.specs.Set.Reading.{arbitrary_of, compatible_of, is_star, prefix_of};
+ghost use Rattle.pyver_core.specs.Set.Reading.{public_of};
 ghost use Rattle.pyver_core.specs.Inner.SpecifierDraft.{base_prefix};
 
 use super::operator::past_white_text;

@@ -36,7 +36,8 @@ fn past_operator(text: &str, operator: Operator) -> Option<&str>
 
 /// The first of the operators that stands at the front of the text, and the text behind it.
 fn first_of<'a>(operators: &[Operator], text: &'a str) -> Option<(Operator, &'a str)>
-    ensures { option_map (λ cut. (cut.0, cut.1.now)) result ≡ operator_among operators.now text.now }
+    ensures { option_map (λ cut. (cut.0, cut.1.now)) result
+        ≡ operator_among operators.now text.now }
 {
     for operator in operators {
         if let Some(rest) = past_operator(text, *operator) {

@@ -3,7 +3,8 @@
 ghost use Rattle.std.specs.Prelude.{◌≡◌, ◌++◌, option_map};
 ghost use Rattle.pyver_core.specs.Inner.Draft.{base_of};
 ghost use Rattle.pyver_core.specs.Inner.Limit.{Makes};
-ghost use Rattle.pyver_core.specs.Version.Reading.{after_prefix, base_at, dotted_number_at, head_at, many_at};
+ghost use Rattle.pyver_core.specs.Version.Reading.{after_prefix, base_at, dotted_number_at};
+ghost use Rattle.pyver_core.specs.Version.Reading.{head_at, many_at};
 
 use super::digits::Digits;
 use super::scan;
@@ -108,7 +109,8 @@ pub(super) fn with_dotted_numbers(
     mut numbers: Vec<u128>,
     bytes: &[u8],
 ) -> Result<Vec<u128>, VersionError>
-    ensures { Makes (λ v. v.items) result (numbers.items ++ (many_at dotted_number_at bytes.now).0) (many_at dotted_number_at bytes.now).0 }
+    ensures { Makes (λ v. v.items) result (numbers.items ++ (many_at dotted_number_at bytes.now).0)
+        (many_at dotted_number_at bytes.now).0 }
 {
     let mut rest = bytes;
     while let Some((next, after)) = scan::dotted(rest) {

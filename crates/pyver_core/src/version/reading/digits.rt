@@ -89,7 +89,8 @@ impl<'a> Digits<'a> {
 /// The number with one more digit, where 64 bits hold it.
 fn with_short_digit(value: u64, digit: u8) -> Option<u64>
     requires { is_ascii_digit digit ≡ true }
-    ensures { SomeIff result (value * 10 + digit_value digit < 2 ^ 64) (value * 10 + digit_value digit) }
+    ensures { SomeIff result (value * 10 + digit_value digit < 2 ^ 64)
+        (value * 10 + digit_value digit) }
 {
     value.checked_mul(10)?.checked_add(u64::from(digit - b'0'))
 }
@@ -97,7 +98,8 @@ fn with_short_digit(value: u64, digit: u8) -> Option<u64>
 /// The number with one more digit, where it isn't past the limit.
 fn with_digit(value: u128, digit: u8) -> Option<u128>
     requires { is_ascii_digit digit ≡ true }
-    ensures { SomeIff result (value * 10 + digit_value digit < 2 ^ 128) (value * 10 + digit_value digit) }
+    ensures { SomeIff result (value * 10 + digit_value digit < 2 ^ 128)
+        (value * 10 + digit_value digit) }
 {
     value.checked_mul(10)?.checked_add(u128::from(digit - b'0'))
 }

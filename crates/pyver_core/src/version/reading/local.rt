@@ -83,7 +83,9 @@ pub(super) fn with_separated_segments(
     mut segments: Vec<LocalPart>,
     bytes: &[u8],
 ) -> Result<Vec<LocalPart>, VersionError>
-    ensures { Makes (λ v. v.items) result (segments.items ++ (many_at separated_segment_at bytes.now).0) (flat_map number_in_segment (many_at separated_segment_at bytes.now).0) }
+    ensures { Makes (λ v. v.items) result
+        (segments.items ++ (many_at separated_segment_at bytes.now).0)
+        (flat_map number_in_segment (many_at separated_segment_at bytes.now).0) }
 {
     let mut rest = bytes;
     while let Some((next, after)) = scan::separated(rest) {

@@ -5,7 +5,11 @@ ghost use Rattle.std.specs.Char.{is_ascii_digit, is_ascii_alphanumeric};
 ghost use Rattle.std.specs.List.{prefix_len, list_all};
 ghost use Rattle.std.specs.Str.{str_to_ascii_lowercase};
 ghost use Rattle.pyver_core.specs.Version.Grammar.{is_white, is_separator};
-ghost use Rattle.pyver_core.specs.Version.Reading.{after_separator, after_white, count_at, number_at, tail_at, word_at, either_at, pre_word_at, post_word_at, dotted_number_at, segment_at, separated_segment_at, added_segment_at};
+ghost use Rattle.pyver_core.specs.Version.Reading.{after_separator, after_white, count_at};
+ghost use Rattle.pyver_core.specs.Version.Reading.{number_at, tail_at, word_at, either_at};
+ghost use Rattle.pyver_core.specs.Version.Reading.{pre_word_at, post_word_at, dotted_number_at};
+ghost use Rattle.pyver_core.specs.Version.Reading.{segment_at, separated_segment_at};
+ghost use Rattle.pyver_core.specs.Version.Reading.{added_segment_at};
 
 use super::digits::Digits;
 use super::segment::Segment;

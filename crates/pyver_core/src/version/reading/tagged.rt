@@ -1,7 +1,9 @@
 //! The parts behind the release: pre, post and dev.
 
 ghost use Rattle.std.specs.Prelude.{◌≡◌, option_map};
-ghost use Rattle.pyver_core.specs.Version.Reading.{dashed_number_at, optional_at, tagged_pre_at, dashed_or_tagged_post_at, tagged_post_at, tagged_dev_at};
+ghost use Rattle.pyver_core.specs.Version.Reading.{dashed_number_at, optional_at, tagged_pre_at};
+ghost use Rattle.pyver_core.specs.Version.Reading.{dashed_or_tagged_post_at, tagged_post_at};
+ghost use Rattle.pyver_core.specs.Version.Reading.{tagged_dev_at};
 
 use super::digits::Digits;
 use super::scan;

@@ -1,5 +1,5 @@
-use Rattle.std.proofs.Common.{◌≡◌, ◌∙◌, ◌+◌, ap, sym, drop, option_map, arith}
-use Rattle.pywheel_core.specs.Choice.{best, best_from, better, ranked}
+use Rattle.std.proofs.Common.{◌∙◌, ◌+◌, ap, sym, drop, option_map, arith}
+use Rattle.pywheel_core.specs.Choice.{best_from, better, ranked}
 use Rattle.pywheel_core.specs.Inner.Lent.{candidate_of}
 use Rattle.pywheel_core.proofs.Choosing.{best_end, best_step}
 use Rattle.pywheel_core.proofs.choice.best_candidate.Goals as goal

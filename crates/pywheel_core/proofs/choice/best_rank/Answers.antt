@@ -1,4 +1,4 @@
-use Rattle.std.proofs.Common.{◌≡◌, ◌∙◌, ◌+◌, ap, sym, drop, arith}
+use Rattle.std.proofs.Common.{◌∙◌, ◌+◌, ap, sym, drop, arith}
 use Rattle.pywheel_core.specs.Choice.{least_rank, rank_from}
 use Rattle.pywheel_core.specs.Tag.{rank_of}
 use Rattle.pywheel_core.proofs.Choosing.{rank_end, rank_step}

@@ -1,5 +1,5 @@
-use Rattle.std.proofs.Common.{◌≡◌, ◌∙◌, ◌&&◌, false, true, ap, refl, sym, arith}
-use Rattle.pywheel_core.specs.Tag.{are_tag_parts, is_tag_part, pieces}
+use Rattle.std.proofs.Common.{◌≡◌, ◌∙◌, false, true, refl, sym, arith}
+use Rattle.pywheel_core.specs.Tag.{is_tag_part}
 use Rattle.pywheel_core.proofs.Cuts.{length_step, parts_last, parts_step}
 use Rattle.pywheel_core.proofs.tag_set.are_tag_parts.Goals as goal
 

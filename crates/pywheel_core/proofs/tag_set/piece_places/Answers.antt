@@ -1,6 +1,4 @@
-use Rattle.std.proofs.Common.{◌≡◌, ◌∙◌, Ok, ap, refl, sym, arith}
-use Rattle.pywheel_core.specs.Inner.Places.{places_from}
-use Rattle.pywheel_core.specs.Tag.{pieces}
+use Rattle.std.proofs.Common.{◌∙◌, Ok, ap, sym, arith}
 use Rattle.pywheel_core.proofs.Cuts.{length_step, places_last, places_step}
 use Rattle.pywheel_core.proofs.tag_set.piece_places.Goals as goal
 
@@ -20,9 +18,11 @@ loop-piece-smaller c =
 
 pub loop-piece-preserved : goal.loop-piece-preserved
 loop-piece-preserved c =
-    let e = length_step c.loop-piece.rest.now c.in-Some.piece.now c.in-Some.after.now c.in-Some.ensures in
-    (rw c.in_ok-push.ensures.items (sym (places_step c.loop-piece.places.items c.loop-piece.start c.loop-piece.rest.now c.in-Some.piece.now c.in-Some.after.now c.in-Some.ensures) ∙ c.loop-piece.invariant.0),
-    omega (arith, e, c.loop-piece.invariant.1), search)
+    let e = length_step c.loop-piece.rest.now c.in-Some.piece.now c.in-Some.after.now c.in-Some.ensures in (
+      rw c.in_ok-push.ensures.items (sym (places_step c.loop-piece.places.items c.loop-piece.start c.loop-piece.rest.now c.in-Some.piece.now c.in-Some.after.now c.in-Some.ensures) ∙ c.loop-piece.invariant.0),
+      omega (arith, e, c.loop-piece.invariant.1),
+      search,
+    )
 
 pub returns : goal.returns
 returns c = ap Ok (sym (rw c.in_ok-push-2.ensures.items (sym (places_last c.loop-piece.places.items c.loop-piece.start c.loop-piece.rest.now c.in_default.ensures) ∙ c.loop-piece.invariant.0)))

@@ -1,7 +1,7 @@
-use Rattle.std.proofs.Common.{◌≡◌, ◌∙◌, ap, take, true}
+use Rattle.std.proofs.Common.{◌∙◌, ap, take}
 use Rattle.std.specs.Char.{is_ascii_digit}
 use Rattle.std.specs.List.{list_all, prefix_len}
-use Rattle.pyver_core.proofs.Fronts.{list_all_front}
+use Rattle.pyver_core.proofs.Lemmas.Version.Fronts.{list_all_front}
 use Rattle.pywheel_core.proofs.build.BuildTag.parse.Goals as goal
 
 pub number-requires : goal.number-requires

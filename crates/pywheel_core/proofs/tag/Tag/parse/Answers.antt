@@ -1,4 +1,4 @@
-use Rattle.std.proofs.Common.{◌≡◌, ◌∙◌, Some, Ok, ap, sym, true, arith}
+use Rattle.std.proofs.Common.{◌≡◌, ◌∙◌, Some, Ok, ap, sym, true}
 use Rattle.std.specs.Rc.{rc_str_bytes}
 use Rattle.pywheel_core.specs.Inner.Lent.{set_of}
 use Rattle.pywheel_core.specs.Tag.{is_tag}

@@ -1,0 +1,38 @@
+//! Laws of the definitions alone: each function's contract is a law, and its body is empty.
+
+ghost use Rattle.std.specs.Prelude.{◌≡◌, ℕ, List, Option, Ok};
+ghost use Rattle.std.specs.Str.{str_to_ascii_lowercase};
+ghost use Rattle.pyver_core.specs.Version.Parts.{Parts};
+ghost use Rattle.pywheel_core.specs.Choice.{IsBest, best};
+ghost use Rattle.pywheel_core.specs.Tag.{TagValue};
+ghost use Rattle.pywheel_core.specs.Wheel.Grammar.{Wheel};
+ghost use Rattle.pywheel_core.specs.Wheel.Reading.{wheel_of};
+ghost use Rattle.pywheel_core.specs.Wheel.Value.{WheelValue};
+
+/// Among some wheels there is one best place, or none: the one that [`choose`](crate::choose)
+/// answers.
+pub fn one_best_wheel()
+    ensures stands { (wheels : List (Option WheelValue)) (tags : List TagValue)
+        → IsBest wheels tags (best wheels tags) }
+    ensures once { (wheels : List (Option WheelValue)) (tags : List TagValue) (place : Option ℕ)
+        → IsBest wheels tags place → place ≡ best wheels tags }
+{}
+
+/// What [`WheelName::parse`](crate::WheelName::parse) reads, the text says as the name of a wheel.
+pub fn wheel_of_is_the_answer()
+    ensures { (text : List ℕ) (w : WheelValue)
+        → wheel_of text ≡ Ok w → Wheel text w.name w.version w.build w.tags }
+{}
+
+/// What a text says as the name of a wheel, [`WheelName::parse`](crate::WheelName::parse) reads.
+pub fn wheel_of_is_complete()
+    ensures { (text name : List ℕ) (version : Parts) (build : Option (List ℕ))
+        (tags : List TagValue)
+        → Wheel text name version build tags → (set : List ℕ) × (wheel_of text ≡ Ok (record {
+          name = name;
+          version = version;
+          build = build;
+          tag_set = set;
+          tags = tags;
+        })) }
+{}
