@@ -1,5 +1,5 @@
 -- What clap's matches tell of a subcommand.
-use Rattle.std.proofs.Common.{◌≡◌, List, [], ◌∷◌, Option, None, Some, refl, true, inl, inr, is_some, subst, sym, ap, ap₂, ◌∙◌, Box, option_map}
+use Rattle.std.proofs.Common.{◌≡◌, ◌||◌, Bool, false, not, List, [], ◌∷◌, Option, None, Some, refl, true, inl, inr, is_some, subst, sym, ap, ap₂, ◌∙◌, Box, option_map}
 use Rattle.std.proofs.lemmas.List.Elements.{All-cons, All-nil}
 use Rattle.std.specs.Box.{box_value}
 use Rattle.clap.proofs.WalkLemmas.{first_value-rows}
@@ -7,8 +7,7 @@ use Rattle.clap.specs.Words.{Row, Text, first_of, first_value, found_of, rows_of
 use Rattle.clap.proofs.OnLiterals.{clap_on_literals}
 use Rattle.clap.specs.Words.{App, HasKind, IsAmong, fault_of, is_simple_and_free, kind_of}
 use Rattle.clap.specs.declared.error.Error.{Error}
-use Rattle.pylock.specs.CommandError.{Keeps}
-use Rattle.pylock.specs.CommandLine.{HasTexts, IsRefusal, pylock_app}
+use Rattle.pylock.specs.CommandLine.{HasTexts, IsRefusal, Keeps, is_lacking, lacks, lacks_text, pylock_app}
 use Rattle.pylock.specs.declared.command.CommandError.{CommandError}
 use Rattle.pylock.specs.declared.command.CommandError.TheVariants.{Refused, Memory}
 use Rattle.clap.specs.declared.parser.matches.ArgMatches.{ArgMatches}
@@ -27,6 +26,10 @@ both_parts (Some found) name rows named met =
     let same_name : found.0 ≡ name = cc in
     let same_rows : found.1 ≡ rows = cc in
     ap₂ (λ (n : Text) (rs : List Row). Some (n, rs)) same_name same_rows
+
+or-true : (b : Bool) → (b || true) ≡ true
+or-true true = refl
+or-true false = refl
 
 abbrev HasText : List Row → Text × Text → Type 0
 HasText rows p = first_of p.0 rows ≡ Some p.1
@@ -59,8 +62,17 @@ module _ (m found : ArgMatches) (name word : Text) (is : name ≡ word) (named :
         (All-cons (HasText rows) (other, other_text) [] (given other other_text gives_other) (All-nil (HasText rows)));
   }
 
-  pub is_met : is_some (subcommand_rows_of m) ≡ true
-  is_met = ap is_some entered
+  pub is_lacking-from : lacks_text word rows ≡ true → is_lacking (subcommand_rows_of m) ≡ true
+  is_lacking-from lacking = ap is_lacking entered ∙ lacking
+
+  pub lacks_one : (id : Text) → None ≡ first_value (found_of found) id → lacks rows id ≡ true
+  lacks_one id none = ap (λ (text : Option Text). not (is_some text)) (sym (none ∙ first_value-rows (found_of found) id))
+
+  pub lacks_first : (id other : Text) → None ≡ first_value (found_of found) id → (lacks rows id || lacks rows other) ≡ true
+  lacks_first id other none = ap (λ b. b || lacks rows other) (lacks_one id none)
+
+  pub lacks_second : (id other : Text) → None ≡ first_value (found_of found) other → (lacks rows id || lacks rows other) ≡ true
+  lacks_second id other none = ap (λ b. lacks rows id || b) (lacks_one other none) ∙ or-true (lacks rows id)
 
 pylock_app-is_simple_and_free : is_simple_and_free pylock_app ≡ true
 unfolding clap_on_literals

@@ -6,14 +6,14 @@ use Rattle.std.specs.List.{position, position_or_len}
 use Rattle.std.proofs.lemmas.Bool.{cases_lt, lt-ltb, le-ltb, eqb-true, false≢true}
 use Rattle.std.proofs.lemmas.List.Sums.{prefix_len_passes}
 use Rattle.std.specs.Result.{is_err, result_unwrap_or}
-use Rattle.pylock_core.specs.State.{State}
-use Rattle.pylock.specs.Lines.{is_lf, input_lines, ended_lines, onto_first, onto_ended, command_of}
+use Rattle.pylock_core.specs.Session.State.{State}
+use Rattle.pyver_core.specs.Results.{◌>>=◌}
+use Rattle.pylock.specs.Line.{is_lf, input_lines, ended_lines, onto_first, onto_ended, command_of, line_limit}
 use Rattle.pylock.specs.Report.{is_plan, after_line, after_command, outcome_text, lines_text, state_after_all, any_refused}
-use Rattle.pylock.specs.Editing.{At, start, lines_begun, plan_after, kept, end_line, end_text, keep_byte, bytes_done, bytes_text, finish, finish_text, finished, finished_text}
-use Rattle.pylock_core.specs.Steps.{answer}
-use Rattle.pylock.specs.declared.lines.LineRefusal.{LineRefusal}
-use Rattle.pylock.specs.declared.lines.LineRefusal.TheVariants as refusal
-use Rattle.pylock.specs.declared.lines.TheConstants.{LINE_LIMIT}
+use Rattle.pylock.specs.Inner.Editing.{At, start, lines_begun, plan_after, kept, end_line, end_text, keep_byte, bytes_done, bytes_text, finish, finish_text, finished, finished_text}
+use Rattle.pylock_core.specs.Session.Steps.{answer}
+use Rattle.pylock.specs.declared.line.refusal.LineRefusal.{LineRefusal}
+use Rattle.pylock.specs.declared.line.refusal.LineRefusal.TheVariants as refusal
 
 -- no cutting of the input changes what it does
 
@@ -40,15 +40,15 @@ take-take_append (suc n) (x ∷ xs) ys = ap (λ l. x ∷ l) (take-take_append n 
 
 pub kept-append : (xs ys : List ℕ) → kept (kept xs ++ ys) ≡ kept (xs ++ ys)
 unfolding kept
-kept-append xs ys = take-take_append (LINE_LIMIT + 1) xs ys
+kept-append xs ys = take-take_append (line_limit + 1) xs ys
 
-pub kept-short : (line : List ℕ) → length line ≤ LINE_LIMIT + 1 → kept line ≡ line
+pub kept-short : (line : List ℕ) → length line ≤ line_limit + 1 → kept line ≡ line
 unfolding kept
-kept-short line short = take_all (LINE_LIMIT + 1) line short
+kept-short line short = take_all (line_limit + 1) line short
 
-length-kept_long : (line : List ℕ) → LINE_LIMIT < length line → length (kept line) ≡ LINE_LIMIT + 1
+length-kept_long : (line : List ℕ) → line_limit < length line → length (kept line) ≡ line_limit + 1
 unfolding kept
-length-kept_long line long = length-take-le (LINE_LIMIT + 1) line (omega arith)
+length-kept_long line long = length-take-le (line_limit + 1) line (omega arith)
 
 kept-nil : kept [] ≡ []
 unfolding kept
@@ -57,26 +57,26 @@ kept-nil = refl
 -- the first byte of a line is kept
 kept-cons : (b : ℕ) (line : List ℕ) → (rest : List ℕ) × (kept (b ∷ line) ≡ b ∷ rest)
 unfolding kept
-kept-cons b line = (take LINE_LIMIT line, refl)
+kept-cons b line = (take line_limit line, refl)
 
 kept-kept : (xs : List ℕ) → kept (kept xs) ≡ kept xs
 kept-kept xs = ap kept (sym (append-nil (kept xs))) ∙ kept-append xs [] ∙ ap kept (append-nil xs)
 
-command_of-long : (line : List ℕ) → LINE_LIMIT < length line → command_of line ≡ Err refusal.Long
-command_of-long line long = rw (lt-ltb LINE_LIMIT (length line) long)
+command_of-long : (line : List ℕ) → line_limit < length line → command_of line ≡ Err refusal.Long
+command_of-long line long = rw (lt-ltb line_limit (length line) long)
 
 -- what is kept of a line is read as the line
 pub command_of-kept : (line : List ℕ) → command_of (kept line) ≡ command_of line
 command_of-kept line = ⊎_elim
-    (λ (long : LINE_LIMIT < length line).
-    let size : length (kept line) ≡ LINE_LIMIT + 1 = length-kept_long line long in
+    (λ (long : line_limit < length line).
+    let size : length (kept line) ≡ line_limit + 1 = length-kept_long line long in
     command_of-long (kept line) (omega arith) ∙ sym (command_of-long line long))
-    (λ (short : length line ≤ LINE_LIMIT). ap command_of (kept-short line (omega arith)))
-    (cases_lt LINE_LIMIT (length line))
+    (λ (short : length line ≤ line_limit). ap command_of (kept-short line (omega arith)))
+    (cases_lt line_limit (length line))
 
 after_line-kept : (state : State) (line : List ℕ) → after_line state (kept line) ≡ after_line state line
 unfolding after_line
-after_line-kept state line = ap (after_command state) (command_of-kept line)
+after_line-kept state line = ap (λ c. c >>= (λ command. after_command state command)) (command_of-kept line)
 
 -- the lines of an input, when a part of the first of them stands before it
 
@@ -367,9 +367,9 @@ take-append_room (suc n) (x ∷ xs) ys fits =
 take-min_length : (n : ℕ) (ys : List ℕ) → take (min (length ys) n) ys ≡ take n ys
 take-min_length n ys = ap (λ m. take m ys) (omega arith) ∙ take_min n ys
 
-pub kept_room : (xs ys : List ℕ) → length xs ≤ LINE_LIMIT + 1 → kept (xs ++ ys) ≡ xs ++ take (min (length ys) (LINE_LIMIT + 1 - length xs)) ys
+pub kept_room : (xs ys : List ℕ) → length xs ≤ line_limit + 1 → kept (xs ++ ys) ≡ xs ++ take (min (length ys) (line_limit + 1 - length xs)) ys
 unfolding kept
-kept_room xs ys fits = take-append_room (LINE_LIMIT + 1) xs ys fits ∙ ap (λ l. xs ++ l) (sym (take-min_length (LINE_LIMIT + 1 - length xs) ys))
+kept_room xs ys fits = take-append_room (line_limit + 1) xs ys fits ∙ ap (λ l. xs ++ l) (sym (take-min_length (line_limit + 1 - length xs) ys))
 
 pub begun-end_line : (at : At) → lines_begun (end_line at) ≡ at.ended + 1
 unfolding end_line

@@ -1,10 +1,11 @@
 pub mod LineLemmas
 pub mod EditingLemmas
-pub mod PrintLemmas
+pub mod TextLemmas
 pub mod PlainText
 pub mod ClapLemmas
 pub mod ReadLemmas
-pub mod WroteLemmas
-pub mod PourLemmas
+pub mod WriteLemmas
 pub mod RunLemmas
-pub mod SessionLemmas
+pub mod ReportLemmas
+pub mod ReplyLemmas
+pub mod PieceLemmas

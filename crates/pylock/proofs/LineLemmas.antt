@@ -1,6 +1,6 @@
 -- Lemmas on the text of one line.
-use Rattle.std.proofs.Common.{◌≡◌, ℕ, ◌<◌, ◌≤◌, ◌^◌, List, [], ◌∷◌, length, true, cond, Result, Ok, Err, Some, None, arith, rules, not, ◌==◌, ◌&&◌, nat_le, refl, ap}
-use Rattle.std.specs.List.{list_all}
+use Rattle.std.proofs.Common.{◌≡◌, ℕ, ◌<◌, ◌≤◌, ◌^◌, List, [], ◌∷◌, length, Bool, true, false, cond, Result, Ok, Err, Some, None, arith, rules, not, ◌+◌, ◌==◌, ◌&&◌, ◌||◌, nat_le, refl, ap}
+use Rattle.std.specs.List.{list_all, list_any, position_or_len}
 use Rattle.std.specs.Char.{is_ascii_digit}
 use Rattle.std.specs.Str.{IsUtf8}
 use Rattle.std.specs.Str.Parse.{ParsesUnsigned, digits_value}
@@ -8,9 +8,9 @@ use Rattle.std.specs.Result.{result_ok}
 use Rattle.std.proofs.lemmas.Str.{IsUtf8-from_is_utf8, is_utf8-from_IsUtf8}
 use Rattle.std.proofs.lemmas.Str.Parse.{IsNumeralModel, numerals_by_value, parse_gives, digits_value_short}
 use Rattle.std.proofs.lemmas.Bool.{le-ltb, leb-true, and_parts, false_from_ne_true, false≢true}
-use Rattle.pylock.specs.Lines.{command_of, text_command, without_cr, is_entry_number, entry_number}
-use Rattle.pylock.specs.declared.lines.LineRefusal.TheVariants as refusal
-use Rattle.pylock.specs.declared.lines.TheConstants.{LINE_LIMIT}
+use Rattle.pylock.specs.Line.{command_of, text_command, without_cr, line_limit}
+use Rattle.pylock.specs.Line.Argument.{is_entry_number, entry_number, is_space}
+use Rattle.pylock.specs.declared.line.refusal.LineRefusal.TheVariants as refusal
 
 -- the digits of an entry's number, in std's words
 digits : IsNumeralModel (λ ds. list_all is_ascii_digit ds ≡ true) (digits_value 10)
@@ -33,9 +33,19 @@ parsed_entry_number (b ∷ bs) r h e =
     let plain : entry_number (b ∷ bs) ≡ Some (digits_value 10 (b ∷ bs)) = ap (λ t. cond t (Some (digits_value 10 (b ∷ bs))) None) e in
     rw (was, plain) refl
 
-pub command_of_text : (line : List ℕ) → length line ≤ LINE_LIMIT → IsUtf8 (without_cr line) → command_of line ≡ text_command (without_cr line)
-command_of_text line short text = rw (le-ltb LINE_LIMIT (length line) short, is_utf8-from_IsUtf8 _ text)
+pub command_of_text : (line : List ℕ) → length line ≤ line_limit → IsUtf8 (without_cr line) → command_of line ≡ text_command (without_cr line)
+command_of_text line short text = rw (le-ltb line_limit (length line) short, is_utf8-from_IsUtf8 _ text)
 
-pub command_of_not_text : (line : List ℕ) → length line ≤ LINE_LIMIT → (IsUtf8 (without_cr line) → ⊥) → command_of line ≡ Err refusal.Text
+pub command_of_not_text : (line : List ℕ) → length line ≤ line_limit → (IsUtf8 (without_cr line) → ⊥) → command_of line ≡ Err refusal.Text
 command_of_not_text line short none =
-    rw (le-ltb LINE_LIMIT (length line) short, false_from_ne_true _ (λ e. none (IsUtf8-from_is_utf8 _ e)))
+    rw (le-ltb line_limit (length line) short, false_from_ne_true _ (λ e. none (IsUtf8-from_is_utf8 _ e)))
+
+-- no space stands in a text that can't be cut at one
+pub no_space : (text : List ℕ) → position_or_len is_space text ≡ length text → list_any is_space text ≡ false
+no_space [] none = refl
+no_space (b ∷ bs) none = step (no_space bs) (is_space b) none
+  where
+    step : (position_or_len is_space bs ≡ length bs → list_any is_space bs ≡ false)
+        → (t : Bool) → cond (not t) (1 + position_or_len is_space bs) 0 ≡ length (b ∷ bs) → (t || list_any is_space bs) ≡ false
+    step rest true e = absurd (omega arith)
+    step rest false e = rest (omega arith)

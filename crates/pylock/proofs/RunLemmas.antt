@@ -1,22 +1,20 @@
--- What the faults of a run say.
-use Rattle.std.proofs.Common.{◌≡◌, ℕ, ◌+◌, ◌<◌, ◌≤◌, ◌-◌, List, [], ◌++◌, length, take, drop, Option, Some, None, Result, Ok, Err, OnErr, OnOk, refl, sym, ap, ◌∙◌, arith, append_assoc, append-nil, subst, inl, inr, ⊎_elim, length-append, length-drop}
-use Rattle.std.specs.Io.KnownBytes.{append_known, prepend_known}
-use Rattle.pylock.specs.Faults.{HasFailed}
-use Rattle.pylock.specs.Edited.{Edited, EditsAll, IsCause, EditFault}
-use Rattle.pylock.specs.declared.run.TheConstants.{INPUT_BYTES}
-use Rattle.pylock.proofs.ReadLemmas.{prepend_known-append}
-use Rattle.pylock.proofs.WroteLemmas.{append_known-nil, append_known-append}
+-- What the faults of a run say, and how far a run has come.
+use Rattle.std.proofs.Common.{◌≡◌, ℕ, ◌+◌, ◌<◌, ◌≤◌, ◌-◌, List, [], ◌++◌, length, take, drop, Result, Ok, Err, OnErr, OnOk, refl, sym, ap, ◌∙◌, arith, append_assoc, append-nil, subst, inl, inr, ⊎_elim, length-append, length-drop}
+use Rattle.std.proofs.KnownBytes.{Appends-trans, Consumes-nil, Consumes-trans}
 use Rattle.std.proofs.Math.Seq.{take-add}
 use Rattle.std.proofs.lemmas.List.{take_all}
-use Rattle.pylock.specs.Pours.{Pours}
-use Rattle.pylock.specs.Moves.{WritesFront}
-use Rattle.pylock.specs.Editing.{At, bytes_done, bytes_text, lines_begun}
-use Rattle.pylock.specs.EditingFaults.{IsTakeFault, IsFeedFault}
-use Rattle.pylock.specs.declared.editing.TheConstants.{LINES}
-use Rattle.pylock.specs.declared.fault.RunFault.{RunFault}
-use Rattle.pylock.specs.declared.fault.RunFault.TheVariants.{Read, Write, Input, Memory}
+use Rattle.std.specs.Io.KnownBytes.{Appends, Consumes}
+use Rattle.pylock.specs.Inner.Edited.{Edited, EditsAll, EditFault, IsReadFault}
+use Rattle.pylock.specs.Inner.Editing.{At, bytes_done, bytes_text, lines_begun}
+use Rattle.pylock.specs.Inner.Faults.{IsTakeFault, IsFeedFault}
+use Rattle.pylock.specs.Inner.Writes.{Writes, Pours}
+use Rattle.pylock.specs.Report.Fault.{HasCause}
+use Rattle.pylock.specs.Report.Run.{most_bytes, most_lines}
+use Rattle.pylock.specs.Stream.{SourceValue, SinkValue, TakesFront, one_more}
+use Rattle.pylock.specs.declared.report.fault.RunFault.{RunFault}
+use Rattle.pylock.specs.declared.report.fault.RunFault.TheVariants.{Read, Write, Input, Memory}
 use Rattle.pylock.proofs.EditingLemmas.{begun_past, text_front, done_front, bytes_done-append, bytes_text-append}
-use Rattle.pylock.proofs.PourLemmas.{Pours-none, Pours-more, Pours-flush, front_more, front_same, front_after}
+use Rattle.pylock.proofs.WriteLemmas.{Writes-nil, Writes-trans, Pours-none, Pours-more, Pours-flush, front_more, front_same, front_after, front_none, front_all}
 
 pub on_err : {T E P : Type 0} (r : Result T E) → P → OnErr r P
 on_err (Ok x) p = tt
@@ -26,20 +24,27 @@ pub on_ok : {T E P : Type 0} (r : Result T E) → P → OnOk r P
 on_ok (Ok x) p = p
 on_ok (Err e) p = tt
 
+-- from the causes of a step to those of the whole
+pub HasCause-map : (read write input memory read' write' input' memory' : Type 0) (fault : RunFault)
+    → (read → read') → (write → write') → (input → input') → (memory → memory')
+    → HasCause read write input memory fault → HasCause read' write' input' memory' fault
+HasCause-map a b c d a' b' c' d' Read f g h k cause = f cause
+HasCause-map a b c d a' b' c' d' Write f g h k cause = g cause
+HasCause-map a b c d a' b' c' d' Input f g h k cause = h cause
+HasCause-map a b c d a' b' c' d' Memory f g h k cause = k cause
+
 past_limit : (ended begun limit : ℕ) → ended ≡ limit → ended + 1 ≤ begun → limit < begun
 past_limit ended begun limit same past = omega arith
 
 -- no byte of the piece could be taken
-pub feed_fault_from_take : (failures : ℕ) (at : At) (bytes : List ℕ) (fault : RunFault) → 0 < length bytes → IsTakeFault at.ended fault
-    → IsFeedFault failures failures (lines_begun (bytes_done at bytes)) fault
-feed_fault_from_take failures at bytes Read some why = why
-feed_fault_from_take failures at bytes Write some why = absurd why
-feed_fault_from_take failures at bytes Input some why = past_limit at.ended _ LINES why (begun_past at bytes some)
-feed_fault_from_take failures at bytes Memory some why = tt
+pub feed_fault_from_take : (sink : SinkValue) (at : At) (bytes : List ℕ) (fault : RunFault) → 0 < length bytes → IsTakeFault at.ended fault
+    → IsFeedFault sink sink (lines_begun (bytes_done at bytes)) fault
+feed_fault_from_take sink at bytes fault some why =
+    HasCause-map _ _ _ _ _ _ _ _ fault (λ none. none) (λ none. absurd none) (λ ended. (past_limit at.ended _ most_lines ended (begun_past at bytes some), refl)) (λ memory. refl) why
 
 -- a front of what a part of the piece prints is a front of what the piece prints
-pub piece_front : (old new : Option (List ℕ)) (at : At) (bytes out taken : List ℕ) (n : ℕ) → taken ≡ out ++ bytes_text at (take n bytes)
-    → WritesFront old new taken → WritesFront old new (out ++ bytes_text at bytes)
+pub piece_front : (old new : SinkValue) (at : At) (bytes out taken : List ℕ) (n : ℕ) → taken ≡ out ++ bytes_text at (take n bytes)
+    → TakesFront old new taken → TakesFront old new (out ++ bytes_text at bytes)
 piece_front old new at bytes out taken n pushed front =
     let rest = bytes_text (bytes_done at (take n bytes)) (drop n bytes) in
     front_same old new (taken ++ rest) (out ++ bytes_text at bytes)
@@ -47,28 +52,26 @@ piece_front old new at bytes out taken n pushed front =
     (front_more old new taken rest front)
 
 -- how far the editing of a piece has come
-pub record Fed (old new : Option (List ℕ)) (failures new_failures : ℕ) (start at : At) (piece before out : List ℕ) (done : ℕ) : Type 0 where
+pub record Fed (old new : SinkValue) (start at : At) (piece before out : List ℕ) (done : ℕ) : Type 0 where
   pub within : done ≤ length piece
   pub editing : at ≡ bytes_done start (take done piece)
   pub poured : Pours old new (before ++ bytes_text start (take done piece)) out
-  pub counted : new_failures ≡ failures
 
-pub Fed-none : (known : Option (List ℕ)) (failures : ℕ) (start : At) (piece out : List ℕ) → Fed known known failures failures start start piece out out 0
-Fed-none known failures start piece out = record {
+pub Fed-none : (sink : SinkValue) (start : At) (piece out : List ℕ) → Fed sink sink start start piece out out 0
+Fed-none sink start piece out = record {
   within = omega arith;
   editing = refl;
-  poured = Pours-none known known (out ++ []) out refl (append-nil out);
-  counted = refl;
+  poured = Pours-none sink (out ++ []) out (append-nil out);
 }
 
 within_more : (done count len size : ℕ) → done ≤ len → size ≡ len - done → count ≤ size → done + count ≤ len
 within_more done count len size within left fits = omega arith
 
-pub Fed-more : (old mid new : Option (List ℕ)) (f g h : ℕ) (start at next : At) (piece before out last bytes : List ℕ) (done count : ℕ)
-    → Fed old mid f g start at piece before out done → bytes ≡ drop done piece → count ≤ length bytes
-    → next ≡ bytes_done at (take count bytes) → Pours mid new (out ++ bytes_text at (take count bytes)) last → h ≡ g
-    → Fed old new f h start next piece before last (done + count)
-Fed-more old mid new f g h start at next piece before out last bytes done count fed left fits step poured same =
+pub Fed-more : (old mid new : SinkValue) (start at next : At) (piece before out last bytes : List ℕ) (done count : ℕ)
+    → Fed old mid start at piece before out done → bytes ≡ drop done piece → count ≤ length bytes
+    → next ≡ bytes_done at (take count bytes) → Pours mid new (out ++ bytes_text at (take count bytes)) last
+    → Fed old new start next piece before last (done + count)
+Fed-more old mid new start at next piece before out last bytes done count fed left fits step poured =
     let front = take done piece in
     let more = take count (drop done piece) in
     let whole : take (done + count) piece ≡ front ++ more = take-add done count piece in
@@ -84,14 +87,13 @@ Fed-more old mid new f g h start at next piece before out last bytes done count 
           (append_assoc before (bytes_text start front) (bytes_text at (take count bytes))
           ∙ ap (λ t. before ++ t) (ap (λ t. bytes_text start front ++ t) text ∙ sym (bytes_text-append start front more) ∙ ap (bytes_text start) (sym whole)))
           (Pours-more old mid new (before ++ bytes_text start front) out (bytes_text at (take count bytes)) last fed.poured poured);
-      counted = same ∙ fed.counted;
     }
 
 -- a front of what is left of the piece was written, after the rest
-pub Fed-front : (old mid new : Option (List ℕ)) (f g : ℕ) (start at : At) (piece before out bytes : List ℕ) (done : ℕ)
-    → Fed old mid f g start at piece before out done → bytes ≡ drop done piece → WritesFront mid new (out ++ bytes_text at bytes)
-    → WritesFront old new (before ++ bytes_text start piece)
-Fed-front old mid new f g start at piece before out bytes done fed left front =
+pub Fed-front : (old mid new : SinkValue) (start at : At) (piece before out bytes : List ℕ) (done : ℕ)
+    → Fed old mid start at piece before out done → bytes ≡ drop done piece → TakesFront mid new (out ++ bytes_text at bytes)
+    → TakesFront old new (before ++ bytes_text start piece)
+Fed-front old mid new start at piece before out bytes done fed left front =
     let first = take done piece in
     let text : bytes_text at bytes ≡ bytes_text (bytes_done start first) (drop done piece) = ap (λ a. bytes_text a bytes) fed.editing ∙ ap (bytes_text (bytes_done start first)) left in
     front_same old new _ _
@@ -99,46 +101,105 @@ Fed-front old mid new f g start at piece before out bytes done fed left front =
     ∙ ap (λ t. before ++ t) (ap (λ t. bytes_text start first ++ t) text ∙ sym (text_front start piece done)))
     (front_after old mid new (before ++ bytes_text start first) out (bytes_text at bytes) fed.poured front)
 
-pub Fed-fault : (old mid : Option (List ℕ)) (f g h : ℕ) (start at : At) (piece before out bytes : List ℕ) (done : ℕ) (fault : RunFault)
-    → Fed old mid f g start at piece before out done → bytes ≡ drop done piece → IsFeedFault g h (lines_begun (bytes_done at bytes)) fault
-    → IsFeedFault f h (lines_begun (bytes_done start piece)) fault
-Fed-fault old mid f g h start at piece before out bytes done fault fed left why =
+pub Fed-fault : (old mid new : SinkValue) (start at : At) (piece before out bytes : List ℕ) (done : ℕ) (fault : RunFault)
+    → Fed old mid start at piece before out done → bytes ≡ drop done piece → IsFeedFault mid new (lines_begun (bytes_done at bytes)) fault
+    → IsFeedFault old new (lines_begun (bytes_done start piece)) fault
+Fed-fault old mid new start at piece before out bytes done fault fed left why =
     let first = take done piece in
     let there : bytes_done at bytes ≡ bytes_done start piece =
     ap (λ a. bytes_done a bytes) fed.editing ∙ ap (bytes_done (bytes_done start first)) left ∙ sym (done_front start piece done) in
-    subst (λ a. IsFeedFault f h (lines_begun a) fault) there (subst (λ n. IsFeedFault n h (lines_begun (bytes_done at bytes)) fault) fed.counted why)
+    let same : mid.failures ≡ old.failures = fed.poured.writes.counted in
+    HasCause-map _ _ _ _ _ _ _ _ fault
+    (λ none. none)
+    (λ failed. failed ∙ ap one_more same)
+    (λ past. (subst (λ a. most_lines < lines_begun a) there past.0, past.1 ∙ same))
+    (λ memory. memory ∙ same)
+    why
 
 -- the whole piece
-pub Fed-all : (old new : Option (List ℕ)) (f g : ℕ) (start at : At) (piece before out : List ℕ) (done : ℕ)
-    → Fed old new f g start at piece before out done → length piece ≤ done
+pub Fed-all : (old new : SinkValue) (start at : At) (piece before out : List ℕ) (done : ℕ)
+    → Fed old new start at piece before out done → length piece ≤ done
     → (at ≡ bytes_done start piece) × Pours old new (before ++ bytes_text start piece) out
-Fed-all old new f g start at piece before out done fed all =
+Fed-all old new start at piece before out done fed all =
     let whole : take done piece ≡ piece = take_all done piece all in
     (fed.editing ∙ ap (bytes_done start) whole, subst (λ p. Pours old new (before ++ bytes_text start p) out) whole fed.poured)
 
+-- what stood in hand after the piece was not written
+pub feed_fault_from_flush : (old mid new : SinkValue) (text out : List ℕ) (begun : ℕ) (fault : RunFault) → Pours old mid text out
+    → HasCause ⊥ (new.failures ≡ one_more mid.failures) ⊥ ⊥ fault → IsFeedFault old new begun fault
+feed_fault_from_flush old mid new text out begun fault poured why = HasCause-map _ _ _ _ _ _ _ _ fault
+    (λ none. none) (λ failed. failed ∙ ap one_more poured.writes.counted) (λ none. absurd none) (λ none. absurd none) why
+
 -- pieces one after another
 
-pub prepend_known-nil : (known : Option (List ℕ)) → prepend_known [] known ≡ known
-prepend_known-nil None = refl
-prepend_known-nil (Some xs) = refl
-
-pub Edited-none : (rest held : Option (List ℕ)) (start : At) (total : ℕ) → Edited rest rest held held start start total total
-Edited-none rest held start total = record {
+pub Edited-none : (source : SourceValue) (sink : SinkValue) (start : At) (total : ℕ) → Edited source source sink sink start start total total
+Edited-none source sink start total = record {
   given = [];
-  gave = sym (prepend_known-nil rest);
+  gave = Consumes-nil source.rest;
   size = omega arith;
   editing = refl;
-  written = sym (append_known-nil held);
+  writes = Writes-nil sink;
+  reads = refl;
 }
 
-gave-more : (rest mid new : Option (List ℕ)) (xs ys : List ℕ) → rest ≡ prepend_known xs mid → mid ≡ prepend_known ys new → rest ≡ prepend_known (xs ++ ys) new
-gave-more rest mid new xs ys before after = before ∙ ap (prepend_known xs) after ∙ sym (prepend_known-append xs ys new)
+-- one piece that was read and fed
+pub Edited-one : (source source' : SourceValue) (sink sink' : SinkValue) (start at : At) (total new_total : ℕ) (given : List ℕ)
+    → Consumes source.rest source'.rest given → source'.failures ≡ source.failures → new_total ≡ total + length given
+    → at ≡ bytes_done start given → Writes sink sink' (bytes_text start given) → Edited source source' sink sink' start at total new_total
+Edited-one source source' sink sink' start at total new_total given gave reads size editing writes = record {
+  given = given;
+  gave = gave;
+  size = size;
+  editing = editing;
+  writes = writes;
+  reads = reads;
+}
 
-written-more : (held mid new : Option (List ℕ)) (start at : At) (xs ys : List ℕ) → mid ≡ append_known held (bytes_text start xs) → at ≡ bytes_done start xs
-    → new ≡ append_known mid (bytes_text at ys) → new ≡ append_known held (bytes_text start (xs ++ ys))
-written-more held mid new start at xs ys before there after =
-    after ∙ ap (λ h. append_known h (bytes_text at ys)) before ∙ append_known-append held (bytes_text start xs) (bytes_text at ys)
-    ∙ ap (append_known held) (ap (λ a. bytes_text start xs ++ bytes_text a ys) there ∙ sym (bytes_text-append start xs ys))
+-- nothing was read
+pub EditFault-read : (source source' : SourceValue) (sink : SinkValue) (start : At) (total : ℕ) (fault : RunFault)
+    → IsReadFault total source source' fault → EditFault source source' sink sink start total fault
+EditFault-read source source' sink start total Read why = record {
+  given = [];
+  gave = why.0;
+  front = front_none sink [];
+  cause = (why.1, refl, (Writes-nil sink).held);
+}
+EditFault-read source source' sink start total Write why = absurd why
+EditFault-read source source' sink start total Input why = record {
+  given = why.0.given;
+  gave = why.0.gave;
+  front = front_none sink _;
+  cause = (why.1, refl, inr why.0.past);
+}
+EditFault-read source source' sink start total Memory why = absurd why
+
+-- a piece was read, and not edited by or not written
+pub EditFault-feed : (source source' : SourceValue) (sink sink' : SinkValue) (start : At) (total : ℕ) (given : List ℕ) (fault : RunFault)
+    → Consumes source.rest source'.rest given → source'.failures ≡ source.failures → TakesFront sink sink' (bytes_text start given)
+    → IsFeedFault sink sink' (lines_begun (bytes_done start given)) fault → EditFault source source' sink sink' start total fault
+EditFault-feed source source' sink sink' start total given fault gave reads front why = record {
+  given = given;
+  gave = gave;
+  front = front;
+  cause = HasCause-map _ _ _ _ _ _ _ _ fault
+      (λ none. absurd none)
+      (λ failed. (reads, failed))
+      (λ past. (reads, past.1, inl past.0))
+      (λ memory. (reads, memory))
+      why;
+}
+
+writes-more : (sink mid sink' : SinkValue) (start at : At) (xs ys : List ℕ) → Writes sink mid (bytes_text start xs) → at ≡ bytes_done start xs
+    → Writes mid sink' (bytes_text at ys) → Writes sink sink' (bytes_text start (xs ++ ys))
+writes-more sink mid sink' start at xs ys before there after =
+    subst (Writes sink sink') (ap (λ a. bytes_text start xs ++ bytes_text a ys) there ∙ sym (bytes_text-append start xs ys))
+    (Writes-trans sink mid sink' (bytes_text start xs) (bytes_text at ys) before after)
+
+held-more : (sink mid sink' : SinkValue) (start at : At) (xs ys : List ℕ) → Writes sink mid (bytes_text start xs) → at ≡ bytes_done start xs
+    → Appends mid.held sink'.held (bytes_text at ys) → Appends sink.held sink'.held (bytes_text start (xs ++ ys))
+held-more sink mid sink' start at xs ys before there after =
+    subst (Appends sink.held sink'.held) (ap (λ a. bytes_text start xs ++ bytes_text a ys) there ∙ sym (bytes_text-append start xs ys))
+    (Appends-trans sink.held mid.held sink'.held (bytes_text start xs) (bytes_text at ys) before.held after)
 
 done-more : (start at next : At) (xs ys : List ℕ) → at ≡ bytes_done start xs → next ≡ bytes_done at ys → next ≡ bytes_done start (xs ++ ys)
 done-more start at next xs ys before after = after ∙ ap (λ a. bytes_done a ys) before ∙ sym (bytes_done-append start xs ys)
@@ -146,62 +207,64 @@ done-more start at next xs ys before after = after ∙ ap (λ a. bytes_done a ys
 size-more : (xs ys : List ℕ) (a b c : ℕ) → b ≡ a + length xs → c ≡ b + length ys → c ≡ a + length (xs ++ ys)
 size-more xs ys a b c before after = omega (arith, length-append xs ys)
 
-pub Edited-more : (rest mid new held held' held'' : Option (List ℕ)) (start at next : At) (a b c : ℕ)
-    → Edited rest mid held held' start at a b → Edited mid new held' held'' at next b c → Edited rest new held held'' start next a c
-Edited-more rest mid new held held' held'' start at next a b c before after = record {
+pub Edited-more : (source s source' : SourceValue) (sink k sink' : SinkValue) (start at next : At) (a b c : ℕ)
+    → Edited source s sink k start at a b → Edited s source' k sink' at next b c → Edited source source' sink sink' start next a c
+Edited-more source s source' sink k sink' start at next a b c before after = record {
   given = before.given ++ after.given;
-  gave = gave-more rest mid new before.given after.given before.gave after.gave;
+  gave = Consumes-trans source.rest s.rest source'.rest before.given after.given before.gave after.gave;
   size = size-more before.given after.given a b c before.size after.size;
   editing = done-more start at next before.given after.given before.editing after.editing;
-  written = written-more held held' held'' start at before.given after.given before.written before.editing after.written;
+  writes = writes-more sink k sink' start at before.given after.given before.writes before.editing after.writes;
+  reads = after.reads ∙ before.reads;
 }
 
 size-past : (xs ys : List ℕ) (total limit : ℕ) → total ≡ 0 + length xs → limit < total + length ys → limit < 0 + length (xs ++ ys)
 size-past xs ys total limit size past = omega (arith, length-append xs ys)
 
--- a fault after the pieces before it
-cause-after : (r q q' w v v' : ℕ) (held mid new : Option (List ℕ)) (start at : At) (total : ℕ) (xs ys : List ℕ) (fault : RunFault)
-    → q ≡ r → v ≡ w → mid ≡ append_known held (bytes_text start xs) → at ≡ bytes_done start xs → total ≡ 0 + length xs
-    → IsCause q q' mid new v v' at total ys fault → IsCause r q' held new w v' start 0 (xs ++ ys) fault
-cause-after r q q' w v v' held mid new start at total xs ys Read reads writes wrote there size cause =
-    (subst (λ n. HasFailed n q') reads cause.0, written-more held mid new start at xs ys wrote there cause.1)
-cause-after r q q' w v v' held mid new start at total xs ys Write reads writes wrote there size cause = subst (λ n. HasFailed n v') writes cause
-cause-after r q q' w v v' held mid new start at total xs ys Input reads writes wrote there size cause =
-    ⊎_elim
-    (λ lines. inl (subst (λ a. LINES < lines_begun a) (done-more start at (bytes_done at ys) xs ys there refl) lines))
-    (λ bytes. inr (size-past xs ys total INPUT_BYTES size bytes))
-    cause
-cause-after r q q' w v v' held mid new start at total xs ys Memory reads writes wrote there size cause = tt
-
 -- how far the reading of the input has come
-pub record EditedSoFar (rest new_rest : Option (List ℕ)) (r r' : ℕ) (held new_held : Option (List ℕ)) (w w' : ℕ) (start at : At) (total : ℕ) (out : List ℕ) : Type 0 where
-  pub edited : Edited rest new_rest held new_held start at 0 total
-  pub reads : r' ≡ r
-  pub writes : w' ≡ w
-  pub within : total ≤ INPUT_BYTES
+pub record EditedSoFar (source source' : SourceValue) (sink sink' : SinkValue) (start at : At) (total : ℕ) (out : List ℕ) : Type 0 where
+  pub edited : Edited source source' sink sink' start at 0 total
+  pub within : total ≤ most_bytes
   pub empty : out ≡ []
 
-pub EditFault-after : (rest mid new : Option (List ℕ)) (r q q' : ℕ) (held held' held'' : Option (List ℕ)) (w v v' : ℕ) (start at : At) (total : ℕ) (out : List ℕ) (fault : RunFault)
-    → EditedSoFar rest mid r q held held' w v start at total out → EditFault mid new q q' held' held'' v v' at total fault
-    → EditFault rest new r q' held held'' w v' start 0 fault
-EditFault-after rest mid new r q q' held held' held'' w v v' start at total out fault before after =
+-- a fault after the pieces before it
+pub EditFault-after : (source s source' : SourceValue) (sink k sink' : SinkValue) (start at : At) (total : ℕ) (out : List ℕ) (fault : RunFault)
+    → EditedSoFar source s sink k start at total out → EditFault s source' k sink' at total fault
+    → EditFault source source' sink sink' start 0 fault
+EditFault-after source s source' sink k sink' start at total out fault before after =
     let edited = before.edited in
+    let xs = edited.given in
+    let ys = after.given in
+    let reads : s.failures ≡ source.failures = edited.reads in
+    let writes : k.failures ≡ sink.failures = edited.writes.counted in
     record {
-      given = edited.given ++ after.given;
-      gave = gave-more rest mid new edited.given after.given edited.gave after.gave;
-      front = front_same held held'' _ _
-          (ap (λ a. bytes_text start edited.given ++ bytes_text a after.given) edited.editing ∙ sym (bytes_text-append start edited.given after.given))
-          (front_after held held' held'' (bytes_text start edited.given) [] (bytes_text at after.given)
-          (Pours-flush held held' (bytes_text start edited.given) [] edited.written refl) after.front);
-      cause = cause-after r q q' w v v' held held' held'' start at total edited.given after.given fault before.reads before.writes edited.written edited.editing edited.size after.cause;
+      given = xs ++ ys;
+      gave = Consumes-trans source.rest s.rest source'.rest xs ys edited.gave after.gave;
+      front = front_same sink sink' _ _
+          (ap (λ a. bytes_text start xs ++ bytes_text a ys) edited.editing ∙ sym (bytes_text-append start xs ys))
+          (front_after sink k sink' (bytes_text start xs) [] (bytes_text at ys) (Pours-flush sink k (bytes_text start xs) [] edited.writes refl) after.front);
+      cause = HasCause-map _ _ _ _ _ _ _ _ fault
+          (λ read. (read.0 ∙ ap one_more reads, read.1 ∙ writes, held-more sink k sink' start at xs ys edited.writes edited.editing read.2))
+          (λ write. (write.0 ∙ reads, write.1 ∙ ap one_more writes))
+          (λ input. (
+            input.0 ∙ reads,
+            input.1 ∙ writes,
+            ⊎_elim
+                (λ lines. inl (subst (λ a. most_lines < lines_begun a) (done-more start at (bytes_done at ys) xs ys edited.editing refl) lines))
+                (λ bytes. inr (size-past xs ys total most_bytes edited.size bytes))
+                input.2,
+          ))
+          (λ memory. (memory.0 ∙ reads, memory.1 ∙ writes))
+          after.cause;
     }
 
-pub EditsAll-from : (rest new held new_held : Option (List ℕ)) (start at : At) (total : ℕ) → Edited rest new held new_held start at 0 total → total ≤ INPUT_BYTES
-    → EditsAll rest new held new_held start at
-EditsAll-from rest new held new_held start at total edited within = record {
+pub EditsAll-from : (source source' : SourceValue) (sink sink' : SinkValue) (start at : At) (total : ℕ) → Edited source source' sink sink' start at 0 total
+    → total ≤ most_bytes → EditsAll source source' sink sink' start at
+EditsAll-from source source' sink sink' start at total edited within = record {
   given = edited.given;
   gave = edited.gave;
   within = let size = edited.size in omega arith;
   editing = edited.editing;
-  written = edited.written;
+  writes = edited.writes;
+  reads = edited.reads;
 }

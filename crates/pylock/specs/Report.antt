@@ -1,35 +1,44 @@
 -- The report of a run over a lock, an environment and an input: what it prints, and its status.
-use Rattle.std.specs.Prelude.{ℕ, ◌+◌, ◌++◌, ◌&&◌, ◌||◌, not, ⊤, Bool, true, false, if◌then◌else◌, List, [], ◌∷◌, ◌⊎◌, IsErr, Result, Ok, Err}
-use Rattle.std.specs.Result.{is_err, result_unwrap_or}
-use Rattle.pylock_core.specs.Entry.{LockValue}
+pub mod Fault
+pub mod Run
+use Rattle.std.specs.Prelude.{ℕ, ◌+◌, ◌++◌, ◌&&◌, ◌||◌, not, Bool, true, false, if◌then◌else◌}
+use Rattle.std.specs.Prelude.{List, [], ◌∷◌, Result, Ok, Err}
+use Rattle.std.specs.Result.{is_err, result_map_both, result_unwrap_or}
+use Rattle.pyver_core.specs.Results.{◌>>=◌}
 use Rattle.pylock_core.specs.Environment.{env_of}
-use Rattle.pylock_core.specs.Lock.{lock_of}
-use Rattle.pylock_core.specs.State.{State, first, apply}
-use Rattle.pylock_core.specs.Steps.{answer}
+use Rattle.pylock_core.specs.Lock.Reading.{lock_of}
+use Rattle.pylock_core.specs.Session.State.{State, first, apply}
+use Rattle.pylock_core.specs.Session.Steps.{answer}
 use Rattle.pylock_core.specs.declared.answer.Answer.{Answer}
-use Rattle.pylock_core.specs.declared.answer.Answer.TheVariants.{Plan, Fault}
-use Rattle.pylock_core.specs.declared.edit.EditError.{EditError}
-use Rattle.pylock_core.specs.declared.error.EnvError.{EnvError}
-use Rattle.pylock_core.specs.declared.error.LockError.{LockError}
-use Rattle.pylock.specs.declared.lines.Command.{Command}
-use Rattle.pylock.specs.declared.lines.Command.TheVariants as command
-use Rattle.pylock.specs.declared.lines.LineRefusal.{LineRefusal}
-use Rattle.pylock.specs.Lines.{input_lines, ended_lines, command_of}
-use Rattle.pylock.specs.Refusals.{edit_refusal}
-use Rattle.pylock.specs.Print.{answer_text, refused_text, lock_text, environment_text}
+use Rattle.pylock_core.specs.declared.answer.Answer.TheVariants as answers
+use Rattle.pylock.specs.Line.{input_lines, ended_lines, command_of}
+use Rattle.pylock.specs.Line.Refusal.{edit_refusal}
+use Rattle.pylock.specs.Text.Plan.{answer_text}
+use Rattle.pylock.specs.Text.Refusal.{refused_text, refusal_text}
+use Rattle.pylock.specs.declared.line.commands.Command.{Command}
+use Rattle.pylock.specs.declared.line.commands.Command.TheVariants as command
+use Rattle.pylock.specs.declared.line.refusal.LineRefusal.{LineRefusal}
+use Rattle.pylock.specs.declared.report.opening.OpenError.{OpenError}
+use Rattle.pylock.specs.declared.report.opening.OpenError.TheVariants.{Lock, Environment}
 
-abbrev pub after_edit : Result State EditError → Result State LineRefusal
-after_edit (Ok state) = Ok state
-after_edit (Err error) = Err (edit_refusal error)
+abbrev pub refused_by : {V E : Type 0} → (E → OpenError) → Result V E → Result V OpenError
+refused_by refusal read = result_map_both (λ v. v) refusal read
+
+-- the state in which a run begins, from the bytes of the lock and of the environment; or the lock's
+-- refusal, and then the environment's
+unfoldable pub opened : List ℕ → List ℕ → Result State OpenError
+opened lock environment = do
+  lock ← refused_by Lock (lock_of lock)
+  read ← refused_by Environment (env_of environment)
+  Ok (first lock read.0 read.1)
 
 -- the state after a command, or why it is refused
-abbrev pub after_command : State → Result Command LineRefusal → Result State LineRefusal
-after_command state (Ok command.Show) = Ok state
-after_command state (Ok (command.Edit edit)) = after_edit (apply edit state)
-after_command state (Err refused) = Err refused
+abbrev pub after_command : State → Command → Result State LineRefusal
+after_command state command.Show = Ok state
+after_command state (command.Edit edit) = result_map_both (λ s. s) edit_refusal (apply edit state)
 
 unfoldable pub after_line : State → List ℕ → Result State LineRefusal
-after_line state line = after_command state (command_of line)
+after_line state line = command_of line >>= (λ command. after_command state command)
 
 -- the state after a line: a refused line changes nothing
 abbrev pub state_after : State → List ℕ → State
@@ -50,7 +59,8 @@ line_text state number line = outcome_text number (after_line state line)
 -- what the lines print, the first of them having this number
 abbrev pub lines_text : State → ℕ → List (List ℕ) → List ℕ
 lines_text state number [] = []
-lines_text state number (line ∷ lines) = line_text state number line ++ lines_text (state_after state line) (number + 1) lines
+lines_text state number (line ∷ lines) =
+    line_text state number line ++ lines_text (state_after state line) (number + 1) lines
 
 -- the state after the lines
 abbrev pub state_after_all : State → List (List ℕ) → State
@@ -60,38 +70,31 @@ state_after_all state (line ∷ lines) = state_after_all (state_after state line
 -- whether one of the lines is refused
 abbrev pub any_refused : State → List (List ℕ) → Bool
 any_refused state [] = false
-any_refused state (line ∷ lines) = is_err (after_line state line) || any_refused (state_after state line) lines
+any_refused state (line ∷ lines) =
+    is_err (after_line state line) || any_refused (state_after state line) lines
 
 abbrev pub is_plan : Answer → Bool
-is_plan (Plan picks) = true
-is_plan (Fault id code) = false
+is_plan (answers.Plan picks) = true
+is_plan (answers.Fault id code) = false
 
 -- 0: the last answer is a plan and no line was refused
 abbrev pub lines_status : State → List (List ℕ) → ℕ
-lines_status state lines = if is_plan (answer (state_after_all state lines)) && not (any_refused state lines) then 0 else 1
+lines_status state lines =
+    if is_plan (answer (state_after_all state lines)) && not (any_refused state lines) then 0 else 1
 
 pub record Report : Type 0 where
   pub text : List ℕ
   pub status : ℕ
 
--- the first answer, and what the lines print
-abbrev pub lines_report : State → List (List ℕ) → Report
-lines_report state lines = record { text = standing_text state ++ lines_text state 1 lines; status = lines_status state lines }
-
--- the report on a lock and an environment as they are read, and lines: a refused lock is all that is reported, then a refused environment
-abbrev pub report_on : Result LockValue LockError → Result ⊤ EnvError → List (List ℕ) → Report
-report_on (Err error) environment lines = record { text = lock_text error; status = 2 }
-report_on (Ok lock) (Err error) lines = record { text = environment_text error; status = 2 }
-report_on (Ok lock) (Ok environment) lines = lines_report (first lock) lines
+-- The report on what a run begins with and on lines: a refused lock or environment is all that is
+-- reported; else it is the first answer, and what the lines print.
+abbrev pub report_on : Result State OpenError → List (List ℕ) → Report
+report_on (Err refusal) lines = record { text = refusal_text refusal; status = 2 }
+report_on (Ok state) lines = record {
+  text = standing_text state ++ lines_text state 1 lines;
+  status = lines_status state lines;
+}
 
 -- the report of a run, from the bytes of the lock, the environment and the input
 abbrev pub report : List ℕ → List ℕ → List ℕ → Report
-report lock environment input = report_on (lock_of lock) (env_of environment) (input_lines input)
-
--- the report on the lines of the input whose LF stands in it
-abbrev pub ended_report : List ℕ → List ℕ → List ℕ → Report
-ended_report lock environment input = report_on (lock_of lock) (env_of environment) (ended_lines input)
-
--- the lock or the environment is refused
-abbrev pub IsRefused : List ℕ → List ℕ → Type 0
-IsRefused lock environment = IsErr (lock_of lock) ⊎ IsErr (env_of environment)
+report lock environment input = report_on (opened lock environment) (input_lines input)

@@ -1,126 +1,106 @@
-//! `pylock`: selects from a pylock.toml lock what an installer installs, and answers questions on versions and names.
+//! `pylock`: selects from a pylock.toml lock what an installer installs, and answers questions on
+//! versions, names, markers, requirements and wheels.
 #![tactic(auto)]
 
 mod command;
-mod editing;
-mod ends;
-mod fault;
-mod files;
-#[cfg(test)]
-mod growths;
-mod lines;
-mod memory;
-mod printing;
-mod queries;
-mod refusals;
+mod line;
+mod program;
 mod reply;
-mod run;
-mod streams;
-mod writing;
+mod report;
+mod stream;
+#[cfg(test)]
+mod tests;
+mod text;
 
 use crate::command::{CommandError, Task, command};
-use crate::fault::RunFault;
-use crate::files::{FileFault, read_whole};
-use crate::queries::Query;
+use crate::program::{Failure, Files, Work, greet, read_file, read_inputs, words_failure, work_of};
+use crate::reply::queries::Query;
 use crate::reply::query;
-use crate::run::run;
-use crate::streams::{FromRead, ToWrite};
-use crate::writing::write_all;
+use crate::report::run::run;
+use crate::stream::whole::FileFault;
+use crate::stream::wrapper::{FromRead, ToWrite};
 use std::process::ExitCode;
-use std::{env, fs, io};
+use std::{env, fs};
 
-/// The most bytes that a file may have.
-const FILE_BYTES: u64 = 268_435_456;
-
-/// One line on standard error, and the status that goes with it.
-fn failed(rt: &impl Eprint, what: &str) -> ExitCode {
-    let _ = eprintln!(rt; "pylock: {what}");
-    ExitCode::from(3)
+/// The files of the host.
+#[derive(Drop)]
+struct HostFiles<'a> {
+    rt: &'a HostRuntime,
 }
 
-fn read_file(rt: &HostRuntime, path: &str) -> Result<Vec<u8>, FileFault> {
-    let Ok(file) = fs::open(rt, path) else {
-        return Err(FileFault::Read);
-    };
-    read_whole(rt.alloc(), &mut FromRead::new(file), FILE_BYTES)
+impl<'a> Files for HostFiles<'a> {
+    ghost use Rattle.std.specs.Prelude.{None};
+
+    ghost content = { λ _ _. None };
+
+    fn read(&self, path: &str) -> Result<Vec<u8>, FileFault> {
+        match fs::open(self.rt, path) {
+            Ok(file) => read_file(self.rt.alloc(), &mut FromRead::new(file)),
+            Err(_) => Err(FileFault::Read),
+        }
+    }
 }
 
-/// The lock and then the environment.
-fn read_files(rt: &HostRuntime, lock: &str, env: &str) -> Result<(Vec<u8>, Vec<u8>), FileFault> {
-    let lock = read_file(rt, lock)?;
-    let env = read_file(rt, env)?;
-    Ok((lock, env))
-}
-
-/// Runs `select` on the two files, standard input and standard output.
-fn select(rt: &HostRuntime, lock: &str, env: &str) -> ExitCode {
-    let (lock, env) = match read_files(rt, lock, env) {
-        Ok(files) => files,
-        Err(fault) => return failed(rt, file_word(fault)),
-    };
-    let mut reader = FromRead::new(rt.stdin());
+/// Does the task on the files, standard input and standard output of the host.
+fn perform(rt: &HostRuntime, task: Task<'_>) -> Result<u8, Failure> {
     let mut writer = ToWrite::new(rt.stdout());
-    match run(rt.alloc(), &lock, &env, &mut reader, &mut writer) {
-        Ok(status) => ExitCode::from(status),
-        Err(fault) => failed(rt, run_word(fault)),
+    match work_of(task) {
+        Work::Greet => greet(&mut writer),
+        Work::Select(lock, env) => {
+            let inputs = read_inputs(&HostFiles { rt }, lock, env)?;
+            let mut reader = FromRead::new(rt.stdin());
+            let status = run(
+                rt.alloc(),
+                &inputs.lock,
+                &inputs.environment,
+                &mut reader,
+                &mut writer,
+            )?;
+            Ok(status)
+        }
+        Work::Judge(marker, env) => {
+            let environment = HostFiles { rt }.read(env)?;
+            let asked = Query::Marker(marker, &environment);
+            Ok(query(rt.alloc(), asked, &mut writer)?)
+        }
+        Work::Ask(asked) => Ok(query(rt.alloc(), asked, &mut writer)?),
     }
 }
 
-fn file_word(fault: FileFault) -> &'static str {
-    match fault {
-        FileFault::Read | FileFault::Limit => "file",
-        FileFault::Memory => "memory",
-    }
+/// The words of the command line.
+fn arguments(rt: &HostRuntime) -> Result<Vec<String>, Failure> {
+    let words = match env::args(rt) {
+        Ok(words) => words,
+        Err(error) => return Err(words_failure(error.kind())),
+    };
+    words.collect(rt.alloc()).map_err(|_| Failure::Memory)
 }
 
-fn run_word(fault: RunFault) -> &'static str {
-    match fault {
-        RunFault::Read => "read",
-        RunFault::Write => "write",
-        RunFault::Input => "input",
-        RunFault::Memory => "memory",
-    }
-}
-
-fn perform(rt: &HostRuntime, task: Task<'_>) -> ExitCode {
-    match task {
-        Task::Bare => match write_all(&mut ToWrite::new(rt.stdout()), b"pylock 1\n") {
-            Ok(()) => ExitCode::SUCCESS,
-            Err(_) => failed(rt, "write"),
-        },
-        Task::Select(lock, env) => select(rt, lock, env),
-        Task::Version(text) => answer(rt, Query::Version(text)),
-        Task::Match(set, version) => answer(rt, Query::Match(set, version)),
-        Task::Name(text) => answer(rt, Query::Name(text)),
-    }
-}
-
-/// Writes the reply of a one-shot command on standard output.
-fn answer(rt: &HostRuntime, asked: Query<'_>) -> ExitCode {
-    match query(rt.alloc(), asked, &mut ToWrite::new(rt.stdout())) {
-        Ok(status) => ExitCode::from(status),
-        Err(fault) => failed(rt, run_word(fault)),
-    }
-}
-
-fn arguments(rt: &HostRuntime) -> io::Result<Vec<String>> {
-    Ok(env::args(rt)?.collect(rt.alloc())?)
+/// Says why the program ends, and answers its status.
+fn fail(rt: &HostRuntime, failure: Failure) -> ExitCode {
+    let message = failure.message();
+    let _ = eprintln!(rt; "pylock: {message}");
+    ExitCode::from(failure.status())
 }
 
 fn main(rt: HostRuntime) -> ExitCode {
-    let Ok(arguments) = arguments(&rt) else {
-        return failed(&rt, "memory");
+    let arguments = match arguments(&rt) {
+        Ok(arguments) => arguments,
+        Err(failure) => return fail(&rt, failure),
     };
     let words = arguments.iter().map(|word| word.as_str());
     let Ok(words) = words.collect::<Vec<&str>>(rt.alloc()) else {
-        return failed(&rt, "memory");
+        return fail(&rt, Failure::Memory);
     };
     match command(rt.alloc(), &words) {
-        Ok(task) => perform(&rt, task),
+        Ok(task) => match perform(&rt, task) {
+            Ok(status) => ExitCode::from(status),
+            Err(failure) => fail(&rt, failure),
+        },
         Err(CommandError::Refused(error)) => {
             let _ = error.print(&rt);
             ExitCode::from(error.exit_code() as u8)
         }
-        Err(CommandError::Memory) => failed(&rt, "memory"),
+        Err(CommandError::Memory) => fail(&rt, Failure::Memory),
     }
 }

@@ -12,3 +12,4 @@ pub mod EntryLemmas
 mod DistinctLemmas
 mod TextLemmas
 mod VariableLemmas
+pub mod AnswerLemmas

@@ -1,6 +1,7 @@
 //! Laws of the definitions alone: each function's contract is a law, and its body is empty.
 
-ghost use Rattle.std.specs.Prelude.{◌≡◌, List, Option, true};
+ghost use Rattle.std.specs.Prelude.{◌≡◌, ℕ, List, Option, true};
+ghost use Rattle.std.specs.List.{All};
 ghost use Rattle.pyver_core.specs.declared.set.specifier.Specifier.{Specifier};
 ghost use Rattle.pymark_core.specs.Environment.{EnvironmentValue, variable_in};
 ghost use Rattle.pymark_core.specs.declared.variable.Var.TheVariants.{PythonFullVersion};
@@ -8,10 +9,16 @@ ghost use Rattle.pywheel_core.specs.Tag.{TagValue};
 ghost use Rattle.pylock_core.specs.Entry.{EntryValue};
 ghost use Rattle.pylock_core.specs.Lock.{HeadValue};
 ghost use Rattle.pylock_core.specs.Session.Judgement.{AgreeAtKey, IndexKey, entry_reads, head_reads, verdict_of};
-ghost use Rattle.pylock_core.specs.Session.Steps.{head_fault, python_check};
+ghost use Rattle.pylock_core.specs.Session.Picks.{IsFaultIn, IsPickAmong};
+ghost use Rattle.pylock_core.specs.Session.State.{State};
+ghost use Rattle.pylock_core.specs.Session.Steps.{answer, head_fault, python_check};
+ghost use Rattle.pylock_core.specs.declared.answer.Answer.TheVariants.{Plan, Fault};
+ghost use Rattle.pylock_core.specs.declared.answer.FaultCode.{FaultCode};
+ghost use Rattle.pylock_core.specs.declared.answer.Pick.{Pick};
 ghost use Rattle.pylock_core.specs.declared.edit.Policy.{Policy};
 
 use pymark_core::laws::marker_reads;
+use pywheel_core::laws::one_best_wheel;
 
 /// A Python check reads nothing but `python_full_version`.
 pub fn python_check_reads()
@@ -38,6 +45,23 @@ pub fn head_reads()
         → head_fault head e ≡ head_fault head f }
 {
     marker_reads();
+}
+
+/// Each pick of a plan names an entry that stands in the state, and that entry has the pick's
+/// source.
+pub fn picks_stand()
+    ensures { (state : State) (plan : List Pick) → answer state ≡ Plan plan
+        → All (IsPickAmong state.entries) plan }
+{
+    one_best_wheel();
+}
+
+/// A fault is the head's, or that of an entry that stands in the state.
+pub fn fault_stands()
+    ensures { (state : State) (id : ℕ) (code : FaultCode) → answer state ≡ Fault id code
+        → IsFaultIn state id code }
+{
+    one_best_wheel();
 }
 
 /// Trial.

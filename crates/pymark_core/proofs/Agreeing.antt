@@ -9,8 +9,9 @@ use Rattle.pyver_core.specs.Results.{◌>>=◌}
 use Rattle.pymark_core.specs.Environment.{EnvironmentValue}
 use Rattle.pymark_core.specs.Marker.Comparison.{ComparisonValue}
 use Rattle.pymark_core.specs.Marker.Grammar.{atom_comparisons, comparisons, conjunction_comparisons}
-use Rattle.pymark_core.specs.Marker.Keys.{comparison_reads, has_key, is_key, operand_keys, variable_number}
+use Rattle.pymark_core.specs.Marker.Keys.{comparison_reads, has_key, is_key, operand_keys}
 use Rattle.pymark_core.specs.Marker.Tree.{Tree, last, or, Conjunction, only, and, Atom, leaf, group}
+use Rattle.pymark_core.specs.Variables.{place}
 use Rattle.pymark_core.specs.Marker.Value.{AgreeAt, atom_value, both, comparison_value, conjunction_value, is_in, is_substring, marker_value, operand_text, operator_value, text_value}
 use Rattle.pymark_core.specs.declared.fault.EvalFault.{EvalFault}
 use Rattle.pymark_core.specs.declared.fault.EvalFault.TheVariants.{Unset}
@@ -35,7 +36,7 @@ module _ (e f : EnvironmentValue) where
   operand_agrees : (o : Operand) → Agree (λ k. has_key k (operand_keys o)) → operand_text e o ≡ operand_text f o
   operand_agrees (Text text) agree = refl
   operand_agrees (Variable v) agree =
-      ap (λ x. ok_or x (Unset v)) (agree (key.Of v) (left_true _ _ (eq-eqb (variable_number v) (variable_number v) refl)))
+      ap (λ x. ok_or x (Unset v)) (agree (key.Of v) (left_true _ _ (eq-eqb (place v) (place v) refl)))
   operand_agrees Extra agree = refl
   operand_agrees Extras agree = refl
   operand_agrees Groups agree = refl

@@ -1,16 +1,18 @@
 -- Steps of the code that builds a marker's tree.
-use Rattle.std.proofs.Common.{◌≡◌, ℕ, Bool, true, false, List, [], ◌∷◌, ◌++◌, map, Option, Some, None, Ok, ok_or, refl, ap, sym, ◌∙◌, inl, inr}
-use Rattle.std.specs.Prelude.{codes, option_map, reverse}
+use Rattle.std.proofs.Common.{◌≡◌, ℕ, Bool, true, false, List, [], ◌∷◌, ◌++◌, map, Option, Some, None, Ok, ok_or, length, ◌<◌, refl, ap, sym, ◌∙◌, inl, inr, arith}
+use Rattle.std.specs.Prelude.{codes, option_map, reverse, ◌==◌}
 use Rattle.std.specs.Str.{bytes_eq}
 use Rattle.std.specs.Global.{Box}
-use Rattle.std.proofs.lemmas.List.{map-append, reverse-append}
+use Rattle.std.proofs.lemmas.List.{length-map, length-reverse, map-append, reverse-append}
+use Rattle.std.proofs.lemmas.Bool.Decides.{nat_tests}
 use Rattle.std.proofs.lemmas.Slice.Eq.{bytes_eq-Decides}
 use Rattle.pymark_core.proofs.Choices.{cases_bool}
 use Rattle.pymark_core.proofs.TreeView.{view_group}
-use Rattle.pymark_core.specs.Inner.Building.{frame_view, noted}
-use Rattle.pymark_core.specs.Marker.Reading.{Place, at_rest, at_right, behind_closing, frame_tree, operand_of, word_operand}
+use Rattle.pymark_core.specs.Inner.Building.{frame_view, noted, rest_atom}
+use Rattle.pymark_core.specs.Marker.Reading as reading
+use Rattle.pymark_core.specs.Marker.Reading.{Place, Stage, at_atom, at_operator, at_in, at_rest, at_right, behind_closing, end_at, frame_tree, operand_of, word_operand}
 use Rattle.pymark_core.specs.Marker.Token.{Token}
-use Rattle.pymark_core.specs.Marker.View.{atom_view, tree_view}
+use Rattle.pymark_core.specs.Inner.View.{atom_view, tree_view}
 use Rattle.pymark_core.specs.Variables.{variable_of}
 use Rattle.pymark_core.specs.declared.marker.builder.Frame.{Frame}
 use Rattle.pymark_core.specs.declared.marker.tree.Atom.{Atom}
@@ -39,14 +41,35 @@ last_first xs x = rw (map-append, reverse-append) refl
 pub closed : (items left : List Frame) (frame inner dest : Frame) (atom : Atom) (inside : Joined (Joined Atom)) (b : Box (Joined (Joined Atom)))
     → items ≡ left ++ frame ∷ [] → dest ≡ frame → tree_view inside ≡ frame_tree (frame_view inner) (atom_view atom) → b.value ≡ inside
     → behind_closing (reverse (map frame_view items)) (frame_view inner) (atom_view atom)
-      ≡ Some (record { outer = reverse (map frame_view left); inner = frame_view dest; stage = at_rest (atom_view (Group b)) })
+    ≡ Some (record { outer = reverse (map frame_view left); inner = frame_view dest; stage = at_rest (atom_view (Group b)) })
 closed items left frame inner dest atom inside b all is tree boxed =
     rw (all, last_first left frame, is, view_group b, boxed, tree) refl
 
-some_from_ok : {X : Type 0} (o : Option X) (x : X) → ok_or o Syntax ≡ Ok x → o ≡ Some x
+pub some_from_ok : {X : Type 0} (o : Option X) (x : X) → ok_or o Syntax ≡ Ok x → o ≡ Some x
 some_from_ok None x e = absurd cc
 some_from_ok (Some y) x e = let same : y ≡ x = cc in ap Some same
 
 pub noted_right : (left : Operand) (comparator : Comparator) (t : Token) (right : Operand) → ok_or (operand_of t) Syntax ≡ Ok right
     → noted (at_right left comparator) t ≡ record { left = left; comparator = comparator; right = right } ∷ []
 noted_right left comparator t right e = rw (some_from_ok (operand_of t) right e) refl
+
+pub none_open : (items : List Frame) → (length items == 0) ≡ true → reverse (map frame_view items) ≡ []
+none_open [] e = refl
+none_open (x ∷ xs) e = absurd (grind (arith, nat_tests))
+
+some_outer : (outer : List reading.Frame) (stage : Stage) (inner : reading.Frame) → 0 < length outer → end_at outer stage inner ≡ None
+some_outer [] stage inner some = absurd (omega arith)
+some_outer (frame ∷ outer) stage inner some = refl
+
+pub some_open : (items : List Frame) (stage : Stage) (inner : reading.Frame) → (length items == 0) ≡ false → end_at (reverse (map frame_view items)) stage inner ≡ None
+some_open [] stage inner e = absurd cc
+some_open (x ∷ xs) stage inner e =
+    some_outer (reverse (map frame_view (x ∷ xs))) stage inner (omega (arith, length-reverse (map frame_view (x ∷ xs)), length-map (x ∷ xs) frame_view))
+
+pub no_end : (outer : List reading.Frame) (stage : Stage) (inner : reading.Frame) → rest_atom stage ≡ None → end_at outer stage inner ≡ None
+no_end [] at_atom inner e = refl
+no_end [] (at_operator left) inner e = refl
+no_end [] (at_in left) inner e = refl
+no_end [] (at_right left comparator) inner e = refl
+no_end [] (at_rest atom) inner e = absurd cc
+no_end (frame ∷ outer) stage inner e = refl

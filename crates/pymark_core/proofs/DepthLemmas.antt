@@ -6,7 +6,7 @@ use Rattle.std.proofs.lemmas.Bool.Decides.{nat_tests}
 use Rattle.pymark_core.specs.Marker.Depth.{fronts, is_closing, is_deep, is_opening, open_count, outside_behind}
 use Rattle.std.proofs.lemmas.Bool.{le-ltb, lt-ltb, ne_eqb}
 use Rattle.std.proofs.lemmas.List.Sums.{sum_by-cons}
-use Rattle.pymark_core.specs.Marker.Nesting.{deep_behind, deep_from}
+use Rattle.pymark_core.specs.Inner.Nesting.{deep_behind, deep_from}
 use Rattle.pymark_core.specs.Marker.Token.{is_quote}
 use Rattle.pymark_core.specs.declared.marker.depth.Nesting.{Nesting}
 

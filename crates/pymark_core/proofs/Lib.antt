@@ -5,12 +5,16 @@ pub mod Choices
 pub mod Cuts
 pub mod DepthLemmas
 pub mod Judged
+pub mod MarkerLemmas
 pub mod NamesSoFar
 pub mod NoteLemmas
-pub mod ReadingComplete
+pub mod NotedLemmas
 pub mod ReadingSound
+pub mod RequirementAgain
+pub mod RequirementTakes
 pub mod Substrings
 pub mod Texts
 pub mod TokenLemmas
+pub mod TokensLemmas
 pub mod TreeView
 pub mod Turns

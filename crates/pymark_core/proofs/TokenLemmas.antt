@@ -7,8 +7,8 @@ use Rattle.pyver_core.specs.Set.Reading.{behind_operator, operators}
 use Rattle.pyver_core.specs.Set.Normal.{operator_text}
 use Rattle.pyver_core.specs.declared.set.specifier.Operator.{Operator}
 use Rattle.pymark_core.proofs.Choices.{found_passes}
-use Rattle.pymark_core.specs.Marker.Front as front
-use Rattle.pymark_core.specs.Marker.Front.{quoted_front}
+use Rattle.pymark_core.specs.Inner.Front as front
+use Rattle.pymark_core.specs.Inner.Front.{quoted_front}
 use Rattle.pymark_core.specs.Marker.Token.{operator_in, quoted_at, token_at, token_by}
 
 pub operator_stands : (text : List ℕ) (o : Operator) → operator_in text ≡ Some o → behind_operator o text ≡ Some (drop (length (operator_text o)) text)

@@ -1,6 +1,8 @@
--- The environment that markers are judged in (PEP 508, "Environment Markers"): a text for each variable
--- that has one, and the extras and dependency groups that are asked for (PEP 751, "Installation").
-use Rattle.std.specs.Prelude.{ℕ, Bool, List, Option, Some, None, replicate, slice_index_or, slice_set, refl}
+-- The environment that markers are judged in (PEP 508, "Environment Markers"): a text for each
+-- variable that has one, and the extras and dependency groups that are asked for (PEP 751,
+-- "Installation").
+use Rattle.std.specs.Prelude.{ℕ, Bool, List, Option, Some, None, replicate, slice_index_or}
+use Rattle.std.specs.Prelude.{slice_set, refl}
 use Rattle.std.specs.Cmp.Lexicographic.{slice_cmp}
 use Rattle.std.specs.Coded.{Coded, code_by, coded×, coded_ℕ, coded_list, coded_option}
 use Rattle.std.specs.FinSet as set
@@ -52,17 +54,21 @@ abbrev pub has_extra : List ℕ → EnvironmentValue → Bool
 has_extra name environment = set.contains environment.extras name
 
 abbrev pub with_extra : List ℕ → EnvironmentValue → EnvironmentValue
-with_extra name environment = record environment { extras = set.insert environment.extras (norm name) }
+with_extra name environment =
+    record environment { extras = set.insert environment.extras (norm name) }
 
 abbrev pub without_extra : List ℕ → EnvironmentValue → EnvironmentValue
-without_extra name environment = record environment { extras = set.remove environment.extras (norm name) }
+without_extra name environment =
+    record environment { extras = set.remove environment.extras (norm name) }
 
 -- whether this very text is among the groups
 abbrev pub has_group : List ℕ → EnvironmentValue → Bool
 has_group name environment = set.contains environment.groups name
 
 abbrev pub with_group : List ℕ → EnvironmentValue → EnvironmentValue
-with_group name environment = record environment { groups = set.insert environment.groups (norm name) }
+with_group name environment =
+    record environment { groups = set.insert environment.groups (norm name) }
 
 abbrev pub without_group : List ℕ → EnvironmentValue → EnvironmentValue
-without_group name environment = record environment { groups = set.remove environment.groups (norm name) }
+without_group name environment =
+    record environment { groups = set.remove environment.groups (norm name) }

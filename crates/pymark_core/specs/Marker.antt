@@ -1,11 +1,8 @@
 pub mod Comparison
 pub mod Depth
-pub mod Front
 pub mod Grammar
 pub mod Keys
-pub mod Nesting
 pub mod Reading
 pub mod Token
 pub mod Tree
 pub mod Value
-pub mod View

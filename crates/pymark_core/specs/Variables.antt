@@ -2,7 +2,14 @@
 use Rattle.std.specs.Prelude.{ℕ, List, [], ◌∷◌, codes, Option, find}
 use Rattle.std.specs.Str.{bytes_eq}
 use Rattle.pymark_core.specs.declared.variable.Var.{Var}
-use Rattle.pymark_core.specs.declared.variable.Var.TheVariants.{OsName, SysPlatform, PlatformMachine, PlatformPythonImplementation, PlatformRelease, PlatformSystem, PlatformVersion, PythonVersion, PythonFullVersion, ImplementationName, ImplementationVersion}
+use Rattle.pymark_core.specs.declared.variable.Var.TheVariants.{OsName, SysPlatform}
+use Rattle.pymark_core.specs.declared.variable.Var.TheVariants.{PlatformMachine}
+use Rattle.pymark_core.specs.declared.variable.Var.TheVariants.{PlatformPythonImplementation}
+use Rattle.pymark_core.specs.declared.variable.Var.TheVariants.{PlatformRelease, PlatformSystem}
+use Rattle.pymark_core.specs.declared.variable.Var.TheVariants.{PlatformVersion, PythonVersion}
+use Rattle.pymark_core.specs.declared.variable.Var.TheVariants.{PythonFullVersion}
+use Rattle.pymark_core.specs.declared.variable.Var.TheVariants.{ImplementationName}
+use Rattle.pymark_core.specs.declared.variable.Var.TheVariants.{ImplementationVersion}
 
 abbrev pub variable_name : Var → List ℕ
 variable_name OsName = codes "os_name"

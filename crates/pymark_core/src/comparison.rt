@@ -3,7 +3,9 @@
 ghost use Rattle.std.specs.Prelude.{◌≡◌, IfOk, Result};
 ghost use Rattle.pyver_core.specs.Agreement.{Gives};
 ghost use Rattle.pymark_core.specs.Inner.Compared.{IsRead, left_operand, right_operand};
-ghost use Rattle.pymark_core.specs.Marker.Value.{comparison_value, is_in, is_substring, operand_text, operator_value, text_value, texts_value};
+ghost use Rattle.pymark_core.specs.Marker.Value.{comparison_value, is_in, is_substring};
+ghost use Rattle.pymark_core.specs.Marker.Value.{operand_text, operator_value, text_value};
+ghost use Rattle.pymark_core.specs.Marker.Value.{texts_value};
 ghost use Rattle.pyver_core.specs.Parsed.{parsed_operand};
 
 use crate::candidate::Candidate;
@@ -15,7 +17,8 @@ use pyver_core::{Label, Operator, Specifier, SpecifierError, VersionError, norma
 use std::alloc::{AllocError, Global};
 use std::marker::Model;
 
-/// Two operands with an operator between them. The quoted texts were read once, in the operator's terms.
+/// Two operands with an operator between them. The quoted texts were read once, in the operator's
+/// terms.
 ///
 /// Contracts see the operands and the operator, since what the texts read as follows from them.
 #[derive(Debug, Drop)]
@@ -85,14 +88,15 @@ impl Comparison {
         })
     }
 
-    /// The value in the environment. A variable against a quoted text is judged without memory, and no
-    /// text is read.
+    /// The value in the environment. A variable against a quoted text is judged without memory, and
+    /// no text is read.
     pub(crate) fn evaluate(
         &self,
         alloc: Global,
         environment: &Environment,
     ) -> Result<bool, EvalFault>
-        ensures { Gives EvalFault.Memory (λ b. b) result (comparison_value environment.now self.now) }
+        ensures { Gives EvalFault.Memory (λ b. b) result
+            (comparison_value environment.now self.now) }
     {
         let left = candidate_in(&self.left, environment)?;
         match self.comparator {
@@ -103,6 +107,63 @@ impl Comparison {
             Comparator::NotIn => Ok(!has_in(alloc, environment, left.text(), &self.right)?),
         }
     }
+}
+
+impl Clone for Comparison {
+    ghost is_clone = { λ comparison copy. copy ≡ comparison };
+
+    fn clone(&self) -> Result<Comparison, AllocError> {
+        Ok(Comparison {
+            left: self.left.clone()?,
+            comparator: self.comparator,
+            right: self.right.clone()?,
+        })
+    }
+}
+
+impl Clone for Left {
+    ghost is_clone = { λ left copy. copy ≡ left };
+
+    fn clone(&self) -> Result<Left, AllocError> {
+        Ok(match self {
+            Left::Text(candidate) => Left::Text(candidate.clone()?),
+            Left::Variable(variable) => Left::Variable(*variable),
+            Left::Extra => Left::Extra,
+            Left::Extras => Left::Extras,
+            Left::Groups => Left::Groups,
+        })
+    }
+}
+
+impl Clone for Right {
+    ghost is_clone = { λ right copy. copy ≡ right };
+
+    fn clone(&self) -> Result<Right, AllocError> {
+        Ok(match self {
+            Right::Text(text) => Right::Text(text.clone()?),
+            Right::Operand(text, specifier) => {
+                Right::Operand(text.clone()?, copy_specifier(specifier)?)
+            }
+            Right::Variable(variable) => Right::Variable(*variable),
+            Right::Extra => Right::Extra,
+            Right::Extras => Right::Extras,
+            Right::Groups => Right::Groups,
+        })
+    }
+}
+
+/// What a text reads as, in memory of its own.
+fn copy_specifier(
+    specifier: &Result<Specifier, SpecifierError>,
+) -> Result<Result<Specifier, SpecifierError>, AllocError>
+    ensures { IfOk result (λ copy. copy ≡ specifier.now) }
+{
+    Ok(match specifier {
+        Ok(specifier) => Ok(specifier.clone()?),
+        Err(SpecifierError::Syntax) => Err(SpecifierError::Syntax),
+        Err(SpecifierError::NumberTooLarge) => Err(SpecifierError::NumberTooLarge),
+        Err(SpecifierError::Memory) => Err(SpecifierError::Memory),
+    })
 }
 
 /// The operand with the version that it spells, if it is a quoted text.
@@ -154,7 +215,8 @@ fn read_operand(
 
 /// The text of a variable, with the version that it spells.
 fn variable_candidate(environment: &Environment, variable: Var) -> Result<&Candidate, EvalFault>
-    ensures { Gives EvalFault.Memory (λ candidate. candidate.now) result (operand_text environment.now (Operand.Variable variable)) }
+    ensures { Gives EvalFault.Memory (λ candidate. candidate.now) result
+        (operand_text environment.now (Operand.Variable variable)) }
 {
     environment
         .candidate(variable)
@@ -166,7 +228,8 @@ fn candidate_in<'a>(
     left: &'a Left,
     environment: &'a Environment,
 ) -> Result<&'a Candidate, EvalFault>
-    ensures { Gives EvalFault.Memory (λ candidate. candidate.now) result (operand_text environment.now (left_operand left.now)) }
+    ensures { Gives EvalFault.Memory (λ candidate. candidate.now) result
+        (operand_text environment.now (left_operand left.now)) }
 {
     match left {
         Left::Text(candidate) => Ok(candidate),
@@ -183,7 +246,8 @@ fn has_in(
     text: &str,
     right: &Right,
 ) -> Result<bool, EvalFault>
-    ensures { Gives EvalFault.Memory (λ b. b) result (is_in environment.now text.now (right_operand right.now)) }
+    ensures { Gives EvalFault.Memory (λ b. b) result
+        (is_in environment.now text.now (right_operand right.now)) }
 {
     match right {
         Right::Text(whole) | Right::Operand(whole, _) => Ok(is_substring(text, whole.as_str())),
@@ -213,7 +277,8 @@ fn value_by(
     right: &Right,
 ) -> Result<bool, EvalFault>
     requires { IsRead (Comparator.By operator) right.now }
-    ensures { Gives EvalFault.Memory (λ b. b) result (text_value environment.now left.now (Comparator.By operator) (right_operand right.now)) }
+    ensures { Gives EvalFault.Memory (λ b. b) result
+        (text_value environment.now left.now (Comparator.By operator) (right_operand right.now)) }
 {
     match right {
         Right::Operand(text, specifier) => judge(left, operator, text.as_str(), specifier),

@@ -1,10 +1,13 @@
-//! The environment that markers are judged in (PEP 508, "Environment Markers"; PEP 751, "Installation").
+//! The environment that markers are judged in (PEP 508, "Environment Markers"; PEP 751,
+//! "Installation").
 
 ghost use Rattle.std.specs.Prelude.{◌≡◌, not, option_map, replicate, IfOk, OnErr, OnOk};
 ghost use Rattle.std.specs.FinSet as set;
 ghost use Rattle.pyver_core.specs.Name.{norm};
 ghost use Rattle.pyver_core.specs.Parsed.{parsed_version};
-ghost use Rattle.pymark_core.specs.Environment.{empty, has_extra, has_group, variable_in, with_extra, with_group, with_variable, without_extra, without_group, without_variable};
+ghost use Rattle.pymark_core.specs.Environment.{empty, has_extra, has_group, variable_in};
+ghost use Rattle.pymark_core.specs.Environment.{with_extra, with_group, with_variable};
+ghost use Rattle.pymark_core.specs.Environment.{without_extra, without_group, without_variable};
 
 use crate::candidate::Candidate;
 use crate::names::NameSet;
@@ -13,8 +16,8 @@ use pyver_core::{Version, VersionError};
 use std::alloc::{AllocError, Global};
 use std::marker::Model;
 
-/// The environment that markers are judged in: a text for each variable that has one, and the sets of
-/// the extras and of the dependency groups that are asked for, in normal form (PEP 503).
+/// The environment that markers are judged in: a text for each variable that has one, and the sets
+/// of the extras and of the dependency groups that are asked for, in normal form (PEP 503).
 ///
 /// Contracts see the texts and the sets.
 #[derive(Debug, Drop)]
@@ -65,10 +68,11 @@ impl Environment {
         self.variables[variable.place()].as_ref()
     }
 
-    /// The version that the text of the variable spells, or why it spells none; nothing where the variable
-    /// has no text. It was read when the variable was set, so it takes no memory.
+    /// The version that the text of the variable spells, or why it spells none; nothing where the
+    /// variable has no text. It was read when the variable was set, so it takes no memory.
     pub fn version(&self, variable: Var) -> Option<&Result<Version, VersionError>>
-        ensures { option_map (λ read. read.now) result ≡ option_map parsed_version (variable_in variable self.now) }
+        ensures { option_map (λ read. read.now) result
+            ≡ option_map parsed_version (variable_in variable self.now) }
     {
         match self.candidate(variable) {
             Some(candidate) => Some(candidate.version()),
@@ -76,8 +80,8 @@ impl Environment {
         }
     }
 
-    /// Gives the variable the text, which is read as a version here and never again. Where there is no
-    /// memory for it, the variable keeps what it had.
+    /// Gives the variable the text, which is read as a version here and never again. Where there is
+    /// no memory for it, the variable keeps what it had.
     pub fn set(&mut self, variable: Var, text: &str) -> Result<(), AllocError>
         ensures ok { OnOk result (self.new ≡ with_variable variable text.now self.old) }
         ensures err { OnErr result (self.new ≡ self.old) }
@@ -94,41 +98,53 @@ impl Environment {
         self.variables[variable.place()] = None;
     }
 
-    /// Asks for the extra of this name, and answers whether it wasn't asked for. Where there is no memory
-    /// for it, the extras stay.
+    /// Asks for no extra and no group. It takes no memory.
+    pub fn ask_nothing(&mut self)
+        ensures { self.new ≡ record self.old { extras = set.empty; groups = set.empty } }
+    {
+        self.extras = NameSet::new(self.alloc);
+        self.groups = NameSet::new(self.alloc);
+    }
+
+    /// Asks for the extra of this name, and answers whether it wasn't asked for. Where there is no
+    /// memory for it, the extras stay.
     pub fn add_extra(&mut self, name: &str) -> Result<bool, AllocError>
         ensures ok { OnOk result (self.new ≡ with_extra name.now self.old) }
-        ensures added { IfOk result (λ added. added ≡ not (set.contains self.old.extras (norm name.now))) }
+        ensures added { IfOk result
+            (λ added. added ≡ not (set.contains self.old.extras (norm name.now))) }
         ensures err { OnErr result (self.new ≡ self.old) }
     {
         self.extras.add(self.alloc, name)
     }
 
-    /// Asks for the extra of this name no more, and answers whether it was asked for. It takes the memory
-    /// of the normal name; where there is none, the extras stay.
+    /// Asks for the extra of this name no more, and answers whether it was asked for. It takes the
+    /// memory of the normal name; where there is none, the extras stay.
     pub fn drop_extra(&mut self, name: &str) -> Result<bool, AllocError>
         ensures ok { OnOk result (self.new ≡ without_extra name.now self.old) }
-        ensures dropped { IfOk result (λ dropped. dropped ≡ set.contains self.old.extras (norm name.now)) }
+        ensures dropped { IfOk result
+            (λ dropped. dropped ≡ set.contains self.old.extras (norm name.now)) }
         ensures err { OnErr result (self.new ≡ self.old) }
     {
         self.extras.drop_name(self.alloc, name)
     }
 
-    /// Asks for the group of this name, and answers whether it wasn't asked for. Where there is no memory
-    /// for it, the groups stay.
+    /// Asks for the group of this name, and answers whether it wasn't asked for. Where there is no
+    /// memory for it, the groups stay.
     pub fn add_group(&mut self, name: &str) -> Result<bool, AllocError>
         ensures ok { OnOk result (self.new ≡ with_group name.now self.old) }
-        ensures added { IfOk result (λ added. added ≡ not (set.contains self.old.groups (norm name.now))) }
+        ensures added { IfOk result
+            (λ added. added ≡ not (set.contains self.old.groups (norm name.now))) }
         ensures err { OnErr result (self.new ≡ self.old) }
     {
         self.groups.add(self.alloc, name)
     }
 
-    /// Asks for the group of this name no more, and answers whether it was asked for. It takes the memory
-    /// of the normal name; where there is none, the groups stay.
+    /// Asks for the group of this name no more, and answers whether it was asked for. It takes the
+    /// memory of the normal name; where there is none, the groups stay.
     pub fn drop_group(&mut self, name: &str) -> Result<bool, AllocError>
         ensures ok { OnOk result (self.new ≡ without_group name.now self.old) }
-        ensures dropped { IfOk result (λ dropped. dropped ≡ set.contains self.old.groups (norm name.now)) }
+        ensures dropped { IfOk result
+            (λ dropped. dropped ≡ set.contains self.old.groups (norm name.now)) }
         ensures err { OnErr result (self.new ≡ self.old) }
     {
         self.groups.drop_name(self.alloc, name)

@@ -1,12 +1,17 @@
 //! Laws of markers, each a public function that does nothing: its contract is the law.
 
-ghost use Rattle.std.specs.Prelude.{◌≡◌, ℕ, List, Some, Ok, true};
+ghost use Rattle.std.specs.Prelude.{◌≡◌, ℕ, List, Some, Ok, false, true};
 ghost use Rattle.pymark_core.specs.Environment.{EnvironmentValue};
-ghost use Rattle.pymark_core.specs.Marker.Grammar.{MarkerText};
-ghost use Rattle.pymark_core.specs.Marker.Keys.{keys_of, reads};
-ghost use Rattle.pymark_core.specs.Marker.Reading.{marker_of, tree_text};
+ghost use Rattle.pymark_core.specs.Marker.Depth.{is_deep};
+ghost use Rattle.pymark_core.specs.Marker.Grammar.{MarkerText, has_misuse};
+ghost use Rattle.pymark_core.specs.Marker.Keys.{reads};
+ghost use Rattle.pymark_core.specs.Marker.Reading.{MarkerValue, marker_of, tree_text};
 ghost use Rattle.pymark_core.specs.Marker.Tree.{Tree};
+ghost use Rattle.pymark_core.specs.Requirement.Grammar.{Req};
+ghost use Rattle.pymark_core.specs.Requirement.Reading.{requirement_of};
+ghost use Rattle.pymark_core.specs.Requirement.Value.{RequirementValue};
 ghost use Rattle.pymark_core.specs.Marker.Value.{AgreeAt, marker_value};
+ghost use Rattle.pymark_core.specs.White.{trimmed};
 ghost use Rattle.pymark_core.specs.declared.marker.keys.Key.{Key};
 
 /// A text has at most one tree.
@@ -16,13 +21,36 @@ pub fn one_tree()
 
 /// The tree that `tree_text` gives is the text's, and it gives the tree of every text that has one.
 pub fn tree_text_is_complete()
-    ensures sound { (text : List ℕ) (tree : Tree) → tree_text text ≡ Some tree → MarkerText text tree }
-    ensures complete { (text : List ℕ) (tree : Tree) → MarkerText text tree → tree_text text ≡ Some tree }
+    ensures sound { (text : List ℕ) (tree : Tree)
+        → tree_text text ≡ Some tree → MarkerText text tree }
+    ensures complete { (text : List ℕ) (tree : Tree)
+        → MarkerText text tree → tree_text text ≡ Some tree }
 {}
 
-/// A marker reads nothing but its keys: two environments that agree on them give it the same value or the
-/// same fault.
+/// The marker that `marker_of` gives is the text's: the tree is one of it, by which no set is
+/// misused. It gives every such marker, unless the text is nested too deep.
+pub fn marker_of_is_complete()
+    ensures sound { (text : List ℕ) (m : MarkerValue) → marker_of text ≡ Ok m
+        → MarkerText text m.tree × (m.text ≡ trimmed text)
+        × (is_deep text ≡ false) × (has_misuse m.tree ≡ false) }
+    ensures complete { (text : List ℕ) (tree : Tree) → MarkerText text tree
+        → is_deep text ≡ false → has_misuse tree ≡ false
+        → marker_of text ≡ Ok (record { text = trimmed text; tree = tree }) }
+{}
+
+/// A marker reads nothing but its keys: two environments that agree on them give it the same value
+/// or the same fault.
 pub fn marker_reads()
-    ensures { (tree : Tree) (e f : EnvironmentValue) → ((k : Key) → reads k tree ≡ true → AgreeAt k e f)
+    ensures { (tree : Tree) (e f : EnvironmentValue)
+        → ((k : Key) → reads k tree ≡ true → AgreeAt k e f)
         → marker_value e tree ≡ marker_value f tree }
+{}
+
+/// What is read of a requirement, the text is, and what the text is, is read: each text is at most
+/// one requirement.
+pub fn requirement_of_is_complete()
+    ensures sound { (text : List ℕ) (parts : RequirementValue)
+        → requirement_of text ≡ Ok parts → Req text parts }
+    ensures complete { (text : List ℕ) (parts : RequirementValue)
+        → Req text parts → requirement_of text ≡ Ok parts }
 {}

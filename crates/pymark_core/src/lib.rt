@@ -1,4 +1,5 @@
-//! Markers, the environments that they are judged in, and requirements of Python packages (PEP 508).
+//! Markers, the environments that they are judged in, and requirements of Python packages (PEP
+//! 508).
 #![tactic(auto)]
 
 mod candidate;
@@ -15,9 +16,9 @@ mod white;
 
 pub use environment::Environment;
 pub use fault::EvalFault;
-pub use marker::{Key, MarkerError, Reads};
+pub use marker::{Key, Marker, MarkerError, Reads};
 pub use operand::{Comparator, Operand};
-pub use requirement::RequirementError;
+pub use requirement::{Requirement, RequirementError};
 pub use variable::Var;
 
 #[cfg(test)]

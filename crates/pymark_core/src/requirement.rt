@@ -3,4 +3,132 @@
 mod error;
 mod parts;
 
+ghost use Rattle.std.specs.Prelude.{◌≡◌, IfOk, map, option_map, string_bytes};
+ghost use Rattle.pyver_core.specs.Agreement.{Gives};
+ghost use Rattle.pymark_core.specs.Requirement.Grammar.{Req};
+ghost use Rattle.pymark_core.specs.Requirement.Reading.{marker_in, requirement_of};
+
+use crate::marker::{Marker, MarkerError};
+use crate::white::past_white;
 pub use error::RequirementError;
+use parts::{read_extras, read_name, read_source};
+use pyver_core::{Label, SpecifierSet};
+use std::alloc::{AllocError, Global};
+use std::marker::Model;
+
+/// A requirement: a name, extras, and a specifier set or a URL, with a marker where it has one.
+///
+/// Contracts see these parts.
+#[derive(Debug, Drop)]
+pub struct Requirement {
+    name: String,
+    extras: Vec<String>,
+    set: SpecifierSet,
+    url: Option<String>,
+    marker: Option<Marker>,
+}
+
+impl Model for Requirement {
+    ghost use Rattle.std.specs.Coded.{codes};
+    ghost use Rattle.std.specs.Prelude.{map, option_map, string_bytes};
+    ghost use Rattle.pymark_core.specs.Inner.Coding.{marker_code};
+    ghost use Rattle.pymark_core.specs.Requirement.Value.{RequirementValue};
+
+    ghost Value = { RequirementValue };
+
+    ghost coded = { Prim.hlevel (codes, marker_code) };
+
+    ghost view = { λ r. record {
+      name = string_bytes r.name;
+      extras = map string_bytes r.extras.items;
+      set = r.set;
+      url = option_map string_bytes r.url;
+      marker = r.marker;
+    } };
+}
+
+impl Requirement {
+    /// The requirement that the text is (PEP 508, "Grammar"), or the first fault from the left.
+    ///
+    /// White space (TAB, LF, VT, FF, CR, space) may stand before, between and after the parts.
+    #[tactic(auto, unfolding(crate::specs::Requirement::Reading::requirement_of))]
+    pub fn parse(alloc: Global, text: &str) -> Result<Requirement, RequirementError>
+        ensures exact { Gives RequirementError.Memory (λ r. r) result (requirement_of text.now) }
+    {
+        let (name, rest) = read_name(past_white(text))?;
+        let (extras, rest) = read_extras(alloc, past_white(rest))?;
+        let source = read_source(alloc, past_white(rest))?;
+        let marker = read_marker(alloc, source.marker)?;
+        Ok(Requirement {
+            name: String::from_str(alloc, name)?,
+            extras,
+            set: source.set,
+            url: own(alloc, source.url)?,
+            marker,
+        })
+    }
+
+    /// The name as it is written.
+    pub fn name(&self) -> &str
+        ensures { result.now ≡ self.now.name }
+    {
+        self.name.as_str()
+    }
+
+    /// The extras as they are written, in order, repeats too.
+    pub fn extras(&self) -> &[String]
+        ensures { map string_bytes result.now ≡ self.now.extras }
+    {
+        &self.extras
+    }
+
+    /// The specifiers, none where the requirement has a URL.
+    pub fn set(&self) -> &SpecifierSet
+        ensures { result.now ≡ self.now.set }
+    {
+        &self.set
+    }
+
+    /// The URL.
+    pub fn url(&self) -> Option<&str>
+        ensures { option_map (λ url. url.now) result ≡ self.now.url }
+    {
+        match &self.url {
+            Some(url) => Some(url.as_str()),
+            None => None,
+        }
+    }
+
+    /// The marker.
+    pub fn marker(&self) -> Option<&Marker>
+        ensures { option_map (λ marker. marker.now) result ≡ self.now.marker }
+    {
+        self.marker.as_ref()
+    }
+}
+
+/// The text in memory of its own, if there is one.
+fn own(alloc: Global, text: Option<&str>) -> Result<Option<String>, AllocError>
+    ensures { IfOk result
+        (λ own. option_map string_bytes own ≡ option_map (λ t. t.now) text.entry) }
+{
+    match text {
+        Some(text) => Ok(Some(String::from_str(alloc, text)?)),
+        None => Ok(None),
+    }
+}
+
+/// The marker of the text, if there is one; no text of its is refused but as `Marker`.
+fn read_marker(alloc: Global, text: Option<&str>) -> Result<Option<Marker>, RequirementError>
+    ensures { Gives RequirementError.Memory (λ marker. marker) result
+        (marker_in (option_map (λ t. t.now) text.entry)) }
+{
+    let Some(text) = text else { return Ok(None) };
+    match Marker::parse(alloc, text) {
+        Ok(marker) => Ok(Some(marker)),
+        Err(MarkerError::Memory) => Err(RequirementError::Memory),
+        Err(MarkerError::TooDeep | MarkerError::Syntax | MarkerError::SetMisuse) => {
+            Err(RequirementError::Marker)
+        }
+    }
+}

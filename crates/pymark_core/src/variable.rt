@@ -1,7 +1,10 @@
 //! The variables of markers (PEP 508, "Environment Markers").
 
-ghost use Rattle.std.specs.Prelude.{◌≡◌, ◌<◌};
+ghost use Rattle.std.specs.Fmt.{padded};
+ghost use Rattle.std.specs.Prelude.{◌≡◌, ◌<◌, Some};
 ghost use Rattle.pymark_core.specs.Variables.{place, variable_name, variable_of};
+
+use std::fmt;
 
 /// A variable of markers: a text about the Python that is installed for.
 #[derive(Clone, Copy, PartialEq, Eq, Hash, Debug)]
@@ -81,5 +84,16 @@ impl Var {
         ensures within { result < 11 }
     {
         self as usize
+    }
+}
+
+/// The name of the variable in markers.
+impl fmt::Display for Var {
+    ghost output = { λ variable. Some (variable_name variable) };
+
+    ghost styled_output = { λ variable spec. Some (padded spec (variable_name variable)) };
+
+    fn fmt<W: fmt::Write>(&self, f: &mut fmt::Formatter<W>) -> fmt::Result {
+        f.pad(self.name())
     }
 }

@@ -1,23 +1,30 @@
 -- What the code keeps while it reads a marker, seen as a place in it.
-use Rattle.std.specs.Prelude.{◌≡◌, ◌||◌, List, [], ◌∷◌, ◌++◌, map, reverse, Option, None, Some, option_map}
+use Rattle.std.specs.Prelude.{◌≡◌, ◌||◌, List, [], ◌∷◌, ◌++◌, map, reverse, Option, None, Some}
+use Rattle.std.specs.Prelude.{option_map}
 use Rattle.std.specs.Option.{option_to_list}
 use Rattle.std.specs.List.{list_any}
 use Rattle.pymark_core.specs.Marker.Comparison.{ComparisonValue}
 use Rattle.pymark_core.specs.Marker.Grammar.{is_misuse}
 use Rattle.pymark_core.specs.Marker.Keys.{comparison_reads, is_in}
 use Rattle.pymark_core.specs.Marker.Reading as reading
-use Rattle.pymark_core.specs.Marker.Reading.{Place, at_atom, at_operator, at_in, at_right, at_rest, operand_of}
+use Rattle.pymark_core.specs.Marker.Reading.{Place, at_atom, at_operator, at_in, at_right, at_rest}
+use Rattle.pymark_core.specs.Marker.Reading.{operand_of}
 use Rattle.pymark_core.specs.Marker.Token as token
-use Rattle.pymark_core.specs.Marker.View.{atom_view, conjunction_view}
+use Rattle.pymark_core.specs.Marker.Tree.{Atom}
+use Rattle.pymark_core.specs.Inner.View.{atom_view, conjunction_view}
 use Rattle.pymark_core.specs.declared.marker.keys.Key.{Key}
 use Rattle.pymark_core.specs.declared.marker.notes.Notes.{Notes}
 use Rattle.pymark_core.specs.declared.marker.builder.Builder.{Builder}
 use Rattle.pymark_core.specs.declared.marker.builder.Frame.{Frame}
 use Rattle.pymark_core.specs.declared.marker.builder.Stage.{Stage}
-use Rattle.pymark_core.specs.declared.marker.builder.Stage.TheVariants.{Start, Operator, In, Right, Rest}
+use Rattle.pymark_core.specs.declared.marker.builder.Stage.TheVariants.{Start, Operator, In, Right}
+use Rattle.pymark_core.specs.declared.marker.builder.Stage.TheVariants.{Rest}
 
 abbrev pub frame_view : Frame → reading.Frame
-frame_view frame = record { conjunctions = map conjunction_view frame.conjunctions.items; atoms = map atom_view frame.atoms.items }
+frame_view frame = record {
+  conjunctions = map conjunction_view frame.conjunctions.items;
+  atoms = map atom_view frame.atoms.items;
+}
 
 abbrev pub stage_view : Stage → reading.Stage
 stage_view Start = at_atom
@@ -36,16 +43,32 @@ place_view b stage = record {
   stage = stage_view stage;
 }
 
+-- the atom behind which a stage is
+abbrev pub rest_atom : reading.Stage → Option Atom
+rest_atom at_atom = None
+rest_atom (at_operator left) = None
+rest_atom (at_in left) = None
+rest_atom (at_right left comparator) = None
+rest_atom (at_rest atom) = Some atom
+
 -- the comparison that ends with this token
 abbrev pub noted : reading.Stage → token.Token → List ComparisonValue
 noted at_atom t = []
 noted (at_operator left) t = []
 noted (at_in left) t = []
 noted (at_right left comparator) t =
-    option_to_list (option_map (λ right. record { left = left; comparator = comparator; right = right }) (operand_of t))
+    option_to_list (option_map
+    (λ right. record { left = left; comparator = comparator; right = right })
+    (operand_of t))
 noted (at_rest atom) t = []
 
 -- what was noted is what was noted before, and these comparisons
 pub record NotesMore (old new : Notes) (cs : List ComparisonValue) : Type 0 where
-  pub reads : (key : Key) → is_in new.reads key ≡ (is_in old.reads key || list_any (comparison_reads key) cs)
+  pub reads : (key : Key)
+      → is_in new.reads key ≡ (is_in old.reads key || list_any (comparison_reads key) cs)
   pub misuse : new.misuse ≡ (old.misuse || list_any is_misuse cs)
+
+-- what was noted is these comparisons
+pub record NotesOf (notes : Notes) (cs : List ComparisonValue) : Type 0 where
+  pub reads : (key : Key) → is_in notes.reads key ≡ list_any (comparison_reads key) cs
+  pub misuse : notes.misuse ≡ list_any is_misuse cs

@@ -10,7 +10,8 @@ use Rattle.pymark_core.specs.declared.comparison.Right.TheVariants as right
 use Rattle.pymark_core.specs.declared.operand.Comparator.{Comparator}
 use Rattle.pymark_core.specs.declared.operand.Comparator.TheVariants.{By, In, NotIn}
 use Rattle.pymark_core.specs.declared.operand.Operand.{Operand}
-use Rattle.pymark_core.specs.declared.operand.Operand.TheVariants.{Text, Variable, Extra, Extras, Groups}
+use Rattle.pymark_core.specs.declared.operand.Operand.TheVariants.{Text, Variable, Extra, Extras}
+use Rattle.pymark_core.specs.declared.operand.Operand.TheVariants.{Groups}
 
 abbrev pub left_operand : Left → Operand
 left_operand (left.Text text) = Text text

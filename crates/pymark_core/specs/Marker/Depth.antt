@@ -1,14 +1,18 @@
--- How deep the parentheses of a text are nested, quoted texts passed over. The text needn't be a marker.
-use Rattle.std.specs.Prelude.{ℕ, ◌-◌, Bool, ◌==◌, nat_lt, if◌then◌else◌, List, [], ◌∷◌, map, Option, Some, None, count_by}
+-- How deep the parentheses of a text are nested, quoted texts passed over. The text needn't be a
+-- marker.
+use Rattle.std.specs.Prelude.{ℕ, ◌-◌, Bool, ◌==◌, nat_lt, if◌then◌else◌, List, [], ◌∷◌, map, Option}
+use Rattle.std.specs.Prelude.{Some, None, count_by}
 use Rattle.std.specs.List.{list_any}
 use Rattle.pymark_core.specs.Marker.Token.{is_quote}
 
--- The bytes that stand outside quotations, where a quotation by this quote is open or none is. It ends at the
--- next quote of its kind; one that isn't closed runs to the end.
+-- The bytes that stand outside quotations, where a quotation by this quote is open or none is. It
+-- ends at the next quote of its kind; one that isn't closed runs to the end.
 abbrev pub outside_behind : Option ℕ → List ℕ → List ℕ
 outside_behind quote [] = []
-outside_behind None (b ∷ rest) = if is_quote b then outside_behind (Some b) rest else b ∷ outside_behind None rest
-outside_behind (Some quote) (b ∷ rest) = outside_behind (if b == quote then None else Some quote) rest
+outside_behind None (b ∷ rest) =
+    if is_quote b then outside_behind (Some b) rest else b ∷ outside_behind None rest
+outside_behind (Some quote) (b ∷ rest) =
+    outside_behind (if b == quote then None else Some quote) rest
 
 abbrev pub outside : List ℕ → List ℕ
 outside text = outside_behind None text

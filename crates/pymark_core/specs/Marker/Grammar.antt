@@ -1,6 +1,7 @@
--- Which texts are which markers (PEP 508, "Grammar"): a relation between a text's tokens and a tree, which is
--- written out as tokens.
-use Rattle.std.specs.Prelude.{◌≡◌, ℕ, Bool, false, true, ◌&&◌, ◌||◌, List, [], ◌∷◌, ◌++◌, codes, Some}
+-- Which texts are which markers (PEP 508, "Grammar"): a relation between a text's tokens and a
+-- tree, which is written out as tokens.
+use Rattle.std.specs.Prelude.{◌≡◌, ℕ, Bool, false, true, ◌&&◌, ◌||◌, List, [], ◌∷◌, ◌++◌, codes}
+use Rattle.std.specs.Prelude.{Some}
 use Rattle.std.specs.List.{list_any}
 use Rattle.pymark_core.specs.Marker.Comparison.{ComparisonValue}
 use Rattle.pymark_core.specs.Marker.Token.{Token, tokens, opening, closing, sign, word, quoted}
@@ -9,7 +10,8 @@ use Rattle.pymark_core.specs.Variables.{variable_name}
 use Rattle.pymark_core.specs.declared.operand.Comparator.{Comparator}
 use Rattle.pymark_core.specs.declared.operand.Comparator.TheVariants.{By, In, NotIn}
 use Rattle.pymark_core.specs.declared.operand.Operand.{Operand}
-use Rattle.pymark_core.specs.declared.operand.Operand.TheVariants.{Text, Variable, Extra, Extras, Groups}
+use Rattle.pymark_core.specs.declared.operand.Operand.TheVariants.{Text, Variable, Extra, Extras}
+use Rattle.pymark_core.specs.declared.operand.Operand.TheVariants.{Groups}
 
 -- ---- a tree as tokens, each part in front of the tokens behind it
 
@@ -26,16 +28,19 @@ comparator_tokens In behind = word (codes "in") ∷ behind
 comparator_tokens NotIn behind = word (codes "not") ∷ word (codes "in") ∷ behind
 
 abbrev pub comparison_tokens : ComparisonValue → List Token → List Token
-comparison_tokens c behind = operand_token c.left ∷ comparator_tokens c.comparator (operand_token c.right ∷ behind)
+comparison_tokens c behind =
+    operand_token c.left ∷ comparator_tokens c.comparator (operand_token c.right ∷ behind)
 
 abbrev mutual
   pub tree_tokens : Tree → List Token → List Token
   tree_tokens (last c) behind = conjunction_tokens c behind
-  tree_tokens (or c others) behind = conjunction_tokens c (word (codes "or") ∷ tree_tokens others behind)
+  tree_tokens (or c others) behind =
+      conjunction_tokens c (word (codes "or") ∷ tree_tokens others behind)
 
   pub conjunction_tokens : Conjunction → List Token → List Token
   conjunction_tokens (only a) behind = atom_tokens a behind
-  conjunction_tokens (and a others) behind = atom_tokens a (word (codes "and") ∷ conjunction_tokens others behind)
+  conjunction_tokens (and a others) behind =
+      atom_tokens a (word (codes "and") ∷ conjunction_tokens others behind)
 
   pub atom_tokens : Atom → List Token → List Token
   atom_tokens (leaf c) behind = comparison_tokens c behind

@@ -1,33 +1,20 @@
 -- What of an environment a marker reads.
-use Rattle.std.specs.Prelude.{ℕ, Bool, false, true, ◌==◌, ◌||◌, List, [], ◌∷◌, map, ◌++◌, filter, slice_index_or}
+use Rattle.std.specs.Prelude.{ℕ, Bool, false, true, ◌==◌, ◌||◌, List, [], ◌∷◌, map, ◌++◌, filter}
+use Rattle.std.specs.Prelude.{slice_index_or}
 use Rattle.std.specs.List.{list_any}
 use Rattle.pymark_core.specs.Marker.Comparison.{ComparisonValue}
 use Rattle.pymark_core.specs.Marker.Grammar.{comparisons}
 use Rattle.pymark_core.specs.Marker.Tree.{Tree}
-use Rattle.pymark_core.specs.Variables.{variables}
+use Rattle.pymark_core.specs.Variables.{place, variables}
 use Rattle.pymark_core.specs.declared.marker.keys.Key.{Key}
 use Rattle.pymark_core.specs.declared.marker.keys.Key.TheVariants as key
 use Rattle.pymark_core.specs.declared.operand.Operand.{Operand}
-use Rattle.pymark_core.specs.declared.operand.Operand.TheVariants.{Text, Variable, Extra, Extras, Groups}
-use Rattle.pymark_core.specs.declared.variable.Var.{Var}
-use Rattle.pymark_core.specs.declared.variable.Var.TheVariants as variable
+use Rattle.pymark_core.specs.declared.operand.Operand.TheVariants.{Text, Variable, Extra, Extras}
+use Rattle.pymark_core.specs.declared.operand.Operand.TheVariants.{Groups}
 
 -- each of the 13 keys has a number of its own
-abbrev pub variable_number : Var → ℕ
-variable_number variable.OsName = 0
-variable_number variable.SysPlatform = 1
-variable_number variable.PlatformMachine = 2
-variable_number variable.PlatformPythonImplementation = 3
-variable_number variable.PlatformRelease = 4
-variable_number variable.PlatformSystem = 5
-variable_number variable.PlatformVersion = 6
-variable_number variable.PythonVersion = 7
-variable_number variable.PythonFullVersion = 8
-variable_number variable.ImplementationName = 9
-variable_number variable.ImplementationVersion = 10
-
 abbrev pub key_number : Key → ℕ
-key_number (key.Of v) = variable_number v
+key_number (key.Of v) = place v
 key_number key.Extras = 11
 key_number key.Groups = 12
 

@@ -1,21 +1,26 @@
--- Reading a marker from the left: the tree that a text is, as a function. It gives an answer exactly where
--- `MarkerText` holds, and the tree of which it holds: the laws `marker_of_is_text` and `marker_of_is_complete`.
-use Rattle.std.specs.Prelude.{ℕ, Bool, if◌then◌else◌, List, [], ◌∷◌, ◌++◌, codes, Option, Some, None, option_map, Result, Ok, Err, ok_or}
+-- Reading a marker from the left: the tree that a text is, as a function. It gives an answer
+-- exactly where `MarkerText` holds, and the tree of which it holds: the laws
+-- `tree_text_is_complete` and `marker_of_is_complete`.
+use Rattle.std.specs.Prelude.{ℕ, Bool, if◌then◌else◌, List, [], ◌∷◌, ◌++◌, codes, Option, Some}
+use Rattle.std.specs.Prelude.{None, option_map, Result, Ok, Err, ok_or}
 use Rattle.std.specs.Str.{bytes_eq}
 use Rattle.pyver_core.specs.Options.{◌>>=◌}
 use Rattle.pymark_core.specs.Marker.Comparison.{ComparisonValue}
 use Rattle.pymark_core.specs.Marker.Depth.{is_deep}
 use Rattle.pymark_core.specs.Marker.Grammar.{has_misuse}
 use Rattle.pymark_core.specs.Marker.Token.{Token, tokens, opening, closing, sign, word, quoted}
-use Rattle.pymark_core.specs.Marker.Tree.{Tree, Conjunction, Atom, leaf, group, conjunction_of, tree_of}
+use Rattle.pymark_core.specs.Marker.Tree.{Tree, Conjunction, Atom, leaf, group, conjunction_of}
+use Rattle.pymark_core.specs.Marker.Tree.{tree_of}
 use Rattle.pymark_core.specs.Variables.{variable_of}
 use Rattle.pymark_core.specs.White.{trimmed}
 use Rattle.pymark_core.specs.declared.marker.error.MarkerError.{MarkerError}
-use Rattle.pymark_core.specs.declared.marker.error.MarkerError.TheVariants.{TooDeep, Syntax, SetMisuse}
+use Rattle.pymark_core.specs.declared.marker.error.MarkerError.TheVariants.{TooDeep, Syntax}
+use Rattle.pymark_core.specs.declared.marker.error.MarkerError.TheVariants.{SetMisuse}
 use Rattle.pymark_core.specs.declared.operand.Comparator.{Comparator}
 use Rattle.pymark_core.specs.declared.operand.Comparator.TheVariants.{By, In, NotIn}
 use Rattle.pymark_core.specs.declared.operand.Operand.{Operand}
-use Rattle.pymark_core.specs.declared.operand.Operand.TheVariants.{Text, Variable, Extra, Extras, Groups}
+use Rattle.pymark_core.specs.declared.operand.Operand.TheVariants.{Text, Variable, Extra, Extras}
+use Rattle.pymark_core.specs.declared.operand.Operand.TheVariants.{Groups}
 
 -- ---- single tokens
 
@@ -49,8 +54,8 @@ pub data Stage : Type 0 where
   -- `and`, `or`, `)` or the end, behind an atom
   at_rest : Atom → Stage
 
--- what stands so far inside one pair of parentheses: whole conjunctions, each with an `or` behind it, and atoms
--- of the next conjunction, each with an `and` behind it
+-- what stands so far inside one pair of parentheses: whole conjunctions, each with an `or` behind
+-- it, and atoms of the next conjunction, each with an `and` behind it
 pub record Frame : Type 0 where
   pub conjunctions : List Conjunction
   pub atoms : List Atom
@@ -93,23 +98,29 @@ abbrev pub behind_not : Operand → Token → Option Stage
 behind_not left opening = None
 behind_not left closing = None
 behind_not left (sign operator) = None
-behind_not left (word letters) = if bytes_eq (codes "in") letters then Some (at_right left NotIn) else None
+behind_not left (word letters) =
+    if bytes_eq (codes "in") letters then Some (at_right left NotIn) else None
 behind_not left (quoted text) = None
 
 -- the stage behind a comparison that this token ends
 abbrev pub behind_right : Operand → Comparator → Token → Option Stage
 behind_right left comparator token =
-    option_map (λ right. at_rest (leaf (record { left = left; comparator = comparator; right = right }))) (operand_of token)
+    option_map
+    (λ right. at_rest (leaf (record { left = left; comparator = comparator; right = right })))
+    (operand_of token)
 
 -- the place behind an operand or `(`
 abbrev pub behind_atom_start : List Frame → Frame → Token → Option Place
-behind_atom_start outer inner opening = Some (record { outer = inner ∷ outer; inner = empty_frame; stage = at_atom })
+behind_atom_start outer inner opening =
+    Some (record { outer = inner ∷ outer; inner = empty_frame; stage = at_atom })
 behind_atom_start outer inner closing = None
 behind_atom_start outer inner (sign operator) = None
 behind_atom_start outer inner (word letters) =
-    option_map (λ left. record { outer = outer; inner = inner; stage = at_operator left }) (operand_of (word letters))
+    option_map (λ left. record { outer = outer; inner = inner; stage = at_operator left })
+    (operand_of (word letters))
 behind_atom_start outer inner (quoted text) =
-    option_map (λ left. record { outer = outer; inner = inner; stage = at_operator left }) (operand_of (quoted text))
+    option_map (λ left. record { outer = outer; inner = inner; stage = at_operator left })
+    (operand_of (quoted text))
 
 -- the place behind `)`, which needs an open parenthesis
 abbrev pub behind_closing : List Frame → Frame → Atom → Option Place
@@ -130,20 +141,25 @@ behind_atom outer inner atom (word letters) =
     })
     else if bytes_eq (codes "or") letters then Some (record {
       outer = outer;
-      inner = record { conjunctions = inner.conjunctions ++ frame_conjunction inner atom ∷ []; atoms = [] };
+      inner = record {
+        conjunctions = inner.conjunctions ++ frame_conjunction inner atom ∷ [];
+        atoms = [];
+      };
       stage = at_atom;
     })
     else None
 behind_atom outer inner atom (quoted text) = None
 
 abbrev pub staged : List Frame → Frame → Option Stage → Option Place
-staged outer inner stage = option_map (λ next. record { outer = outer; inner = inner; stage = next }) stage
+staged outer inner stage =
+    option_map (λ next. record { outer = outer; inner = inner; stage = next }) stage
 
 abbrev pub place_behind : List Frame → Frame → Stage → Token → Option Place
 place_behind outer inner at_atom token = behind_atom_start outer inner token
 place_behind outer inner (at_operator left) token = staged outer inner (behind_left left token)
 place_behind outer inner (at_in left) token = staged outer inner (behind_not left token)
-place_behind outer inner (at_right left comparator) token = staged outer inner (behind_right left comparator token)
+place_behind outer inner (at_right left comparator) token =
+    staged outer inner (behind_right left comparator token)
 place_behind outer inner (at_rest atom) token = behind_atom outer inner atom token
 
 -- the place behind one more token, or none
@@ -181,7 +197,9 @@ pub record MarkerValue : Type 0 where
 -- the marker of a tree, which must not misuse a set
 abbrev pub marker_from : List ℕ → Option Tree → Result MarkerValue MarkerError
 marker_from text None = Err Syntax
-marker_from text (Some tree) = if has_misuse tree then Err SetMisuse else Ok (record { text = trimmed text; tree = tree })
+marker_from text (Some tree) =
+    if has_misuse tree then Err SetMisuse
+    else Ok (record { text = trimmed text; tree = tree })
 
 -- the marker that a text is, or why it is none
 unfoldable pub marker_of : List ℕ → Result MarkerValue MarkerError

@@ -1,6 +1,8 @@
--- The tokens of markers (PEP 508, "Grammar"): parentheses, the operators of specifiers, words and quoted texts,
--- with white space before, between and behind them.
-use Rattle.std.specs.Prelude.{ℕ, zero, suc, ◌+◌, ◌-◌, Bool, ◌==◌, ◌&&◌, ◌||◌, not, nat_eq, nat_le, if◌then◌else◌, List, [], ◌∷◌, length, take, drop, Option, Some, None, option_map, find}
+-- The tokens of markers (PEP 508, "Grammar"): parentheses, the operators of specifiers, words and
+-- quoted texts, with white space before, between and behind them.
+use Rattle.std.specs.Prelude.{ℕ, zero, suc, ◌+◌, ◌-◌, Bool, ◌==◌, ◌&&◌, ◌||◌, not, nat_eq, nat_le}
+use Rattle.std.specs.Prelude.{if◌then◌else◌, List, [], ◌∷◌, length, take, drop, Option, Some, None}
+use Rattle.std.specs.Prelude.{option_map, find}
 use Rattle.std.specs.Char.{is_ascii_alphanumeric}
 use Rattle.std.specs.List.{prefix_len, starts_with}
 use Rattle.pyver_core.specs.Version.Grammar.{is_white, starts}
@@ -39,10 +41,11 @@ is_quote b = (b == 34) || (b == 39)
 abbrev pub is_word_byte : ℕ → Bool
 is_word_byte b = is_ascii_alphanumeric b || (b == 95)
 
--- a byte that may stand between two of these quotes: any but the quote, a backslash, and the control
--- characters other than TAB
+-- a byte that may stand between two of these quotes: any but the quote, a backslash, and the
+-- control characters other than TAB
 abbrev pub is_inside : ℕ → ℕ → Bool
-is_inside quote b = not (b == quote) && (not (b == 92) && ((b == 9) || (nat_le 32 b && not (b == 127))))
+is_inside quote b =
+    not (b == quote) && (not (b == 92) && ((b == 9) || (nat_le 32 b && not (b == 127))))
 
 -- ---- the token at the front of a text
 
@@ -81,7 +84,8 @@ tokens_behind n [] = Some []
 tokens_behind (suc n) (b ∷ rest) = tokens_behind n rest
 tokens_behind zero (b ∷ rest) =
     if is_white b then tokens_behind zero rest
-    else (token_at (b ∷ rest) >>= λ token. option_map (λ others. token ∷ others) (tokens_behind (token_len token - 1) rest))
+    else (token_at (b ∷ rest) >>= λ token.
+    option_map (λ others. token ∷ others) (tokens_behind (token_len token - 1) rest))
 
 abbrev pub tokens : List ℕ → Option (List Token)
 tokens text = tokens_behind 0 text

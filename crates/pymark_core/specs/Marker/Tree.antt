@@ -1,5 +1,5 @@
--- The trees of markers (PEP 508, "Environment Markers"): conjunctions joined by `or`, each of atoms joined
--- by `and`. Neither list is ever empty, by type.
+-- The trees of markers (PEP 508, "Environment Markers"): conjunctions joined by `or`, each of atoms
+-- joined by `and`. Neither list is ever empty, by type.
 use Rattle.std.specs.Prelude.{List, [], ◌∷◌}
 use Rattle.pymark_core.specs.Marker.Comparison.{ComparisonValue}
 

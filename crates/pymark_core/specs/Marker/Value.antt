@@ -1,6 +1,7 @@
 -- What a marker is worth in an environment: true, false or a fault (PEP 508, "Environment Markers";
 -- PEP 751, "Installation", for `extras` and `dependency_groups`).
-use Rattle.std.specs.Prelude.{◌≡◌, ℕ, Bool, not, ◌&&◌, ◌||◌, List, [], ◌∷◌, Option, Some, None, ok_or, nat_eq, Result, Ok, Err, if◌then◌else◌}
+use Rattle.std.specs.Prelude.{◌≡◌, ℕ, Bool, not, ◌&&◌, ◌||◌, List, [], ◌∷◌, Option, Some, None}
+use Rattle.std.specs.Prelude.{ok_or, nat_eq, Result, Ok, Err, if◌then◌else◌}
 use Rattle.std.specs.Cmp.Lexicographic.{slice_cmp}
 use Rattle.std.specs.List.{starts_with}
 use Rattle.std.specs.Ordering.{is_ge, is_gt, is_le, is_lt, nat_cmp}
@@ -26,12 +27,13 @@ use Rattle.pymark_core.specs.declared.marker.keys.Key.TheVariants as key
 use Rattle.pymark_core.specs.declared.operand.Comparator.{Comparator}
 use Rattle.pymark_core.specs.declared.operand.Comparator.TheVariants.{By, In, NotIn}
 use Rattle.pymark_core.specs.declared.operand.Operand.{Operand}
-use Rattle.pymark_core.specs.declared.operand.Operand.TheVariants.{Text, Variable, Extra, Extras, Groups}
+use Rattle.pymark_core.specs.declared.operand.Operand.TheVariants.{Text, Variable, Extra, Extras}
+use Rattle.pymark_core.specs.declared.operand.Operand.TheVariants.{Groups}
 
 -- ---- operands
 
--- The text that an operand stands for. `extra` has none, and a set is no text: it stands right of `in` and
--- `not in` alone.
+-- The text that an operand stands for. `extra` has none, and a set is no text: it stands right of
+-- `in` and `not in` alone.
 abbrev pub operand_text : EnvironmentValue → Operand → Result (List ℕ) EvalFault
 operand_text environment (Text text) = Ok text
 operand_text environment (Variable v) = ok_or (variable_in v environment) (fault.Unset v)
@@ -66,21 +68,26 @@ texts_value operator.Compatible x y = Err fault.Undefined
 texts_value operator.Arbitrary x y = Err fault.Undefined
 
 -- a version against a specifier, where both are there; else the value of the texts
-abbrev pub version_value : Option Parts → Option Specifier → Result Bool EvalFault → Result Bool EvalFault
+abbrev pub version_value : Option Parts → Option Specifier → Result Bool EvalFault
+    → Result Bool EvalFault
 version_value (Some v) (Some s) texts =
-    if has_large (numbers v) || has_large (specifier_numbers s) then Err fault.NumberTooLarge else Ok (admits s v)
+    if has_large (numbers v) || has_large (specifier_numbers s)
+    then Err fault.NumberTooLarge
+    else Ok (admits s v)
 version_value (Some v) None texts = texts
 version_value None s texts = texts
 
 -- x as a version where y is an operand of this operator, and else both as texts
 abbrev pub operator_value : Operator → List ℕ → List ℕ → Result Bool EvalFault
-operator_value operator x y = version_value (version_of x) (operand_of operator y) (texts_value operator x y)
+operator_value operator x y =
+    version_value (version_of x) (operand_of operator y) (texts_value operator x y)
 
 -- ---- comparisons
 
 -- a text against the operand right of the operator
 abbrev pub text_value : EnvironmentValue → List ℕ → Comparator → Operand → Result Bool EvalFault
-text_value environment x (By operator) right = operand_text environment right >>= λ y. operator_value operator x y
+text_value environment x (By operator) right =
+    operand_text environment right >>= λ y. operator_value operator x y
 text_value environment x In right = is_in environment x right
 text_value environment x NotIn right = is_in environment x right >>= λ is. Ok (not is)
 
@@ -92,7 +99,8 @@ comparison_value environment c =
 -- ---- markers
 
 -- both, and the fault of the first that has one
-abbrev pub both : (Bool → Bool → Bool) → Result Bool EvalFault → Result Bool EvalFault → Result Bool EvalFault
+abbrev pub both : (Bool → Bool → Bool) → Result Bool EvalFault → Result Bool EvalFault
+    → Result Bool EvalFault
 both join first second = first >>= λ x. second >>= λ y. Ok (join x y)
 
 -- every comparison counts, also where the others have decided already
@@ -100,7 +108,8 @@ abbrev mutual
   pub marker_value : EnvironmentValue → Tree → Result Bool EvalFault
   marker_value environment (last conjunction) = conjunction_value environment conjunction
   marker_value environment (or conjunction rest) =
-      both (λ x y. x || y) (conjunction_value environment conjunction) (marker_value environment rest)
+      both (λ x y. x || y)
+      (conjunction_value environment conjunction) (marker_value environment rest)
 
   pub conjunction_value : EnvironmentValue → Conjunction → Result Bool EvalFault
   conjunction_value environment (only atom) = atom_value environment atom

@@ -1,7 +1,10 @@
--- Reading a requirement from the left: its parts, or the first refusal (PEP 508, "Grammar"). White space may
--- stand between the parts.
-use Rattle.std.specs.Prelude.{ℕ, Bool, false, not, ◌==◌, nat_lt, ◌-◌, if◌then◌else◌, List, [], ◌∷◌, length, take, drop, slice_get, Option, Some, None, option_map, ok_or, unwrap_or, Result, Ok, Err}
-use Rattle.std.specs.List.{after_first, before_first, list_all, position_or_len, prefix_len, slice_split}
+-- Reading a requirement from the left: its parts, or the first refusal (PEP 508, "Grammar"). White
+-- space may stand between the parts.
+use Rattle.std.specs.Prelude.{ℕ, Bool, false, not, ◌==◌, nat_lt, ◌-◌, if◌then◌else◌, List, [], ◌∷◌}
+use Rattle.std.specs.Prelude.{length, take, drop, slice_get, Option, Some, None, option_map, ok_or}
+use Rattle.std.specs.Prelude.{unwrap_or, Result, Ok, Err}
+use Rattle.std.specs.List.{after_first, before_first, list_all, position_or_len, prefix_len}
+use Rattle.std.specs.List.{slice_split}
 use Rattle.pyver_core.specs.Name.{is_name, is_name_byte}
 use Rattle.pyver_core.specs.Parsed.{parsed_set}
 use Rattle.pyver_core.specs.Results.{◌>>=◌}
@@ -55,7 +58,8 @@ names_in (piece ∷ rest) = do
 
 -- names with commas between them, or white space
 abbrev pub extras_in : List ℕ → Result (List (List ℕ)) RequirementError
-extras_in inner = if list_all is_white inner then Ok [] else names_in (slice_split (λ b. b == 44) inner)
+extras_in inner =
+    if list_all is_white inner then Ok [] else names_in (slice_split (λ b. b == 44) inner)
 
 -- the extras behind `[`, and the text behind `]`
 unfoldable pub extras_behind : List ℕ → Result (List (List ℕ) × List ℕ) RequirementError
@@ -99,7 +103,9 @@ url_source text =
 -- what stands before this byte, where it is the last
 abbrev pub before_end : ℕ → List ℕ → Option (List ℕ)
 before_end byte text =
-    if unwrap_or (option_map (λ b. b == byte) (slice_get text (length text - 1))) false then Some (take (length text - 1) text) else None
+    if unwrap_or (option_map (λ b. b == byte) (slice_get text (length text - 1))) false
+    then Some (take (length text - 1) text)
+    else None
 
 -- what counts of the text: where it begins with `(`, it ends with `)`, and what is between counts
 abbrev pub within_from : List ℕ → Option (List ℕ) → Option (List ℕ)
@@ -147,4 +153,10 @@ requirement_of text = do
   extras ← extras_at (after_white name.1)
   source ← source_at (after_white extras.1)
   marker ← marker_in source.marker
-  Ok (record { name = name.0; extras = extras.0; set = source.set; url = source.url; marker = marker })
+  Ok (record {
+    name = name.0;
+    extras = extras.0;
+    set = source.set;
+    url = source.url;
+    marker = marker;
+  })

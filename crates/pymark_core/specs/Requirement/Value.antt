@@ -3,7 +3,8 @@ use Rattle.std.specs.Prelude.{ℕ, List, Option}
 use Rattle.pyver_core.specs.declared.set.specifier.Specifier.{Specifier}
 use Rattle.pymark_core.specs.Marker.Reading.{MarkerValue}
 
--- the name and the extras as they are written; the specifiers, of which there are none where a URL stands
+-- the name and the extras as they are written; the specifiers, of which there are none where a URL
+-- stands
 pub record RequirementValue : Type 0 where
   pub name : List ℕ
   pub extras : List (List ℕ)

@@ -2,10 +2,15 @@
 
 ghost use Rattle.std.specs.Prelude.{◌≡◌, [], ◌∷◌, ◌++◌, Ok, OnOk, ok_or, option_map};
 ghost use Rattle.pyver_core.specs.Agreement.{Gives};
-ghost use Rattle.pymark_core.specs.Inner.Building.{NotesMore, frame_view, noted, outer_view, place_view, stage_view};
-ghost use Rattle.pymark_core.specs.Marker.Front.{token_view};
-ghost use Rattle.pymark_core.specs.Marker.Reading.{at_atom, at_right, behind_atom, behind_atom_start, behind_closing, behind_left, behind_not, behind_right, empty_frame, finish, frame_conjunction, frame_tree, operand_of, start, step, word_operand};
-ghost use Rattle.pymark_core.specs.Marker.View.{atom_view, tree_view};
+ghost use Rattle.pymark_core.specs.Inner.Building.{NotesMore, frame_view, noted, outer_view};
+ghost use Rattle.pymark_core.specs.Inner.Building.{place_view, rest_atom, stage_view};
+ghost use Rattle.pymark_core.specs.Inner.Front.{token_view};
+ghost use Rattle.pymark_core.specs.Marker.Reading.{at_atom, at_rest, at_right, behind_atom};
+ghost use Rattle.pymark_core.specs.Marker.Reading.{behind_atom_start, behind_closing, behind_left};
+ghost use Rattle.pymark_core.specs.Marker.Reading.{behind_not, behind_right, empty_frame, end_at};
+ghost use Rattle.pymark_core.specs.Marker.Reading.{finish, frame_conjunction, frame_tree};
+ghost use Rattle.pymark_core.specs.Marker.Reading.{operand_of, start, step, word_operand};
+ghost use Rattle.pymark_core.specs.Inner.View.{atom_view, tree_view};
 ghost use Rattle.pymark_core.specs.Variables.{variable_of};
 ghost use Rattle.pymark_core.specs.declared.operand.Operand.TheVariants.{Variable};
 
@@ -44,7 +49,8 @@ pub(super) enum Stage {
     Rest(Atom),
 }
 
-/// A marker's tree as far as it was read, but for the stage. It needs no recursion, however deep the parentheses are.
+/// A marker's tree as far as it was read, but for the stage. It needs no recursion, however deep
+/// the parentheses are.
 #[derive(Drop)]
 pub(super) struct Builder {
     /// The frame of each open parenthesis, the innermost last.
@@ -139,6 +145,16 @@ fn behind_not(left: Operand, token: Token<'_>) -> Option<Stage>
     }
 }
 
+/// The atom behind which the stage is.
+fn last_atom(stage: Stage) -> Option<Atom>
+    ensures { option_map atom_view result ≡ rest_atom (stage_view stage) }
+{
+    match stage {
+        Stage::Rest(atom) => Some(atom),
+        Stage::Start | Stage::Operator(_) | Stage::In(_) | Stage::Right(_, _) => None,
+    }
+}
+
 /// Takes the right operand of a comparison, which is noted.
 #[tactic(auto, using(crate::proofs::NoteLemmas::one_noted))]
 fn right_operand(
@@ -187,7 +203,7 @@ impl Builder {
     fn take_start(&mut self, alloc: Global, token: Token<'_>) -> Result<Stage, MarkerError>
         ensures { Gives MarkerError.Memory (place_view self.new) result (ok_or
             (behind_atom_start (outer_view self.old) (frame_view self.old.inner)
-                (token_view token.entry)) MarkerError.Syntax) }
+            (token_view token.entry)) MarkerError.Syntax) }
     {
         match token {
             Token::Open => self.open(alloc),
@@ -251,7 +267,7 @@ impl Builder {
     ) -> Result<Stage, MarkerError>
         ensures { Gives MarkerError.Memory (place_view self.new) result (ok_or
             (behind_atom (outer_view self.old) (frame_view self.old.inner) (atom_view atom)
-                (token_view token.entry)) MarkerError.Syntax) }
+            (token_view token.entry)) MarkerError.Syntax) }
     {
         match token {
             Token::Close => self.close(alloc, atom),
@@ -262,11 +278,7 @@ impl Builder {
     }
 
     /// The stage behind one more token.
-    #[tactic(
-        auto,
-        using(crate::proofs::NoteLemmas::nothing_noted),
-        unfolding(crate::specs::Marker::Reading::step)
-    )]
+    #[tactic(auto, using(crate::proofs::NoteLemmas::nothing_noted), unfolding(crate::specs::Marker::Reading::step))]
     pub(super) fn step(
         &mut self,
         alloc: Global,
@@ -286,5 +298,28 @@ impl Builder {
             Stage::Right(left, comparator) => right_operand(alloc, notes, left, comparator, token),
             Stage::Rest(atom) => self.take_rest(alloc, atom, token),
         }
+    }
+
+    /// The tree, where the text may end behind this atom.
+    #[tactic(auto, using(crate::proofs::BuilderLemmas::none_open, crate::proofs::BuilderLemmas::some_open))]
+    fn end(self, atom: Atom) -> Option<Tree>
+        ensures { option_map tree_view result
+            ≡ end_at (outer_view self) (at_rest (atom_view atom)) (frame_view self.inner) }
+    {
+        let Builder { outer, inner } = self;
+        if outer.as_slice().is_empty() {
+            Some(inner.tree(atom))
+        } else {
+            None
+        }
+    }
+
+    /// The tree, where the text may end at this stage.
+    #[tactic(auto, using(crate::proofs::BuilderLemmas::no_end), unfolding(crate::specs::Marker::Reading::finish))]
+    pub(super) fn finish(self, stage: Stage) -> Option<Tree>
+        ensures { option_map tree_view result ≡ finish (place_view self stage) }
+    {
+        let atom = last_atom(stage)?;
+        self.end(atom)
     }
 }

@@ -2,7 +2,7 @@
 
 ghost use Rattle.std.specs.Prelude.{◌≡◌, ◌+◌, ◌<◌, ◌≤◌, ◌^◌, ◌∷◌, ℕ, List};
 ghost use Rattle.pymark_core.specs.Marker.Depth.{is_deep};
-ghost use Rattle.pymark_core.specs.Marker.Nesting.{deep_from};
+ghost use Rattle.pymark_core.specs.Inner.Nesting.{deep_from};
 
 /// The number of parentheses that may be open at one place.
 const DEPTH_LIMIT: usize = 64;
@@ -23,7 +23,8 @@ impl Nesting {
     fn pass(&mut self, byte: u8)
         requires room { (self.old.opened + 1 < 2 ^ 64) × (self.old.closed + 1 < 2 ^ 64) }
         requires flat { self.old.opened ≤ self.old.closed + 64 }
-        ensures ahead { (rest : List ℕ) → deep_from self.new rest ≡ deep_from self.old (byte ∷ rest) }
+        ensures ahead { (rest : List ℕ)
+            → deep_from self.new rest ≡ deep_from self.old (byte ∷ rest) }
         ensures opened { self.new.opened ≤ self.old.opened + 1 }
         ensures closed { self.new.closed ≤ self.old.closed + 1 }
     {

@@ -3,14 +3,14 @@
 ghost use Rattle.std.specs.Prelude.{◌≡◌};
 ghost use Rattle.pymark_core.specs.declared.marker.error.MarkerError.TheVariants.{Memory};
 
-use std::alloc::{AllocError, AllocFailed};
+use std::alloc::AllocError;
 use thiserror::Error;
 
 /// Why a text isn't taken as a marker.
-#[derive(Debug, Drop, Error)]
+#[derive(Clone, Copy, PartialEq, Eq, Debug, Error)]
 pub enum MarkerError {
-    /// More than 64 parentheses are open at some place of the text, quoted texts passed over. The text may have
-    /// other faults besides.
+    /// More than 64 parentheses are open at some place of the text, quoted texts passed over. The
+    /// text may have other faults besides.
     #[error("too-deep")]
     TooDeep,
     /// The text doesn't follow the grammar of PEP 508.
@@ -24,18 +24,10 @@ pub enum MarkerError {
     Memory,
 }
 
-impl From<AllocError> for MarkerError {
+impl<E: Into<AllocError> + Drop> From<E> for MarkerError {
     ghost from_gives = { λ _ e. e ≡ Memory };
 
-    fn from(_refused: AllocError) -> MarkerError {
-        MarkerError::Memory
-    }
-}
-
-impl<T: Drop> From<AllocFailed<T>> for MarkerError {
-    ghost from_gives = { λ _ e. e ≡ Memory };
-
-    fn from(_refused: AllocFailed<T>) -> MarkerError {
+    fn from(_refused: E) -> MarkerError {
         MarkerError::Memory
     }
 }

@@ -1,7 +1,7 @@
 //! What of an environment a marker reads.
 
 ghost use Rattle.std.specs.Prelude.{◌≡◌, ◌<◌, ◌||◌, ◌++◌, List, Bool, false};
-ghost use Rattle.pymark_core.specs.Marker.Keys.{has_key, is_in, is_key, key_number, operand_keys, variable_number};
+ghost use Rattle.pymark_core.specs.Marker.Keys.{has_key, is_in, is_key, key_number, operand_keys};
 ghost use Rattle.pymark_core.specs.declared.marker.keys.Key.{Key};
 
 use crate::operand::Operand;
@@ -22,32 +22,13 @@ pub enum Key {
 /// How many keys there are.
 const KEYS: usize = 13;
 
-fn variable_number(variable: Var) -> usize
-    ensures value { result ≡ variable_number variable }
-    ensures bound { result < 13 }
-{
-    match variable {
-        Var::OsName => 0,
-        Var::SysPlatform => 1,
-        Var::PlatformMachine => 2,
-        Var::PlatformPythonImplementation => 3,
-        Var::PlatformRelease => 4,
-        Var::PlatformSystem => 5,
-        Var::PlatformVersion => 6,
-        Var::PythonVersion => 7,
-        Var::PythonFullVersion => 8,
-        Var::ImplementationName => 9,
-        Var::ImplementationVersion => 10,
-    }
-}
-
 impl Key {
     fn number(self) -> usize
         ensures value { result ≡ key_number self }
         ensures bound { result < 13 }
     {
         match self {
-            Key::Of(variable) => variable_number(variable),
+            Key::Of(variable) => variable.place(),
             Key::Extras => 11,
             Key::Groups => 12,
         }
@@ -88,7 +69,8 @@ impl Reads {
     /// Adds the keys that the operands of a comparison are.
     pub(super) fn insert_operands(&mut self, left: &Operand, right: &Operand)
         ensures { (key : Key) → is_in self.new key
-            ≡ (is_in self.old key || has_key key (operand_keys left.now ++ operand_keys right.now)) }
+            ≡ (is_in self.old key
+            || has_key key (operand_keys left.now ++ operand_keys right.now)) }
     {
         self.insert_operand(left);
         self.insert_operand(right);

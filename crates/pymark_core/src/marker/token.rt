@@ -1,12 +1,17 @@
 //! The tokens of a marker's text (PEP 508, "Grammar").
 
-ghost use Rattle.std.specs.Prelude.{◌≡◌, ◌<◌, IsTrue, drop, length, option_map, slice_index};
+ghost use Rattle.std.specs.Prelude.{◌≡◌, ◌<◌, IsTrue, drop, length, ok_or, option_map, slice_index};
 ghost use Rattle.std.specs.List.{prefix_len};
 ghost use Rattle.pyver_core.specs.Set.Reading.{behind_operator};
-ghost use Rattle.pymark_core.specs.Marker.Front.{lent_cut, lent_front, quotation_front, quoted_front, token_front, with_rest};
+ghost use Rattle.pyver_core.specs.Agreement.{Gives};
+ghost use Rattle.pymark_core.specs.Inner.Next.{next_front, next_view};
+ghost use Rattle.pymark_core.specs.Inner.Front.{lent_cut, lent_front, quotation_front};
+ghost use Rattle.pymark_core.specs.Inner.Front.{quoted_front, token_front, with_rest};
 ghost use Rattle.pymark_core.specs.Marker.Token as token;
-ghost use Rattle.pymark_core.specs.Marker.Token.{is_inside, is_quote, is_word_byte, operator_in, token_by, word_in};
+ghost use Rattle.pymark_core.specs.Marker.Token.{is_inside, is_quote, is_word_byte, operator_in};
+ghost use Rattle.pymark_core.specs.Marker.Token.{token_by, word_in};
 
+use super::error::MarkerError;
 use crate::white::past_white;
 use pyver_core::Operator;
 
@@ -63,9 +68,9 @@ fn word_len(text: &str) -> usize
         .count()
 }
 
+/// What stands between an opening quote, which is in front of the text, and the same quote, and the
+/// text behind it.
 #[tactic(auto, using(crate::proofs::Boundaries::boundary_before_ascii, crate::proofs::Boundaries::boundary_behind_ascii))]
-/// What stands between an opening quote, which is in front of the text, and the same quote, and the text
-/// behind it.
 fn quoted(quote: u8, text: &str) -> Option<(&str, &str)>
     requires { quote < 128 }
     ensures { option_map lent_cut result ≡ quoted_front quote text.now }
@@ -105,7 +110,8 @@ fn past_operator(text: &str, operator: Operator) -> Option<&str>
 /// The longest operator at the front of the text, and the text behind it.
 #[tactic(auto, using(crate::proofs::TokenLemmas::operator_stands))]
 fn sign(text: &str) -> Option<(Token<'_>, &str)>
-    ensures { option_map lent_front result ≡ with_rest text.now (option_map token.sign (operator_in text.now)) }
+    ensures { option_map lent_front result
+        ≡ with_rest text.now (option_map token.sign (operator_in text.now)) }
 {
     let operator = operator(text)?;
     let rest = past_operator(text, operator)?;
@@ -131,8 +137,8 @@ fn past_first(text: &str) -> &str
     text.split_at(1).1
 }
 
-/// What stands between two of these quotes, the first of which is in front of the text, and the text behind
-/// them.
+/// What stands between two of these quotes, the first of which is in front of the text, and the
+/// text behind them.
 #[tactic(auto, using(crate::proofs::TokenLemmas::quotation_front))]
 fn quotation(quote: u8, text: &str) -> Option<(&str, &str)>
     requires some { 0 < length text.now }
@@ -175,4 +181,19 @@ pub(super) fn first_token(text: &str) -> Option<(Token<'_>, &str)>
         return None;
     }
     token_by(text.as_bytes()[0], text)
+}
+
+/// The next token behind white space, and the text behind it. There is none where the text ends.
+pub(super) fn next_token(text: &str) -> Result<Option<(Token<'_>, &str)>, MarkerError>
+    ensures { Gives MarkerError.Memory next_view result
+        (ok_or (next_front text.now) MarkerError.Syntax) }
+{
+    let rest = past_white(text);
+    if rest.is_empty() {
+        return Ok(None);
+    }
+    match first_token(rest) {
+        Some(front) => Ok(Some(front)),
+        None => Err(MarkerError::Syntax),
+    }
 }

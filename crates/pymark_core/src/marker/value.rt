@@ -3,22 +3,23 @@
 ghost use Rattle.std.specs.Prelude.{◌≡◌};
 ghost use Rattle.pyver_core.specs.Agreement.{Gives};
 ghost use Rattle.pymark_core.specs.Marker.Value.{atom_value, conjunction_value, marker_value};
-ghost use Rattle.pymark_core.specs.Marker.View.{atom_view, conjunction_view, tree_view};
+ghost use Rattle.pymark_core.specs.Inner.View.{atom_view, conjunction_view, tree_view};
 
 use super::tree::{Atom, Conjunction, Tree};
 use crate::environment::Environment;
 use crate::fault::EvalFault;
 use std::alloc::Global;
 
-/// The value of conjunctions joined by `or`. Each is judged, also where an earlier one is true, so that the
-/// first fault of the text is found.
+/// The value of conjunctions joined by `or`. Each is judged, also where an earlier one is true, so
+/// that the first fault of the text is found.
 #[cycle(value)]
-pub(crate) fn tree_value(
+pub(super) fn tree_value(
     alloc: Global,
     environment: &Environment,
     tree: &Tree,
 ) -> Result<bool, EvalFault>
-    ensures { Gives EvalFault.Memory (λ b. b) result (marker_value environment.now (tree_view tree.now)) }
+    ensures { Gives EvalFault.Memory (λ b. b) result
+        (marker_value environment.now (tree_view tree.now)) }
 {
     let mut value = false;
     for conjunction in &tree.front {
@@ -36,7 +37,8 @@ fn conjunction_value(
     environment: &Environment,
     conjunction: &Conjunction,
 ) -> Result<bool, EvalFault>
-    ensures { Gives EvalFault.Memory (λ b. b) result (conjunction_value environment.now (conjunction_view conjunction.now)) }
+    ensures { Gives EvalFault.Memory (λ b. b) result
+        (conjunction_value environment.now (conjunction_view conjunction.now)) }
 {
     let mut value = true;
     for atom in &conjunction.front {
@@ -50,7 +52,8 @@ fn conjunction_value(
 /// The value of a comparison, or of a marker in parentheses.
 #[cycle(value)]
 fn atom_value(alloc: Global, environment: &Environment, atom: &Atom) -> Result<bool, EvalFault>
-    ensures { Gives EvalFault.Memory (λ b. b) result (atom_value environment.now (atom_view atom.now)) }
+    ensures { Gives EvalFault.Memory (λ b. b) result
+        (atom_value environment.now (atom_view atom.now)) }
 {
     match atom {
         Atom::Leaf(comparison) => comparison.evaluate(alloc, environment),

@@ -6,8 +6,9 @@ ghost use Rattle.pymark_core.specs.declared.requirement.error.RequirementError.T
 use std::alloc::AllocError;
 use thiserror::Error;
 
-/// Why a text isn't taken as a requirement (PEP 508, "Grammar"): the first fault that is met from the left.
-#[derive(Debug, Drop, Error)]
+/// Why a text isn't taken as a requirement (PEP 508, "Grammar"): the first fault that is met from
+/// the left.
+#[derive(Clone, Copy, PartialEq, Eq, Debug, Error)]
 pub enum RequirementError {
     /// The text doesn't begin with a name.
     #[error("name")]

@@ -7,7 +7,12 @@ ghost use Rattle.pyver_core.specs.Name.{is_name_byte};
 ghost use Rattle.pyver_core.specs.Parsed.{parsed_set};
 ghost use Rattle.pyver_core.specs.Version.Grammar.{is_white};
 ghost use Rattle.pymark_core.specs.Inner.Source.{source_view};
-ghost use Rattle.pymark_core.specs.Requirement.Reading.{around, before_end, behind, cut_at, extra_in, extras_at, extras_behind, extras_in, marker_text_at, name_at, names_in, refused_as, set_source, source_at, url_len, url_source, within_parentheses};
+ghost use Rattle.pymark_core.specs.Requirement.Reading.{around, before_end, behind, cut_at};
+ghost use Rattle.pymark_core.specs.Requirement.Reading.{extra_in, extras_at, extras_behind};
+ghost use Rattle.pymark_core.specs.Requirement.Reading.{extras_in, marker_text_at, name_at};
+ghost use Rattle.pymark_core.specs.Requirement.Reading.{names_in, refused_as, set_source};
+ghost use Rattle.pymark_core.specs.Requirement.Reading.{source_at, url_len, url_source};
+ghost use Rattle.pymark_core.specs.Requirement.Reading.{within_parentheses};
 
 use super::error::RequirementError;
 use crate::white::{is_white, past_white, trimmed};
@@ -84,7 +89,8 @@ pub(super) fn read_extras(
     alloc: Global,
     text: &str,
 ) -> Result<(Vec<String>, &str), RequirementError>
-    ensures { Gives RequirementError.Memory (λ x. (map string_bytes x.0.items, x.1.now)) result (extras_at text.now) }
+    ensures { Gives RequirementError.Memory (λ x. (map string_bytes x.0.items, x.1.now)) result
+        (extras_at text.now) }
 {
     match behind(b'[', text) {
         Some(rest) => extras_behind(alloc, rest),
@@ -95,7 +101,8 @@ pub(super) fn read_extras(
 /// The extras behind `[`, and the text behind `]`.
 #[tactic(auto, unfolding(crate::specs::Requirement::Reading::extras_behind))]
 fn extras_behind(alloc: Global, text: &str) -> Result<(Vec<String>, &str), RequirementError>
-    ensures { Gives RequirementError.Memory (λ x. (map string_bytes x.0.items, x.1.now)) result (extras_behind text.now) }
+    ensures { Gives RequirementError.Memory (λ x. (map string_bytes x.0.items, x.1.now)) result
+        (extras_behind text.now) }
 {
     let (inner, rest) = around_bracket(text).ok_or(RequirementError::Extras)?;
     Ok((extras_in(alloc, inner)?, rest))
@@ -103,7 +110,8 @@ fn extras_behind(alloc: Global, text: &str) -> Result<(Vec<String>, &str), Requi
 
 /// Names with commas between them, or white space.
 fn extras_in(alloc: Global, inner: &str) -> Result<Vec<String>, RequirementError>
-    ensures { Gives RequirementError.Memory (λ names. map string_bytes names.items) result (extras_in inner.now) }
+    ensures { Gives RequirementError.Memory (λ names. map string_bytes names.items) result
+        (extras_in inner.now) }
 {
     if is_blank(inner) {
         Ok(Vec::new(alloc))
@@ -120,7 +128,8 @@ fn is_blank(text: &str) -> bool
 
 /// The names between the commas.
 fn names_in(alloc: Global, text: &str) -> Result<Vec<String>, RequirementError>
-    ensures { Gives RequirementError.Memory (λ names. map string_bytes names.items) result (names_in (slice_split (λ b. b == 44) text.now)) }
+    ensures { Gives RequirementError.Memory (λ names. map string_bytes names.items) result
+        (names_in (slice_split (λ b. b == 44) text.now)) }
 {
     let mut names = Vec::new(alloc);
     for piece in text.split(',') {
@@ -131,7 +140,8 @@ fn names_in(alloc: Global, text: &str) -> Result<Vec<String>, RequirementError>
 
 /// The name with white space round it.
 fn read_extra(alloc: Global, piece: &str) -> Result<String, RequirementError>
-    ensures { Gives RequirementError.Memory (λ name. string_bytes name) result (extra_in piece.now) }
+    ensures { Gives RequirementError.Memory (λ name. string_bytes name) result
+        (extra_in piece.now) }
 {
     let name = trimmed(piece);
     if !is_name(name) {
@@ -179,7 +189,8 @@ fn read_url(alloc: Global, text: &str) -> Result<Source<'_>, RequirementError>
 
 /// The text behind `;`, or nothing at the end.
 fn read_marker_text(text: &str) -> Result<Option<&str>, RequirementError>
-    ensures { Gives RequirementError.Memory (λ marker. option_map (λ t. t.now) marker) result (marker_text_at text.now) }
+    ensures { Gives RequirementError.Memory (λ marker. option_map (λ t. t.now) marker) result
+        (marker_text_at text.now) }
 {
     if text.is_empty() {
         return Ok(None);
@@ -203,7 +214,8 @@ fn no_specifiers(alloc: Global) -> Result<SpecifierSet, AllocError>
 
 /// The text up to `;` or the end, and the text behind `;`.
 fn cut_marker(text: &str) -> (&str, Option<&str>)
-    ensures { (result.0.now, option_map (λ t. t.now) result.1) ≡ cut_at text.now (around 59 text.now) }
+    ensures { (result.0.now, option_map (λ t. t.now) result.1)
+        ≡ cut_at text.now (around 59 text.now) }
 {
     match around_semicolon(text) {
         Some((declared, marker)) => (declared, Some(marker)),
@@ -227,7 +239,8 @@ fn read_set(alloc: Global, text: &str) -> Result<Source<'_>, RequirementError>
 
 /// The specifiers; no text of theirs is refused but as `Specifier`.
 fn parse_set(alloc: Global, text: &str) -> Result<SpecifierSet, RequirementError>
-    ensures { Gives RequirementError.Memory (λ set. set) result (refused_as RequirementError.Specifier (parsed_set text.now)) }
+    ensures { Gives RequirementError.Memory (λ set. set) result
+        (refused_as RequirementError.Specifier (parsed_set text.now)) }
 {
     match SpecifierSet::parse(alloc, text) {
         Ok(set) => Ok(set),

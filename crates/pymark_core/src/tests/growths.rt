@@ -1,8 +1,8 @@
-//! Calls whose growths are refused in turn: `tools/growths/run` runs each of these tests once for each of its
-//! growths, that one refused. A test passes where the call answers want of memory and leaves what was there, or
-//! answers just what it answers with ample memory.
+//! Calls whose growths are refused in turn: `tools/growths/run` runs each of these tests once for
+//! each of its growths, that one refused. A test passes where the call answers want of memory and
+//! leaves what was there, or answers just what it answers with ample memory.
 
-use crate::{Environment, Var};
+use crate::{Environment, EvalFault, Marker, MarkerError, Requirement, RequirementError, Var};
 
 #[test]
 fn environment_set(rt: HostRuntime) {
@@ -43,4 +43,53 @@ fn environment_copy(rt: HostRuntime) {
         assert!(rt; copy.has_extra("a") == is_in);
     }
     assert!(rt; environment.get(Var::PythonVersion).is_some() == is_set);
+}
+
+#[test]
+fn requirement_parse(rt: HostRuntime) {
+    let text = "requests[security] >= 2.8.1 ; python_version < \"2.7\" and \"x\" in extras";
+    match Requirement::parse(rt.alloc(), text) {
+        Ok(requirement) => {
+            assert_eq!(rt; requirement.name(), "requests");
+            assert_eq!(rt; requirement.set().text(), ">=2.8.1");
+            assert!(rt; requirement.marker().is_some());
+        }
+        Err(error) => assert!(rt; matches!(error, RequirementError::Memory), "{error:?}"),
+    }
+}
+
+#[test]
+fn marker_parse(rt: HostRuntime) {
+    let text = "(python_version >= \"3.8\" or \"x\" in extras) and os_name == 'nt'";
+    match Marker::parse(rt.alloc(), text) {
+        Ok(marker) => assert_eq!(rt; marker.text(), text),
+        Err(error) => assert_eq!(rt; error, MarkerError::Memory),
+    }
+}
+
+#[test]
+fn marker_copy(rt: HostRuntime) {
+    let text = "(python_version >= \"3.8\" or \"x\" in extras) and os_name == 'nt'";
+    if let Ok(marker) = Marker::parse(rt.alloc(), text) {
+        if let Ok(copy) = marker.clone() {
+            assert_eq!(rt; copy.text(), text);
+            assert!(rt; copy.reads() == marker.reads());
+        }
+    }
+}
+
+#[test]
+fn marker_evaluate(rt: HostRuntime) {
+    let mut environment = Environment::new(rt.alloc());
+    let is_set = environment.set(Var::PythonVersion, "3.12").is_ok();
+    let text =
+        "python_version >= \"3.8\" and python_version == python_version or \"A_b\" in extras";
+    let Ok(marker) = Marker::parse(rt.alloc(), text) else {
+        return;
+    };
+    match marker.evaluate(rt.alloc(), &environment) {
+        Ok(value) => assert!(rt; value && is_set),
+        Err(EvalFault::Unset(_)) => assert!(rt; !is_set),
+        Err(fault) => assert!(rt; matches!(fault, EvalFault::Memory), "{fault:?}"),
+    }
 }

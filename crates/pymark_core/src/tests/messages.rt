@@ -1,6 +1,6 @@
 //! The messages of refusals.
 
-use crate::RequirementError;
+use crate::{MarkerError, RequirementError, Var};
 use std::test::Fail;
 
 #[test]
@@ -16,5 +16,24 @@ fn refusals_of_requirements_print_their_words(rt: HostRuntime) -> Result<(), Fai
     ] {
         assert_eq!(rt; refusal.to_string(rt.alloc())?.as_str(), word);
     }
+    Ok(())
+}
+
+#[test]
+fn refusals_of_markers_print_their_words(rt: HostRuntime) -> Result<(), Fail> {
+    for (refusal, word) in [
+        (MarkerError::TooDeep, "too-deep"),
+        (MarkerError::Syntax, "syntax"),
+        (MarkerError::SetMisuse, "set-misuse"),
+        (MarkerError::Memory, "memory"),
+    ] {
+        assert_eq!(rt; refusal.to_string(rt.alloc())?.as_str(), word);
+    }
+    Ok(())
+}
+
+#[test]
+fn variables_print_their_names(rt: HostRuntime) -> Result<(), Fail> {
+    assert_eq!(rt; Var::OsName.to_string(rt.alloc())?.as_str(), "os_name");
     Ok(())
 }

@@ -3,7 +3,7 @@ use Rattle.pymark_core.proofs.BuilderLemmas.{noted_right}
 use Rattle.pymark_core.proofs.NoteLemmas.{one_noted}
 use Rattle.pymark_core.specs.Inner.Building.{NotesMore}
 use Rattle.pymark_core.specs.Marker.Comparison.{ComparisonValue}
-use Rattle.pymark_core.specs.Marker.Front.{token_view}
+use Rattle.pymark_core.specs.Inner.Front.{token_view}
 use Rattle.pymark_core.proofs.marker.builder.right_operand.Goals as goal
 
 pub returns-clause-notes : goal.returns-clause-notes

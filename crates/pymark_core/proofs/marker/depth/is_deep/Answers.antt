@@ -1,7 +1,7 @@
 use Rattle.std.proofs.Common.{◌≡◌, ◌+◌, ◌<◌, ◌≤◌, length, drop, false, sym, ap, ◌∙◌, arith}
 use Rattle.std.proofs.lemmas.List.{drop_more, drop_all}
 use Rattle.pymark_core.specs.Marker.Depth.{is_deep}
-use Rattle.pymark_core.specs.Marker.Nesting.{deep_from}
+use Rattle.pymark_core.specs.Inner.Nesting.{deep_from}
 use Rattle.pymark_core.proofs.DepthLemmas.{deep_end, deep_here, deep_whole}
 use Rattle.pymark_core.proofs.marker.depth.is_deep.Goals as goal
 

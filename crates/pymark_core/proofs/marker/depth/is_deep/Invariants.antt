@@ -1,6 +1,6 @@
 use Rattle.std.proofs.Common.{◌≡◌, ◌+◌, ◌≤◌, drop}
 use Rattle.pymark_core.specs.Marker.Depth.{is_deep}
-use Rattle.pymark_core.specs.Marker.Nesting.{deep_from}
+use Rattle.pymark_core.specs.Inner.Nesting.{deep_from}
 use Rattle.pymark_core.proofs.marker.depth.is_deep.Given as goal
 
 -- what is left decides as the whole text does

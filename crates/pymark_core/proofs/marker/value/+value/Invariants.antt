@@ -1,6 +1,6 @@
 use Rattle.std.proofs.Common.{◌≡◌, ℕ, ◌+◌, ◌*◌, drop, map}
 use Rattle.pymark_core.specs.Marker.Value.{conjunction_value, marker_value}
-use Rattle.pymark_core.specs.Marker.View.{atom_view, conjunction_view, tree_view}
+use Rattle.pymark_core.specs.Inner.View.{atom_view, conjunction_view, tree_view}
 use Rattle.pymark_core.proofs.Turns.{and_onto, or_onto}
 use Rattle.pymark_core.proofs.marker.value.+value.Given as goal
 

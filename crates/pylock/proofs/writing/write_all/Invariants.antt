@@ -1,9 +1,0 @@
-use Rattle.std.proofs.Common.{length, ◌-◌}
-use Rattle.pylock.proofs.WroteLemmas.{Wrote}
-use Rattle.pylock.proofs.writing.write_all.Given as goal
-
-abbrev pub invariant-loop-done : goal.invariant-loop-done
-invariant-loop-done g l = Wrote (g.W.Sink.held l.initial.writer) (g.W.Sink.held l.writer) (g.W.Sink.failures l.initial.writer) (g.W.Sink.failures l.writer) l.text l.done
-
-abbrev pub decreases-loop-done : goal.decreases-loop-done
-decreases-loop-done g l = length l.text - l.done

@@ -1,0 +1,4 @@
+-- The printed text.
+pub mod Field
+pub mod Plan
+pub mod Refusal

@@ -1,0 +1,19 @@
+//! What the one-shot commands ask.
+
+/// What a one-shot command asks.
+#[derive(Clone, Copy, Debug)]
+pub enum Query<'a> {
+    /// The normal form of a version (PEP 440).
+    Version(&'a str),
+    /// Whether a specifier set, which stands first, admits a version (PEP 440).
+    Match(&'a str, &'a str),
+    /// The normal form of a name (PEP 503).
+    Name(&'a str),
+    /// The value of a marker in an environment, which is given by the bytes of its JSON text (PEP
+    /// 508).
+    Marker(&'a str, &'a [u8]),
+    /// The parts of a requirement (PEP 508).
+    Requirement(&'a str),
+    /// The parts of a wheel's file name (PEP 427).
+    Wheel(&'a str),
+}

@@ -1,0 +1,6 @@
+//! The report on a lock, an environment and an input.
+
+pub mod editing;
+pub mod fault;
+pub mod opening;
+pub mod run;

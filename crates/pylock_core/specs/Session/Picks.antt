@@ -1,0 +1,33 @@
+-- What a pick and a fault name: an entry that stands in the state, and of a pick has its source.
+use Rattle.std.specs.Prelude.{◌≡◌, ◌⊎◌, ℕ, ◌<◌, List, length, Some, None, IsSome}
+use Rattle.std.specs.List.{Contains}
+use Rattle.pylock_core.specs.Entry.{EntryValue}
+use Rattle.pylock_core.specs.Session.State.{State}
+use Rattle.pylock_core.specs.Session.Steps.{head_fault}
+use Rattle.pylock_core.specs.declared.answer.FaultCode.{FaultCode}
+use Rattle.pylock_core.specs.declared.answer.Pick.{Pick}
+use Rattle.pylock_core.specs.declared.answer.PickSource.{PickSource}
+use Rattle.pylock_core.specs.declared.answer.PickSource.TheVariants as source
+
+-- the entry has the source: its key is there; of its wheels, one stands at the place
+abbrev pub HasSource : PickSource → EntryValue → Type 0
+HasSource source.Vcs entry = IsSome entry.vcs
+HasSource source.Directory entry = IsSome entry.directory
+HasSource source.Archive entry = IsSome entry.archive
+HasSource (source.Wheel place) entry = place < length entry.wheels
+HasSource source.Sdist entry = IsSome entry.sdist
+
+-- the number is that of an entry among these
+abbrev pub StandsAmong : List (ℕ × EntryValue) → ℕ → Type 0
+StandsAmong entries n = (entry : EntryValue) × Contains entries (n, entry)
+
+-- the pick's number is that of an entry among these, which has the pick's source
+abbrev pub IsPickAmong : List (ℕ × EntryValue) → Pick → Type 0
+IsPickAmong entries pick =
+    (entry : EntryValue) × Contains entries (pick.id, entry) × HasSource pick.source entry
+
+-- the fault is the head's, under the number 0, or the head has none, and it is that of an entry
+abbrev pub IsFaultIn : State → ℕ → FaultCode → Type 0
+IsFaultIn state id code =
+    ((id ≡ 0) × (head_fault state.head state.environment ≡ Some code))
+    ⊎ ((head_fault state.head state.environment ≡ None) × StandsAmong state.entries id)

@@ -1,0 +1,343 @@
+-- What is read of a requirement, the text is.
+use Rattle.std.proofs.Common.{◌≡◌, ◌⊎◌, ℕ, ◌+◌, ◌-◌, ◌<◌, ◌≤◌, Bool, true, false, cond, not, ◌&&◌, ◌||◌, List, [], ◌∷◌, ◌++◌, length, take, drop, map, get_or, Option, Some, None, ok_or, Result, Ok, Err, ◌∙◌, ap, refl, sym, subst, inl, inr, append_assoc, append-nil, length-append, arith}
+use Rattle.std.specs.Prelude.{◌==◌, nat_lt, option_map, slice_get, unwrap_or}
+use Rattle.std.specs.List.{after_first, before_first, list_all, list_any, position_or_len, prefix_len, slice_split}
+use Rattle.std.proofs.lemmas.Bool.{cases_lt, ltb-false}
+use Rattle.std.proofs.lemmas.Bool.Decides.{Decides-eqb, Decides-ltb}
+use Rattle.std.proofs.lemmas.List.{drop_all, drop_more, take-append-drop, take_all}
+use Rattle.std.proofs.lemmas.List.Sums.{prefix_len-le-length, prefix_len_stops}
+use Rattle.std.proofs.lemmas.List.Folds.{length-prefix_len}
+use Rattle.std.proofs.lemmas.Option.{slice_get-get_or}
+use Rattle.pyver_core.specs.Name.{is_name, is_name_byte}
+use Rattle.pyver_core.specs.Parsed.{parsed_set}
+use Rattle.pyver_core.specs.Results.{◌>>=◌}
+use Rattle.pyver_core.specs.Version.Grammar.{is_white, starts}
+use Rattle.pyver_core.specs.Version.Reading.{after_white}
+use Rattle.pyver_core.specs.declared.set.specifier.Specifier.{Specifier}
+use Rattle.pyver_core.proofs.Lemmas.Version.Fronts.{list_all_front}
+use Rattle.pymark_core.specs.Marker.Reading.{MarkerValue, marker_of}
+use Rattle.pymark_core.specs.Requirement.Grammar.{ExtrasText, IsExtras, IsGap, IsWithin, Lacks, MarkerPart, Req, SetText, SourceText, UrlText}
+use Rattle.pymark_core.specs.Requirement.Reading.{Source, around, before_end, behind, cut_at, cut_source, extra_in, extras_at, extras_behind, extras_from, extras_in, marker_in, marker_text_at, name_at, names_in, refused_as, requirement_of, set_source, source_at, source_from, url_len, url_source, within_from, within_parentheses}
+use Rattle.pymark_core.specs.Requirement.Value.{RequirementValue}
+use Rattle.pymark_core.specs.White.{trimmed}
+use Rattle.pymark_core.specs.declared.requirement.error.RequirementError.{RequirementError}
+use Rattle.pymark_core.specs.declared.requirement.error.RequirementError.TheVariants as refusal
+use Rattle.pymark_core.proofs.Choices.{cases_bool, chosen}
+
+-- ---- steps
+
+bind_ok : {A B E : Type 0} (r : Result A E) (f : A → Result B E) (y : B) → (r >>= f) ≡ Ok y → (x : A) × (r ≡ Ok x) × (f x ≡ Ok y)
+bind_ok (Ok x) f y e = (x, refl, e)
+bind_ok (Err r) f y e = absurd cc
+
+there : {A E : Type 0} (o : Option A) (r : E) (x : A) → ok_or o r ≡ Ok x → o ≡ Some x
+there None r x e = absurd cc
+there (Some z) r x e = let same : z ≡ x = cc in ap Some same
+
+unrefused : {A E : Type 0} (refusal : RequirementError) (r : Result A E) (x : A) → refused_as refusal r ≡ Ok x → r ≡ Ok x
+unrefused refusal (Ok z) x e = let same : z ≡ x = cc in ap Ok same
+unrefused refusal (Err r) x e = absurd cc
+
+-- where a test chooses between a value and a refusal
+passed : {A E : Type 0} (b : Bool) (x y : A) (r : E) → cond b (Ok x) (Err r) ≡ Ok y → (b ≡ true) × (x ≡ y)
+passed true x y r e = (refl, cc)
+passed false x y r e = absurd cc
+
+-- ---- runs
+
+starts_dropped : (p : ℕ → Bool) (text : List ℕ) → starts p (drop (prefix_len p text) text) ≡ false
+starts_dropped p text =
+    elim (cases_lt (prefix_len p text) (length text)) [
+      | inl inside ↦ ap (starts p) (drop_more text (prefix_len p text) 0 inside) ∙ prefix_len_stops p text 0 inside
+      | inr past ↦ ap (starts p) (drop_all (prefix_len p text) text past)
+    ]
+
+gap_takes : (text : List ℕ) → (white : List ℕ) × (text ≡ white ++ after_white text) × IsGap white (after_white text)
+gap_takes text = (
+  take (prefix_len is_white text) text,
+  sym (take-append-drop (prefix_len is_white text) text),
+  record { all = list_all_front is_white text; ends = starts_dropped is_white text },
+)
+
+-- ---- the name
+
+name_takes : (text name next : List ℕ) → name_at text ≡ Ok (name, next) → (text ≡ name ++ next) × (is_name name ≡ true) × (starts is_name_byte next ≡ false)
+unfolding name_at
+name_takes text name next e =
+    let n = prefix_len is_name_byte text in
+    let c = passed (is_name (take n text)) (take n text, drop n text) (name, next) refusal.Name e in
+    let front : take n text ≡ name = ap (λ x. x.0) c.1 in
+    let back : drop n text ≡ next = ap (λ x. x.1) c.1 in
+    (sym (take-append-drop n text) ∙ (λ i. front i ++ back i), ap is_name (sym front) ∙ c.0, ap (starts is_name_byte) (sym back) ∙ starts_dropped is_name_byte text)
+
+-- ---- cuts
+
+behind_takes : (byte : ℕ) (text rest : List ℕ) → behind byte text ≡ Some rest → text ≡ byte ∷ rest
+behind_takes byte [] rest e = absurd cc
+behind_takes byte (b ∷ t) rest e = elim (chosen (b == byte) (Some t) None (Some rest) e) [
+  | inl w ↦ let tail : t ≡ rest = cc in (λ i. (Decides-eqb b byte).0 w.0 i ∷ tail i)
+  | inr w ↦ absurd cc
+]
+
+behind_none : (byte : ℕ) (text : List ℕ) → behind byte text ≡ None → starts (λ b. b == byte) text ≡ false
+behind_none byte text e = elim (chosen (starts (λ b. b == byte) text) (Some (drop 1 text)) None None e) [
+  | inl w ↦ absurd cc
+  | inr w ↦ w.0
+]
+
+lacks_front : (byte : ℕ) (text : List ℕ) → list_all (λ b. not (b == byte)) text ≡ true → Lacks byte text
+lacks_front byte [] all = refl
+lacks_front byte (b ∷ rest) all =
+    elim (b == byte) as (λ t. (not t && list_all (λ x. not (x == byte)) rest) ≡ true → (t || list_any (λ x. x == byte) rest) ≡ false) [
+      | true ↦ λ is. absurd cc
+      | false ↦ λ is. lacks_front byte rest is
+    ] all
+
+is_it : (b byte : ℕ) → not (b == byte) ≡ false → b ≡ byte
+is_it b byte e = elim (cases_bool (b == byte)) [
+  | inl w ↦ (Decides-eqb b byte).0 w
+  | inr w ↦ absurd (let n : not false ≡ false = ap not (sym w) ∙ e in cc)
+]
+
+around_takes : (byte : ℕ) (text front back : List ℕ) → around byte text ≡ Some (front, back) → (text ≡ front ++ byte ∷ back) × Lacks byte front
+around_takes byte text front back e =
+    let test : ℕ → Bool = λ b. not (b == byte) in
+    let n = prefix_len test text in
+    elim (chosen (nat_lt n (length text)) (Some (take n text, drop (n + 1) text)) None (Some (front, back)) e) [
+      | inl w ↦
+          let inside = (Decides-ltb n (length text)).0 w.0 in
+          let pair : ◌≡◌ {A = List ℕ × List ℕ} (take n text, drop (n + 1) text) (front, back) = cc in
+          let is_front : take n text ≡ front = ap (λ x. x.0) pair in
+          let is_back : drop (n + 1) text ≡ back = ap (λ x. x.1) pair in
+          let at : get_or text n 0 ≡ byte = is_it (get_or text n 0) byte (prefix_len_stops test text 0 inside) in (
+            sym (take-append-drop n text) ∙ (λ i. is_front i ++ drop_more text n 0 inside i) ∙ (λ i. front ++ at i ∷ is_back i),
+            lacks_front byte front (ap (list_all test) (sym is_front) ∙ list_all_front test text),
+          )
+      | inr w ↦ absurd cc
+    ]
+
+around_absent : (byte : ℕ) (text : List ℕ) → around byte text ≡ None → Lacks byte text
+around_absent byte text e =
+    let test : ℕ → Bool = λ b. not (b == byte) in
+    let n = prefix_len test text in
+    elim (chosen (nat_lt n (length text)) (Some (take n text, drop (n + 1) text)) None None e) [
+      | inl w ↦ absurd cc
+      | inr w ↦
+          let past : length text ≤ n = ltb-false n (length text) w.0 in
+          lacks_front byte text (ap (list_all test) (sym (take_all n text past)) ∙ list_all_front test text)
+    ]
+
+-- ---- extras
+
+names_takes : (pieces names : List (List ℕ)) → names_in pieces ≡ Ok names → (names ≡ map trimmed pieces) × (list_all is_name names ≡ true)
+unfolding names_in
+names_takes [] names e = let none : names ≡ [] = cc in (none, ap (list_all is_name) none)
+names_takes (piece ∷ rest) names e =
+    let first = bind_ok (extra_in piece) (λ name. names_in rest >>= λ others. Ok (name ∷ others)) names e in
+    let is = passed (is_name (trimmed piece)) (trimmed piece) first.0 refusal.Extras first.1 in
+    let second = bind_ok (names_in rest) (λ others. Ok (first.0 ∷ others)) names first.2 in
+    let others = names_takes rest second.0 second.1 in
+    let whole : first.0 ∷ second.0 ≡ names = cc in (
+      sym whole ∙ (λ i. sym is.1 i ∷ others.0 i),
+      ap (list_all is_name) (sym whole)
+          ∙ (λ i. is_name (sym is.1 i) && list_all is_name second.0) ∙ (λ i. is.0 i && others.1 i),
+    )
+
+extras_in_takes : (inner : List ℕ) (extras : List (List ℕ)) → extras_in inner ≡ Ok extras → IsExtras inner extras
+extras_in_takes inner extras e = elim (chosen (list_all is_white inner) (Ok []) (names_in (slice_split (λ b. b == 44) inner)) (Ok extras) e) [
+  | inl w ↦ let none : extras ≡ [] = cc in inl (w.0, none)
+  | inr w ↦ let names = names_takes (slice_split (λ b. b == 44) inner) extras w.1 in inr (w.0, names.0, names.1)
+]
+
+-- what is read of extras: their text, and the text behind them
+extras_takes : (text : List ℕ) (extras : List (List ℕ)) (next : List ℕ) → extras_at text ≡ Ok (extras, next)
+    → (front : List ℕ) × (text ≡ front ++ next) × ExtrasText front extras next
+unfolding extras_at extras_behind
+extras_takes text extras next e = by (behind 91 text) refl e
+  where
+    by : (o : Option (List ℕ)) → behind 91 text ≡ o → extras_from text o ≡ Ok (extras, next) → (front : List ℕ) × (text ≡ front ++ next) × ExtrasText front extras next
+    by None is e =
+        let pair : ◌≡◌ {A = List (List ℕ) × List ℕ} ([], text) (extras, next) = cc in
+        let same : text ≡ next = ap (λ x. x.1) pair in
+        ([], same, inl (refl, ap (λ x. x.0) (sym pair), ap (starts (λ b. b == 91)) (sym same) ∙ behind_none 91 text is))
+    by (Some rest) is e =
+        let first = bind_ok (ok_or (around 93 rest) refusal.Extras) (λ cut. extras_in cut.0 >>= λ found. Ok (found, cut.1)) (extras, next) e in
+        let second = bind_ok (extras_in first.0.0) (λ found. Ok (found, first.0.1)) (extras, next) first.2 in
+        let pair : ◌≡◌ {A = List (List ℕ) × List ℕ} (second.0, first.0.1) (extras, next) = cc in
+        let cut = around_takes 93 rest first.0.0 first.0.1 (there (around 93 rest) refusal.Extras first.0 first.1) in (
+          91 ∷ (first.0.0 ++ 93 ∷ []),
+          behind_takes 91 text rest is ∙ ap (λ t. 91 ∷ t) cut.0 ∙ ap (λ t. 91 ∷ (first.0.0 ++ 93 ∷ t)) (ap (λ x. x.1) pair)
+              ∙ ap (λ t. 91 ∷ t) (sym (append_assoc first.0.0 (93 ∷ []) next)),
+          inr (first.0.0, refl, cut.1, extras_in_takes first.0.0 extras (second.1 ∙ ap (λ x. Ok x.0) pair)),
+        )
+
+-- ---- the marker
+
+-- how a marker's text stands in the whole
+part_of : Option (List ℕ) → List ℕ
+part_of None = []
+part_of (Some text) = 59 ∷ text
+
+marker_takes : (part : Option (List ℕ)) (marker : Option MarkerValue) → marker_in part ≡ Ok marker → MarkerPart (part_of part) marker
+unfolding part_of
+marker_takes None None e = refl
+marker_takes None (Some m) e = absurd cc
+marker_takes (Some text) marker e =
+    let found = bind_ok (refused_as refusal.Marker (marker_of text)) (λ m. Ok (Some m)) marker e in
+    let is : Some found.0 ≡ marker = cc in
+    subst (MarkerPart (59 ∷ text)) is (text, refl, unrefused refusal.Marker (marker_of text) found.0 found.1)
+
+marker_text_takes : (text : List ℕ) (part : Option (List ℕ)) → marker_text_at text ≡ Ok part → text ≡ part_of part
+unfolding part_of
+marker_text_takes [] part e = let is : None ≡ part = cc in ap part_of is
+marker_text_takes (b ∷ rest) part e =
+    let c = passed (b == 59) (Some rest) part refusal.Trailing e in
+    (λ i. (Decides-eqb b 59).0 c.0 i ∷ rest) ∙ ap part_of c.1
+
+-- ---- the URL
+
+not_empty : (n : ℕ) (text url : List ℕ) → (n == 0) ≡ false → length (take n text) ≡ n → take n text ≡ url → url ≡ [] → ⊥
+not_empty n text url some len front none =
+    let zero_long : n ≡ 0 = sym len ∙ ap length (front ∙ none) in
+    let is : (n == 0) ≡ true = (Decides-eqb n 0).1 zero_long in
+    absurd cc
+
+url_takes : (text rest : List ℕ) (s : Source) (marker : Option MarkerValue) → text ≡ 64 ∷ rest → url_source (after_white rest) ≡ Ok s → marker_in s.marker ≡ Ok marker
+    → SourceText text s.set s.url marker
+unfolding url_source
+url_takes text rest s marker at e m =
+    let space : ℕ → Bool = λ b. not (is_white b) in
+    let t = after_white rest in
+    let n = url_len t in
+    let found : (part : Option (List ℕ)) → Source = λ part. record { set = []; url = Some (take n t); marker = part } in
+    elim (chosen {X = Result Source RequirementError} (n == 0) (Err refusal.Url) (marker_text_at (after_white (drop n t)) >>= λ part. Ok (found part)) (Ok s) e) [
+      | inl w ↦ absurd cc
+      | inr w ↦
+          let part = bind_ok (marker_text_at (after_white (drop n t))) (λ part. Ok (found part)) s w.1 in
+          let is : found part.0 ≡ s = cc in
+          let gap = gap_takes rest in
+          let second = gap_takes (drop n t) in
+          let last = marker_text_takes (after_white (drop n t)) part.0 part.1 in
+          let cut : t ≡ take n t ++ (second.0 ++ part_of part.0) =
+          sym (take-append-drop n t) ∙ ap (λ x. take n t ++ x) second.1 ∙ ap (λ x. take n t ++ (second.0 ++ x)) last in
+          let behind : drop n t ≡ second.0 ++ part_of part.0 = second.1 ∙ ap (λ x. second.0 ++ x) last in
+          subst (λ (x : Source). marker_in x.marker ≡ Ok marker → SourceText text x.set x.url marker) is
+          (λ m. (
+            refl,
+            not_empty n t (take n t) w.0 (length-prefix_len space t) refl,
+            record {
+              gap = gap.0;
+              second_gap = second.0;
+              last = part_of part.0;
+              whole = at ∙ ap (λ x. 64 ∷ x) gap.1 ∙ ap (λ x. 64 ∷ (gap.0 ++ x)) cut;
+              is_gap = subst (IsGap gap.0) cut gap.2;
+              is_url = list_all_front space t;
+              longest = ap (starts space) (sym behind) ∙ starts_dropped space t;
+              is_second_gap = subst (IsGap second.0) last second.2;
+              is_last = marker_takes part.0 marker m;
+            },
+          ))
+          m
+    ]
+
+-- ---- the specifiers
+
+before_end_takes : (text inner : List ℕ) → before_end 41 text ≡ Some inner → text ≡ inner ++ 41 ∷ []
+before_end_takes [] inner e = absurd cc
+before_end_takes (b ∷ rest) inner e =
+    let text = b ∷ rest in
+    let n = length text - 1 in
+    let inside : n < length text = omega arith in
+    let past : length text ≤ n + 1 = omega arith in
+    elim (chosen (unwrap_or (option_map (λ b. b == 41) (slice_get text n)) false) (Some (take n text)) None (Some inner) e) [
+      | inl w ↦
+          let front : take n text ≡ inner = cc in
+          let last : (get_or text n 0 == 41) ≡ true = ap (λ o. unwrap_or (option_map (λ b. b == 41) o) false) (sym (slice_get-get_or text n 0 inside)) ∙ w.0 in
+          sym (take-append-drop n text) ∙ (λ i. front i ++ drop_more text n 0 inside i)
+          ∙ (λ i. inner ++ (Decides-eqb (get_or text n 0) 41).0 last i ∷ drop_all (n + 1) text past i)
+      | inr w ↦ absurd cc
+    ]
+
+within_takes : (text inner : List ℕ) → within_parentheses text ≡ Some inner → IsWithin text inner
+within_takes text inner e = by (behind 40 text) refl e
+  where
+    by : (o : Option (List ℕ)) → behind 40 text ≡ o → within_from text o ≡ Some inner → IsWithin text inner
+    by None is e = let same : text ≡ inner = cc in inl (same, behind_none 40 text is)
+    by (Some rest) is e = inr (behind_takes 40 text rest is ∙ ap (λ t. 40 ∷ t) (before_end_takes rest inner e))
+
+cut_takes : (text : List ℕ) → (text ≡ (cut_at text (around 59 text)).0 ++ part_of (cut_at text (around 59 text)).1) × Lacks 59 (cut_at text (around 59 text)).0
+unfolding part_of
+cut_takes text = by (around 59 text) refl
+  where
+    by : (o : Option (List ℕ × List ℕ)) → around 59 text ≡ o → (text ≡ (cut_at text o).0 ++ part_of (cut_at text o).1) × Lacks 59 (cut_at text o).0
+    by None is = (sym (append-nil text), around_absent 59 text is)
+    by (Some cut) is = around_takes 59 text cut.0 cut.1 is
+
+set_takes : (text : List ℕ) (s : Source) (marker : Option MarkerValue) → starts (λ b. b == 64) text ≡ false → set_source text ≡ Ok s → marker_in s.marker ≡ Ok marker
+    → SourceText text s.set s.url marker
+unfolding set_source
+set_takes text s marker no_url e m =
+    let cut = cut_at text (around 59 text) in
+    let cuts = cut_takes text in
+    let found : (set : List Specifier) → Source = λ set. record { set = set; url = None; marker = cut.1 } in
+    let inner = bind_ok (ok_or (within_parentheses (trimmed cut.0)) refusal.Specifier) (λ inner. refused_as refusal.Specifier (parsed_set inner) >>= λ set. Ok (found set)) s e in
+    let set = bind_ok (refused_as refusal.Specifier (parsed_set inner.0)) (λ set. Ok (found set)) s inner.2 in
+    let is : found set.0 ≡ s = cc in
+    subst (λ (x : Source). marker_in x.marker ≡ Ok marker → SourceText text x.set x.url marker) is
+    (λ m. record {
+      declared = cut.0;
+      inner = inner.0;
+      last = part_of cut.1;
+      whole = cuts.0;
+      no_url = no_url;
+      is_declared = cuts.1;
+      is_inner = within_takes (trimmed cut.0) inner.0 (there (within_parentheses (trimmed cut.0)) refusal.Specifier inner.0 inner.1);
+      is_set = unrefused refusal.Specifier (parsed_set inner.0) set.0 set.1;
+      is_last = marker_takes cut.1 marker m;
+    })
+    m
+
+source_takes : (text : List ℕ) (s : Source) (marker : Option MarkerValue) → source_at text ≡ Ok s → marker_in s.marker ≡ Ok marker → SourceText text s.set s.url marker
+unfolding source_at
+source_takes text s marker e m = by (behind 64 text) refl e
+  where
+    by : (o : Option (List ℕ)) → behind 64 text ≡ o → source_from text o ≡ Ok s → SourceText text s.set s.url marker
+    by None is e = set_takes text s marker (behind_none 64 text is) e m
+    by (Some rest) is e = url_takes text rest s marker (behind_takes 64 text rest is) e m
+
+-- ---- the whole
+
+pub requirement_takes : (text : List ℕ) (parts : RequirementValue) → requirement_of text ≡ Ok parts → Req text parts
+unfolding requirement_of
+requirement_takes text parts e =
+    let first = bind_ok (name_at (after_white text)) _ parts e in
+    let second = bind_ok (extras_at (after_white first.0.1)) _ parts first.2 in
+    let third = bind_ok (source_at (after_white second.0.1)) _ parts second.2 in
+    let fourth = bind_ok (marker_in third.0.marker) _ parts third.2 in
+    let found : RequirementValue = record { name = first.0.0; extras = second.0.0; set = third.0.set; url = third.0.url; marker = fourth.0 } in
+    let is : found ≡ parts = cc in
+    let before = gap_takes text in
+    let gap = gap_takes first.0.1 in
+    let second_gap = gap_takes second.0.1 in
+    let name = name_takes (after_white text) first.0.0 first.0.1 first.1 in
+    let extras = extras_takes (after_white first.0.1) second.0.0 second.0.1 second.1 in
+    let source = after_white second.0.1 in
+    let end : second.0.1 ≡ second_gap.0 ++ source = second_gap.1 in
+    let middle : after_white first.0.1 ≡ extras.0 ++ (second_gap.0 ++ source) = extras.1 ∙ ap (λ x. extras.0 ++ x) end in
+    let tail : first.0.1 ≡ gap.0 ++ (extras.0 ++ (second_gap.0 ++ source)) = gap.1 ∙ ap (λ x. gap.0 ++ x) middle in
+    let named : after_white text ≡ first.0.0 ++ (gap.0 ++ (extras.0 ++ (second_gap.0 ++ source))) = name.0 ∙ ap (λ x. first.0.0 ++ x) tail in
+    subst (Req text) is (record {
+      before = before.0;
+      gap = gap.0;
+      extras = extras.0;
+      second_gap = second_gap.0;
+      source = source;
+      whole = before.1 ∙ ap (λ x. before.0 ++ x) named;
+      is_before = subst (IsGap before.0) named before.2;
+      is_name = name.1;
+      longest = ap (starts is_name_byte) (sym tail) ∙ name.2;
+      is_gap = subst (IsGap gap.0) middle gap.2;
+      is_extras = subst (ExtrasText extras.0 second.0.0) end extras.2;
+      is_second_gap = second_gap.2;
+      is_source = source_takes source third.0 fourth.0 third.1 fourth.1;
+    })

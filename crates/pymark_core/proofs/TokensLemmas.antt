@@ -1,0 +1,176 @@
+-- The tokens of a text, one after another.
+use Rattle.std.proofs.Common.{length-drop, ◌≡◌, ◌⊎◌, ℕ, zero, suc, ◌+◌, ◌-◌, ◌<◌, ◌≤◌, Bool, true, false, cond, List, [], ◌∷◌, length, get_or, drop, take, Option, Some, None, Result, Ok, Err, ok_or, refl, ap, sym, ◌∙◌, arith, inl, inr}
+use Rattle.std.specs.Prelude.{option_map, ◌==◌}
+use Rattle.std.specs.List.{prefix_len}
+use Rattle.std.proofs.lemmas.Bool.Decides.{nat_tests}
+use Rattle.pyver_core.specs.Version.Grammar.{is_white}
+use Rattle.pyver_core.specs.Options.{◌>>=◌}
+use Rattle.pyver_core.specs.Version.Reading.{after_white}
+use Rattle.pyver_core.specs.Set.Normal.{operator_text}
+use Rattle.pyver_core.specs.declared.set.specifier.Operator.{Operator}
+use Rattle.pyver_core.specs.declared.set.specifier.Operator.TheVariants as operator
+use Rattle.pymark_core.proofs.Choices.{cases_bool, chosen, map_some}
+use Rattle.pymark_core.specs.Inner.Next.{next_front}
+use Rattle.pymark_core.specs.Inner.Front.{token_front}
+use Rattle.pymark_core.specs.Marker.Reading.{Place, finish, read, step}
+use Rattle.pymark_core.specs.Marker.Tree.{Tree}
+use Rattle.pymark_core.specs.declared.marker.error.MarkerError.{MarkerError}
+use Rattle.pymark_core.specs.declared.marker.error.MarkerError.TheVariants.{Syntax}
+use Rattle.pymark_core.specs.Marker.Token.{Token, opening, closing, sign, word, quoted, is_quote, is_word_byte, operator_in, quoted_at, token_at, token_by, token_len, tokens, tokens_behind, word_in}
+
+skip : (n : ℕ) (text : List ℕ) → tokens_behind n text ≡ tokens (drop n text)
+unfolding tokens_behind
+skip zero text = refl
+skip (suc n) [] = refl
+skip (suc n) (b ∷ rest) = skip n rest
+
+white_first : (b : ℕ) (rest : List ℕ) → is_white b ≡ true → tokens (b ∷ rest) ≡ tokens rest
+unfolding tokens_behind
+white_first b rest e = rw e refl
+
+drop_suc : (n b : ℕ) (rest : List ℕ) → drop (1 + n) (b ∷ rest) ≡ drop n rest
+drop_suc n b rest = let e : 1 + n ≡ suc n = omega arith in rw e refl
+
+pub past_white_tokens : (text : List ℕ) → tokens text ≡ tokens (after_white text)
+past_white_tokens [] = refl
+past_white_tokens (b ∷ rest) = elim (cases_bool (is_white b)) [
+  | inl e ↦ white_first b rest e ∙ past_white_tokens rest ∙ rw e (ap tokens (sym (drop_suc (prefix_len is_white rest) b rest)))
+  | inr e ↦ rw e refl
+]
+
+-- what follows the white space isn't white
+not_white : (text : List ℕ) (b : ℕ) (rest : List ℕ) → after_white text ≡ b ∷ rest → is_white b ≡ false
+not_white [] b rest e = absurd cc
+not_white (c ∷ text) b rest e = elim (cases_bool (is_white c)) [
+  | inl w ↦ let behind : drop (1 + prefix_len is_white text) (c ∷ text) ≡ b ∷ rest = rw w at e in not_white text b rest (sym (drop_suc (prefix_len is_white text) c text) ∙ behind)
+  | inr w ↦ let whole : c ∷ text ≡ b ∷ rest = rw w at e in let same : c ≡ b = cc in rw (← same) w
+]
+
+operator_some : (o : Operator) → 1 ≤ length (operator_text o)
+operator_some operator.Equal = omega arith
+operator_some operator.NotEqual = omega arith
+operator_some operator.AtMost = omega arith
+operator_some operator.AtLeast = omega arith
+operator_some operator.Before = omega arith
+operator_some operator.After = omega arith
+operator_some operator.Compatible = omega arith
+operator_some operator.Arbitrary = omega arith
+
+word_some : (b : ℕ) (rest : List ℕ) → is_word_byte b ≡ true → 1 ≤ length (word_in (b ∷ rest))
+word_some b rest e = rw e (let at : take (1 + prefix_len is_word_byte rest) (b ∷ rest) ≡ b ∷ take (prefix_len is_word_byte rest) rest = (let n : 1 + prefix_len is_word_byte rest ≡ suc (prefix_len is_word_byte rest) = omega arith in rw n refl) in rw at (omega arith))
+
+by_some : (b : ℕ) (rest : List ℕ) (t : Token) → token_by b (b ∷ rest) ≡ Some t → 1 ≤ token_len t
+by_some b rest t e = elim (chosen (b == 40) _ _ _ e) [
+  | inl w ↦ let is : opening ≡ t = cc in rw (← is) (omega arith)
+  | inr v ↦ elim (chosen (b == 41) _ _ _ v.1) [
+    | inl w ↦ let is : closing ≡ t = cc in rw (← is) (omega arith)
+    | inr u ↦ elim (chosen (is_quote b) _ _ _ u.1) [
+      | inl w ↦ let found = map_some (quoted_at b (drop 1 (b ∷ rest))) quoted t w.1 in rw (← found.2) (omega arith)
+      | inr r ↦ elim (chosen (is_word_byte b) _ _ _ r.1) [
+        | inl w ↦ let is : word (word_in (b ∷ rest)) ≡ t = cc in rw (← is) (word_some b rest w.0)
+        | inr w ↦ let found = map_some (operator_in (b ∷ rest)) sign t w.1 in rw (← found.2) (operator_some found.0)
+      ]
+    ]
+  ]
+]
+
+pub token_some : (text : List ℕ) (t : Token) → token_at text ≡ Some t → 1 ≤ token_len t
+unfolding token_at
+token_some [] t e = absurd cc
+token_some (b ∷ rest) t e = by_some b rest t e
+
+drop_behind : (n b : ℕ) (rest : List ℕ) → 1 ≤ n → drop (n - 1) rest ≡ drop n (b ∷ rest)
+drop_behind zero b rest le = absurd (omega arith)
+drop_behind (suc n) b rest le = ap (λ k. drop k rest) (omega arith)
+
+-- the tokens behind the one that stands in front
+tokens_of : Option (Option (Token × List ℕ)) → Option (List Token)
+tokens_of None = None
+tokens_of (Some None) = Some []
+tokens_of (Some (Some next)) = option_map (λ others. next.0 ∷ others) (tokens next.1)
+
+front_tokens : (b : ℕ) (rest : List ℕ) (o : Option Token) → is_white b ≡ false → token_at (b ∷ rest) ≡ o → tokens (b ∷ rest) ≡ tokens_of (option_map Some (option_map (λ t. (t, drop (token_len t) (b ∷ rest))) o))
+unfolding tokens_behind tokens_of
+front_tokens b rest None white e = rw (white, e) refl
+front_tokens b rest (Some t) white e = rw (white, e) (ap (option_map (λ others. t ∷ others)) (skip (token_len t - 1) rest ∙ ap tokens (drop_behind (token_len t) b rest (token_some (b ∷ rest) t e))))
+
+next_at : (text w : List ℕ) → after_white text ≡ w → tokens text ≡ tokens_of (next_front text)
+unfolding tokens_of tokens_behind
+next_at text [] e = past_white_tokens text ∙ rw e refl
+next_at text (b ∷ rest) e =
+    let some : (length (b ∷ rest) == 0) ≡ false = grind (arith, nat_tests) in
+    past_white_tokens text ∙ rw (e, some) (front_tokens b rest (token_at (b ∷ rest)) (not_white text b rest e) refl)
+
+next_tokens : (text : List ℕ) → tokens text ≡ tokens_of (next_front text)
+next_tokens text = next_at text (after_white text) refl
+
+from_ok : {X : Type 0} (o : Option X) (x : X) → ok_or o Syntax ≡ Ok x → o ≡ Some x
+from_ok None x e = absurd cc
+from_ok (Some y) x e = let same : y ≡ x = cc in ap Some same
+
+pub from_err : {X : Type 0} (o : Option X) (m : MarkerError) → ok_or o Syntax ≡ Err m → (o ≡ None) × (m ≡ Syntax)
+from_err None m e = let same : m ≡ Syntax = cc in (refl, same)
+from_err (Some y) m e = absurd cc
+
+-- ---- a turn of reading
+
+bound_none : (f : List Token → Option Tree) (o : Option (List Token)) → ((ts : List Token) → f ts ≡ None) → (o >>= f) ≡ None
+bound_none f None none = refl
+bound_none f (Some ts) none = none ts
+
+after_front : (place : Place) (t : Token) (o : Option (List Token)) → (option_map (λ others. t ∷ others) o >>= read place) ≡ (o >>= λ ts. step place t >>= λ next. read next ts)
+unfolding read
+after_front place t None = refl
+after_front place t (Some ts) = refl
+
+pub turn : (place next : Place) (t : Token) (text behind : List ℕ) → ok_or (next_front text) Syntax ≡ Ok (Some (t, behind)) → ok_or (step place t) Syntax ≡ Ok next
+    → (tokens behind >>= read next) ≡ (tokens text >>= read place)
+unfolding tokens_of
+turn place next t text behind front stepped =
+    sym (ap (λ o. o >>= read place) (next_tokens text) ∙ rw (from_ok (next_front text) (Some (t, behind)) front) (after_front place t (tokens behind) ∙ rw (from_ok (step place t) next stepped) refl))
+
+pub turn_stuck : (place : Place) (m : MarkerError) (t : Token) (text behind : List ℕ) → ok_or (next_front text) Syntax ≡ Ok (Some (t, behind)) → ok_or (step place t) Syntax ≡ Err m
+    → ok_or (tokens text >>= read place) Syntax ≡ Err m
+unfolding tokens_of
+turn_stuck place m t text behind front stepped =
+    let none = from_err (step place t) m stepped in
+    let all : (tokens text >>= read place) ≡ None = ap (λ o. o >>= read place) (next_tokens text) ∙ rw (from_ok (next_front text) (Some (t, behind)) front) (after_front place t (tokens behind) ∙ rw none.0 (bound_none (λ ts. None) (tokens behind) (λ ts. refl))) in
+    rw (all, none.1) refl
+
+pub turn_bad : (place : Place) (m : MarkerError) (text : List ℕ) → ok_or (next_front text) Syntax ≡ Err m → ok_or (tokens text >>= read place) Syntax ≡ Err m
+unfolding tokens_of
+turn_bad place m text front =
+    let none = from_err (next_front text) m front in
+    let all : (tokens text >>= read place) ≡ None = ap (λ o. o >>= read place) (next_tokens text) ∙ rw none.0 refl in
+    rw (all, none.1) refl
+
+pub turn_end : (place : Place) (text : List ℕ) → ok_or (next_front text) Syntax ≡ Ok None → (tokens text >>= read place) ≡ finish place
+unfolding tokens_of read
+turn_end place text front = ap (λ o. o >>= read place) (next_tokens text) ∙ rw (from_ok (next_front text) None front) refl
+
+token_less : (rest : List ℕ) (o : Option Token) (t : Token) (behind : List ℕ) → token_at rest ≡ o → option_map {U = Token × List ℕ} (λ x. (x, drop (token_len x) rest)) o ≡ Some (t, behind) → 0 < length rest → length behind < length rest
+token_less rest None t behind is e some = absurd cc
+token_less rest (Some x) t behind is e some =
+    let found : Token × List ℕ = (x, drop (token_len x) rest) in
+    let given : Token × List ℕ = (t, behind) in
+    let pair : found ≡ given = cc in
+    let same : drop (token_len x) rest ≡ behind = ap (λ (q : Token × List ℕ). q.1) pair in
+    let least = token_some rest x is in
+    let len = length-drop (token_len x) rest in
+    let lens = ap length same in
+    omega arith
+
+less_at : (text w : List ℕ) (t : Token) (behind : List ℕ) → after_white text ≡ w → next_front text ≡ Some (Some (t, behind)) → length behind < length w
+less_at text [] t behind is e = let end = rw is at e in absurd cc
+less_at text (b ∷ rest) t behind is e =
+    let some : (length (b ∷ rest) == 0) ≡ false = grind (arith, nat_tests) in
+    let front : option_map Some (token_front (b ∷ rest)) ≡ Some (Some (t, behind)) = rw (is, some) at e in
+    let found = map_some (token_front (b ∷ rest)) Some (Some (t, behind)) front in
+    let same : found.0 ≡ (t, behind) = cc in
+    token_less (b ∷ rest) (token_at (b ∷ rest)) t behind refl (found.1 ∙ ap Some same) (omega arith)
+
+pub front_less : (text : List ℕ) (t : Token) (behind : List ℕ) → ok_or (next_front text) Syntax ≡ Ok (Some (t, behind)) → length behind < length text
+front_less text t behind e =
+    let less = less_at text (after_white text) t behind refl (from_ok (next_front text) (Some (t, behind)) e) in
+    let len = length-drop (prefix_len is_white text) text in
+    omega arith

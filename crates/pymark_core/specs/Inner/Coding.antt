@@ -1,0 +1,75 @@
+-- How the logic stores a marker: its tree as its tokens, each token as a number and bytes.
+use Rattle.std.specs.Prelude.{◌≡◌, ℕ, ◌==◌, List, [], ◌∷◌, if◌then◌else◌, unwrap_or, find, refl}
+use Rattle.std.specs.Prelude.{codes, Option, Some}
+use Rattle.std.specs.Coded.{Coded, code_by, coded×, coded_ℕ, coded_list}
+use Rattle.std.specs.Str.{bytes_eq}
+use Rattle.std.proofs.Common.{ap}
+use Rattle.pyver_core.specs.Set.Reading.{operators}
+use Rattle.pyver_core.specs.Set.Normal.{operator_text}
+use Rattle.pyver_core.specs.declared.set.specifier.Operator.{Operator}
+use Rattle.pyver_core.specs.declared.set.specifier.Operator.TheVariants as operator
+use Rattle.pymark_core.specs.Inner.ReadingComplete.{read_again}
+use Rattle.pymark_core.specs.Marker.Grammar.{tree_tokens}
+use Rattle.pymark_core.specs.Marker.Reading.{MarkerValue, read, start}
+use Rattle.pymark_core.specs.Marker.Token.{Token, opening, closing, sign, word, quoted}
+use Rattle.pymark_core.specs.Marker.Tree.{Tree, last, only, leaf}
+use Rattle.pymark_core.specs.declared.operand.Comparator.TheVariants.{In}
+use Rattle.pymark_core.specs.declared.operand.Operand.TheVariants.{Extra}
+
+abbrev pub token_to_pair : Token → ℕ × List ℕ
+token_to_pair opening = (0, [])
+token_to_pair closing = (1, [])
+token_to_pair (sign operator) = (2, operator_text operator)
+token_to_pair (word letters) = (3, letters)
+token_to_pair (quoted text) = (4, text)
+
+abbrev pub operator_from : List ℕ → Operator
+operator_from text =
+    unwrap_or (find (λ o. bytes_eq (operator_text o) text) operators) operator.Equal
+
+abbrev pub token_from_pair : ℕ × List ℕ → Token
+token_from_pair p =
+    if p.0 == 0 then opening
+    else if p.0 == 1 then closing
+    else if p.0 == 2 then sign (operator_from p.1)
+    else if p.0 == 3 then word p.1
+    else quoted p.1
+
+pub token_again : (t : Token) → token_from_pair (token_to_pair t) ≡ t
+token_again opening = refl
+token_again closing = refl
+token_again (sign operator.Equal) = refl
+token_again (sign operator.NotEqual) = refl
+token_again (sign operator.AtMost) = refl
+token_again (sign operator.AtLeast) = refl
+token_again (sign operator.Before) = refl
+token_again (sign operator.After) = refl
+token_again (sign operator.Compatible) = refl
+token_again (sign operator.Arbitrary) = refl
+token_again (word letters) = refl
+token_again (quoted text) = refl
+
+-- some tree, for lists of tokens that are none
+abbrev pub some_tree : Tree
+some_tree = last (only (leaf (record { left = Extra; comparator = In; right = Extra })))
+
+abbrev pub tree_from : List Token → Tree
+tree_from ts = unwrap_or (read start ts) some_tree
+
+pub tree_from_tokens : (t : Tree) → tree_from (tree_tokens t []) ≡ t
+tree_from_tokens t = ap (λ o. unwrap_or o some_tree) (read_again t)
+
+abbrev pub token_code : Coded Token
+token_code =
+    code_by (ℕ × List ℕ) (coded× coded_ℕ (coded_list coded_ℕ))
+    token_to_pair token_from_pair token_again
+
+abbrev pub tree_code : Coded Tree
+tree_code =
+    code_by (List Token) (coded_list token_code)
+    (λ t. tree_tokens t []) tree_from tree_from_tokens
+
+abbrev pub marker_code : Coded MarkerValue
+marker_code =
+    code_by (List ℕ × Tree) (coded× (coded_list coded_ℕ) tree_code)
+    (λ m. (m.text, m.tree)) (λ p. record { text = p.0; tree = p.1 }) (λ _. refl)
