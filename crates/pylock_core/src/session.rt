@@ -9,8 +9,9 @@ pub(crate) mod room;
 pub(crate) mod row;
 pub(crate) mod verdict;
 
-ghost use Rattle.std.specs.Prelude.{◌≡◌, Ok, Err, IfOk, IfErr};
+ghost use Rattle.std.specs.Prelude.{◌≡◌, Ok, Err, IfOk, IfErr, length};
 ghost use Rattle.std.specs.Option.{option_copied};
+ghost use Rattle.pylock_core.specs.Session.Judgement.{verdicts_of};
 ghost use Rattle.pylock_core.specs.Session.State.{apply, entry_at, first};
 ghost use Rattle.pylock_core.specs.Session.Steps.{answer};
 ghost use Rattle.pylock_core.specs.declared.edit.EditError.{EditError};
@@ -65,7 +66,8 @@ impl Session {
         environment: Environment,
         tags: TagList,
     ) -> Result<Session, AllocError>
-        ensures { IfOk result (λ session. session.state ≡ first lock environment tags) }
+        ensures state { IfOk result (λ session. session.state ≡ first lock environment tags) }
+        ensures verdicts { IfOk result (λ session. session.verdicts ≡ verdicts_of session.state) }
     {
         let parts = start(alloc, lock, environment, tags)?;
         Ok(Session { parts })
@@ -77,6 +79,8 @@ impl Session {
         ensures accepted { IfOk result (λ judgements. apply edit self.old.state ≡ Ok self.new.state) }
         ensures refused { IfErr result (λ error. (error ≡ Memory → ⊥) → apply edit self.old.state ≡ Err error) }
         ensures kept { IfErr result (λ error. self.new ≡ self.old) }
+        ensures count { IfOk result (λ judgements. judgements ≡ length self.new.judged) }
+        ensures verdicts { self.new.verdicts ≡ verdicts_of self.new.state }
     {
         edit_parts(&mut self.parts, edit)
     }

@@ -8,6 +8,7 @@ ghost use Rattle.std.specs.Str.{bytes_eq};
 ghost use Rattle.pyver_core.specs.Name.{norm};
 ghost use Rattle.pylock_core.specs.Inner.Parts.{IsSession, shown, state_of};
 ghost use Rattle.pylock_core.specs.Inner.Rows.{in_rows};
+ghost use Rattle.pylock_core.specs.Session.Judgement.{verdicts_of};
 ghost use Rattle.pylock_core.specs.Session.State.{apply, asking, entry_at, first, is_known};
 ghost use Rattle.pylock_core.specs.declared.edit.Edit.TheVariants as edit;
 ghost use Rattle.pylock_core.specs.declared.edit.EditError.TheVariants.{Memory};
@@ -312,6 +313,8 @@ fn make(parts: &mut Parts, edit: Edit, judged: &mut Vec<u32>) -> Result<(), Edit
 pub(crate) fn edit_parts(parts: &mut Parts, edit: Edit) -> Result<u64, EditError>
     requires { IsSession parts.old }
     ensures session { IsSession parts.new }
+    ensures verdicts { (shown parts.new).verdicts ≡ verdicts_of (state_of parts.new) }
+    ensures count { IfOk result (λ judgements. judgements ≡ length parts.new.judged.items) }
     ensures ok { OnOk result (apply edit (state_of parts.old) ≡ Ok (state_of parts.new)) }
     ensures refused { IfErr result (λ error. (error ≡ Memory → ⊥) → apply edit (state_of parts.old) ≡ Err error) }
     ensures err { OnErr result (shown parts.new ≡ shown parts.old) }
@@ -377,6 +380,7 @@ pub(crate) fn start(
 ) -> Result<Parts, AllocError>
     ensures session { IfOk result (λ parts. IsSession parts) }
     ensures state { IfOk result (λ parts. state_of parts ≡ first lock environment tags) }
+    ensures verdicts { IfOk result (λ parts. (shown parts).verdicts ≡ verdicts_of (state_of parts)) }
 {
     let (head, entries) = lock.into_parts();
     let environment = asking(environment, head.default_groups())?;
