@@ -21,8 +21,8 @@ use crate::answer::Answer;
 use crate::edit::{Edit, EditError};
 use crate::entry::Entry;
 use crate::lock::Lock;
-use crate::session::parts::{Parts, answer};
 use crate::session::edits::{edit_parts, entry_in, start};
+use crate::session::parts::{Parts, answer};
 use pymark_core::Environment;
 use pywheel_core::TagList;
 use std::alloc::{AllocError, Global};
@@ -37,17 +37,17 @@ pub struct Session {
 
 impl Model for Session {
     ghost use Rattle.pylock_core.specs.Session.Judgement.{SessionValue};
-
     ghost use Rattle.std.specs.Coded.{codes, coded_list, coded_ℕ};
     ghost use Rattle.std.specs.Cmp.Lexicographic.{slice_cmp};
     ghost use Rattle.std.specs.FinMap as map_of;
     ghost use Rattle.std.specs.Ordering.{nat_cmp};
     ghost use Rattle.pymark_core.specs.Environment.{environment_code};
+    ghost use Rattle.pymark_core.specs.Inner.Coding.{marker_code};
     ghost use Rattle.pylock_core.specs.contracts.edit.Policy as policy;
 
     ghost Value = { SessionValue };
 
-    ghost coded = { Prim.hlevel (codes, environment_code, map_of.code {R = slice_cmp nat_cmp} (coded_list coded_ℕ) policy.the_row.coded) };
+    ghost coded = { Prim.hlevel (codes, environment_code, marker_code, map_of.code {R = slice_cmp nat_cmp} (coded_list coded_ℕ) policy.the_row.coded) };
 
     ghost use Rattle.pylock_core.specs.Inner.Parts.{IsSession, shown};
 

@@ -97,11 +97,7 @@ fn set_variable(
 }
 
 /// Leaves the variable without a text.
-fn unset_variable(
-    parts: &mut Parts,
-    variable: Var,
-    judged: &mut Vec<u32>,
-) -> Result<(), EditError>
+fn unset_variable(parts: &mut Parts, variable: Var, judged: &mut Vec<u32>) -> Result<(), EditError>
     requires { IsSession parts.old }
     ensures session { IsSession parts.new }
     ensures ok { OnOk result (apply (edit.Unset variable) (state_of parts.old) ≡ Ok (state_of parts.new)) }
@@ -115,11 +111,7 @@ fn unset_variable(
 }
 
 /// Asks for the extra.
-fn add_extra(
-    parts: &mut Parts,
-    name: Label,
-    judged: &mut Vec<u32>,
-) -> Result<(), EditError>
+fn add_extra(parts: &mut Parts, name: Label, judged: &mut Vec<u32>) -> Result<(), EditError>
     requires { IsSession parts.old }
     ensures session { IsSession parts.new }
     ensures ok { OnOk result (apply (edit.AddExtra name) (state_of parts.old) ≡ Ok (state_of parts.new)) }
@@ -136,11 +128,7 @@ fn add_extra(
 }
 
 /// Asks for the extra no more.
-fn drop_extra(
-    parts: &mut Parts,
-    name: Label,
-    judged: &mut Vec<u32>,
-) -> Result<(), EditError>
+fn drop_extra(parts: &mut Parts, name: Label, judged: &mut Vec<u32>) -> Result<(), EditError>
     requires { IsSession parts.old }
     ensures session { IsSession parts.new }
     ensures ok { OnOk result (apply (edit.DropExtra name) (state_of parts.old) ≡ Ok (state_of parts.new)) }
@@ -157,11 +145,7 @@ fn drop_extra(
 }
 
 /// Asks for the group.
-fn add_group(
-    parts: &mut Parts,
-    name: Label,
-    judged: &mut Vec<u32>,
-) -> Result<(), EditError>
+fn add_group(parts: &mut Parts, name: Label, judged: &mut Vec<u32>) -> Result<(), EditError>
     requires { IsSession parts.old }
     ensures session { IsSession parts.new }
     ensures ok { OnOk result (apply (edit.AddGroup name) (state_of parts.old) ≡ Ok (state_of parts.new)) }
@@ -178,11 +162,7 @@ fn add_group(
 }
 
 /// Asks for the group no more.
-fn drop_group(
-    parts: &mut Parts,
-    name: Label,
-    judged: &mut Vec<u32>,
-) -> Result<(), EditError>
+fn drop_group(parts: &mut Parts, name: Label, judged: &mut Vec<u32>) -> Result<(), EditError>
     requires { IsSession parts.old }
     ensures session { IsSession parts.new }
     ensures ok { OnOk result (apply (edit.DropGroup name) (state_of parts.old) ≡ Ok (state_of parts.new)) }
@@ -199,11 +179,7 @@ fn drop_group(
 }
 
 /// Puts the tags in place of those that were there.
-fn set_tags(
-    parts: &mut Parts,
-    tags: TagList,
-    judged: &mut Vec<u32>,
-) -> Result<(), EditError>
+fn set_tags(parts: &mut Parts, tags: TagList, judged: &mut Vec<u32>) -> Result<(), EditError>
     requires { IsSession parts.old }
     ensures session { IsSession parts.new }
     ensures ok { OnOk result (apply (edit.Tags tags) (state_of parts.old) ≡ Ok (state_of parts.new)) }
@@ -215,11 +191,7 @@ fn set_tags(
 }
 
 /// Adds the entry.
-fn add_entry(
-    parts: &mut Parts,
-    entry: Entry,
-    judged: &mut Vec<u32>,
-) -> Result<(), EditError>
+fn add_entry(parts: &mut Parts, entry: Entry, judged: &mut Vec<u32>) -> Result<(), EditError>
     requires { IsSession parts.old }
     ensures session { IsSession parts.new }
     ensures ok { OnOk result (apply (edit.Add entry) (state_of parts.old) ≡ Ok (state_of parts.new)) }
@@ -346,7 +318,13 @@ fn without_entries(
 ) -> Result<Parts, AllocError>
     ensures session { IfOk result (λ parts. IsSession parts) }
     ensures state { IfOk result (λ parts. state_of parts ≡ record {
-      head = head; entries = []; last = 0; environment = environment; tags = tags; policies = map_of.empty }) }
+      head = head;
+      entries = [];
+      last = 0;
+      environment = environment;
+      tags = tags;
+      policies = map_of.empty;
+    }) }
 {
     let judge = Judge {
         alloc,
