@@ -4,6 +4,7 @@ pub mod NameLemmas
 pub mod PassLemmas
 pub mod VerdictLemmas
 pub mod ReaderLemmas
+pub mod KeptLemmas
 pub mod SessionLemmas
 mod TableLemmas
 mod FrontLemmas

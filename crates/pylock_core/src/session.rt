@@ -9,8 +9,9 @@ pub(crate) mod room;
 pub(crate) mod row;
 pub(crate) mod verdict;
 
-ghost use Rattle.std.specs.Prelude.{◌≡◌, Ok, Err, IfOk, IfErr};
+ghost use Rattle.std.specs.Prelude.{◌≡◌, Ok, Err, IfOk, IfErr, length};
 ghost use Rattle.std.specs.Option.{option_copied};
+ghost use Rattle.pylock_core.specs.Session.Judgement.{verdicts_of};
 ghost use Rattle.pylock_core.specs.Session.State.{apply, entry_at, first};
 ghost use Rattle.pylock_core.specs.Session.Steps.{answer};
 ghost use Rattle.pylock_core.specs.declared.edit.EditError.{EditError};
@@ -20,8 +21,8 @@ use crate::answer::Answer;
 use crate::edit::{Edit, EditError};
 use crate::entry::Entry;
 use crate::lock::Lock;
-use crate::session::parts::{Parts, answer};
 use crate::session::edits::{edit_parts, entry_in, start};
+use crate::session::parts::{Parts, answer};
 use pymark_core::Environment;
 use pywheel_core::TagList;
 use std::alloc::{AllocError, Global};
@@ -36,7 +37,6 @@ pub struct Session {
 
 impl Model for Session {
     ghost use Rattle.pylock_core.specs.Session.Judgement.{SessionValue};
-
     ghost use Rattle.std.specs.Coded.{codes, coded_list, coded_ℕ};
     ghost use Rattle.std.specs.Cmp.Lexicographic.{slice_cmp};
     ghost use Rattle.std.specs.FinMap as map_of;
@@ -66,7 +66,8 @@ impl Session {
         environment: Environment,
         tags: TagList,
     ) -> Result<Session, AllocError>
-        ensures { IfOk result (λ session. session.state ≡ first lock environment tags) }
+        ensures state { IfOk result (λ session. session.state ≡ first lock environment tags) }
+        ensures verdicts { IfOk result (λ session. session.verdicts ≡ verdicts_of session.state) }
     {
         let parts = start(alloc, lock, environment, tags)?;
         Ok(Session { parts })
@@ -78,6 +79,8 @@ impl Session {
         ensures accepted { IfOk result (λ judgements. apply edit self.old.state ≡ Ok self.new.state) }
         ensures refused { IfErr result (λ error. (error ≡ Memory → ⊥) → apply edit self.old.state ≡ Err error) }
         ensures kept { IfErr result (λ error. self.new ≡ self.old) }
+        ensures count { IfOk result (λ judgements. judgements ≡ length self.new.judged) }
+        ensures verdicts { self.new.verdicts ≡ verdicts_of self.new.state }
     {
         edit_parts(&mut self.parts, edit)
     }

@@ -4,4 +4,5 @@ mod entries;
 mod environments;
 mod growths;
 mod locks;
+mod sessions;
 mod sources;

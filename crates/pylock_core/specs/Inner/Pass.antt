@@ -20,7 +20,7 @@ use Rattle.pylock_core.specs.declared.session.row.Row.{Row}
 abbrev pub conflict_among : Sources → Bool
 conflict_among sources =
     nat_lt 1 (count_by (λ stands. stands)
-      (sources.vcs ∷ sources.directory ∷ sources.archive ∷ (sources.sdist || sources.wheels) ∷ []))
+    (sources.vcs ∷ sources.directory ∷ sources.archive ∷ (sources.sdist || sources.wheels) ∷ []))
 
 -- the best wheel, or an sdist that the policy allows
 abbrev pub file_source : Option ℕ → Bool → Policy → Option PickSource

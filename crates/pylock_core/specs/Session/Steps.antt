@@ -117,7 +117,7 @@ is_any (x ∷ xs) = true
 abbrev pub has_conflict : EntryValue → Bool
 has_conflict entry =
     nat_lt 1 (count_by (λ stands. stands) (is_some entry.vcs ∷ is_some entry.directory
-      ∷ is_some entry.archive ∷ (is_some entry.sdist || is_any entry.wheels) ∷ []))
+    ∷ is_some entry.archive ∷ (is_some entry.sdist || is_any entry.wheels) ∷ []))
 
 -- the entry put before the slated rest, unless the rest has a fault
 abbrev pub put_before : ℕ × EntryValue → Result (List (ℕ × EntryValue)) FirstFault

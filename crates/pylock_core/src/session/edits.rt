@@ -8,6 +8,7 @@ ghost use Rattle.std.specs.Str.{bytes_eq};
 ghost use Rattle.pyver_core.specs.Name.{norm};
 ghost use Rattle.pylock_core.specs.Inner.Parts.{IsSession, shown, state_of};
 ghost use Rattle.pylock_core.specs.Inner.Rows.{in_rows};
+ghost use Rattle.pylock_core.specs.Session.Judgement.{verdicts_of};
 ghost use Rattle.pylock_core.specs.Session.State.{apply, asking, entry_at, first, is_known};
 ghost use Rattle.pylock_core.specs.declared.edit.Edit.TheVariants as edit;
 ghost use Rattle.pylock_core.specs.declared.edit.EditError.TheVariants.{Memory};
@@ -96,11 +97,7 @@ fn set_variable(
 }
 
 /// Leaves the variable without a text.
-fn unset_variable(
-    parts: &mut Parts,
-    variable: Var,
-    judged: &mut Vec<u32>,
-) -> Result<(), EditError>
+fn unset_variable(parts: &mut Parts, variable: Var, judged: &mut Vec<u32>) -> Result<(), EditError>
     requires { IsSession parts.old }
     ensures session { IsSession parts.new }
     ensures ok { OnOk result (apply (edit.Unset variable) (state_of parts.old) ≡ Ok (state_of parts.new)) }
@@ -114,11 +111,7 @@ fn unset_variable(
 }
 
 /// Asks for the extra.
-fn add_extra(
-    parts: &mut Parts,
-    name: Label,
-    judged: &mut Vec<u32>,
-) -> Result<(), EditError>
+fn add_extra(parts: &mut Parts, name: Label, judged: &mut Vec<u32>) -> Result<(), EditError>
     requires { IsSession parts.old }
     ensures session { IsSession parts.new }
     ensures ok { OnOk result (apply (edit.AddExtra name) (state_of parts.old) ≡ Ok (state_of parts.new)) }
@@ -135,11 +128,7 @@ fn add_extra(
 }
 
 /// Asks for the extra no more.
-fn drop_extra(
-    parts: &mut Parts,
-    name: Label,
-    judged: &mut Vec<u32>,
-) -> Result<(), EditError>
+fn drop_extra(parts: &mut Parts, name: Label, judged: &mut Vec<u32>) -> Result<(), EditError>
     requires { IsSession parts.old }
     ensures session { IsSession parts.new }
     ensures ok { OnOk result (apply (edit.DropExtra name) (state_of parts.old) ≡ Ok (state_of parts.new)) }
@@ -156,11 +145,7 @@ fn drop_extra(
 }
 
 /// Asks for the group.
-fn add_group(
-    parts: &mut Parts,
-    name: Label,
-    judged: &mut Vec<u32>,
-) -> Result<(), EditError>
+fn add_group(parts: &mut Parts, name: Label, judged: &mut Vec<u32>) -> Result<(), EditError>
     requires { IsSession parts.old }
     ensures session { IsSession parts.new }
     ensures ok { OnOk result (apply (edit.AddGroup name) (state_of parts.old) ≡ Ok (state_of parts.new)) }
@@ -177,11 +162,7 @@ fn add_group(
 }
 
 /// Asks for the group no more.
-fn drop_group(
-    parts: &mut Parts,
-    name: Label,
-    judged: &mut Vec<u32>,
-) -> Result<(), EditError>
+fn drop_group(parts: &mut Parts, name: Label, judged: &mut Vec<u32>) -> Result<(), EditError>
     requires { IsSession parts.old }
     ensures session { IsSession parts.new }
     ensures ok { OnOk result (apply (edit.DropGroup name) (state_of parts.old) ≡ Ok (state_of parts.new)) }
@@ -198,11 +179,7 @@ fn drop_group(
 }
 
 /// Puts the tags in place of those that were there.
-fn set_tags(
-    parts: &mut Parts,
-    tags: TagList,
-    judged: &mut Vec<u32>,
-) -> Result<(), EditError>
+fn set_tags(parts: &mut Parts, tags: TagList, judged: &mut Vec<u32>) -> Result<(), EditError>
     requires { IsSession parts.old }
     ensures session { IsSession parts.new }
     ensures ok { OnOk result (apply (edit.Tags tags) (state_of parts.old) ≡ Ok (state_of parts.new)) }
@@ -214,11 +191,7 @@ fn set_tags(
 }
 
 /// Adds the entry.
-fn add_entry(
-    parts: &mut Parts,
-    entry: Entry,
-    judged: &mut Vec<u32>,
-) -> Result<(), EditError>
+fn add_entry(parts: &mut Parts, entry: Entry, judged: &mut Vec<u32>) -> Result<(), EditError>
     requires { IsSession parts.old }
     ensures session { IsSession parts.new }
     ensures ok { OnOk result (apply (edit.Add entry) (state_of parts.old) ≡ Ok (state_of parts.new)) }
@@ -312,6 +285,8 @@ fn make(parts: &mut Parts, edit: Edit, judged: &mut Vec<u32>) -> Result<(), Edit
 pub(crate) fn edit_parts(parts: &mut Parts, edit: Edit) -> Result<u64, EditError>
     requires { IsSession parts.old }
     ensures session { IsSession parts.new }
+    ensures verdicts { (shown parts.new).verdicts ≡ verdicts_of (state_of parts.new) }
+    ensures count { IfOk result (λ judgements. judgements ≡ length parts.new.judged.items) }
     ensures ok { OnOk result (apply edit (state_of parts.old) ≡ Ok (state_of parts.new)) }
     ensures refused { IfErr result (λ error. (error ≡ Memory → ⊥) → apply edit (state_of parts.old) ≡ Err error) }
     ensures err { OnErr result (shown parts.new ≡ shown parts.old) }
@@ -343,7 +318,13 @@ fn without_entries(
 ) -> Result<Parts, AllocError>
     ensures session { IfOk result (λ parts. IsSession parts) }
     ensures state { IfOk result (λ parts. state_of parts ≡ record {
-      head = head; entries = []; last = 0; environment = environment; tags = tags; policies = map_of.empty }) }
+      head = head;
+      entries = [];
+      last = 0;
+      environment = environment;
+      tags = tags;
+      policies = map_of.empty;
+    }) }
 {
     let judge = Judge {
         alloc,
@@ -377,6 +358,7 @@ pub(crate) fn start(
 ) -> Result<Parts, AllocError>
     ensures session { IfOk result (λ parts. IsSession parts) }
     ensures state { IfOk result (λ parts. state_of parts ≡ first lock environment tags) }
+    ensures verdicts { IfOk result (λ parts. (shown parts).verdicts ≡ verdicts_of (state_of parts)) }
 {
     let (head, entries) = lock.into_parts();
     let environment = asking(environment, head.default_groups())?;

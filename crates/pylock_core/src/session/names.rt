@@ -23,11 +23,7 @@ pub(crate) struct Names {
 
 /// The number of the name, which gets one here where it has none. Where there is no memory for it, all
 /// stays but for room.
-pub(crate) fn number_of(
-    alloc: Global,
-    names: &mut Names,
-    name: &str,
-) -> Result<usize, AllocError>
+pub(crate) fn number_of(alloc: Global, names: &mut Names, name: &str) -> Result<usize, AllocError>
     requires { IsNames names.old }
     ensures found { IfOk result (λ number. number_in names.new name.now ≡ Some number) }
     ensures kept { (q : List ℕ) (n : ℕ) → number_in names.old q ≡ Some n → number_in names.new q ≡ Some n }

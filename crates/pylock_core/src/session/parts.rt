@@ -43,7 +43,11 @@ pub(crate) fn answer(alloc: Global, parts: &Parts) -> Result<Answer, AllocError>
     if let Some(code) = parts.head_verdict.fault() {
         return Ok(Answer::Fault { id: 0, code });
     }
-    answer_of(alloc, parts.rows.as_slice(), parts.names.policies.as_slice())
+    answer_of(
+        alloc,
+        parts.rows.as_slice(),
+        parts.names.policies.as_slice(),
+    )
 }
 
 /// The rows of the entries, judged again.
@@ -62,7 +66,14 @@ fn judged_rows(
 {
     let mut new = Vec::with_capacity(judge.alloc, rows.len())?;
     for place in 0..rows.len() {
-        let row = judged_row(judge, place, &entries[place], &rows[place], policies, judged)?;
+        let row = judged_row(
+            judge,
+            place,
+            &entries[place],
+            &rows[place],
+            policies,
+            judged,
+        )?;
         new.push(row)?;
     }
     Ok(new)
@@ -275,12 +286,7 @@ pub(crate) fn change_policy(
     ensures err { OnErr result (shown parts.new ≡ shown parts.old) }
 {
     let number = number_of(parts.alloc, &mut parts.names, name)?;
-    let policies = policies_with(
-        parts.alloc,
-        parts.names.policies.as_slice(),
-        number,
-        policy,
-    )?;
+    let policies = policies_with(parts.alloc, parts.names.policies.as_slice(), number, policy)?;
     let judge = Judge {
         alloc: parts.alloc,
         environment: &parts.environment,

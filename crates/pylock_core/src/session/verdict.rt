@@ -122,11 +122,7 @@ fn best_wheel(entry: &Entry, tags: &TagList, policy: Policy) -> Option<usize>
 }
 
 /// How the entry stands.
-fn standing(
-    alloc: Global,
-    entry: &Entry,
-    environment: &Environment,
-) -> Result<Standing, AllocError>
+fn standing(alloc: Global, entry: &Entry, environment: &Environment) -> Result<Standing, AllocError>
     ensures { IfOk result (λ found. found ≡ standing entry.now environment.now) }
 {
     let marked = match entry.marker() {
