@@ -235,20 +235,26 @@ fn nested(alloc: Global, comparison: &str, depth: usize) -> Result<String, Alloc
 }
 
 #[test]
-fn hostile_inputs(rt: HostRuntime) -> Result<(), Fail> {
+fn sixty_four_parentheses(rt: HostRuntime) -> Result<(), Fail> {
     let environment = Environment::new(rt.alloc());
     let flat = nested(rt.alloc(), "\"a\" == \"a\"", 64)?;
-    check(&rt, &environment, flat.as_str(), Ok(true))?;
-    let copy = Marker::parse(rt.alloc(), flat.as_str())?.clone()?;
-    assert_eq!(rt; copy.evaluate(rt.alloc(), &environment), Ok(true));
+    check(&rt, &environment, flat.as_str(), Ok(true))
+}
+
+#[test]
+fn sixty_five_parentheses(rt: HostRuntime) -> Result<(), Fail> {
     let deep = nested(rt.alloc(), "\"a\" == \"a\"", 65)?;
     check_refused(&rt, deep.as_str(), MarkerError::TooDeep);
+    Ok(())
+}
 
+#[test]
+fn quoted_parentheses(rt: HostRuntime) -> Result<(), Fail> {
+    let environment = Environment::new(rt.alloc());
     let mut quoted = repeated(rt.alloc(), "(", 65)?;
     quoted.insert(0, '"')?;
     quoted.push_str("\" == \"a\"")?;
-    check(&rt, &environment, quoted.as_str(), Ok(false))?;
-    Ok(())
+    check(&rt, &environment, quoted.as_str(), Ok(false))
 }
 
 #[test]
