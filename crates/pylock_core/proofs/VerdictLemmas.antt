@@ -13,7 +13,7 @@ use Rattle.pymark_core.specs.declared.marker.keys.Key.{Key}
 use Rattle.pymark_core.specs.declared.marker.keys.Key.TheVariants.{Of, Extras, Groups}
 use Rattle.pymark_core.specs.declared.variable.Var.TheVariants.{PythonFullVersion}
 use Rattle.pylock_core.specs.Session.Judgement.{AgreeAtKey, IndexKey, Marked, OfTags, entry_reads, head_reads, is_python, marker_reads, verdict_of}
-use Rattle.pywheel_core.specs.Choice.{best}
+use Rattle.pywheel_core.specs.Choice.{best, best_from}
 use Rattle.pywheel_core.specs.Tag.{TagValue}
 use Rattle.pylock_core.specs.Entry.{EntryValue, FileValue, wheel_name, wheel_names}
 use Rattle.pylock_core.specs.Lock.{HeadValue}
@@ -47,7 +47,7 @@ marked_same reading None e f agree one other same = same
 marked_same reading (Some m) e f agree one other same = ap (λ v. by_marker v one) (reading m.tree e f agree) ∙ ap (by_marker (marker_value f m.tree)) same
 
 no_wheels : (files : List FileValue) (tags others : List TagValue) → (is_any files ≡ true → tags ≡ others) → best (map wheel_name files) tags ≡ best (map wheel_name files) others
-unfolding best
+unfolding best best_from
 no_wheels [] tags others agree = refl
 no_wheels (file ∷ files) tags others agree = ap (best (map wheel_name (file ∷ files))) (agree refl)
 
