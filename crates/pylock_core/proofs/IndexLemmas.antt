@@ -138,7 +138,7 @@ pub changed_at : (lists old : List (Vec ℕ Global)) (key k : ℕ) (v w : Vec �
     → (k < key → list_at lists k ≡ f k (list_at old k)) → list_at (set lists key v) k ≡ f k (list_at old k)
 changed_at lists old key k v w f within less changed same below =
     let here : v.items ≡ f key (list_at old key) =
-        changed ∙ ap (f key) (sym (get_or-map (λ (list : Vec ℕ Global). list.items) lists key w [] within) ∙ same) in
+    changed ∙ ap (f key) (sym (get_or-map (λ (list : Vec ℕ Global). list.items) lists key w [] within) ∙ same) in
     set_list (λ ns. ns ≡ f k (list_at old k)) lists key k v within
     (λ at. subst (λ (j : ℕ). v.items ≡ f j (list_at old j)) (sym at) here) (λ ne. below (omega arith))
 

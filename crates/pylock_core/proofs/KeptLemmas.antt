@@ -33,7 +33,7 @@ rows_verdicts names environment tags n (None ∷ es) (Some r ∷ rs) h = absurd 
 rows_verdicts names environment tags n (Some e ∷ es) (None ∷ rs) h = absurd h.0
 rows_verdicts names environment tags n (Some e ∷ es) (Some r ∷ rs) h =
     let same : r.verdict ≡ afresh names environment tags e =
-        h.0.1 ∙ ap (verdict_of e environment tags) (sym (policy_here names e.name r.name h.0.0.name)) in
+    h.0.1 ∙ ap (verdict_of e environment tags) (sym (policy_here names e.name r.name h.0.0.name)) in
     ap (λ v. (n, v) ∷ in_rows (n + 1) (map verdict_in rs)) same
     ∙ ap (λ rest. (n, afresh names environment tags e) ∷ rest) (rows_verdicts names environment tags (n + 1) es rs h.1)
 
@@ -41,4 +41,4 @@ pub verdicts_kept : (parts : Parts) → IsSession parts → (shown parts).verdic
 verdicts_kept parts s =
     both_same _ _ _ _ s.head
     (rows_verdicts parts.names parts.environment parts.tags 1 parts.entries.items parts.rows.items
-      (of_rows_and (IsNamed parts.names) (IsJudged parts.environment parts.tags parts.names.policies.items) parts.entries.items parts.rows.items s.named s.judged))
+    (of_rows_and (IsNamed parts.names) (IsJudged parts.environment parts.tags parts.names.policies.items) parts.entries.items parts.rows.items s.named s.judged))

@@ -62,15 +62,15 @@ gains_keeps old new name n g none q m was =
 pub gains_numbering : (old new : List ℕ → Option ℕ) (name : List ℕ) (n m : ℕ) → Gains old new name n → m ≡ n + 1 → IsNumbering old n → IsNumbering new m
 gains_numbering old new name n m g more i = record {
   below = λ q k is. same_or_not name q
-    (λ same. let k_is : k ≡ n = some_number k n (new q) is (ap new (sym same) ∙ g.at) in omega (arith, k_is, more))
-    (λ _ ne. let less : k < n = i.below q k (sym (g.others q ne) ∙ is) in omega (arith, more));
+      (λ same. let k_is : k ≡ n = some_number k n (new q) is (ap new (sym same) ∙ g.at) in omega (arith, k_is, more))
+      (λ _ ne. let less : k < n = i.below q k (sym (g.others q ne) ∙ is) in omega (arith, more));
   apart = λ one other k is_one is_other.
-    same_or_not name one
-    (λ at_one. same_or_not name other
+      same_or_not name one
+      (λ at_one. same_or_not name other
       (λ at_other. sym at_one ∙ at_other)
       (λ _ ne. let k_is : k ≡ n = some_number k n (new one) is_one (ap new (sym at_one) ∙ g.at) in
-        let less : k < n = i.below other k (sym (g.others other ne) ∙ is_other) in absurd (omega arith)))
-    (λ _ ne_one. let less : k < n = i.below one k (sym (g.others one ne_one) ∙ is_one) in
+      let less : k < n = i.below other k (sym (g.others other ne) ∙ is_other) in absurd (omega arith)))
+      (λ _ ne_one. let less : k < n = i.below one k (sym (g.others one ne_one) ∙ is_one) in
       same_or_not name other
       (λ at_other. let k_is : k ≡ n = some_number k n (new other) is_other (ap new (sym at_other) ∙ g.at) in absurd (omega arith))
       (λ _ ne. i.apart one other k (sym (g.others one ne_one) ∙ is_one) (sym (g.others other ne) ∙ is_other)));
@@ -223,10 +223,10 @@ policies_set names n policy name is within has =
 
     by : (q : List ℕ) → chosen_under (set names.policies.items n policy) (number_in names q) ≡ cond (is_eq (slice_cmp nat_cmp q name)) (chosen policy) (chosen_under names.policies.items (number_in names q))
     by q = same_or_not q name
-      (λ same. ap (chosen_under (set names.policies.items n policy)) (ap (number_in names) same ∙ has)
+        (λ same. ap (chosen_under (set names.policies.items n policy)) (ap (number_in names) same ∙ has)
         ∙ ap chosen (get_or-set_same names.policies.items n policy Any within)
         ∙ sym (ap (λ b. cond b (chosen policy) (chosen_under names.policies.items (number_in names q))) (is_eq-slice_cmp q name ∙ (bytes_eq-Decides q name).1 same)))
-      (λ differs ne. other (number_in names q) (λ m found m_is. ne (is.numbering.apart q name n (found ∙ ap Some m_is) has))
+        (λ differs ne. other (number_in names q) (λ m found m_is. ne (is.numbering.apart q name n (found ∙ ap Some m_is) has))
         ∙ sym (ap (λ b. cond b (chosen policy) (chosen_under names.policies.items (number_in names q))) (is_eq-slice_cmp q name ∙ differs)))
 
 -- lists that keep their numbers

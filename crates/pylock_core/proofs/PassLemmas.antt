@@ -126,10 +126,12 @@ pub passed_skipped : (policies : List Policy) (rows : List (Option Row)) (place 
     → Passed policies rows place stamps made → Passed policies rows (place + 1) stamps made
 passed_skipped policies rows place stamps made row within there is passed =
     let names = passed.0 in
-    let standing : row_standing row (is_number names row.name) ≡ Skipped = ap (row_standing row) (sym (passed.1 row.name)) ∙ is in
-    (names, passed.1,
-    sym (row_skipped policies made names (place + 1) row (in_rows (place + 1 + 1) (drop (place + 1) rows)) standing)
-    ∙ ap (answer_from policies made names) (sym (rows_some rows place row within there)) ∙ passed.2)
+    let standing : row_standing row (is_number names row.name) ≡ Skipped = ap (row_standing row) (sym (passed.1 row.name)) ∙ is in (
+      names,
+      passed.1,
+      sym (row_skipped policies made names (place + 1) row (in_rows (place + 1 + 1) (drop (place + 1) rows)) standing)
+          ∙ ap (answer_from policies made names) (sym (rows_some rows place row within there)) ∙ passed.2,
+    )
 
 pub passed_active : (policies : List Policy) (rows : List (Option Row)) (place : ℕ) (stamps : List Bool) (made : Result (List Pick) FirstFault) (row : Row)
     → place < length rows → get_or rows place (Some row) ≡ Some row → row_standing row (get_or stamps row.name false) ≡ Active → row.name < length stamps
@@ -137,10 +139,12 @@ pub passed_active : (policies : List Policy) (rows : List (Option Row)) (place :
     → Passed policies rows (place + 1) (set stamps row.name true) (pick_after made (place + 1) (row_source row (policy_at policies row.name)))
 passed_active policies rows place stamps made row within there is named passed =
     let names = passed.0 in
-    let standing : row_standing row (is_number names row.name) ≡ Active = ap (row_standing row) (sym (passed.1 row.name)) ∙ is in
-    (row.name ∷ names, one_stamped stamps names row.name named passed.1,
-    sym (row_active policies made names (place + 1) row (in_rows (place + 1 + 1) (drop (place + 1) rows)) standing)
-    ∙ ap (answer_from policies made names) (sym (rows_some rows place row within there)) ∙ passed.2)
+    let standing : row_standing row (is_number names row.name) ≡ Active = ap (row_standing row) (sym (passed.1 row.name)) ∙ is in (
+      row.name ∷ names,
+      one_stamped stamps names row.name named passed.1,
+      sym (row_active policies made names (place + 1) row (in_rows (place + 1 + 1) (drop (place + 1) rows)) standing)
+          ∙ ap (answer_from policies made names) (sym (rows_some rows place row within there)) ∙ passed.2,
+    )
 
 pub passed_faulty : (policies : List Policy) (rows : List (Option Row)) (place : ℕ) (stamps : List Bool) (made : Result (List Pick) FirstFault) (row : Row) (code : FaultCode)
     → place < length rows → get_or rows place (Some row) ≡ Some row → row_standing row (get_or stamps row.name false) ≡ Faulty code
@@ -160,6 +164,8 @@ passed_all policies rows place stamps made past passed =
 
 pub passed_same : (policies : List Policy) (rows : List (Option Row)) (place : ℕ) (stamps others : List Bool) (made more : Result (List Pick) FirstFault)
     → others ≡ stamps → more ≡ made → Passed policies rows place stamps made → Passed policies rows place others more
-passed_same policies rows place stamps others made more same_stamps same_made passed =
-    (passed.0, (λ n. ap (λ s. get_or s n false) same_stamps ∙ passed.1 n),
-    ap (λ m. answer_from policies m passed.0 (in_rows (place + 1) (drop place rows))) same_made ∙ passed.2)
+passed_same policies rows place stamps others made more same_stamps same_made passed = (
+  passed.0,
+  (λ n. ap (λ s. get_or s n false) same_stamps ∙ passed.1 n),
+  ap (λ m. answer_from policies m passed.0 (in_rows (place + 1) (drop place rows))) same_made ∙ passed.2,
+)

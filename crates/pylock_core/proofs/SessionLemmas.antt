@@ -150,8 +150,8 @@ pub judged_kept : (old new : Names) → Kept old new → (environment : Environm
 judged_kept old new kept environment tags es rs named judged =
     of_rows_weaker (λ e r. IsNamed old e r × IsJudged environment tags old.policies.items e r) (IsJudged environment tags new.policies.items)
     (λ e r is. is.1 ∙ ap (verdict_of e environment tags)
-      (sym (policy_here old e.name r.name is.0.name) ∙ ap (λ p. policy_of p e.name) (sym kept.policies)
-      ∙ policy_here new e.name r.name (kept.numbers e.name r.name is.0.name)))
+    (sym (policy_here old e.name r.name is.0.name) ∙ ap (λ p. policy_of p e.name) (sym kept.policies)
+    ∙ policy_here new e.name r.name (kept.numbers e.name r.name is.0.name)))
     es rs (of_rows_and (IsNamed old) (IsJudged environment tags old.policies.items) es rs named judged)
 
 pub session_kept : (parts : Parts) (names : Names) → Kept parts.names names → IsNames names → IsSession parts → IsSession (record parts { names = names })
@@ -249,8 +249,8 @@ stand_same : (names : Names) (environment : EnvironmentValue) (tags : List TagVa
     → (s : Standing) (shared conflict : Bool)
     → (a c : Result (List (ℕ × EntryValue)) FirstFault) (b d : Result (List (ℕ × Row)) FirstFault) → SameSlated names environment tags a b → SameSlated names environment tags c d
     → SameSlated names environment tags
-      (by_standing s a (λ code. Err (n, code)) (cond shared (Err (n, Ambiguous)) (cond conflict (Err (n, ManySources)) (put_before (n, e) c))))
-      (by_standing (by_standing s Skipped Faulty (checked_standing shared conflict)) b (λ code. Err (n, code)) (put_row (n, r) d))
+    (by_standing s a (λ code. Err (n, code)) (cond shared (Err (n, Ambiguous)) (cond conflict (Err (n, ManySources)) (put_before (n, e) c))))
+    (by_standing (by_standing s Skipped Faulty (checked_standing shared conflict)) b (λ code. Err (n, code)) (put_row (n, r) d))
 stand_same names environment tags n e r both Skipped shared conflict a c b d h k = h
 stand_same names environment tags n e r both (Faulty code) shared conflict a c b d h k = refl
 stand_same names environment tags n e r both Active true conflict a c b d h k = refl
@@ -261,8 +261,8 @@ stand_equal : (names : Names) (environment : EnvironmentValue) (tags : List TagV
     → (s t : Standing) → t ≡ s → (shared other : Bool) → other ≡ shared → (conflict also : Bool) → also ≡ conflict
     → (a c : Result (List (ℕ × EntryValue)) FirstFault) (b d : Result (List (ℕ × Row)) FirstFault) → SameSlated names environment tags a b → SameSlated names environment tags c d
     → SameSlated names environment tags
-      (by_standing s a (λ code. Err (n, code)) (cond shared (Err (n, Ambiguous)) (cond conflict (Err (n, ManySources)) (put_before (n, e) c))))
-      (by_standing (by_standing t Skipped Faulty (checked_standing other also)) b (λ code. Err (n, code)) (put_row (n, r) d))
+    (by_standing s a (λ code. Err (n, code)) (cond shared (Err (n, Ambiguous)) (cond conflict (Err (n, ManySources)) (put_before (n, e) c))))
+    (by_standing (by_standing t Skipped Faulty (checked_standing other also)) b (λ code. Err (n, code)) (put_row (n, r) d))
 stand_equal names environment tags n e r both s t st shared other so conflict also ca a c b d h k =
     rw (st, so, ca) (stand_same names environment tags n e r both s shared conflict a c b d h k)
 
@@ -274,8 +274,8 @@ same_number : (names : Names) → IsNames names → (q p : List ℕ) (n m : ℕ)
 same_number names is q p n m has_q has_p =
     same_or_not q p
     (λ same. let both : ◌≡◌ {A = Option ℕ} (Some n) (Some m) = sym has_q ∙ ap (number_in names) same ∙ has_p in
-      let equal : n ≡ m = cc in
-      (ap (bytes_eq q) (sym same) ∙ text_itself q) ∙ sym (eq-eqb n m equal))
+    let equal : n ≡ m = cc in
+    (ap (bytes_eq q) (sym same) ∙ text_itself q) ∙ sym (eq-eqb n m equal))
     (λ differs ne. differs ∙ sym (ne_eqb n m (λ equal. ne (is.numbering.apart q p m (has_q ∙ ap Some equal) has_p))))
 
 more_names : (names : Names) → IsNames names → (ns : List (List ℕ)) (ms : List ℕ) (p : List ℕ) (m : ℕ) → number_in names p ≡ Some m → SameNames names ns ms → SameNames names (p ∷ ns) (m ∷ ms)
@@ -330,9 +330,9 @@ picks_same names environment tags (x ∷ xs) (y ∷ ys) h =
     let policy : policy_of (policies_in names) x.1.name ≡ policy_at names.policies.items y.1.name = policy_here names x.1.name y.1.name named.name in
     let best : best_wheel x.1 tags (policy_at names.policies.items y.1.name) ≡ y.1.verdict.best = sym (ap (λ v. v.best) h.1.1) in
     let chosen : source_of x.1 tags (policy_of (policies_in names) x.1.name) ≡ row_source y.1 (policy_at names.policies.items y.1.name) =
-        ap (source_of x.1 tags) policy ∙ source_same x.1 tags (policy_at names.policies.items y.1.name)
-        ∙ ap (λ s. source_from s (best_wheel x.1 tags (policy_at names.policies.items y.1.name)) (policy_at names.policies.items y.1.name)) (sym named.sources)
-        ∙ ap (λ b. source_from y.1.sources b (policy_at names.policies.items y.1.name)) best in
+    ap (source_of x.1 tags) policy ∙ source_same x.1 tags (policy_at names.policies.items y.1.name)
+    ∙ ap (λ s. source_from s (best_wheel x.1 tags (policy_at names.policies.items y.1.name)) (policy_at names.policies.items y.1.name)) (sym named.sources)
+    ∙ ap (λ b. source_from y.1.sources b (policy_at names.policies.items y.1.name)) best in
     ap (λ n. pick_before n (source_of x.1 tags (policy_of (policies_in names) x.1.name)) (picks xs tags (policies_in names))) h.0
     ∙ ap (λ s. pick_before y.0 s (picks xs tags (policies_in names))) chosen
     ∙ ap (pick_before y.0 (row_source y.1 (policy_at names.policies.items y.1.name))) (picks_same names environment tags xs ys h.2)
@@ -342,7 +342,7 @@ pub rows_answer : (names : Names) (environment : EnvironmentValue) (tags : List 
     → answer_by (picks_after_rows (slate_rows (in_rows 1 rs) []) names.policies.items) ≡ answer_by (picks_after (slate (in_rows 1 es) environment []) tags (policies_in names))
 rows_answer names environment tags is es rs named judged =
     ap answer_by (by (slate (in_rows 1 es) environment []) (slate_rows (in_rows 1 rs) [])
-      (slate_same names environment tags is es rs 1 [] [] (of_rows_and (IsNamed names) (IsJudged environment tags names.policies.items) es rs named judged) (λ q n has. refl)))
+    (slate_same names environment tags is es rs 1 [] [] (of_rows_and (IsNamed names) (IsJudged environment tags names.policies.items) es rs named judged) (λ q n has. refl)))
   where
     by : (a : Result (List (ℕ × EntryValue)) FirstFault) (b : Result (List (ℕ × Row)) FirstFault) → SameSlated names environment tags a b
         → picks_after_rows b names.policies.items ≡ picks_after a tags (policies_in names)
@@ -368,7 +368,7 @@ next_state state entry es more entries last room is =
     let less : state.last < 100000 = omega (arith, last, room) in
     let longer : state.last + 1 ≡ length more = omega (arith, last, ap length is, length_more es (Some entry)) in
     let rows : state.entries ++ (state.last + 1, entry) ∷ [] ≡ in_rows 1 more =
-        ap (λ front. front ++ (state.last + 1, entry) ∷ []) entries ∙ sym (in_rows_push 1 (state.last + 1) es entry (omega (arith, last))) ∙ ap (in_rows 1) (sym is) in
+    ap (λ front. front ++ (state.last + 1, entry) ∷ []) entries ∙ sym (in_rows_push 1 (state.last + 1) es entry (omega (arith, last))) ∙ ap (in_rows 1) (sym is) in
     rw (lt-ltb state.last 100000 less) (ap Ok (λ i. record state { entries = rows i; last = longer i }))
 
 -- the rows of a session in which all is judged again
@@ -405,9 +405,10 @@ pub session_policy : (parts : Parts) (one two : Names) (rows : List (Option Row)
     → OfRows (IsNamed two) parts.entries.items rows × OfRows (IsJudged parts.environment parts.tags two.policies.items) parts.entries.items rows
 session_policy parts one two rows s kept numbers is =
     let named_one = named_kept parts.names one kept parts.entries.items parts.rows.items s.named in
-    let named_two = of_rows_weaker (IsNamed one) (IsNamed two) (λ e r h. record { name = numbers e.name ∙ h.name; sources = h.sources }) parts.entries.items parts.rows.items named_one in
-    (subst (OfRows (IsNamed two) parts.entries.items) (sym is) (named_again two parts.environment parts.tags two.policies.items parts.entries.items parts.rows.items named_two),
-    subst (OfRows (IsJudged parts.environment parts.tags two.policies.items) parts.entries.items) (sym is) (judged_again two parts.environment parts.tags two.policies.items parts.entries.items parts.rows.items named_two))
+    let named_two = of_rows_weaker (IsNamed one) (IsNamed two) (λ e r h. record { name = numbers e.name ∙ h.name; sources = h.sources }) parts.entries.items parts.rows.items named_one in (
+      subst (OfRows (IsNamed two) parts.entries.items) (sym is) (named_again two parts.environment parts.tags two.policies.items parts.entries.items parts.rows.items named_two),
+      subst (OfRows (IsJudged parts.environment parts.tags two.policies.items) parts.entries.items) (sym is) (judged_again two parts.environment parts.tags two.policies.items parts.entries.items parts.rows.items named_two),
+    )
 
 -- the state in which an entry was written
 pub written_state : (p : Parts) (old : State) (es : List (Option EntryValue)) (f : List (ℕ × EntryValue) → List (ℕ × EntryValue)) → state_of p ≡ old
@@ -415,7 +416,7 @@ pub written_state : (p : Parts) (old : State) (es : List (Option EntryValue)) (f
     → ◌≡◌ {A = State} (record (state_of p) { entries = in_rows 1 es; last = length es }) (record old { entries = f old.entries })
 written_state p old es f same long rows =
     let first : ◌≡◌ {A = State} (record (state_of p) { entries = in_rows 1 es; last = length es }) (record (state_of p) { entries = f (state_of p).entries }) =
-        (λ i. record (state_of p) { entries = rows i; last = long i }) in
+    (λ i. record (state_of p) { entries = rows i; last = long i }) in
     let next : State → State = λ s. record s { entries = f s.entries } in
     first ∙ ap next same
 
@@ -462,9 +463,9 @@ with_all_next state next entry rest is = by (nat_lt state.last 100000) is
 
     front : with_all more rest ≡ with_all state (entry ∷ rest)
     front =
-      let entries : (state.entries ++ (state.last + 1, entry) ∷ []) ++ enumerate_from (state.last + 1 + 1) rest ≡ state.entries ++ enumerate_from (state.last + 1) (entry ∷ rest) = simp append_assoc in
-      let long : state.last + 1 + length rest ≡ state.last + length (entry ∷ rest) = omega arith in
-      (λ i. record state { entries = entries i; last = long i })
+        let entries : (state.entries ++ (state.last + 1, entry) ∷ []) ++ enumerate_from (state.last + 1 + 1) rest ≡ state.entries ++ enumerate_from (state.last + 1) (entry ∷ rest) = simp append_assoc in
+        let long : state.last + 1 + length rest ≡ state.last + length (entry ∷ rest) = omega arith in
+        (λ i. record state { entries = entries i; last = long i })
 
     by : (b : Bool) → cond b (Ok more) (Err TooMany) ≡ Ok next → with_all next rest ≡ with_all state (entry ∷ rest)
     by true same = let inner : next ≡ more = sym (ap (λ r. unwrap_ok more r) same) in ap (λ s. with_all s rest) inner ∙ front

@@ -61,9 +61,9 @@ pub entry_same : MarkersRead → (entry : EntryValue) (policy : Policy) (e f : E
     → verdict_of entry e tags policy ≡ verdict_of entry f others policy
 entry_same reading entry policy e f tags others agree =
     let python : python_check entry.requires_python e ≡ python_check entry.requires_python f =
-        check_same entry.requires_python e f (λ is. agree (Marked (Of PythonFullVersion)) (or_left (is_some entry.requires_python) (marker_reads (Of PythonFullVersion) entry.marker) is)) in
+    check_same entry.requires_python e f (λ is. agree (Marked (Of PythonFullVersion)) (or_left (is_some entry.requires_python) (marker_reads (Of PythonFullVersion) entry.marker) is)) in
     let stands : standing entry e ≡ standing entry f =
-        marked_same reading entry.marker e f (λ k is. agree (Marked k) (or_right (is_python k && is_some entry.requires_python) (marker_reads k entry.marker) is)) _ _ (ap by_check python) in
+    marked_same reading entry.marker e f (λ k is. agree (Marked k) (or_right (is_python k && is_some entry.requires_python) (marker_reads k entry.marker) is)) _ _ (ap by_check python) in
     let chosen : best_wheel entry tags policy ≡ best_wheel entry others policy = best_same entry policy tags others (agree OfTags) in
     λ i. record { standing = stands i; best = chosen i }
 
@@ -84,9 +84,9 @@ pub head_same : MarkersRead → (head : HeadValue) (e f : EnvironmentValue) (tag
     → head_fault head e ≡ head_fault head f
 head_same reading head e f tags others agree =
     ap (λ c. either c (environments_check head.environments e))
-      (check_same head.requires_python e f (λ is. agree (Marked (Of PythonFullVersion)) (or_left (is_some head.requires_python) (list_any (λ m. reads (Of PythonFullVersion) m.tree) head.environments) is)))
+    (check_same head.requires_python e f (λ is. agree (Marked (Of PythonFullVersion)) (or_left (is_some head.requires_python) (list_any (λ m. reads (Of PythonFullVersion) m.tree) head.environments) is)))
     ∙ ap (either (python_check head.requires_python f))
-      (environments_same reading head.environments e f (λ k is. agree (Marked k) (or_right (is_python k && is_some head.requires_python) (list_any (λ m. reads k m.tree) head.environments) is)))
+    (environments_same reading head.environments e f (λ k is. agree (Marked k) (or_right (is_python k && is_some head.requires_python) (list_any (λ m. reads k m.tree) head.environments) is)))
 
 -- a faulty marker decides
 pub first_faulty : (v : Result Bool EvalFault) (rest : Option FaultCode) (code : FaultCode) → by_marker v Active ≡ Faulty code → decided_by v rest ≡ Some code

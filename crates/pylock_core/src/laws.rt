@@ -25,8 +25,7 @@ pub fn python_check_reads()
     ensures { (set : Option (List Specifier)) (e f : EnvironmentValue)
         → variable_in PythonFullVersion e ≡ variable_in PythonFullVersion f
         → python_check set e ≡ python_check set f }
-{
-}
+{}
 
 /// An entry reads nothing but its keys: two environments and tag lists that agree on them give it the
 /// same verdict under a policy of its name.

@@ -9,8 +9,8 @@ use Rattle.pylock_core.proofs.session.index.change_each.Goals as goal
 pub change-requires-clause-rises : goal.change-requires-clause-rises
 change-requires-clause-rises c =
     let here : (get_or c.loop-key.lists c.loop-key.key c.index-lists-key.result).items ≡ list_at c.args.lists.now c.loop-key.key =
-        sym (get_or-map (λ (list : Vec ℕ Global). list.items) c.loop-key.lists c.loop-key.key c.index-lists-key.result [] (omega arith))
-        ∙ c.loop-key.invariant.others c.loop-key.key (omega arith) in
+    sym (get_or-map (λ (list : Vec ℕ Global). list.items) c.loop-key.lists c.loop-key.key c.index-lists-key.result [] (omega arith))
+    ∙ c.loop-key.invariant.others c.loop-key.key (omega arith) in
     subst (Rises 0) (sym here) (c.requires.rise c.loop-key.key c.loop-key-test.true)
 
 pub loop-key-preserved : goal.loop-key-preserved

@@ -14,8 +14,8 @@ returns-clause-members c = λ n.
     let within : number < length lists = omega (arith, c.requires.within, c.requires.is.even) in
     let new = moved c.args.entry (not c.args.is) c.args.is in
     let here : c.change.new.numbers.items ≡ new (list_at lists number) =
-        c.change.ensures ∙ ap (λ list. new list.items) c.index_mut.ensures.value
-        ∙ ap new (sym (get_or-map (λ (list : Vec ℕ Global). list.items) lists number c.index_mut.result.now [] within)) in
+    c.change.ensures ∙ ap (λ list. new list.items) c.index_mut.ensures.value
+    ∙ ap new (sym (get_or-map (λ (list : Vec ℕ Global). list.items) lists number c.index_mut.result.now [] within)) in
     set_list (λ ns. ns ≡ cond (nat_eq n number) (new (list_at lists n)) (list_at lists n)) lists number n c.change.new.numbers within
     (λ same. here ∙ sym (ap (λ b. cond b (new (list_at lists n)) (list_at lists n)) (eq-eqb n number same) ∙ ap (λ k. new (list_at lists k)) same))
     (λ ne. sym (ap (λ b. cond b (new (list_at lists n)) (list_at lists n)) (ne_eqb n number ne)))

@@ -32,12 +32,12 @@ loop-place-preserved c =
     elim c.match-slating.branch [
       | in-Skipped w ↦ record {
         passed = passed_same policies rows (place + 1) stamps _ made _ w.in-Skipped.ensures.stamps (ap picks_so_far w.picks-is)
-          (passed_skipped policies rows place stamps made row c.loop-place-test.true there (sym w.in-Skipped.ensures.standing) c.loop-place.invariant.passed);
+            (passed_skipped policies rows place stamps made row c.loop-place-test.true there (sym w.in-Skipped.ensures.standing) c.loop-place.invariant.passed);
         count = ap length w.in-Skipped.ensures.stamps ∙ c.loop-place.invariant.count;
       }
       | in-Active+in_ok-add-in-Active w ↦ record {
         passed = passed_same policies rows (place + 1) (set stamps row.name true) _ _ _ w.in-Active.ensures.stamps (ap picks_so_far w.picks-is ∙ w.in_ok-add-in-Active.ensures ∙ ap (pick_after made (place + 1)) w.source.ensures)
-          (passed_active policies rows place stamps made row c.loop-place-test.true there (sym w.in-Active.ensures.standing) (omega (arith, below, c.loop-place.invariant.count)) c.loop-place.invariant.passed);
+            (passed_active policies rows place stamps made row c.loop-place-test.true there (sym w.in-Active.ensures.standing) (omega (arith, below, c.loop-place.invariant.count)) c.loop-place.invariant.passed);
         count = ap length w.in-Active.ensures.stamps ∙ length-set stamps row.name true ∙ c.loop-place.invariant.count;
       }
     ]
