@@ -7,8 +7,8 @@ use std::time::Instant;
 /// How often each small piece of work is done.
 pub(crate) const ROUNDS: u32 = 1_000_000;
 
-/// Prints the nanoseconds that each of [`ROUNDS`] rounds since `start` took. `seen` is what the rounds
-/// added up to, printed so that none of them can be left out.
+/// Prints the nanoseconds that each of [`ROUNDS`] rounds since `start` took. `seen` is what the
+/// rounds added up to, printed so that none of them can be left out.
 pub(crate) fn print_round<R: Clock + Print>(
     rt: &R,
     name: &str,
