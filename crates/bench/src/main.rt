@@ -14,7 +14,8 @@ const USAGE: &str =
     "bench versions    nanoseconds for each parse, comparison and match of versions, beside semver
 bench markers     nanoseconds for each parse and value of markers, and parse of requirements
 bench wheels      nanoseconds for each parse and choice of wheels
-bench lock FILE   milliseconds for reading a lock, beside toml alone
+bench toml FILE   milliseconds for reading a lock by toml alone, and letting go of it
+bench lock FILE   milliseconds for reading it as a lock, and letting go of it
 ";
 
 fn main(rt: HostRuntime) -> anyhow::Result<()> {
@@ -23,9 +24,11 @@ fn main(rt: HostRuntime) -> anyhow::Result<()> {
         [word] if word.as_str() == "versions" => versions::time_versions(&rt),
         [word] if word.as_str() == "markers" => markers::time_markers(&rt),
         [word] if word.as_str() == "wheels" => wheels::time_wheels(&rt),
+        [word, file] if word.as_str() == "toml" => {
+            locks::time_toml(&rt, &fs::read(&rt, file.as_str())?)
+        }
         [word, file] if word.as_str() == "lock" => {
-            let bytes = fs::read(&rt, file.as_str())?;
-            locks::time_lock(&rt, &bytes)
+            locks::time_read(&rt, &fs::read(&rt, file.as_str())?)
         }
         _ => Ok(rt.print(USAGE)?),
     }

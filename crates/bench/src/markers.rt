@@ -9,7 +9,8 @@ use std::time::Instant;
 const MARKERS: [&str; 3] = [
     "python_version >= \"3.8\"",
     "sys_platform == \"win32\"",
-    "(platform_machine == \"aarch64\" or platform_machine == \"x86_64\") and sys_platform != \"darwin\"",
+    "(platform_machine == \"aarch64\" or platform_machine == \"x86_64\") and sys_platform != \
+        \"darwin\"",
 ];
 
 /// Requirements as projects have them.

@@ -6,3 +6,4 @@ pub mod Edited
 pub mod Hashes
 pub mod Reply
 pub mod Pieces
+pub mod Plain

@@ -1,6 +1,6 @@
 //! What the program does with its task, and how it ends.
 
-ghost use Rattle.std.specs.Prelude.{◌≡◌, List, Option, ℕ, IfErr, IfOk, IfSome, OnErr, OnOk};
+ghost use Rattle.std.specs.Prelude.{◌≡◌, ◌≢◌, List, Option, ℕ, IfErr, IfOk, IfSome, OnErr, OnOk};
 ghost use Rattle.std.specs.Io.KnownBytes.{Appends};
 ghost use Rattle.pylock.specs.Program.{work_of, greeting, most_file_bytes};
 ghost use Rattle.pylock.specs.Program.{failure_message, failure_status};
@@ -125,7 +125,7 @@ impl From<FileFault> for Failure {
 /// What an error of the list of words says: one that is not UTF-8, or else that memory ran out.
 pub fn words_failure(kind: ErrorKind) -> Failure
     ensures text { kind ≡ ErrorKind.InvalidData → result ≡ failure.NotText }
-    ensures memory { kind ≡ ErrorKind.OutOfMemory → result ≡ failure.Memory }
+    ensures memory { kind ≢ ErrorKind.InvalidData → result ≡ failure.Memory }
 {
     match kind {
         ErrorKind::InvalidData => Failure::NotText,

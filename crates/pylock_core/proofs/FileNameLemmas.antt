@@ -1,12 +1,12 @@
 -- The part of a list after the last element that passes a test, by its place.
-use Rattle.std.proofs.Common.{◌≡◌, ℕ, ◌+◌, ◌-◌, ◌<◌, ◌≤◌, Bool, true, false, not, List, length, get_or, drop, IsUtf8, arith, ap}
+use Rattle.std.proofs.Common.{◌≡◌, ◌∙◌, ◌==◌, ℕ, ◌+◌, ◌-◌, ◌<◌, ◌≤◌, Bool, true, false, not, List, [], ◌∷◌, length, get_or, drop, IsUtf8, arith, refl, ap}
 use Rattle.std.proofs.Math.Logic.{⊎_elim}
-use Rattle.std.proofs.lemmas.Bool.{cases_Bool, cond-true, cond-false}
+use Rattle.std.proofs.lemmas.Bool.{cases_Bool, cond-true, cond-false, or_parts}
 use Rattle.std.proofs.lemmas.Str.{is_utf8-from_IsUtf8, IsUtf8-from_is_utf8}
 use Rattle.std.specs.Str.{is_utf8}
-use Rattle.percent_encoding.specs.Percent.{percent_decode}
+use Rattle.percent_encoding.specs.Percent.{is_escape, percent_decode}
 use Rattle.pylock_core.specs.Entry.FileName.{decoded}
-use Rattle.std.specs.List.{after_last, suffix_len}
+use Rattle.std.specs.List.{after_last, list_any, suffix_len}
 use Rattle.std.proofs.lemmas.List.Sums.{suffix_len_is}
 
 pub after_last_at : (p : ℕ → Bool) (xs : List ℕ) (i : ℕ) → i < length xs → p (get_or xs i 0) ≡ true
@@ -32,5 +32,23 @@ pub decoded_else : (text : List ℕ) → (IsUtf8 (percent_decode text) → ⊥) 
 decoded_else text other =
     ⊎_elim
     (λ yes_utf8. absurd (other (IsUtf8-from_is_utf8 _ yes_utf8)))
+    (λ no_utf8. cond-false _ _ _ no_utf8)
+    (cases_Bool (is_utf8 (percent_decode text)))
+
+-- bytes with no `%` have no escape
+no_escape : (text : List ℕ) → list_any (λ b. b == 37) text ≡ false → percent_decode text ≡ text
+unfolding percent_decode
+no_escape [] none = refl
+no_escape (b ∷ []) none = refl
+no_escape (b ∷ c ∷ []) none = refl
+no_escape (b ∷ high ∷ low ∷ rest) none =
+    let parts = or_parts (b == 37) (list_any (λ b. b == 37) (high ∷ low ∷ rest)) none in
+    let plain : is_escape b high low ≡ false = rw parts.0 refl in
+    cond-false _ _ _ plain ∙ ap (λ bs. b ∷ bs) (no_escape (high ∷ low ∷ rest) parts.1)
+
+pub decoded_plain : (text : List ℕ) → list_any (λ b. b == 37) text ≡ false → decoded text ≡ text
+decoded_plain text none =
+    ⊎_elim
+    (λ yes_utf8. cond-true _ _ _ yes_utf8 ∙ no_escape text none)
     (λ no_utf8. cond-false _ _ _ no_utf8)
     (cases_Bool (is_utf8 (percent_decode text)))

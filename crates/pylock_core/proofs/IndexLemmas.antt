@@ -1,12 +1,18 @@
 -- Lemmas on increasing lists of numbers, and on the lists of an index.
-use Rattle.std.proofs.Common.{◌≡◌, ℕ, suc, zero, ◌+◌, ◌<◌, ◌≤◌, ◌∙◌, Bool, true, false, IsTrue, nat_eq, nat_lt, List, [], ◌∷◌, map, length, get_or, set, slice_index_or, Result, Ok, Err, IsOk, is_ok, cond, IfOk, vec_len, vec_capacity, subst, ap, sym, refl, eq-eqb, arith}
+use Rattle.std.proofs.Common.{◌≡◌, ℕ, suc, zero, ◌+◌, ◌<◌, ◌≤◌, ◌∙◌, Bool, true, false, ◌&&◌, ◌||◌, IsTrue, nat_eq, nat_lt, List, [], ◌∷◌, map, length, ext_get_or, get_or, set, Some, is_some, Result, Ok, Err, IsOk, is_ok, cond, vec_len, vec_capacity, subst, ap, sym, refl, eq-eqb, arith}
 use Rattle.std.specs.Global.{Global}
 use Rattle.std.specs.declared.vec.Vec.{Vec}
 use Rattle.std.specs.List.{insert, remove}
 use Rattle.std.specs.Result.{MatchResult}
 use Rattle.std.proofs.lemmas.Bool.{ne_eqb, lt-ltb, le-ltb, ltb-true, ltb-false, eqb-true, eqb-false}
-use Rattle.std.proofs.lemmas.List.{get_or-map, get_or-set_same, get_or-set_other, length-map}
-use Rattle.pylock_core.specs.Inner.Index.{Rises, put_in, take_out, moved, list_at}
+use Rattle.std.proofs.lemmas.List.{get_or-map, get_or-set_same, get_or-set_other, length-map, set-get_or}
+use Rattle.pymark_core.specs.Marker.Keys.{reads}
+use Rattle.pymark_core.specs.Marker.Reading.{MarkerValue}
+use Rattle.pylock_core.specs.Entry.{EntryValue}
+use Rattle.pylock_core.specs.Inner.Index.{Rises, put_in, take_out, moved, list_at, numbers_in, read_by}
+use Rattle.pylock_core.specs.Lock.{HeadValue}
+use Rattle.pylock_core.specs.Session.Judgement.{IndexKey, Marked, OfTags, and_head, entry_reads, head_reads, is_python, keys, marker_reads}
+use Rattle.pylock_core.specs.Session.Steps.{is_any}
 
 -- ---- one list
 
@@ -132,6 +138,12 @@ kept_at lists key k v w within kept =
     set_list (λ ns. ns ≡ list_at lists k) lists key k v within
     (λ same. here ∙ ap (list_at lists) (sym same)) (λ ne. refl)
 
+pub kept_set : (lists : List (Vec ℕ Global)) (key : ℕ) (v w : Vec ℕ Global) → key < length lists → v.items ≡ (get_or lists key w).items
+    → numbers_in (set lists key v) ≡ numbers_in lists
+kept_set lists key v w within kept =
+    let here : v.items ≡ list_at lists key = kept ∙ sym (get_or-map (λ (list : Vec ℕ Global). list.items) lists key w [] within) in
+    map_set lists key v ∙ ap (set (numbers_in lists) key) here ∙ set-get_or (numbers_in lists) key []
+
 -- a list that is changed, where those below it were
 pub changed_at : (lists old : List (Vec ℕ Global)) (key k : ℕ) (v w : Vec ℕ Global) (f : ℕ → List ℕ → List ℕ) → key < length lists → k < key + 1
     → v.items ≡ f key (get_or lists key w).items → list_at lists key ≡ list_at old key
@@ -152,3 +164,88 @@ room_at lists key k v d comes within less now below =
     (λ j under known come. rw (get_or-set_other lists key j v d (λ same. omega arith)) (known under come))
     (λ known come. rw (get_or-set_same lists key v d within) (now come))
     below
+
+-- ---- keys
+
+or_false : (b : Bool) → b || false ≡ b
+or_false true = refl
+or_false false = refl
+
+-- the one marker of an entry, or none
+pub entry_by_one : (entry : EntryValue) (marker : MarkerValue) → entry.marker ≡ Some marker → (ks : List IndexKey)
+    → map (read_by (marker ∷ []) (is_some entry.requires_python) (is_any entry.wheels)) ks ≡ map (λ key. entry_reads key entry) ks
+entry_by_one entry marker is [] = refl
+entry_by_one entry marker is (OfTags ∷ ks) = ap (λ rest. is_any entry.wheels ∷ rest) (entry_by_one entry marker is ks)
+entry_by_one entry marker is (Marked key ∷ ks) =
+    let same : read_by (marker ∷ []) (is_some entry.requires_python) (is_any entry.wheels) (Marked key) ≡ entry_reads (Marked key) entry =
+    ap (λ b. is_python key && is_some entry.requires_python || b) (or_false (reads key marker.tree) ∙ ap (marker_reads key) (sym is)) in
+    ap (λ b. b ∷ map (read_by (marker ∷ []) (is_some entry.requires_python) (is_any entry.wheels)) ks) same
+    ∙ ap (λ rest. entry_reads (Marked key) entry ∷ rest) (entry_by_one entry marker is ks)
+
+-- the lists, where each is known by its place
+pub lists_are : {K : Type 0} (lists : List (Vec ℕ Global)) (ks : List K) (f : K → List ℕ) (k : K) → length lists ≡ length ks
+    → ((i : ℕ) → i < length ks → list_at lists i ≡ f (get_or ks i k)) → numbers_in lists ≡ map f ks
+lists_are lists ks f k long at =
+    let one = length-map lists (λ (list : Vec ℕ Global). list.items) in
+    let two = length-map ks f in
+    ext_get_or [] (numbers_in lists) (map f ks) (omega (arith, one, two, long))
+    (λ i within. at i (omega (arith, within, one, long)) ∙ sym (get_or-map f ks i k [] (omega (arith, within, one, long))))
+
+-- lists each of which is empty
+pub all_empty : (lists : List (Vec ℕ Global)) → ((i : ℕ) (v : Vec ℕ Global) → i < length lists → (get_or lists i v).items ≡ []) → (key : ℕ) → list_at lists key ≡ []
+all_empty [] empty key = refl
+all_empty (x ∷ xs) empty zero = empty 0 x (omega arith)
+all_empty (x ∷ xs) empty (suc key) = all_empty xs (λ i v within. empty (suc i) v (omega arith)) key
+
+-- the lists of the head alone
+head_alone : (b : Bool) → moved 0 false b [] ≡ and_head b []
+head_alone true = refl
+head_alone false = refl
+
+pub head_lists : (lists empty : List (Vec ℕ Global)) (head : HeadValue) (read none : List Bool) → length lists ≡ 14
+    → ((key : ℕ) → list_at empty key ≡ []) → read ≡ map (λ key. head_reads key head) keys → ((key : ℕ) → key < 14 → get_or none key false ≡ false)
+    → ((key : ℕ) → key < 14 → list_at lists key ≡ moved 0 (get_or none key false) (get_or read key false) (list_at empty key))
+    → numbers_in lists ≡ map (λ key. and_head (head_reads key head) []) keys
+head_lists lists empty head read none long nothing is_read is_none changed =
+    lists_are lists keys (λ key. and_head (head_reads key head) []) OfTags long (λ i within.
+    changed i within ∙ rw (is_none i within, nothing i) (ap (λ b. moved 0 false b []) (ap (λ bs. get_or bs i false) is_read ∙ get_or-map (λ key. head_reads key head) keys i OfTags false within))
+    ∙ head_alone (head_reads (get_or keys i OfTags) head))
+
+-- lists that keep their numbers are as many
+pub same_length : (one other : List (Vec ℕ Global)) → numbers_in one ≡ numbers_in other → length one ≡ length other
+same_length one other same =
+    sym (length-map one (λ (list : Vec ℕ Global). list.items)) ∙ ap length same ∙ length-map other (λ (list : Vec ℕ Global). list.items)
+
+-- ---- a number that moves
+
+pub moved_same : (n : ℕ) (b : Bool) (ns : List ℕ) → ns ≡ moved n b b ns
+moved_same n true ns = refl
+moved_same n false ns = refl
+
+-- into one list and out of another
+pub moved_two : (n was is entry : ℕ) (old mid new : List ℕ) → (was ≡ is → ⊥) → mid ≡ cond (nat_eq n is) (moved entry false true old) old
+    → new ≡ cond (nat_eq n was) (moved entry true false mid) mid → new ≡ moved entry (nat_eq n was) (nat_eq n is) old
+moved_two n was is entry old mid new differ one two =
+    two ∙ ap (λ m. cond (nat_eq n was) (moved entry true false m) m) one
+    ∙ by (nat_eq n was) (nat_eq n is) (λ a b. differ (sym (eqb-true n was a) ∙ eqb-true n is b))
+  where
+    by : (x y : Bool) → (x ≡ true → y ≡ true → ⊥)
+        → cond x (moved entry true false (cond y (moved entry false true old) old)) (cond y (moved entry false true old) old) ≡ moved entry x y old
+    by true true apart = absurd (apart refl refl)
+    by true false apart = refl
+    by false true apart = refl
+    by false false apart = refl
+
+pub moved_in : (n is entry : ℕ) (old new : List ℕ) → new ≡ cond (nat_eq n is) (moved entry false true old) old → new ≡ moved entry false (nat_eq n is) old
+moved_in n is entry old new one = one ∙ by (nat_eq n is)
+  where
+    by : (y : Bool) → cond y (moved entry false true old) old ≡ moved entry false y old
+    by true = refl
+    by false = refl
+
+pub moved_out : (n was entry : ℕ) (old new : List ℕ) → new ≡ cond (nat_eq n was) (moved entry true false old) old → new ≡ moved entry (nat_eq n was) false old
+moved_out n was entry old new one = one ∙ by (nat_eq n was)
+  where
+    by : (y : Bool) → cond y (moved entry true false old) old ≡ moved entry y false old
+    by true = refl
+    by false = refl

@@ -3,6 +3,7 @@ mod IndexLemmas
 pub mod NameLemmas
 pub mod PassLemmas
 pub mod VerdictLemmas
+pub mod WriteLemmas
 pub mod ReaderLemmas
 pub mod KeptLemmas
 pub mod SessionLemmas
@@ -14,3 +15,4 @@ mod DistinctLemmas
 mod TextLemmas
 mod VariableLemmas
 pub mod AnswerLemmas
+pub mod AgainLemmas

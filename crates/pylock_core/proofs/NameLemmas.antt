@@ -1,6 +1,5 @@
 -- Lemmas on the names of a session: their numbers, and their policies and entries under these.
-use Rattle.std.proofs.Common.{◌≡◌, ℕ, suc, zero, ◌+◌, ◌<◌, ◌≤◌, ◌∙◌, Bool, true, false, List, [], ◌∷◌, ◌++◌, map, length, get_or, set, Option, Some, None, String, string_bytes, unwrap_or, cond, subst, ap, sym, refl, arith, vec_len}
-use Rattle.std.specs.BTreeMap.{BTreeMap, get_by_text}
+use Rattle.std.proofs.Common.{◌≡◌, ℕ, suc, zero, ◌+◌, ◌<◌, ◌∙◌, Bool, true, false, List, [], ◌∷◌, ◌++◌, map, length, get_or, set, Option, Some, None, String, string_bytes, unwrap_or, cond, ap, sym, refl, arith}
 use Rattle.std.specs.Cmp.Lexicographic.{slice_cmp, nat_list_cmp_total}
 use Rattle.std.specs.FinMap as map_of
 use Rattle.std.specs.FinMap.{get-insert, get-remove, get-empty, same_map, slice_cmp-IsAntisymmetric, nat_cmp-IsAntisymmetric}
@@ -48,7 +47,7 @@ gains old new name n updated = record {
   others = λ q ne. updated q ∙ ap (λ b. cond b (Some n) (old q)) (text_other name q ne);
 }
 
-no_number : {P : Type 0} (x : Option ℕ) (n : ℕ) → x ≡ None → x ≡ Some n → P
+pub no_number : {P : Type 0} (x : Option ℕ) (n : ℕ) → x ≡ None → x ≡ Some n → P
 no_number x n none some = let e : ◌≡◌ {A = Option ℕ} None (Some n) = sym none ∙ some in cc
 
 some_number : (m n : ℕ) (x : Option ℕ) → x ≡ Some m → x ≡ Some n → m ≡ n

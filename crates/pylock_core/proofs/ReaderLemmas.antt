@@ -1,5 +1,5 @@
 -- Lemmas on the numbers of the rows that pass a test, and on what a change of a row makes of them.
-use Rattle.std.proofs.Common.{◌≡◌, ℕ, suc, zero, ◌+◌, ◌<◌, ◌≤◌, ◌∙◌, Bool, true, false, nat_eq, nat_lt, List, [], ◌∷◌, ◌++◌, map, length, get_or, set, Option, Some, None, cond, subst, ap, sym, refl, eq-eqb, arith}
+use Rattle.std.proofs.Common.{◌≡◌, ℕ, suc, zero, ◌+◌, ◌<◌, ◌∙◌, Bool, true, false, List, [], ◌∷◌, map, length, get_or, set, Option, Some, None, cond, subst, ap, sym, refl, eq-eqb, arith}
 use Rattle.std.specs.List.{filter}
 use Rattle.std.proofs.lemmas.Bool.{ne_eqb, lt-ltb, le-ltb}
 use Rattle.pylock_core.specs.Inner.Index.{Rises, put_in, take_out, moved}
@@ -12,11 +12,11 @@ abbrev pub passing : {X : Type 0} → (X → Bool) → ℕ → List (Option X) �
 passing test n rows = numbers_where test (in_rows n rows)
 
 -- with a row before them
-abbrev with_row : Bool → ℕ → List ℕ → List ℕ
+abbrev pub with_row : Bool → ℕ → List ℕ → List ℕ
 with_row true n ns = n ∷ ns
 with_row false n ns = ns
 
-passing_row : {X : Type 0} (test : X → Bool) (n : ℕ) (row : Option X) (rows : List (Option X))
+pub passing_row : {X : Type 0} (test : X → Bool) (n : ℕ) (row : Option X) (rows : List (Option X))
     → passing test n (row ∷ rows) ≡ with_row (passes test row) n (passing test (n + 1) rows)
 passing_row test n None rows = refl
 passing_row test n (Some x) rows = by (test x)
@@ -72,21 +72,6 @@ passing_set test n m (suc k) (old ∷ rows) row here within =
     ∙ ap (with_row (passes test old) m) (passing_set test n (m + 1) k rows row (omega (arith, here)) (omega arith))
     ∙ sym (moved_later (passes test (get_or rows k None)) (passes test row) (passes test old) n m (passing test (m + 1) rows) (omega (arith, here)))
     ∙ ap (moved n (passes test (get_or rows k None)) (passes test row)) (sym (passing_row test m old rows))
-
--- a row is added
-pub passing_push : {X : Type 0} (test : X → Bool) (n m : ℕ) (rows : List (Option X)) (x : X) → n ≡ m + length rows
-    → passing test m (rows ++ Some x ∷ []) ≡ moved n false (test x) (passing test m rows)
-passing_push test n m [] x here =
-    let same : n ≡ m = omega (arith, here) in
-    passing_row test m (Some x) [] ∙ moved_here false (test x) m [] tt ∙ ap (λ j. moved j false (test x) []) (sym same) ∙ none (test x)
-  where
-    none : (b : Bool) → moved n false b (with_row false m []) ≡ moved n false b []
-    none b = refl
-passing_push test n m (old ∷ rows) x here =
-    passing_row test m old (rows ++ Some x ∷ [])
-    ∙ ap (with_row (passes test old) m) (passing_push test n (m + 1) rows x (omega (arith, here)))
-    ∙ sym (moved_later false (test x) (passes test old) n m (passing test (m + 1) rows) (omega (arith, here)))
-    ∙ ap (moved n false (test x)) (sym (passing_row test m old rows))
 
 -- the head's number stands before all
 pub moved_head : (was is b : Bool) (n : ℕ) (ns : List ℕ) → 0 < n → and_head b (moved n was is ns) ≡ moved n was is (and_head b ns)

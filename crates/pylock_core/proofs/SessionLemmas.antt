@@ -1,37 +1,34 @@
 -- Lemmas on the rows of a session and the entries that they belong to.
-use Rattle.std.proofs.Common.{◌≡◌, ℕ, suc, zero, ◌+◌, ◌-◌, ◌<◌, ◌≤◌, ◌∙◌, Bool, true, false, ◌||◌, nat_eq, nat_lt, List, [], ◌∷◌, ◌++◌, map, length, get_or, set, Option, Some, None, IsSome, IfSome, is_some, option_map, Result, Ok, Err, cond, append_assoc, subst, ap, sym, refl, eq-eqb, arith}
+use Rattle.std.proofs.Common.{◌≡◌, ℕ, suc, zero, ◌+◌, ◌-◌, ◌<◌, ◌≤◌, ◌∙◌, Bool, true, false, ◌||◌, nat_eq, nat_lt, List, [], ◌∷◌, ◌++◌, length, get_or, set, Option, Some, None, IsSome, IfSome, is_some, option_map, Result, Ok, Err, cond, append_assoc, subst, ap, sym, refl, eq-eqb, arith}
 use Rattle.std.specs.List.{enumerate_from}
 use Rattle.std.specs.Str.{bytes_eq}
 use Rattle.std.proofs.lemmas.Bool.{ne_eqb, lt-ltb}
-use Rattle.std.proofs.lemmas.List.{get_or_default}
+use Rattle.std.proofs.lemmas.List.{get_or_default, map-append}
 use Rattle.pyver_core.specs.Options.{either}
 use Rattle.pymark_core.specs.Environment.{EnvironmentValue}
 use Rattle.pywheel_core.specs.Tag.{TagValue}
 use Rattle.pylock_core.specs.Entry.{EntryValue, FileValue, VcsValue, DirectoryValue, ArchiveValue}
-use Rattle.pylock_core.specs.Inner.Names.{IsNames, IsNumbering, number_in, policies_in, policy_at}
-use Rattle.pylock_core.specs.Inner.Parts.{IsJudged, IsNamed, IsSession, OfBoth, OfRows, row_again, rows_again, shown, sources_of, state_of}
-use Rattle.pylock_core.specs.Inner.Pass.{NamesBelow, checked_standing, conflict_among, file_source, is_number, pick_rows, picks_after_rows, put_row, row_source, row_standing, slate_rows, source_from}
+use Rattle.pylock_core.specs.Inner.Names.{IsNames, members_of, number_in, policies_in, policy_at}
+use Rattle.pylock_core.specs.Inner.Parts.{IsJudged, IsNamed, IsSession, OfBoth, OfRows, shown, sources_of, state_of}
+use Rattle.pylock_core.specs.Inner.Pass.{NamesBelow, checked_standing, conflict_among, file_source, is_number, pick_rows, picks_after_rows, put_row, row_source, slate_rows, source_from}
 use Rattle.pylock_core.specs.Inner.Rows.{in_rows}
-use Rattle.pylock_core.specs.Session.Judgement.{VerdictValue, verdict_of}
-use Rattle.pylock_core.specs.Session.State.{Policies, State, entry_at, if_entry, policy_of, with_entry, with_next, without}
-use Rattle.pylock_core.specs.Session.Steps.{FirstFault, answer, answer_after, answer_by, best_wheel, by_standing, has_conflict, head_fault, is_among, pick_before, picks, picks_after, put_before, sdist_source, slate, source_of, standing}
-use Rattle.pylock_core.specs.declared.answer.Answer.{Answer}
+use Rattle.pylock_core.specs.Session.Judgement.{all_numbers, verdict_of}
+use Rattle.pylock_core.specs.Session.State.{State, entry_at, if_entry, policy_of, with_entry, with_next, without}
+use Rattle.pylock_core.specs.Session.Steps.{FirstFault, answer, answer_after, answer_by, best_wheel, by_standing, has_conflict, is_among, pick_before, picks, picks_after, put_before, sdist_source, slate, source_of, standing}
 use Rattle.pylock_core.specs.declared.answer.Answer.TheVariants.{Fault}
 use Rattle.pylock_core.specs.declared.answer.FaultCode.{FaultCode}
 use Rattle.pylock_core.specs.declared.answer.FaultCode.TheVariants.{Ambiguous, Sources as ManySources}
-use Rattle.pylock_core.specs.declared.answer.Pick.{Pick}
-use Rattle.pylock_core.specs.declared.answer.PickSource.{PickSource}
 use Rattle.pylock_core.specs.declared.answer.PickSource.TheVariants as source
 use Rattle.pylock_core.specs.declared.answer.Standing.{Standing}
 use Rattle.pylock_core.specs.declared.answer.Standing.TheVariants.{Skipped, Faulty, Active}
 use Rattle.pylock_core.specs.declared.edit.EditError.{EditError}
-use Rattle.pylock_core.specs.declared.edit.EditError.TheVariants.{TooMany, NoEntry}
+use Rattle.pylock_core.specs.declared.edit.EditError.TheVariants.{TooMany}
 use Rattle.pylock_core.specs.declared.edit.Policy.{Policy}
 use Rattle.pylock_core.specs.declared.edit.Policy.TheVariants.{Any, Wheel, Source}
 use Rattle.pylock_core.specs.declared.session.names.Names.{Names}
 use Rattle.pylock_core.specs.declared.session.parts.Parts.{Parts}
 use Rattle.pylock_core.specs.declared.session.row.Row.{Row}
-use Rattle.pylock_core.proofs.NameLemmas.{policy_of_in, policy_under, length_more, same_or_not, text_itself, text_other}
+use Rattle.pylock_core.proofs.NameLemmas.{policy_of_in, policy_under, length_more, same_or_not, text_itself}
 
 -- ---- entries with their rows
 
@@ -56,7 +53,7 @@ of_rows_push P [] (s ∷ rs) e r h one = absurd h
 of_rows_push P (d ∷ es) [] e r h one = absurd h
 of_rows_push P (d ∷ es) (s ∷ rs) e r h one = (h.0, of_rows_push P es rs e r h.1 one)
 
-of_both_weaker : (P Q : EntryValue → Row → Type 0) → ((e : EntryValue) (r : Row) → P e r → Q e r) → (e : Option EntryValue) (r : Option Row) → OfBoth P e r → OfBoth Q e r
+pub of_both_weaker : (P Q : EntryValue → Row → Type 0) → ((e : EntryValue) (r : Row) → P e r → Q e r) → (e : Option EntryValue) (r : Option Row) → OfBoth P e r → OfBoth Q e r
 of_both_weaker P Q weaker None None h = tt
 of_both_weaker P Q weaker None (Some r) h = absurd h
 of_both_weaker P Q weaker (Some e) None h = absurd h
@@ -79,38 +76,6 @@ of_rows_and P Q [] [] h k = tt
 of_rows_and P Q [] (r ∷ rs) h k = absurd h
 of_rows_and P Q (e ∷ es) [] h k = absurd h
 of_rows_and P Q (e ∷ es) (r ∷ rs) h k = (of_both_and P Q e r h.0 k.0, of_rows_and P Q es rs h.1 k.1)
-
--- ---- rows that are judged again
-
-named_one : (names : Names) (environment : EnvironmentValue) (tags : List TagValue) (policies : List Policy) (e : Option EntryValue) (r : Option Row)
-    → OfBoth (IsNamed names) e r → OfBoth (IsNamed names) e (row_again environment tags policies e r)
-named_one names environment tags policies None None h = tt
-named_one names environment tags policies None (Some r) h = absurd h
-named_one names environment tags policies (Some e) None h = absurd h
-named_one names environment tags policies (Some e) (Some r) h = record { name = h.name; sources = h.sources }
-
-pub named_again : (names : Names) (environment : EnvironmentValue) (tags : List TagValue) (policies : List Policy) (es : List (Option EntryValue)) (rs : List (Option Row))
-    → OfRows (IsNamed names) es rs → OfRows (IsNamed names) es (rows_again environment tags policies es rs)
-named_again names environment tags policies [] [] h = tt
-named_again names environment tags policies [] (r ∷ rs) h = absurd h
-named_again names environment tags policies (e ∷ es) [] h = absurd h
-named_again names environment tags policies (e ∷ es) (r ∷ rs) h =
-    (named_one names environment tags policies e r h.0, named_again names environment tags policies es rs h.1)
-
-judged_one : (names : Names) (environment : EnvironmentValue) (tags : List TagValue) (policies : List Policy) (e : Option EntryValue) (r : Option Row)
-    → OfBoth (IsNamed names) e r → OfBoth (IsJudged environment tags policies) e (row_again environment tags policies e r)
-judged_one names environment tags policies None None h = tt
-judged_one names environment tags policies None (Some r) h = absurd h
-judged_one names environment tags policies (Some e) None h = absurd h
-judged_one names environment tags policies (Some e) (Some r) h = refl
-
-pub judged_again : (names : Names) (environment : EnvironmentValue) (tags : List TagValue) (policies : List Policy) (es : List (Option EntryValue)) (rs : List (Option Row))
-    → OfRows (IsNamed names) es rs → OfRows (IsJudged environment tags policies) es (rows_again environment tags policies es rs)
-judged_again names environment tags policies [] [] h = tt
-judged_again names environment tags policies [] (r ∷ rs) h = absurd h
-judged_again names environment tags policies (e ∷ es) [] h = absurd h
-judged_again names environment tags policies (e ∷ es) (r ∷ rs) h =
-    (judged_one names environment tags policies e r h.0, judged_again names environment tags policies es rs h.1)
 
 -- ---- names
 
@@ -137,10 +102,11 @@ names_below names is (e ∷ es) (r ∷ rs) h (suc k) row stands = names_below na
 pub policy_here : (names : Names) (q : List ℕ) (n : ℕ) → number_in names q ≡ Some n → policy_of (policies_in names) q ≡ policy_at names.policies.items n
 policy_here names q n is = policy_of_in names q ∙ ap (policy_under names.policies.items) is
 
--- names that keep their numbers and policies
+-- names that keep their numbers, policies and entries
 pub record Kept (old new : Names) : Type 0 where
   pub numbers : (q : List ℕ) (n : ℕ) → number_in old q ≡ Some n → number_in new q ≡ Some n
   pub policies : policies_in new ≡ policies_in old
+  pub members : (q : List ℕ) → members_of new q ≡ members_of old q
 
 pub named_kept : (old new : Names) → Kept old new → (es : List (Option EntryValue)) (rs : List (Option Row)) → OfRows (IsNamed old) es rs → OfRows (IsNamed new) es rs
 named_kept old new kept es rs h = of_rows_weaker (IsNamed old) (IsNamed new) (λ e r is. record { name = kept.numbers e.name r.name is.name; sources = is.sources }) es rs h
@@ -161,6 +127,9 @@ session_kept parts names kept is s = record {
   judged = judged_kept parts.names names kept parts.environment parts.tags parts.entries.items parts.rows.items s.named s.judged;
   head = s.head;
   names = is;
+  members = λ q. kept.members q ∙ s.members q;
+  index = s.index;
+  spare = s.spare;
 }
 
 pub shown_kept : (parts : Parts) (names : Names) → Kept parts.names names → shown (record parts { names = names }) ≡ shown parts
@@ -270,7 +239,7 @@ stand_equal names environment tags n e r both s t st shared other so conflict al
 abbrev SameNames : Names → List (List ℕ) → List ℕ → Type 0
 SameNames names ns ms = (q : List ℕ) (n : ℕ) → number_in names q ≡ Some n → is_among ns q ≡ is_number ms n
 
-same_number : (names : Names) → IsNames names → (q p : List ℕ) (n m : ℕ) → number_in names q ≡ Some n → number_in names p ≡ Some m → bytes_eq q p ≡ nat_eq n m
+pub same_number : (names : Names) → IsNames names → (q p : List ℕ) (n m : ℕ) → number_in names q ≡ Some n → number_in names p ≡ Some m → bytes_eq q p ≡ nat_eq n m
 same_number names is q p n m has_q has_p =
     same_or_not q p
     (λ same. let both : ◌≡◌ {A = Option ℕ} (Some n) (Some m) = sym has_q ∙ ap (number_in names) same ∙ has_p in
@@ -371,17 +340,6 @@ next_state state entry es more entries last room is =
     ap (λ front. front ++ (state.last + 1, entry) ∷ []) entries ∙ sym (in_rows_push 1 (state.last + 1) es entry (omega (arith, last))) ∙ ap (in_rows 1) (sym is) in
     rw (lt-ltb state.last 100000 less) (ap Ok (λ i. record state { entries = rows i; last = longer i }))
 
--- the rows of a session in which all is judged again
-pub named_rows : (parts : Parts) (environment : EnvironmentValue) (tags : List TagValue) (policies : List Policy) (rows : List (Option Row)) → IsSession parts
-    → rows ≡ rows_again environment tags policies parts.entries.items parts.rows.items → OfRows (IsNamed parts.names) parts.entries.items rows
-named_rows parts environment tags policies rows s is =
-    subst (OfRows (IsNamed parts.names) parts.entries.items) (sym is) (named_again parts.names environment tags policies parts.entries.items parts.rows.items s.named)
-
-pub judged_rows : (parts : Parts) (environment : EnvironmentValue) (tags : List TagValue) (policies : List Policy) (rows : List (Option Row)) → IsSession parts
-    → rows ≡ rows_again environment tags policies parts.entries.items parts.rows.items → OfRows (IsJudged environment tags policies) parts.entries.items rows
-judged_rows parts environment tags policies rows s is =
-    subst (OfRows (IsJudged environment tags policies) parts.entries.items) (sym is) (judged_again parts.names environment tags policies parts.entries.items parts.rows.items s.named)
-
 pub session_even : (parts : Parts) → IsSession parts → length parts.rows.items ≡ length parts.entries.items
 session_even parts s = same_length (IsNamed parts.names) parts.entries.items parts.rows.items s.named
 
@@ -399,17 +357,6 @@ pub session_fault : (parts : Parts) (code : FaultCode) → IsSession parts → p
 session_fault parts code s some =
     ap (λ fault. answer_after fault (answer_by (picks_after (slate (in_rows 1 parts.entries.items) parts.environment []) parts.tags (policies_in parts.names)))) (sym some ∙ s.head)
 
--- the rows under a policy that is written
-pub session_policy : (parts : Parts) (one two : Names) (rows : List (Option Row)) → IsSession parts → Kept parts.names one → ((q : List ℕ) → number_in two q ≡ number_in one q)
-    → rows ≡ rows_again parts.environment parts.tags two.policies.items parts.entries.items parts.rows.items
-    → OfRows (IsNamed two) parts.entries.items rows × OfRows (IsJudged parts.environment parts.tags two.policies.items) parts.entries.items rows
-session_policy parts one two rows s kept numbers is =
-    let named_one = named_kept parts.names one kept parts.entries.items parts.rows.items s.named in
-    let named_two = of_rows_weaker (IsNamed one) (IsNamed two) (λ e r h. record { name = numbers e.name ∙ h.name; sources = h.sources }) parts.entries.items parts.rows.items named_one in (
-      subst (OfRows (IsNamed two) parts.entries.items) (sym is) (named_again two parts.environment parts.tags two.policies.items parts.entries.items parts.rows.items named_two),
-      subst (OfRows (IsJudged parts.environment parts.tags two.policies.items) parts.entries.items) (sym is) (judged_again two parts.environment parts.tags two.policies.items parts.entries.items parts.rows.items named_two),
-    )
-
 -- the state in which an entry was written
 pub written_state : (p : Parts) (old : State) (es : List (Option EntryValue)) (f : List (ℕ × EntryValue) → List (ℕ × EntryValue)) → state_of p ≡ old
     → length es ≡ length p.entries.items → in_rows 1 es ≡ f (in_rows 1 p.entries.items)
@@ -419,11 +366,6 @@ written_state p old es f same long rows =
     (λ i. record (state_of p) { entries = rows i; last = long i }) in
     let next : State → State = λ s. record s { entries = f s.entries } in
     first ∙ ap next same
-
-pub session_below_kept : (parts : Parts) (names : Names) (count : ℕ) → IsSession parts → Kept parts.names names → IsNames names → count ≡ length names.policies.items → NamesBelow count parts.rows.items
-session_below_kept parts names count s kept is same =
-    subst (λ (n : ℕ). NamesBelow n parts.rows.items) (sym same)
-    (names_below names is parts.entries.items parts.rows.items (named_kept parts.names names kept parts.entries.items parts.rows.items s.named))
 
 -- ---- numbers
 
@@ -469,4 +411,17 @@ with_all_next state next entry rest is = by (nat_lt state.last 100000) is
 
     by : (b : Bool) → cond b (Ok more) (Err TooMany) ≡ Ok next → with_all next rest ≡ with_all state (entry ∷ rest)
     by true same = let inner : next ≡ more = sym (ap (λ r. unwrap_ok more r) same) in ap (λ s. with_all s rest) inner ∙ front
+    by false same = let e : ◌≡◌ {A = Result State EditError} (Err TooMany) (Ok next) = same in cc
+
+-- the numbers with that of the entry that was added
+pub all_numbers_next : (state next : State) (entry : EntryValue) → with_next entry state ≡ Ok next → all_numbers next ≡ all_numbers state ++ (state.last + 1) ∷ []
+all_numbers_next state next entry is = by (nat_lt state.last 100000) is
+  where
+    more : State
+    more = record state { entries = state.entries ++ (state.last + 1, entry) ∷ []; last = state.last + 1 }
+
+    by : (b : Bool) → cond b (Ok more) (Err TooMany) ≡ Ok next → all_numbers next ≡ all_numbers state ++ (state.last + 1) ∷ []
+    by true same =
+        let inner : next ≡ more = sym (ap (λ r. unwrap_ok more r) same) in
+        ap all_numbers inner ∙ ap (λ ns. 0 ∷ ns) (map-append (λ e. e.0) state.entries ((state.last + 1, entry) ∷ []))
     by false same = let e : ◌≡◌ {A = Result State EditError} (Err TooMany) (Ok next) = same in cc

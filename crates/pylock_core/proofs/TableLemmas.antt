@@ -6,7 +6,7 @@ use Rattle.std.proofs.lemmas.Map.Text.{is_eq-slice_cmp}
 use Rattle.std.proofs.lemmas.Slice.Eq.{bytes_eq-Decides}
 use Rattle.std.specs.BTreeMap.{is_at}
 use Rattle.std.specs.Cmp.Lexicographic.{slice_cmp}
-use Rattle.std.specs.Map.{lookup, remove_entry}
+use Rattle.std.specs.Map.{lookup, set_value}
 use Rattle.std.specs.Ordering.{match_ordering}
 use Rattle.toml.proofs.Views.{view-lookup}
 use Rattle.toml.specs.Data.{get_member, same_key}
@@ -29,37 +29,40 @@ same_both Less x y other = refl
 same_both Equal x y other = absurd (false≢true (sym other))
 same_both Greater x y other = refl
 
--- a table without its first entry, seen where the key that is looked up isn't the one taken out
-past_taken : (other key : List ℕ) (e : String Global × Value) (es left : List (String Global × Value))
+-- a table whose first entry may have got another value, seen where the key that is looked up isn't the one written at
+past_written : (other key : List ℕ) (w : Value) (e : String Global × Value) (es left : List (String Global × Value))
     → same_key other key ≡ false → get_member other (members_view left) ≡ get_member other (members_view es)
-    → get_member other (members_view (cond (same_key key (string_bytes e.0)) es (e ∷ left)))
+    → get_member other (members_view (cond (same_key key (string_bytes e.0)) ((e.0, w) ∷ es) (e ∷ left)))
     ≡ get_member other (members_view (e ∷ es))
-past_taken other key e es left differs same =
+past_written other key w e es left differs same =
     ⊎_elim here there (cases_Bool (same_key key (string_bytes e.0)))
   where
     order : Ordering
     order = slice_cmp nat_cmp other (string_bytes e.0)
 
+    apart_from : same_key key (string_bytes e.0) ≡ true → is_eq order ≡ false
+    apart_from tie = ap (λ k. same_key other k) (sym (same_key_is key (string_bytes e.0) tie)) ∙ differs
+
     here : same_key key (string_bytes e.0) ≡ true
-        → get_member other (members_view (cond (same_key key (string_bytes e.0)) es (e ∷ left)))
+        → get_member other (members_view (cond (same_key key (string_bytes e.0)) ((e.0, w) ∷ es) (e ∷ left)))
         ≡ get_member other (members_view (e ∷ es))
     here tie =
-        ap (λ rest. get_member other (members_view rest)) (cond-true _ es (e ∷ left) tie)
-        ∙ sym (same_both order (get_member other (members_view es)) (Some (view e.1))
-        (ap (λ k. same_key other k) (sym (same_key_is key (string_bytes e.0) tie)) ∙ differs))
+        ap (λ rest. get_member other (members_view rest)) (cond-true _ ((e.0, w) ∷ es) (e ∷ left) tie)
+        ∙ same_both order (get_member other (members_view es)) (Some (view w)) (apart_from tie)
+        ∙ sym (same_both order (get_member other (members_view es)) (Some (view e.1)) (apart_from tie))
 
     there : same_key key (string_bytes e.0) ≡ false
-        → get_member other (members_view (cond (same_key key (string_bytes e.0)) es (e ∷ left)))
+        → get_member other (members_view (cond (same_key key (string_bytes e.0)) ((e.0, w) ∷ es) (e ∷ left)))
         ≡ get_member other (members_view (e ∷ es))
     there apart =
-        ap (λ rest. get_member other (members_view rest)) (cond-false _ es (e ∷ left) apart)
+        ap (λ rest. get_member other (members_view rest)) (cond-false _ ((e.0, w) ∷ es) (e ∷ left) apart)
         ∙ ap (λ rest. match_ordering order rest (Some (view e.1)) rest) same
 
--- a look-up of a key that isn't the one taken out finds what it found
-pub other_member : (other key : List ℕ) (es : List (String Global × Value)) → same_key other key ≡ false
-    → get_member other (members_view (remove_entry (is_at (λ k. slice_cmp nat_cmp key (string_bytes k))) es))
+-- a look-up of a key that isn't the one written at finds what it found
+pub other_member : (other key : List ℕ) (w : Value) (es : List (String Global × Value)) → same_key other key ≡ false
+    → get_member other (members_view (set_value (is_at (λ k. slice_cmp nat_cmp key (string_bytes k))) es w))
     ≡ get_member other (members_view es)
-other_member other key [] differs = refl
-other_member other key (e ∷ es) differs =
-    past_taken other key e es (remove_entry (is_at (λ k. slice_cmp nat_cmp key (string_bytes k))) es) differs
-    (other_member other key es differs)
+other_member other key w [] differs = refl
+other_member other key w (e ∷ es) differs =
+    past_written other key w e es (set_value (is_at (λ k. slice_cmp nat_cmp key (string_bytes k))) es w) differs
+    (other_member other key w es differs)

@@ -1,4 +1,5 @@
 -- What serves the contracts of private functions alone.
+pub mod Again
 pub mod Index
 pub mod Names
 pub mod Parts

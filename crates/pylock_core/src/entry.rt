@@ -92,28 +92,28 @@ impl Entry {
     pub fn vcs(&self) -> Option<&Vcs>
         ensures { option_copied result ≡ self.now.vcs }
     {
-        self.sources.vcs.as_ref()
+        self.sources.vcs.as_deref()
     }
 
     /// The key `directory`.
     pub fn directory(&self) -> Option<&Directory>
         ensures { option_copied result ≡ self.now.directory }
     {
-        self.sources.directory.as_ref()
+        self.sources.directory.as_deref()
     }
 
     /// The key `archive`.
     pub fn archive(&self) -> Option<&Archive>
         ensures { option_copied result ≡ self.now.archive }
     {
-        self.sources.archive.as_ref()
+        self.sources.archive.as_deref()
     }
 
     /// The key `sdist`.
     pub fn sdist(&self) -> Option<&Sdist>
         ensures { option_copied result ≡ self.now.sdist }
     {
-        self.sources.sdist.as_ref()
+        self.sources.sdist.as_deref()
     }
 
     /// The wheels of the key `wheels`, in their order.

@@ -10,6 +10,7 @@ ghost use Rattle.pylock_core.specs.Entry.Fields.{optional_text_in, flag_in, item
 
 use pyver_core::{is_name, normal_name};
 use std::alloc::{AllocError, Global};
+use std::mem;
 use toml::{Table, Value};
 
 /// Why a field was not read.
@@ -29,13 +30,17 @@ impl<E: Into<AllocError> + Drop> From<E> for FieldError {
     }
 }
 
-/// Takes the value of the key out of the table.
+/// Takes the value of the key, once, and leaves a small one in its place: to take a member out of a
+/// table that is soon let go would cost more.
 pub(crate) fn take(table: &mut Table, key: &str) -> Option<Value>
     ensures taken { option_map view result ≡ get_member key.now (table_view table.old) }
     ensures others { (other : List ℕ) → same_key other key.now ≡ false
         → get_member other (table_view table.new) ≡ get_member other (table_view table.old) }
 {
-    table.remove(key)
+    match table.get_mut(key) {
+        Some(value) => Some(mem::replace(value, Value::Boolean(false))),
+        None => None,
+    }
 }
 
 /// Refuses where the test fails.

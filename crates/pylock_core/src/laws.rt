@@ -8,7 +8,8 @@ ghost use Rattle.pymark_core.specs.declared.variable.Var.TheVariants.{PythonFull
 ghost use Rattle.pywheel_core.specs.Tag.{TagValue};
 ghost use Rattle.pylock_core.specs.Entry.{EntryValue};
 ghost use Rattle.pylock_core.specs.Lock.{HeadValue};
-ghost use Rattle.pylock_core.specs.Session.Judgement.{AgreeAtKey, IndexKey, entry_reads, head_reads, verdict_of};
+ghost use Rattle.pylock_core.specs.Session.Judgement.{AgreeAtKey, IndexKey, entry_reads};
+ghost use Rattle.pylock_core.specs.Session.Judgement.{head_reads, verdict_of};
 ghost use Rattle.pylock_core.specs.Session.Picks.{IsFaultIn, IsPickAmong};
 ghost use Rattle.pylock_core.specs.Session.State.{State};
 ghost use Rattle.pylock_core.specs.Session.Steps.{answer, head_fault, python_check};
@@ -27,10 +28,11 @@ pub fn python_check_reads()
         → python_check set e ≡ python_check set f }
 {}
 
-/// An entry reads nothing but its keys: two environments and tag lists that agree on them give it the
-/// same verdict under a policy of its name.
+/// An entry reads nothing but its keys: two environments and tag lists that agree on them give it
+/// the same verdict under a policy of its name.
 pub fn entry_reads()
-    ensures { (entry : EntryValue) (policy : Policy) (e f : EnvironmentValue) (tags others : List TagValue)
+    ensures { (entry : EntryValue) (policy : Policy)
+        (e f : EnvironmentValue) (tags others : List TagValue)
         → ((key : IndexKey) → entry_reads key entry ≡ true → AgreeAtKey key e f tags others)
         → verdict_of entry e tags policy ≡ verdict_of entry f others policy }
 {

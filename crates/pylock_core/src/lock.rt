@@ -3,13 +3,14 @@ ghost use Rattle.std.specs.Prelude.{◌≡◌, ◌≤◌, length, map, string_by
 ghost use Rattle.std.specs.Option.{option_copied};
 ghost use Rattle.pylock_core.specs.Lock.{HeadValue};
 
-mod distinct;
 mod head;
+mod names;
 mod packages;
 mod read;
 
 use crate::entry::Entry;
 pub(crate) use head::Head;
+pub(crate) use names::HeadNames;
 use pymark_core::Marker;
 use pyver_core::SpecifierSet;
 use std::marker::Model;
@@ -59,7 +60,7 @@ impl Lock {
     pub fn extras(&self) -> &[String]
         ensures { map string_bytes result.now ≡ self.now.head.extras }
     {
-        self.head.extras()
+        self.head.extras().as_slice()
     }
 
     /// The names of the key `dependency-groups` in normal form (PEP 503), each once, in their
@@ -67,14 +68,14 @@ impl Lock {
     pub fn groups(&self) -> &[String]
         ensures { map string_bytes result.now ≡ self.now.head.groups }
     {
-        self.head.groups()
+        self.head.groups().as_slice()
     }
 
     /// The names of the key `default-groups` in normal form (PEP 503), each once, in their order.
     pub fn default_groups(&self) -> &[String]
         ensures { map string_bytes result.now ≡ self.now.head.default_groups }
     {
-        self.head.default_groups()
+        self.head.default_groups().as_slice()
     }
 
     /// The entries of the lock, in its order.

@@ -1,7 +1,9 @@
 //! A session: the entries of a lock, edited and answered again.
 
+pub(crate) mod changes;
 pub(crate) mod edits;
 pub(crate) mod index;
+pub(crate) mod judgement;
 pub(crate) mod names;
 pub(crate) mod parts;
 pub(crate) mod pass;
@@ -9,9 +11,9 @@ pub(crate) mod room;
 pub(crate) mod row;
 pub(crate) mod verdict;
 
-ghost use Rattle.std.specs.Prelude.{◌≡◌, Ok, Err, IfOk, IfErr, length};
+ghost use Rattle.std.specs.Prelude.{◌≡◌, Ok, Err, IfOk, IfErr, OnOk, length};
 ghost use Rattle.std.specs.Option.{option_copied};
-ghost use Rattle.pylock_core.specs.Session.Judgement.{verdicts_of};
+ghost use Rattle.pylock_core.specs.Session.Judgement.{all_numbers, index_of, touched, verdicts_of};
 ghost use Rattle.pylock_core.specs.Session.State.{apply, entry_at, first};
 ghost use Rattle.pylock_core.specs.Session.Steps.{answer};
 ghost use Rattle.pylock_core.specs.declared.edit.EditError.{EditError};
@@ -57,9 +59,10 @@ impl Model for Session {
 }
 
 impl Session {
-    /// A session on the entries of the lock, with the numbers 1, 2, .. in their order. No extra is asked
-    /// for, and of the groups the default ones, whatever sets the environment held. Takes memory for what
-    /// it keeps of each entry.
+    /// A session on the entries of the lock, with the numbers 1, 2, .. in their order. No extra is
+    /// asked for, and of the groups the default ones, whatever sets the environment held. Takes
+    /// memory for what it keeps of each entry: a row, its number under each key that it reads and
+    /// under its name.
     pub fn start(
         alloc: Global,
         lock: Lock,
@@ -68,25 +71,32 @@ impl Session {
     ) -> Result<Session, AllocError>
         ensures state { IfOk result (λ session. session.state ≡ first lock environment tags) }
         ensures verdicts { IfOk result (λ session. session.verdicts ≡ verdicts_of session.state) }
+        ensures index { IfOk result (λ session. session.index ≡ index_of session.state) }
+        ensures judged { IfOk result (λ session. session.judged ≡ all_numbers session.state) }
     {
         let parts = start(alloc, lock, environment, tags)?;
         Ok(Session { parts })
     }
 
-    /// Makes an edit, and answers how many judgements it made. A refused edit leaves the session as it
-    /// was. `Del` takes no memory.
+    /// Makes an edit, and answers how many judgements it made: one for what reads the variable, the
+    /// extras, the groups or the tags that are edited, for the entry that is brought, or for each
+    /// entry of the policy's name. A refused edit leaves the session as it was. `Del` takes no
+    /// memory.
     pub fn edit(&mut self, edit: Edit) -> Result<u64, EditError>
-        ensures accepted { IfOk result (λ judgements. apply edit self.old.state ≡ Ok self.new.state) }
-        ensures refused { IfErr result (λ error. (error ≡ Memory → ⊥) → apply edit self.old.state ≡ Err error) }
+        ensures accepted { OnOk result (apply edit self.old.state ≡ Ok self.new.state) }
+        ensures refused { IfErr result (λ error. (error ≡ Memory → ⊥)
+            → apply edit self.old.state ≡ Err error) }
         ensures kept { IfErr result (λ error. self.new ≡ self.old) }
+        ensures judged { OnOk result (self.new.judged ≡ touched edit self.old.state) }
         ensures count { IfOk result (λ judgements. judgements ≡ length self.new.judged) }
         ensures verdicts { self.new.verdicts ≡ verdicts_of self.new.state }
+        ensures index { self.new.index ≡ index_of self.new.state }
     {
         edit_parts(&mut self.parts, edit)
     }
 
-    /// The answer of the installation steps (PEP 751) on the state as it stands. Changes nothing; takes
-    /// memory for a stamp for each name and for the picks.
+    /// The answer of the installation steps (PEP 751) on the state as it stands. Changes nothing;
+    /// takes memory for a stamp for each name and for the picks.
     pub fn answer(&self, alloc: Global) -> Result<Answer, AllocError>
         ensures { IfOk result (λ found. found ≡ answer self.now.state) }
     {

@@ -1,30 +1,35 @@
 //! Texts that markers compare, with the version that each spells.
 
-ghost use Rattle.std.specs.Prelude.{◌≡◌, IfOk};
+ghost use Rattle.std.specs.Prelude.{◌≡◌, IfOk, IfSome};
+ghost use Rattle.pyver_core.specs.Name.{norm};
 ghost use Rattle.pyver_core.specs.Parsed.{parsed_version};
 
-use pyver_core::{Version, VersionError};
+use pyver_core::{Label, Version, VersionError, normal_name};
 use std::alloc::{AllocError, Global};
 use std::marker::Model;
 
 /// A text with what it reads as by PEP 440, so that no comparison reads it again.
 ///
-/// Contracts see the text alone, since the version follows from it.
+/// Contracts see the text alone, since the version and the name follow from it.
 #[derive(Debug, Drop)]
 pub(crate) struct Candidate {
     text: String,
     version: Result<Version, VersionError>,
+    /// The text in normal form (PEP 503), where it was asked for.
+    name: Option<Label>,
 }
 
 impl Model for Candidate {
-    ghost use Rattle.std.specs.Prelude.{◌≡◌, List, ℕ, string_bytes};
+    ghost use Rattle.std.specs.Prelude.{◌≡◌, IfSome, List, ℕ, string_bytes};
+    ghost use Rattle.pyver_core.specs.Name.{norm};
     ghost use Rattle.pyver_core.specs.Parsed.{parsed_version};
 
     ghost Value = { List ℕ };
 
     ghost view = { λ c. string_bytes c.text };
 
-    ghost invariant = { λ c. parsed_version (string_bytes c.text) ≡ c.version };
+    ghost invariant = { λ c. (parsed_version (string_bytes c.text) ≡ c.version)
+        × IfSome c.name (λ name. name ≡ norm (string_bytes c.text)) };
 }
 
 impl Candidate {
@@ -34,7 +39,28 @@ impl Candidate {
     {
         let version = read_version(alloc, text)?;
         let text = String::from_str(alloc, text)?;
-        Ok(Candidate { text, version })
+        Ok(Candidate {
+            text,
+            version,
+            name: None,
+        })
+    }
+
+    /// The text, read, and in normal form beside.
+    pub(crate) fn named(alloc: Global, text: &str) -> Result<Candidate, AllocError>
+        ensures { IfOk result (λ candidate. candidate ≡ text.now) }
+    {
+        let Candidate {
+            text: own,
+            version,
+            ..
+        } = Candidate::new(alloc, text)?;
+        let name = Label::new(normal_name(alloc, text)?);
+        Ok(Candidate {
+            text: own,
+            version,
+            name: Some(name),
+        })
     }
 
     /// The text as it was given.
@@ -49,6 +75,16 @@ impl Candidate {
         ensures { result.now ≡ parsed_version self.now }
     {
         &self.version
+    }
+
+    /// The text in normal form, if that is kept.
+    pub(crate) fn name(&self) -> Option<&str>
+        ensures { IfSome result (λ name. name.now ≡ norm self.now) }
+    {
+        match &self.name {
+            Some(name) => Some(name.as_str()),
+            None => None,
+        }
     }
 }
 
@@ -65,6 +101,7 @@ impl Clone for Candidate {
         Ok(Candidate {
             text: self.text.clone()?,
             version,
+            name: self.name.clone()?,
         })
     }
 }

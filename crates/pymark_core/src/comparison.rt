@@ -2,6 +2,8 @@
 
 ghost use Rattle.std.specs.Prelude.{◌≡◌, IfOk, Result};
 ghost use Rattle.pyver_core.specs.Agreement.{Gives};
+ghost use Rattle.pyver_core.specs.Name.{norm};
+ghost use Rattle.pymark_core.specs.Environment.{has_extra, has_group};
 ghost use Rattle.pymark_core.specs.Inner.Compared.{IsRead, left_operand, right_operand};
 ghost use Rattle.pymark_core.specs.Marker.Value.{comparison_value, is_in, is_substring};
 ghost use Rattle.pymark_core.specs.Marker.Value.{operand_text, operator_value, text_value};
@@ -82,14 +84,14 @@ impl Comparison {
         }) }
     {
         Ok(Comparison {
-            left: read_left(alloc, left)?,
+            left: read_left(alloc, left, &right)?,
             comparator,
             right: read_right(alloc, comparator, right)?,
         })
     }
 
     /// The value in the environment. A variable against a quoted text is judged without memory, and
-    /// no text is read.
+    /// no text is read; so is a quoted text in a set.
     pub(crate) fn evaluate(
         &self,
         alloc: Global,
@@ -103,8 +105,8 @@ impl Comparison {
             Comparator::By(operator) => {
                 value_by(alloc, environment, left, operator, &self.right)
             }
-            Comparator::In => has_in(alloc, environment, left.text(), &self.right),
-            Comparator::NotIn => Ok(!has_in(alloc, environment, left.text(), &self.right)?),
+            Comparator::In => has_in(alloc, environment, left, &self.right),
+            Comparator::NotIn => Ok(!has_in(alloc, environment, left, &self.right)?),
         }
     }
 }
@@ -166,17 +168,27 @@ fn copy_specifier(
     })
 }
 
-/// The operand with the version that it spells, if it is a quoted text.
-fn read_left(alloc: Global, operand: Operand) -> Result<Left, AllocError>
+/// The operand, left of this one, with what it reads as if it is a quoted text.
+fn read_left(alloc: Global, operand: Operand, right: &Operand) -> Result<Left, AllocError>
     ensures { IfOk result (λ left. left_operand left ≡ operand) }
 {
     Ok(match operand {
-        Operand::Text(text) => Left::Text(Candidate::new(alloc, text.as_str())?),
+        Operand::Text(text) => Left::Text(read_text(alloc, text.as_str(), right)?),
         Operand::Variable(variable) => Left::Variable(variable),
         Operand::Extra => Left::Extra,
         Operand::Extras => Left::Extras,
         Operand::Groups => Left::Groups,
     })
+}
+
+/// The text, left of this operand, with what it reads as there.
+fn read_text(alloc: Global, text: &str, right: &Operand) -> Result<Candidate, AllocError>
+    ensures { IfOk result (λ candidate. candidate ≡ text.now) }
+{
+    match right {
+        Operand::Extras | Operand::Groups => Candidate::named(alloc, text),
+        Operand::Text(_) | Operand::Variable(_) | Operand::Extra => Candidate::new(alloc, text),
+    }
 }
 
 /// The operand as this operator reads it.
@@ -243,21 +255,43 @@ fn candidate_in<'a>(
 fn has_in(
     alloc: Global,
     environment: &Environment,
-    text: &str,
+    left: &Candidate,
     right: &Right,
 ) -> Result<bool, EvalFault>
     ensures { Gives EvalFault.Memory (λ b. b) result
-        (is_in environment.now text.now (right_operand right.now)) }
+        (is_in environment.now left.now (right_operand right.now)) }
 {
     match right {
-        Right::Text(whole) | Right::Operand(whole, _) => Ok(is_substring(text, whole.as_str())),
+        Right::Text(whole) | Right::Operand(whole, _) => {
+            Ok(is_substring(left.text(), whole.as_str()))
+        }
         Right::Variable(variable) => {
             let whole = variable_candidate(environment, *variable)?;
-            Ok(is_substring(text, whole.text()))
+            Ok(is_substring(left.text(), whole.text()))
         }
         Right::Extra => Err(EvalFault::Extra),
-        Right::Extras => Ok(environment.has_extra(normal_name(alloc, text)?.as_str())),
-        Right::Groups => Ok(environment.has_group(normal_name(alloc, text)?.as_str())),
+        Right::Extras => Ok(is_extra(alloc, environment, left)?),
+        Right::Groups => Ok(is_group(alloc, environment, left)?),
+    }
+}
+
+/// Whether the text names an extra that is asked for.
+fn is_extra(alloc: Global, environment: &Environment, left: &Candidate) -> Result<bool, AllocError>
+    ensures { IfOk result (λ b. b ≡ has_extra (norm left.now) environment.now) }
+{
+    match left.name() {
+        Some(name) => Ok(environment.has_extra(name)),
+        None => Ok(environment.has_extra(normal_name(alloc, left.text())?.as_str())),
+    }
+}
+
+/// Whether the text names a group that is asked for.
+fn is_group(alloc: Global, environment: &Environment, left: &Candidate) -> Result<bool, AllocError>
+    ensures { IfOk result (λ b. b ≡ has_group (norm left.now) environment.now) }
+{
+    match left.name() {
+        Some(name) => Ok(environment.has_group(name)),
+        None => Ok(environment.has_group(normal_name(alloc, left.text())?.as_str())),
     }
 }
 

@@ -100,8 +100,8 @@ impl Marker {
 
     /// The value of the marker in an environment (PEP 508, "Environment Markers"). Every comparison
     /// is judged, left to right, so that the first fault of the text is the marker's fault. It
-    /// takes time linear in the marker, and memory only where a text has to be read or a name
-    /// normalised for a comparison.
+    /// takes time linear in the marker, and memory only where the text of a variable has to be read
+    /// as an operand, or normalised as a name.
     pub fn evaluate(&self, alloc: Global, environment: &Environment) -> Result<bool, EvalFault>
         ensures { Gives EvalFault.Memory (λ b. b) result
             (marker_value environment.now self.now.tree) }

@@ -107,6 +107,21 @@ impl Requirement {
     }
 }
 
+/// A copy takes memory as the requirement did. Nothing is read again.
+impl Clone for Requirement {
+    ghost is_clone = { λ requirement copy. copy ≡ requirement };
+
+    fn clone(&self) -> Result<Requirement, AllocError> {
+        Ok(Requirement {
+            name: self.name.clone()?,
+            extras: self.extras.clone()?,
+            set: self.set.clone()?,
+            url: own(*self.name.allocator(), self.url())?,
+            marker: copy_marker(&self.marker)?,
+        })
+    }
+}
+
 /// The text in memory of its own, if there is one.
 fn own(alloc: Global, text: Option<&str>) -> Result<Option<String>, AllocError>
     ensures { IfOk result
@@ -114,6 +129,16 @@ fn own(alloc: Global, text: Option<&str>) -> Result<Option<String>, AllocError>
 {
     match text {
         Some(text) => Ok(Some(String::from_str(alloc, text)?)),
+        None => Ok(None),
+    }
+}
+
+/// The same marker in memory of its own, if there is one.
+fn copy_marker(marker: &Option<Marker>) -> Result<Option<Marker>, AllocError>
+    ensures { IfOk result (λ copy. copy ≡ marker.now) }
+{
+    match marker {
+        Some(marker) => Ok(Some(marker.clone()?)),
         None => Ok(None),
     }
 }

@@ -1,7 +1,6 @@
 //! Build tags (PEP 427, "File name convention").
 
 ghost use Rattle.std.specs.Prelude.{◌≡◌, ◌+◌, ◌*◌, ◌<◌, ◌^◌, true, if◌then◌else◌, Ok, Err, SomeIff};
-ghost use Rattle.std.specs.Prelude.{length, take};
 ghost use Rattle.std.specs.Char.{digit_value, is_ascii, is_ascii_digit};
 ghost use Rattle.std.specs.List.{list_all, prefix_len};
 ghost use Rattle.std.specs.Str.Parse.{digits_value};

@@ -1,19 +1,17 @@
 //! Tags (PEP 425).
 
-ghost use Rattle.std.specs.Prelude.{◌≡◌, Some};
+ghost use Rattle.std.specs.Prelude.{◌≡◌};
 ghost use Rattle.std.specs.Cmp.{partial_equiv_from_equiv};
-ghost use Rattle.std.specs.Fmt.{padded};
 ghost use Rattle.std.specs.Rc.{rc_str_bytes};
 ghost use Rattle.pyver_core.specs.Agreement.{Gives};
 ghost use Rattle.pywheel_core.specs.Inner.Places.{IsAsciiText, IsWithin, tag_at};
-ghost use Rattle.pywheel_core.specs.Tag.{tag_eq, tag_of, tag_text};
+ghost use Rattle.pywheel_core.specs.Tag.{tag_eq, tag_of};
 ghost use Rattle.pywheel_core.specs.TagLaws.{alike, fed_tag, tag_equiv};
 
 use crate::cut::{lowercase, three_parts};
 use crate::error::TagError;
 use crate::place::Place;
 use std::alloc::{AllocError, Global};
-use std::fmt;
 use std::hash::{Hash, Hasher};
 use std::marker::Model;
 use std::rc::RcStr;

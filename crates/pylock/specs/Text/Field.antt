@@ -1,5 +1,5 @@
 -- The fields of a printed line, which ends in LF.
-use Rattle.std.specs.Prelude.{ℕ, Bool, ◌==◌, ◌++◌, List, [], ◌∷◌, if◌then◌else◌, Option, Some, None}
+use Rattle.std.specs.Prelude.{ℕ, ◌==◌, ◌++◌, List, [], ◌∷◌, if◌then◌else◌, Option, Some, None}
 use Rattle.std.specs.Prelude.{codes}
 use Rattle.std.specs.List.{flat_map}
 use Rattle.std.specs.Str.{bytes_eq}
@@ -17,10 +17,6 @@ escape b =
 -- a text with its escapes
 abbrev pub escaped : List ℕ → List ℕ
 escaped text = flat_map escape text
-
--- whether a byte stands in a field as it is
-abbrev pub is_plain : ℕ → Bool
-is_plain b = bytes_eq (escape b) (b ∷ [])
 
 -- a field: an absent text is `-`, and the text `-` is written `\-`
 abbrev pub field : Option (List ℕ) → List ℕ

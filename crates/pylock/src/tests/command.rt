@@ -28,7 +28,8 @@ fn reads_words(rt: HostRuntime) -> Result<(), Fail> {
 #[test]
 fn refuses_words(rt: HostRuntime) {
     for words in [
-        ["pylock", "fly", "a"].as_slice(),
+        ["pylock", "fly"].as_slice(),
+        &["pylock", "fly", "a"],
         &["pylock", "select", "a"],
         &["pylock", "select", "a", "b", "c"],
         &["pylock", "match", "a"],

@@ -261,15 +261,35 @@ fn wheels_have_four_fields(rt: HostRuntime) -> Result<(), Fail> {
     Ok(())
 }
 
-/// With each call of the writer failing, a front of the fields of a requirement is written.
+/// With each call of the writer failing, a front of the reply to a requirement is written.
 #[test]
 fn a_failed_write_leaves_a_front_of_a_requirement(rt: HostRuntime) -> Result<(), Fail> {
-    let reply = b"pip\t-\t-\thttps://h/p.zip#sha1=x\tos_name=='nt'\n";
-    let asked = Query::Requirement("pip @ https://h/p.zip#sha1=x ; os_name=='nt'");
-    for call in 1..=reply.len() as u64 {
-        let mut room = Room::new(rt.alloc(), 100, 1, Some(call))?;
-        assert_eq!(rt; query(rt.alloc(), asked, &mut room), Err(RunFault::Write));
-        assert!(rt; reply.starts_with(room.bytes()));
+    for (requirement, text) in [
+        (
+            "requests[security, tests] >= 2.8.1, == 2.8.* ; python_version < \"2.7\"",
+            "requests\tsecurity,tests\t>=2.8.1,==2.8.*\t-\tpython_version < \"2.7\"\n",
+        ),
+        (
+            "pip @ https://h/p.zip#sha1=x ; os_name=='nt'",
+            "pip\t-\t-\thttps://h/p.zip#sha1=x\tos_name=='nt'\n",
+        ),
+        (
+            "pip @ https://h/p.zip;x",
+            "pip\t-\t-\thttps://h/p.zip;x\t-\n",
+        ),
+        ("-a", "refused\tname\n"),
+        ("a[b,]", "refused\textras\n"),
+        ("a (>=1", "refused\tspecifier\n"),
+        ("a @", "refused\turl\n"),
+        ("a ;", "refused\tmarker\n"),
+        ("a @ u v", "refused\ttrailing\n"),
+    ] {
+        for call in 1..=text.len() as u64 {
+            let mut room = Room::new(rt.alloc(), 100, 1, Some(call))?;
+            let asked = Query::Requirement(requirement);
+            assert_eq!(rt; query(rt.alloc(), asked, &mut room), Err(RunFault::Write));
+            assert!(rt; text.as_bytes().starts_with(room.bytes()), "{requirement}");
+        }
     }
     Ok(())
 }

@@ -12,10 +12,12 @@ const HEAD: &str = "lock-version = \"1.0\"\ncreated-by = \"t\"\n";
 const ENVIRONMENT: &str = "{\"environment\":{},\"tags\":[]}";
 
 const FIRST_PATH: &str =
-    "lock-version = \"1.0\"\ncreated-by = \"t\"\npackages = [{name=\"B_b\", version=\"1.0\", directory={path=\"./b\"}}, {name=\"a\", version=\"2\", sdist={url=\"https://h/a-2.tar.gz\", hashes={sha256=\"00\"}}}]\n";
+    "lock-version = \"1.0\"\ncreated-by = \"t\"\npackages = [{name=\"B_b\", version=\"1.0\", \
+        directory={path=\"./b\"}}, {name=\"a\", version=\"2\", \
+        sdist={url=\"https://h/a-2.tar.gz\", hashes={sha256=\"00\"}}}]\n";
 
-const FIRST_ANSWER: &str =
-    "plan 2\n1\tb-b\t1.0\tdirectory\t-\t./b\t-\t-\t-\n2\ta\t2\tsdist\ta-2.tar.gz\thttps://h/a-2.tar.gz\tsha256=00\t-\t-\n";
+const FIRST_ANSWER: &str = "plan 2\n1\tb-b\t1.0\tdirectory\t-\t./b\t-\t-\t-\n\
+        2\ta\t2\tsdist\ta-2.tar.gz\thttps://h/a-2.tar.gz\tsha256=00\t-\t-\n";
 
 const SDIST_LINE: &str = "2\ta\t2\tsdist\ta-2.tar.gz\thttps://h/a-2.tar.gz\tsha256=00\t-\t-\n";
 
@@ -80,13 +82,14 @@ fn selects_and_deletes(rt: HostRuntime) -> Result<(), Fail> {
 #[test]
 fn names_faults_and_refusals(rt: HostRuntime) -> Result<(), Fail> {
     let alloc = rt.alloc();
-    let packages =
-        "packages = [{name=\"a\"}, {name=\"b\", directory={path=\"-\"}}, {name=\"c\", directory={path=\"c\"}, sdist={path=\"c.tar.gz\"}}]";
+    let packages = "packages = [{name=\"a\"}, {name=\"b\", directory={path=\"-\"}}, {name=\"c\", \
+            directory={path=\"c\"}, sdist={path=\"c.tar.gz\"}}]";
     let lock = lock(alloc, packages)?;
     let input = b"del 3\ndel 1\nfly\ndel 01\nshow x\n";
     let done = ran(alloc, lock.as_bytes(), ENVIRONMENT.as_bytes(), input)?;
     let want =
-        "fault 3\tsources\nfault 1\tno-file\nplan 1\n2\tb\t-\tdirectory\t-\t\\-\t-\t-\t-\nrefused 3\tcommand\nrefused 4\targument\nrefused 5\targument\n";
+        "fault 3\tsources\nfault 1\tno-file\nplan 1\n2\tb\t-\tdirectory\t-\t\\-\t-\t-\t-\nrefused \
+            3\tcommand\nrefused 4\targument\nrefused 5\targument\n";
     assert_eq!(rt; done.answer, Ok(1));
     assert_eq!(rt; done.room.bytes(), want.as_bytes());
     Ok(())
@@ -96,7 +99,8 @@ fn names_faults_and_refusals(rt: HostRuntime) -> Result<(), Fail> {
 fn selects_an_editable_directory(rt: HostRuntime) -> Result<(), Fail> {
     let alloc = rt.alloc();
     let packages =
-        "packages = [{name=\"a\", directory={path=\"x\"}}, {name=\"A\", directory={path=\"y\", editable=true}}]";
+        "packages = [{name=\"a\", directory={path=\"x\"}}, {name=\"A\", directory={path=\"y\", \
+            editable=true}}]";
     let lock = lock(alloc, packages)?;
     let done = ran(alloc, lock.as_bytes(), ENVIRONMENT.as_bytes(), b"del 1\n")?;
     let want = "fault 2\tambiguous\nplan 1\n2\ta\t-\teditable\t-\ty\t-\t-\t-\n";
@@ -130,7 +134,8 @@ fn refuses_locks_and_environments(rt: HostRuntime) -> Result<(), Fail> {
             "lock\tpackages\n",
         ),
         (
-            "lock-version = \"1.0\"\ncreated-by = \"t\"\npackages = [{name=\"a\"}, {name=\"b\", version=1}]",
+            "lock-version = \"1.0\"\ncreated-by = \"t\"\npackages = [{name=\"a\"}, {name=\"b\", \
+                version=1}]",
             ENVIRONMENT,
             "lock\tentry\t2\tversion\n",
         ),
@@ -157,9 +162,11 @@ fn refuses_locks_and_environments(rt: HostRuntime) -> Result<(), Fail> {
         assert_eq!(rt; done.answer, Ok(status));
         assert_eq!(rt; done.room.bytes(), want.as_bytes());
     }
-    let done = ran(alloc, b"\xff", ENVIRONMENT.as_bytes(), b"")?;
-    assert_eq!(rt; done.answer, Ok(2));
-    assert_eq!(rt; done.room.bytes(), b"lock\tnot-text\n".as_slice());
+    for lock in [b"\xff".as_slice(), b"created-by = \"\xc3"] {
+        let done = ran(alloc, lock, ENVIRONMENT.as_bytes(), b"")?;
+        assert_eq!(rt; done.answer, Ok(2));
+        assert_eq!(rt; done.room.bytes(), b"lock\tnot-text\n".as_slice());
+    }
     Ok(())
 }
 

@@ -1,9 +1,10 @@
 //! The fields of a line.
 
-ghost use Rattle.std.specs.Prelude.{◌≡◌, ◌++◌, ◌∷◌, [], OnOk, decimal};
+ghost use Rattle.std.specs.Prelude.{◌≡◌, ◌++◌, ◌∷◌, ◌<◌, ◌≤◌, [], OnOk, IsTrue, decimal, true};
 ghost use Rattle.std.specs.List.{list_all};
 ghost use Rattle.std.specs.Option.{option_copied};
-ghost use Rattle.pylock.specs.Text.Field.{escape, escaped, field, is_plain, line_of};
+ghost use Rattle.pylock.specs.Inner.Plain.{is_ordinary};
+ghost use Rattle.pylock.specs.Text.Field.{escape, escaped, field, line_of};
 
 use std::alloc::AllocError;
 
@@ -44,21 +45,55 @@ pub fn push_escaped(out: &mut Vec<u8>, text: &str) -> Result<(), AllocError>
     }
 }
 
-/// Whether the text stands in a field as it is, as nearly each does.
+/// Whether the text is seen at once to stand in a field as it is, as nearly each does. Of a longer
+/// text whole chunks are tested, the last of which may lie over the one before it.
 fn is_plain_text(text: &[u8]) -> bool
-    ensures { result ≡ list_all is_plain text.now }
+    ensures { IsTrue result → list_all is_ordinary text.now ≡ true }
 {
-    let mut plain = true;
-    for byte in text {
-        plain &= is_plain(*byte);
+    match text.len() {
+        32.. => are_plain_chunks::<32>(text),
+        16..32 => are_plain_chunks::<16>(text),
+        8..16 => are_plain_chunks::<8>(text),
+        4..8 => are_plain_chunks::<4>(text),
+        _ => are_ordinary(text),
     }
-    plain
 }
 
-fn is_plain(byte: u8) -> bool
-    ensures { result ≡ is_plain byte }
+/// The same for a text of at least `N` bytes, by chunks of `N`.
+fn are_plain_chunks<const N: usize>(text: &[u8]) -> bool
+    requires { (0 < N) × (N ≤ 32) }
+    ensures { IsTrue result → list_all is_ordinary text.now ≡ true }
 {
-    !matches!(byte, b'\t' | b'\n' | b'\r' | b'\\')
+    let (chunks, rest) = text.as_chunks::<N>();
+    for chunk in chunks {
+        if !are_ordinary(chunk) {
+            return false;
+        }
+    }
+    if rest.is_empty() {
+        return true;
+    }
+    match text.last_chunk::<N>() {
+        Some(last) => are_ordinary(last),
+        None => false,
+    }
+}
+
+fn are_ordinary(bytes: &[u8]) -> bool
+    ensures { result ≡ list_all is_ordinary bytes.now }
+{
+    let mut ordinary = true;
+    for byte in bytes {
+        ordinary &= is_ordinary(*byte);
+    }
+    ordinary
+}
+
+/// Both tests are made of each byte, so that many bytes are tested at once.
+fn is_ordinary(byte: u8) -> bool
+    ensures { result ≡ is_ordinary byte }
+{
+    (byte > 13) & (byte != b'\\')
 }
 
 fn push_escapes(out: &mut Vec<u8>, text: &[u8]) -> Result<(), AllocError>

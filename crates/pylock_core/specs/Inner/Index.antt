@@ -1,11 +1,30 @@
 -- The index of a session as its lists of numbers, one for each key.
-use Rattle.std.specs.Prelude.{ℕ, ◌+◌, ◌<◌, ◌≤◌, ◌==◌, nat_lt, Bool, true, false, IsTrue, List, [], ◌∷◌, map, slice_index_or, vec_len, vec_capacity, if◌then◌else◌}
+use Rattle.std.specs.Prelude.{ℕ, ◌+◌, ◌<◌, ◌≤◌, ◌==◌, nat_lt, Bool, true, false, ◌&&◌, ◌||◌, IsTrue}
+use Rattle.std.specs.Prelude.{List, [], ◌∷◌, map, slice_index_or, vec_len, vec_capacity}
+use Rattle.std.specs.Prelude.{if◌then◌else◌}
 use Rattle.std.specs.Global.{Global}
+use Rattle.std.specs.List.{list_any}
 use Rattle.std.specs.declared.vec.Vec.{Vec}
+use Rattle.pymark_core.specs.Marker.Keys.{reads}
+use Rattle.pymark_core.specs.Marker.Reading.{MarkerValue}
+use Rattle.pymark_core.specs.declared.marker.keys.Key.{Key}
+use Rattle.pylock_core.specs.Session.Judgement.{IndexKey, Marked, OfTags, is_python}
+
+-- what is read by what has these markers, a Python check or not, and wheels or not
+abbrev pub any_reads : Key → List MarkerValue → Bool
+any_reads key markers = list_any (λ m. reads key m.tree) markers
+
+abbrev pub read_by : List MarkerValue → Bool → Bool → IndexKey → Bool
+read_by markers check wheels (Marked key) = is_python key && check || any_reads key markers
+read_by markers check wheels OfTags = wheels
+
+-- the numbers of each list
+abbrev pub numbers_in : List (Vec ℕ Global) → List (List ℕ)
+numbers_in lists = map (λ list. list.items) lists
 
 -- the numbers under a key
 abbrev pub list_at : List (Vec ℕ Global) → ℕ → List ℕ
-list_at lists key = slice_index_or (map (λ list. list.items) lists) key []
+list_at lists key = slice_index_or (numbers_in lists) key []
 
 -- each number is at least n and more than the one before
 abbrev pub Rises : ℕ → List ℕ → Type 0

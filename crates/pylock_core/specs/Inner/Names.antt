@@ -1,10 +1,10 @@
 -- The names of a session: each has a number, and by the number its policy and its entries.
-use Rattle.std.specs.Prelude.{◌≡◌, ℕ, ◌<◌, List, [], ◌∷◌, map, length, Option, Some, None, slice_index_or, string_bytes, vec_len, vec_capacity}
-use Rattle.std.specs.BTreeMap.{BTreeMap, get_by_text}
-use Rattle.std.specs.Cmp.Lexicographic.{slice_cmp}
+use Rattle.std.specs.Prelude.{◌≡◌, ℕ, ◌<◌, Bool, false, nat_eq, List, [], ◌∷◌}
+use Rattle.std.specs.Prelude.{length, Option, Some, None, slice_index_or, string_bytes}
+use Rattle.std.specs.Prelude.{vec_len, vec_capacity}
+use Rattle.std.specs.BTreeMap.{get_by_text}
 use Rattle.std.specs.FinMap as map_of
 use Rattle.std.specs.Global.{Global}
-use Rattle.std.specs.Ordering.{nat_cmp}
 use Rattle.std.specs.declared.string.String.{String}
 use Rattle.std.specs.declared.vec.Vec.{Vec}
 use Rattle.pylock_core.specs.Inner.Index.{list_at}
@@ -16,7 +16,8 @@ use Rattle.pylock_core.specs.declared.session.names.Names.{Names}
 -- the numbers are below the count, and no two names have the same
 pub record IsNumbering (number : List ℕ → Option ℕ) (count : ℕ) : Type 0 where
   pub below : (name : List ℕ) (n : ℕ) → number name ≡ Some n → n < count
-  pub apart : (one other : List ℕ) (n : ℕ) → number one ≡ Some n → number other ≡ Some n → one ≡ other
+  pub apart : (one other : List ℕ) (n : ℕ)
+      → number one ≡ Some n → number other ≡ Some n → one ≡ other
 
 -- the number of a name
 abbrev pub number_in : Names → List ℕ → Option ℕ
@@ -43,6 +44,11 @@ members_under members (Some n) = list_at members n
 abbrev pub members_of : Names → List ℕ → List ℕ
 members_of names name = members_under names.members.items (number_in names name)
 
+-- whether a number is this one
+abbrev pub is_at : ℕ → Option ℕ → Bool
+is_at n None = false
+is_at n (Some m) = nat_eq n m
+
 -- each name has a number of its own, and under it a policy and entries
 pub record IsNames (names : Names) : Type 0 where
   pub numbering : IsNumbering (number_in names) (length names.policies.items)
@@ -51,4 +57,6 @@ pub record IsNames (names : Names) : Type 0 where
 -- under the number there is room for one more entry
 abbrev pub HasRoom : Names → ℕ → Type 0
 HasRoom names n =
-    (d : Vec ℕ Global) → vec_len (slice_index_or names.members.items n d) < vec_capacity (slice_index_or names.members.items n d)
+    (d : Vec ℕ Global)
+    → vec_len (slice_index_or names.members.items n d)
+    < vec_capacity (slice_index_or names.members.items n d)

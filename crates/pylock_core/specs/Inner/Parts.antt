@@ -1,11 +1,17 @@
 -- The parts of a session, and how they belong together.
-use Rattle.std.specs.Prelude.{◌≡◌, ℕ, ◌+◌, ◌-◌, ◌≤◌, ◌<◌, Bool, true, false, cond, not, nat_eq, List, [], ◌∷◌, map, length, Option, Some, None, is_some, option_map, slice_index_or}
+use Rattle.std.specs.Prelude.{◌≡◌, ℕ, ◌≤◌, List, [], ◌∷◌, map, length, Option, Some, None, is_some}
+use Rattle.std.specs.Prelude.{IfSome}
+use Rattle.std.specs.Global.{Global}
+use Rattle.std.specs.Str.{bytes_eq}
+use Rattle.std.specs.declared.vec.Vec.{Vec}
 use Rattle.pymark_core.specs.Environment.{EnvironmentValue}
 use Rattle.pywheel_core.specs.Tag.{TagValue}
 use Rattle.pylock_core.specs.Entry.{EntryValue}
-use Rattle.pylock_core.specs.Inner.Names.{IsNames, number_in, policies_in, policy_at}
+use Rattle.pylock_core.specs.Inner.Names.{IsNames, members_of, number_in, policies_in, policy_at}
 use Rattle.pylock_core.specs.Inner.Rows.{in_rows}
-use Rattle.pylock_core.specs.Session.Judgement.{SessionValue, VerdictValue, verdict_of}
+use Rattle.pylock_core.specs.Session.Judgement.{SessionValue, VerdictValue, and_head, entry_reads}
+use Rattle.pylock_core.specs.Session.Judgement.{head_reads, keys, numbers_where, verdict_of}
+use Rattle.pylock_core.specs.Lock.{HeadValue}
 use Rattle.pylock_core.specs.Session.State.{State}
 use Rattle.pylock_core.specs.Session.Steps.{head_fault, is_any}
 use Rattle.pylock_core.specs.declared.edit.Policy.{Policy}
@@ -37,6 +43,7 @@ shown parts = record {
     head = parts.head_verdict;
     entries = in_rows 1 (map verdict_in parts.rows.items);
   };
+  index = map (λ list. list.items) parts.index;
   judged = parts.judged.items;
 }
 
@@ -68,26 +75,27 @@ OfBoth P (Some entry) None = ⊥
 OfBoth P (Some entry) (Some row) = P entry row
 
 -- what holds of each entry and its row
-abbrev pub OfRows : (EntryValue → Row → Type 0) → List (Option EntryValue) → List (Option Row) → Type 0
+abbrev pub OfRows : (EntryValue → Row → Type 0) → List (Option EntryValue) → List (Option Row)
+    → Type 0
 OfRows P [] [] = Unit {0}
 OfRows P [] (row ∷ rows) = ⊥
 OfRows P (entry ∷ entries) [] = ⊥
 OfRows P (entry ∷ entries) (row ∷ rows) = OfBoth P entry row × OfRows P entries rows
 
--- the row judged again
-abbrev pub row_again : EnvironmentValue → List TagValue → List Policy → Option EntryValue → Option Row → Option Row
-row_again environment tags policies None row = None
-row_again environment tags policies (Some entry) None = None
-row_again environment tags policies (Some entry) (Some row) =
-    Some (record row { verdict = verdict_of entry environment tags (policy_at policies row.name) })
+-- ---- what is found under a name or a key
 
--- the rows judged again
-abbrev pub rows_again : EnvironmentValue → List TagValue → List Policy → List (Option EntryValue)
-    → List (Option Row) → List (Option Row)
-rows_again environment tags policies [] rows = []
-rows_again environment tags policies (entry ∷ entries) [] = []
-rows_again environment tags policies (entry ∷ entries) (row ∷ rows) =
-    row_again environment tags policies entry row ∷ rows_again environment tags policies entries rows
+-- the numbers of the entries of each name
+abbrev pub AreMembers : Names → List (Option EntryValue) → Type 0
+AreMembers names entries =
+    (name : List ℕ)
+    → members_of names name ≡ numbers_where (λ entry. bytes_eq name entry.name) (in_rows 1 entries)
+
+-- the numbers of what reads each key
+abbrev pub IsIndex : List (Vec ℕ Global) → HeadValue → List (Option EntryValue) → Type 0
+IsIndex lists head entries =
+    map (λ list. list.items) lists
+    ≡ map (λ key. and_head (head_reads key head)
+    (numbers_where (entry_reads key) (in_rows 1 entries))) keys
 
 -- ---- the whole
 
@@ -98,3 +106,6 @@ pub record IsSession (parts : Parts) : Type 0 where
       parts.entries.items parts.rows.items
   pub head : parts.head_verdict ≡ head_fault parts.head parts.environment
   pub names : IsNames parts.names
+  pub members : AreMembers parts.names parts.entries.items
+  pub index : IsIndex parts.index parts.head parts.entries.items
+  pub spare : IfSome parts.spare (λ spare. spare ≡ parts.environment)

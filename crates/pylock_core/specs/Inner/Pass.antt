@@ -1,11 +1,12 @@
 -- The installation steps over the flat rows of a session, where names are numbers.
-use Rattle.std.specs.Prelude.{◌≡◌, ◌<◌, ℕ, Bool, true, false, ◌&&◌, ◌||◌, not, nat_eq, nat_lt, List, [], ◌∷◌, ◌++◌, count_by, Option, Some, None, Result, Ok, Err, if◌then◌else◌, slice_index_or, slice_set}
+use Rattle.std.specs.Prelude.{◌≡◌, ◌<◌, ℕ, Bool, true, false, ◌||◌, nat_eq, nat_lt, List, [], ◌∷◌}
+use Rattle.std.specs.Prelude.{count_by, Option, Some, None, Result, Ok, Err, if◌then◌else◌}
+use Rattle.std.specs.Prelude.{slice_index_or, slice_set}
 use Rattle.std.specs.List.{list_any}
 use Rattle.pylock_core.specs.Inner.Names.{policy_at}
-use Rattle.pylock_core.specs.Session.Judgement.{VerdictValue}
 use Rattle.pylock_core.specs.Session.Steps.{FirstFault, by_standing, pick_before}
-use Rattle.pylock_core.specs.declared.answer.FaultCode.{FaultCode}
-use Rattle.pylock_core.specs.declared.answer.FaultCode.TheVariants.{Ambiguous, Sources as ManySources, NoFile}
+use Rattle.pylock_core.specs.declared.answer.FaultCode.TheVariants.{Ambiguous}
+use Rattle.pylock_core.specs.declared.answer.FaultCode.TheVariants.{Sources as ManySources}
 use Rattle.pylock_core.specs.declared.answer.Pick.{Pick}
 use Rattle.pylock_core.specs.declared.answer.PickSource.{PickSource}
 use Rattle.pylock_core.specs.declared.answer.PickSource.TheVariants as source
@@ -61,7 +62,8 @@ checked_standing shared conflict =
 -- how a row stands, where its name is shared or not
 abbrev pub row_standing : Row → Bool → Standing
 row_standing row shared =
-    by_standing row.verdict.standing Skipped Faulty (checked_standing shared (conflict_among row.sources))
+    by_standing row.verdict.standing Skipped Faulty
+    (checked_standing shared (conflict_among row.sources))
 
 -- step 5
 abbrev pub slate_rows : List (ℕ × Row) → List ℕ → Result (List (ℕ × Row)) FirstFault
@@ -95,4 +97,5 @@ IsStamped stamps names = (n : ℕ) → slice_index_or stamps n false ≡ is_numb
 
 -- each row has a name below the count
 abbrev pub NamesBelow : ℕ → List (Option Row) → Type 0
-NamesBelow count rows = (k : ℕ) (row : Row) → slice_index_or rows k None ≡ Some row → row.name < count
+NamesBelow count rows =
+    (k : ℕ) (row : Row) → slice_index_or rows k None ≡ Some row → row.name < count

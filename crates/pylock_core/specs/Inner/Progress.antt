@@ -15,7 +15,8 @@ picks_so_far picks = by picks.no_file
     by (Some n) = Err (n, NoFile)
 
 -- the picks with one more entry's, after those that were made
-abbrev pub pick_after : Result (List Pick) FirstFault → ℕ → Option PickSource → Result (List Pick) FirstFault
+abbrev pub pick_after : Result (List Pick) FirstFault → ℕ → Option PickSource
+    → Result (List Pick) FirstFault
 pick_after (Err fault) n source = Err fault
 pick_after (Ok made) n None = Err (n, NoFile)
 pick_after (Ok made) n (Some source) = Ok (made ++ record { id = n; source = source } ∷ [])

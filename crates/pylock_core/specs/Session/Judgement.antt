@@ -1,5 +1,6 @@
 -- What of the installation steps is kept from one edit to the next, and what each edit touches.
-use Rattle.std.specs.Prelude.{◌≡◌, ℕ, ◌+◌, Bool, true, false, ◌||◌, ◌&&◌, List, [], ◌∷◌, ◌++◌, map, filter, Option, Some, None, is_some, if◌then◌else◌}
+use Rattle.std.specs.Prelude.{◌≡◌, ℕ, ◌+◌, Bool, true, false, ◌||◌, ◌&&◌, List, [], ◌∷◌, ◌++◌, map}
+use Rattle.std.specs.Prelude.{filter, Option, Some, None, is_some}
 use Rattle.std.specs.List.{list_any}
 use Rattle.std.specs.Str.{bytes_eq}
 use Rattle.pyver_core.specs.Name.{norm}
@@ -9,7 +10,6 @@ use Rattle.pymark_core.specs.Marker.Reading.{MarkerValue}
 use Rattle.pymark_core.specs.Marker.Value.{AgreeAt}
 use Rattle.pymark_core.specs.declared.marker.keys.Key.{Key}
 use Rattle.pymark_core.specs.declared.marker.keys.Key.TheVariants.{Of, Extras, Groups}
-use Rattle.pymark_core.specs.declared.variable.Var.{Var}
 use Rattle.pymark_core.specs.declared.variable.Var.TheVariants.{PythonFullVersion}
 use Rattle.pymark_core.specs.Variables.{variables}
 use Rattle.pywheel_core.specs.Tag.{TagValue}
@@ -17,7 +17,7 @@ use Rattle.pylock_core.specs.Entry.{EntryValue}
 use Rattle.pylock_core.specs.Lock.{HeadValue}
 use Rattle.pylock_core.specs.declared.edit.Edit.{Edit}
 use Rattle.pylock_core.specs.declared.edit.Edit.TheVariants as edit
-use Rattle.pylock_core.specs.Session.State.{State, Policies, policy_of}
+use Rattle.pylock_core.specs.Session.State.{State, policy_of}
 use Rattle.pylock_core.specs.Session.Steps.{standing, best_wheel, head_fault, is_any}
 use Rattle.pylock_core.specs.declared.answer.FaultCode.{FaultCode}
 use Rattle.pylock_core.specs.declared.answer.Standing.{Standing}
@@ -34,8 +34,8 @@ abbrev pub verdict_of : EntryValue → EnvironmentValue → List TagValue → Po
 verdict_of entry environment tags policy =
     record { standing = standing entry environment; best = best_wheel entry tags policy }
 
--- the verdicts of a session: that of the head, which is its fault or none, and those of the entries,
--- by their numbers
+-- the verdicts of a session: that of the head, which is its fault or none, and those of the
+-- entries, by their numbers
 pub record Verdicts : Type 0 where
   pub head : Option FaultCode
   pub entries : List (ℕ × VerdictValue)
@@ -61,7 +61,9 @@ pub data IndexKey : Type 0 where
 
 -- the fourteen keys
 abbrev pub keys : List IndexKey
-keys = map (λ variable. Marked (Of variable)) variables ++ Marked Extras ∷ Marked Groups ∷ OfTags ∷ []
+keys =
+    map (λ variable. Marked (Of variable)) variables
+    ++ Marked Extras ∷ Marked Groups ∷ OfTags ∷ []
 
 -- whether a Python check reads the key
 abbrev pub is_python : Key → Bool
@@ -81,11 +83,13 @@ entry_reads OfTags entry = is_any entry.wheels
 -- what the head reads: the markers of `environments` and its Python check
 abbrev pub head_reads : IndexKey → HeadValue → Bool
 head_reads (Marked key) head =
-    is_python key && is_some head.requires_python || list_any (λ m. reads key m.tree) head.environments
+    is_python key && is_some head.requires_python
+    || list_any (λ m. reads key m.tree) head.environments
 head_reads OfTags head = false
 
 -- two environments and tag lists have the same at the key
-abbrev pub AgreeAtKey : IndexKey → EnvironmentValue → EnvironmentValue → List TagValue → List TagValue → Type 0
+abbrev pub AgreeAtKey : IndexKey → EnvironmentValue → EnvironmentValue → List TagValue
+    → List TagValue → Type 0
 AgreeAtKey (Marked key) e f tags others = AgreeAt key e f
 AgreeAtKey OfTags e f tags others = tags ≡ others
 
@@ -134,4 +138,5 @@ all_numbers state = 0 ∷ map (λ e. e.0) state.entries
 pub record SessionValue : Type 0 where
   pub state : State
   pub verdicts : Verdicts
+  pub index : List (List ℕ)
   pub judged : List ℕ

@@ -1,5 +1,7 @@
 -- The state of a session, and what an edit makes of it.
-use Rattle.std.specs.Prelude.{ℕ, ◌+◌, Bool, not, ◌==◌, ◌||◌, nat_lt, List, [], ◌∷◌, ◌++◌, map, length, filter, Option, Some, None, is_some, unwrap_or, Result, Ok, Err, if◌then◌else◌}
+use Rattle.std.specs.Prelude.{ℕ, ◌+◌, Bool, not, ◌==◌, ◌||◌, nat_lt, List, [], ◌∷◌, ◌++◌, map}
+use Rattle.std.specs.Prelude.{length, filter, Option, Some, None, is_some, unwrap_or, Result, Ok}
+use Rattle.std.specs.Prelude.{Err, if◌then◌else◌}
 use Rattle.std.specs.Cmp.Lexicographic.{slice_cmp}
 use Rattle.std.specs.FinMap as map_of
 use Rattle.std.specs.FinSet as set
@@ -7,7 +9,8 @@ use Rattle.std.specs.List.{enumerate_from, list_any}
 use Rattle.std.specs.Ordering.{nat_cmp}
 use Rattle.std.specs.Str.{bytes_eq}
 use Rattle.pyver_core.specs.Name.{norm}
-use Rattle.pymark_core.specs.Environment.{EnvironmentValue, with_extra, with_group, with_variable, without_extra, without_group, without_variable}
+use Rattle.pymark_core.specs.Environment.{EnvironmentValue, with_extra, with_group, with_variable}
+use Rattle.pymark_core.specs.Environment.{without_extra, without_group, without_variable}
 use Rattle.pywheel_core.specs.Tag.{TagValue}
 use Rattle.pylock_core.specs.Entry.{EntryValue}
 use Rattle.pylock_core.specs.Lock.{HeadValue, LockValue}
@@ -16,14 +19,16 @@ use Rattle.pylock_core.specs.declared.edit.Edit.TheVariants as edit
 use Rattle.pylock_core.specs.declared.edit.Policy.{Policy}
 use Rattle.pylock_core.specs.declared.edit.Policy.TheVariants.{Any, Wheel, Source}
 use Rattle.pylock_core.specs.declared.edit.EditError.{EditError}
-use Rattle.pylock_core.specs.declared.edit.EditError.TheVariants.{UnknownExtra, UnknownGroup, NoEntry, TooMany}
+use Rattle.pylock_core.specs.declared.edit.EditError.TheVariants.{UnknownExtra, UnknownGroup}
+use Rattle.pylock_core.specs.declared.edit.EditError.TheVariants.{NoEntry, TooMany}
 
 -- the policies that edits gave, by name in normal form; a name that isn't here has `Any`
 abbrev pub Policies : Type 0
 Policies = map_of.FinMap (slice_cmp nat_cmp) Policy
 
 -- the head of the lock; the entries that are there, each with its number, in order; the last number
--- given out; what the entries are judged by: the environment, the tags, the best first, the policies
+-- given out; what the entries are judged by: the environment, the tags, the best first, the
+-- policies
 pub record State : Type 0 where
   pub head : HeadValue
   pub entries : List (ℕ × EntryValue)
@@ -102,7 +107,10 @@ if_entry n state next = if is_some (entry_at n state.entries) then Ok next else 
 abbrev pub with_next : EntryValue → State → Result State EditError
 with_next entry state =
     if nat_lt state.last 100000
-    then Ok (record state { entries = state.entries ++ (state.last + 1, entry) ∷ []; last = state.last + 1 })
+    then Ok (record state {
+      entries = state.entries ++ (state.last + 1, entry) ∷ [];
+      last = state.last + 1;
+    })
     else Err TooMany
 
 -- the state after an edit, or why the edit is refused

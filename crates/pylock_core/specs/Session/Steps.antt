@@ -1,5 +1,7 @@
 -- The installation steps of a lock (PEP 751, "Installation"), from the beginning, on a state.
-use Rattle.std.specs.Prelude.{ℕ, ◌+◌, Bool, true, false, ◌<◌, ◌&&◌, ◌||◌, nat_lt, List, [], ◌∷◌, map, count_by, Option, Some, None, is_some, option_map, Result, Ok, Err, if◌then◌else◌}
+use Rattle.std.specs.Prelude.{ℕ, Bool, true, false, ◌||◌, nat_lt, List, [], ◌∷◌}
+use Rattle.std.specs.Prelude.{count_by, Option, Some, None, is_some, option_map, Result, Ok}
+use Rattle.std.specs.Prelude.{Err, if◌then◌else◌}
 use Rattle.std.specs.List.{list_any}
 use Rattle.std.specs.Str.{bytes_eq}
 use Rattle.pyver_core.specs.Options.{either}
@@ -11,7 +13,8 @@ use Rattle.pymark_core.specs.Marker.Reading.{MarkerValue}
 use Rattle.pymark_core.specs.Marker.Value.{marker_value}
 use Rattle.pyver_core.specs.Parsed.{parsed_version}
 use Rattle.pymark_core.specs.declared.fault.EvalFault.{EvalFault}
-use Rattle.pymark_core.specs.declared.fault.EvalFault.TheVariants.{Unset, Extra, Undefined, NumberTooLarge, Memory}
+use Rattle.pymark_core.specs.declared.fault.EvalFault.TheVariants.{Unset, Extra, Undefined}
+use Rattle.pymark_core.specs.declared.fault.EvalFault.TheVariants.{NumberTooLarge, Memory}
 use Rattle.pyver_core.specs.declared.version.error.VersionError.{VersionError}
 use Rattle.pymark_core.specs.declared.variable.Var.TheVariants.{PythonFullVersion}
 use Rattle.pywheel_core.specs.Choice.{best}
@@ -22,7 +25,11 @@ use Rattle.pylock_core.specs.Session.State.{State, Policies, policy_of}
 use Rattle.pylock_core.specs.declared.answer.Answer.{Answer}
 use Rattle.pylock_core.specs.declared.answer.Answer.TheVariants.{Plan, Fault}
 use Rattle.pylock_core.specs.declared.answer.FaultCode.{FaultCode}
-use Rattle.pylock_core.specs.declared.answer.FaultCode.TheVariants.{PythonUnknown, PythonNotMet, MarkerUnset, MarkerExtra, MarkerUndefined, MarkerNumber, NoEnvironment, Ambiguous, Sources, NoFile}
+use Rattle.pylock_core.specs.declared.answer.FaultCode.TheVariants.{PythonUnknown, PythonNotMet}
+use Rattle.pylock_core.specs.declared.answer.FaultCode.TheVariants.{MarkerUnset, MarkerExtra}
+use Rattle.pylock_core.specs.declared.answer.FaultCode.TheVariants.{MarkerUndefined, MarkerNumber}
+use Rattle.pylock_core.specs.declared.answer.FaultCode.TheVariants.{NoEnvironment, Ambiguous}
+use Rattle.pylock_core.specs.declared.answer.FaultCode.TheVariants.{Sources, NoFile}
 use Rattle.pylock_core.specs.declared.answer.Pick.{Pick}
 use Rattle.pylock_core.specs.declared.answer.PickSource.{PickSource}
 use Rattle.pylock_core.specs.declared.answer.PickSource.TheVariants as source
@@ -102,7 +109,8 @@ marked_standing (Some m) environment checked = by_marker (marker_value environme
 -- whether an entry is skipped, has a fault of its marker or of its Python check, or is active
 abbrev pub standing : EntryValue → EnvironmentValue → Standing
 standing entry environment =
-    marked_standing entry.marker environment (by_check (python_check entry.requires_python environment))
+    marked_standing entry.marker environment
+    (by_check (python_check entry.requires_python environment))
 
 -- whether one of the names is this one
 abbrev pub is_among : List (List ℕ) → List ℕ → Bool
@@ -132,8 +140,8 @@ by_standing (Faulty code) skipped faulty active = faulty code
 by_standing Active skipped faulty active = active
 
 -- step 5, of the entries after those that have these names: the entries to be installed, or the
--- first fault: of the marker or the Python check, a name shared with an earlier one, sources of more
--- than one kind
+-- first fault: of the marker or the Python check, a name shared with an earlier one, sources of
+-- more than one kind
 abbrev pub slate : List (ℕ × EntryValue) → EnvironmentValue → List (List ℕ)
     → Result (List (ℕ × EntryValue)) FirstFault
 slate [] environment names = Ok []

@@ -1,7 +1,7 @@
 //! The file names of sdists and wheels (PEP 751, `packages.sdist.name`).
 ghost use Rattle.std.specs.Prelude.{◌≡◌, ◌==◌, ◌<◌, option_map, IfOk, string_bytes};
 ghost use Rattle.std.specs.Option.{option_copied};
-ghost use Rattle.std.specs.List.{before_first, after_last};
+ghost use Rattle.std.specs.List.{before_first, after_last, list_any};
 ghost use Rattle.pylock_core.specs.Entry.FileName.{is_slash, ends_segment, present, last_of_path};
 ghost use Rattle.pylock_core.specs.Entry.FileName.{last_of_url, decoded, file_name_of};
 
@@ -46,6 +46,9 @@ fn url_file_name(alloc: Global, url: &str) -> Result<Option<String>, AllocError>
 fn decoded(alloc: Global, text: &str) -> Result<String, AllocError>
     ensures { IfOk result (λ name. string_bytes name ≡ decoded text.now) }
 {
+    if !has_percent(text) {
+        return String::from_str(alloc, text);
+    }
     match percent_decode(text.as_bytes()).decode_utf8(alloc) {
         Ok(name) => {
             let owned = name.into_owned(alloc)?;
@@ -54,6 +57,13 @@ fn decoded(alloc: Global, text: &str) -> Result<String, AllocError>
         Err(DecodeError::Utf8(_)) => String::from_str(alloc, text),
         Err(DecodeError::OutOfMemory) => Err(AllocError),
     }
+}
+
+/// Whether there is a `%`, without which a text has no escape.
+fn has_percent(text: &str) -> bool
+    ensures { result ≡ list_any (λ b. b == 37) text.now }
+{
+    text.as_bytes().contains(&b'%')
 }
 
 /// The text, unless it is empty.

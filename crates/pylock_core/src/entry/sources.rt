@@ -16,26 +16,27 @@ use std::alloc::Global;
 use std::marker::Model;
 use toml::Value;
 
-/// The sources of an entry.
+/// The sources of an entry. Nearly every entry has one or two, and the others take no room.
 #[derive(Debug, Drop)]
 pub(crate) struct Sources {
-    pub(crate) vcs: Option<Vcs>,
-    pub(crate) directory: Option<Directory>,
-    pub(crate) archive: Option<Archive>,
-    pub(crate) sdist: Option<Sdist>,
+    pub(crate) vcs: Option<Box<Vcs>>,
+    pub(crate) directory: Option<Box<Directory>>,
+    pub(crate) archive: Option<Box<Archive>>,
+    pub(crate) sdist: Option<Box<Sdist>>,
     pub(crate) wheels: Wheels,
 }
 
 impl Model for Sources {
+    ghost use Rattle.std.specs.Prelude.{option_map};
     ghost use Rattle.pylock_core.specs.Entry.Reading.{SourcesValue};
 
     ghost Value = { SourcesValue };
 
     ghost view = { λ s. record {
-      vcs = s.vcs;
-      directory = s.directory;
-      archive = s.archive;
-      sdist = s.sdist;
+      vcs = option_map (λ b. b.value) s.vcs;
+      directory = option_map (λ b. b.value) s.directory;
+      archive = option_map (λ b. b.value) s.archive;
+      sdist = option_map (λ b. b.value) s.sdist;
       wheels = s.wheels;
     } };
 }
@@ -58,8 +59,8 @@ impl Sources {
             (option_map view fields.archive) (option_map view fields.sdist)
             (option_map view fields.wheels)) }
     {
-        let vcs = read_vcs(fields.vcs)?;
-        let directory = read_directory(fields.directory)?;
+        let vcs = read_vcs(alloc, fields.vcs)?;
+        let directory = read_directory(alloc, fields.directory)?;
         let archive = read_archive(alloc, fields.archive)?;
         let sdist = read_sdist(alloc, fields.sdist)?;
         let wheels = read_wheels(alloc, fields.wheels)?;
@@ -73,49 +74,53 @@ impl Sources {
     }
 }
 
-fn read_vcs(field: Option<Value>) -> Result<Option<Vcs>, EntryError>
-    ensures { Gives EntryError.Memory (λ v. v) result (vcs_in (option_map view field)) }
+fn read_vcs(alloc: Global, field: Option<Value>) -> Result<Option<Box<Vcs>>, EntryError>
+    ensures { Gives EntryError.Memory (option_map (λ b. b.value)) result
+        (vcs_in (option_map view field)) }
 {
     match field {
         None => Ok(None),
         Some(value) => match Vcs::read(value) {
-            Ok(vcs) => Ok(Some(vcs)),
+            Ok(vcs) => Ok(Some(Box::new(alloc, vcs)?)),
             Err(fault) => Err(refusal(fault, EntryError::Key(EntryKey::Vcs))),
         },
     }
 }
 
-fn read_directory(field: Option<Value>) -> Result<Option<Directory>, EntryError>
-    ensures { Gives EntryError.Memory (λ d. d) result (directory_in (option_map view field)) }
+fn read_directory(alloc: Global, field: Option<Value>) -> Result<Option<Box<Directory>>, EntryError>
+    ensures { Gives EntryError.Memory (option_map (λ b. b.value)) result
+        (directory_in (option_map view field)) }
 {
     match field {
         None => Ok(None),
         Some(value) => match Directory::read(value) {
-            Ok(directory) => Ok(Some(directory)),
+            Ok(directory) => Ok(Some(Box::new(alloc, directory)?)),
             Err(fault) => Err(refusal(fault, EntryError::Key(EntryKey::Directory))),
         },
     }
 }
 
-fn read_archive(alloc: Global, field: Option<Value>) -> Result<Option<Archive>, EntryError>
-    ensures { Gives EntryError.Memory (λ a. a) result (archive_in (option_map view field)) }
+fn read_archive(alloc: Global, field: Option<Value>) -> Result<Option<Box<Archive>>, EntryError>
+    ensures { Gives EntryError.Memory (option_map (λ b. b.value)) result
+        (archive_in (option_map view field)) }
 {
     match field {
         None => Ok(None),
         Some(value) => match Archive::read(alloc, value) {
-            Ok(archive) => Ok(Some(archive)),
+            Ok(archive) => Ok(Some(Box::new(alloc, archive)?)),
             Err(fault) => Err(refusal(fault, EntryError::Key(EntryKey::Archive))),
         },
     }
 }
 
-fn read_sdist(alloc: Global, field: Option<Value>) -> Result<Option<Sdist>, EntryError>
-    ensures { Gives EntryError.Memory (λ s. s) result (sdist_in (option_map view field)) }
+fn read_sdist(alloc: Global, field: Option<Value>) -> Result<Option<Box<Sdist>>, EntryError>
+    ensures { Gives EntryError.Memory (option_map (λ b. b.value)) result
+        (sdist_in (option_map view field)) }
 {
     match field {
         None => Ok(None),
         Some(value) => match DistributionFile::read(alloc, value) {
-            Ok(sdist) => Ok(Some(sdist)),
+            Ok(sdist) => Ok(Some(Box::new(alloc, sdist)?)),
             Err(fault) => Err(refusal(fault, EntryError::Key(EntryKey::Sdist))),
         },
     }

@@ -10,7 +10,7 @@ ghost use Rattle.pylock_core.specs.Lock.Head.{requires_python_in, head_names_in,
 use crate::conditions::{read_marker, read_set};
 use crate::error::{HeadKey, LockError};
 use crate::field::{FieldError, into_name, into_text, items};
-use crate::lock::distinct::distinct;
+use crate::lock::names::HeadNames;
 use pymark_core::Marker;
 use pyver_core::SpecifierSet;
 use std::alloc::Global;
@@ -22,13 +22,12 @@ use toml::Value;
 pub(crate) struct Head {
     environments: Vec<Marker>,
     requires_python: Option<SpecifierSet>,
-    extras: Vec<String>,
-    groups: Vec<String>,
-    default_groups: Vec<String>,
+    extras: HeadNames,
+    groups: HeadNames,
+    default_groups: HeadNames,
 }
 
 impl Model for Head {
-    ghost use Rattle.std.specs.Prelude.{map, string_bytes};
     ghost use Rattle.pylock_core.specs.Lock.{HeadValue};
     ghost use Rattle.std.specs.Coded.{codes};
     ghost use Rattle.pymark_core.specs.Inner.Coding.{marker_code};
@@ -40,9 +39,9 @@ impl Model for Head {
     ghost view = { λ h. record {
       environments = h.environments.items;
       requires_python = h.requires_python;
-      extras = map string_bytes h.extras.items;
-      groups = map string_bytes h.groups.items;
-      default_groups = map string_bytes h.default_groups.items;
+      extras = h.extras;
+      groups = h.groups;
+      default_groups = h.default_groups;
     } };
 }
 
@@ -91,22 +90,22 @@ impl Head {
         self.requires_python.as_ref()
     }
 
-    pub(crate) fn extras(&self) -> &[String]
-        ensures { map string_bytes result.now ≡ self.now.extras }
+    pub(crate) fn extras(&self) -> &HeadNames
+        ensures { result.now ≡ self.now.extras }
     {
-        self.extras.as_slice()
+        &self.extras
     }
 
-    pub(crate) fn groups(&self) -> &[String]
-        ensures { map string_bytes result.now ≡ self.now.groups }
+    pub(crate) fn groups(&self) -> &HeadNames
+        ensures { result.now ≡ self.now.groups }
     {
-        self.groups.as_slice()
+        &self.groups
     }
 
-    pub(crate) fn default_groups(&self) -> &[String]
-        ensures { map string_bytes result.now ≡ self.now.default_groups }
+    pub(crate) fn default_groups(&self) -> &HeadNames
+        ensures { result.now ≡ self.now.default_groups }
     {
-        self.default_groups.as_slice()
+        &self.default_groups
     }
 }
 
@@ -173,8 +172,8 @@ fn read_head_names(
     alloc: Global,
     key: HeadKey,
     field: Option<Value>,
-) -> Result<Vec<String>, LockError>
-    ensures { Gives LockError.Memory (λ v. map string_bytes v.items) result
+) -> Result<HeadNames, LockError>
+    ensures { Gives LockError.Memory (λ names. names) result
         (head_names_in key (option_map view field)) }
 {
     match names(alloc, field) {
@@ -183,13 +182,12 @@ fn read_head_names(
     }
 }
 
-fn names(alloc: Global, field: Option<Value>) -> Result<Vec<String>, FieldError>
-    ensures { Gives FieldError.Memory (λ v. map string_bytes v.items) result
-        (names_in (option_map view field)) }
+fn names(alloc: Global, field: Option<Value>) -> Result<HeadNames, FieldError>
+    ensures { Gives FieldError.Memory (λ names. names) result (names_in (option_map view field)) }
 {
     let values = items(alloc, field)?;
     let names = read_names(alloc, values)?;
-    Ok(distinct(alloc, names)?)
+    Ok(HeadNames::of(alloc, names)?)
 }
 
 fn read_names(alloc: Global, values: Vec<Value>) -> Result<Vec<String>, FieldError>

@@ -1,26 +1,29 @@
 //! The edits of a session, one by one, and its start.
 
-ghost use Rattle.std.specs.Prelude.{◌≡◌, ℕ, ◌+◌, ◌-◌, ◌<◌, ◌≤◌, ◌++◌, ◌∷◌, List, Some, Ok, Err, IfOk, IfErr, IfSome, IsNone, IsSome, None, OnErr, OnOk, OnSome, ◌||◌, [], length, slice_index_or, string_bytes, map};
+ghost use Rattle.std.specs.Prelude.{◌≡◌, ◌+◌, ◌++◌, ◌∷◌, [], None, Ok, Err, IfOk, IfErr, IfSome};
+ghost use Rattle.std.specs.Prelude.{IsNone, IsSome, OnErr, OnOk, OnSome, length, slice_index_or};
+ghost use Rattle.std.specs.Prelude.{string_bytes, map};
 ghost use Rattle.std.specs.FinMap as map_of;
 ghost use Rattle.std.specs.Option.{option_copied};
-ghost use Rattle.std.specs.List.{list_any};
-ghost use Rattle.std.specs.Str.{bytes_eq};
-ghost use Rattle.pyver_core.specs.Name.{norm};
 ghost use Rattle.pylock_core.specs.Inner.Parts.{IsSession, shown, state_of};
 ghost use Rattle.pylock_core.specs.Inner.Rows.{in_rows};
-ghost use Rattle.pylock_core.specs.Session.Judgement.{verdicts_of};
-ghost use Rattle.pylock_core.specs.Session.State.{apply, asking, entry_at, first, is_known};
+ghost use Rattle.pylock_core.specs.Session.Judgement.{all_numbers, index_of, touched, verdicts_of};
+ghost use Rattle.pylock_core.specs.Session.State.{apply, asking, entry_at, first};
 ghost use Rattle.pylock_core.specs.declared.edit.Edit.TheVariants as edit;
 ghost use Rattle.pylock_core.specs.declared.edit.EditError.TheVariants.{Memory};
 
-use crate::edit::{Edit, EditError, Policy};
+use crate::edit::{Edit, EditError};
 use crate::entry::Entry;
 use crate::lock::{Head, Lock};
+use crate::session::changes::{
+    add_extra, add_group, drop_extra, drop_group, give_policy, set_tags, set_variable,
+    unset_variable,
+};
+use crate::session::index::head_index;
 use crate::session::names::Names;
-use crate::session::parts::{Parts, add, change_environment, change_policy, change_tags, del, put};
+use crate::session::parts::{Parts, add, del, put};
 use crate::session::verdict::Judge;
-use pymark_core::{Environment, Var};
-use pyver_core::{Label, normal_name};
+use pymark_core::Environment;
 use pywheel_core::TagList;
 use std::alloc::{AllocError, Global};
 use std::collections::BTreeMap;
@@ -37,7 +40,8 @@ pub(crate) fn entry_in(entries: &[Option<Entry>], number: u32) -> Option<&Entry>
 /// The place of the entry of the number, if there is one.
 fn place_of(parts: &Parts, number: u32) -> Option<usize>
     ensures place { IfSome result (λ place. number ≡ place + 1) }
-    ensures there { IfSome result (λ place. IsSome (slice_index_or parts.now.entries.items place None)) }
+    ensures there { IfSome result (λ place.
+        IsSome (slice_index_or parts.now.entries.items place None)) }
     ensures known { OnSome result (IsSome (entry_at number (in_rows 1 parts.now.entries.items))) }
     ensures absent { IsNone result → entry_at number (in_rows 1 parts.now.entries.items) ≡ None }
 {
@@ -47,155 +51,16 @@ fn place_of(parts: &Parts, number: u32) -> Option<usize>
     }
 }
 
-/// Whether the normal form of the name is that of a group of the lock, a default one or not.
-fn is_group(parts: &Parts, name: &str) -> Result<bool, AllocError>
-    ensures { IfOk result (λ known. known
-        ≡ (is_known parts.now.head.groups name.now || is_known parts.now.head.default_groups name.now)) }
-{
-    let named = is_known(parts.alloc, parts.head.groups(), name)?;
-    let default = is_known(parts.alloc, parts.head.default_groups(), name)?;
-    Ok(named || default)
-}
-
-/// Whether the normal form of the name is one of these.
-fn is_known(alloc: Global, names: &[String], name: &str) -> Result<bool, AllocError>
-    ensures { IfOk result (λ known. known ≡ is_known (map string_bytes names.now) name.now) }
-{
-    let name = normal_name(alloc, name)?;
-    Ok(has_name(names, name.as_str()))
-}
-
-/// Whether the name is one of these.
-fn has_name(names: &[String], name: &str) -> bool
-    ensures { result ≡ list_any (bytes_eq name.now) (map string_bytes names.now) }
-{
-    for known in names {
-        if name == known.as_str() {
-            return true;
-        }
-    }
-    false
-}
-
-/// Gives the variable the text.
-fn set_variable(
-    parts: &mut Parts,
-    variable: Var,
-    text: Label,
-    judged: &mut Vec<u32>,
-) -> Result<(), EditError>
-    requires { IsSession parts.old }
-    ensures session { IsSession parts.new }
-    ensures ok { OnOk result (apply (edit.Set variable text) (state_of parts.old) ≡ Ok (state_of parts.new)) }
-    ensures refused { IfErr result (λ error. (error ≡ Memory → ⊥) → apply (edit.Set variable text) (state_of parts.old) ≡ Err error) }
-    ensures err { OnErr result (shown parts.new ≡ shown parts.old) }
-{
-    let mut environment = parts.environment.copy()?;
-    environment.set(variable, text.as_str())?;
-    change_environment(parts, environment, judged)?;
-    Ok(())
-}
-
-/// Leaves the variable without a text.
-fn unset_variable(parts: &mut Parts, variable: Var, judged: &mut Vec<u32>) -> Result<(), EditError>
-    requires { IsSession parts.old }
-    ensures session { IsSession parts.new }
-    ensures ok { OnOk result (apply (edit.Unset variable) (state_of parts.old) ≡ Ok (state_of parts.new)) }
-    ensures refused { IfErr result (λ error. (error ≡ Memory → ⊥) → apply (edit.Unset variable) (state_of parts.old) ≡ Err error) }
-    ensures err { OnErr result (shown parts.new ≡ shown parts.old) }
-{
-    let mut environment = parts.environment.copy()?;
-    environment.unset(variable);
-    change_environment(parts, environment, judged)?;
-    Ok(())
-}
-
-/// Asks for the extra.
-fn add_extra(parts: &mut Parts, name: Label, judged: &mut Vec<u32>) -> Result<(), EditError>
-    requires { IsSession parts.old }
-    ensures session { IsSession parts.new }
-    ensures ok { OnOk result (apply (edit.AddExtra name) (state_of parts.old) ≡ Ok (state_of parts.new)) }
-    ensures refused { IfErr result (λ error. (error ≡ Memory → ⊥) → apply (edit.AddExtra name) (state_of parts.old) ≡ Err error) }
-    ensures err { OnErr result (shown parts.new ≡ shown parts.old) }
-{
-    if !is_known(parts.alloc, parts.head.extras(), name.as_str())? {
-        return Err(EditError::UnknownExtra);
-    }
-    let mut environment = parts.environment.copy()?;
-    environment.add_extra(name.as_str())?;
-    change_environment(parts, environment, judged)?;
-    Ok(())
-}
-
-/// Asks for the extra no more.
-fn drop_extra(parts: &mut Parts, name: Label, judged: &mut Vec<u32>) -> Result<(), EditError>
-    requires { IsSession parts.old }
-    ensures session { IsSession parts.new }
-    ensures ok { OnOk result (apply (edit.DropExtra name) (state_of parts.old) ≡ Ok (state_of parts.new)) }
-    ensures refused { IfErr result (λ error. (error ≡ Memory → ⊥) → apply (edit.DropExtra name) (state_of parts.old) ≡ Err error) }
-    ensures err { OnErr result (shown parts.new ≡ shown parts.old) }
-{
-    if !is_known(parts.alloc, parts.head.extras(), name.as_str())? {
-        return Err(EditError::UnknownExtra);
-    }
-    let mut environment = parts.environment.copy()?;
-    environment.drop_extra(name.as_str())?;
-    change_environment(parts, environment, judged)?;
-    Ok(())
-}
-
-/// Asks for the group.
-fn add_group(parts: &mut Parts, name: Label, judged: &mut Vec<u32>) -> Result<(), EditError>
-    requires { IsSession parts.old }
-    ensures session { IsSession parts.new }
-    ensures ok { OnOk result (apply (edit.AddGroup name) (state_of parts.old) ≡ Ok (state_of parts.new)) }
-    ensures refused { IfErr result (λ error. (error ≡ Memory → ⊥) → apply (edit.AddGroup name) (state_of parts.old) ≡ Err error) }
-    ensures err { OnErr result (shown parts.new ≡ shown parts.old) }
-{
-    if !is_group(parts, name.as_str())? {
-        return Err(EditError::UnknownGroup);
-    }
-    let mut environment = parts.environment.copy()?;
-    environment.add_group(name.as_str())?;
-    change_environment(parts, environment, judged)?;
-    Ok(())
-}
-
-/// Asks for the group no more.
-fn drop_group(parts: &mut Parts, name: Label, judged: &mut Vec<u32>) -> Result<(), EditError>
-    requires { IsSession parts.old }
-    ensures session { IsSession parts.new }
-    ensures ok { OnOk result (apply (edit.DropGroup name) (state_of parts.old) ≡ Ok (state_of parts.new)) }
-    ensures refused { IfErr result (λ error. (error ≡ Memory → ⊥) → apply (edit.DropGroup name) (state_of parts.old) ≡ Err error) }
-    ensures err { OnErr result (shown parts.new ≡ shown parts.old) }
-{
-    if !is_group(parts, name.as_str())? {
-        return Err(EditError::UnknownGroup);
-    }
-    let mut environment = parts.environment.copy()?;
-    environment.drop_group(name.as_str())?;
-    change_environment(parts, environment, judged)?;
-    Ok(())
-}
-
-/// Puts the tags in place of those that were there.
-fn set_tags(parts: &mut Parts, tags: TagList, judged: &mut Vec<u32>) -> Result<(), EditError>
-    requires { IsSession parts.old }
-    ensures session { IsSession parts.new }
-    ensures ok { OnOk result (apply (edit.Tags tags) (state_of parts.old) ≡ Ok (state_of parts.new)) }
-    ensures refused { IfErr result (λ error. (error ≡ Memory → ⊥) → apply (edit.Tags tags) (state_of parts.old) ≡ Err error) }
-    ensures err { OnErr result (shown parts.new ≡ shown parts.old) }
-{
-    change_tags(parts, tags, judged)?;
-    Ok(())
-}
-
 /// Adds the entry.
 fn add_entry(parts: &mut Parts, entry: Entry, judged: &mut Vec<u32>) -> Result<(), EditError>
     requires { IsSession parts.old }
     ensures session { IsSession parts.new }
-    ensures ok { OnOk result (apply (edit.Add entry) (state_of parts.old) ≡ Ok (state_of parts.new)) }
-    ensures refused { IfErr result (λ error. (error ≡ Memory → ⊥) → apply (edit.Add entry) (state_of parts.old) ≡ Err error) }
+    ensures ok { OnOk result
+        (apply (edit.Add entry) (state_of parts.old) ≡ Ok (state_of parts.new)) }
+    ensures judged { OnOk result (judged.new.items
+        ≡ judged.old.items ++ touched (edit.Add entry) (state_of parts.old)) }
+    ensures refused { IfErr result (λ error. (error ≡ Memory → ⊥)
+        → apply (edit.Add entry) (state_of parts.old) ≡ Err error) }
     ensures err { OnErr result (shown parts.new ≡ shown parts.old) }
 {
     if parts.entries.len() >= 100_000 {
@@ -214,8 +79,12 @@ fn put_entry(
 ) -> Result<(), EditError>
     requires { IsSession parts.old }
     ensures session { IsSession parts.new }
-    ensures ok { OnOk result (apply (edit.Put number entry) (state_of parts.old) ≡ Ok (state_of parts.new)) }
-    ensures refused { IfErr result (λ error. (error ≡ Memory → ⊥) → apply (edit.Put number entry) (state_of parts.old) ≡ Err error) }
+    ensures ok { OnOk result
+        (apply (edit.Put number entry) (state_of parts.old) ≡ Ok (state_of parts.new)) }
+    ensures judged { OnOk result (judged.new.items
+        ≡ judged.old.items ++ touched (edit.Put number entry) (state_of parts.old)) }
+    ensures refused { IfErr result (λ error. (error ≡ Memory → ⊥)
+        → apply (edit.Put number entry) (state_of parts.old) ≡ Err error) }
     ensures err { OnErr result (shown parts.new ≡ shown parts.old) }
 {
     let Some(place) = place_of(parts, number) else {
@@ -225,30 +94,14 @@ fn put_entry(
     Ok(())
 }
 
-/// Gives the name the policy.
-fn give_policy(
-    parts: &mut Parts,
-    name: Label,
-    policy: Policy,
-    judged: &mut Vec<u32>,
-) -> Result<(), EditError>
-    requires { IsSession parts.old }
-    ensures session { IsSession parts.new }
-    ensures ok { OnOk result (apply (edit.Policy name policy) (state_of parts.old) ≡ Ok (state_of parts.new)) }
-    ensures refused { IfErr result (λ error. (error ≡ Memory → ⊥) → apply (edit.Policy name policy) (state_of parts.old) ≡ Err error) }
-    ensures err { OnErr result (shown parts.new ≡ shown parts.old) }
-{
-    let name = normal_name(parts.alloc, name.as_str())?;
-    change_policy(parts, name.as_str(), policy, judged)?;
-    Ok(())
-}
-
 /// Takes out the entry of the number.
 fn del_entry(parts: &mut Parts, number: u32) -> Result<(), EditError>
     requires { IsSession parts.old }
     ensures session { IsSession parts.new }
-    ensures ok { OnOk result (apply (edit.Del number) (state_of parts.old) ≡ Ok (state_of parts.new)) }
-    ensures refused { IfErr result (λ error. (error ≡ Memory → ⊥) → apply (edit.Del number) (state_of parts.old) ≡ Err error) }
+    ensures ok { OnOk result
+        (apply (edit.Del number) (state_of parts.old) ≡ Ok (state_of parts.new)) }
+    ensures refused { IfErr result (λ error. (error ≡ Memory → ⊥)
+        → apply (edit.Del number) (state_of parts.old) ≡ Err error) }
     ensures err { OnErr result (shown parts.new ≡ shown parts.old) }
 {
     let Some(place) = place_of(parts, number) else {
@@ -263,7 +116,10 @@ fn make(parts: &mut Parts, edit: Edit, judged: &mut Vec<u32>) -> Result<(), Edit
     requires { IsSession parts.old }
     ensures session { IsSession parts.new }
     ensures ok { OnOk result (apply edit (state_of parts.old) ≡ Ok (state_of parts.new)) }
-    ensures refused { IfErr result (λ error. (error ≡ Memory → ⊥) → apply edit (state_of parts.old) ≡ Err error) }
+    ensures judged { OnOk result (judged.new.items
+        ≡ judged.old.items ++ touched edit (state_of parts.old)) }
+    ensures refused { IfErr result (λ error. (error ≡ Memory → ⊥)
+        → apply edit (state_of parts.old) ≡ Err error) }
     ensures err { OnErr result (shown parts.new ≡ shown parts.old) }
 {
     match edit {
@@ -286,9 +142,12 @@ pub(crate) fn edit_parts(parts: &mut Parts, edit: Edit) -> Result<u64, EditError
     requires { IsSession parts.old }
     ensures session { IsSession parts.new }
     ensures verdicts { (shown parts.new).verdicts ≡ verdicts_of (state_of parts.new) }
+    ensures index { (shown parts.new).index ≡ index_of (state_of parts.new) }
+    ensures judged { OnOk result (parts.new.judged.items ≡ touched edit (state_of parts.old)) }
     ensures count { IfOk result (λ judgements. judgements ≡ length parts.new.judged.items) }
     ensures ok { OnOk result (apply edit (state_of parts.old) ≡ Ok (state_of parts.new)) }
-    ensures refused { IfErr result (λ error. (error ≡ Memory → ⊥) → apply edit (state_of parts.old) ≡ Err error) }
+    ensures refused { IfErr result (λ error. (error ≡ Memory → ⊥)
+        → apply edit (state_of parts.old) ≡ Err error) }
     ensures err { OnErr result (shown parts.new ≡ shown parts.old) }
 {
     let mut judged = Vec::new(parts.alloc);
@@ -308,12 +167,13 @@ fn asking(mut environment: Environment, groups: &[String]) -> Result<Environment
     Ok(environment)
 }
 
-/// The parts of a session that has no entry.
+/// The parts of a session that has no entry, and room for as many.
 fn without_entries(
     alloc: Global,
     head: Head,
     environment: Environment,
     tags: TagList,
+    count: usize,
     judged: &mut Vec<u32>,
 ) -> Result<Parts, AllocError>
     ensures session { IfOk result (λ parts. IsSession parts) }
@@ -325,6 +185,7 @@ fn without_entries(
       tags = tags;
       policies = map_of.empty;
     }) }
+    ensures judged { OnOk result (judged.new.items ≡ judged.old.items ++ 0 ∷ []) }
 {
     let judge = Judge {
         alloc,
@@ -332,20 +193,23 @@ fn without_entries(
         tags: &tags,
     };
     let head_verdict = judge.head(&head, judged)?;
+    let index = head_index(alloc, &head)?;
     Ok(Parts {
         alloc,
-        head,
-        environment,
-        tags,
-        entries: Vec::new(alloc),
-        rows: Vec::new(alloc),
+        judged: Vec::new(alloc),
+        index,
+        rows: Vec::with_capacity(alloc, count)?,
         names: Names {
             numbers: BTreeMap::new(alloc),
-            policies: Vec::new(alloc),
-            members: Vec::new(alloc),
+            policies: Vec::with_capacity(alloc, count)?,
+            members: Vec::with_capacity(alloc, count)?,
         },
+        head,
         head_verdict,
-        judged: Vec::new(alloc),
+        environment,
+        spare: None,
+        tags,
+        entries: Vec::with_capacity(alloc, count)?,
     })
 }
 
@@ -358,12 +222,15 @@ pub(crate) fn start(
 ) -> Result<Parts, AllocError>
     ensures session { IfOk result (λ parts. IsSession parts) }
     ensures state { IfOk result (λ parts. state_of parts ≡ first lock environment tags) }
-    ensures verdicts { IfOk result (λ parts. (shown parts).verdicts ≡ verdicts_of (state_of parts)) }
+    ensures verdicts { IfOk result (λ parts.
+        (shown parts).verdicts ≡ verdicts_of (state_of parts)) }
+    ensures index { IfOk result (λ parts. (shown parts).index ≡ index_of (state_of parts)) }
+    ensures judged { IfOk result (λ parts. parts.judged.items ≡ all_numbers (state_of parts)) }
 {
     let (head, entries) = lock.into_parts();
-    let environment = asking(environment, head.default_groups())?;
+    let environment = asking(environment, head.default_groups().as_slice())?;
     let mut judged = Vec::new(alloc);
-    let mut parts = without_entries(alloc, head, environment, tags, &mut judged)?;
+    let mut parts = without_entries(alloc, head, environment, tags, entries.len(), &mut judged)?;
     for entry in entries {
         add(&mut parts, entry, &mut judged)?;
     }

@@ -1,9 +1,17 @@
 //! The index of a session: for each key the numbers of what reads it.
 
-ghost use Rattle.std.specs.Prelude.{◌≡◌, ℕ, ◌<◌, false, IsTrue, OnOk, slice_index_or, vec_len, vec_capacity};
-ghost use Rattle.pylock_core.specs.Inner.Index.{AllRise, HaveRoom, Rises, list_at, moved, put_in, take_out};
+ghost use Rattle.std.specs.Prelude.{◌≡◌, ℕ, ◌<◌, false, [], IfOk, IsTrue, OnOk, length, map};
+ghost use Rattle.std.specs.Prelude.{slice_index_or, vec_len, vec_capacity};
+ghost use Rattle.pylock_core.specs.Session.Judgement.{and_head, entry_reads, head_reads, keys};
+ghost use Rattle.pylock_core.specs.Inner.Index.{AllRise, HaveRoom, Rises, any_reads};
+ghost use Rattle.pylock_core.specs.Inner.Index.{list_at, moved, numbers_in, put_in};
+ghost use Rattle.pylock_core.specs.Inner.Index.{read_by, take_out};
+ghost use Rattle.pylock_core.specs.Inner.Rows.{passes};
 
-use std::alloc::AllocError;
+use crate::entry::Entry;
+use crate::lock::Head;
+use pymark_core::{Key, Marker, Var};
+use std::alloc::{AllocError, Global};
 
 /// How many keys there are.
 pub(crate) const KEYS: usize = 14;
@@ -14,9 +22,92 @@ pub(crate) type Lists = [Vec<u32>; KEYS];
 /// Which of the keys are read.
 pub(crate) type KeySet = [bool; KEYS];
 
+/// Whether one of the markers reads the key.
+fn any_reads(markers: &[Marker], key: Key) -> bool
+    ensures { result ≡ any_reads key markers.now }
+{
+    for marker in markers {
+        if marker.reads().has(key) {
+            return true;
+        }
+    }
+    false
+}
+
+/// The keys that are read by what has these markers, a Python check or not, and wheels or not.
+fn keys_read(markers: &[Marker], check: bool, wheels: bool) -> KeySet
+    ensures { result ≡ map (read_by markers.now check wheels) keys }
+{
+    [
+        any_reads(markers, Key::Of(Var::OsName)),
+        any_reads(markers, Key::Of(Var::SysPlatform)),
+        any_reads(markers, Key::Of(Var::PlatformMachine)),
+        any_reads(markers, Key::Of(Var::PlatformPythonImplementation)),
+        any_reads(markers, Key::Of(Var::PlatformRelease)),
+        any_reads(markers, Key::Of(Var::PlatformSystem)),
+        any_reads(markers, Key::Of(Var::PlatformVersion)),
+        any_reads(markers, Key::Of(Var::PythonVersion)),
+        check | any_reads(markers, Key::Of(Var::PythonFullVersion)),
+        any_reads(markers, Key::Of(Var::ImplementationName)),
+        any_reads(markers, Key::Of(Var::ImplementationVersion)),
+        any_reads(markers, Key::Extras),
+        any_reads(markers, Key::Groups),
+        wheels,
+    ]
+}
+
+/// The keys that the entry reads.
+pub(crate) fn entry_keys(entry: &Entry) -> KeySet
+    ensures { result ≡ map (λ key. entry_reads key entry.now) keys }
+{
+    let check = entry.requires_python().is_some();
+    let wheels = !entry.wheels().is_empty();
+    match entry.marker() {
+        Some(marker) => keys_read(std::slice::from_ref(marker), check, wheels),
+        None => keys_read(&[], check, wheels),
+    }
+}
+
+/// The keys that what stands at a place reads: none where no entry does.
+pub(crate) fn keys_at(entry: &Option<Entry>) -> KeySet
+    ensures { result ≡ map (λ key. passes (entry_reads key) entry.now) keys }
+{
+    match entry {
+        Some(entry) => entry_keys(entry),
+        None => [false; KEYS],
+    }
+}
+
+/// The keys that the head reads.
+fn head_keys(head: &Head) -> KeySet
+    ensures { result ≡ map (λ key. head_reads key head.now) keys }
+{
+    keys_read(head.environments(), head.requires_python().is_some(), false)
+}
+
+/// Lists that are empty.
+fn empty_lists(alloc: Global) -> Lists
+    ensures empty { (key : ℕ) → list_at result key ≡ [] }
+    ensures long { length result ≡ 14 }
+{
+    std::array::from_fn(|_| Vec::new(alloc))
+}
+
+/// The lists of a session that has no entry: the number of the head under each key that it reads.
+pub(crate) fn head_index(alloc: Global, head: &Head) -> Result<Lists, AllocError>
+    ensures { IfOk result (λ lists. numbers_in lists
+        ≡ map (λ key. and_head (head_reads key head.now) []) keys) }
+{
+    let read = head_keys(head);
+    let mut lists = empty_lists(alloc);
+    reserve_each(&mut lists, &read)?;
+    change_each(&mut lists, 0, &[false; KEYS], &read);
+    Ok(lists)
+}
+
 /// Makes room for one more number under each of the keys.
 pub(crate) fn reserve_each(lists: &mut Lists, keys: &KeySet) -> Result<(), AllocError>
-    ensures kept { (key : ℕ) → list_at lists.new key ≡ list_at lists.old key }
+    ensures kept { numbers_in lists.new ≡ numbers_in lists.old }
     ensures room { OnOk result (HaveRoom lists.new keys.now 0) }
 {
     for key in 0..KEYS {
@@ -40,8 +131,10 @@ pub(crate) fn reserve_one(numbers: &mut Vec<u32>, comes: bool) -> Result<(), All
 pub(crate) fn change_each(lists: &mut Lists, number: u32, was: &KeySet, is: &KeySet)
     requires room { HaveRoom lists.old is.now 0 }
     requires rise { AllRise lists.old }
-    ensures { (key : ℕ) → key < 14 → list_at lists.new key
-        ≡ moved number (slice_index_or was.now key false) (slice_index_or is.now key false) (list_at lists.old key) }
+    ensures changed { (key : ℕ) → key < 14 → list_at lists.new key
+        ≡ moved number (slice_index_or was.now key false) (slice_index_or is.now key false)
+        (list_at lists.old key) }
+    ensures long { length lists.new ≡ length lists.old }
 {
     for key in 0..KEYS {
         change(&mut lists[key], number, was[key], is[key]);

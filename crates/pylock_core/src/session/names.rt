@@ -1,8 +1,10 @@
 //! The names of a session: each has a number, and by the number its policy and its entries.
 
-ghost use Rattle.std.specs.Prelude.{◌≡◌, ℕ, ◌<◌, nat_eq, not, List, Some, IfOk, OnOk, IsTrue, length, option_map, slice_set, if◌then◌else◌};
+ghost use Rattle.std.specs.Prelude.{◌≡◌, ℕ, ◌<◌, nat_eq, not, List, Some, IfOk, IfSome, OnOk};
+ghost use Rattle.std.specs.Prelude.{IsTrue, length, slice_set, if◌then◌else◌};
 ghost use Rattle.pylock_core.specs.Inner.Index.{Rises, list_at, moved};
-ghost use Rattle.pylock_core.specs.Inner.Names.{HasRoom, IsNames, members_of, number_in, policies_in, policy_at};
+ghost use Rattle.pylock_core.specs.Inner.Names.{HasRoom, IsNames, is_at, members_of, number_in};
+ghost use Rattle.pylock_core.specs.Inner.Names.{policies_in};
 ghost use Rattle.pylock_core.specs.Session.State.{with_policy};
 
 use crate::edit::Policy;
@@ -21,12 +23,13 @@ pub(crate) struct Names {
     pub(crate) members: Vec<Vec<u32>>,
 }
 
-/// The number of the name, which gets one here where it has none. Where there is no memory for it, all
-/// stays but for room.
+/// The number of the name, which gets one here where it has none. Where there is no memory for it,
+/// all stays but for room.
 pub(crate) fn number_of(alloc: Global, names: &mut Names, name: &str) -> Result<usize, AllocError>
     requires { IsNames names.old }
     ensures found { IfOk result (λ number. number_in names.new name.now ≡ Some number) }
-    ensures kept { (q : List ℕ) (n : ℕ) → number_in names.old q ≡ Some n → number_in names.new q ≡ Some n }
+    ensures kept { (q : List ℕ) (n : ℕ)
+        → number_in names.old q ≡ Some n → number_in names.new q ≡ Some n }
     ensures members { (q : List ℕ) → members_of names.new q ≡ members_of names.old q }
     ensures policies { policies_in names.new ≡ policies_in names.old }
     ensures is { IsNames names.new }
@@ -72,6 +75,7 @@ pub(crate) fn reserve_member(names: &mut Names, number: usize) -> Result<(), All
     ensures room { OnOk result (HasRoom names.new number) }
     ensures members { (q : List ℕ) → members_of names.new q ≡ members_of names.old q }
     ensures numbers { (q : List ℕ) → number_in names.new q ≡ number_in names.old q }
+    ensures items { names.new.policies.items ≡ names.old.policies.items }
     ensures policies { policies_in names.new ≡ policies_in names.old }
     ensures is { IsNames names.new }
 {
@@ -79,7 +83,7 @@ pub(crate) fn reserve_member(names: &mut Names, number: usize) -> Result<(), All
 }
 
 /// Has the entry of this number under the name of that number, or not.
-pub(crate) fn change_member(names: &mut Names, number: usize, entry: u32, is: bool)
+fn change_member(names: &mut Names, number: usize, entry: u32, is: bool)
     requires is { IsNames names.old }
     requires within { number < length names.old.policies.items }
     requires room { IsTrue is → HasRoom names.old number }
@@ -88,8 +92,55 @@ pub(crate) fn change_member(names: &mut Names, number: usize, entry: u32, is: bo
         then moved entry (not is) is (list_at names.old.members.items n)
         else list_at names.old.members.items n) }
     ensures numbers { (q : List ℕ) → number_in names.new q ≡ number_in names.old q }
+    ensures items { names.new.policies.items ≡ names.old.policies.items }
     ensures policies { policies_in names.new ≡ policies_in names.old }
     ensures is { IsNames names.new }
 {
     change(&mut names.members[number], entry, !is, is);
+}
+
+/// Has the entry of this number under the name of the number `is`, where it was under that of
+/// `was`.
+fn move_between(names: &mut Names, entry: u32, was: usize, is: usize)
+    requires names { IsNames names.old }
+    requires was { was < length names.old.policies.items }
+    requires is { is < length names.old.policies.items }
+    requires room { HasRoom names.old is }
+    requires was_rises { Rises 0 (list_at names.old.members.items was) }
+    requires is_rises { Rises 0 (list_at names.old.members.items is) }
+    ensures members { (n : ℕ) → list_at names.new.members.items n
+        ≡ moved entry (nat_eq n was) (nat_eq n is) (list_at names.old.members.items n) }
+    ensures numbers { (q : List ℕ) → number_in names.new q ≡ number_in names.old q }
+    ensures items { names.new.policies.items ≡ names.old.policies.items }
+    ensures policies { policies_in names.new ≡ policies_in names.old }
+    ensures is { IsNames names.new }
+{
+    if was == is {
+        return;
+    }
+    change_member(names, is, entry, true);
+    change_member(names, was, entry, false);
+}
+
+/// The same where the entry was under no name, or is to be under none.
+pub(crate) fn move_member(names: &mut Names, entry: u32, was: Option<usize>, is: Option<usize>)
+    requires names { IsNames names.old }
+    requires was { IfSome was (λ n. n < length names.old.policies.items) }
+    requires is { IfSome is (λ n. n < length names.old.policies.items) }
+    requires room { IfSome is (λ n. HasRoom names.old n) }
+    requires was_rises { IfSome was (λ n. Rises 0 (list_at names.old.members.items n)) }
+    requires is_rises { IfSome is (λ n. Rises 0 (list_at names.old.members.items n)) }
+    ensures members { (n : ℕ) → list_at names.new.members.items n
+        ≡ moved entry (is_at n was) (is_at n is) (list_at names.old.members.items n) }
+    ensures numbers { (q : List ℕ) → number_in names.new q ≡ number_in names.old q }
+    ensures items { names.new.policies.items ≡ names.old.policies.items }
+    ensures policies { policies_in names.new ≡ policies_in names.old }
+    ensures is { IsNames names.new }
+{
+    match (was, is) {
+        (Some(was), Some(is)) => move_between(names, entry, was, is),
+        (Some(was), None) => change_member(names, was, entry, false),
+        (None, Some(is)) => change_member(names, is, entry, true),
+        (None, None) => {}
+    }
 }

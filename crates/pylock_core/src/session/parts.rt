@@ -1,17 +1,22 @@
 //! The parts of a session, and what edits make of them.
 
-ghost use Rattle.std.specs.Prelude.{◌≡◌, ℕ, ◌+◌, ◌-◌, ◌<◌, ◌≤◌, ◌++◌, ◌∷◌, [], List, Some, None, Ok, Err, IfOk, IfSome, IsSome, OnOk, OnErr, length, map, is_some, slice_index_or, slice_set, vec_len};
-ghost use Rattle.pylock_core.specs.Inner.Names.{IsNames, number_in, policies_in};
-ghost use Rattle.pylock_core.specs.Inner.Parts.{IsJudged, IsNamed, IsSession, row_again, rows_again, shown, sources_of, state_of};
-ghost use Rattle.pylock_core.specs.Inner.Pass.{NamesBelow};
-ghost use Rattle.pylock_core.specs.Session.State.{in_environment, with_entry, with_next, with_policy, without};
+ghost use Rattle.std.specs.Prelude.{◌≡◌, ◌+◌, ◌<◌, ◌++◌, ◌∷◌, [], None, Ok, IfOk, IfSome, IsSome};
+ghost use Rattle.std.specs.Prelude.{OnErr, OnOk, length, map, option_map};
+ghost use Rattle.std.specs.Prelude.{slice_index_or, slice_set};
+ghost use Rattle.pylock_core.specs.Inner.Index.{HaveRoom};
+ghost use Rattle.pylock_core.specs.Inner.Names.{HasRoom};
+ghost use Rattle.pylock_core.specs.Inner.Parts.{IsJudged, IsNamed, IsSession, OfBoth, shown};
+ghost use Rattle.pylock_core.specs.Inner.Parts.{sources_of, state_of};
+ghost use Rattle.pylock_core.specs.Inner.Rows.{in_rows, passes};
+ghost use Rattle.pylock_core.specs.Session.Judgement.{entry_reads, keys};
+ghost use Rattle.pylock_core.specs.Session.State.{with_entry, with_next, without};
 ghost use Rattle.pylock_core.specs.Session.Steps.{answer};
 
 use crate::answer::Answer;
-use crate::edit::Policy;
 use crate::entry::Entry;
 use crate::lock::Head;
-use crate::session::names::{Names, number_of, set_policy};
+use crate::session::index::{Lists, change_each, entry_keys, keys_at, reserve_each};
+use crate::session::names::{Names, move_member, number_of, reserve_member};
 use crate::session::pass::answer_of;
 use crate::session::room::{push_within, put_at};
 use crate::session::row::{Row, Sources};
@@ -24,15 +29,23 @@ use std::alloc::{AllocError, Global};
 #[derive(Debug, Drop)]
 pub(crate) struct Parts {
     pub(crate) alloc: Global,
-    pub(crate) head: Head,
-    pub(crate) environment: Environment,
-    pub(crate) tags: TagList,
-    /// The entry of number k stands at place k - 1, and so does its row.
-    pub(crate) entries: Vec<Option<Entry>>,
+    /// The numbers that the last accepted edit judged.
+    pub(crate) judged: Vec<u32>,
+    /// The numbers of what reads each key, 0 for the head.
+    pub(crate) index: Lists,
+    /// The row of the entry of number k stands at place k - 1.
     pub(crate) rows: Vec<Option<Row>>,
     pub(crate) names: Names,
+    pub(crate) head: Head,
     pub(crate) head_verdict: HeadVerdict,
-    pub(crate) judged: Vec<u32>,
+    pub(crate) environment: Environment,
+    /// The same environment once more, where there is one: the next is made of it, and so none is
+    /// copied for an edit.
+    pub(crate) spare: Option<Environment>,
+    pub(crate) tags: TagList,
+    /// The entry of number k stands at place k - 1. They are let go last: the allocator merges
+    /// their many small pieces only when a large one is given back behind them.
+    pub(crate) entries: Vec<Option<Entry>>,
 }
 
 /// The answer of the installation steps.
@@ -48,63 +61,6 @@ pub(crate) fn answer(alloc: Global, parts: &Parts) -> Result<Answer, AllocError>
         parts.rows.as_slice(),
         parts.names.policies.as_slice(),
     )
-}
-
-/// The rows of the entries, judged again.
-fn judged_rows(
-    judge: &Judge,
-    entries: &[Option<Entry>],
-    rows: &[Option<Row>],
-    policies: &[Policy],
-    judged: &mut Vec<u32>,
-) -> Result<Vec<Option<Row>>, AllocError>
-    requires few { length entries.now ≤ 100000 }
-    requires even { length rows.now ≡ length entries.now }
-    requires below { NamesBelow (length policies.now) rows.now }
-    ensures { IfOk result (λ new. new.items
-        ≡ rows_again judge.now.environment.now judge.now.tags.now policies.now entries.now rows.now) }
-{
-    let mut new = Vec::with_capacity(judge.alloc, rows.len())?;
-    for place in 0..rows.len() {
-        let row = judged_row(
-            judge,
-            place,
-            &entries[place],
-            &rows[place],
-            policies,
-            judged,
-        )?;
-        new.push(row)?;
-    }
-    Ok(new)
-}
-
-/// The row of the entry at the place, judged again.
-fn judged_row(
-    judge: &Judge,
-    place: usize,
-    entry: &Option<Entry>,
-    row: &Option<Row>,
-    policies: &[Policy],
-    judged: &mut Vec<u32>,
-) -> Result<Option<Row>, AllocError>
-    requires few { place < 100000 }
-    requires below { IfSome row.now (λ row. row.name < length policies.now) }
-    ensures { IfOk result (λ new. new
-        ≡ row_again judge.now.environment.now judge.now.tags.now policies.now entry.now row.now) }
-{
-    match (entry, row) {
-        (Some(entry), Some(row)) => {
-            let policy = policies[row.name];
-            let verdict = judge.entry(place as u32 + 1, entry, policy, judged)?;
-            Ok(Some(Row {
-                verdict,
-                name: row.name,
-                sources: row.sources,
-            }))
-        }
-        _ => Ok(None),
-    }
 }
 
 /// The kinds of sources that the entry has.
@@ -129,7 +85,9 @@ fn make_row(
 ) -> Result<Row, AllocError>
     requires { IsSession parts.old }
     ensures named { IfOk result (λ row. IsNamed parts.new.names entry.now row) }
-    ensures judged { IfOk result (λ row. IsJudged parts.new.environment parts.new.tags parts.new.names.policies.items entry.now row) }
+    ensures judged { IfOk result (λ row. IsJudged
+        parts.new.environment parts.new.tags parts.new.names.policies.items entry.now row) }
+    ensures count { OnOk result (judged.new.items ≡ judged.old.items ++ number ∷ []) }
     ensures session { IsSession parts.new }
     ensures shown { shown parts.new ≡ shown parts.old }
     ensures entries { parts.new.entries.items ≡ parts.old.entries.items }
@@ -148,26 +106,90 @@ fn make_row(
     })
 }
 
-/// Adds the entry after all others, with the next number. Where there is no memory for it, all that is
-/// shown stays.
+/// The row of an entry that is to have this number, for which there is room now under the keys that
+/// the entry reads and under its name.
+fn prepare(
+    parts: &mut Parts,
+    number: u32,
+    entry: &Entry,
+    judged: &mut Vec<u32>,
+) -> Result<Row, AllocError>
+    requires { IsSession parts.old }
+    ensures named { IfOk result (λ row. IsNamed parts.new.names entry.now row) }
+    ensures judged { IfOk result (λ row. IsJudged
+        parts.new.environment parts.new.tags parts.new.names.policies.items entry.now row) }
+    ensures index { OnOk result
+        (HaveRoom parts.new.index (map (λ key. entry_reads key entry.now) keys) 0) }
+    ensures name { IfOk result (λ row. HasRoom parts.new.names row.name) }
+    ensures count { OnOk result (judged.new.items ≡ judged.old.items ++ number ∷ []) }
+    ensures session { IsSession parts.new }
+    ensures shown { shown parts.new ≡ shown parts.old }
+    ensures entries { parts.new.entries.items ≡ parts.old.entries.items }
+{
+    let row = make_row(parts, number, entry, judged)?;
+    reserve_each(&mut parts.index, &entry_keys(entry))?;
+    reserve_member(&mut parts.names, row.name)?;
+    Ok(row)
+}
+
+/// The number of the name of a row, where there is one.
+fn name_of(row: &Option<Row>) -> Option<usize>
+    ensures { result ≡ option_map (λ row. row.name) row.now }
+{
+    match row {
+        Some(row) => Some(row.name),
+        None => None,
+    }
+}
+
+/// Writes an entry and its row, or none, at a place that is there. The lists of its keys and of its
+/// name have room.
+fn write_at(parts: &mut Parts, place: usize, row: Option<Row>, entry: Option<Entry>)
+    requires session { IsSession parts.old }
+    requires within { place < length parts.old.entries.items }
+    requires named { OfBoth (IsNamed parts.old.names) entry row }
+    requires judged { OfBoth
+        (IsJudged parts.old.environment parts.old.tags parts.old.names.policies.items) entry row }
+    requires index { HaveRoom parts.old.index (map (λ key. passes (entry_reads key) entry) keys) 0 }
+    requires name { IfSome row (λ row. HasRoom parts.old.names row.name) }
+    ensures session { IsSession parts.new }
+    ensures state { state_of parts.new ≡ record (state_of parts.old) {
+      entries = in_rows 1 (slice_set parts.old.entries.items place entry);
+    } }
+{
+    let number = place as u32 + 1;
+    let was = keys_at(&parts.entries[place]);
+    let is = keys_at(&entry);
+    change_each(&mut parts.index, number, &was, &is);
+    let was = name_of(&parts.rows[place]);
+    move_member(&mut parts.names, number, was, name_of(&row));
+    put_at(&mut parts.rows, place, row);
+    put_at(&mut parts.entries, place, entry);
+}
+
+/// Adds the entry after all others, with the next number. Where there is no memory for it, all that
+/// is shown stays.
 pub(crate) fn add(parts: &mut Parts, entry: Entry, judged: &mut Vec<u32>) -> Result<(), AllocError>
     requires session { IsSession parts.old }
     requires room { length parts.old.entries.items < 100000 }
     ensures session { IsSession parts.new }
     ensures ok { OnOk result (with_next entry (state_of parts.old) ≡ Ok (state_of parts.new)) }
+    ensures judged { OnOk result (judged.new.items
+        ≡ judged.old.items ++ (length parts.old.entries.items + 1) ∷ []) }
     ensures err { OnErr result (shown parts.new ≡ shown parts.old) }
 {
-    let number = parts.entries.len() as u32 + 1;
-    let row = make_row(parts, number, &entry, judged)?;
+    let place = parts.entries.len();
+    let row = prepare(parts, place as u32 + 1, &entry, judged)?;
     parts.entries.reserve(1)?;
     parts.rows.reserve(1)?;
-    push_within(&mut parts.rows, Some(row));
-    push_within(&mut parts.entries, Some(entry));
+    push_within(&mut parts.rows, None);
+    push_within(&mut parts.entries, None);
+    write_at(parts, place, Some(row), Some(entry));
     Ok(())
 }
 
-/// Puts the entry at the place of one that is there. Where there is no memory for it, all that is shown
-/// stays.
+/// Puts the entry at the place of one that is there. Where there is no memory for it, all that is
+/// shown stays.
 pub(crate) fn put(
     parts: &mut Parts,
     place: usize,
@@ -178,128 +200,26 @@ pub(crate) fn put(
     requires there { IsSome (slice_index_or parts.old.entries.items place None) }
     ensures session { IsSession parts.new }
     ensures ok { OnOk result (state_of parts.new
-        ≡ record (state_of parts.old) { entries = with_entry (place + 1) entry (state_of parts.old).entries }) }
+        ≡ record (state_of parts.old) {
+          entries = with_entry (place + 1) entry (state_of parts.old).entries;
+        }) }
+    ensures judged { OnOk result (judged.new.items ≡ judged.old.items ++ (place + 1) ∷ []) }
     ensures err { OnErr result (shown parts.new ≡ shown parts.old) }
 {
-    let row = make_row(parts, place as u32 + 1, &entry, judged)?;
-    put_at(&mut parts.rows, place, Some(row));
-    put_at(&mut parts.entries, place, Some(entry));
+    let row = prepare(parts, place as u32 + 1, &entry, judged)?;
+    write_at(parts, place, Some(row), Some(entry));
     Ok(())
 }
 
-/// Takes out the entry at the place.
+/// Takes out the entry at the place. It takes no memory.
 pub(crate) fn del(parts: &mut Parts, place: usize)
     requires session { IsSession parts.old }
     requires within { place < length parts.old.entries.items }
     ensures session { IsSession parts.new }
     ensures ok { state_of parts.new
-        ≡ record (state_of parts.old) { entries = without (place + 1) (state_of parts.old).entries } }
+        ≡ record (state_of parts.old) {
+          entries = without (place + 1) (state_of parts.old).entries;
+        } }
 {
-    put_at(&mut parts.rows, place, None);
-    put_at(&mut parts.entries, place, None);
-}
-
-/// Puts the environment in place of the one that was there. Where there is no memory for it, all stays.
-pub(crate) fn change_environment(
-    parts: &mut Parts,
-    environment: Environment,
-    judged: &mut Vec<u32>,
-) -> Result<(), AllocError>
-    requires { IsSession parts.old }
-    ensures session { IsSession parts.new }
-    ensures ok { OnOk result (state_of parts.new ≡ in_environment environment (state_of parts.old)) }
-    ensures err { OnErr result (shown parts.new ≡ shown parts.old) }
-{
-    let judge = Judge {
-        alloc: parts.alloc,
-        environment: &environment,
-        tags: &parts.tags,
-    };
-    let head_verdict = judge.head(&parts.head, judged)?;
-    let rows = judged_rows(
-        &judge,
-        parts.entries.as_slice(),
-        parts.rows.as_slice(),
-        parts.names.policies.as_slice(),
-        judged,
-    )?;
-    parts.head_verdict = head_verdict;
-    parts.rows = rows;
-    parts.environment = environment;
-    Ok(())
-}
-
-/// Puts the tags in place of those that were there. Where there is no memory for it, all stays.
-pub(crate) fn change_tags(
-    parts: &mut Parts,
-    tags: TagList,
-    judged: &mut Vec<u32>,
-) -> Result<(), AllocError>
-    requires { IsSession parts.old }
-    ensures session { IsSession parts.new }
-    ensures ok { OnOk result (state_of parts.new ≡ record (state_of parts.old) { tags = tags }) }
-    ensures err { OnErr result (shown parts.new ≡ shown parts.old) }
-{
-    let judge = Judge {
-        alloc: parts.alloc,
-        environment: &parts.environment,
-        tags: &tags,
-    };
-    let rows = judged_rows(
-        &judge,
-        parts.entries.as_slice(),
-        parts.rows.as_slice(),
-        parts.names.policies.as_slice(),
-        judged,
-    )?;
-    parts.rows = rows;
-    parts.tags = tags;
-    Ok(())
-}
-
-/// The policies with this one under the number.
-fn policies_with(
-    alloc: Global,
-    policies: &[Policy],
-    number: usize,
-    policy: Policy,
-) -> Result<Vec<Policy>, AllocError>
-    requires { number < length policies.now }
-    ensures { IfOk result (λ new. new.items ≡ slice_set policies.now number policy) }
-{
-    let mut new: Vec<Policy> = policies.iter().copied().collect(alloc)?;
-    put_at(&mut new, number, policy);
-    Ok(new)
-}
-
-/// Gives the name, in normal form, the policy. Where there is no memory for it, all that is shown stays.
-pub(crate) fn change_policy(
-    parts: &mut Parts,
-    name: &str,
-    policy: Policy,
-    judged: &mut Vec<u32>,
-) -> Result<(), AllocError>
-    requires { IsSession parts.old }
-    ensures session { IsSession parts.new }
-    ensures ok { OnOk result (state_of parts.new
-        ≡ record (state_of parts.old) { policies = with_policy (policies_in parts.old.names) name.now policy }) }
-    ensures err { OnErr result (shown parts.new ≡ shown parts.old) }
-{
-    let number = number_of(parts.alloc, &mut parts.names, name)?;
-    let policies = policies_with(parts.alloc, parts.names.policies.as_slice(), number, policy)?;
-    let judge = Judge {
-        alloc: parts.alloc,
-        environment: &parts.environment,
-        tags: &parts.tags,
-    };
-    let rows = judged_rows(
-        &judge,
-        parts.entries.as_slice(),
-        parts.rows.as_slice(),
-        policies.as_slice(),
-        judged,
-    )?;
-    set_policy(&mut parts.names, number, policy);
-    parts.rows = rows;
-    Ok(())
+    write_at(parts, place, None, None);
 }

@@ -1,7 +1,10 @@
 //! The installation steps over the rows of a session (PEP 751, "Installation", steps 5 and 6).
 
-ghost use Rattle.std.specs.Prelude.{◌≡◌, ◌<◌, ◌^◌, false, [], length, slice_index_or, IfOk, OnOk, Ok};
-ghost use Rattle.pylock_core.specs.Inner.Pass.{NamesBelow, checked_standing, conflict_among, picks_after_rows, row_standing, slate_rows, stamps_after};
+ghost use Rattle.std.specs.Prelude.{◌≡◌, ◌<◌, ◌^◌, false, [], length, slice_index_or, IfOk, OnOk};
+ghost use Rattle.std.specs.Prelude.{Ok};
+ghost use Rattle.pylock_core.specs.Inner.Pass.{NamesBelow, checked_standing, conflict_among};
+ghost use Rattle.pylock_core.specs.Inner.Pass.{picks_after_rows, row_standing, slate_rows};
+ghost use Rattle.pylock_core.specs.Inner.Pass.{stamps_after};
 ghost use Rattle.pylock_core.specs.Inner.Rows.{in_rows};
 ghost use Rattle.pylock_core.specs.Inner.Progress.{pick_after, picks_so_far};
 ghost use Rattle.pylock_core.specs.Session.Steps.{answer_by};
@@ -12,8 +15,8 @@ use crate::session::row::Row;
 use std::alloc::{AllocError, Global};
 
 /// The answer of the installation steps on the rows, the first of which is that of number 1. The
-/// policies are those of the names, by their numbers. Takes memory for a stamp for each name and for
-/// the picks.
+/// policies are those of the names, by their numbers. Takes memory for a stamp for each name and
+/// for the picks.
 pub(crate) fn answer_of(
     alloc: Global,
     rows: &[Option<Row>],
@@ -38,11 +41,12 @@ pub(crate) fn answer_of(
     Ok(picks.into_answer())
 }
 
-/// How the next entry stands in step 5, after those whose names are stamped. Its name is stamped where
-/// it is to be installed.
+/// How the next entry stands in step 5, after those whose names are stamped. Its name is stamped
+/// where it is to be installed.
 fn slating(stamps: &mut Vec<bool>, row: &Row) -> Standing
     requires { row.now.name < length stamps.old.items }
-    ensures standing { result ≡ row_standing row.now (slice_index_or stamps.old.items row.now.name false) }
+    ensures standing { result
+        ≡ row_standing row.now (slice_index_or stamps.old.items row.now.name false) }
     ensures stamps { stamps.new.items ≡ stamps_after result stamps.old.items row.now.name }
 {
     match row.verdict.standing() {
@@ -54,7 +58,8 @@ fn slating(stamps: &mut Vec<bool>, row: &Row) -> Standing
 /// The same for an entry that stands by its marker and its Python check.
 fn slating_active(stamps: &mut Vec<bool>, row: &Row) -> Standing
     requires { row.now.name < length stamps.old.items }
-    ensures standing { result ≡ checked_standing (slice_index_or stamps.old.items row.now.name false) (conflict_among row.now.sources) }
+    ensures standing { result ≡ checked_standing
+        (slice_index_or stamps.old.items row.now.name false) (conflict_among row.now.sources) }
     ensures stamps { stamps.new.items ≡ stamps_after result stamps.old.items row.now.name }
 {
     if stamps[row.name] {
@@ -88,7 +93,8 @@ impl Picks {
 
     /// Makes the pick of the next entry, which has this source.
     fn add(&mut self, id: u32, source: Option<PickSource>) -> Result<(), AllocError>
-        ensures { OnOk result (picks_so_far self.new ≡ pick_after (picks_so_far self.old) id source) }
+        ensures { OnOk result
+            (picks_so_far self.new ≡ pick_after (picks_so_far self.old) id source) }
     {
         if self.no_file.is_some() {
             return Ok(());

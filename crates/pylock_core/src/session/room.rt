@@ -1,6 +1,7 @@
 //! Growth made before it is used: what was reserved is filled without memory.
 
-ghost use Rattle.std.specs.Prelude.{◌≡◌, ◌<◌, ◌+◌, ◌++◌, ◌∷◌, [], length, slice_set, vec_len, vec_capacity};
+ghost use Rattle.std.specs.Prelude.{◌≡◌, ◌<◌, ◌+◌, ◌++◌, ◌∷◌, [], length, slice_set};
+ghost use Rattle.std.specs.Prelude.{vec_len, vec_capacity};
 
 /// Adds the item to a vector that has room for it.
 #[tactic(auto, using(crate::proofs::IndexLemmas::made))]

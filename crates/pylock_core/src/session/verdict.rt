@@ -3,7 +3,9 @@
 ghost use Rattle.std.specs.Prelude.{◌≡◌, ◌++◌, ◌∷◌, [], IfOk, OnOk};
 ghost use Rattle.std.specs.Option.{option_copied};
 ghost use Rattle.pylock_core.specs.Session.Judgement.{verdict_of};
-ghost use Rattle.pylock_core.specs.Session.Steps.{best_wheel, by_check, by_marker, by_standing, environments_check, head_fault, marker_code, python_check, standing};
+ghost use Rattle.pylock_core.specs.Session.Steps.{best_wheel, by_check, by_marker, by_standing};
+ghost use Rattle.pylock_core.specs.Session.Steps.{environments_check, head_fault, marker_code};
+ghost use Rattle.pylock_core.specs.Session.Steps.{python_check, standing};
 ghost use Rattle.pymark_core.specs.Marker.Value.{marker_value};
 ghost use Rattle.pylock_core.specs.declared.answer.Standing.TheVariants.{Skipped, Faulty, Active};
 
@@ -17,8 +19,8 @@ use pywheel_core::{TagList, choose};
 use std::alloc::{AllocError, Global};
 use std::marker::Model;
 
-/// The verdict on an entry: how it stands by its marker and its Python check, and which of its wheels
-/// is the best under its name's policy.
+/// The verdict on an entry: how it stands by its marker and its Python check, and which of its
+/// wheels is the best under its name's policy.
 #[derive(Debug, Drop)]
 pub(crate) struct Verdict {
     standing: Standing,
@@ -102,7 +104,8 @@ impl<'a> Judge<'a> {
 
     /// Judges the head, whose number is 0.
     pub(crate) fn head(&self, head: &Head, judged: &mut Vec<u32>) -> Result<HeadVerdict, AllocError>
-        ensures verdict { IfOk result (λ verdict. verdict ≡ head_fault head.now self.now.environment.now) }
+        ensures verdict { IfOk result (λ verdict. verdict
+            ≡ head_fault head.now self.now.environment.now) }
         ensures judged { OnOk result (judged.new.items ≡ judged.old.items ++ 0 ∷ []) }
     {
         judged.push(0)?;
@@ -148,7 +151,8 @@ fn marker_standing(
     marker: &Marker,
     environment: &Environment,
 ) -> Result<Standing, AllocError>
-    ensures { IfOk result (λ found. found ≡ by_marker (marker_value environment.now marker.now.tree) Active) }
+    ensures { IfOk result (λ found. found
+        ≡ by_marker (marker_value environment.now marker.now.tree) Active) }
 {
     match marker.evaluate(alloc, environment) {
         Ok(true) => Ok(Standing::Active),

@@ -2,10 +2,11 @@
 //! each of its growths, that one refused. A test passes where the call answers want of memory, or
 //! just what it answers with ample memory.
 use crate::{
-    Answer, Edit, Entry, EntryError, EnvError, Lock, LockError, Session, read_environment,
+    Answer, Archive, Edit, Entry, EntryError, EnvError, Lock, LockError, Sdist, Session, Vcs,
+    read_environment,
 };
-use pymark_core::Var;
-use pyver_core::Label;
+use pymark_core::{Marker, Var};
+use pyver_core::{Label, SpecifierSet};
 use std::alloc::Global;
 
 /// A lock with every key that takes memory.
@@ -14,9 +15,10 @@ const LOCK: &str = "lock-version = \"1.0\"\n\
     environments = [\"os_name == 'posix'\"]\n\
     requires-python = \">=3.9\"\n\
     extras = [\"a\", \"A\"]\n\
+    dependency-groups = [\"dev\"]\n\
     default-groups = [\"main\"]\n\
     packages = [\n\
-    {name=\"a\", version=\"1\", marker=\"os_name == 'posix'\", requires-python=\">=3.9\", \
+    {name=\"A_a\", version=\"1\", marker=\"os_name == 'posix'\", requires-python=\">=3.9\", \
     sdist={url=\"https://h/a%2B1.tar.gz\", hashes={sha256=\"00\"}}, \
     wheels=[{path=\"w/a-1-py3-none-any.whl\"}]},\n\
     {name=\"b\", marker=\"os_name == 'posix'\", requires-python=\">=3.9\", \
@@ -26,30 +28,86 @@ const LOCK: &str = "lock-version = \"1.0\"\n\
 fn lock_read(rt: HostRuntime) {
     match Lock::read(rt.alloc(), LOCK.as_bytes()) {
         Ok(lock) => {
-            assert_eq!(rt; lock.environments().len(), 1);
-            assert_eq!(rt; lock.extras().len(), 1);
-            assert_eq!(rt; lock.default_groups().len(), 1);
-            assert_eq!(rt; lock.entries().len(), 2);
-            let sdists = lock.entries().iter().filter_map(|entry| entry.sdist());
-            for sdist in sdists {
-                assert_eq!(rt; sdist.file_name().unwrap_or("none"), "a+1.tar.gz");
+            let [environment] = lock.environments() else {
+                assert!(rt; false, "not one environment");
+                return;
+            };
+            assert_eq!(rt; environment.text(), "os_name == 'posix'");
+            assert_eq!(rt;
+                lock.requires_python().map(SpecifierSet::text),
+                Some(">=3.9")
+            );
+            assert!(rt; matches!(lock.extras(), [name] if name.as_str() == "a"));
+            assert!(rt; matches!(lock.groups(), [name] if name.as_str() == "dev"));
+            assert!(rt; matches!(lock.default_groups(), [name] if name.as_str() == "main"));
+            let [first, second] = lock.entries() else {
+                assert!(rt; false, "not two entries");
+                return;
+            };
+            assert_eq!(rt; first.name(), "a-a");
+            assert_eq!(rt; first.version(), Some("1"));
+            assert_eq!(rt; second.name(), "b");
+            for entry in [first, second] {
+                assert_eq!(rt;
+                    entry.marker().map(Marker::text),
+                    Some("os_name == 'posix'")
+                );
+                assert_eq!(rt;
+                    entry.requires_python().map(SpecifierSet::text),
+                    Some(">=3.9")
+                );
             }
+            let sdist = first.sdist();
+            assert_eq!(rt; sdist.and_then(Sdist::file_name), Some("a+1.tar.gz"));
+            assert_eq!(rt; sdist.map(Sdist::place), Some("https://h/a%2B1.tar.gz"));
+            assert!(rt; sdist.is_some_and(|sdist| has_one_hash(sdist.hashes())));
+            assert!(rt; matches!(first.wheel_names(), [Some(_)]));
+            assert_eq!(rt; second.vcs().map(Vcs::commit_id), Some("f0"));
         }
         Err(error) => assert!(rt; matches!(error, LockError::Memory), "{error:?}"),
+    }
+}
+
+/// Whether the one hash is `00`, by `sha256`.
+fn has_one_hash(hashes: &[(String, String)]) -> bool {
+    match hashes {
+        [(algorithm, value)] => algorithm.as_str() == "sha256" && value.as_str() == "00",
+        _ => false,
     }
 }
 
 #[test]
 fn entry_read_text(rt: HostRuntime) {
     let text = "{name=\"A_a\", marker=\"os_name == 'nt'\", requires-python=\"<4\", \
-        archive={path=\"p\", hashes={sha256=\"00\"}}, wheels=[{url=\"h/a-1-py3-none-any.whl\"}]}";
+        archive={path=\"p\", hashes={sha256=\"00\"}}, \
+        directory={path=\"d\", editable=true, subdirectory=\"s\"}, \
+        wheels=[{url=\"h/a-1-py3-none-any.whl\"}, {name=\"n\", path=\"p\"}]}";
     match Entry::read_text(rt.alloc(), text) {
         Ok(entry) => {
             assert_eq!(rt; entry.name(), "a-a");
-            assert!(rt; entry.marker().is_some());
-            assert!(rt; entry.requires_python().is_some());
-            assert_eq!(rt; entry.wheel_names().len(), 1);
-            assert!(rt; entry.wheel_names().iter().all(|name| name.is_some()));
+            assert_eq!(rt; entry.version(), None);
+            assert_eq!(rt; entry.marker().map(Marker::text), Some("os_name == 'nt'"));
+            assert_eq!(rt; entry.requires_python().map(SpecifierSet::text), Some("<4"));
+            assert_eq!(rt; entry.archive().map(Archive::place), Some("p"));
+            assert!(rt;
+                entry
+                    .archive()
+                    .is_some_and(|archive| has_one_hash(archive.hashes()))
+            );
+            assert!(rt;
+                entry
+                    .directory()
+                    .is_some_and(|directory| directory.editable())
+            );
+            assert!(rt; entry.vcs().is_none());
+            assert!(rt; entry.sdist().is_none());
+            assert!(rt; matches!(entry.wheel_names(), [Some(_), None]));
+            let [first, second] = entry.wheels() else {
+                assert!(rt; false, "not two wheels");
+                return;
+            };
+            assert_eq!(rt; first.file_name(), Some("a-1-py3-none-any.whl"));
+            assert_eq!(rt; second.file_name(), Some("n"));
         }
         Err(error) => assert!(rt; matches!(error, EntryError::Memory), "{error:?}"),
     }
@@ -58,9 +116,14 @@ fn entry_read_text(rt: HostRuntime) {
 #[test]
 fn environment_read(rt: HostRuntime) {
     let text = "{\"environment\":{\"os_name\":\"nt\",\"python_full_version\":\"3.12.0\"},\
-        \"tags\":[\"py3-none-any\"]}";
+        \"tags\":[\"py3-none-any\",\"PY3-none-any\",\"py2-none-any\"]}";
     match read_environment(rt.alloc(), text.as_bytes()) {
-        Ok((_, tags)) => assert_eq!(rt; tags.len(), 1),
+        Ok((environment, tags)) => {
+            assert_eq!(rt; environment.get(Var::OsName), Some("nt"));
+            assert_eq!(rt; environment.get(Var::PythonFullVersion), Some("3.12.0"));
+            assert_eq!(rt; environment.get(Var::SysPlatform), None);
+            assert_eq!(rt; tags.len(), 2);
+        }
         Err(error) => assert!(rt; matches!(error, EnvError::Memory), "{error:?}"),
     }
 }

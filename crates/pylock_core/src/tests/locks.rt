@@ -19,7 +19,7 @@ fn of_numbers(alloc: Global, count: usize) -> Result<String, AllocError> {
 }
 
 /// The refusal as `Debug` writes it, or `ok`.
-fn refusal(alloc: Global, bytes: &[u8]) -> Result<String, AllocError> {
+pub(super) fn refusal(alloc: Global, bytes: &[u8]) -> Result<String, AllocError> {
     match Lock::read(alloc, bytes) {
         Ok(_) => String::from_str(alloc, "ok"),
         Err(refusal) => format!(in alloc; "{refusal:?}"),
@@ -39,8 +39,9 @@ fn joined(alloc: Global, names: &[String]) -> Result<String, Fail> {
 #[test]
 fn locks_are_refused_at_their_first_fault(rt: HostRuntime) -> Result<(), Fail> {
     let alloc = rt.alloc();
-    let cases: [(&[u8], &str); 11] = [
+    let cases: [(&[u8], &str); 12] = [
         (b"\xFF", "NotText"),
+        (b"created-by = \"\xC3", "NotText"),
         (b"lock-version = \"1.0\"\ncreated-by = \"\xC3", "NotText"),
         (b"lock-version = \"1.0", "Toml"),
         (b"", "LockVersion"),
@@ -59,42 +60,57 @@ fn locks_are_refused_at_their_first_fault(rt: HostRuntime) -> Result<(), Fail> {
 }
 
 #[test]
+fn a_lock_is_of_version_1(rt: HostRuntime) -> Result<(), Fail> {
+    let alloc = rt.alloc();
+    let cases = [
+        ("1.0", "ok"),
+        ("1.00", "ok"),
+        ("1.340282366920938463463374607431768211456", "ok"),
+        ("", "LockVersion"),
+        ("1", "LockVersion"),
+        ("1.", "LockVersion"),
+        ("1.x", "LockVersion"),
+        ("1.0.0", "LockVersion"),
+        ("1.0 ", "LockVersion"),
+        (" 1.0", "LockVersion"),
+        ("10.0", "LockVersion"),
+        ("2.0", "LockVersion"),
+    ];
+    for (version, wanted) in cases {
+        let lock = format!(in alloc; "lock-version = \"{version}\"\ncreated-by = \"t\"")?;
+        assert_eq!(rt;
+            refusal(alloc, lock.as_bytes())?.as_str(),
+            wanted,
+            "{version}"
+        );
+    }
+    Ok(())
+}
+
+#[test]
 fn keys_of_the_head_are_judged_in_order(rt: HostRuntime) -> Result<(), Fail> {
     let alloc = rt.alloc();
     let cases = [
         ("", "ok"),
-        ("environments = \"os_name == 'nt'\"", "Head(Environments)"),
         ("environments = [1]", "Head(Environments)"),
         (
             "environments = [\"os_name == 'nt'\", \"x\"]",
             "Head(Environments)",
         ),
         ("environments = []", "ok"),
-        ("environments = [\"os_name == 'nt'\"]", "ok"),
         ("requires-python = 1", "Head(RequiresPython)"),
-        ("requires-python = \"3\"", "Head(RequiresPython)"),
         ("requires-python = \">=3.9, <4\"", "ok"),
+        ("requires-python = \"\"", "ok"),
         ("extras = {}", "Head(Extras)"),
-        ("extras = [\"a\", \"-\"]", "Head(Extras)"),
+        ("extras = [\"-\"]", "Head(Extras)"),
+        ("extras = [\"a\", 1]", "Head(Extras)"),
         ("extras = [\"a\", \"A\"]", "ok"),
         ("dependency-groups = \"a\"", "Head(DependencyGroups)"),
         ("dependency-groups = [\"\"]", "Head(DependencyGroups)"),
-        ("dependency-groups = [\"dev\"]", "ok"),
         ("default-groups = [[\"a\"]]", "Head(DefaultGroups)"),
-        ("default-groups = [\"main\"]", "ok"),
         ("packages = 1", "Packages"),
         ("packages = []", "ok"),
-        (
-            "environments = 1\nrequires-python = 1",
-            "Head(Environments)",
-        ),
-        ("requires-python = 1\nextras = 1", "Head(RequiresPython)"),
-        ("extras = 1\ndependency-groups = 1", "Head(Extras)"),
-        (
-            "dependency-groups = 1\ndefault-groups = 1",
-            "Head(DependencyGroups)",
-        ),
-        ("default-groups = 1\npackages = 1", "Head(DefaultGroups)"),
+        ("packages = 1\nextras = 1", "Head(Extras)"),
         (
             "packages = [{name=\"a\"}, {name=\"b\", version=1}]",
             "Entry(2, Key(Version))",

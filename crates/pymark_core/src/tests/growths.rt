@@ -3,6 +3,7 @@
 //! leaves what was there, or answers just what it answers with ample memory.
 
 use crate::{Environment, EvalFault, Marker, MarkerError, Requirement, RequirementError, Var};
+use std::alloc::Global;
 
 #[test]
 fn environment_set(rt: HostRuntime) {
@@ -45,16 +46,46 @@ fn environment_copy(rt: HostRuntime) {
     assert!(rt; environment.get(Var::PythonVersion).is_some() == is_set);
 }
 
+/// A requirement with a part of each kind but a URL.
+const REQUIREMENT: &str =
+    "requests[security] >= 2.8.1 ; python_version < \"2.7\" and \"x\" in extras";
+
 #[test]
 fn requirement_parse(rt: HostRuntime) {
-    let text = "requests[security] >= 2.8.1 ; python_version < \"2.7\" and \"x\" in extras";
-    match Requirement::parse(rt.alloc(), text) {
+    match Requirement::parse(rt.alloc(), REQUIREMENT) {
         Ok(requirement) => {
             assert_eq!(rt; requirement.name(), "requests");
             assert_eq!(rt; requirement.set().text(), ">=2.8.1");
             assert!(rt; requirement.marker().is_some());
         }
         Err(error) => assert!(rt; matches!(error, RequirementError::Memory), "{error:?}"),
+    }
+}
+
+#[test]
+fn requirement_with_a_url_parse(rt: HostRuntime) {
+    match Requirement::parse(
+        rt.alloc(),
+        "pip[a, b] @ https://pypi.org/pip.zip ; os_name == 'nt'",
+    ) {
+        Ok(requirement) => {
+            assert_eq!(rt; requirement.extras().len(), 2);
+            assert_eq!(rt; requirement.url(), Some("https://pypi.org/pip.zip"));
+        }
+        Err(error) => assert!(rt; matches!(error, RequirementError::Memory), "{error:?}"),
+    }
+}
+
+#[test]
+fn requirement_copy(rt: HostRuntime) {
+    if let Ok(requirement) = Requirement::parse(rt.alloc(), REQUIREMENT) {
+        if let Ok(copy) = requirement.clone() {
+            assert_eq!(rt; copy.name(), requirement.name());
+            assert_eq!(rt; copy.extras().len(), requirement.extras().len());
+            assert!(rt; copy.set() == requirement.set());
+            assert!(rt; copy.marker().is_some());
+        }
+        assert_eq!(rt; requirement.name(), "requests");
     }
 }
 
@@ -78,18 +109,41 @@ fn marker_copy(rt: HostRuntime) {
     }
 }
 
+/// What a marker is judged in, as far as there was memory for it.
+fn environment(alloc: Global) -> Environment {
+    let mut environment = Environment::new(alloc);
+    let _ = environment.set(Var::PythonVersion, "3.12");
+    let _ = environment.add_extra("a.b");
+    environment
+}
+
 #[test]
 fn marker_evaluate(rt: HostRuntime) {
-    let mut environment = Environment::new(rt.alloc());
-    let is_set = environment.set(Var::PythonVersion, "3.12").is_ok();
-    let text =
-        "python_version >= \"3.8\" and python_version == python_version or \"A_b\" in extras";
+    let environment = environment(rt.alloc());
+    let is_set = environment.get(Var::PythonVersion).is_some();
+    let text = "python_version == python_version or python_version in extras";
     let Ok(marker) = Marker::parse(rt.alloc(), text) else {
         return;
     };
     match marker.evaluate(rt.alloc(), &environment) {
         Ok(value) => assert!(rt; value && is_set),
         Err(EvalFault::Unset(_)) => assert!(rt; !is_set),
-        Err(fault) => assert!(rt; matches!(fault, EvalFault::Memory), "{fault:?}"),
+        Err(fault) => assert_eq!(rt; fault, EvalFault::Memory),
     }
+}
+
+/// Where the marker and the environment were made, no growth is left that could be refused.
+#[test]
+fn marker_evaluate_without_memory(rt: HostRuntime) {
+    let environment = environment(rt.alloc());
+    let is_set = environment.get(Var::PythonVersion).is_some();
+    let is_in = environment.has_extra("a-b");
+    let text = "(python_version >= '3.8' or python_version > 'x' or 'y' in python_version) \
+        and 'A_b' in extras and 'a' not in dependency_groups and '1.0' == '1'";
+    let Ok(marker) = Marker::parse(rt.alloc(), text) else {
+        return;
+    };
+    let value = marker.evaluate(rt.alloc(), &environment);
+    let unset = Err(EvalFault::Unset(Var::PythonVersion));
+    assert_eq!(rt; value, if is_set { Ok(is_in) } else { unset });
 }

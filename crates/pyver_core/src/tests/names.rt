@@ -12,3 +12,13 @@ fn normal_names(rt: HostRuntime) -> Result<(), Fail> {
     assert!(rt; !is_name("a-"));
     Ok(())
 }
+
+#[test]
+fn long_names(rt: HostRuntime) -> Result<(), Fail> {
+    let text = "A.-B".repeat(rt.alloc(), 250_000)?;
+    assert!(rt; is_name(text.as_str()));
+    let name = normal_name(rt.alloc(), text.as_str())?;
+    assert_eq!(rt; name.len(), 750_000);
+    assert!(rt; name.ends_with("ba-ba-b"));
+    Ok(())
+}

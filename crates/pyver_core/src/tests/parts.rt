@@ -39,6 +39,21 @@ fn parts_that_no_text_spells(rt: HostRuntime) -> Result<(), Fail> {
 }
 
 #[test]
+fn many_parts(rt: HostRuntime) -> Result<(), Fail> {
+    let label = "x".repeat(rt.alloc(), 1_000_000)?;
+    let mut parts = parts_with_local(&rt, label.as_str())?;
+    for number in 0..100_000u32 {
+        parts.release.push(u128::from(number))?;
+        parts.local.push(LocalPart::Number(u128::from(number)))?;
+    }
+    let version = Version::from_parts(rt.alloc(), parts)?;
+    assert_eq!(rt; version.release().len(), 100_002);
+    assert!(rt; version == Version::parse(rt.alloc(), version.text())?);
+    assert!(rt; version.to_string(rt.alloc())?.as_str() == version.text());
+    Ok(())
+}
+
+#[test]
 fn largest_numbers(rt: HostRuntime) -> Result<(), Fail> {
     let parts = VersionParts {
         epoch: u128::MAX,

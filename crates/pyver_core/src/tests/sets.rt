@@ -133,6 +133,7 @@ fn sets_of_hundreds(rt: HostRuntime) -> Result<(), Fail> {
     assert!(rt; set.text().ends_with(",!=2.499"));
     assert!(rt; set.admits(&Version::parse(rt.alloc(), "2.500")?));
     assert!(rt; !set.admits(&Version::parse(rt.alloc(), "2.499")?));
+    assert!(rt; set.clone()? == set);
 
     text.push_str("<340282366920938463463374607431768211456")?;
     let refused = SpecifierSet::parse(rt.alloc(), text.as_str());
@@ -146,9 +147,24 @@ fn sets_of_hundreds(rt: HostRuntime) -> Result<(), Fail> {
 #[test]
 fn long_operands(rt: HostRuntime) -> Result<(), Fail> {
     let label = "x".repeat(rt.alloc(), 1_000_000)?;
-    let text = format!(in rt.alloc(); "==={label} , ~=1.{}", "0".repeat(rt.alloc(), 1_000_000)?)?;
+    let zeros = "0".repeat(rt.alloc(), 1_000_000)?;
+    let numbers = ".0".repeat(rt.alloc(), 100_000)?;
+    let text = format!(in rt.alloc(); "==={label} , ~=1.{zeros} , !=1{numbers}.*")?;
     let set = SpecifierSet::parse(rt.alloc(), text.as_str())?;
-    assert_eq!(rt; set.items().len(), 2);
-    assert_eq!(rt; set.text().len(), 3 + 1_000_000 + 6);
+    assert_eq!(rt; set.items().len(), 3);
+    assert_eq!(rt;
+        set.text().len(),
+        3 + 1_000_000 + 1 + 5 + 1 + 3 + 200_000 + 2
+    );
+    let copy = set.clone()?;
+    assert!(rt; copy == set);
+    assert!(rt; copy.to_string(rt.alloc())?.as_str() == set.text());
+    let mut printed = String::new(rt.alloc());
+    for specifier in set.items() {
+        printed.push_str(specifier.to_string(rt.alloc())?.as_str())?;
+        printed.push(',')?;
+    }
+    printed.pop();
+    assert!(rt; printed.as_str() == set.text());
     Ok(())
 }

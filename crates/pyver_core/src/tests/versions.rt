@@ -88,6 +88,7 @@ fn long_releases_and_local_parts(rt: HostRuntime) -> Result<(), Fail> {
     text.push_str("7")?;
     text.push_str(".08".repeat(rt.alloc(), 100_000)?.as_str())?;
     text.push_str("+Aa")?;
+    text.push_str("x".repeat(rt.alloc(), 1_000_000)?.as_str())?;
     text.push_str("-0b_012".repeat(rt.alloc(), 100_000)?.as_str())?;
     let version = Version::parse(rt.alloc(), text.as_str())?;
     assert_eq!(rt; version.release().len(), 100_001);

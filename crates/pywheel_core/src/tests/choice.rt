@@ -20,26 +20,32 @@ fn wheels(rt: &HostRuntime, names: &[&str]) -> Result<Vec<Option<WheelName>>, Fa
 fn rank_then_build_then_place(rt: HostRuntime) -> Result<(), Fail> {
     let tags = TagList::parse(rt.alloc(), &["py3-none-any", "py2-none-any"])?;
     let none = TagList::parse(rt.alloc(), &[])?;
-    let builds = [
-        "",
-        "a-1-py3-none-any.whl",
-        "a-1-2-py3-none-any.whl",
-        "a-1-10-py3-none-any.whl",
+    let cases: [(&[&str], Option<usize>); 5] = [
+        (
+            &[
+                "",
+                "a-1-py3-none-any.whl",
+                "a-1-2-py3-none-any.whl",
+                "a-1-10-py3-none-any.whl",
+            ],
+            Some(3),
+        ),
+        (&["a-1-9-py2-none-any.whl", "a-1-py3-none-any.whl"], Some(1)),
+        (
+            &["a-1-1-py3-none-any.whl", "a-1-01-py3-none-any.whl"],
+            Some(0),
+        ),
+        (
+            &["a-1-1-py3-none-any.whl", "a-1-1a-py3-none-any.whl"],
+            Some(1),
+        ),
+        (&[], None),
     ];
-    let found = wheels(&rt, &builds)?;
-    assert_eq!(rt; choose(found.as_slice(), &tags), Some(3));
-    assert_eq!(rt; choose(found.as_slice(), &none), None);
-    let found = wheels(&rt, &["a-1-9-py2-none-any.whl", "a-1-py3-none-any.whl"])?;
-    assert_eq!(rt; choose(found.as_slice(), &tags), Some(1));
-    assert_eq!(rt; choose(found.as_slice(), &none), None);
-    let found = wheels(&rt, &["a-1-1-py3-none-any.whl", "a-1-01-py3-none-any.whl"])?;
-    assert_eq!(rt; choose(found.as_slice(), &tags), Some(0));
-    assert_eq!(rt; choose(found.as_slice(), &none), None);
-    let found = wheels(&rt, &["a-1-1-py3-none-any.whl", "a-1-1a-py3-none-any.whl"])?;
-    assert_eq!(rt; choose(found.as_slice(), &tags), Some(1));
-    assert_eq!(rt; choose(found.as_slice(), &none), None);
-    assert_eq!(rt; choose(&[], &tags), None);
-    assert_eq!(rt; choose(&[], &none), None);
+    for (names, place) in cases {
+        let found = wheels(&rt, names)?;
+        assert_eq!(rt; choose(found.as_slice(), &tags), place);
+        assert_eq!(rt; choose(found.as_slice(), &none), None);
+    }
     Ok(())
 }
 

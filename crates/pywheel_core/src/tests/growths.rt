@@ -18,6 +18,7 @@ fn tag_clone(rt: HostRuntime) {
         if let Ok(copy) = tag.clone() {
             assert!(rt; copy == tag);
         }
+        assert_eq!(rt; tag.python(), "py3");
     }
 }
 
@@ -33,10 +34,13 @@ fn tag_list_parse(rt: HostRuntime) {
 }
 
 #[test]
-fn wheel_name_parse(rt: HostRuntime) {
-    match WheelName::parse(rt.alloc(), "Foo_Bar-1.0-1b-py2.py3-none-any.whl") {
-        Ok(wheel) => assert_eq!(rt; wheel.tags().len(), 2),
-        Err(error) => assert!(rt; matches!(error, WheelError::Memory), "{error:?}"),
+fn tag_list_parse_of_a_bad_text(rt: HostRuntime) {
+    match TagList::parse(rt.alloc(), &["py3-none-any", "py2"]) {
+        Ok(_) => assert!(rt; false),
+        Err(error) => {
+            let named = matches!(error, TagListError::Memory | TagListError::Tag(2));
+            assert!(rt; named, "{error:?}")
+        }
     }
 }
 
@@ -46,6 +50,30 @@ fn tag_list_clone(rt: HostRuntime) {
         if let Ok(copy) = tags.clone() {
             assert_eq!(rt; copy.len(), 2);
         }
+        assert_eq!(rt; tags.len(), 2);
+    }
+}
+
+#[test]
+fn wheel_name_parse(rt: HostRuntime) {
+    let text = "Foo_Bar-1!1.2.3.4.5a1.post2.dev3+cpu.1-1b-py2.py3.cp39.cp310.cp311-none-any.whl";
+    match WheelName::parse(rt.alloc(), text) {
+        Ok(wheel) => {
+            assert_eq!(rt; wheel.tags().len(), 5);
+            assert_eq!(rt; wheel.build(), Some((1, "b")));
+        }
+        Err(error) => assert!(rt; matches!(error, WheelError::Memory), "{error:?}"),
+    }
+}
+
+#[test]
+fn wheel_name_parse_of_bad_tags(rt: HostRuntime) {
+    match WheelName::parse(rt.alloc(), "a-1-1-py3-none-.any.whl") {
+        Ok(_) => assert!(rt; false),
+        Err(error) => {
+            let named = matches!(error, WheelError::Memory | WheelError::Tags);
+            assert!(rt; named, "{error:?}")
+        }
     }
 }
 
@@ -54,6 +82,8 @@ fn wheel_name_clone(rt: HostRuntime) {
     if let Ok(wheel) = WheelName::parse(rt.alloc(), "Foo_Bar-1.0-1b-py2.py3-none-any.whl") {
         if let Ok(copy) = wheel.clone() {
             assert_eq!(rt; copy.build_text(), Some("1b"));
+            assert_eq!(rt; copy.tags().len(), 2);
         }
+        assert_eq!(rt; wheel.build_text(), Some("1b"));
     }
 }

@@ -70,3 +70,20 @@ fn copies_of_lists_have_the_same_ranks(rt: HostRuntime) -> Result<(), Fail> {
     assert_eq!(rt; rank, Some(1));
     Ok(())
 }
+
+#[test]
+fn long_lists_keep_first_places(rt: HostRuntime) -> Result<(), Fail> {
+    let mut texts = Vec::new(rt.alloc());
+    for i in 0..1_000 {
+        texts.push(format!(in rt.alloc(); "cp{i}-none-any")?)?;
+    }
+    let mut lent: Vec<&str> = texts.iter().map(|text| text.as_str()).collect(rt.alloc())?;
+    lent.push("CP7-none-any")?;
+    let tags = TagList::parse(rt.alloc(), &lent)?;
+    assert_eq!(rt; tags.len(), 1_000);
+    let rank = tags.rank(&Tag::parse(rt.alloc(), "cp7-none-any")?);
+    assert_eq!(rt; rank, Some(7));
+    let rank = tags.rank(&Tag::parse(rt.alloc(), "cp999-none-any")?);
+    assert_eq!(rt; rank, Some(999));
+    Ok(())
+}

@@ -90,6 +90,23 @@ fn as_many_tags_as_may_be(rt: HostRuntime) -> Result<(), Fail> {
     Ok(())
 }
 
+#[test]
+fn long_parts_are_read(rt: HostRuntime) -> Result<(), Fail> {
+    let mut name = String::new(rt.alloc());
+    let mut zeros = String::new(rt.alloc());
+    for _ in 0..10_000 {
+        name.push('a')?;
+        zeros.push('0')?;
+    }
+    let text = format!(in rt.alloc(); "{name}-1-{zeros}7b-py3-none-{name}.whl")?;
+    let wheel = WheelName::parse(rt.alloc(), text.as_str())?;
+    assert_eq!(rt; wheel.name(), name.as_str());
+    assert_eq!(rt; wheel.build(), Some((7, "b")));
+    assert_eq!(rt; wheel.tags().len(), 1);
+    assert_eq!(rt; wheel.to_string(rt.alloc())?.as_str(), text.as_str());
+    Ok(())
+}
+
 // PEP 425, "Compressed Tag Sets", and the platform fastest, then the ABI.
 #[test]
 fn combinations_in_order(rt: HostRuntime) -> Result<(), Fail> {

@@ -1,6 +1,6 @@
 use Rattle.std.proofs.Common.{◌∙◌, ap, sym}
 use Rattle.pylock_core.specs.Inner.Parts.{state_of}
-use Rattle.pylock_core.specs.Session.State.{State, without}
+use Rattle.pylock_core.specs.Session.State.{without}
 use Rattle.pylock_core.proofs.SessionLemmas.{accepted_there}
 use Rattle.pylock_core.proofs.session.edits.del_entry.Goals as goal
 

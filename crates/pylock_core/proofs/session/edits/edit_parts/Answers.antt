@@ -6,3 +6,9 @@ returns-in_err-make-clause-verdicts c = verdicts_kept c.make.new.parts c.in_err-
 
 pub returns-clause-verdicts : goal.returns-clause-verdicts
 returns-clause-verdicts c = verdicts_kept c.make.new.parts c.in_ok-make.ensures.session
+
+pub returns-in_err-make-clause-index : goal.returns-in_err-make-clause-index
+returns-in_err-make-clause-index c = c.in_err-make.ensures.session.index
+
+pub returns-clause-index : goal.returns-clause-index
+returns-clause-index c = c.in_ok-make.ensures.session.index

@@ -1,4 +1,4 @@
-use Rattle.std.proofs.Common.{◌≡◌, ◌+◌, ◌<◌, ◌≤◌, is_some, IsSome, ap, sym, arith}
+use Rattle.std.proofs.Common.{is_some, IsSome, ap, sym, arith}
 use Rattle.pylock_core.specs.Inner.Rows.{in_rows}
 use Rattle.pylock_core.specs.Session.State.{entry_at}
 use Rattle.pylock_core.proofs.SessionLemmas.{place_there}

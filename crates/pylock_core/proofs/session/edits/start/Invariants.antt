@@ -1,5 +1,6 @@
 use Rattle.std.proofs.Common.{◌≡◌}
 use Rattle.pylock_core.specs.Inner.Parts.{IsSession, state_of}
+use Rattle.pylock_core.specs.Session.Judgement.{all_numbers}
 use Rattle.pylock_core.specs.Session.State.{first}
 use Rattle.pylock_core.proofs.SessionLemmas.{with_all}
 use Rattle.pylock_core.proofs.session.edits.start.Given as goal
@@ -9,4 +10,5 @@ abbrev pub invariant-loop-entry : goal.invariant-loop-entry
 invariant-loop-entry l = record {
   session : IsSession l.parts;
   whole : with_all (state_of l.parts) l.entry-iterator.rest.items ≡ first l.fn.lock l.fn.environment l.fn.tags;
+  judged : l.judged.items ≡ all_numbers (state_of l.parts);
 }

@@ -1,7 +1,7 @@
 use Rattle.std.proofs.Common.{◌≡◌, ℕ, ◌<◌, ◌∙◌, false, List, [], slice_index_or, length, get_or, subst, sym, arith}
 use Rattle.std.specs.Global.{Global}
 use Rattle.std.specs.declared.vec.Vec.{Vec}
-use Rattle.std.proofs.lemmas.List.{get_or-set_other, get_or-map}
+use Rattle.std.proofs.lemmas.List.{get_or-set_other, get_or-map, length-set}
 use Rattle.pylock_core.specs.Inner.Index.{Rises, list_at, moved}
 use Rattle.pylock_core.proofs.IndexLemmas.{changed_at, list_at_other}
 use Rattle.pylock_core.proofs.session.index.change_each.Goals as goal
@@ -21,5 +21,6 @@ loop-key-preserved c =
     record {
       changed = λ k less. changed_at c.loop-key.lists c.args.lists.now key k _ c.index-lists-key.result f within less c.change.ensures (c.loop-key.invariant.others key (omega arith)) (c.loop-key.invariant.changed k);
       others = λ k above. list_at_other c.loop-key.lists key k _ (λ same. omega arith) ∙ c.loop-key.invariant.others k (omega arith);
+      long = length-set c.loop-key.lists key _ ∙ c.loop-key.invariant.long;
       room = λ k d above below comes. rw (get_or-set_other c.loop-key.lists key k _ d (λ same. omega arith)) (c.loop-key.invariant.room k d (omega arith) below comes);
     }

@@ -1,7 +1,7 @@
-use Rattle.std.proofs.Common.{◌≡◌, ℕ, ◌+◌, List, None, Some, ◌∙◌, ◌++◌, ◌∷◌, [], ap, cond, sym, string_bytes, arith, vec_len, length}
+use Rattle.std.proofs.Common.{◌≡◌, Some, ◌∙◌, ◌++◌, ◌∷◌, [], ap, cond, sym, string_bytes, length}
 use Rattle.std.specs.Str.{bytes_eq}
 use Rattle.std.proofs.lemmas.Map.Text.{btree_map_updates_text}
-use Rattle.pylock_core.specs.Inner.Names.{IsNames, members_of, number_in, policies_in}
+use Rattle.pylock_core.specs.Inner.Names.{number_in}
 use Rattle.pylock_core.specs.declared.edit.Policy.TheVariants.{Any}
 use Rattle.pylock_core.proofs.NameLemmas.{Grown, gains, gains_keeps, grown_members, grown_policies, grown_is}
 use Rattle.pylock_core.proofs.session.names.number_of.Goals as goal

@@ -1,4 +1,4 @@
-use Rattle.std.proofs.Common.{◌≡◌, ◌∙◌, ◌<◌, get_or, length, ap, arith}
+use Rattle.std.proofs.Common.{◌∙◌, ap, arith}
 use Rattle.pylock_core.proofs.IndexLemmas.{kept_at}
 use Rattle.pylock_core.proofs.NameLemmas.{members_same}
 use Rattle.pylock_core.proofs.session.names.reserve_member.Goals as goal

@@ -1,0 +1,221 @@
+-- What a session is after an entry was written at a place, or taken out of it.
+use Rattle.std.proofs.Common.{◌≡◌, ℕ, suc, zero, ◌+◌, ◌<◌, ◌∙◌, Bool, true, false, List, [], ◌∷◌, ◌++◌, map, length, get_or, set, Option, Some, None, IfSome, Result, Ok, Err, OnErr, option_map, subst, ap, sym, refl, arith}
+use Rattle.std.specs.Global.{Global}
+use Rattle.std.specs.Str.{bytes_eq}
+use Rattle.std.specs.declared.vec.Vec.{Vec}
+use Rattle.std.proofs.lemmas.List.{get_or-map, get_or_default, length-map}
+use Rattle.pylock_core.specs.Entry.{EntryValue}
+use Rattle.pylock_core.specs.Inner.Index.{AllRise, HaveRoom, Rises, list_at, moved, numbers_in}
+use Rattle.pylock_core.specs.Inner.Names.{HasRoom, IsNames, is_at, members_under, number_in}
+use Rattle.pylock_core.specs.Inner.Parts.{AreMembers, IsIndex, IsNamed, IsSession, OfBoth, OfRows, shown, state_of, verdict_in}
+use Rattle.pylock_core.specs.Inner.Rows.{in_rows, passes}
+use Rattle.pylock_core.specs.Lock.{HeadValue}
+use Rattle.pylock_core.specs.Session.Judgement.{IndexKey, OfTags, and_head, entry_reads, head_reads, keys, numbers_where}
+use Rattle.pylock_core.specs.declared.session.names.Names.{Names}
+use Rattle.pylock_core.specs.declared.session.parts.Parts.{Parts}
+use Rattle.pylock_core.specs.declared.session.row.Row.{Row}
+use Rattle.pylock_core.proofs.IndexLemmas.{lists_are, rises_from}
+use Rattle.pylock_core.proofs.NameLemmas.{no_number, text_other}
+use Rattle.pylock_core.proofs.ReaderLemmas.{head_rises, moved_head, passing, passing_rises, passing_set}
+use Rattle.pylock_core.proofs.SessionLemmas.{of_both_weaker, of_rows_weaker, same_length as same_length_rows, same_number}
+
+-- ---- the row and the entry at a place
+
+pub of_rows_at : (P : EntryValue → Row → Type 0) (es : List (Option EntryValue)) (rs : List (Option Row)) (k : ℕ) → OfRows P es rs → OfBoth P (get_or es k None) (get_or rs k None)
+of_rows_at P [] [] k h = tt
+of_rows_at P [] (r ∷ rs) k h = absurd h
+of_rows_at P (e ∷ es) [] k h = absurd h
+of_rows_at P (e ∷ es) (r ∷ rs) zero h = h.0
+of_rows_at P (e ∷ es) (r ∷ rs) (suc k) h = of_rows_at P es rs k h.1
+
+pub old_at : {X : Type 0} (xs : List (Option X)) (k : ℕ) (x : Option X) → k < length xs → x ≡ get_or xs k x → x ≡ get_or xs k None
+old_at xs k x within is = is ∙ sym (get_or_default xs k None x within)
+
+pub both_at : (names : Names) (es : List (Option EntryValue)) (rs : List (Option Row)) (k : ℕ) (e : Option EntryValue) (r : Option Row) → OfRows (IsNamed names) es rs → k < length es
+    → e ≡ get_or es k e → r ≡ get_or rs k r → OfBoth (IsNamed names) e r
+both_at names es rs k e r h within is_e is_r =
+    let even = same_length_rows (IsNamed names) es rs h in
+    subst (λ o. OfBoth (IsNamed names) o r) (sym (old_at es k e within is_e))
+    (subst (λ o. OfBoth (IsNamed names) (get_or es k None) o) (sym (old_at rs k r (omega (arith, within, even)) is_r)) (of_rows_at (IsNamed names) es rs k h))
+
+-- the number of the name of a row
+abbrev pub row_name : Option Row → Option ℕ
+row_name r = option_map (λ row. row.name) r
+
+pub row_below : (names : Names) (e : Option EntryValue) (r : Option Row) → IsNames names → OfBoth (IsNamed names) e r → IfSome (row_name r) (λ n. n < length names.policies.items)
+row_below names None None is h = tt
+row_below names None (Some r) is h = absurd h
+row_below names (Some e) None is h = absurd h
+row_below names (Some e) (Some r) is h = is.numbering.below e.name r.name h.name
+
+pub row_room : (names : Names) (r : Option Row) → IfSome r (λ row. HasRoom names row.name) → IfSome (row_name r) (λ n. HasRoom names n)
+row_room names None h = tt
+row_room names (Some r) h = h
+
+-- what stands under the number of a name
+under : (names : Names) (es : List (Option EntryValue)) (q : List ℕ) (n : ℕ) → AreMembers names es → number_in names q ≡ Some n
+    → list_at names.members.items n ≡ passing (λ entry. bytes_eq q entry.name) 1 es
+under names es q n members has = sym (ap (members_under names.members.items) has) ∙ members q
+
+pub row_rises : (names : Names) (es : List (Option EntryValue)) (e : Option EntryValue) (r : Option Row) → AreMembers names es → OfBoth (IsNamed names) e r
+    → IfSome (row_name r) (λ n. Rises 0 (list_at names.members.items n))
+row_rises names es None None members h = tt
+row_rises names es None (Some r) members h = absurd h
+row_rises names es (Some e) None members h = absurd h
+row_rises names es (Some e) (Some r) members h =
+    subst (Rises 0) (sym (under names es e.name r.name members h.name)) (rises_from 1 0 _ (omega arith) (passing_rises (λ entry. bytes_eq e.name entry.name) 1 es))
+
+-- ---- the entries of each name
+
+-- by the number of its name, whether an entry has a name
+named_at : (names : Names) (q : List ℕ) (n : ℕ) (e : Option EntryValue) (r : Option Row) → IsNames names → number_in names q ≡ Some n → OfBoth (IsNamed names) e r
+    → is_at n (row_name r) ≡ passes (λ entry. bytes_eq q entry.name) e
+named_at names q n None None is has h = refl
+named_at names q n None (Some r) is has h = absurd h
+named_at names q n (Some e) None is has h = absurd h
+named_at names q n (Some e) (Some r) is has h = sym (same_number names is q e.name n r.name has h.name)
+
+-- a name with no number is no entry's
+unnamed : (names : Names) (q : List ℕ) (e : Option EntryValue) (r : Option Row) → number_in names q ≡ None → OfBoth (IsNamed names) e r
+    → passes (λ entry. bytes_eq q entry.name) e ≡ false
+unnamed names q None r none h = refl
+unnamed names q (Some e) None none h = absurd h
+unnamed names q (Some e) (Some r) none h =
+    text_other q e.name (λ same. no_number (number_in names q) r.name none (ap (number_in names) same ∙ h.name))
+
+pub members_written : (names new : Names) (es : List (Option EntryValue)) (place number : ℕ) (old e : Option EntryValue) (gone r : Option Row)
+    → IsNames names → old ≡ get_or es place None → OfBoth (IsNamed names) old gone → OfBoth (IsNamed names) e r → AreMembers names es → number ≡ 1 + place → place < length es
+    → ((q : List ℕ) → number_in new q ≡ number_in names q)
+    → ((n : ℕ) → list_at new.members.items n ≡ moved number (is_at n (row_name gone)) (is_at n (row_name r)) (list_at names.members.items n))
+    → AreMembers new (set es place e)
+members_written names new es place number old e gone r is there before after members here within numbers moves q =
+    ap (members_under new.members.items) (numbers q) ∙ by (number_in names q) refl
+    ∙ ap (λ o. moved number (passes test o) (passes test e) (passing test 1 es)) there
+    ∙ sym (passing_set test number 1 place es e here within)
+  where
+    test : EntryValue → Bool
+    test entry = bytes_eq q entry.name
+
+    by : (found : Option ℕ) → number_in names q ≡ found → members_under new.members.items found ≡ moved number (passes test old) (passes test e) (passing test 1 es)
+    by None has =
+        let nothing : passing test 1 es ≡ [] = sym (members q) ∙ ap (members_under names.members.items) has in
+        sym (ap (λ b. moved number b (passes test e) (passing test 1 es)) (unnamed names q old gone has before)
+        ∙ ap (λ b. moved number false b (passing test 1 es)) (unnamed names q e r has after) ∙ nothing)
+    by (Some n) has =
+        moves n
+        ∙ ap (λ b. moved number b (is_at n (row_name r)) (list_at names.members.items n)) (named_at names q n old gone is has before)
+        ∙ ap (λ b. moved number (passes test old) b (list_at names.members.items n)) (named_at names q n e r is has after)
+        ∙ ap (moved number (passes test old) (passes test e)) (under names es q n members has)
+
+-- ---- the index
+
+pub index_rises : (lists : List (Vec ℕ Global)) (head : HeadValue) (es : List (Option EntryValue)) → IsIndex lists head es → AllRise lists
+index_rises lists head es index = λ i within.
+    let key : IndexKey = get_or keys i OfTags in
+    subst (Rises 0) (sym (ap (λ ls. get_or ls i []) index ∙ get_or-map (λ k. and_head (head_reads k head) (passing (entry_reads k) 1 es)) keys i OfTags [] within))
+    (head_rises (head_reads key head) _ (passing_rises (entry_reads key) 1 es))
+
+pub index_written : (lists new : List (Vec ℕ Global)) (was is : List Bool) (head : HeadValue) (es : List (Option EntryValue)) (place number : ℕ) (old e : Option EntryValue)
+    → IsIndex lists head es → old ≡ get_or es place None
+    → was ≡ map (λ key. passes (entry_reads key) old) keys → is ≡ map (λ key. passes (entry_reads key) e) keys → number ≡ 1 + place → place < length es
+    → length new ≡ length lists
+    → ((i : ℕ) → i < 14 → list_at new i ≡ moved number (get_or was i false) (get_or is i false) (list_at lists i))
+    → IsIndex new head (set es place e)
+index_written lists new was is head es place number old e index there is_was is_is here within long changed =
+    lists_are new keys (λ k. and_head (head_reads k head) (passing (entry_reads k) 1 (set es place e))) OfTags (long ∙ fourteen) (λ i less. by i less (get_or keys i OfTags) refl)
+  where
+    fourteen : length lists ≡ 14
+    fourteen = sym (length-map lists (λ (list : Vec ℕ Global). list.items)) ∙ ap length index
+
+    by : (i : ℕ) → i < 14 → (key : IndexKey) → get_or keys i OfTags ≡ key → list_at new i ≡ and_head (head_reads key head) (passing (entry_reads key) 1 (set es place e))
+    by i less key is_key =
+        let before : get_or was i false ≡ passes (entry_reads key) old =
+        ap (λ bs. get_or bs i false) is_was ∙ get_or-map (λ k. passes (entry_reads k) old) keys i OfTags false less ∙ ap (λ k. passes (entry_reads k) old) is_key in
+        let after : get_or is i false ≡ passes (entry_reads key) e =
+        ap (λ bs. get_or bs i false) is_is ∙ get_or-map (λ k. passes (entry_reads k) e) keys i OfTags false less ∙ ap (λ k. passes (entry_reads k) e) is_key in
+        let list : list_at lists i ≡ and_head (head_reads key head) (passing (entry_reads key) 1 es) =
+        ap (λ ls. get_or ls i []) index ∙ get_or-map (λ k. and_head (head_reads k head) (passing (entry_reads k) 1 es)) keys i OfTags [] less
+        ∙ ap (λ k. and_head (head_reads k head) (passing (entry_reads k) 1 es)) is_key in
+        changed i less
+        ∙ ap (λ b. moved number b (get_or is i false) (list_at lists i)) before
+        ∙ ap (λ b. moved number (passes (entry_reads key) old) b (list_at lists i)) after
+        ∙ ap (moved number (passes (entry_reads key) old) (passes (entry_reads key) e)) list
+        ∙ sym (moved_head (passes (entry_reads key) old) (passes (entry_reads key) e) (head_reads key head) number (passing (entry_reads key) 1 es) (omega (arith, here)))
+        ∙ ap (and_head (head_reads key head)) (ap (λ o. moved number (passes (entry_reads key) o) (passes (entry_reads key) e) (passing (entry_reads key) 1 es)) there
+        ∙ sym (passing_set (entry_reads key) number 1 place es e here within))
+
+-- what reads nothing needs no room
+pub no_room : (lists : List (Vec ℕ Global)) → HaveRoom lists (map (λ key. passes (entry_reads key) None) keys) 0
+no_room lists = λ i d above less comes.
+    let none : get_or (map (λ key. passes (entry_reads key) None) keys) i false ≡ false = get_or-map (λ key. passes (entry_reads key) None) keys i OfTags false less in
+    let some : get_or (map (λ key. passes (entry_reads key) None) keys) i false ≡ true = comes in
+    let e : ◌≡◌ {A = Bool} false true = sym none ∙ some in cc
+
+-- ---- the parts
+
+pub session_index : (p : Parts) (lists : _) → numbers_in lists ≡ numbers_in p.index → IsSession p → IsSession (record p { index = lists })
+session_index p lists kept s = record {
+  few = s.few;
+  named = s.named;
+  judged = s.judged;
+  head = s.head;
+  names = s.names;
+  members = s.members;
+  index = kept ∙ s.index;
+  spare = s.spare;
+}
+
+pub shown_index : (p : Parts) (lists : _) → numbers_in lists ≡ numbers_in p.index → shown (record p { index = lists }) ≡ shown p
+shown_index p lists kept = ap (λ all. record (shown p) { index = all }) kept
+
+-- names that keep all but room
+pub kept_numbers : (old new : Names) → ((q : List ℕ) → number_in new q ≡ number_in old q) → (q : List ℕ) (n : ℕ) → number_in old q ≡ Some n → number_in new q ≡ Some n
+kept_numbers old new numbers q n has = numbers q ∙ has
+
+pub named_as : (old new : Names) → ((q : List ℕ) → number_in new q ≡ number_in old q) → (e : EntryValue) (r : Row) → IsNamed old e r → IsNamed new e r
+named_as old new numbers e r h = record { name = numbers e.name ∙ h.name; sources = h.sources }
+
+pub rows_named_as : (old new : Names) → ((q : List ℕ) → number_in new q ≡ number_in old q) → (es : List (Option EntryValue)) (rs : List (Option Row))
+    → OfRows (IsNamed old) es rs → OfRows (IsNamed new) es rs
+rows_named_as old new numbers es rs h = of_rows_weaker (IsNamed old) (IsNamed new) (named_as old new numbers) es rs h
+
+pub both_named_as : (old new : Names) → ((q : List ℕ) → number_in new q ≡ number_in old q) → (e : Option EntryValue) (r : Option Row)
+    → OfBoth (IsNamed old) e r → OfBoth (IsNamed new) e r
+both_named_as old new numbers e r h = of_both_weaker (IsNamed old) (IsNamed new) (named_as old new numbers) e r h
+
+-- ---- an empty place at the end
+
+pub of_rows_wider : (P : EntryValue → Row → Type 0) (es : List (Option EntryValue)) (rs : List (Option Row)) → OfRows P es rs → OfRows P (es ++ None ∷ []) (rs ++ None ∷ [])
+of_rows_wider P [] [] h = (tt, tt)
+of_rows_wider P [] (r ∷ rs) h = absurd h
+of_rows_wider P (e ∷ es) [] h = absurd h
+of_rows_wider P (e ∷ es) (r ∷ rs) h = (h.0, of_rows_wider P es rs h.1)
+
+pub in_rows_wider : {X : Type 0} (n : ℕ) (rows : List (Option X)) → in_rows n (rows ++ None ∷ []) ≡ in_rows n rows
+in_rows_wider n [] = refl
+in_rows_wider n (None ∷ rows) = in_rows_wider (n + 1) rows
+in_rows_wider n (Some x ∷ rows) = ap (λ rest. (n, x) ∷ rest) (in_rows_wider (n + 1) rows)
+
+-- what is written at the end
+pub set_last : {X : Type 0} (xs : List X) (x y : X) → set (xs ++ x ∷ []) (length xs) y ≡ xs ++ y ∷ []
+set_last [] x y = refl
+set_last (z ∷ zs) x y = ap (λ rest. z ∷ rest) (set_last zs x y)
+
+pub members_wider : (names : Names) (es : List (Option EntryValue)) → AreMembers names es → AreMembers names (es ++ None ∷ [])
+members_wider names es members q = members q ∙ ap (numbers_where (λ entry. bytes_eq q entry.name)) (sym (in_rows_wider 1 es))
+
+pub index_wider : (lists : List (Vec ℕ Global)) (head : HeadValue) (es : List (Option EntryValue)) → IsIndex lists head es → IsIndex lists head (es ++ None ∷ [])
+index_wider lists head es index =
+    index ∙ ap (λ rows. map (λ key. and_head (head_reads key head) (numbers_where (entry_reads key) rows)) keys) (sym (in_rows_wider 1 es))
+
+-- what holds in any case holds on Err
+pub on_err : {A E P : Type 0} (r : Result A E) → P → OnErr r P
+on_err (Ok x) p = tt
+on_err (Err e) p = p
+
+-- entries and rows that have other room
+pub shown_room : (p : Parts) (entries : Vec (Option EntryValue) Global) (rows : Vec (Option Row) Global) → entries.items ≡ p.entries.items → rows.items ≡ p.rows.items → shown (record p { entries = entries; rows = rows }) ≡ shown p
+shown_room p entries rows es rs = λ i. record (shown p) {
+  state = record (state_of p) { entries = in_rows 1 (es i); last = length (es i) };
+  verdicts = record { head = p.head_verdict; entries = in_rows 1 (map verdict_in (rs i)) };
+}

@@ -1,0 +1,103 @@
+-- What an edit judges again, and how it is put in place.
+use Rattle.std.specs.Prelude.{◌≡◌, ℕ, ◌-◌, ◌<◌, ◌==◌, Bool, false, List, [], ◌∷◌}
+use Rattle.std.specs.Prelude.{map, length, Option, Some, None, IsSome}
+use Rattle.std.specs.Prelude.{slice_index_or, slice_set, if◌then◌else◌}
+use Rattle.pymark_core.specs.Environment.{EnvironmentValue, with_extra, with_group, with_variable}
+use Rattle.pymark_core.specs.Environment.{without_extra, without_group, without_variable}
+use Rattle.pymark_core.specs.Marker.Value.{AgreeAt}
+use Rattle.pymark_core.specs.declared.marker.keys.Key.{Key}
+use Rattle.pymark_core.specs.declared.marker.keys.Key.TheVariants.{Of, Extras, Groups}
+use Rattle.pywheel_core.specs.Tag.{TagValue}
+use Rattle.pylock_core.specs.Entry.{EntryValue}
+use Rattle.pylock_core.specs.Inner.Names.{policy_at}
+use Rattle.pylock_core.specs.Inner.Rows.{in_rows}
+use Rattle.pylock_core.specs.Session.Judgement.{numbers_where, verdict_of}
+use Rattle.pylock_core.specs.declared.edit.Policy.{Policy}
+use Rattle.pylock_core.specs.declared.session.changes.Change.{Change}
+use Rattle.pylock_core.specs.declared.session.changes.Change.TheVariants as change
+use Rattle.pylock_core.specs.declared.session.parts.Parts.{Parts}
+use Rattle.pylock_core.specs.declared.session.row.Row.{Row}
+
+-- ---- the rows
+
+-- the policy that is given for all, or that of each name's number
+abbrev pub policy_for : Option Policy → List Policy → ℕ → Policy
+policy_for None policies = policy_at policies
+policy_for (Some policy) policies = λ name. policy
+
+-- the row of an entry that is judged again
+abbrev pub row_anew : EnvironmentValue → List TagValue → (ℕ → Policy) → Option EntryValue
+    → Option Row → Option Row
+row_anew environment tags policy None row = None
+row_anew environment tags policy (Some entry) None = None
+row_anew environment tags policy (Some entry) (Some row) =
+    Some (record row { verdict = verdict_of entry environment tags (policy row.name) })
+
+-- the row of this number judged again, with its place
+abbrev pub fresh_row : EnvironmentValue → List TagValue → (ℕ → Policy) → List (Option EntryValue)
+    → List (Option Row) → ℕ → ℕ × Option Row
+fresh_row environment tags policy entries rows n = (
+  n - 1,
+  row_anew environment tags policy (slice_index_or entries (n - 1) None)
+      (slice_index_or rows (n - 1) None),
+)
+
+-- the rows of the entries that pass, judged again
+abbrev pub rows_anew : Parts → (EntryValue → Bool) → EnvironmentValue → List TagValue → (ℕ → Policy)
+    → List (ℕ × Option Row)
+rows_anew parts test environment tags policy =
+    map (fresh_row environment tags policy parts.entries.items parts.rows.items)
+    (numbers_where test (in_rows 1 parts.entries.items))
+
+-- the rows with each of these at its place
+abbrev pub stored : List (ℕ × Option Row) → List (Option Row) → List (Option Row)
+stored [] rows = rows
+stored (fresh ∷ more) rows = stored more (slice_set rows fresh.0 fresh.1)
+
+-- each is the number of an entry
+abbrev pub AllStand : List (Option EntryValue) → List ℕ → Type 0
+AllStand entries numbers =
+    (i : ℕ) → i < length numbers
+    → (0 < slice_index_or numbers i 0)
+    × IsSome (slice_index_or entries (slice_index_or numbers i 0 - 1) None)
+
+-- each has a place among so many
+abbrev pub AllWithin : ℕ → List (ℕ × Option Row) → Type 0
+AllWithin count [] = Unit {0}
+AllWithin count (fresh ∷ more) = (fresh.0 < count) × AllWithin count more
+
+-- ---- the head
+
+-- whether the number of the head is the first
+abbrev pub has_head : List ℕ → Bool
+has_head [] = false
+has_head (n ∷ numbers) = n == 0
+
+-- the numbers after that of the head
+abbrev pub after_head : List ℕ → List ℕ
+after_head [] = []
+after_head (n ∷ numbers) = if n == 0 then numbers else n ∷ numbers
+
+-- ---- environments
+
+-- two environments differ at this key alone
+abbrev pub DifferAt : Key → EnvironmentValue → EnvironmentValue → Type 0
+DifferAt key e f = (other : Key) → (other ≡ key → ⊥) → AgreeAt other e f
+
+-- what a change makes of an environment
+abbrev pub changed : Change → EnvironmentValue → EnvironmentValue
+changed (change.Set variable text) e = with_variable variable text.now e
+changed (change.Unset variable) e = without_variable variable e
+changed (change.AddExtra name) e = with_extra name.now e
+changed (change.DropExtra name) e = without_extra name.now e
+changed (change.AddGroup name) e = with_group name.now e
+changed (change.DropGroup name) e = without_group name.now e
+
+-- the key that it changes
+abbrev pub key_of : Change → Key
+key_of (change.Set variable text) = Of variable
+key_of (change.Unset variable) = Of variable
+key_of (change.AddExtra name) = Extras
+key_of (change.DropExtra name) = Extras
+key_of (change.AddGroup name) = Groups
+key_of (change.DropGroup name) = Groups

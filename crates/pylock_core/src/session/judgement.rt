@@ -1,0 +1,328 @@
+//! Judgements made again, of what reads a thing that changes and of nothing else.
+
+ghost use Rattle.std.specs.Prelude.{◌≡◌, ◌<◌, ◌++◌, ◌∷◌, [], Option, Some, None, IfOk, IfSome};
+ghost use Rattle.std.specs.Prelude.{IsSome, OnErr, OnOk, length, map, unwrap_or, if◌then◌else◌};
+ghost use Rattle.std.specs.Str.{bytes_eq};
+ghost use Rattle.pymark_core.specs.Marker.Keys.{key_number};
+ghost use Rattle.pylock_core.specs.Inner.Again.{AllStand, AllWithin, DifferAt, after_head};
+ghost use Rattle.pylock_core.specs.Inner.Again.{fresh_row, has_head, policy_for, row_anew};
+ghost use Rattle.pylock_core.specs.Inner.Again.{rows_anew, stored};
+ghost use Rattle.pylock_core.specs.Inner.Index.{list_at};
+ghost use Rattle.pylock_core.specs.Inner.Names.{policies_in, policy_at};
+ghost use Rattle.pylock_core.specs.Inner.Parts.{IsSession, shown, state_of};
+ghost use Rattle.pylock_core.specs.Session.Judgement.{Marked, OfTags, entry_reads, head_reads};
+ghost use Rattle.pylock_core.specs.Session.Judgement.{numbers_where, readers};
+ghost use Rattle.pylock_core.specs.Session.State.{in_environment, with_policy};
+ghost use Rattle.pylock_core.specs.Session.Steps.{head_fault};
+
+use crate::edit::Policy;
+use crate::entry::Entry;
+use crate::laws::{entry_reads, head_reads};
+use crate::lock::Head;
+use crate::session::names::{number_of, set_policy};
+use crate::session::parts::Parts;
+use crate::session::room::put_at;
+use crate::session::row::Row;
+use crate::session::verdict::{HeadVerdict, Judge};
+use pymark_core::{Environment, Key, Var};
+use pywheel_core::TagList;
+use std::alloc::AllocError;
+use std::mem;
+
+/// The number of the tags among the keys.
+const TAGS: usize = 13;
+
+/// A row that was judged again, with its place.
+type Fresh = (usize, Option<Row>);
+
+/// The number of the key.
+fn key_number(key: Key) -> usize
+    ensures value { result ≡ key_number key }
+    ensures bound { result < 14 }
+{
+    match key {
+        Key::Of(Var::OsName) => 0,
+        Key::Of(Var::SysPlatform) => 1,
+        Key::Of(Var::PlatformMachine) => 2,
+        Key::Of(Var::PlatformPythonImplementation) => 3,
+        Key::Of(Var::PlatformRelease) => 4,
+        Key::Of(Var::PlatformSystem) => 5,
+        Key::Of(Var::PlatformVersion) => 6,
+        Key::Of(Var::PythonVersion) => 7,
+        Key::Of(Var::PythonFullVersion) => 8,
+        Key::Of(Var::ImplementationName) => 9,
+        Key::Of(Var::ImplementationVersion) => 10,
+        Key::Extras => 11,
+        Key::Groups => 12,
+    }
+}
+
+/// The row of the entry of this number, judged again under the policy that is given, or that of its
+/// name.
+fn judged_row(
+    judge: &Judge,
+    number: u32,
+    entry: &Option<Entry>,
+    row: &Option<Row>,
+    policies: &[Policy],
+    given: Option<Policy>,
+    judged: &mut Vec<u32>,
+) -> Result<Option<Row>, AllocError>
+    requires entry { IsSome entry.now }
+    requires row { IsSome row.now }
+    requires below { IfSome row.now (λ row. row.name < length policies.now) }
+    ensures row { IfOk result (λ new. new ≡ row_anew judge.now.environment.now judge.now.tags.now
+        (policy_for given policies.now) entry.now row.now) }
+    ensures judged { OnOk result (judged.new.items ≡ judged.old.items ++ number ∷ []) }
+{
+    match (entry, row) {
+        (Some(entry), Some(row)) => {
+            let policy = given.unwrap_or(policies[row.name]);
+            let verdict = judge.entry(number, entry, policy, judged)?;
+            Ok(Some(Row {
+                verdict,
+                name: row.name,
+                sources: row.sources,
+            }))
+        }
+        _ => Ok(None),
+    }
+}
+
+/// The rows of the entries of these numbers, judged again under the policy that is given, or those
+/// of their names.
+fn again(
+    judge: &Judge,
+    parts: &Parts,
+    numbers: &[u32],
+    given: Option<Policy>,
+    judged: &mut Vec<u32>,
+) -> Result<Vec<Fresh>, AllocError>
+    requires session { IsSession parts.now }
+    requires stand { AllStand parts.now.entries.items numbers.now }
+    ensures fresh { IfOk result (λ fresh. fresh.items
+        ≡ map (fresh_row judge.now.environment.now judge.now.tags.now
+        (policy_for given parts.now.names.policies.items)
+        parts.now.entries.items parts.now.rows.items) numbers.now) }
+    ensures judged { OnOk result (judged.new.items ≡ judged.old.items ++ numbers.now) }
+{
+    let mut fresh = Vec::with_capacity(judge.alloc, numbers.len())?;
+    for number in numbers {
+        let place = *number as usize - 1;
+        let row = judged_row(
+            judge,
+            *number,
+            &parts.entries[place],
+            &parts.rows[place],
+            parts.names.policies.as_slice(),
+            given,
+            judged,
+        )?;
+        fresh.push((place, row))?;
+    }
+    Ok(fresh)
+}
+
+/// Puts each of the rows at its place. Takes no memory.
+fn store(rows: &mut Vec<Option<Row>>, fresh: Vec<Fresh>)
+    requires { AllWithin (length rows.old.items) fresh.items }
+    ensures { rows.new.items ≡ stored fresh.items rows.old.items }
+{
+    for (place, row) in fresh {
+        put_at(rows, place, row);
+    }
+}
+
+/// Whether the number of the head stands before these.
+fn has_head(numbers: &[u32]) -> bool
+    ensures { result ≡ has_head numbers.now }
+{
+    match numbers.first() {
+        Some(number) => *number == 0,
+        None => false,
+    }
+}
+
+/// The numbers without that of the head, which stands before them or not.
+fn after_head(numbers: &[u32]) -> &[u32]
+    ensures { result.now ≡ after_head numbers.now }
+{
+    match numbers.split_first() {
+        Some((number, rest)) if *number == 0 => rest,
+        _ => numbers,
+    }
+}
+
+/// The verdict on the head, judged again if it reads what changes.
+fn head_again(
+    judge: &Judge,
+    head: &Head,
+    reads: bool,
+    judged: &mut Vec<u32>,
+) -> Result<Option<HeadVerdict>, AllocError>
+    ensures verdict { IfOk result (λ verdict. verdict
+        ≡ (if reads then Some (head_fault head.now judge.now.environment.now) else None)) }
+    ensures judged { OnOk result (judged.new.items
+        ≡ judged.old.items ++ (if reads then 0 ∷ [] else [])) }
+{
+    if reads {
+        return Ok(Some(judge.head(head, judged)?));
+    }
+    Ok(None)
+}
+
+/// Puts the verdict, if there is one, in place of the one that was there.
+fn put_head(kept: &mut HeadVerdict, fresh: Option<HeadVerdict>)
+    ensures { kept.new ≡ unwrap_or fresh kept.old }
+{
+    if let Some(verdict) = fresh {
+        *kept = verdict;
+    }
+}
+
+/// Judges again what reads the key, in this environment.
+fn judge_key(
+    parts: &Parts,
+    environment: &Environment,
+    key: Key,
+    judged: &mut Vec<u32>,
+) -> Result<(Option<HeadVerdict>, Vec<Fresh>), AllocError>
+    requires { IsSession parts.now }
+    ensures head { IfOk result (λ fresh. fresh.0
+        ≡ (if head_reads (Marked key) parts.now.head
+        then Some (head_fault parts.now.head environment.now) else None)) }
+    ensures rows { IfOk result (λ fresh. fresh.1.items
+        ≡ rows_anew parts.now (entry_reads (Marked key)) environment.now parts.now.tags
+        (policy_at parts.now.names.policies.items)) }
+    ensures judged { OnOk result (judged.new.items
+        ≡ judged.old.items ++ readers (Marked key) (state_of parts.now)) }
+{
+    let judge = Judge {
+        alloc: parts.alloc,
+        environment,
+        tags: &parts.tags,
+    };
+    let numbers = parts.index[key_number(key)].as_slice();
+    let verdict = head_again(&judge, &parts.head, has_head(numbers), judged)?;
+    let fresh = again(&judge, parts, after_head(numbers), None, judged)?;
+    Ok((verdict, fresh))
+}
+
+/// Judges again the entries that have wheels, by these tags.
+fn judge_tags(
+    parts: &Parts,
+    tags: &TagList,
+    judged: &mut Vec<u32>,
+) -> Result<Vec<Fresh>, AllocError>
+    requires { IsSession parts.now }
+    ensures rows { IfOk result (λ fresh. fresh.items ≡ rows_anew parts.now (entry_reads OfTags)
+        parts.now.environment tags.now (policy_at parts.now.names.policies.items)) }
+    ensures judged { OnOk result (judged.new.items
+        ≡ judged.old.items ++ readers OfTags (state_of parts.now)) }
+{
+    let judge = Judge {
+        alloc: parts.alloc,
+        environment: &parts.environment,
+        tags,
+    };
+    again(&judge, parts, parts.index[TAGS].as_slice(), None, judged)
+}
+
+/// Judges again the entries of the name of this number, under this policy.
+fn judge_name(
+    parts: &Parts,
+    number: usize,
+    policy: Policy,
+    judged: &mut Vec<u32>,
+) -> Result<Vec<Fresh>, AllocError>
+    requires session { IsSession parts.now }
+    requires within { number < length parts.now.names.policies.items }
+    requires stand { AllStand parts.now.entries.items
+        (list_at parts.now.names.members.items number) }
+    ensures rows { IfOk result (λ fresh. fresh.items
+        ≡ map (fresh_row parts.now.environment parts.now.tags (λ name. policy)
+        parts.now.entries.items parts.now.rows.items)
+        (list_at parts.now.names.members.items number)) }
+    ensures judged { OnOk result (judged.new.items
+        ≡ judged.old.items ++ list_at parts.now.names.members.items number) }
+{
+    let judge = Judge {
+        alloc: parts.alloc,
+        environment: &parts.environment,
+        tags: &parts.tags,
+    };
+    let members = parts.names.members[number].as_slice();
+    again(&judge, parts, members, Some(policy), judged)
+}
+
+/// Puts the environment, which differs at the key alone, in place of the one that was there, and
+/// gives that back. What reads the key is judged again. Where there is no memory for it, all stays.
+pub(crate) fn change_environment(
+    parts: &mut Parts,
+    environment: Environment,
+    key: Key,
+    judged: &mut Vec<u32>,
+) -> Result<Environment, AllocError>
+    requires session { IsSession parts.old }
+    requires spare { parts.old.spare ≡ None }
+    requires differ { DifferAt key parts.old.environment environment }
+    ensures session { IsSession parts.new }
+    ensures ok { OnOk result (state_of parts.new
+        ≡ in_environment environment (state_of parts.old)) }
+    ensures back { IfOk result (λ back. back ≡ parts.old.environment) }
+    ensures judged { OnOk result (judged.new.items
+        ≡ judged.old.items ++ readers (Marked key) (state_of parts.old)) }
+    ensures err { OnErr result (shown parts.new ≡ shown parts.old) }
+{
+    entry_reads();
+    head_reads();
+    let (verdict, fresh) = judge_key(parts, &environment, key, judged)?;
+    put_head(&mut parts.head_verdict, verdict);
+    store(&mut parts.rows, fresh);
+    Ok(mem::replace(&mut parts.environment, environment))
+}
+
+/// Puts the tags in place of those that were there. The entries that have wheels are judged again.
+/// Where there is no memory for it, all stays.
+pub(crate) fn change_tags(
+    parts: &mut Parts,
+    tags: TagList,
+    judged: &mut Vec<u32>,
+) -> Result<(), AllocError>
+    requires { IsSession parts.old }
+    ensures session { IsSession parts.new }
+    ensures ok { OnOk result (state_of parts.new ≡ record (state_of parts.old) { tags = tags }) }
+    ensures judged { OnOk result (judged.new.items
+        ≡ judged.old.items ++ readers OfTags (state_of parts.old)) }
+    ensures err { OnErr result (shown parts.new ≡ shown parts.old) }
+{
+    entry_reads();
+    let fresh = judge_tags(parts, &tags, judged)?;
+    store(&mut parts.rows, fresh);
+    parts.tags = tags;
+    Ok(())
+}
+
+/// Gives the name, in normal form, the policy. The entries of the name are judged again. Where
+/// there is no memory for it, all that is shown stays.
+pub(crate) fn change_policy(
+    parts: &mut Parts,
+    name: &str,
+    policy: Policy,
+    judged: &mut Vec<u32>,
+) -> Result<(), AllocError>
+    requires { IsSession parts.old }
+    ensures session { IsSession parts.new }
+    ensures ok { OnOk result (state_of parts.new
+        ≡ record (state_of parts.old)
+        { policies = with_policy (policies_in parts.old.names) name.now policy }) }
+    ensures judged { OnOk result (judged.new.items ≡ judged.old.items
+        ++ numbers_where (λ entry. bytes_eq name.now entry.name) (state_of parts.old).entries) }
+    ensures err { OnErr result (shown parts.new ≡ shown parts.old) }
+{
+    let number = number_of(parts.alloc, &mut parts.names, name)?;
+    let fresh = judge_name(parts, number, policy, judged)?;
+    store(&mut parts.rows, fresh);
+    set_policy(&mut parts.names, number, policy);
+    Ok(())
+}
