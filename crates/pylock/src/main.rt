@@ -2,24 +2,10 @@
 //! versions, names, markers, requirements and wheels.
 #![tactic(auto)]
 
-mod command;
-pub mod laws;
-mod line;
-mod program;
-mod reply;
-mod report;
-mod stream;
-#[cfg(test)]
-mod tests;
-mod text;
-
-use crate::command::{CommandError, Task, command};
-use crate::program::{Failure, Files, Work, greet, read_file, read_inputs, words_failure, work_of};
-use crate::reply::queries::Query;
-use crate::reply::query;
-use crate::report::run::run;
-use crate::stream::whole::FileFault;
-use crate::stream::wrapper::{FromRead, ToWrite};
+use pylock_program::{
+    CommandError, Failure, FileFault, Files, FromRead, Query, Task, ToWrite, Work, command, greet,
+    query, read_file, read_inputs, run, words_failure, work_of,
+};
 use std::process::ExitCode;
 use std::{env, fs};
 

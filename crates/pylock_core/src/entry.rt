@@ -124,7 +124,7 @@ impl Entry {
     }
 
     /// What the file name of each wheel says, nothing where it is absent or refused.
-    pub(crate) fn wheel_names(&self) -> &[Option<WheelName>]
+    pub fn wheel_names(&self) -> &[Option<WheelName>]
         ensures { result.now ≡ wheel_names self.now }
     {
         self.sources.wheels.names()

@@ -12,8 +12,6 @@ mod field;
 pub mod laws;
 mod lock;
 mod session;
-#[cfg(test)]
-mod tests;
 mod text;
 
 pub use answer::{Answer, FaultCode, Pick, PickSource, Plan, Standing};

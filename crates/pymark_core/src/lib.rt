@@ -20,6 +20,3 @@ pub use marker::{Key, Marker, MarkerError, Reads};
 pub use operand::{Comparator, Operand};
 pub use requirement::{Requirement, RequirementError};
 pub use variable::Var;
-
-#[cfg(test)]
-mod tests;

@@ -9,6 +9,3 @@ mod version;
 pub use name::{is_name, normal_name};
 pub use set::{Operator, ReleasePrefix, Specifier, SpecifierError, SpecifierSet};
 pub use version::{Label, LocalPart, PartsError, PreKind, Version, VersionError, VersionParts};
-
-#[cfg(test)]
-mod tests;

@@ -18,6 +18,3 @@ pub use error::{TagError, TagListError, WheelError};
 pub use tag::Tag;
 pub use tag_list::TagList;
 pub use wheel::WheelName;
-
-#[cfg(test)]
-mod tests;

@@ -5,24 +5,28 @@ ghost use Rattle.std.specs.Prelude.{IsNone, IsSome, OnErr, OnOk, OnSome, length,
 ghost use Rattle.std.specs.Prelude.{string_bytes, map};
 ghost use Rattle.std.specs.FinMap as map_of;
 ghost use Rattle.std.specs.Option.{option_copied};
+ghost use Rattle.pylock_core.specs.Inner.Index.{numbers_in};
 ghost use Rattle.pylock_core.specs.Inner.Parts.{IsSession, shown, state_of};
 ghost use Rattle.pylock_core.specs.Inner.Rows.{in_rows};
-ghost use Rattle.pylock_core.specs.Session.Judgement.{all_numbers, index_of, touched, verdicts_of};
+ghost use Rattle.pylock_core.specs.Session.Judgement.{all_numbers, and_head, head_reads, index_of};
+ghost use Rattle.pylock_core.specs.Session.Judgement.{keys, touched, verdicts_of};
 ghost use Rattle.pylock_core.specs.Session.State.{apply, asking, entry_at, first};
+ghost use Rattle.pylock_core.specs.Session.Steps.{head_fault};
 ghost use Rattle.pylock_core.specs.declared.edit.Edit.TheVariants as edit;
 ghost use Rattle.pylock_core.specs.declared.edit.EditError.TheVariants.{Memory};
 
-use crate::edit::{Edit, EditError};
+use crate::edit::{Edit, EditError, Policy};
 use crate::entry::Entry;
 use crate::lock::{Head, Lock};
 use crate::session::changes::{
     add_extra, add_group, drop_extra, drop_group, give_policy, set_tags, set_variable,
     unset_variable,
 };
-use crate::session::index::head_index;
+use crate::session::index::{Lists, head_index};
 use crate::session::names::Names;
 use crate::session::parts::{Parts, add, del, put};
-use crate::session::verdict::Judge;
+use crate::session::row::Row;
+use crate::session::verdict::{HeadVerdict, Judge};
 use pymark_core::Environment;
 use pywheel_core::TagList;
 use std::alloc::{AllocError, Global};
@@ -167,50 +171,117 @@ fn asking(mut environment: Environment, groups: &[String]) -> Result<Environment
     Ok(environment)
 }
 
-/// The parts of a session that has no entry, and room for as many.
+/// Lists for entries and names, empty.
+#[derive(Drop)]
+struct Room {
+    rows: Vec<Option<Row>>,
+    policies: Vec<Policy>,
+    members: Vec<Vec<u32>>,
+    entries: Vec<Option<Entry>>,
+}
+
+/// Room for so many entries, each with a name of its own.
+fn room_for(alloc: Global, count: usize) -> Result<Room, AllocError>
+    ensures rows { IfOk result (λ room. room.rows.items ≡ []) }
+    ensures policies { IfOk result (λ room. room.policies.items ≡ []) }
+    ensures members { IfOk result (λ room. room.members.items ≡ []) }
+    ensures entries { IfOk result (λ room. room.entries.items ≡ []) }
+{
+    Ok(Room {
+        rows: Vec::with_capacity(alloc, count)?,
+        policies: Vec::with_capacity(alloc, count)?,
+        members: Vec::with_capacity(alloc, count)?,
+        entries: Vec::with_capacity(alloc, count)?,
+    })
+}
+
+/// What a session makes of its head.
+#[derive(Drop)]
+struct Beginning {
+    index: Lists,
+    head_verdict: HeadVerdict,
+}
+
+/// The verdict of the head, and an index of it alone.
+fn begin(
+    alloc: Global,
+    head: &Head,
+    environment: &Environment,
+    tags: &TagList,
+    judged: &mut Vec<u32>,
+) -> Result<Beginning, AllocError>
+    ensures verdict { IfOk result (λ beginning. beginning.head_verdict
+        ≡ head_fault head.now environment.now) }
+    ensures index { IfOk result (λ beginning. numbers_in beginning.index
+        ≡ map (λ key. and_head (head_reads key head.now) []) keys) }
+    ensures judged { OnOk result (judged.new.items ≡ judged.old.items ++ 0 ∷ []) }
+{
+    let judge = Judge {
+        alloc,
+        environment,
+        tags,
+    };
+    let head_verdict = judge.head(head, judged)?;
+    let index = head_index(alloc, head)?;
+    Ok(Beginning {
+        index,
+        head_verdict,
+    })
+}
+
+/// The parts of a session that has no entry.
 fn without_entries(
     alloc: Global,
     head: Head,
     environment: Environment,
     tags: TagList,
-    count: usize,
-    judged: &mut Vec<u32>,
-) -> Result<Parts, AllocError>
-    ensures session { IfOk result (λ parts. IsSession parts) }
-    ensures state { IfOk result (λ parts. state_of parts ≡ record {
+    beginning: Beginning,
+    room: Room,
+) -> Parts
+    requires verdict { beginning.head_verdict ≡ head_fault head environment }
+    requires index { numbers_in beginning.index
+        ≡ map (λ key. and_head (head_reads key head) []) keys }
+    requires rows { room.rows.items ≡ [] }
+    requires policies { room.policies.items ≡ [] }
+    requires members { room.members.items ≡ [] }
+    requires entries { room.entries.items ≡ [] }
+    ensures session { IsSession result }
+    ensures state { state_of result ≡ record {
       head = head;
       entries = [];
       last = 0;
       environment = environment;
       tags = tags;
       policies = map_of.empty;
-    }) }
-    ensures judged { OnOk result (judged.new.items ≡ judged.old.items ++ 0 ∷ []) }
+    } }
 {
-    let judge = Judge {
-        alloc,
-        environment: &environment,
-        tags: &tags,
-    };
-    let head_verdict = judge.head(&head, judged)?;
-    let index = head_index(alloc, &head)?;
-    Ok(Parts {
+    let Beginning {
+        index,
+        head_verdict,
+    } = beginning;
+    let Room {
+        rows,
+        policies,
+        members,
+        entries,
+    } = room;
+    Parts {
         alloc,
         judged: Vec::new(alloc),
         index,
-        rows: Vec::with_capacity(alloc, count)?,
+        rows,
         names: Names {
             numbers: BTreeMap::new(alloc),
-            policies: Vec::with_capacity(alloc, count)?,
-            members: Vec::with_capacity(alloc, count)?,
+            policies,
+            members,
         },
         head,
         head_verdict,
         environment,
         spare: None,
         tags,
-        entries: Vec::with_capacity(alloc, count)?,
-    })
+        entries,
+    }
 }
 
 /// The parts of a session on the lock.
@@ -228,9 +299,11 @@ pub(crate) fn start(
     ensures judged { IfOk result (λ parts. parts.judged.items ≡ all_numbers (state_of parts)) }
 {
     let (head, entries) = lock.into_parts();
+    let room = room_for(alloc, entries.len())?;
     let environment = asking(environment, head.default_groups().as_slice())?;
     let mut judged = Vec::new(alloc);
-    let mut parts = without_entries(alloc, head, environment, tags, entries.len(), &mut judged)?;
+    let beginning = begin(alloc, &head, &environment, &tags, &mut judged)?;
+    let mut parts = without_entries(alloc, head, environment, tags, beginning, room);
     for entry in entries {
         add(&mut parts, entry, &mut judged)?;
     }

@@ -1,0 +1,159 @@
+//! Entries: their refusals in order, and what they tell.
+use crate::locks::with_head;
+use pylock_core::{Entry, EntryError, Lock};
+use std::alloc::{AllocError, Global};
+use std::test::Fail;
+
+/// The refusal as `Debug` writes it, or `ok`.
+pub(super) fn refusal(alloc: Global, text: &str) -> Result<String, AllocError> {
+    match Entry::read_text(alloc, text) {
+        Ok(_) => String::from_str(alloc, "ok"),
+        Err(refusal) => format!(in alloc; "{refusal:?}"),
+    }
+}
+
+/// The entry whose keys behind `name` are these.
+pub(super) fn entry_with(alloc: Global, keys: &str) -> Result<Entry, Fail> {
+    let text = format!(in alloc; "{{name = \"a\", {keys}}}")?;
+    Entry::read_text(alloc, text.as_str()).map_err(Fail::from)
+}
+
+#[test]
+fn a_text_is_one_value(rt: HostRuntime) -> Result<(), Fail> {
+    let alloc = rt.alloc();
+    let cases = [
+        ("", "Toml"),
+        ("{name = \"a\"} x", "Toml"),
+        ("{name = \"a\"} ", "Toml"),
+        (" {name = \"a\"}", "Toml"),
+        ("{name = \"a\"}#", "Toml"),
+        ("5", "NotTable"),
+        ("[{name = \"a\"}]", "NotTable"),
+        ("{name = \"a\",}", "ok"),
+    ];
+    for (text, wanted) in cases {
+        assert_eq!(rt; refusal(alloc, text)?.as_str(), wanted, "{text}");
+    }
+    Ok(())
+}
+
+#[test]
+fn entries_are_refused_at_their_first_fault(rt: HostRuntime) -> Result<(), Fail> {
+    let alloc = rt.alloc();
+    let cases = [
+        ("{}", "Name"),
+        ("{version = 1}", "Name"),
+        ("{name = \"a\"}", "ok"),
+        ("{name = \"-x\"}", "Name"),
+        ("{name = 1, version = 1}", "Name"),
+        (
+            "{name = \"a\", version = 1, marker = \"x\"}",
+            "Key(Version)",
+        ),
+        ("{name = \"a\", version = \"any text\"}", "ok"),
+        (
+            "{name = \"a\", marker = \"x\", requires-python = \"x\"}",
+            "Marker",
+        ),
+        ("{name = \"a\", marker = 1}", "Marker"),
+        ("{name = \"a\", marker = \"\"}", "Marker"),
+        ("{name = \"a\", requires-python = \"x\"}", "RequiresPython"),
+        ("{name = \"a\", requires-python = \"\"}", "ok"),
+        ("{name = \"a\", unknown = 1}", "ok"),
+    ];
+    for (text, wanted) in cases {
+        assert_eq!(rt; refusal(alloc, text)?.as_str(), wanted, "{text}");
+    }
+    Ok(())
+}
+
+#[test]
+fn a_source_lies_at_a_url_or_a_path(rt: HostRuntime) -> Result<(), Fail> {
+    let alloc = rt.alloc();
+    let cases = [
+        ("vcs = {type = 'git', commit-id = 'f'}", "Key(Vcs)"),
+        ("vcs = {type = 'git', commit-id = 'f', path = 'p'}", "ok"),
+        ("vcs = {}", "Key(Vcs)"),
+        ("directory = {}", "Key(Directory)"),
+        ("directory = {url = 'u'}", "Key(Directory)"),
+        ("directory = {path = 'p', editable = false}", "ok"),
+        ("archive = {}", "Key(Archive)"),
+        ("archive = {url = 'u'}", "ok"),
+        ("archive = {url = 'u', hashes = 1}", "Key(Archive)"),
+        ("archive = {path = 'p', hashes = {}}", "ok"),
+        ("sdist = {name = 'n'}", "Key(Sdist)"),
+        ("sdist = {path = 'p', subdirectory = 1}", "ok"),
+        ("wheels = []", "ok"),
+        ("wheels = [1]", "Key(Wheels)"),
+        ("wheels = [{url = 'u'}, {}]", "Key(Wheels)"),
+        ("wheels = [{url = 'u'}, {path = 'p'}]", "ok"),
+        ("wheels = [{url = 'u', hashes = {md5 = 1}}]", "Key(Wheels)"),
+    ];
+    for (keys, wanted) in cases {
+        let text = format!(in alloc; "{{name = \"a\", {keys}}}")?;
+        assert_eq!(rt; refusal(alloc, text.as_str())?.as_str(), wanted, "{keys}");
+    }
+    Ok(())
+}
+
+#[test]
+fn an_entry_tells_its_keys(rt: HostRuntime) -> Result<(), Fail> {
+    let alloc = rt.alloc();
+    let text = "{name = \"B_b\", version = \"1.0.x\", marker = \" os_name == 'nt' \", \
+        requires-python = \">= 3.9\"}";
+    let entry = Entry::read_text(alloc, text).map_err(Fail::from)?;
+    assert_eq!(rt; entry.name(), "b-b");
+    assert_eq!(rt; entry.version().ok_or("no version")?, "1.0.x");
+    assert_eq!(rt;
+        entry.marker().ok_or("no marker")?.text(),
+        "os_name == 'nt'"
+    );
+    assert_eq!(rt; entry.requires_python().ok_or("no set")?.text(), ">=3.9");
+    assert!(rt; entry.vcs().is_none());
+    assert!(rt; entry.directory().is_none());
+    assert!(rt; entry.archive().is_none());
+    assert!(rt; entry.sdist().is_none());
+    assert!(rt; entry.wheels().is_empty());
+    assert!(rt; entry.wheel_names().is_empty());
+
+    let bare = Entry::read_text(alloc, "{name = \"a\"}").map_err(Fail::from)?;
+    assert!(rt; bare.version().is_none());
+    assert!(rt; bare.marker().is_none());
+    assert!(rt; bare.requires_python().is_none());
+    Ok(())
+}
+
+#[test]
+fn entries_of_equal_conditions_share_them(rt: HostRuntime) -> Result<(), Fail> {
+    let alloc = rt.alloc();
+    let text = with_head(
+        alloc,
+        "packages = [{name=\"a\", marker=\"os_name == 'nt'\", requires-python=\">=3\"}, \
+        {name=\"b\", marker=\"os_name == 'posix'\", requires-python=\">=3\"}, \
+        {name=\"c\", marker=\"os_name == 'nt'\", requires-python=\">=4\"}]\n",
+    )?;
+    let lock = Lock::read(alloc, text.as_bytes()).map_err(Fail::from)?;
+    let [a, b, c] = lock.entries() else {
+        return Err(Fail::from("not three entries"));
+    };
+    let cases = [
+        (a, "os_name == 'nt'", ">=3"),
+        (b, "os_name == 'posix'", ">=3"),
+        (c, "os_name == 'nt'", ">=4"),
+    ];
+    for (entry, marker, set) in cases {
+        assert_eq!(rt; entry.marker().ok_or("no marker")?.text(), marker);
+        assert_eq!(rt; entry.requires_python().ok_or("no set")?.text(), set);
+    }
+    Ok(())
+}
+
+#[test]
+fn a_refused_text_is_refused_each_time(rt: HostRuntime) -> Result<(), Fail> {
+    let alloc = rt.alloc();
+    for _ in 0..2 {
+        let outcome = Entry::read_text(alloc, "{name = \"a\", marker = \"x\"}");
+        assert!(rt; matches!(outcome, Err(EntryError::Marker)));
+    }
+    Ok(())
+}

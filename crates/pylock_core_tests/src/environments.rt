@@ -1,0 +1,88 @@
+//! Environments: their refusals in order, and what they set.
+use pylock_core::read_environment;
+use pymark_core::Var;
+use std::alloc::{AllocError, Global};
+use std::test::Fail;
+
+/// The refusal as `Debug` writes it, or `ok`.
+fn refusal(alloc: Global, bytes: &[u8]) -> Result<String, AllocError> {
+    match read_environment(alloc, bytes) {
+        Ok(_) => String::from_str(alloc, "ok"),
+        Err(refusal) => format!(in alloc; "{refusal:?}"),
+    }
+}
+
+#[test]
+fn environments_are_refused_at_their_first_fault(rt: HostRuntime) -> Result<(), Fail> {
+    let alloc = rt.alloc();
+    let cases: [(&[u8], &str); 16] = [
+        (b"{\"environment\":{},\"tags\":[]}", "ok"),
+        (
+            b"{\"environment\":{\"os_name\":\"posix\",\"x\":1},\"tags\":[],\"y\":2}",
+            "ok",
+        ),
+        (
+            b"{\"environment\":{\"os_name\":1,\"os_name\":\"nt\"},\"tags\":[]}",
+            "ok",
+        ),
+        (b"{", "Json"),
+        (b"\xFF", "Json"),
+        (b"\xEF\xBB\xBF{\"environment\":{},\"tags\":[]}", "Json"),
+        (b"{\"environment\":{},\"tags\":[],\"x\":1e999}", "Json"),
+        (b"{\"environment\":{}}", "Shape"),
+        (b"{\"tags\":[]}", "Shape"),
+        (b"[]", "Shape"),
+        (b"{\"environment\":[],\"tags\":[]}", "Shape"),
+        (b"{\"environment\":{\"os_name\":1},\"tags\":[]}", "Shape"),
+        (b"{\"environment\":{},\"tags\":{}}", "Shape"),
+        (b"{\"environment\":{},\"tags\":[\"py3\",1]}", "Shape"),
+        (
+            b"{\"environment\":{},\"tags\":[\"py3-none-any\",\"py3\"]}",
+            "Tag(2)",
+        ),
+        (b"{\"environment\":{},\"tags\":[\"py3-none-any\"]}", "ok"),
+    ];
+    for (bytes, wanted) in cases {
+        assert_eq!(rt; refusal(alloc, bytes)?.as_str(), wanted);
+    }
+    Ok(())
+}
+
+#[test]
+fn each_variable_is_set(rt: HostRuntime) -> Result<(), Fail> {
+    let alloc = rt.alloc();
+    let variables = [
+        Var::OsName,
+        Var::SysPlatform,
+        Var::PlatformMachine,
+        Var::PlatformPythonImplementation,
+        Var::PlatformRelease,
+        Var::PlatformSystem,
+        Var::PlatformVersion,
+        Var::PythonVersion,
+        Var::PythonFullVersion,
+        Var::ImplementationName,
+        Var::ImplementationVersion,
+    ];
+    for variable in variables {
+        let name = variable.name();
+        let text = format!(in alloc; "{{\"environment\":{{\"{name}\":\"t\"}},\"tags\":[]}}")?;
+        let (environment, tags) = read_environment(alloc, text.as_bytes()).map_err(Fail::from)?;
+        for other in variables {
+            let wanted = if other == variable { "t" } else { "unset" };
+            assert_eq!(rt; environment.get(other).unwrap_or("unset"), wanted);
+        }
+        assert_eq!(rt; tags.len(), 0);
+    }
+    Ok(())
+}
+
+#[test]
+fn tags_are_listed_once(rt: HostRuntime) -> Result<(), Fail> {
+    let alloc = rt.alloc();
+    let text =
+        "{\"environment\":{},\"tags\":[\"py3-none-any\",\"PY3-none-any\",\"cp39-cp39-win32\"]}";
+    let (_, tags) = read_environment(alloc, text.as_bytes()).map_err(Fail::from)?;
+    assert_eq!(rt; tags.len(), 2);
+    Ok(())
+}

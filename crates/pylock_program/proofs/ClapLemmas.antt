@@ -1,0 +1,96 @@
+-- What clap's matches tell of a subcommand.
+use Rattle.std.proofs.Common.{◌≡◌, ◌||◌, Bool, false, not, List, [], ◌∷◌, Option, None, Some, refl, true, inl, inr, is_some, subst, sym, ap, ap₂, ◌∙◌, Box, option_map}
+use Rattle.std.proofs.lemmas.List.Elements.{All-cons, All-nil}
+use Rattle.std.specs.Box.{box_value}
+use Rattle.clap.proofs.WalkLemmas.{first_value-rows}
+use Rattle.clap.specs.Words.{Row, Text, first_of, first_value, found_of, rows_of, subcommand_name_of, subcommand_rows, subcommand_rows_of}
+use Rattle.clap.proofs.OnLiterals.{clap_on_literals}
+use Rattle.clap.specs.Words.{App, HasKind, IsAmong, fault_of, is_simple_and_free, kind_of}
+use Rattle.clap.specs.declared.error.Error.{Error}
+use Rattle.pylock_program.specs.CommandLine.{HasTexts, IsRefusal, Keeps, is_lacking, lacks, lacks_text, pylock_app}
+use Rattle.pylock_program.specs.declared.command_line.CommandError.{CommandError}
+use Rattle.pylock_program.specs.declared.command_line.CommandError.TheVariants.{Refused, Memory}
+use Rattle.clap.specs.declared.parser.matches.ArgMatches.{ArgMatches}
+use Rattle.clap.specs.declared.parser.matches.ArgMatches.TheViews.{out-ArgMatches, out-SubCommand}
+use Rattle.clap.specs.declared.parser.matches.SubCommand.{SubCommand}
+
+name_of-rows : {Z : Type 0} (found : Option (Box SubCommand Z))
+    → option_map (λ b. (out-SubCommand (box_value b)).name.now) found ≡ option_map (λ p. p.0) (subcommand_rows found)
+name_of-rows None = refl
+name_of-rows (Some found) = refl
+
+both_parts : (found : Option (Text × List Row)) (name : Text) (rows : List Row) → Some name ≡ option_map (λ p. p.0) found → Some rows ≡ option_map (λ p. p.1) found
+    → found ≡ Some (name, rows)
+both_parts None name rows named met = cc
+both_parts (Some found) name rows named met =
+    let same_name : found.0 ≡ name = cc in
+    let same_rows : found.1 ≡ rows = cc in
+    ap₂ (λ (n : Text) (rs : List Row). Some (n, rs)) same_name same_rows
+
+or-true : (b : Bool) → (b || true) ≡ true
+or-true true = refl
+or-true false = refl
+
+abbrev HasText : List Row → Text × Text → Type 0
+HasText rows p = first_of p.0 rows ≡ Some p.1
+
+-- the subcommand that clap met, and the texts that its matches give
+module _ (m found : ArgMatches) (name word : Text) (is : name ≡ word) (named : Some name ≡ subcommand_name_of m)
+    (met : Some (rows_of (found_of found)) ≡ option_map (λ p. p.1) (subcommand_rows_of m)) where
+  abbrev rows : List Row
+  rows = rows_of (found_of found)
+
+  entered : subcommand_rows_of m ≡ Some (word, rows)
+  entered = both_parts (subcommand_rows_of m) word rows (ap (λ (n : Text). Some n) (sym is) ∙ named ∙ name_of-rows (out-ArgMatches m).subcommand) met
+
+  given : (id text : Text) → Some text ≡ first_value (found_of found) id → HasText rows (id, text)
+  given id text gives = sym (gives ∙ first_value-rows (found_of found) id)
+
+  pub HasTexts-one : (id text : Text) → Some text ≡ first_value (found_of found) id → HasTexts (subcommand_rows_of m) word ((id, text) ∷ [])
+  HasTexts-one id text gives = record {
+    rows = rows;
+    entered = entered;
+    given = All-cons (HasText rows) (id, text) [] (given id text gives) (All-nil (HasText rows));
+  }
+
+  pub HasTexts-two : (id text other other_text : Text) → Some text ≡ first_value (found_of found) id → Some other_text ≡ first_value (found_of found) other
+      → HasTexts (subcommand_rows_of m) word ((id, text) ∷ (other, other_text) ∷ [])
+  HasTexts-two id text other other_text gives gives_other = record {
+    rows = rows;
+    entered = entered;
+    given = All-cons (HasText rows) (id, text) ((other, other_text) ∷ []) (given id text gives)
+        (All-cons (HasText rows) (other, other_text) [] (given other other_text gives_other) (All-nil (HasText rows)));
+  }
+
+  pub is_lacking-from : lacks_text word rows ≡ true → is_lacking (subcommand_rows_of m) ≡ true
+  is_lacking-from lacking = ap is_lacking entered ∙ lacking
+
+  pub lacks_one : (id : Text) → None ≡ first_value (found_of found) id → lacks rows id ≡ true
+  lacks_one id none = ap (λ (text : Option Text). not (is_some text)) (sym (none ∙ first_value-rows (found_of found) id))
+
+  pub lacks_first : (id other : Text) → None ≡ first_value (found_of found) id → (lacks rows id || lacks rows other) ≡ true
+  lacks_first id other none = ap (λ b. b || lacks rows other) (lacks_one id none)
+
+  pub lacks_second : (id other : Text) → None ≡ first_value (found_of found) other → (lacks rows id || lacks rows other) ≡ true
+  lacks_second id other none = ap (λ b. lacks rows id || b) (lacks_one other none) ∙ or-true (lacks rows id)
+
+pylock_app-is_simple_and_free : is_simple_and_free pylock_app ≡ true
+unfolding clap_on_literals
+pylock_app-is_simple_and_free = refl
+
+-- what a parse by the program's command says of the words
+module _ (app : App) (is : app ≡ pylock_app) (words : List Text) where
+  is_free : is_simple_and_free app ≡ true
+  is_free = ap is_simple_and_free is ∙ pylock_app-is_simple_and_free
+
+  pub fault_of-taken : (is_simple_and_free app ≡ true → fault_of app words ≡ []) → fault_of pylock_app words ≡ []
+  fault_of-taken taken = ap (λ (a : App). fault_of a words) (sym is) ∙ taken is_free
+
+  pub IsRefusal-kept : (error : Error) (refusal : CommandError) → Keeps error refusal → (is_simple_and_free app ≡ true → HasKind (fault_of app words) error)
+      → IsRefusal words refusal
+  IsRefusal-kept error Memory kept kinds = tt
+  IsRefusal-kept error (Refused refused) kept kinds =
+      let P : App → Type 0 = λ a. HasKind (fault_of a words) error in
+      let kind : HasKind (fault_of pylock_app words) error = subst P is (kinds is_free) in
+      let among : IsAmong (kind_of error) (fault_of pylock_app words) = elim kind [ inl memory ↦ absurd (kept.1 memory) | inr kinds ↦ kinds ] in
+      rw kept.0 (kept.1, inl among)

@@ -1,0 +1,28 @@
+-- Texts joined by a separator.
+use Rattle.std.proofs.Common.{◌≡◌, ℕ, List, [], ◌∷◌, ◌++◌, map, length, false, Some, refl, ap, sym, ◌∙◌}
+use Rattle.std.specs.List.{flat_map, join_by}
+use Rattle.std.specs.Prelude.{◌==◌, codes}
+use Rattle.std.proofs.lemmas.Bool.{false≢true}
+use Rattle.pyver_core.specs.Name.{norm}
+use Rattle.pylock_program.specs.Reply.{names_text}
+
+pieces-map : {X : Type 0} (f : X → List ℕ) (sep : List ℕ) (xs : List X)
+    → flat_map (λ y. sep ++ f y) xs ≡ flat_map (λ y. sep ++ y) (map f xs)
+pieces-map f sep [] = refl
+pieces-map f sep (x ∷ xs) = ap (λ t. (sep ++ f x) ++ t) (pieces-map f sep xs)
+
+-- what is joined are the texts alone
+pub joined_texts : {X : Type 0} (f : X → List ℕ) (sep : List ℕ) (xs : List X)
+    → join_by f sep xs ≡ join_by (λ t. t) sep (map f xs)
+joined_texts f sep [] = refl
+joined_texts f sep (x ∷ xs) = ap (λ t. f x ++ t) (pieces-map f sep xs)
+
+-- things with the same texts are joined alike
+pub joined_alike : {X Y : Type 0} (f : X → List ℕ) (g : Y → List ℕ) (sep : List ℕ) (xs : List X) (ys : List Y)
+    → map f xs ≡ map g ys → join_by f sep xs ≡ join_by g sep ys
+joined_alike f g sep xs ys same = joined_texts f sep xs ∙ ap (join_by (λ t. t) sep) same ∙ sym (joined_texts g sep ys)
+
+-- names that there are
+pub some_names : {X : Type 0} (f : X → List ℕ) (xs : List X) → (length xs == 0) ≡ false → names_text (map f xs) ≡ Some (join_by norm (codes ",") (map f xs))
+some_names f [] none = absurd (false≢true (sym none))
+some_names f (x ∷ xs) some = refl

@@ -1,0 +1,16 @@
+use Rattle.std.proofs.Common.{List, Bor, map}
+use Rattle.std.proofs.lemmas.Result.{err_from_is_err_and}
+use Rattle.clap.specs.Words.{Text}
+use Rattle.pylock_program.proofs.ClapLemmas.{IsRefusal-kept, fault_of-taken}
+use Rattle.pylock_program.proofs.command_line.command.Goals as goal
+
+abbrev texts : List (Bor Text) → List Text
+texts = map (λ w. w.now)
+
+pub returns-in_err-matches-clause-refused : goal.returns-in_err-matches-clause-refused
+returns-in_err-matches-clause-refused c =
+    let error = err_from_is_err_and c.from_residual-in_err-matches.result c.from_residual-in_err-matches.ensures.1 in
+    rw error.1 (IsRefusal-kept _ c.in_ok-app.ensures (texts c.args.words.now) _ _ error.2 c.in_err-matches.ensures.kinds)
+
+pub returns-in-Some-clause-taken : goal.returns-in-Some-clause-taken
+returns-in-Some-clause-taken c = fault_of-taken _ c.in_ok-app.ensures (texts c.args.words.now) c.in_ok-matches.ensures.kinds

@@ -1,0 +1,137 @@
+-- The program's command line, in clap's terms.
+use Rattle.std.specs.Prelude.{◌≡◌, ◌≢◌, ◌⊎◌, ◌||◌, Bool, true, false, not, if◌then◌else◌, codes}
+use Rattle.std.specs.Prelude.{List, [], ◌∷◌, Option, Some, None, is_some, All}
+use Rattle.std.specs.Str.{bytes_eq}
+use Rattle.clap.specs.Words.{App, IsAmong, Row, Rule, Text, fault_of, first_of, kind_of, new_app}
+use Rattle.clap.specs.Words.{new_rule, subcommand_of, with_rule, with_subcommand}
+use Rattle.clap.specs.declared.error.Error.{Error}
+use Rattle.clap.specs.declared.error.kind.ErrorKind.TheVariants.{MissingRequiredArgument}
+use Rattle.clap.specs.declared.error.kind.ErrorKind.TheVariants.{OutOfMemory}
+use Rattle.pylock_program.specs.declared.command_line.CommandError.{CommandError}
+use Rattle.pylock_program.specs.declared.command_line.CommandError.TheVariants.{Refused, Memory}
+use Rattle.pylock_program.specs.declared.command_line.Task.{Task}
+use Rattle.pylock_program.specs.declared.command_line.Task.TheVariants.{Bare, Select, Version, Match, Name}
+use Rattle.pylock_program.specs.declared.command_line.Task.TheVariants.{Marker, Requirement, Wheel}
+
+-- an argument that stands at its place and has to be there
+abbrev pub place_rule : Text → Rule
+place_rule id = record (new_rule id) { required = true }
+
+-- `select LOCK ENV`
+abbrev pub select_app : App
+select_app =
+    with_rule (with_rule (new_app (codes "select")) (place_rule (codes "LOCK")))
+    (place_rule (codes "ENV"))
+
+-- `version TEXT`
+abbrev pub version_app : App
+version_app = with_rule (new_app (codes "version")) (place_rule (codes "TEXT"))
+
+-- `match SET VERSION`
+abbrev pub match_app : App
+match_app =
+    with_rule (with_rule (new_app (codes "match")) (place_rule (codes "SET")))
+    (place_rule (codes "VERSION"))
+
+-- `name TEXT`
+abbrev pub name_app : App
+name_app = with_rule (new_app (codes "name")) (place_rule (codes "TEXT"))
+
+-- `marker TEXT ENV`
+abbrev pub marker_app : App
+marker_app =
+    with_rule (with_rule (new_app (codes "marker")) (place_rule (codes "TEXT")))
+    (place_rule (codes "ENV"))
+
+-- `requirement TEXT`
+abbrev pub requirement_app : App
+requirement_app = with_rule (new_app (codes "requirement")) (place_rule (codes "TEXT"))
+
+-- `wheel TEXT`
+abbrev pub wheel_app : App
+wheel_app = with_rule (new_app (codes "wheel")) (place_rule (codes "TEXT"))
+
+-- `pylock`, which tells its version
+abbrev pub top_app : App
+top_app =
+    let app = new_app (codes "pylock") in
+    record app { top = record app.top { has_version = true } }
+
+-- the run, and the commands on versions and names
+abbrev pub with_first : App → App
+with_first app = with_subcommand (with_subcommand (with_subcommand (with_subcommand app
+    select_app.top) version_app.top) match_app.top) name_app.top
+
+-- the commands on markers, requirements and wheels
+abbrev pub with_further : App → App
+with_further app = with_subcommand (with_subcommand (with_subcommand app
+    marker_app.top) requirement_app.top) wheel_app.top
+
+abbrev pub pylock_app : App
+pylock_app = with_further (with_first top_app)
+
+-- the words have this subcommand, and each of these arguments of it, by name, has this text
+pub record HasTexts (found : Option (Text × List Row)) (name : Text) (texts : List (Text × Text))
+    : Type 0 where
+  pub rows : List Row
+  pub entered : found ≡ Some (name, rows)
+  pub given : All (λ p. first_of p.0 rows ≡ Some p.1) texts
+
+-- the subcommand of a task, and the texts of its arguments by name
+abbrev pub call_of : Task → Option (Text × List (Text × Text))
+call_of Bare = None
+call_of (Select lock env) =
+    Some (codes "select", (codes "LOCK", lock.now) ∷ (codes "ENV", env.now) ∷ [])
+call_of (Version text) = Some (codes "version", (codes "TEXT", text.now) ∷ [])
+call_of (Match set version) =
+    Some (codes "match", (codes "SET", set.now) ∷ (codes "VERSION", version.now) ∷ [])
+call_of (Name text) = Some (codes "name", (codes "TEXT", text.now) ∷ [])
+call_of (Marker text env) =
+    Some (codes "marker", (codes "TEXT", text.now) ∷ (codes "ENV", env.now) ∷ [])
+call_of (Requirement text) = Some (codes "requirement", (codes "TEXT", text.now) ∷ [])
+call_of (Wheel text) = Some (codes "wheel", (codes "TEXT", text.now) ∷ [])
+
+-- the words have no subcommand, or this one with these texts
+abbrev pub IsCall : Option (Text × List Row) → Option (Text × List (Text × Text)) → Type 0
+IsCall found None = found ≡ None
+IsCall found (Some call) = HasTexts found call.0 call.1
+
+-- the task that the words give
+abbrev pub IsTask : Option (Text × List Row) → Task → Type 0
+IsTask found task = IsCall found (call_of task)
+
+-- an argument has no text
+abbrev pub lacks : List Row → Text → Bool
+lacks rows id = not (is_some (first_of id rows))
+
+-- the words have a subcommand that lacks one of its texts, or that is none of the program's
+abbrev pub lacks_text : Text → List Row → Bool
+lacks_text name rows =
+    if bytes_eq name (codes "select") then lacks rows (codes "LOCK") || lacks rows (codes "ENV")
+    else if bytes_eq name (codes "version") then lacks rows (codes "TEXT")
+    else if bytes_eq name (codes "match")
+    then lacks rows (codes "SET") || lacks rows (codes "VERSION")
+    else if bytes_eq name (codes "name") then lacks rows (codes "TEXT")
+    else if bytes_eq name (codes "marker")
+    then lacks rows (codes "TEXT") || lacks rows (codes "ENV")
+    else if bytes_eq name (codes "requirement") then lacks rows (codes "TEXT")
+    else if bytes_eq name (codes "wheel") then lacks rows (codes "TEXT")
+    else true
+
+abbrev pub is_lacking : Option (Text × List Row) → Bool
+is_lacking None = false
+is_lacking (Some found) = lacks_text found.0 found.1
+
+-- Why words are refused: clap has this kind of error for them; or the kind is that of a missing
+-- text, and one is missing. Want of memory says nothing of the words.
+abbrev pub IsRefusal : List Text → CommandError → Type 0
+IsRefusal words (Refused error) = (kind_of error ≢ OutOfMemory)
+    × (IsAmong (kind_of error) (fault_of pylock_app words)
+    ⊎ ((kind_of error ≡ MissingRequiredArgument)
+    × (is_lacking (subcommand_of pylock_app words) ≡ true)))
+IsRefusal words Memory = Unit {0}
+
+-- what becomes of an error of clap's: it is the refusal, unless memory ran out
+abbrev pub Keeps : Error → CommandError → Type 0
+Keeps error (Refused kept) = (kept ≡ error) × (kind_of error ≢ OutOfMemory)
+Keeps error Memory = kind_of error ≡ OutOfMemory

@@ -1,0 +1,199 @@
+-- The reply of a one-shot command: what it prints, and its status.
+use Rattle.std.specs.Prelude.{ℕ, Bool, true, false, if◌then◌else◌, List, [], ◌∷◌, codes}
+use Rattle.std.specs.Prelude.{Option, Some, None, option_map, Result, Ok, Err}
+use Rattle.std.specs.List.{join_by}
+use Rattle.std.specs.Result.{result_map_both}
+use Rattle.pyver_core.specs.Name.{is_name, norm}
+use Rattle.pyver_core.specs.Parsed.{parsed_version, parsed_set}
+use Rattle.pyver_core.specs.Results.{◌>>=◌}
+use Rattle.pyver_core.specs.Set.Admission.{admits_all}
+use Rattle.pyver_core.specs.Set.Normal.{set_text}
+use Rattle.pyver_core.specs.Version.Normal.{normal}
+use Rattle.pyver_core.specs.declared.set.error.SpecifierError.{SpecifierError}
+use Rattle.pyver_core.specs.declared.set.error.SpecifierError.TheVariants as specifier
+use Rattle.pyver_core.specs.declared.set.specifier.Specifier.{Specifier}
+use Rattle.pyver_core.specs.declared.version.error.VersionError.{VersionError}
+use Rattle.pyver_core.specs.declared.version.error.VersionError.TheVariants as version
+use Rattle.pymark_core.specs.Environment.{EnvironmentValue}
+use Rattle.pymark_core.specs.Marker.Reading.{MarkerValue, marker_of}
+use Rattle.pymark_core.specs.Marker.Value.{marker_value}
+use Rattle.pymark_core.specs.Requirement.Reading.{requirement_of}
+use Rattle.pymark_core.specs.Requirement.Value.{RequirementValue}
+use Rattle.pymark_core.specs.declared.marker.error.MarkerError.{MarkerError}
+use Rattle.pymark_core.specs.declared.marker.error.MarkerError.TheVariants as marker
+use Rattle.pymark_core.specs.declared.requirement.error.RequirementError.{RequirementError}
+use Rattle.pymark_core.specs.declared.requirement.error.RequirementError.TheVariants as requirement
+use Rattle.pywheel_core.specs.Tag.{tag_text}
+use Rattle.pywheel_core.specs.Wheel.Reading.{wheel_of}
+use Rattle.pywheel_core.specs.Wheel.Value.{WheelValue}
+use Rattle.pywheel_core.specs.declared.error.WheelError.{WheelError}
+use Rattle.pywheel_core.specs.declared.error.WheelError.TheVariants as wheel
+use Rattle.pylock_core.specs.Environment.{env_of}
+use Rattle.pylock_core.specs.Session.Steps.{marker_code}
+use Rattle.pylock_core.specs.declared.answer.FaultCode.{FaultCode}
+use Rattle.pylock_core.specs.declared.error.EnvError.{EnvError}
+use Rattle.pylock_program.specs.Report.{Report}
+use Rattle.pylock_program.specs.Text.Field.{field, line_of}
+use Rattle.pylock_program.specs.Text.Plan.{fault_word}
+use Rattle.pylock_program.specs.Text.Refusal.{environment_text}
+use Rattle.pylock_program.specs.declared.reply.queries.Query.{Query}
+use Rattle.pylock_program.specs.declared.reply.queries.Query.TheVariants as query
+
+-- ---- what is printed in place of an answer
+
+-- `refused` and a word
+abbrev pub refused : List ℕ → Report
+refused word = record { text = line_of (codes "refused") (word ∷ []); status = 1 }
+
+-- `fault` and its code
+abbrev pub faulty : FaultCode → Report
+faulty code = record { text = line_of (codes "fault") (fault_word code ∷ []); status = 1 }
+
+-- a refused environment, as a run prints it
+abbrev pub unread : EnvError → Report
+unread error = record { text = environment_text error; status = 2 }
+
+-- a step of an answer, or what is printed in its place; want of memory is no refusal, and is never
+-- printed
+abbrev pub or_else : {V E : Type 0} → (E → Report) → Result V E → Result V Report
+or_else report step = result_map_both (λ v. v) report step
+
+-- ---- answers: the fields of one line
+
+-- `version TEXT`: the normal form
+abbrev pub version_word : VersionError → List ℕ
+version_word version.Syntax = codes "syntax"
+version_word version.NumberTooLarge = codes "number"
+version_word version.Memory = codes "memory"
+
+abbrev pub version_answer : List ℕ → Result (List ℕ) Report
+version_answer text = do
+  v ← or_else (λ e. refused (version_word e)) (parsed_version text)
+  Ok (line_of (field (Some (normal v))) [])
+
+-- `match SET VERSION`: whether the set admits the version
+abbrev pub set_word : SpecifierError → List ℕ
+set_word specifier.Syntax = codes "set-syntax"
+set_word specifier.NumberTooLarge = codes "set-number"
+set_word specifier.Memory = codes "memory"
+
+abbrev pub matched_word : VersionError → List ℕ
+matched_word version.Syntax = codes "version-syntax"
+matched_word version.NumberTooLarge = codes "version-number"
+matched_word version.Memory = codes "memory"
+
+abbrev pub truth_word : Bool → List ℕ
+truth_word true = codes "true"
+truth_word false = codes "false"
+
+abbrev pub admits_answer : List Specifier → List ℕ → Result (List ℕ) Report
+admits_answer specifiers text = do
+  v ← or_else (λ e. refused (matched_word e)) (parsed_version text)
+  Ok (line_of (truth_word (admits_all specifiers v)) [])
+
+abbrev pub match_answer : List ℕ → List ℕ → Result (List ℕ) Report
+match_answer set text = do
+  specifiers ← or_else (λ e. refused (set_word e)) (parsed_set set)
+  admits_answer specifiers text
+
+-- `name TEXT`: the normal form
+abbrev pub name_answer : List ℕ → Result (List ℕ) Report
+name_answer text =
+    if is_name text
+    then Ok (line_of (field (Some (norm text))) [])
+    else Err (refused (codes "name"))
+
+-- `marker TEXT ENV`: whether the marker is true; its text is judged before the environment
+abbrev pub marker_word : MarkerError → List ℕ
+marker_word marker.TooDeep = codes "too-deep"
+marker_word marker.Syntax = codes "syntax"
+marker_word marker.SetMisuse = codes "set-misuse"
+marker_word marker.Memory = codes "memory"
+
+-- the value in an environment
+abbrev pub value_answer : MarkerValue → EnvironmentValue → Result (List ℕ) Report
+value_answer marker environment = do
+  value ← or_else (λ fault. faulty (marker_code fault)) (marker_value environment marker.tree)
+  Ok (line_of (truth_word value) [])
+
+-- the environment that is read has no extra and no group
+abbrev pub judged_answer : MarkerValue → List ℕ → Result (List ℕ) Report
+judged_answer marker bytes = do
+  read ← or_else unread (env_of bytes)
+  value_answer marker read.0
+
+abbrev pub marker_answer : List ℕ → List ℕ → Result (List ℕ) Report
+marker_answer text bytes = do
+  marker ← or_else (λ e. refused (marker_word e)) (marker_of text)
+  judged_answer marker bytes
+
+-- `requirement TEXT`: name, extras, specifier set, URL, marker
+abbrev pub requirement_word : RequirementError → List ℕ
+requirement_word requirement.Name = codes "name"
+requirement_word requirement.Extras = codes "extras"
+requirement_word requirement.Specifier = codes "specifier"
+requirement_word requirement.Url = codes "url"
+requirement_word requirement.Marker = codes "marker"
+requirement_word requirement.Trailing = codes "trailing"
+requirement_word requirement.Memory = codes "memory"
+
+-- names in normal form, joined by `,`, absent where there are none
+abbrev pub names_text : List (List ℕ) → Option (List ℕ)
+names_text [] = None
+names_text (name ∷ names) = Some (join_by norm (codes ",") (name ∷ names))
+
+-- the normal text of a specifier set, absent where it is empty
+abbrev pub specifiers_text : List Specifier → Option (List ℕ)
+specifiers_text [] = None
+specifiers_text (specifier ∷ specifiers) = Some (set_text (specifier ∷ specifiers))
+
+abbrev pub requirement_line : RequirementValue → List ℕ
+requirement_line parts =
+    line_of (field (Some (norm parts.name)))
+    (field (names_text parts.extras) ∷ field (specifiers_text parts.set) ∷ field parts.url
+    ∷ field (option_map (λ marker. marker.text) parts.marker) ∷ [])
+
+abbrev pub requirement_answer : List ℕ → Result (List ℕ) Report
+requirement_answer text = do
+  parts ← or_else (λ e. refused (requirement_word e)) (requirement_of text)
+  Ok (requirement_line parts)
+
+-- `wheel TEXT`: name, version, build, tags
+abbrev pub wheel_word : WheelError → List ℕ
+wheel_word wheel.Extension = codes "extension"
+wheel_word wheel.Parts = codes "parts"
+wheel_word wheel.Name = codes "name"
+wheel_word wheel.Version = codes "version"
+wheel_word wheel.Build = codes "build"
+wheel_word wheel.Tags = codes "tags"
+wheel_word wheel.Memory = codes "memory"
+
+abbrev pub wheel_line : WheelValue → List ℕ
+wheel_line parts =
+    line_of (field (Some (norm parts.name)))
+    (field (Some (normal parts.version)) ∷ field parts.build
+    ∷ field (Some (join_by tag_text (codes " ") parts.tags)) ∷ [])
+
+abbrev pub wheel_answer : List ℕ → Result (List ℕ) Report
+wheel_answer text = do
+  parts ← or_else (λ e. refused (wheel_word e)) (wheel_of text)
+  Ok (wheel_line parts)
+
+-- ---- the reply
+
+-- the line of an answer, or what is printed in its place
+abbrev pub query_answer : Query → Result (List ℕ) Report
+query_answer (query.Version text) = version_answer text.now
+query_answer (query.Match set version) = match_answer set.now version.now
+query_answer (query.Name text) = name_answer text.now
+query_answer (query.Marker text environment) = marker_answer text.now environment.now
+query_answer (query.Requirement text) = requirement_answer text.now
+query_answer (query.Wheel text) = wheel_answer text.now
+
+abbrev pub reply_of : Result (List ℕ) Report → Report
+reply_of (Ok line) = record { text = line; status = 0 }
+reply_of (Err report) = report
+
+-- what a query prints, and its status
+abbrev pub reply : Query → Report
+reply query = reply_of (query_answer query)

@@ -1,0 +1,26 @@
+//! The program `pylock` but for its host: the command line, edit lines, printed texts, runs, and
+//! the replies of the one-shot commands, over sources and sinks of bytes.
+#![tactic(auto)]
+
+mod command_line;
+pub mod laws;
+mod line;
+mod program;
+mod reply;
+mod report;
+mod stream;
+mod text;
+
+pub use command_line::{CommandError, Task, command};
+pub use program::{
+    FILE_BYTES, Failure, Files, Inputs, Work, greet, read_file, read_inputs, words_failure, work_of,
+};
+pub use reply::queries::Query;
+pub use reply::query;
+pub use report::fault::RunFault;
+pub use report::run::run;
+pub use stream::memory::{Pieces, Room};
+pub use stream::whole::{FileFault, read_whole};
+pub use stream::wrapper::{FromRead, ToWrite};
+pub use stream::writer::write_all;
+pub use stream::{IoFault, Sink, Source};

@@ -1,0 +1,355 @@
+//! The replies of the one-shot commands.
+
+ghost use Rattle.std.specs.Prelude.{◌≡◌, ◌++◌, ◌∷◌, IfOk, OnOk, OnErr, IfErr, Ok, Some, option_map};
+ghost use Rattle.std.specs.Prelude.{[], codes, map, string_bytes};
+ghost use Rattle.std.specs.Option.{option_copied};
+ghost use Rattle.std.specs.List.{join_by};
+ghost use Rattle.std.specs.Io.KnownBytes.{Appends};
+ghost use Rattle.pyver_core.specs.Name.{norm};
+ghost use Rattle.pywheel_core.specs.Tag.{tag_text};
+ghost use Rattle.pylock_program.specs.Inner.Reply.{Pushes};
+ghost use Rattle.pylock_program.specs.Reply.{reply, reply_of, version_answer, match_answer, admits_answer};
+ghost use Rattle.pylock_program.specs.Reply.{truth_word, name_answer, marker_answer, judged_answer};
+ghost use Rattle.pylock_program.specs.Reply.{value_answer};
+ghost use Rattle.pylock_program.specs.Reply.{requirement_answer, requirement_line, names_text};
+ghost use Rattle.pylock_program.specs.Reply.{specifiers_text, wheel_answer, wheel_line};
+ghost use Rattle.pylock_program.specs.Reply.{refused, faulty};
+ghost use Rattle.pylock_program.specs.Report.Fault.{HasCause};
+ghost use Rattle.pylock_program.specs.Stream.{TakesFront, one_more};
+ghost use Rattle.pylock_program.specs.Text.Field.{field, line_of};
+
+pub mod queries;
+
+use crate::reply::queries::Query;
+use crate::report::fault::RunFault;
+use crate::stream::Sink;
+use crate::stream::writer::write_all;
+use crate::text::field::{push_field, push_last_word, push_next};
+use crate::text::plan::fault_word;
+use crate::text::refusal::push_environment_error;
+use pylock_core::{EnvError, FaultCode, read_environment};
+use pymark_core::{Environment, EvalFault, Marker, MarkerError, Requirement, RequirementError};
+use pyver_core::{SpecifierError, SpecifierSet, Version, VersionError, is_name, normal_name};
+use pywheel_core::{Tag, WheelError, WheelName};
+use std::alloc::{AllocError, Global};
+
+/// Writes the reply of a one-shot command, and answers the program's status: 0 for an answer, 1
+/// where a text is refused. After a fault a front of the reply is written. Takes memory for what it
+/// parses and for the reply.
+pub fn query<W: Sink>(alloc: Global, query: Query<'_>, writer: &mut W) -> Result<u8, RunFault>
+    ensures text { OnOk result (Appends (W.value writer.old).held (W.value writer.new).held
+        (reply query.entry).text) }
+    ensures status { IfOk result (λ status. status ≡ (reply query.entry).status) }
+    ensures counted { OnOk result
+        ((W.value writer.new).failures ≡ (W.value writer.old).failures) }
+    ensures front { OnErr result (TakesFront (W.value writer.old) (W.value writer.new)
+        (reply query.entry).text) }
+
+    // A write failed, or a growth was refused and no write failed.
+    ensures fault { IfErr result (HasCause
+        ⊥
+        ((W.value writer.new).failures ≡ one_more (W.value writer.old).failures)
+        ⊥
+        ((W.value writer.new).failures ≡ (W.value writer.old).failures)) }
+{
+    let mut out = Vec::new(alloc);
+    let status = push_reply(alloc, &mut out, query)?;
+    match write_all(writer, &out) {
+        Ok(()) => Ok(status),
+        Err(_) => Err(RunFault::Write),
+    }
+}
+
+fn push_reply(alloc: Global, out: &mut Vec<u8>, query: Query<'_>) -> Result<u8, AllocError>
+    ensures { Pushes out.old.items out.new.items (reply query.entry) result }
+{
+    match query {
+        Query::Version(text) => push_version(alloc, out, text),
+        Query::Match(set, version) => push_match(alloc, out, set, version),
+        Query::Name(text) => push_name(alloc, out, text),
+        Query::Marker(text, environment) => push_marker(alloc, out, text, environment),
+        Query::Requirement(text) => push_requirement(alloc, out, text),
+        Query::Wheel(text) => push_wheel(alloc, out, text),
+    }
+}
+
+fn push_version(alloc: Global, out: &mut Vec<u8>, text: &str) -> Result<u8, AllocError>
+    ensures { Pushes out.old.items out.new.items (reply_of (version_answer text.now)) result }
+{
+    match Version::parse(alloc, text) {
+        Ok(version) => push_field_line(out, version.text()),
+        Err(VersionError::Syntax) => push_refusal(out, b"syntax"),
+        Err(VersionError::NumberTooLarge) => push_refusal(out, b"number"),
+        Err(VersionError::Memory) => Err(AllocError),
+    }
+}
+
+fn push_match(alloc: Global, out: &mut Vec<u8>, set: &str, version: &str) -> Result<u8, AllocError>
+    ensures { Pushes out.old.items out.new.items
+        (reply_of (match_answer set.now version.now)) result }
+{
+    match SpecifierSet::parse(alloc, set) {
+        Ok(set) => push_admits(alloc, out, &set, version),
+        Err(SpecifierError::Syntax) => push_refusal(out, b"set-syntax"),
+        Err(SpecifierError::NumberTooLarge) => push_refusal(out, b"set-number"),
+        Err(SpecifierError::Memory) => Err(AllocError),
+    }
+}
+
+/// Whether a set admits a version.
+fn push_admits(
+    alloc: Global,
+    out: &mut Vec<u8>,
+    set: &SpecifierSet,
+    version: &str,
+) -> Result<u8, AllocError>
+    ensures { Pushes out.old.items out.new.items
+        (reply_of (admits_answer set.now version.now)) result }
+{
+    match Version::parse(alloc, version) {
+        Ok(version) => push_truth(out, set.admits(&version)),
+        Err(VersionError::Syntax) => push_refusal(out, b"version-syntax"),
+        Err(VersionError::NumberTooLarge) => push_refusal(out, b"version-number"),
+        Err(VersionError::Memory) => Err(AllocError),
+    }
+}
+
+fn push_name(alloc: Global, out: &mut Vec<u8>, text: &str) -> Result<u8, AllocError>
+    ensures { Pushes out.old.items out.new.items (reply_of (name_answer text.now)) result }
+{
+    if !is_name(text) {
+        return push_refusal(out, b"name");
+    }
+    let name = normal_name(alloc, text)?;
+    push_field_line(out, name.as_str())
+}
+
+/// The marker's text is judged before the environment.
+fn push_marker(
+    alloc: Global,
+    out: &mut Vec<u8>,
+    text: &str,
+    environment: &[u8],
+) -> Result<u8, AllocError>
+    ensures { Pushes out.old.items out.new.items
+        (reply_of (marker_answer text.now environment.now)) result }
+{
+    match Marker::parse(alloc, text) {
+        Ok(marker) => push_judged(alloc, out, &marker, environment),
+        Err(MarkerError::TooDeep) => push_refusal(out, b"too-deep"),
+        Err(MarkerError::Syntax) => push_refusal(out, b"syntax"),
+        Err(MarkerError::SetMisuse) => push_refusal(out, b"set-misuse"),
+        Err(MarkerError::Memory) => Err(AllocError),
+    }
+}
+
+/// Whether a marker is true in the environment that the bytes are.
+fn push_judged(
+    alloc: Global,
+    out: &mut Vec<u8>,
+    marker: &Marker,
+    environment: &[u8],
+) -> Result<u8, AllocError>
+    ensures { Pushes out.old.items out.new.items
+        (reply_of (judged_answer marker.now environment.now)) result }
+{
+    match read_environment(alloc, environment) {
+        Ok((environment, _tags)) => push_value(alloc, out, marker, &environment),
+        Err(EnvError::Memory) => Err(AllocError),
+        Err(error) => {
+            push_environment_error(out, &error)?;
+            Ok(2)
+        }
+    }
+}
+
+/// Whether a marker is true, or its fault.
+fn push_value(
+    alloc: Global,
+    out: &mut Vec<u8>,
+    marker: &Marker,
+    environment: &Environment,
+) -> Result<u8, AllocError>
+    ensures { Pushes out.old.items out.new.items
+        (reply_of (value_answer marker.now environment.now)) result }
+{
+    match marker.evaluate(alloc, environment) {
+        Ok(value) => push_truth(out, value),
+        Err(EvalFault::Unset(_)) => push_fault(out, FaultCode::MarkerUnset),
+        Err(EvalFault::Extra) => push_fault(out, FaultCode::MarkerExtra),
+        Err(EvalFault::Undefined) => push_fault(out, FaultCode::MarkerUndefined),
+        Err(EvalFault::NumberTooLarge) => push_fault(out, FaultCode::MarkerNumber),
+        Err(EvalFault::Memory) => Err(AllocError),
+    }
+}
+
+fn push_requirement(alloc: Global, out: &mut Vec<u8>, text: &str) -> Result<u8, AllocError>
+    ensures { Pushes out.old.items out.new.items (reply_of (requirement_answer text.now)) result }
+{
+    match Requirement::parse(alloc, text) {
+        Ok(requirement) => push_requirement_line(alloc, out, &requirement),
+        Err(RequirementError::Name) => push_refusal(out, b"name"),
+        Err(RequirementError::Extras) => push_refusal(out, b"extras"),
+        Err(RequirementError::Specifier) => push_refusal(out, b"specifier"),
+        Err(RequirementError::Url) => push_refusal(out, b"url"),
+        Err(RequirementError::Marker) => push_refusal(out, b"marker"),
+        Err(RequirementError::Trailing) => push_refusal(out, b"trailing"),
+        Err(RequirementError::Memory) => Err(AllocError),
+    }
+}
+
+fn push_requirement_line(
+    alloc: Global,
+    out: &mut Vec<u8>,
+    requirement: &Requirement,
+) -> Result<u8, AllocError>
+    ensures { Pushes out.old.items out.new.items
+        (reply_of (Ok (requirement_line requirement.now))) result }
+{
+    let name = normal_name(alloc, requirement.name())?;
+    push_field(out, Some(name.as_str()))?;
+    push_extras(alloc, out, requirement.extras())?;
+    push_specifiers(out, requirement.set())?;
+    push_next(out, requirement.url())?;
+    push_marker_text(out, requirement.marker())?;
+    out.push(b'\n')?;
+    Ok(0)
+}
+
+/// Pushes a TAB and the field of the extras.
+fn push_extras(alloc: Global, out: &mut Vec<u8>, extras: &[String]) -> Result<(), AllocError>
+    ensures { OnOk result (out.new.items
+        ≡ out.old.items ++ 9 ∷ field (names_text (map string_bytes extras.now))) }
+{
+    if extras.is_empty() {
+        return push_next(out, None);
+    }
+    let names = normal_names(alloc, extras)?;
+    let text = names.join(alloc, ",")?;
+    push_next(out, Some(text.as_str()))
+}
+
+fn normal_names(alloc: Global, names: &[String]) -> Result<Vec<String>, AllocError>
+    ensures { IfOk result (λ normal. map string_bytes normal.items
+        ≡ map norm (map string_bytes names.now)) }
+{
+    let mut normal = Vec::with_capacity(alloc, names.len())?;
+    for name in names {
+        normal.push(normal_name(alloc, name.as_str())?)?;
+    }
+    Ok(normal)
+}
+
+/// Pushes a TAB and the field of a specifier set.
+fn push_specifiers(out: &mut Vec<u8>, set: &SpecifierSet) -> Result<(), AllocError>
+    ensures { OnOk result (out.new.items ≡ out.old.items ++ 9 ∷ field (specifiers_text set.now)) }
+{
+    if set.items().is_empty() {
+        return push_next(out, None);
+    }
+    push_next(out, Some(set.text()))
+}
+
+/// Pushes a TAB and the field of a marker.
+fn push_marker_text(out: &mut Vec<u8>, marker: Option<&Marker>) -> Result<(), AllocError>
+    ensures { OnOk result (out.new.items
+        ≡ out.old.items ++ 9 ∷ field (option_map (λ m. m.text) (option_copied marker.entry))) }
+{
+    match marker {
+        Some(marker) => push_next(out, Some(marker.text())),
+        None => push_next(out, None),
+    }
+}
+
+fn push_wheel(alloc: Global, out: &mut Vec<u8>, text: &str) -> Result<u8, AllocError>
+    ensures { Pushes out.old.items out.new.items (reply_of (wheel_answer text.now)) result }
+{
+    match WheelName::parse(alloc, text) {
+        Ok(wheel) => push_wheel_line(alloc, out, &wheel),
+        Err(WheelError::Extension) => push_refusal(out, b"extension"),
+        Err(WheelError::Parts) => push_refusal(out, b"parts"),
+        Err(WheelError::Name) => push_refusal(out, b"name"),
+        Err(WheelError::Version) => push_refusal(out, b"version"),
+        Err(WheelError::Build) => push_refusal(out, b"build"),
+        Err(WheelError::Tags) => push_refusal(out, b"tags"),
+        Err(WheelError::Memory) => Err(AllocError),
+    }
+}
+
+fn push_wheel_line(alloc: Global, out: &mut Vec<u8>, wheel: &WheelName) -> Result<u8, AllocError>
+    ensures { Pushes out.old.items out.new.items (reply_of (Ok (wheel_line wheel.now))) result }
+{
+    let name = normal_name(alloc, wheel.name())?;
+    push_field(out, Some(name.as_str()))?;
+    push_next(out, Some(wheel.version().text()))?;
+    push_next(out, wheel.build_text())?;
+    push_tags(alloc, out, wheel.tags())?;
+    out.push(b'\n')?;
+    Ok(0)
+}
+
+/// Pushes a TAB and the field of tags.
+fn push_tags(alloc: Global, out: &mut Vec<u8>, tags: &[Tag]) -> Result<(), AllocError>
+    ensures { OnOk result (out.new.items
+        ≡ out.old.items ++ 9 ∷ field (Some (join_by tag_text (codes " ") tags.now))) }
+{
+    let texts = tag_texts(alloc, tags)?;
+    let text = texts.join(alloc, " ")?;
+    push_next(out, Some(text.as_str()))
+}
+
+fn tag_texts(alloc: Global, tags: &[Tag]) -> Result<Vec<String>, AllocError>
+    ensures { IfOk result (λ texts. map string_bytes texts.items ≡ map tag_text tags.now) }
+{
+    let mut texts = Vec::with_capacity(alloc, tags.len())?;
+    for tag in tags {
+        texts.push(tag_text(alloc, tag)?)?;
+    }
+    Ok(texts)
+}
+
+fn tag_text(alloc: Global, tag: &Tag) -> Result<String, AllocError>
+    ensures { IfOk result (λ text. string_bytes text ≡ tag_text tag.now) }
+{
+    let mut text = String::from_str(alloc, tag.python())?;
+    text.push_str("-")?;
+    text.push_str(tag.abi())?;
+    text.push_str("-")?;
+    text.push_str(tag.platform())?;
+    Ok(text)
+}
+
+/// A text, which is the one field of its line.
+fn push_field_line(out: &mut Vec<u8>, text: &str) -> Result<u8, AllocError>
+    ensures { Pushes out.old.items out.new.items
+        (reply_of (Ok (line_of (field (Some text.now)) []))) result }
+{
+    push_field(out, Some(text))?;
+    out.push(b'\n')?;
+    Ok(0)
+}
+
+fn push_truth(out: &mut Vec<u8>, truth: bool) -> Result<u8, AllocError>
+    ensures { Pushes out.old.items out.new.items
+        (reply_of (Ok (line_of (truth_word truth) []))) result }
+{
+    let line: &[u8] = if truth { b"true\n" } else { b"false\n" };
+    out.extend_from_slice(line)?;
+    Ok(0)
+}
+
+fn push_refusal(out: &mut Vec<u8>, word: &[u8]) -> Result<u8, AllocError>
+    ensures { Pushes out.old.items out.new.items (refused word.now) result }
+{
+    out.extend_from_slice(b"refused")?;
+    push_last_word(out, word)?;
+    Ok(1)
+}
+
+fn push_fault(out: &mut Vec<u8>, code: FaultCode) -> Result<u8, AllocError>
+    ensures { Pushes out.old.items out.new.items (faulty code) result }
+{
+    out.extend_from_slice(b"fault")?;
+    push_last_word(out, fault_word(code))?;
+    Ok(1)
+}

@@ -1,0 +1,220 @@
+//! Answers: the lines of a plan, or a fault.
+
+ghost use Rattle.std.specs.Prelude.{◌≡◌, ◌++◌, ◌∷◌, Some, OnOk, string_bytes};
+ghost use Rattle.std.specs.List.{flat_map};
+ghost use Rattle.pylock_core.specs.Inner.Strings.{text_pairs};
+ghost use Rattle.pylock_core.specs.declared.answer.Answer.TheVariants.{Plan};
+ghost use Rattle.pylock_program.specs.Inner.Hashes.{escaped_hash, more_hashes};
+ghost use Rattle.pylock_program.specs.Text.Field.{field, tabbed};
+ghost use Rattle.pylock_program.specs.Text.Plan.{hashes_text, revision, vcs_fields, directory_fields};
+ghost use Rattle.pylock_program.specs.Text.Plan.{archive_fields, file_fields, source_fields, fault_word};
+ghost use Rattle.pylock_program.specs.Text.Plan.{plan_line, pick_text, answer_text, fault_text};
+
+use crate::text::field::{push_decimal, push_escaped, push_last_word, push_next};
+use pylock_core::{
+    Answer, Archive, Directory, DistributionFile, Entry, FaultCode, Pick, PickSource, Session, Vcs,
+};
+use std::alloc::AllocError;
+
+fn push_hash(out: &mut Vec<u8>, hash: &(String, String)) -> Result<(), AllocError>
+    ensures { OnOk result (out.new.items
+        ≡ out.old.items ++ escaped_hash (string_bytes hash.now.0, string_bytes hash.now.1)) }
+{
+    let (algorithm, value) = hash;
+    push_escaped(out, algorithm.as_str())?;
+    out.push(b'=')?;
+    push_escaped(out, value.as_str())
+}
+
+/// Pushes a TAB and the field of the hashes.
+fn push_hashes(out: &mut Vec<u8>, hashes: &[(String, String)]) -> Result<(), AllocError>
+    ensures { OnOk result (out.new.items
+        ≡ out.old.items ++ 9 ∷ field (hashes_text (text_pairs hashes.now))) }
+{
+    let Some((first, rest)) = hashes.split_first() else {
+        return push_next(out, None);
+    };
+    out.push(b'\t')?;
+    push_hash(out, first)?;
+    push_more_hashes(out, rest)
+}
+
+fn push_more_hashes(out: &mut Vec<u8>, hashes: &[(String, String)]) -> Result<(), AllocError>
+    ensures { OnOk result (out.new.items ≡ out.old.items ++ more_hashes (text_pairs hashes.now)) }
+{
+    for hash in hashes {
+        out.push(b',')?;
+        push_hash(out, hash)?;
+    }
+    Ok(())
+}
+
+/// Pushes a TAB and the field of the revision.
+#[tactic(auto, using(crate::proofs::TextLemmas::field_revision))]
+fn push_revision(out: &mut Vec<u8>, vcs: &Vcs) -> Result<(), AllocError>
+    ensures { OnOk result (out.new.items ≡ out.old.items ++ 9 ∷ field (Some (revision vcs.now))) }
+{
+    out.push(b'\t')?;
+    push_escaped(out, vcs.kind())?;
+    out.push(b'@')?;
+    push_escaped(out, vcs.commit_id())
+}
+
+fn push_vcs(out: &mut Vec<u8>, vcs: &Vcs) -> Result<(), AllocError>
+    ensures { OnOk result (out.new.items ≡ out.old.items ++ tabbed (vcs_fields vcs.now)) }
+{
+    out.extend_from_slice(b"\tvcs\t-")?;
+    push_next(out, Some(vcs.place()))?;
+    out.extend_from_slice(b"\t-")?;
+    push_revision(out, vcs)?;
+    push_next(out, vcs.subdirectory())
+}
+
+fn push_directory(out: &mut Vec<u8>, directory: &Directory) -> Result<(), AllocError>
+    ensures { OnOk result (out.new.items
+        ≡ out.old.items ++ tabbed (directory_fields directory.now)) }
+{
+    let kind: &[u8] = if directory.editable() {
+        b"\teditable\t-"
+    } else {
+        b"\tdirectory\t-"
+    };
+    out.extend_from_slice(kind)?;
+    push_next(out, Some(directory.place()))?;
+    out.extend_from_slice(b"\t-\t-")?;
+    push_next(out, directory.subdirectory())
+}
+
+fn push_archive(out: &mut Vec<u8>, archive: &Archive) -> Result<(), AllocError>
+    ensures { OnOk result (out.new.items ≡ out.old.items ++ tabbed (archive_fields archive.now)) }
+{
+    out.extend_from_slice(b"\tarchive\t-")?;
+    push_next(out, Some(archive.place()))?;
+    push_hashes(out, archive.hashes())?;
+    out.extend_from_slice(b"\t-")?;
+    push_next(out, archive.subdirectory())
+}
+
+/// Pushes the fields of a wheel or of an sdist.
+fn push_file(out: &mut Vec<u8>, kind: &[u8], file: &DistributionFile) -> Result<(), AllocError>
+    ensures { OnOk result (out.new.items
+        ≡ out.old.items ++ tabbed (file_fields kind.now file.now)) }
+{
+    out.push(b'\t')?;
+    out.extend_from_slice(kind)?;
+    push_next(out, file.file_name())?;
+    push_next(out, Some(file.place()))?;
+    push_hashes(out, file.hashes())?;
+    out.extend_from_slice(b"\t-\t-")?;
+    Ok(())
+}
+
+fn push_source(out: &mut Vec<u8>, entry: &Entry, source: PickSource) -> Result<(), AllocError>
+    ensures { OnOk result (out.new.items
+        ≡ out.old.items ++ tabbed (source_fields entry.now source)) }
+{
+    match source {
+        PickSource::Vcs => match entry.vcs() {
+            Some(vcs) => push_vcs(out, vcs),
+            None => Ok(()),
+        },
+        PickSource::Directory => match entry.directory() {
+            Some(directory) => push_directory(out, directory),
+            None => Ok(()),
+        },
+        PickSource::Archive => match entry.archive() {
+            Some(archive) => push_archive(out, archive),
+            None => Ok(()),
+        },
+        PickSource::Wheel(place) => match entry.wheels().get(place) {
+            Some(wheel) => push_file(out, b"wheel", wheel),
+            None => Ok(()),
+        },
+        PickSource::Sdist => match entry.sdist() {
+            Some(sdist) => push_file(out, b"sdist", sdist),
+            None => Ok(()),
+        },
+    }
+}
+
+fn push_plan_line(
+    out: &mut Vec<u8>,
+    number: u32,
+    source: PickSource,
+    entry: &Entry,
+) -> Result<(), AllocError>
+    ensures { OnOk result (out.new.items ≡ out.old.items ++ plan_line number source entry.now) }
+{
+    push_decimal(out, u64::from(number))?;
+    push_next(out, Some(entry.name()))?;
+    push_next(out, entry.version())?;
+    push_source(out, entry, source)?;
+    out.push(b'\n')?;
+    Ok(())
+}
+
+fn push_pick(out: &mut Vec<u8>, session: &Session, pick: &Pick) -> Result<(), AllocError>
+    ensures { OnOk result (out.new.items ≡ out.old.items ++ pick_text session.now.state pick.now) }
+{
+    match session.entry(pick.id) {
+        Some(entry) => push_plan_line(out, pick.id, pick.source, entry),
+        None => Ok(()),
+    }
+}
+
+fn push_picks(out: &mut Vec<u8>, session: &Session, picks: &[Pick]) -> Result<(), AllocError>
+    ensures { OnOk result (out.new.items
+        ≡ out.old.items ++ flat_map (pick_text session.now.state) picks.now) }
+{
+    for pick in picks {
+        push_pick(out, session, pick)?;
+    }
+    Ok(())
+}
+
+/// Pushes an answer on the state of its session.
+pub fn push_answer(out: &mut Vec<u8>, session: &Session, answer: &Answer) -> Result<(), AllocError>
+    ensures { OnOk result (out.new.items
+        ≡ out.old.items ++ answer_text session.now.state answer.now) }
+{
+    match answer {
+        Answer::Plan(plan) => push_plan(out, session, plan.picks()),
+        Answer::Fault { id, code } => push_fault(out, *id, *code),
+    }
+}
+
+fn push_plan(out: &mut Vec<u8>, session: &Session, picks: &[Pick]) -> Result<(), AllocError>
+    ensures { OnOk result (out.new.items
+        ≡ out.old.items ++ answer_text session.now.state (Plan picks.now)) }
+{
+    out.extend_from_slice(b"plan ")?;
+    push_decimal(out, picks.len() as u64)?;
+    out.push(b'\n')?;
+    push_picks(out, session, picks)
+}
+
+fn push_fault(out: &mut Vec<u8>, id: u32, code: FaultCode) -> Result<(), AllocError>
+    ensures { OnOk result (out.new.items ≡ out.old.items ++ fault_text id code) }
+{
+    out.extend_from_slice(b"fault ")?;
+    push_decimal(out, u64::from(id))?;
+    push_last_word(out, fault_word(code))
+}
+
+/// The word of a fault.
+pub fn fault_word(code: FaultCode) -> &'static [u8]
+    ensures { result.now ≡ fault_word code }
+{
+    match code {
+        FaultCode::PythonUnknown => b"python-unknown",
+        FaultCode::PythonNotMet => b"python-not-met",
+        FaultCode::MarkerUnset => b"marker-unset",
+        FaultCode::MarkerExtra => b"marker-extra",
+        FaultCode::MarkerUndefined => b"marker-undefined",
+        FaultCode::MarkerNumber => b"marker-number",
+        FaultCode::NoEnvironment => b"no-environment",
+        FaultCode::Ambiguous => b"ambiguous",
+        FaultCode::Sources => b"sources",
+        FaultCode::NoFile => b"no-file",
+    }
+}

@@ -1,0 +1,265 @@
+//! Calls whose growths are refused in turn: `tools/growths/run` runs each of these tests once for
+//! each of its growths, that one refused. A test passes where the call answers want of memory and
+//! leaves what it should, or answers just what it answers with ample memory.
+
+use pylock_core::{
+    Answer, Edit, EditError, Entry, EnvError, Lock, LockError, Session, read_environment,
+};
+use pylock_program::{
+    CommandError, FileFault, Pieces, Query, Room, RunFault, Task, command, query, read_whole, run,
+};
+
+const LOCK: &str =
+    "lock-version = \"1.0\"\ncreated-by = \"t\"\npackages = [{name=\"B_b\", version=\"1.0\", \
+        directory={path=\"./b\", subdirectory=\"s\"}}, {name=\"a\", version=\"2\", \
+        sdist={url=\"https://h/a-2%2B.tar.gz\", hashes={sha256=\"00\", md5=\"11\"}}}]\n";
+
+const ENVIRONMENT: &str = "{\"environment\":{\"os_name\":\"posix\"},\"tags\":[]}";
+
+const INPUT: &[u8] = b"show\nfly\ndel 1\ndel 1\n";
+
+const REPORT: &[u8] = b"plan 2\n1\tb-b\t1.0\tdirectory\t-\t./b\t-\t-\ts\n\
+        2\ta\t2\tsdist\ta-2+.tar.gz\thttps://h/a-2%2B.tar.gz\tmd5=11,sha256=00\t-\t-\nplan \
+        2\n1\tb-b\t1.0\tdirectory\t-\t./b\t-\t-\ts\n\
+        2\ta\t2\tsdist\ta-2+.tar.gz\thttps://h/a-2%2B.tar.gz\tmd5=11,sha256=00\t-\t-\n\
+        refused 2\tcommand\nplan 1\n\
+        2\ta\t2\tsdist\ta-2+.tar.gz\thttps://h/a-2%2B.tar.gz\tmd5=11,sha256=00\t-\t-\n\
+        refused 4\tno-entry\n";
+
+#[test]
+fn whole_file(rt: HostRuntime) {
+    match read_whole(rt.alloc(), &mut Pieces::new(INPUT, 3, None), 100) {
+        Ok(bytes) => assert_eq!(rt; bytes.as_slice(), INPUT),
+        Err(fault) => assert_eq!(rt; fault, FileFault::Memory),
+    }
+}
+
+#[test]
+fn lock_read(rt: HostRuntime) {
+    match Lock::read(rt.alloc(), LOCK.as_bytes()) {
+        Ok(lock) => assert_eq!(rt; lock.entries().len(), 2),
+        Err(error) => assert!(rt; matches!(error, LockError::Memory), "{error:?}"),
+    }
+}
+
+#[test]
+fn environment_read(rt: HostRuntime) {
+    if let Err(error) = read_environment(rt.alloc(), ENVIRONMENT.as_bytes()) {
+        assert!(rt; matches!(error, EnvError::Memory), "{error:?}");
+    }
+}
+
+#[test]
+fn session_answers(rt: HostRuntime) {
+    let Ok(lock) = Lock::read(rt.alloc(), LOCK.as_bytes()) else {
+        return;
+    };
+    let Ok((environment, tags)) = read_environment(rt.alloc(), ENVIRONMENT.as_bytes()) else {
+        return;
+    };
+    let Ok(mut session) = Session::start(rt.alloc(), lock, environment, tags) else {
+        return;
+    };
+    // Whether it is refused memory or not, an answer changes nothing.
+    let _ = session.answer(rt.alloc());
+    assert_eq!(rt; session.entry(1).map(Entry::name), Some("b-b"));
+    assert!(rt; matches!(session.edit(Edit::Del(1)), Ok(0)));
+    assert!(rt; matches!(session.edit(Edit::Del(1)), Err(EditError::NoEntry)));
+    if let Ok(answer) = session.answer(rt.alloc()) {
+        assert!(rt;
+            matches!(&answer, Answer::Plan(plan) if plan.picks().len() == 1),
+            "{answer:?}"
+        );
+    }
+}
+
+#[test]
+fn whole_run(rt: HostRuntime) {
+    let Ok(mut writer) = Room::new(rt.alloc(), 4096, 7, None) else {
+        return;
+    };
+    let mut reader = Pieces::new(INPUT, 5, None);
+    match run(
+        rt.alloc(),
+        LOCK.as_bytes(),
+        ENVIRONMENT.as_bytes(),
+        &mut reader,
+        &mut writer,
+    ) {
+        Ok(status) => {
+            assert_eq!(rt; status, 1);
+            assert_eq!(rt; writer.bytes(), REPORT);
+        }
+        Err(fault) => {
+            assert_eq!(rt; fault, RunFault::Memory);
+            assert!(rt; REPORT.starts_with(writer.bytes()));
+        }
+    }
+}
+
+/// A line of each command that takes memory.
+const EDITS: &[u8] =
+    b"set os_name nt\nunset os_name\nextra+ X\nextra- x\ngroup+ G\ngroup- g\ntags py3-none-any\n\
+        add {name = \"a\", archive = {path = \"p\"}}\nput 1 {name = \"a\", vcs = {type = \
+        \"git\", url = \"g\", commit-id = \"f0\"}}\npolicy A wheel\ndel 1\n";
+
+const EDITED: &[u8] = b"plan 0\nplan 0\nplan 0\nplan 0\nplan 0\nplan 0\nplan 0\nplan 0\nplan 1\n\
+        1\ta\t-\tarchive\t-\tp\t-\t-\t-\nplan 1\n1\ta\t-\tvcs\t-\tg\t-\tgit@f0\t-\nplan 1\n\
+        1\ta\t-\tvcs\t-\tg\t-\tgit@f0\t-\nplan 0\n";
+
+#[test]
+fn every_command(rt: HostRuntime) {
+    let lock = b"lock-version = \"1.0\"\ncreated-by = \"t\"\nextras = [\"x\"]\ndependency-groups = \
+            [\"g\"]\n";
+    let Ok(mut writer) = Room::new(rt.alloc(), 4096, 4096, None) else {
+        return;
+    };
+    let mut reader = Pieces::new(EDITS, 4096, None);
+    let environment = ENVIRONMENT.as_bytes();
+    match run(rt.alloc(), lock, environment, &mut reader, &mut writer) {
+        Ok(status) => {
+            assert_eq!(rt; status, 0);
+            assert_eq!(rt; writer.bytes(), EDITED);
+        }
+        Err(fault) => {
+            assert_eq!(rt; fault, RunFault::Memory);
+            assert!(rt; EDITED.starts_with(writer.bytes()));
+        }
+    }
+}
+
+/// An entry with wheels and an sdist, whose marker is judged, and one whose extra isn't asked for.
+const WHEELS: &str =
+    "lock-version = \"1.0\"\ncreated-by = \"t\"\nrequires-python = \">=3.9\"\nenvironments = \
+        [\"os_name == 'posix'\"]\nextras = [\"x\"]\npackages = [{name=\"a\", version=\"1\", \
+        marker=\"os_name == 'posix'\", requires-python=\">=3.9\", \
+        wheels=[{path=\"w/a-1-py3-none-any.whl\"}, {path=\"w/a-1-2-py3-none-any.whl\", \
+        hashes={sha256=\"aa\"}}], sdist={path=\"s/a-1.tar.gz\"}}, {name=\"b\", marker=\"'x' \
+        in extras\", directory={path=\"b\"}}]\n";
+
+const TAGGED: &str = "{\"environment\":{\"os_name\":\"posix\",\"python_full_version\":\"3.12.4\"},\
+        \"tags\":[\"py3-none-any\"]}";
+
+#[test]
+fn run_over_wheels(rt: HostRuntime) {
+    let input = b"policy a source\npolicy a any\nextra+ x\nset python_full_version 3.8\n";
+    let wheel =
+        "1\ta\t1\twheel\ta-1-2-py3-none-any.whl\tw/a-1-2-py3-none-any.whl\tsha256=aa\t-\t-\n";
+    let Ok(report) = format!(in rt.alloc();
+        "plan 1\n{wheel}plan 1\n1\ta\t1\tsdist\ta-1.tar.gz\ts/a-1.tar.gz\t-\t-\t-\nplan 1\n{wheel}plan 2\n{wheel}2\tb\t-\tdirectory\t-\tb\t-\t-\t-\nfault 0\tpython-not-met\n"
+    ) else {
+        return;
+    };
+    let Ok(mut writer) = Room::new(rt.alloc(), 4096, 4096, None) else {
+        return;
+    };
+    let mut reader = Pieces::new(input, 4096, None);
+    let (lock, environment) = (WHEELS.as_bytes(), TAGGED.as_bytes());
+    match run(rt.alloc(), lock, environment, &mut reader, &mut writer) {
+        Ok(status) => {
+            assert_eq!(rt; status, 1);
+            assert_eq!(rt; writer.bytes(), report.as_bytes());
+        }
+        Err(fault) => {
+            assert_eq!(rt; fault, RunFault::Memory);
+            assert!(rt; report.as_bytes().starts_with(writer.bytes()));
+        }
+    }
+}
+
+#[test]
+fn refused_files(rt: HostRuntime) {
+    let half: &[u8] =
+        b"lock-version = \"1.0\"\ncreated-by = \"t\"\npackages = [{name=\"a\", marker=\"x\"}]\n";
+    let tag: &[u8] = b"{\"environment\":{},\"tags\":[\"py3-none-any\",\"py3\"]}";
+    for (lock, environment, text) in [
+        (half, tag, b"lock\tentry\t1\tmarker\n".as_slice()),
+        (LOCK.as_bytes(), tag, b"environment\ttag\t2\n"),
+    ] {
+        let Ok(mut writer) = Room::new(rt.alloc(), 100, 7, None) else {
+            return;
+        };
+        let mut reader = Pieces::new(b"show\n", 5, None);
+        match run(rt.alloc(), lock, environment, &mut reader, &mut writer) {
+            Ok(status) => {
+                assert_eq!(rt; status, 2);
+                assert_eq!(rt; writer.bytes(), text);
+            }
+            Err(fault) => {
+                assert_eq!(rt; fault, RunFault::Memory);
+                assert!(rt; text.starts_with(writer.bytes()));
+            }
+        }
+    }
+}
+
+#[test]
+fn queries(rt: HostRuntime) {
+    for (asked, reply) in [
+        (
+            Query::Version(" V1.0-RC.1_r2.DEV+Ubuntu-01 "),
+            b"1.0rc1.post2.dev0+ubuntu.1\n".as_slice(),
+        ),
+        (Query::Match("~=2.2.post3, ==2.*", "2.9"), b"true\n"),
+        (Query::Match("~=1", "1"), b"refused\tset-syntax\n"),
+        (Query::Name("A.-_B"), b"a-b\n"),
+        (
+            Query::Marker(
+                "os_name == 'posix' and '1.0' == '1'",
+                ENVIRONMENT.as_bytes(),
+            ),
+            b"true\n",
+        ),
+        (
+            Query::Requirement("A.b[B_b, c] >=1.0 ; os_name == 'nt'"),
+            b"a-b\tb-b,c\t>=1.0\t-\tos_name == 'nt'\n",
+        ),
+        (
+            Query::Wheel("Foo_Bar-1.0-1b-py2.py3-none-any.whl"),
+            b"foo-bar\t1.0\t1b\tpy2-none-any py3-none-any\n",
+        ),
+        (Query::Requirement("a @ u v"), b"refused\ttrailing\n"),
+        (Query::Requirement("a (>=1"), b"refused\tspecifier\n"),
+        (Query::Wheel("a-1-b-py3-none-any.whl"), b"refused\tbuild\n"),
+        (
+            Query::Marker("platform_machine == 'x'", ENVIRONMENT.as_bytes()),
+            b"fault\tmarker-unset\n",
+        ),
+        (
+            Query::Marker("'a' == 'a'", b"{\"environment\":{}}"),
+            b"environment\tshape\n",
+        ),
+    ] {
+        let Ok(mut writer) = Room::new(rt.alloc(), 100, 7, None) else {
+            return;
+        };
+        match query(rt.alloc(), asked, &mut writer) {
+            Ok(_) => assert_eq!(rt; writer.bytes(), reply),
+            Err(fault) => {
+                assert_eq!(rt; fault, RunFault::Memory);
+                assert!(rt; reply.starts_with(writer.bytes()));
+            }
+        }
+    }
+}
+
+#[test]
+fn command_words(rt: HostRuntime) {
+    match command(rt.alloc(), &["pylock", "select", "a", "b"]) {
+        Ok(task) => assert!(rt; matches!(task, Task::Select("a", "b"))),
+        Err(error) => assert!(rt; matches!(error, CommandError::Memory)),
+    }
+    match command(rt.alloc(), &["pylock", "name", "--", "-a"]) {
+        Ok(task) => assert!(rt; matches!(task, Task::Name("-a"))),
+        Err(error) => assert!(rt; matches!(error, CommandError::Memory)),
+    }
+    // A refusal takes memory for its text.
+    for words in [
+        ["pylock", "fly"].as_slice(),
+        &["pylock", "match", "1"],
+        &["pylock", "select", "--help"],
+    ] {
+        let refused = command(rt.alloc(), words);
+        assert!(rt; refused.is_err());
+    }
+}

@@ -1,0 +1,395 @@
+//! Worked examples of selections, of edit lines and of policies.
+
+use pylock_program::{Pieces, Room, RunFault, run};
+use std::alloc::{AllocError, Global};
+use std::test::Fail;
+
+const HEAD: &str = "lock-version = \"1.0\"\ncreated-by = \"t\"\n";
+
+/// What a run is given, what it has to write, and its status.
+#[derive(Clone, Copy)]
+struct Case {
+    name: &'static str,
+    /// What follows the first two lines of the lock.
+    lock: &'static str,
+    environment: &'static str,
+    input: &'static str,
+    text: &'static str,
+    status: u8,
+}
+
+/// What the run of a case answers, and what it writes.
+fn ran(alloc: Global, case: Case) -> Result<(Result<u8, RunFault>, Room), AllocError> {
+    let lock = format!(in alloc; "{HEAD}{}\n", case.lock)?;
+    let mut reader = Pieces::new(case.input.as_bytes(), 65_536, None);
+    let mut room = Room::new(alloc, 65_536, 65_536, None)?;
+    let environment = case.environment.as_bytes();
+    let answer = run(alloc, lock.as_bytes(), environment, &mut reader, &mut room);
+    Ok((answer, room))
+}
+
+const SELECTIONS: [Case; 9] = [
+    Case {
+        name: "empty lock",
+        lock: "",
+        environment: "{\"environment\":{},\"tags\":[]}",
+        input: "",
+        text: "plan 0\n",
+        status: 0,
+    },
+    Case {
+        name: "marker unset",
+        lock: "packages = [{name=\"a\", marker=\"os_name == \\\"posix\\\" or platform_machine == \
+            \\\"x\\\"\", directory={path=\"a\"}}]",
+        environment: "{\"environment\":{\"os_name\":\"posix\"},\"tags\":[]}",
+        input: "",
+        text: "fault 1\tmarker-unset\n",
+        status: 1,
+    },
+    Case {
+        name: "requires-python",
+        lock: "packages = [{name=\"a\", version=\"1\", requires-python=\">=3.12\", \
+            directory={path=\"a\"}}]",
+        environment: "{\"environment\":{\"python_full_version\":\"3.11.9\"},\"tags\":[]}",
+        input: "set python_full_version 3.12.0\nunset python_full_version\n",
+        text: "fault 1\tpython-not-met\nplan 1\n1\ta\t1\tdirectory\t-\ta\t-\t-\t-\nfault \
+            1\tpython-unknown\n",
+        status: 1,
+    },
+    Case {
+        name: "ambiguous",
+        lock: "packages = [{name=\"a\", marker=\"sys_platform == 'linux'\", \
+            directory={path=\"x\"}}, {name=\"a\", marker=\"os_name == 'posix'\", \
+            directory={path=\"y\"}}]",
+        environment: "{\"environment\":{\"sys_platform\":\"linux\",\"os_name\":\"posix\"},\
+            \"tags\":[]}",
+        input: "del 1\ndel 1\n",
+        text: "fault 2\tambiguous\nplan 1\n2\ta\t-\tdirectory\t-\ty\t-\t-\t-\nrefused 2\tno-entry\n",
+        status: 1,
+    },
+    Case {
+        name: "sources before no file",
+        lock: "packages = [{name=\"a\", wheels=[{name=\"a-1-cp39-cp39-win32.whl\", url=\"u\"}]}, \
+            {name=\"b\", directory={path=\"b\"}}, {name=\"c\", vcs={type=\"git\", url=\"g\", \
+            commit-id=\"f0\"}, sdist={path=\"c.tar.gz\"}}]",
+        environment: "{\"environment\":{},\"tags\":[\"py3-none-any\"]}",
+        input: "del 3\n",
+        text: "fault 3\tsources\nfault 1\tno-file\n",
+        status: 1,
+    },
+    Case {
+        name: "wheel choice",
+        lock: "packages = [{name=\"a\", version=\"1\", wheels=[{path=\"w/a-1-py3-none-any.whl\"}, \
+            {path=\"w/a-1-2-py3-none-any.whl\"}, {path=\"w/a-1-10-py3-none-any.whl\"}], \
+            sdist={path=\"s/a-1.tar.gz\"}}]",
+        environment: "{\"environment\":{},\"tags\":[\"py3-none-any\"]}",
+        input: "tags\n",
+        text: "plan 1\n\
+            1\ta\t1\twheel\ta-1-10-py3-none-any.whl\tw/a-1-10-py3-none-any.whl\t-\t-\t-\n\
+            plan 1\n1\ta\t1\tsdist\ta-1.tar.gz\ts/a-1.tar.gz\t-\t-\t-\n",
+        status: 0,
+    },
+    Case {
+        name: "file name of a URL",
+        lock: "packages = [{name=\"t\", version=\"2.5.0+cpu\", \
+            wheels=[{url=\"https://h/t-2.5.0%2Bcpu-cp312-cp312-linux_x86_64.whl?x#y\", \
+            hashes={sha512=\"bb\", sha256=\"aa\"}}]}]",
+        environment: "{\"environment\":{},\"tags\":[\"cp312-cp312-linux_x86_64\"]}",
+        input: "",
+        text: "plan 1\n\
+            1\tt\t2.5.0+cpu\twheel\tt-2.5.0+cpu-cp312-cp312-linux_x86_64.whl\thttps://h/t-2.5\
+            .0%2Bcpu-cp312-cp312-linux_x86_64.whl?x#y\tsha256=aa,sha512=bb\t-\t-\n",
+        status: 0,
+    },
+    Case {
+        name: "head",
+        lock: "requires-python = \">=3.9\"\nenvironments = [\"sys_platform == 'win32'\"]",
+        environment: "{\"environment\":{\"sys_platform\":\"linux\"},\"tags\":[]}",
+        input: "set python_full_version 3.8.1\nset python_full_version 3.9.0\nset sys_platform \
+            win32\n",
+        text: "fault 0\tpython-unknown\nfault 0\tpython-not-met\nfault 0\tno-environment\nplan 0\n",
+        status: 0,
+    },
+    Case {
+        name: "archive",
+        lock: "packages = [{name=\"a\", archive={url=\"https://h/a.zip\", hashes={sha256=\"aa\"}, \
+            subdirectory=\"s\"}}]",
+        environment: "{\"environment\":{},\"tags\":[]}",
+        input: "",
+        text: "plan 1\n1\ta\t-\tarchive\t-\thttps://h/a.zip\tsha256=aa\t-\ts\n",
+        status: 0,
+    },
+];
+
+#[test]
+fn selects(rt: HostRuntime) -> Result<(), Fail> {
+    for case in SELECTIONS {
+        let (answer, room) = ran(rt.alloc(), case)?;
+        assert_eq!(rt; answer, Ok(case.status), "{}", case.name);
+        assert_eq!(rt; room.bytes(), case.text.as_bytes(), "{}", case.name);
+    }
+    Ok(())
+}
+
+const EDITS: [Case; 8] = [
+    Case {
+        name: "extras",
+        lock: "extras = [\"foo-bar\"]\npackages = [{name=\"a\", marker=\"\\\"Foo.Bar\\\" in \
+            extras\", directory={path=\"a\"}}]",
+        environment: "{\"environment\":{},\"tags\":[]}",
+        input: "extra+ FOO_bar\nextra+ foo-bar\nextra- other\n",
+        text: "plan 0\nplan 1\n1\ta\t-\tdirectory\t-\ta\t-\t-\t-\nplan 1\n\
+            1\ta\t-\tdirectory\t-\ta\t-\t-\t-\nrefused 3\textra\n",
+        status: 1,
+    },
+    Case {
+        name: "groups",
+        lock: "dependency-groups = [\"dev\"]\ndefault-groups = [\"main\"]\npackages = \
+            [{name=\"a\", marker=\"'main' in dependency_groups\", directory={path=\"a\"}}, \
+            {name=\"b\", marker=\"'dev' in dependency_groups\", directory={path=\"b\"}}]",
+        environment: "{\"environment\":{},\"tags\":[]}",
+        input: "group+ dev\ngroup- main\ngroup+ other\n",
+        text: "plan 1\n1\ta\t-\tdirectory\t-\ta\t-\t-\t-\nplan 2\n\
+            1\ta\t-\tdirectory\t-\ta\t-\t-\t-\n2\tb\t-\tdirectory\t-\tb\t-\t-\t-\nplan 1\n\
+            2\tb\t-\tdirectory\t-\tb\t-\t-\t-\nrefused 3\tgroup\n",
+        status: 1,
+    },
+    Case {
+        name: "refusals",
+        lock: "",
+        environment: "{\"environment\":{},\"tags\":[]}",
+        input: "add {name = \"a\", directory = {path = \"p\", editable = true, subdirectory = \
+            \"s\"}}\nput 1 {name = \"a\", vcs = {type = \"git\", url = \"g\", commit-id = \
+            \"f0\"}}\nadd {name = \"-x\", directory = {path = \"p\"}}\nadd 5\nset os.name x\n\
+            tags py3\nfly\ndel x\nput 2 {name = \"b\"}\n",
+        text: "plan 0\nplan 1\n1\ta\t-\teditable\t-\tp\t-\t-\ts\nplan 1\n\
+            1\ta\t-\tvcs\t-\tg\t-\tgit@f0\t-\nrefused 3\tentry\nrefused 4\ttoml\nrefused \
+            5\tvariable\nrefused 6\ttag\nrefused 7\tcommand\nrefused 8\targument\nrefused \
+            9\tno-entry\n",
+        status: 1,
+    },
+    Case {
+        name: "order of refusals",
+        lock: "",
+        environment: "{\"environment\":{},\"tags\":[]}",
+        input: "put 9 5\nput 9 {name = \"-\"}\nput 9 {name = \"a\"}\nput 0 {name = \"a\"}\nset \
+            os_name \nset os_name\n",
+        text: "plan 0\nrefused 1\ttoml\nrefused 2\tentry\nrefused 3\tno-entry\nrefused \
+            4\targument\nplan 0\nrefused 6\targument\n",
+        status: 1,
+    },
+    Case {
+        name: "arguments",
+        lock: "",
+        environment: "{\"environment\":{},\"tags\":[]}",
+        input: "\r\nshow \nset  x\nunset\nunset \nunset os.name\nextra+\nextra+ \nextra+ -\nextra- \
+            a b\ngroup+ \ngroup- a_\nadd\nadd \nadd  {name = \"a\"}\nadd {name = \"a\"} \n\
+            put 1\nput 1 \ndel\ndel 0\ndel 1234567\n\tshow\n",
+        text: "plan 0\nrefused 1\tcommand\nrefused 2\targument\nrefused 3\tvariable\nrefused \
+            4\targument\nrefused 5\targument\nrefused 6\tvariable\nrefused 7\targument\n\
+            refused 8\targument\nrefused 9\textra\nrefused 10\textra\nrefused 11\targument\n\
+            refused 12\tgroup\nrefused 13\targument\nrefused 14\targument\nrefused 15\ttoml\n\
+            refused 16\ttoml\nrefused 17\targument\nrefused 18\targument\nrefused \
+            19\targument\nrefused 20\targument\nrefused 21\targument\nrefused 22\tcommand\n",
+        status: 1,
+    },
+    Case {
+        name: "tags",
+        lock: "",
+        environment: "{\"environment\":{},\"tags\":[]}",
+        input: "tags  py3-none-any  py2-none-any \ntags py3-none-any x\n",
+        text: "plan 0\nplan 0\nrefused 2\ttag\n",
+        status: 1,
+    },
+    Case {
+        name: "policies",
+        lock: "packages = [{name=\"a\", version=\"1\", wheels=[{path=\"w/a-1-py3-none-any.whl\"}, \
+            {path=\"w/a-1-2-py3-none-any.whl\"}, {path=\"w/a-1-10-py3-none-any.whl\"}], \
+            sdist={path=\"s/a-1.tar.gz\"}}]",
+        environment: "{\"environment\":{},\"tags\":[\"py3-none-any\"]}",
+        input: "policy A source\npolicy a wheel\ntags\npolicy a any\npolicy -x any\npolicy a\n\
+            policy -x both\n",
+        text: "plan 1\n\
+            1\ta\t1\twheel\ta-1-10-py3-none-any.whl\tw/a-1-10-py3-none-any.whl\t-\t-\t-\n\
+            plan 1\n1\ta\t1\tsdist\ta-1.tar.gz\ts/a-1.tar.gz\t-\t-\t-\nplan 1\n\
+            1\ta\t1\twheel\ta-1-10-py3-none-any.whl\tw/a-1-10-py3-none-any.whl\t-\t-\t-\n\
+            fault 1\tno-file\nplan 1\n1\ta\t1\tsdist\ta-1.tar.gz\ts/a-1.tar.gz\t-\t-\t-\n\
+            refused 5\tname\nrefused 6\targument\nrefused 7\targument\n",
+        status: 1,
+    },
+    Case {
+        name: "names of policies",
+        lock: "",
+        environment: "{\"environment\":{},\"tags\":[]}",
+        input: "policy\npolicy  any\npolicy a any \n",
+        text: "plan 0\nrefused 1\targument\nrefused 2\tname\nrefused 3\targument\n",
+        status: 1,
+    },
+];
+
+#[test]
+fn takes_edit_lines(rt: HostRuntime) -> Result<(), Fail> {
+    for case in EDITS {
+        let (answer, room) = ran(rt.alloc(), case)?;
+        assert_eq!(rt; answer, Ok(case.status), "{}", case.name);
+        assert_eq!(rt; room.bytes(), case.text.as_bytes(), "{}", case.name);
+    }
+    Ok(())
+}
+
+/// The place of the example of refusals among the edits.
+const REFUSALS: usize = 2;
+
+/// The input of that example with CR and LF after each line, in pieces of any size.
+#[test]
+fn cuts_edit_lines_anyhow(rt: HostRuntime) -> Result<(), Fail> {
+    let case = EDITS[REFUSALS];
+    let lock = format!(in rt.alloc(); "{HEAD}\n")?;
+    let mut input = Vec::new(rt.alloc());
+    for line in case.input.lines() {
+        input.extend_from_slice(line.as_bytes())?;
+        input.extend_from_slice(b"\r\n")?;
+    }
+    for piece in [1, 2, 3, 65_535, 65_536] {
+        let mut reader = Pieces::new(&input, piece, None);
+        let mut room = Room::new(rt.alloc(), 65_536, 1, None)?;
+        let environment = case.environment.as_bytes();
+        let answer = run(
+            rt.alloc(),
+            lock.as_bytes(),
+            environment,
+            &mut reader,
+            &mut room,
+        );
+        assert_eq!(rt; answer, Ok(1));
+        assert_eq!(rt; room.bytes(), case.text.as_bytes());
+    }
+    Ok(())
+}
+
+/// Each write of that example failing in turn.
+#[test]
+fn edit_lines_meet_a_failed_write(rt: HostRuntime) -> Result<(), Fail> {
+    let case = EDITS[REFUSALS];
+    let lock = format!(in rt.alloc(); "{HEAD}\n")?;
+    for call in 1..=case.text.len() as u64 {
+        let mut reader = Pieces::new(case.input.as_bytes(), 65_536, None);
+        let mut room = Room::new(rt.alloc(), 65_536, 1, Some(call))?;
+        let environment = case.environment.as_bytes();
+        let answer = run(
+            rt.alloc(),
+            lock.as_bytes(),
+            environment,
+            &mut reader,
+            &mut room,
+        );
+        assert_eq!(rt; answer, Err(RunFault::Write));
+        assert!(rt; case.text.as_bytes().starts_with(room.bytes()));
+    }
+    Ok(())
+}
+
+/// Each read of that example failing in turn: the first answer is written, and the text of each
+/// line that was read whole.
+#[test]
+fn edit_lines_meet_a_failed_read(rt: HostRuntime) -> Result<(), Fail> {
+    let case = EDITS[REFUSALS];
+    let lock = format!(in rt.alloc(); "{HEAD}\n")?;
+    let environment = case.environment.as_bytes();
+    for end in 0..case.input.len() {
+        let read = &case.input.as_bytes()[..end];
+        let last = read.iter().rposition(|byte| *byte == b'\n');
+        let whole = last.map_or(0, |place| place.saturating_add(1));
+        let mut lines = Pieces::new(read.get(..whole).unwrap_or(read), 65_536, None);
+        let mut least = Room::new(rt.alloc(), 65_536, 65_536, None)?;
+        let answer = run(
+            rt.alloc(),
+            lock.as_bytes(),
+            environment,
+            &mut lines,
+            &mut least,
+        );
+        assert!(rt; answer.is_ok());
+        let fail_at = Some(end as u64 + 1);
+        let mut reader = Pieces::new(case.input.as_bytes(), 1, fail_at);
+        let mut room = Room::new(rt.alloc(), 65_536, 65_536, None)?;
+        let answer = run(
+            rt.alloc(),
+            lock.as_bytes(),
+            environment,
+            &mut reader,
+            &mut room,
+        );
+        assert_eq!(rt; answer, Err(RunFault::Read));
+        assert!(rt; room.bytes().starts_with(least.bytes()));
+        assert!(rt; case.text.as_bytes().starts_with(room.bytes()));
+    }
+    Ok(())
+}
+
+/// A lock of that many of these members.
+fn lock_of(alloc: Global, member: &str, count: usize) -> Result<String, AllocError> {
+    let mut lock = String::from_str(alloc, HEAD)?;
+    lock.push_str("packages = [")?;
+    for _ in 0..count {
+        lock.push_str(member)?;
+        lock.push_str(",")?;
+    }
+    lock.push_str("]\n")?;
+    Ok(lock)
+}
+
+/// A lock has at most 100,000 entries, and none further has a number.
+#[test]
+fn entries_end_at_a_hundred_thousand(rt: HostRuntime) -> Result<(), Fail> {
+    let environment = b"{\"environment\":{},\"tags\":[]}";
+    let skipped = "{name=\"a\", marker=\"'a' == 'b'\"}";
+    for (member, count, input, text, status) in [
+        ("1", 100_001, "", "lock\ttoo-many\n", 2),
+        ("1", 100_000, "", "lock\tentry\t1\tnot-table\n", 2),
+        (
+            skipped,
+            100_000,
+            "del 100000\nadd {name = \"b\"}\n",
+            "plan 0\nplan 0\nrefused 2\ttoo-many\n",
+            1,
+        ),
+    ] {
+        let lock = lock_of(rt.alloc(), member, count)?;
+        let mut reader = Pieces::new(input.as_bytes(), 65_536, None);
+        let mut room = Room::new(rt.alloc(), 65_536, 65_536, None)?;
+        let answer = run(
+            rt.alloc(),
+            lock.as_bytes(),
+            environment,
+            &mut reader,
+            &mut room,
+        );
+        assert_eq!(rt; answer, Ok(status));
+        assert_eq!(rt; room.bytes(), text.as_bytes());
+    }
+    Ok(())
+}
+
+/// Every front of a lock and of an environment is read or refused.
+#[test]
+fn reads_every_front(rt: HostRuntime) -> Result<(), Fail> {
+    let case = SELECTIONS[6];
+    let lock = format!(in rt.alloc(); "{HEAD}{}\n", case.lock)?;
+    for end in 0..lock.len() {
+        let mut reader = Pieces::new(b"", 1, None);
+        let mut room = Room::new(rt.alloc(), 65_536, 65_536, None)?;
+        let environment = case.environment.as_bytes();
+        let front = &lock.as_bytes()[..end];
+        let answer = run(rt.alloc(), front, environment, &mut reader, &mut room);
+        assert!(rt; answer.is_ok(), "{end}");
+    }
+    for end in 0..case.environment.len() {
+        let mut reader = Pieces::new(b"", 1, None);
+        let mut room = Room::new(rt.alloc(), 65_536, 65_536, None)?;
+        let front = &case.environment.as_bytes()[..end];
+        let answer = run(rt.alloc(), lock.as_bytes(), front, &mut reader, &mut room);
+        assert_eq!(rt; answer, Ok(2), "{end}");
+    }
+    Ok(())
+}

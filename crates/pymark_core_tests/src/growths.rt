@@ -1,0 +1,202 @@
+//! Calls whose growths are refused in turn: `tools/growths/run` runs each of these tests once for
+//! each of its growths, that one refused. A test passes where the call answers want of memory and
+//! leaves what was there, or answers just what it answers with ample memory.
+
+use crate::check::value_of;
+use pymark_core::{
+    Environment, EvalFault, Marker, MarkerError, Requirement, RequirementError, Var,
+};
+use std::alloc::Global;
+use std::process::Abort;
+
+fn check_set<R: Abort + AllocGlobal>(rt: &R, environment: &mut Environment) {
+    let before = environment.set(Var::PythonVersion, "3.11.1rc1").is_ok();
+    let left = match environment.set(Var::PythonVersion, "3.12.0.post1") {
+        Ok(()) => Some("3.12.0.post1"),
+        Err(_) if before => Some("3.11.1rc1"),
+        Err(_) => None,
+    };
+    assert_eq!(rt; environment.get(Var::PythonVersion), left);
+}
+
+#[test]
+fn environment_set(rt: HostRuntime) {
+    let mut environment = Environment::new(rt.alloc());
+    check_set(&rt, &mut environment);
+}
+
+fn check_extras<R: Abort + AllocGlobal>(rt: &R, environment: &mut Environment) {
+    let is_in = environment.add_extra("A_b").is_ok();
+    assert!(rt; environment.has_extra("a-b") == is_in);
+    let is_out = environment.drop_extra("a.B").is_ok();
+    assert!(rt; environment.has_extra("a-b") == (is_in && !is_out));
+}
+
+#[test]
+fn environment_extras(rt: HostRuntime) {
+    let mut environment = Environment::new(rt.alloc());
+    check_extras(&rt, &mut environment);
+}
+
+fn check_groups<R: Abort + AllocGlobal>(rt: &R, environment: &mut Environment) {
+    let is_in = environment.add_group("A_b").is_ok();
+    assert!(rt; environment.has_group("a-b") == is_in);
+    let is_out = environment.drop_group("a.B").is_ok();
+    assert!(rt; environment.has_group("a-b") == (is_in && !is_out));
+}
+
+#[test]
+fn environment_groups(rt: HostRuntime) {
+    let mut environment = Environment::new(rt.alloc());
+    check_groups(&rt, &mut environment);
+}
+
+/// Whether the variable has a text, and the extra is asked for, just where it should.
+fn check_has<R: Abort + AllocGlobal>(rt: &R, environment: &Environment, is_set: bool, is_in: bool) {
+    assert!(rt; environment.get(Var::PythonVersion).is_some() == is_set);
+    assert!(rt; environment.has_extra("a") == is_in);
+}
+
+fn check_copy<R: Abort + AllocGlobal>(rt: &R, environment: &mut Environment) {
+    let is_set = environment.set(Var::PythonVersion, "3.12").is_ok();
+    let is_in = environment.add_extra("a").is_ok();
+    if let Ok(copy) = environment.copy() {
+        check_has(rt, &copy, is_set, is_in);
+    }
+    check_has(rt, environment, is_set, is_in);
+}
+
+#[test]
+fn environment_copy(rt: HostRuntime) {
+    let mut environment = Environment::new(rt.alloc());
+    check_copy(&rt, &mut environment);
+}
+
+/// A requirement with a part of each kind but a URL.
+const REQUIREMENT: &str =
+    "requests[security] >= 2.8.1 ; python_version < \"2.7\" and \"x\" in extras";
+
+fn check_requirement<R: Abort + AllocGlobal>(rt: &R, requirement: &Requirement) {
+    assert_eq!(rt; requirement.name(), "requests");
+    assert_eq!(rt; requirement.set().text(), ">=2.8.1");
+    assert!(rt; requirement.marker().is_some());
+}
+
+#[test]
+fn requirement_parse(rt: HostRuntime) {
+    match Requirement::parse(rt.alloc(), REQUIREMENT) {
+        Ok(requirement) => check_requirement(&rt, &requirement),
+        Err(error) => assert!(rt; matches!(error, RequirementError::Memory), "{error:?}"),
+    }
+}
+
+fn check_url<R: Abort + AllocGlobal>(rt: &R, requirement: &Requirement) {
+    assert_eq!(rt; requirement.extras().len(), 2);
+    assert_eq!(rt; requirement.url(), Some("https://pypi.org/pip.zip"));
+}
+
+#[test]
+fn requirement_with_a_url_parse(rt: HostRuntime) {
+    match Requirement::parse(
+        rt.alloc(),
+        "pip[a, b] @ https://pypi.org/pip.zip ; os_name == 'nt'",
+    ) {
+        Ok(requirement) => check_url(&rt, &requirement),
+        Err(error) => assert!(rt; matches!(error, RequirementError::Memory), "{error:?}"),
+    }
+}
+
+fn check_same<R: Abort + AllocGlobal>(rt: &R, copy: &Requirement, requirement: &Requirement) {
+    assert_eq!(rt; copy.name(), requirement.name());
+    assert_eq!(rt; copy.extras().len(), requirement.extras().len());
+    assert!(rt; copy.set() == requirement.set());
+    assert!(rt; copy.marker().is_some());
+}
+
+fn check_requirement_copy<R: Abort + AllocGlobal>(rt: &R, requirement: &Requirement) {
+    if let Ok(copy) = requirement.clone() {
+        check_same(rt, &copy, requirement);
+    }
+    assert_eq!(rt; requirement.name(), "requests");
+}
+
+#[test]
+fn requirement_copy(rt: HostRuntime) {
+    if let Ok(requirement) = Requirement::parse(rt.alloc(), REQUIREMENT) {
+        check_requirement_copy(&rt, &requirement);
+    }
+}
+
+/// A marker with a join of each kind.
+const MARKER: &str = "(python_version >= \"3.8\" or \"x\" in extras) and os_name == 'nt'";
+
+fn check_text<R: Abort + AllocGlobal>(rt: &R, marker: &Marker) {
+    assert_eq!(rt; marker.text(), MARKER);
+}
+
+#[test]
+fn marker_parse(rt: HostRuntime) {
+    match Marker::parse(rt.alloc(), MARKER) {
+        Ok(marker) => check_text(&rt, &marker),
+        Err(error) => assert_eq!(rt; error, MarkerError::Memory),
+    }
+}
+
+fn check_marker_copy<R: Abort + AllocGlobal>(rt: &R, marker: &Marker) {
+    let Ok(copy) = marker.clone() else {
+        return;
+    };
+    check_text(rt, &copy);
+    assert!(rt; copy.reads() == marker.reads());
+}
+
+#[test]
+fn marker_copy(rt: HostRuntime) {
+    if let Ok(marker) = Marker::parse(rt.alloc(), MARKER) {
+        check_marker_copy(&rt, &marker);
+    }
+}
+
+/// What a marker is judged in, as far as there was memory for it.
+fn environment(alloc: Global) -> Environment {
+    let mut environment = Environment::new(alloc);
+    let _ = environment.set(Var::PythonVersion, "3.12");
+    let _ = environment.add_extra("a.b");
+    environment
+}
+
+fn check_value<R: Abort + AllocGlobal>(rt: &R, environment: &Environment) {
+    let is_set = environment.get(Var::PythonVersion).is_some();
+    let text = "python_version == python_version or python_version in extras";
+    match value_of(rt.alloc(), environment, text) {
+        Ok(Ok(value)) => assert!(rt; value && is_set),
+        Ok(Err(EvalFault::Unset(_))) => assert!(rt; !is_set),
+        Ok(Err(fault)) => assert_eq!(rt; fault, EvalFault::Memory),
+        Err(error) => assert_eq!(rt; error, MarkerError::Memory),
+    }
+}
+
+#[test]
+fn marker_evaluate(rt: HostRuntime) {
+    let environment = environment(rt.alloc());
+    check_value(&rt, &environment);
+}
+
+fn check_value_without_memory<R: Abort + AllocGlobal>(rt: &R, environment: &Environment) {
+    let is_set = environment.get(Var::PythonVersion).is_some();
+    let is_in = environment.has_extra("a-b");
+    let text = "(python_version >= '3.8' or python_version > 'x' or 'y' in python_version) \
+        and 'A_b' in extras and 'a' not in dependency_groups and '1.0' == '1'";
+    let Ok(value) = value_of(rt.alloc(), environment, text) else {
+        return;
+    };
+    let unset = Err(EvalFault::Unset(Var::PythonVersion));
+    assert_eq!(rt; value, if is_set { Ok(is_in) } else { unset });
+}
+
+/// Where the marker and the environment were made, no growth is left that could be refused.
+#[test]
+fn marker_evaluate_without_memory(rt: HostRuntime) {
+    let environment = environment(rt.alloc());
+    check_value_without_memory(&rt, &environment);
+}

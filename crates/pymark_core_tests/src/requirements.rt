@@ -1,0 +1,152 @@
+//! Requirements: their parts and each refusal. Besides the worked examples, those of PEP 508,
+//! "Examples".
+
+use pymark_core::{Requirement, RequirementError};
+use std::alloc::{AllocError, Global};
+use std::process::Abort;
+use std::test::Fail;
+
+fn push_extras(text: &mut String, requirement: &Requirement) -> Result<(), AllocError> {
+    for extra in requirement.extras() {
+        text.push_str(",")?;
+        text.push_str(extra.as_str())?;
+    }
+    Ok(())
+}
+
+fn push_parts(text: &mut String, requirement: &Requirement) -> Result<(), AllocError> {
+    text.push_str(requirement.name())?;
+    push_extras(text, requirement)?;
+    for part in [
+        requirement.set().text(),
+        requirement.url().unwrap_or("-"),
+        marker_text(requirement),
+    ] {
+        text.push_str("|")?;
+        text.push_str(part)?;
+    }
+    Ok(())
+}
+
+fn marker_text(requirement: &Requirement) -> &str {
+    match requirement.marker() {
+        Some(marker) => marker.text(),
+        None => "-",
+    }
+}
+
+/// The parts with `|` between them, `-` for a URL or a marker that isn't there.
+fn parts(alloc: Global, requirement: &Requirement) -> Result<String, AllocError> {
+    let mut text = String::new(alloc);
+    push_parts(&mut text, requirement)?;
+    Ok(text)
+}
+
+fn check_parts<R: Abort + AllocGlobal>(
+    rt: &R,
+    requirement: &Requirement,
+    text: &str,
+    wanted: &str,
+) -> Result<(), Fail> {
+    let parts = parts(rt.alloc(), requirement)?;
+    assert_eq!(rt; parts.as_str(), wanted, "{text}");
+    Ok(())
+}
+
+fn check<R: Abort + AllocGlobal>(rt: &R, text: &str, wanted: &str) -> Result<(), Fail> {
+    let requirement = Requirement::parse(rt.alloc(), text)?;
+    check_parts(rt, &requirement, text, wanted)
+}
+
+#[test]
+fn parts_of_requirements(rt: HostRuntime) -> Result<(), Fail> {
+    for (text, wanted) in [
+        (
+            "requests[security, tests] >= 2.8.1, == 2.8.* ; python_version < \"2.7\"",
+            "requests,security,tests|>=2.8.1,==2.8.*|-|python_version < \"2.7\"",
+        ),
+        (
+            "pip @ https://h/p.zip#sha1=x ; os_name=='nt'",
+            "pip||https://h/p.zip#sha1=x|os_name=='nt'",
+        ),
+        ("pip @ https://h/p.zip;x", "pip||https://h/p.zip;x|-"),
+    ] {
+        check(&rt, text, wanted)?;
+    }
+    Ok(())
+}
+
+/// The examples of PEP 508 that this grammar takes as it does.
+#[test]
+fn requirements_of_the_standard(rt: HostRuntime) -> Result<(), Fail> {
+    for (text, wanted) in [
+        ("A", "A||-|-"),
+        ("A.B-C_D", "A.B-C_D||-|-"),
+        ("aa", "aa||-|-"),
+        ("name", "name||-|-"),
+        ("name<=1", "name|<=1|-|-"),
+        ("name>=3", "name|>=3|-|-"),
+        ("name>=3,<2", "name|>=3,<2|-|-"),
+        ("name@http://foo.com", "name||http://foo.com|-"),
+        (
+            "name [fred,bar] @ http://foo.com ; python_version=='2.7'",
+            "name,fred,bar||http://foo.com|python_version=='2.7'",
+        ),
+        (
+            "name[quux, strange];python_version<'2.7' and platform_version=='2'",
+            "name,quux,strange||-|python_version<'2.7' and platform_version=='2'",
+        ),
+        (
+            "name; os_name=='a' or os_name=='b'",
+            "name||-|os_name=='a' or os_name=='b'",
+        ),
+        (
+            "name; os_name=='a' and (os_name=='b' or os_name=='c')",
+            "name||-|os_name=='a' and (os_name=='b' or os_name=='c')",
+        ),
+    ] {
+        check(&rt, text, wanted)?;
+    }
+    Ok(())
+}
+
+#[test]
+fn corners_of_requirements(rt: HostRuntime) -> Result<(), Fail> {
+    for (text, wanted) in [
+        (" a ", "a||-|-"),
+        ("a ()", "a||-|-"),
+        ("a (>=1)", "a|>=1|-|-"),
+        ("a [ ] ==1", "a|==1|-|-"),
+        ("a[b,b]", "a,b,b||-|-"),
+        ("a @ ;", "a||;|-"),
+    ] {
+        check(&rt, text, wanted)?;
+    }
+    Ok(())
+}
+
+#[test]
+fn refusals_of_requirements(rt: HostRuntime) {
+    for (text, refusal) in [
+        ("", RequirementError::Name),
+        ("-a", RequirementError::Name),
+        ("a[b,]", RequirementError::Extras),
+        ("a[b", RequirementError::Extras),
+        ("a (>=1", RequirementError::Specifier),
+        ("a b", RequirementError::Specifier),
+        (
+            "a <340282366920938463463374607431768211456",
+            RequirementError::Specifier,
+        ),
+        ("a @", RequirementError::Url),
+        ("a ;", RequirementError::Marker),
+        ("a ; extras == \"x\"", RequirementError::Marker),
+        ("a @ u v", RequirementError::Trailing),
+    ] {
+        assert_eq!(rt;
+            Requirement::parse(rt.alloc(), text).err(),
+            Some(refusal),
+            "{text}"
+        );
+    }
+}

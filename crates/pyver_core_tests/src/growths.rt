@@ -1,0 +1,71 @@
+//! Calls whose growths are refused in turn: `tools/growths/run` runs each of these tests once for
+//! each of its growths, that one refused. A test passes where the call answers want of memory, or
+//! just what it answers with ample memory.
+
+use pyver_core::{
+    Operator, PartsError, Specifier, SpecifierError, SpecifierSet, Version, VersionError,
+    VersionParts, normal_name,
+};
+use std::test::Fail;
+
+#[test]
+fn version_parse(rt: HostRuntime) {
+    match Version::parse(rt.alloc(), "1!2.0RC1.post3.dev4+Ubuntu.01") {
+        Ok(version) => assert_eq!(rt; version.text(), "1!2.0rc1.post3.dev4+ubuntu.1"),
+        Err(error) => assert!(rt; matches!(error, VersionError::Memory), "{error:?}"),
+    }
+}
+
+#[test]
+fn specifier_set_parse(rt: HostRuntime) {
+    match SpecifierSet::parse(rt.alloc(), ">= 2.8.1, == v1!2.0.*, ===x, != 1+a") {
+        Ok(set) => assert_eq!(rt; set.text(), ">=2.8.1,==1!2.0.*,===x,!=1+a"),
+        Err(error) => assert!(rt; matches!(error, SpecifierError::Memory), "{error:?}"),
+    }
+}
+
+#[test]
+fn specifier_new(rt: HostRuntime) {
+    match Specifier::new(rt.alloc(), Operator::NotEqual, "1!2.0.*") {
+        Ok(specifier) => assert!(rt; specifier.operator() == Operator::NotEqual),
+        Err(error) => assert!(rt; matches!(error, SpecifierError::Memory), "{error:?}"),
+    }
+}
+
+#[test]
+fn specifier_set_copy(rt: HostRuntime) {
+    if let Ok(set) = SpecifierSet::parse(rt.alloc(), "==1+a.1, ==2.*, ===x") {
+        if let Ok(copy) = set.clone() {
+            assert!(rt; copy == set);
+        }
+    }
+}
+
+#[test]
+fn version_from_parts(rt: HostRuntime) -> Result<(), Fail> {
+    let mut release = Vec::new(rt.alloc());
+    if release.push(7).is_err() {
+        return Ok(());
+    }
+    let parts = VersionParts {
+        epoch: 0,
+        release,
+        pre: None,
+        post: None,
+        dev: None,
+        local: Vec::new(rt.alloc()),
+    };
+    match Version::from_parts(rt.alloc(), parts) {
+        Ok(version) => assert_eq!(rt; version.text(), "7"),
+        Err(error) => assert!(rt; matches!(error, PartsError::Memory), "{error:?}"),
+    }
+    Ok(())
+}
+
+#[test]
+fn name_in_normal_form(rt: HostRuntime) -> Result<(), Fail> {
+    if let Ok(name) = normal_name(rt.alloc(), "A.-_B") {
+        assert_eq!(rt; name.as_str(), "a-b");
+    }
+    Ok(())
+}
