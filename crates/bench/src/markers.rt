@@ -2,6 +2,7 @@
 
 use crate::clock::{ROUNDS, print_round};
 use pymark_core::{Environment, Marker, Requirement, Var};
+use std::alloc::{AllocError, Global};
 use std::rt::Clock;
 use std::time::Instant;
 
@@ -43,26 +44,47 @@ fn time_parse<R: Clock + Print + AllocGlobal>(rt: &R, text: &str) -> anyhow::Res
     Ok(print_round(rt, name.as_str(), start, seen)?)
 }
 
+fn set_all(environment: &mut Environment) -> Result<(), AllocError> {
+    for (variable, text) in [
+        (Var::PythonVersion, "3.12"),
+        (Var::SysPlatform, "linux"),
+        (Var::PlatformMachine, "x86_64"),
+        (Var::OsName, "posix"),
+    ] {
+        environment.set(variable, text)?;
+    }
+    Ok(())
+}
+
 /// An environment on Linux.
-fn linux<R: AllocGlobal>(rt: &R) -> anyhow::Result<Environment> {
-    let mut environment = Environment::new(rt.alloc());
-    environment.set(Var::PythonVersion, "3.12")?;
-    environment.set(Var::SysPlatform, "linux")?;
-    environment.set(Var::PlatformMachine, "x86_64")?;
-    environment.set(Var::OsName, "posix")?;
+fn linux(alloc: Global) -> Result<Environment, AllocError> {
+    let mut environment = Environment::new(alloc);
+    set_all(&mut environment)?;
     Ok(environment)
 }
 
 fn time_evaluate<R: Clock + Print + AllocGlobal>(rt: &R, text: &str) -> anyhow::Result<()> {
-    let environment = linux(rt)?;
     let marker = Marker::parse(rt.alloc(), text)?;
+    time_marker(rt, &marker)
+}
+
+fn time_marker<R: Clock + Print + AllocGlobal>(rt: &R, marker: &Marker) -> anyhow::Result<()> {
+    let environment = linux(rt.alloc())?;
+    time_values(rt, marker, &environment)
+}
+
+fn time_values<R: Clock + Print + AllocGlobal>(
+    rt: &R,
+    marker: &Marker,
+    environment: &Environment,
+) -> anyhow::Result<()> {
     let start = Instant::now(rt)?;
     let mut seen = 0u64;
     for _ in 0..ROUNDS {
-        let holds = marker.evaluate(rt.alloc(), &environment).unwrap_or(false);
+        let holds = marker.evaluate(rt.alloc(), environment).unwrap_or(false);
         seen = seen.wrapping_add(u64::from(holds));
     }
-    let name = format!(in rt.alloc(); "Marker::evaluate {text}")?;
+    let name = format!(in rt.alloc(); "Marker::evaluate {}", marker.text())?;
     Ok(print_round(rt, name.as_str(), start, seen)?)
 }
 

@@ -77,17 +77,31 @@ fn time_tags<R: Clock + Print + AllocGlobal>(rt: &R) -> anyhow::Result<()> {
     )?)
 }
 
-fn time_choose<R: Clock + Print + AllocGlobal>(rt: &R) -> anyhow::Result<()> {
-    let tags = tag_list(rt)?;
+/// The ten wheels.
+fn wheels<R: AllocGlobal>(rt: &R) -> anyhow::Result<Vec<Option<WheelName>>> {
     let mut wheels = Vec::with_capacity(rt.alloc(), 10)?;
     for platform in PLATFORMS {
         let name = format!(in rt.alloc(); "numpy-2.2.1-cp312-cp312-{platform}.whl")?;
         wheels.push(Some(WheelName::parse(rt.alloc(), name.as_str())?))?;
     }
+    Ok(wheels)
+}
+
+fn time_choose<R: Clock + Print + AllocGlobal>(rt: &R) -> anyhow::Result<()> {
+    let wheels = wheels(rt)?;
+    let tags = tag_list(rt)?;
+    time_choices(rt, &wheels, &tags)
+}
+
+fn time_choices<R: Clock + Print>(
+    rt: &R,
+    wheels: &[Option<WheelName>],
+    tags: &TagList,
+) -> anyhow::Result<()> {
     let start = Instant::now(rt)?;
     let mut seen = 0u64;
     for _ in 0..ROUNDS {
-        seen = seen.wrapping_add(choose(&wheels, &tags).unwrap_or(0) as u64);
+        seen = seen.wrapping_add(choose(wheels, tags).unwrap_or(0) as u64);
     }
     Ok(print_round(
         rt,

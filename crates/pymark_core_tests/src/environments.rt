@@ -204,6 +204,11 @@ fn groups_are_in_normal_form(rt: HostRuntime) -> Result<(), Fail> {
     check_copied_groups(&rt, &mut environment)
 }
 
+fn check_name<R: Abort>(rt: &R, name: &str, variable: Var) {
+    assert_eq!(rt; Var::of(name), Some(variable));
+    assert_eq!(rt; variable.name(), name);
+}
+
 #[test]
 fn variables_by_name(rt: HostRuntime) {
     for (name, variable) in [
@@ -222,8 +227,7 @@ fn variables_by_name(rt: HostRuntime) {
         ("implementation_name", Var::ImplementationName),
         ("implementation_version", Var::ImplementationVersion),
     ] {
-        assert_eq!(rt; Var::of(name), Some(variable), "{name}");
-        assert_eq!(rt; variable.name(), name);
+        check_name(&rt, name, variable);
     }
 }
 
