@@ -2,9 +2,10 @@
 //! versions, names, markers, requirements and wheels.
 #![tactic(auto)]
 
+use pylock_command::{CommandError, Task, command};
 use pylock_program::{
-    CommandError, Failure, FileFault, Files, FromRead, Query, Task, ToWrite, Work, command, greet,
-    query, read_file, read_inputs, run, words_failure, work_of,
+    Failure, FileFault, Files, FromRead, Query, ToWrite, Work, greet, query, read_file,
+    read_inputs, run, words_failure, work_of,
 };
 use std::process::ExitCode;
 use std::{env, fs};

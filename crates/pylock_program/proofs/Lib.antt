@@ -2,7 +2,6 @@ pub mod LineLemmas
 pub mod EditingLemmas
 pub mod TextLemmas
 pub mod PlainText
-pub mod ClapLemmas
 pub mod ReadLemmas
 pub mod WriteLemmas
 pub mod RunLemmas

@@ -3,6 +3,5 @@ pub mod Text
 pub mod Line
 pub mod Report
 pub mod Reply
-pub mod CommandLine
 pub mod Program
 pub mod Inner

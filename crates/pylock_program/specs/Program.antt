@@ -1,7 +1,7 @@
 -- What the program does with its task, and how it ends.
 use Rattle.std.specs.Prelude.{ℕ, List, codes, if◌then◌else◌}
-use Rattle.pylock_program.specs.declared.command_line.Task.{Task}
-use Rattle.pylock_program.specs.declared.command_line.Task.TheVariants as task
+use Rattle.pylock_command.specs.declared.command_line.Task.{Task}
+use Rattle.pylock_command.specs.declared.command_line.Task.TheVariants as task
 use Rattle.pylock_program.specs.declared.program.Failure.{Failure}
 use Rattle.pylock_program.specs.declared.program.Failure.TheVariants.{NotText, File, Read, Write, Input}
 use Rattle.pylock_program.specs.declared.program.Failure.TheVariants.{Memory}

@@ -1,8 +1,7 @@
-//! The program `pylock` but for its host: the command line, edit lines, printed texts, runs, and
-//! the replies of the one-shot commands, over sources and sinks of bytes.
+//! The program `pylock` but for its words and its host: edit lines, printed texts, runs, and the
+//! replies of the one-shot commands, over sources and sinks of bytes.
 #![tactic(auto)]
 
-mod command_line;
 pub mod laws;
 mod line;
 mod program;
@@ -11,7 +10,6 @@ mod report;
 mod stream;
 mod text;
 
-pub use command_line::{CommandError, Task, command};
 pub use program::{
     FILE_BYTES, Failure, Files, Inputs, Work, greet, read_file, read_inputs, words_failure, work_of,
 };

@@ -8,12 +8,12 @@ ghost use Rattle.pylock_program.specs.Stream.{TakesFront, one_more};
 ghost use Rattle.pylock_program.specs.Stream.Whole.{GivesAll, IsCause};
 ghost use Rattle.pylock_program.specs.declared.program.Failure.TheVariants as failure;
 
-use crate::command_line::Task;
 use crate::reply::queries::Query;
 use crate::report::fault::RunFault;
 use crate::stream::whole::{FileFault, read_whole};
 use crate::stream::writer::write_all;
 use crate::stream::{IoFault, Sink, Source};
+use pylock_command::Task;
 use std::alloc::Global;
 use std::io::ErrorKind;
 

@@ -1,6 +1,6 @@
 //! Words of the command line.
 
-use pylock_program::{CommandError, Task, command};
+use pylock_command::{CommandError, Task, command};
 use std::test::Fail;
 
 #[test]

@@ -2,12 +2,11 @@
 //! each of its growths, that one refused. A test passes where the call answers want of memory and
 //! leaves what it should, or answers just what it answers with ample memory.
 
+use pylock_command::{CommandError, Task, command};
 use pylock_core::{
     Answer, Edit, EditError, Entry, EnvError, Lock, LockError, Session, read_environment,
 };
-use pylock_program::{
-    CommandError, FileFault, Pieces, Query, Room, RunFault, Task, command, query, read_whole, run,
-};
+use pylock_program::{FileFault, Pieces, Query, Room, RunFault, query, read_whole, run};
 
 const LOCK: &str =
     "lock-version = \"1.0\"\ncreated-by = \"t\"\npackages = [{name=\"B_b\", version=\"1.0\", \

@@ -1,7 +1,8 @@
 //! What the program does with its task, over files in memory.
 
+use pylock_command::Task;
 use pylock_program::{
-    Failure, FileFault, Files, Inputs, Pieces, Query, Room, RunFault, Task, Work, greet, read_file,
+    Failure, FileFault, Files, Inputs, Pieces, Query, Room, RunFault, Work, greet, read_file,
     read_inputs, work_of,
 };
 use std::alloc::Global;

@@ -1,7 +1,7 @@
 use Rattle.std.proofs.lemmas.List.{take_rest}
-use Rattle.std.proofs.lemmas.Result.{err_from_is_err_and, on_err_weaker}
-use Rattle.pylock_program.proofs.WriteLemmas.{front_after_all}
-use Rattle.pylock_program.proofs.RunLemmas.{on_err, Fed-more, Fed-front, Fed-fault, Fed-all}
+use Rattle.std.proofs.lemmas.Result.{IfErr-weaker, err_from_is_err_and, on_err_weaker, on_ok_weaker}
+use Rattle.pylock_program.proofs.WriteLemmas.{Pours-all, front_after_all}
+use Rattle.pylock_program.proofs.RunLemmas.{on_err, Fed-more, Fed-front, Fed-fault, Fed-all, feed_fault_from_flush}
 use Rattle.pylock_program.proofs.report.run.feed.Goals as goal
 
 pub returns-in_err-done-clause-front : goal.returns-in_err-done-clause-front
@@ -23,3 +23,18 @@ pub returns-clause-front : goal.returns-clause-front
 returns-clause-front g c =
     let all = Fed-all _ _ _ _ _ _ _ _ c.bytes.invariant c.bytes-test.false in
     on_err_weaker c.flush.result (λ front. front_after_all _ _ _ _ _ all.1 front) c.flush.ensures.front
+
+pub returns-clause-editing : goal.returns-clause-editing
+returns-clause-editing g c =
+    let all = Fed-all _ _ _ _ _ _ _ _ c.bytes.invariant c.bytes-test.false in
+    on_ok_weaker c.flush.result (λ written. all.0) c.flush.ensures.written
+
+pub returns-clause-written : goal.returns-clause-written
+returns-clause-written g c =
+    let all = Fed-all _ _ _ _ _ _ _ _ c.bytes.invariant c.bytes-test.false in
+    on_ok_weaker c.flush.result (λ written. Pours-all _ _ _ _ _ all.1 written) c.flush.ensures.written
+
+pub returns-clause-fault : goal.returns-clause-fault
+returns-clause-fault g c =
+    let all = Fed-all _ _ _ _ _ _ _ _ c.bytes.invariant c.bytes-test.false in
+    IfErr-weaker c.flush.result _ _ (λ fault why. feed_fault_from_flush _ _ _ _ _ _ fault all.1 why) c.flush.ensures.fault

@@ -3,10 +3,10 @@ ghost use Rattle.std.specs.Prelude.{◌≡◌, [], map, false, true, IfOk, IfErr
 ghost use Rattle.clap.specs.Words.{app_of, fault_of, subcommand_of, subcommand_rows_of};
 ghost use Rattle.clap.specs.Words.{with_subcommand};
 ghost use Rattle.clap.specs.declared.builder.command.Command.TheViews.{out-Command as fields_of};
-ghost use Rattle.pylock_program.specs.CommandLine.{IsRefusal, IsTask, is_lacking, pylock_app};
-ghost use Rattle.pylock_program.specs.CommandLine.{match_app, name_app, select_app, version_app};
-ghost use Rattle.pylock_program.specs.CommandLine.{marker_app, requirement_app, wheel_app};
-ghost use Rattle.pylock_program.specs.CommandLine.{with_first, with_further};
+ghost use Rattle.pylock_command.specs.CommandLine.{IsRefusal, IsTask, is_lacking, pylock_app};
+ghost use Rattle.pylock_command.specs.CommandLine.{match_app, name_app, select_app, version_app};
+ghost use Rattle.pylock_command.specs.CommandLine.{marker_app, requirement_app, wheel_app};
+ghost use Rattle.pylock_command.specs.CommandLine.{with_first, with_further};
 
 use clap::error::ErrorKind;
 use clap::{Arg, ArgMatches, Command};
@@ -44,7 +44,7 @@ pub enum CommandError {
 }
 
 impl From<AllocError> for CommandError {
-    ghost use Rattle.pylock_program.specs.declared.command_line.CommandError.TheVariants.{Memory};
+    ghost use Rattle.pylock_command.specs.declared.command_line.CommandError.TheVariants.{Memory};
 
     ghost from_gives = { λ _ refusal. refusal ≡ Memory };
 
@@ -54,7 +54,7 @@ impl From<AllocError> for CommandError {
 }
 
 impl From<clap::Error> for CommandError {
-    ghost use Rattle.pylock_program.specs.CommandLine.{Keeps};
+    ghost use Rattle.pylock_command.specs.CommandLine.{Keeps};
 
     ghost from_gives = { Keeps };
 

@@ -7,9 +7,9 @@ use Rattle.clap.specs.Words.{Row, Text, first_of, first_value, found_of, rows_of
 use Rattle.clap.proofs.OnLiterals.{clap_on_literals}
 use Rattle.clap.specs.Words.{App, HasKind, IsAmong, fault_of, is_simple_and_free, kind_of}
 use Rattle.clap.specs.declared.error.Error.{Error}
-use Rattle.pylock_program.specs.CommandLine.{HasTexts, IsRefusal, Keeps, is_lacking, lacks, lacks_text, pylock_app}
-use Rattle.pylock_program.specs.declared.command_line.CommandError.{CommandError}
-use Rattle.pylock_program.specs.declared.command_line.CommandError.TheVariants.{Refused, Memory}
+use Rattle.pylock_command.specs.CommandLine.{HasTexts, IsRefusal, Keeps, is_lacking, lacks, lacks_text, pylock_app}
+use Rattle.pylock_command.specs.declared.command_line.CommandError.{CommandError}
+use Rattle.pylock_command.specs.declared.command_line.CommandError.TheVariants.{Refused, Memory}
 use Rattle.clap.specs.declared.parser.matches.ArgMatches.{ArgMatches}
 use Rattle.clap.specs.declared.parser.matches.ArgMatches.TheViews.{out-ArgMatches, out-SubCommand}
 use Rattle.clap.specs.declared.parser.matches.SubCommand.{SubCommand}

@@ -1,8 +1,8 @@
 use Rattle.std.proofs.Common.{List, Bor, map}
 use Rattle.std.proofs.lemmas.Result.{err_from_is_err_and}
 use Rattle.clap.specs.Words.{Text}
-use Rattle.pylock_program.proofs.ClapLemmas.{IsRefusal-kept, fault_of-taken}
-use Rattle.pylock_program.proofs.command_line.command.Goals as goal
+use Rattle.pylock_command.proofs.ClapLemmas.{IsRefusal-kept, fault_of-taken}
+use Rattle.pylock_command.proofs.command_line.command.Goals as goal
 
 abbrev texts : List (Bor Text) → List Text
 texts = map (λ w. w.now)

@@ -1,5 +1,5 @@
-use Rattle.pylock_program.proofs.ClapLemmas.{HasTexts-one, HasTexts-two, is_lacking-from, lacks_one, lacks_first, lacks_second}
-use Rattle.pylock_program.proofs.command_line.task_of.Goals as goal
+use Rattle.pylock_command.proofs.ClapLemmas.{HasTexts-one, HasTexts-two, is_lacking-from, lacks_one, lacks_first, lacks_second}
+use Rattle.pylock_command.proofs.command_line.task_of.Goals as goal
 
 pub returns-in_ok-get_str-in-select-2-clause-some : goal.returns-in_ok-get_str-in-select-2-clause-some
 returns-in_ok-get_str-in-select-2-clause-some c =

@@ -7,11 +7,11 @@ use Rattle.clap.specs.Words.{new_rule, subcommand_of, with_rule, with_subcommand
 use Rattle.clap.specs.declared.error.Error.{Error}
 use Rattle.clap.specs.declared.error.kind.ErrorKind.TheVariants.{MissingRequiredArgument}
 use Rattle.clap.specs.declared.error.kind.ErrorKind.TheVariants.{OutOfMemory}
-use Rattle.pylock_program.specs.declared.command_line.CommandError.{CommandError}
-use Rattle.pylock_program.specs.declared.command_line.CommandError.TheVariants.{Refused, Memory}
-use Rattle.pylock_program.specs.declared.command_line.Task.{Task}
-use Rattle.pylock_program.specs.declared.command_line.Task.TheVariants.{Bare, Select, Version, Match, Name}
-use Rattle.pylock_program.specs.declared.command_line.Task.TheVariants.{Marker, Requirement, Wheel}
+use Rattle.pylock_command.specs.declared.command_line.CommandError.{CommandError}
+use Rattle.pylock_command.specs.declared.command_line.CommandError.TheVariants.{Refused, Memory}
+use Rattle.pylock_command.specs.declared.command_line.Task.{Task}
+use Rattle.pylock_command.specs.declared.command_line.Task.TheVariants.{Bare, Select, Version, Match, Name}
+use Rattle.pylock_command.specs.declared.command_line.Task.TheVariants.{Marker, Requirement, Wheel}
 
 -- an argument that stands at its place and has to be there
 abbrev pub place_rule : Text → Rule
