@@ -169,12 +169,12 @@ fn select_command<'a>(alloc: Global) -> Result<Command<'a>, AllocError>
     ensures local { IfOk result (λ c. (fields_of c).has_globals ≡ false) }
 {
     let lock = Arg::new(alloc, "LOCK").required(true).help(LOCK_HELP);
-    let select = Command::new(alloc, "select")
+    let env = Arg::new(alloc, "ENV").required(true).help(ENV_HELP);
+    Command::new(alloc, "select")
         .about(SELECT_ABOUT)
         .after_help(SELECT_LINES)
-        .arg(lock)?;
-    let env = Arg::new(alloc, "ENV").required(true).help(ENV_HELP);
-    select.arg(env)
+        .arg(lock)?
+        .arg(env)
 }
 
 /// `version TEXT`.
@@ -195,12 +195,12 @@ fn match_command<'a>(alloc: Global) -> Result<Command<'a>, AllocError>
     ensures local { IfOk result (λ c. (fields_of c).has_globals ≡ false) }
 {
     let set = Arg::new(alloc, "SET").required(true).help(SET_HELP);
-    let matching = Command::new(alloc, "match")
+    let version = Arg::new(alloc, "VERSION").required(true).help(VERSION_HELP);
+    Command::new(alloc, "match")
         .about(MATCH_ABOUT)
         .after_help(MATCH_REPLY)
-        .arg(set)?;
-    let version = Arg::new(alloc, "VERSION").required(true).help(VERSION_HELP);
-    matching.arg(version)
+        .arg(set)?
+        .arg(version)
 }
 
 /// `name TEXT`.
@@ -221,12 +221,12 @@ fn marker_command<'a>(alloc: Global) -> Result<Command<'a>, AllocError>
     ensures local { IfOk result (λ c. (fields_of c).has_globals ≡ false) }
 {
     let text = Arg::new(alloc, "TEXT").required(true).help(MARKER_HELP);
-    let marker = Command::new(alloc, "marker")
+    let env = Arg::new(alloc, "ENV").required(true).help(ENV_HELP);
+    Command::new(alloc, "marker")
         .about(MARKER_ABOUT)
         .after_help(MARKER_REPLY)
-        .arg(text)?;
-    let env = Arg::new(alloc, "ENV").required(true).help(ENV_HELP);
-    marker.arg(env)
+        .arg(text)?
+        .arg(env)
 }
 
 /// `requirement TEXT`.

@@ -1,6 +1,8 @@
 //! The installation steps from the beginning: each fault, and what comes before what.
 use crate::sessions::{answer, session};
 use pylock_core::{Pick, PickSource, Plan};
+use std::alloc::Global;
+use std::process::Abort;
 use std::test::Fail;
 
 #[test]
@@ -133,9 +135,23 @@ fn entries_are_slated_in_order(rt: HostRuntime) -> Result<(), Fail> {
     Ok(())
 }
 
+/// The answer on a lock of these entries, where the tag is `py3-none-any`.
+fn answer_on(alloc: Global, entries: &str) -> Result<String, Fail> {
+    let lines = format!(in alloc; "packages = [{entries}]")?;
+    match session(alloc, lines.as_str(), "", "\"py3-none-any\"")? {
+        Some(session) => Ok(answer(alloc, &session)?),
+        None => Err(Fail::from("not as it is meant")),
+    }
+}
+
+fn check_answer<R: Abort + AllocGlobal>(rt: &R, entries: &str, wanted: &str) -> Result<(), Fail> {
+    let answer = answer_on(rt.alloc(), entries)?;
+    assert_eq!(rt; answer.as_str(), wanted, "{entries}");
+    Ok(())
+}
+
 #[test]
 fn slated_entries_are_picked_in_order(rt: HostRuntime) -> Result<(), Fail> {
-    let alloc = rt.alloc();
     let cases = [
         (
             "{name = 'a', vcs = {type = 'git', url = 'g', commit-id = 'f'}}",
@@ -172,11 +188,7 @@ fn slated_entries_are_picked_in_order(rt: HostRuntime) -> Result<(), Fail> {
         ),
     ];
     for (entries, wanted) in cases {
-        let lines = format!(in alloc; "packages = [{entries}]")?;
-        let Some(session) = session(alloc, lines.as_str(), "", "\"py3-none-any\"")? else {
-            return Err(Fail::from("not as it is meant"));
-        };
-        assert_eq!(rt; answer(alloc, &session)?.as_str(), wanted, "{lines}");
+        check_answer(&rt, entries, wanted)?;
     }
     Ok(())
 }

@@ -1,6 +1,8 @@
 //! Entries: their refusals in order, and what they tell.
 use crate::locks::with_head;
 use pylock_core::{Entry, EntryError, Lock};
+use pymark_core::Marker;
+use pyver_core::SpecifierSet;
 use std::alloc::{AllocError, Global};
 use std::test::Fail;
 
@@ -123,6 +125,26 @@ fn an_entry_tells_its_keys(rt: HostRuntime) -> Result<(), Fail> {
     Ok(())
 }
 
+/// The marker and the specifier set of each entry, `-` where it has none.
+fn conditions(alloc: Global, entries: &[Entry]) -> Result<String, AllocError> {
+    let mut text = String::new(alloc);
+    for entry in entries {
+        text.push_str(entry.marker().map_or("-", Marker::text))?;
+        text.push_str(" ")?;
+        text.push_str(entry.requires_python().map_or("-", SpecifierSet::text))?;
+        text.push_str(";")?;
+    }
+    Ok(text)
+}
+
+/// The same of the entries of a lock.
+fn lock_conditions(alloc: Global, text: &str) -> Result<String, Fail> {
+    match Lock::read(alloc, text.as_bytes()) {
+        Ok(lock) => Ok(conditions(alloc, lock.entries())?),
+        Err(refusal) => Err(Fail::from(refusal)),
+    }
+}
+
 #[test]
 fn entries_of_equal_conditions_share_them(rt: HostRuntime) -> Result<(), Fail> {
     let alloc = rt.alloc();
@@ -132,19 +154,10 @@ fn entries_of_equal_conditions_share_them(rt: HostRuntime) -> Result<(), Fail> {
         {name=\"b\", marker=\"os_name == 'posix'\", requires-python=\">=3\"}, \
         {name=\"c\", marker=\"os_name == 'nt'\", requires-python=\">=4\"}]\n",
     )?;
-    let lock = Lock::read(alloc, text.as_bytes()).map_err(Fail::from)?;
-    let [a, b, c] = lock.entries() else {
-        return Err(Fail::from("not three entries"));
-    };
-    let cases = [
-        (a, "os_name == 'nt'", ">=3"),
-        (b, "os_name == 'posix'", ">=3"),
-        (c, "os_name == 'nt'", ">=4"),
-    ];
-    for (entry, marker, set) in cases {
-        assert_eq!(rt; entry.marker().ok_or("no marker")?.text(), marker);
-        assert_eq!(rt; entry.requires_python().ok_or("no set")?.text(), set);
-    }
+    assert_eq!(rt;
+        lock_conditions(alloc, text.as_str())?.as_str(),
+        "os_name == 'nt' >=3;os_name == 'posix' >=3;os_name == 'nt' >=4;"
+    );
     Ok(())
 }
 

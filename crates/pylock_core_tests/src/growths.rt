@@ -8,6 +8,7 @@ use pylock_core::{
 use pymark_core::{Marker, Var};
 use pyver_core::{Label, SpecifierSet};
 use std::alloc::Global;
+use std::process::Abort;
 
 /// A lock with every key that takes memory.
 const LOCK: &str = "lock-version = \"1.0\"\n\
@@ -146,27 +147,39 @@ fn has_picks(alloc: Global, session: &Session, count: usize) -> bool {
     }
 }
 
-#[test]
-fn session_edits_are_whole(rt: HostRuntime) {
+/// Whether the session takes another text of a variable, where there is memory for the text.
+fn sets(alloc: Global, session: &mut Session) -> Option<bool> {
+    let text = String::from_str(alloc, "nt").ok()?;
+    let edit = Edit::Set(Var::OsName, Label::new(text));
+    Some(session.edit(edit).is_ok())
+}
+
+/// Whether the session takes a third entry, where there is memory for the entry.
+fn adds(alloc: Global, session: &mut Session) -> Option<bool> {
+    let entry = Entry::read_text(alloc, "{name=\"c\", directory={path=\"c\"}}").ok()?;
+    Some(session.edit(Edit::Add(entry)).is_ok())
+}
+
+fn check_edits<R: Abort + AllocGlobal>(rt: &R, session: &mut Session) {
     let alloc = rt.alloc();
-    let Some(mut session) = session(alloc) else {
+    assert!(rt; has_picks(alloc, session, 2));
+    let Some(is_set) = sets(alloc, session) else {
         return;
     };
-    assert!(rt; has_picks(alloc, &session, 2));
-    let Ok(text) = String::from_str(alloc, "nt") else {
+    assert!(rt; has_picks(alloc, session, if is_set { 0 } else { 2 }));
+    let Some(is_added) = adds(alloc, session) else {
         return;
     };
-    let is_set = session
-        .edit(Edit::Set(Var::OsName, Label::new(text)))
-        .is_ok();
-    assert!(rt; has_picks(alloc, &session, if is_set { 0 } else { 2 }));
-    let Ok(entry) = Entry::read_text(alloc, "{name=\"c\", directory={path=\"c\"}}") else {
-        return;
-    };
-    let is_added = session.edit(Edit::Add(entry)).is_ok();
     let most = if is_added { 3 } else { 2 };
-    assert!(rt; has_picks(alloc, &session, if is_set { 0 } else { most }));
+    assert!(rt; has_picks(alloc, session, if is_set { 0 } else { most }));
     assert!(rt; session.entry(3).is_some() == is_added);
     assert!(rt; session.edit(Edit::Del(1)).is_ok());
     assert!(rt; session.entry(1).is_none());
+}
+
+#[test]
+fn session_edits_are_whole(rt: HostRuntime) {
+    if let Some(mut session) = session(rt.alloc()) {
+        check_edits(&rt, &mut session);
+    }
 }

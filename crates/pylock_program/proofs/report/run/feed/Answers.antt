@@ -37,4 +37,4 @@ returns-clause-written g c =
 pub returns-clause-fault : goal.returns-clause-fault
 returns-clause-fault g c =
     let all = Fed-all _ _ _ _ _ _ _ _ c.bytes.invariant c.bytes-test.false in
-    IfErr-weaker c.flush.result _ _ (λ fault why. feed_fault_from_flush _ _ _ _ _ _ fault all.1 why) c.flush.ensures.fault
+    IfErr-weaker c.flush.result _ _ (λ fault why. feed_fault_from_flush _ _ (g.W.Sink.value c.flush.new.writer) _ _ _ fault all.1 why) c.flush.ensures.fault
