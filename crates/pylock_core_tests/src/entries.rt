@@ -4,6 +4,7 @@ use pylock_core::{Entry, EntryError, Lock};
 use pymark_core::Marker;
 use pyver_core::SpecifierSet;
 use std::alloc::{AllocError, Global};
+use std::process::Abort;
 use std::test::Fail;
 
 /// The refusal as `Debug` writes it, or `ok`.
@@ -69,9 +70,20 @@ fn entries_are_refused_at_their_first_fault(rt: HostRuntime) -> Result<(), Fail>
     Ok(())
 }
 
+fn check_refusal_of_keys<R: Abort + AllocGlobal>(
+    rt: &R,
+    keys: &str,
+    wanted: &str,
+) -> Result<(), AllocError> {
+    let alloc = rt.alloc();
+    let text = format!(in alloc; "{{name = \"a\", {keys}}}")?;
+    let refusal = refusal(alloc, text.as_str())?;
+    assert_eq!(rt; refusal.as_str(), wanted, "{keys}");
+    Ok(())
+}
+
 #[test]
 fn a_source_lies_at_a_url_or_a_path(rt: HostRuntime) -> Result<(), Fail> {
-    let alloc = rt.alloc();
     let cases = [
         ("vcs = {type = 'git', commit-id = 'f'}", "Key(Vcs)"),
         ("vcs = {type = 'git', commit-id = 'f', path = 'p'}", "ok"),
@@ -92,8 +104,7 @@ fn a_source_lies_at_a_url_or_a_path(rt: HostRuntime) -> Result<(), Fail> {
         ("wheels = [{url = 'u', hashes = {md5 = 1}}]", "Key(Wheels)"),
     ];
     for (keys, wanted) in cases {
-        let text = format!(in alloc; "{{name = \"a\", {keys}}}")?;
-        assert_eq!(rt; refusal(alloc, text.as_str())?.as_str(), wanted, "{keys}");
+        check_refusal_of_keys(&rt, keys, wanted)?;
     }
     Ok(())
 }

@@ -1,6 +1,6 @@
 //! Environments: their refusals in order, and what they set.
 use pylock_core::read_environment;
-use pymark_core::Var;
+use pymark_core::{Environment, Var};
 use std::alloc::{AllocError, Global};
 use std::test::Fail;
 
@@ -48,6 +48,33 @@ fn environments_are_refused_at_their_first_fault(rt: HostRuntime) -> Result<(), 
     Ok(())
 }
 
+/// The first of the variables that isn't as it is to be where that one alone is `t`.
+fn wrong_among(environment: &Environment, set: Var, variables: &[Var]) -> Option<&'static str> {
+    for variable in variables.iter().copied() {
+        let wanted = if variable == set { Some("t") } else { None };
+        if environment.get(variable) != wanted {
+            return Some(variable.name());
+        }
+    }
+    None
+}
+
+/// The same of an environment that is read, which has no tags.
+fn first_wrong(
+    alloc: Global,
+    text: &str,
+    set: Var,
+    variables: &[Var],
+) -> Result<Option<&'static str>, Fail> {
+    match read_environment(alloc, text.as_bytes()) {
+        Ok((environment, tags)) if tags.len() == 0 => {
+            Ok(wrong_among(&environment, set, variables))
+        }
+        Ok(_) => Ok(Some("tags")),
+        Err(refusal) => Err(Fail::from(refusal)),
+    }
+}
+
 #[test]
 fn each_variable_is_set(rt: HostRuntime) -> Result<(), Fail> {
     let alloc = rt.alloc();
@@ -67,12 +94,8 @@ fn each_variable_is_set(rt: HostRuntime) -> Result<(), Fail> {
     for variable in variables {
         let name = variable.name();
         let text = format!(in alloc; "{{\"environment\":{{\"{name}\":\"t\"}},\"tags\":[]}}")?;
-        let (environment, tags) = read_environment(alloc, text.as_bytes()).map_err(Fail::from)?;
-        for other in variables {
-            let wanted = if other == variable { "t" } else { "unset" };
-            assert_eq!(rt; environment.get(other).unwrap_or("unset"), wanted);
-        }
-        assert_eq!(rt; tags.len(), 0);
+        let wrong = first_wrong(alloc, text.as_str(), variable, &variables)?;
+        assert_eq!(rt; wrong, None);
     }
     Ok(())
 }

@@ -29,10 +29,13 @@ fn started(alloc: Global, lock: &str) -> Option<Session> {
 
 /// The same after an edit of a variable that the first entry alone reads.
 fn edited(alloc: Global, lock: &str) -> Option<Session> {
-    let mut session = started(alloc, lock)?;
     let text = String::from_str(alloc, "posix").ok()?;
-    session.edit(Edit::Set(Var::OsName, Label::new(text))).ok()?;
-    Some(session)
+    let mut session = started(alloc, lock)?;
+    let edit = Edit::Set(Var::OsName, Label::new(text));
+    if session.edit(edit).is_ok() {
+        return Some(session);
+    }
+    None
 }
 
 /// Whether the answer after that edit is given.

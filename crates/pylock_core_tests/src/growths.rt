@@ -5,8 +5,9 @@ use pylock_core::{
     Answer, Archive, Edit, Entry, EntryError, EnvError, Lock, LockError, Sdist, Session, Vcs,
     read_environment,
 };
-use pymark_core::{Marker, Var};
+use pymark_core::{Environment, Marker, Var};
 use pyver_core::{Label, SpecifierSet};
+use pywheel_core::TagList;
 use std::alloc::Global;
 use std::process::Abort;
 
@@ -25,46 +26,48 @@ const LOCK: &str = "lock-version = \"1.0\"\n\
     {name=\"b\", marker=\"os_name == 'posix'\", requires-python=\">=3.9\", \
     vcs={type=\"git\", commit-id=\"f0\", url=\"u\"}}]\n";
 
+fn check_lock<R: Abort>(rt: &R, lock: &Lock) {
+    let [environment] = lock.environments() else {
+        assert!(rt; false, "not one environment");
+        return;
+    };
+    assert_eq!(rt; environment.text(), "os_name == 'posix'");
+    assert_eq!(rt;
+        lock.requires_python().map(SpecifierSet::text),
+        Some(">=3.9")
+    );
+    assert!(rt; matches!(lock.extras(), [name] if name.as_str() == "a"));
+    assert!(rt; matches!(lock.groups(), [name] if name.as_str() == "dev"));
+    assert!(rt; matches!(lock.default_groups(), [name] if name.as_str() == "main"));
+    let [first, second] = lock.entries() else {
+        assert!(rt; false, "not two entries");
+        return;
+    };
+    assert_eq!(rt; first.name(), "a-a");
+    assert_eq!(rt; first.version(), Some("1"));
+    assert_eq!(rt; second.name(), "b");
+    for entry in [first, second] {
+        assert_eq!(rt;
+            entry.marker().map(Marker::text),
+            Some("os_name == 'posix'")
+        );
+        assert_eq!(rt;
+            entry.requires_python().map(SpecifierSet::text),
+            Some(">=3.9")
+        );
+    }
+    let sdist = first.sdist();
+    assert_eq!(rt; sdist.and_then(Sdist::file_name), Some("a+1.tar.gz"));
+    assert_eq!(rt; sdist.map(Sdist::place), Some("https://h/a%2B1.tar.gz"));
+    assert!(rt; sdist.is_some_and(|sdist| has_one_hash(sdist.hashes())));
+    assert!(rt; matches!(first.wheel_names(), [Some(_)]));
+    assert_eq!(rt; second.vcs().map(Vcs::commit_id), Some("f0"));
+}
+
 #[test]
 fn lock_read(rt: HostRuntime) {
     match Lock::read(rt.alloc(), LOCK.as_bytes()) {
-        Ok(lock) => {
-            let [environment] = lock.environments() else {
-                assert!(rt; false, "not one environment");
-                return;
-            };
-            assert_eq!(rt; environment.text(), "os_name == 'posix'");
-            assert_eq!(rt;
-                lock.requires_python().map(SpecifierSet::text),
-                Some(">=3.9")
-            );
-            assert!(rt; matches!(lock.extras(), [name] if name.as_str() == "a"));
-            assert!(rt; matches!(lock.groups(), [name] if name.as_str() == "dev"));
-            assert!(rt; matches!(lock.default_groups(), [name] if name.as_str() == "main"));
-            let [first, second] = lock.entries() else {
-                assert!(rt; false, "not two entries");
-                return;
-            };
-            assert_eq!(rt; first.name(), "a-a");
-            assert_eq!(rt; first.version(), Some("1"));
-            assert_eq!(rt; second.name(), "b");
-            for entry in [first, second] {
-                assert_eq!(rt;
-                    entry.marker().map(Marker::text),
-                    Some("os_name == 'posix'")
-                );
-                assert_eq!(rt;
-                    entry.requires_python().map(SpecifierSet::text),
-                    Some(">=3.9")
-                );
-            }
-            let sdist = first.sdist();
-            assert_eq!(rt; sdist.and_then(Sdist::file_name), Some("a+1.tar.gz"));
-            assert_eq!(rt; sdist.map(Sdist::place), Some("https://h/a%2B1.tar.gz"));
-            assert!(rt; sdist.is_some_and(|sdist| has_one_hash(sdist.hashes())));
-            assert!(rt; matches!(first.wheel_names(), [Some(_)]));
-            assert_eq!(rt; second.vcs().map(Vcs::commit_id), Some("f0"));
-        }
+        Ok(lock) => check_lock(&rt, &lock),
         Err(error) => assert!(rt; matches!(error, LockError::Memory), "{error:?}"),
     }
 }
@@ -77,6 +80,33 @@ fn has_one_hash(hashes: &[(String, String)]) -> bool {
     }
 }
 
+fn check_entry<R: Abort>(rt: &R, entry: &Entry) {
+    assert_eq!(rt; entry.name(), "a-a");
+    assert_eq!(rt; entry.version(), None);
+    assert_eq!(rt; entry.marker().map(Marker::text), Some("os_name == 'nt'"));
+    assert_eq!(rt; entry.requires_python().map(SpecifierSet::text), Some("<4"));
+    assert_eq!(rt; entry.archive().map(Archive::place), Some("p"));
+    assert!(rt;
+        entry
+            .archive()
+            .is_some_and(|archive| has_one_hash(archive.hashes()))
+    );
+    assert!(rt;
+        entry
+            .directory()
+            .is_some_and(|directory| directory.editable())
+    );
+    assert!(rt; entry.vcs().is_none());
+    assert!(rt; entry.sdist().is_none());
+    assert!(rt; matches!(entry.wheel_names(), [Some(_), None]));
+    let [first, second] = entry.wheels() else {
+        assert!(rt; false, "not two wheels");
+        return;
+    };
+    assert_eq!(rt; first.file_name(), Some("a-1-py3-none-any.whl"));
+    assert_eq!(rt; second.file_name(), Some("n"));
+}
+
 #[test]
 fn entry_read_text(rt: HostRuntime) {
     let text = "{name=\"A_a\", marker=\"os_name == 'nt'\", requires-python=\"<4\", \
@@ -84,34 +114,16 @@ fn entry_read_text(rt: HostRuntime) {
         directory={path=\"d\", editable=true, subdirectory=\"s\"}, \
         wheels=[{url=\"h/a-1-py3-none-any.whl\"}, {name=\"n\", path=\"p\"}]}";
     match Entry::read_text(rt.alloc(), text) {
-        Ok(entry) => {
-            assert_eq!(rt; entry.name(), "a-a");
-            assert_eq!(rt; entry.version(), None);
-            assert_eq!(rt; entry.marker().map(Marker::text), Some("os_name == 'nt'"));
-            assert_eq!(rt; entry.requires_python().map(SpecifierSet::text), Some("<4"));
-            assert_eq!(rt; entry.archive().map(Archive::place), Some("p"));
-            assert!(rt;
-                entry
-                    .archive()
-                    .is_some_and(|archive| has_one_hash(archive.hashes()))
-            );
-            assert!(rt;
-                entry
-                    .directory()
-                    .is_some_and(|directory| directory.editable())
-            );
-            assert!(rt; entry.vcs().is_none());
-            assert!(rt; entry.sdist().is_none());
-            assert!(rt; matches!(entry.wheel_names(), [Some(_), None]));
-            let [first, second] = entry.wheels() else {
-                assert!(rt; false, "not two wheels");
-                return;
-            };
-            assert_eq!(rt; first.file_name(), Some("a-1-py3-none-any.whl"));
-            assert_eq!(rt; second.file_name(), Some("n"));
-        }
+        Ok(entry) => check_entry(&rt, &entry),
         Err(error) => assert!(rt; matches!(error, EntryError::Memory), "{error:?}"),
     }
+}
+
+fn check_environment<R: Abort>(rt: &R, environment: &Environment, tags: &TagList) {
+    assert_eq!(rt; environment.get(Var::OsName), Some("nt"));
+    assert_eq!(rt; environment.get(Var::PythonFullVersion), Some("3.12.0"));
+    assert_eq!(rt; environment.get(Var::SysPlatform), None);
+    assert_eq!(rt; tags.len(), 2);
 }
 
 #[test]
@@ -119,12 +131,7 @@ fn environment_read(rt: HostRuntime) {
     let text = "{\"environment\":{\"os_name\":\"nt\",\"python_full_version\":\"3.12.0\"},\
         \"tags\":[\"py3-none-any\",\"PY3-none-any\",\"py2-none-any\"]}";
     match read_environment(rt.alloc(), text.as_bytes()) {
-        Ok((environment, tags)) => {
-            assert_eq!(rt; environment.get(Var::OsName), Some("nt"));
-            assert_eq!(rt; environment.get(Var::PythonFullVersion), Some("3.12.0"));
-            assert_eq!(rt; environment.get(Var::SysPlatform), None);
-            assert_eq!(rt; tags.len(), 2);
-        }
+        Ok((environment, tags)) => check_environment(&rt, &environment, &tags),
         Err(error) => assert!(rt; matches!(error, EnvError::Memory), "{error:?}"),
     }
 }

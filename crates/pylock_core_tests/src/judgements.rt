@@ -4,6 +4,7 @@ use pylock_core::{Edit, Policy, Session};
 use pymark_core::Var;
 use pywheel_core::TagList;
 use std::alloc::{AllocError, Global};
+use std::process::Abort;
 use std::test::Fail;
 
 /// An edit as a word, a number and a text, and what it judges: the count, and the numbers that the
@@ -28,11 +29,22 @@ fn policy(alloc: Global, name: &str, policy: Policy) -> Result<Edit, AllocError>
     Ok(Edit::Policy(label(alloc, name)?, policy))
 }
 
-/// No tags.
-fn no_tags(alloc: Global) -> Result<Edit, Fail> {
-    match TagList::parse(alloc, &[]) {
+/// The lists of tags that an edit may bring; number 0 is that of no tags.
+pub(super) const TAG_LISTS: [&[&str]; 4] = [
+    &[],
+    &["py3-none-any"],
+    &["cp312-cp312-linux_x86_64", "py3-none-any"],
+    &["py3-none-any", "cp312-cp312-linux_x86_64"],
+];
+
+/// The list of tags of this number.
+fn tags(alloc: Global, number: u32) -> Result<Edit, Fail> {
+    let texts = TAG_LISTS
+        .get(number as usize)
+        .ok_or("no such list of tags")?;
+    match TagList::parse(alloc, texts) {
         Ok(tags) => Ok(Edit::Tags(tags)),
-        Err(_) => Err(Fail::from("no tags are a list of tags")),
+        Err(_) => Err(Fail::from("the list of tags is refused")),
     }
 }
 
@@ -60,15 +72,18 @@ pub(super) fn edit(alloc: Global, word: &str, number: u32, text: &str) -> Result
         "python_full_version" => Ok(set(alloc, Var::PythonFullVersion, text)?),
         "unset os_name" => Ok(Edit::Unset(Var::OsName)),
         "unset sys_platform" => Ok(Edit::Unset(Var::SysPlatform)),
+        "unset python_full_version" => Ok(Edit::Unset(Var::PythonFullVersion)),
         "extra" => Ok(Edit::AddExtra(label(alloc, text)?)),
+        "drop extra" => Ok(Edit::DropExtra(label(alloc, text)?)),
         "group" => Ok(Edit::AddGroup(label(alloc, text)?)),
+        "drop group" => Ok(Edit::DropGroup(label(alloc, text)?)),
         "add" => add(alloc, text),
         "put" => put(alloc, number, text),
         "del" => Ok(Edit::Del(number)),
         "any" => Ok(policy(alloc, text, Policy::Any)?),
         "wheel" => Ok(policy(alloc, text, Policy::Wheel)?),
         "source" => Ok(policy(alloc, text, Policy::Source)?),
-        _ => no_tags(alloc),
+        _ => tags(alloc, number),
     }
 }
 
@@ -163,20 +178,22 @@ fn a_policy_judges_the_entries_of_its_name(rt: HostRuntime) -> Result<(), Fail> 
     Ok(())
 }
 
+fn check_start<R: Abort + AllocGlobal>(rt: &R, session: &mut Session) -> Result<(), Fail> {
+    let alloc = rt.alloc();
+    assert_eq!(rt; session.judged(), [0, 1, 2].as_slice());
+    // a refused edit leaves the numbers
+    let refused = judged(alloc, session, Edit::Del(3))?;
+    assert_eq!(rt; refused.as_str(), "NoEntry");
+    assert_eq!(rt; session.judged(), [0, 1, 2].as_slice());
+    Ok(())
+}
+
 #[test]
 fn a_start_judges_everything(rt: HostRuntime) -> Result<(), Fail> {
-    let alloc = rt.alloc();
     let lines = "packages = [{name=\"a\", directory={path=\"a\"}}, \
         {name=\"b\", directory={path=\"b\"}}]";
-    let Some(mut session) = session(alloc, lines, "", "")? else {
-        return Err(Fail::from("the lock or the environment is refused"));
-    };
-    let start = format!(in alloc; "{:?}", session.judged())?;
-    assert_eq!(rt; start.as_str(), "[0, 1, 2]");
-    // a refused edit leaves the numbers
-    let refused = judged(alloc, &mut session, Edit::Del(3))?;
-    assert_eq!(rt; refused.as_str(), "NoEntry");
-    let kept = format!(in alloc; "{:?}", session.judged())?;
-    assert_eq!(rt; kept.as_str(), "[0, 1, 2]");
-    Ok(())
+    match session(rt.alloc(), lines, "", "")? {
+        Some(mut session) => check_start(&rt, &mut session),
+        None => Err(Fail::from("the lock or the environment is refused")),
+    }
 }

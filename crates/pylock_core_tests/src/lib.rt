@@ -12,6 +12,8 @@ mod growth_counts;
 #[cfg(test)]
 mod growths;
 #[cfg(test)]
+mod histories;
+#[cfg(test)]
 mod judgements;
 #[cfg(test)]
 mod keys;

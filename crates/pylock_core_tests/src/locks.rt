@@ -1,5 +1,6 @@
 //! Locks: their refusals in order, and the readers of what they say of themselves.
 use pylock_core::{Lock, LockError};
+use pyver_core::SpecifierSet;
 use std::alloc::{AllocError, Global};
 use std::test::Fail;
 
@@ -26,14 +27,13 @@ pub(super) fn refusal(alloc: Global, bytes: &[u8]) -> Result<String, AllocError>
     }
 }
 
-/// The names with a comma behind each.
-fn joined(alloc: Global, names: &[String]) -> Result<String, Fail> {
-    let mut text = String::new(alloc);
+/// Adds the names with a comma behind each.
+fn push_joined(text: &mut String, names: &[String]) -> Result<(), AllocError> {
     for name in names {
         text.push_str(name.as_str())?;
         text.push(',')?;
     }
-    Ok(text)
+    Ok(())
 }
 
 #[test]
@@ -141,6 +141,30 @@ fn a_lock_has_at_most_100_000_entries(rt: HostRuntime) -> Result<(), Fail> {
     Ok(())
 }
 
+/// What the lock tells of its head, each key on a line of its own.
+fn head(alloc: Global, lock: &Lock) -> Result<String, Fail> {
+    let mut text = String::new(alloc);
+    for environment in lock.environments() {
+        text.push_str(environment.text())?;
+        text.push(';')?;
+    }
+    let set = lock.requires_python().map_or("-", SpecifierSet::text);
+    write!(text, "\n{set}\n")?;
+    for names in [lock.extras(), lock.groups(), lock.default_groups()] {
+        push_joined(&mut text, names)?;
+        text.push('\n')?;
+    }
+    Ok(text)
+}
+
+/// The same of a lock that is read, and how many entries it has.
+fn head_of(alloc: Global, text: &str) -> Result<(String, usize), Fail> {
+    match Lock::read(alloc, text.as_bytes()) {
+        Ok(lock) => Ok((head(alloc, &lock)?, lock.entries().len())),
+        Err(refusal) => Err(Fail::from(refusal)),
+    }
+}
+
 #[test]
 fn a_lock_tells_its_head(rt: HostRuntime) -> Result<(), Fail> {
     let alloc = rt.alloc();
@@ -152,17 +176,10 @@ fn a_lock_tells_its_head(rt: HostRuntime) -> Result<(), Fail> {
         dependency-groups = [\"dev\"]\n\
         default-groups = [\"Main\", \"dev\"]\n",
     )?;
-    let lock = Lock::read(alloc, text.as_bytes()).map_err(Fail::from)?;
-    let [first, second] = lock.environments() else {
-        return Err(Fail::from("not two environments"));
-    };
-    assert_eq!(rt; first.text(), "os_name == 'nt'");
-    assert_eq!(rt; second.text(), "os_name == 'posix'");
-    assert_eq!(rt; lock.requires_python().ok_or("no set")?.text(), ">=3.9");
-    assert_eq!(rt; joined(alloc, lock.extras())?.as_str(), "b-b,a,c,");
-    assert_eq!(rt; joined(alloc, lock.groups())?.as_str(), "dev,");
-    assert_eq!(rt; joined(alloc, lock.default_groups())?.as_str(), "main,dev,");
-    assert!(rt; lock.entries().is_empty());
+    let (head, entries) = head_of(alloc, text.as_str())?;
+    let wanted = "os_name == 'nt';os_name == 'posix';\n>=3.9\nb-b,a,c,\ndev,\nmain,dev,\n";
+    assert_eq!(rt; head.as_str(), wanted);
+    assert_eq!(rt; entries, 0);
     Ok(())
 }
 

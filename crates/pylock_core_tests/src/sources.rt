@@ -134,6 +134,15 @@ fn sdist_keys(
     Ok(keys)
 }
 
+/// The file name of the sdist of an entry with these keys.
+fn sdist_file_name(alloc: Global, keys: &str) -> Result<String, Fail> {
+    let entry = entry_with(alloc, keys)?;
+    match entry.sdist() {
+        Some(sdist) => Ok(String::from_str(alloc, sdist.file_name().unwrap_or("none"))?),
+        None => Err(Fail::from("no sdist")),
+    }
+}
+
 #[test]
 fn file_names_come_from_name_path_or_url(rt: HostRuntime) -> Result<(), Fail> {
     let alloc = rt.alloc();
@@ -151,9 +160,8 @@ fn file_names_come_from_name_path_or_url(rt: HostRuntime) -> Result<(), Fail> {
     ];
     for (name, path, url, wanted) in cases {
         let keys = sdist_keys(alloc, name, path, url)?;
-        let entry = entry_with(alloc, keys.as_str())?;
-        let found = entry.sdist().ok_or("no sdist")?.file_name();
-        assert_eq!(rt; found.unwrap_or("none"), wanted.unwrap_or("none"));
+        let found = sdist_file_name(alloc, keys.as_str())?;
+        assert_eq!(rt; found.as_str(), wanted.unwrap_or("none"));
     }
     Ok(())
 }
