@@ -5,9 +5,38 @@ use std::alloc::Global;
 use std::process::Abort;
 use std::test::Fail;
 
+/// The answer on a lock with these lines in an environment with these members and tags.
+fn answer_on(alloc: Global, lines: &str, members: &str, tags: &str) -> Result<String, Fail> {
+    match session(alloc, lines, members, tags)? {
+        Some(session) => answer(alloc, &session).map_err(Fail::from),
+        None => Err(Fail::from("the lock or the environment is refused")),
+    }
+}
+
+fn check_head<R: Abort + AllocGlobal>(
+    rt: &R,
+    lines: &str,
+    members: &str,
+    wanted: &str,
+) -> Result<(), Fail> {
+    let members = members.replace(rt.alloc(), "'", "\"")?;
+    let answer = answer_on(rt.alloc(), lines, members.as_str(), "")?;
+    assert_eq!(rt; answer.as_str(), wanted, "{lines}");
+    Ok(())
+}
+
+/// The answer on these entries on `posix`, where the tag is `py3-none-any`.
+fn check_entries<R: Abort + AllocGlobal>(rt: &R, entries: &str, wanted: &str) -> Result<(), Fail> {
+    let alloc = rt.alloc();
+    let lines = format!(in alloc; "packages = [{entries}]")?;
+    let members = "\"os_name\":\"posix\"";
+    let answer = answer_on(alloc, lines.as_str(), members, "\"py3-none-any\"")?;
+    assert_eq!(rt; answer.as_str(), wanted, "{entries}");
+    Ok(())
+}
+
 #[test]
 fn the_head_comes_first(rt: HostRuntime) -> Result<(), Fail> {
-    let alloc = rt.alloc();
     let cases = [
         ("", "", "plan"),
         ("environments = []", "", "plan"),
@@ -59,11 +88,7 @@ fn the_head_comes_first(rt: HostRuntime) -> Result<(), Fail> {
         ),
     ];
     for (lines, members, wanted) in cases {
-        let members = members.replace(alloc, "'", "\"")?;
-        let Some(session) = session(alloc, lines, members.as_str(), "")? else {
-            return Err(Fail::from("not as it is meant"));
-        };
-        assert_eq!(rt; answer(alloc, &session)?.as_str(), wanted, "{lines}");
+        check_head(&rt, lines, members, wanted)?;
     }
     Ok(())
 }
@@ -126,27 +151,8 @@ fn entries_are_slated_in_order(rt: HostRuntime) -> Result<(), Fail> {
     ];
     for (entries, wanted) in cases {
         let entries = entries.replace(alloc, "D", directory)?;
-        let lines = format!(in alloc; "packages = [{entries}]")?;
-        let Some(session) = session(alloc, lines.as_str(), "\"os_name\":\"posix\"", "")? else {
-            return Err(Fail::from("not as it is meant"));
-        };
-        assert_eq!(rt; answer(alloc, &session)?.as_str(), wanted, "{lines}");
+        check_entries(&rt, entries.as_str(), wanted)?;
     }
-    Ok(())
-}
-
-/// The answer on a lock of these entries, where the tag is `py3-none-any`.
-fn answer_on(alloc: Global, entries: &str) -> Result<String, Fail> {
-    let lines = format!(in alloc; "packages = [{entries}]")?;
-    match session(alloc, lines.as_str(), "", "\"py3-none-any\"")? {
-        Some(session) => Ok(answer(alloc, &session)?),
-        None => Err(Fail::from("not as it is meant")),
-    }
-}
-
-fn check_answer<R: Abort + AllocGlobal>(rt: &R, entries: &str, wanted: &str) -> Result<(), Fail> {
-    let answer = answer_on(rt.alloc(), entries)?;
-    assert_eq!(rt; answer.as_str(), wanted, "{entries}");
     Ok(())
 }
 
@@ -188,7 +194,7 @@ fn slated_entries_are_picked_in_order(rt: HostRuntime) -> Result<(), Fail> {
         ),
     ];
     for (entries, wanted) in cases {
-        check_answer(&rt, entries, wanted)?;
+        check_entries(&rt, entries, wanted)?;
     }
     Ok(())
 }

@@ -109,30 +109,45 @@ fn a_source_lies_at_a_url_or_a_path(rt: HostRuntime) -> Result<(), Fail> {
     Ok(())
 }
 
-#[test]
-fn an_entry_tells_its_keys(rt: HostRuntime) -> Result<(), Fail> {
-    let alloc = rt.alloc();
-    let text = "{name = \"B_b\", version = \"1.0.x\", marker = \" os_name == 'nt' \", \
-        requires-python = \">= 3.9\"}";
-    let entry = Entry::read_text(alloc, text).map_err(Fail::from)?;
+fn check_keys<R: Abort>(rt: &R, entry: &Entry) {
     assert_eq!(rt; entry.name(), "b-b");
-    assert_eq!(rt; entry.version().ok_or("no version")?, "1.0.x");
+    assert_eq!(rt; entry.version(), Some("1.0.x"));
+    assert_eq!(rt; entry.marker().map(Marker::text), Some("os_name == 'nt'"));
     assert_eq!(rt;
-        entry.marker().ok_or("no marker")?.text(),
-        "os_name == 'nt'"
+        entry.requires_python().map(SpecifierSet::text),
+        Some(">=3.9")
     );
-    assert_eq!(rt; entry.requires_python().ok_or("no set")?.text(), ">=3.9");
+}
+
+fn check_no_source<R: Abort>(rt: &R, entry: &Entry) {
     assert!(rt; entry.vcs().is_none());
     assert!(rt; entry.directory().is_none());
     assert!(rt; entry.archive().is_none());
     assert!(rt; entry.sdist().is_none());
     assert!(rt; entry.wheels().is_empty());
     assert!(rt; entry.wheel_names().is_empty());
+}
 
-    let bare = Entry::read_text(alloc, "{name = \"a\"}").map_err(Fail::from)?;
-    assert!(rt; bare.version().is_none());
-    assert!(rt; bare.marker().is_none());
-    assert!(rt; bare.requires_python().is_none());
+fn check_bare<R: Abort>(rt: &R, entry: &Entry) {
+    assert!(rt; entry.version().is_none());
+    assert!(rt; entry.marker().is_none());
+    assert!(rt; entry.requires_python().is_none());
+}
+
+#[test]
+fn an_entry_tells_its_keys(rt: HostRuntime) -> Result<(), EntryError> {
+    let text = "{name = \"B_b\", version = \"1.0.x\", marker = \" os_name == 'nt' \", \
+        requires-python = \">= 3.9\"}";
+    let entry = Entry::read_text(rt.alloc(), text)?;
+    check_keys(&rt, &entry);
+    check_no_source(&rt, &entry);
+    Ok(())
+}
+
+#[test]
+fn an_entry_may_have_a_name_alone(rt: HostRuntime) -> Result<(), EntryError> {
+    let bare = Entry::read_text(rt.alloc(), "{name = \"a\"}")?;
+    check_bare(&rt, &bare);
     Ok(())
 }
 
