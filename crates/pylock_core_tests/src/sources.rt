@@ -1,9 +1,12 @@
 //! Sources: each of their readers, and the file names of sdists and wheels.
 use crate::entries::entry_with;
+use pylock_core::{Archive, Directory, Sdist, Vcs, WheelFile};
+use pywheel_core::WheelName;
 use std::alloc::{AllocError, Global};
+use std::process::Abort;
 use std::test::Fail;
 
-fn hashes_text(alloc: Global, hashes: &[(String, String)]) -> Result<String, Fail> {
+fn hashes_text(alloc: Global, hashes: &[(String, String)]) -> Result<String, AllocError> {
     let mut text = String::new(alloc);
     for (algorithm, value) in hashes {
         write!(text, "{algorithm}={value},")?;
@@ -11,109 +14,136 @@ fn hashes_text(alloc: Global, hashes: &[(String, String)]) -> Result<String, Fai
     Ok(text)
 }
 
-#[test]
-fn a_checkout_tells_its_keys(rt: HostRuntime) -> Result<(), Fail> {
-    let alloc = rt.alloc();
-    let entry = entry_with(
-        alloc,
-        "vcs = {type = \"git\", commit-id = \"f0\", url = \"u\", path = \"p\", \
-        subdirectory = \"s\"}",
-    )?;
-    let vcs = entry.vcs().ok_or("no vcs")?;
+/// Whether the hashes read as this text.
+fn are(alloc: Global, hashes: &[(String, String)], wanted: &str) -> bool {
+    match hashes_text(alloc, hashes) {
+        Ok(text) => text.as_str() == wanted,
+        Err(_) => false,
+    }
+}
+
+fn check_checkout<R: Abort>(rt: &R, vcs: &Vcs) {
     assert_eq!(rt; vcs.kind(), "git");
     assert_eq!(rt; vcs.commit_id(), "f0");
-    assert_eq!(rt; vcs.url().ok_or("no url")?, "u");
-    assert_eq!(rt; vcs.path().ok_or("no path")?, "p");
+    assert_eq!(rt; vcs.url(), Some("u"));
+    assert_eq!(rt; vcs.path(), Some("p"));
     assert_eq!(rt; vcs.place(), "p");
-    assert_eq!(rt; vcs.subdirectory().ok_or("no subdirectory")?, "s");
+    assert_eq!(rt; vcs.subdirectory(), Some("s"));
+}
+
+#[test]
+fn a_checkout_tells_its_keys(rt: HostRuntime) -> Result<(), Fail> {
+    let keys = "vcs = {type = \"git\", commit-id = \"f0\", url = \"u\", path = \"p\", \
+        subdirectory = \"s\"}";
+    let entry = entry_with(rt.alloc(), keys)?;
+    match entry.vcs() {
+        Some(vcs) => check_checkout(&rt, vcs),
+        None => assert!(rt; false, "no vcs"),
+    }
     Ok(())
+}
+
+fn check_directory<R: Abort>(
+    rt: &R,
+    directory: &Directory,
+    path: &str,
+    editable: bool,
+    subdirectory: Option<&str>,
+) {
+    assert_eq!(rt; directory.path(), path);
+    assert_eq!(rt; directory.place(), path);
+    assert_eq!(rt; directory.editable(), editable);
+    assert_eq!(rt; directory.subdirectory(), subdirectory);
 }
 
 #[test]
 fn a_directory_tells_its_keys(rt: HostRuntime) -> Result<(), Fail> {
-    let alloc = rt.alloc();
-    let entry = entry_with(
-        alloc,
-        "directory = {path = \"p\", editable = true, subdirectory = \"s\"}",
-    )?;
-    let directory = entry.directory().ok_or("no directory")?;
-    assert_eq!(rt; directory.path(), "p");
-    assert_eq!(rt; directory.place(), "p");
-    assert!(rt; directory.editable());
-    assert_eq!(rt; directory.subdirectory().ok_or("no subdirectory")?, "s");
-
-    let plain = entry_with(alloc, "directory = {path = \"\"}")?;
-    let directory = plain.directory().ok_or("no directory")?;
-    assert_eq!(rt; directory.place(), "");
-    assert!(rt; !directory.editable());
-    assert!(rt; directory.subdirectory().is_none());
+    for (keys, path, editable, subdirectory) in [
+        (
+            "directory = {path = \"p\", editable = true, subdirectory = \"s\"}",
+            "p",
+            true,
+            Some("s"),
+        ),
+        ("directory = {path = \"\"}", "", false, None),
+    ] {
+        let entry = entry_with(rt.alloc(), keys)?;
+        match entry.directory() {
+            Some(directory) => check_directory(&rt, directory, path, editable, subdirectory),
+            None => assert!(rt; false, "no directory"),
+        }
+    }
     Ok(())
+}
+
+fn check_archive<R: Abort + AllocGlobal>(rt: &R, archive: &Archive) {
+    assert_eq!(rt; archive.url(), Some("u"));
+    assert_eq!(rt; archive.path(), None);
+    assert_eq!(rt; archive.place(), "u");
+    assert!(rt; are(rt.alloc(), archive.hashes(), "sha256=aa,sha512=bb,"));
+    assert_eq!(rt; archive.subdirectory(), Some("s"));
 }
 
 #[test]
 fn an_archive_tells_its_keys(rt: HostRuntime) -> Result<(), Fail> {
-    let alloc = rt.alloc();
-    let entry = entry_with(
-        alloc,
-        "archive = {url = \"u\", hashes = {sha512 = \"bb\", sha256 = \"aa\"}, \
-        subdirectory = \"s\"}",
-    )?;
-    let archive = entry.archive().ok_or("no archive")?;
-    assert_eq!(rt; archive.url().ok_or("no url")?, "u");
-    assert!(rt; archive.path().is_none());
-    assert_eq!(rt; archive.place(), "u");
-    assert_eq!(rt;
-        hashes_text(alloc, archive.hashes())?.as_str(),
-        "sha256=aa,sha512=bb,"
-    );
-    assert_eq!(rt; archive.subdirectory().ok_or("no subdirectory")?, "s");
+    let keys = "archive = {url = \"u\", hashes = {sha512 = \"bb\", sha256 = \"aa\"}, \
+        subdirectory = \"s\"}";
+    let entry = entry_with(rt.alloc(), keys)?;
+    match entry.archive() {
+        Some(archive) => check_archive(&rt, archive),
+        None => assert!(rt; false, "no archive"),
+    }
     Ok(())
+}
+
+fn check_sdist<R: Abort + AllocGlobal>(rt: &R, sdist: &Sdist) {
+    assert_eq!(rt; sdist.name(), Some("n"));
+    assert_eq!(rt; sdist.url(), None);
+    assert_eq!(rt; sdist.path(), Some("p"));
+    assert_eq!(rt; sdist.place(), "p");
+    assert_eq!(rt; sdist.file_name(), Some("n"));
+    assert!(rt; are(rt.alloc(), sdist.hashes(), "sha256=00,"));
 }
 
 #[test]
 fn an_sdist_tells_its_keys(rt: HostRuntime) -> Result<(), Fail> {
-    let alloc = rt.alloc();
-    let entry = entry_with(
-        alloc,
-        "sdist = {name = \"n\", path = \"p\", hashes = {sha256 = \"00\"}}",
-    )?;
-    let sdist = entry.sdist().ok_or("no sdist")?;
-    assert_eq!(rt; sdist.name().ok_or("no name")?, "n");
-    assert!(rt; sdist.url().is_none());
-    assert_eq!(rt; sdist.path().ok_or("no path")?, "p");
-    assert_eq!(rt; sdist.place(), "p");
-    assert_eq!(rt; sdist.file_name().ok_or("no file name")?, "n");
-    assert_eq!(rt; hashes_text(alloc, sdist.hashes())?.as_str(), "sha256=00,");
+    let keys = "sdist = {name = \"n\", path = \"p\", hashes = {sha256 = \"00\"}}";
+    let entry = entry_with(rt.alloc(), keys)?;
+    match entry.sdist() {
+        Some(sdist) => check_sdist(&rt, sdist),
+        None => assert!(rt; false, "no sdist"),
+    }
     Ok(())
+}
+
+fn check_wheels<R: Abort + AllocGlobal>(rt: &R, wheels: &[WheelFile]) {
+    let [first, second, third] = wheels else {
+        assert!(rt; false, "not three wheels");
+        return;
+    };
+    assert_eq!(rt; first.place(), "https://h/a-1-py3-none-any.whl");
+    assert_eq!(rt; first.file_name(), Some("a-1-py3-none-any.whl"));
+    assert!(rt; are(rt.alloc(), first.hashes(), "sha256=aa,sha512=bb,"));
+    assert_eq!(rt; second.file_name(), Some("a.zip"));
+    assert_eq!(rt; third.file_name(), None);
+}
+
+fn check_wheel_names<R: Abort>(rt: &R, names: &[Option<WheelName>]) {
+    let [Some(name), None, None] = names else {
+        assert!(rt; false, "not one name of a wheel");
+        return;
+    };
+    assert_eq!(rt; name.name(), "a");
 }
 
 #[test]
 fn wheels_tell_their_keys(rt: HostRuntime) -> Result<(), Fail> {
-    let alloc = rt.alloc();
-    let entry = entry_with(
-        alloc,
-        "wheels = [{url = \"https://h/a-1-py3-none-any.whl\", \
+    let keys = "wheels = [{url = \"https://h/a-1-py3-none-any.whl\", \
         hashes = {sha512 = \"bb\", sha256 = \"aa\"}}, \
-        {path = \"w/a.zip\"}, {url = \"https://h/\"}]",
-    )?;
-    let [first, second, third] = entry.wheels() else {
-        return Err(Fail::from("not three wheels"));
-    };
-    assert_eq!(rt; first.place(), "https://h/a-1-py3-none-any.whl");
-    assert_eq!(rt;
-        first.file_name().ok_or("no file name")?,
-        "a-1-py3-none-any.whl"
-    );
-    assert_eq!(rt;
-        hashes_text(alloc, first.hashes())?.as_str(),
-        "sha256=aa,sha512=bb,"
-    );
-    assert_eq!(rt; second.file_name().ok_or("no file name")?, "a.zip");
-    assert!(rt; third.file_name().is_none());
-    let [Some(name), None, None] = entry.wheel_names() else {
-        return Err(Fail::from("not one name of a wheel"));
-    };
-    assert_eq!(rt; name.name(), "a");
+        {path = \"w/a.zip\"}, {url = \"https://h/\"}]";
+    let entry = entry_with(rt.alloc(), keys)?;
+    check_wheels(&rt, entry.wheels());
+    check_wheel_names(&rt, entry.wheel_names());
     Ok(())
 }
 
