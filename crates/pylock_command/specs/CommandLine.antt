@@ -10,7 +10,8 @@ use Rattle.clap.specs.declared.error.kind.ErrorKind.TheVariants.{OutOfMemory}
 use Rattle.pylock_command.specs.declared.command_line.CommandError.{CommandError}
 use Rattle.pylock_command.specs.declared.command_line.CommandError.TheVariants.{Refused, Memory}
 use Rattle.pylock_command.specs.declared.command_line.Task.{Task}
-use Rattle.pylock_command.specs.declared.command_line.Task.TheVariants.{Bare, Select, Version, Match, Name}
+use Rattle.pylock_command.specs.declared.command_line.Task.TheVariants.{Bare, Select, Version}
+use Rattle.pylock_command.specs.declared.command_line.Task.TheVariants.{Match, Name}
 use Rattle.pylock_command.specs.declared.command_line.Task.TheVariants.{Marker, Requirement, Wheel}
 
 -- an argument that stands at its place and has to be there

@@ -3,7 +3,8 @@ use Rattle.std.specs.Prelude.{ℕ, List, codes, if◌then◌else◌}
 use Rattle.pylock_command.specs.declared.command_line.Task.{Task}
 use Rattle.pylock_command.specs.declared.command_line.Task.TheVariants as task
 use Rattle.pylock_program.specs.declared.program.Failure.{Failure}
-use Rattle.pylock_program.specs.declared.program.Failure.TheVariants.{NotText, File, Read, Write, Input}
+use Rattle.pylock_program.specs.declared.program.Failure.TheVariants.{NotText, File, Read, Write}
+use Rattle.pylock_program.specs.declared.program.Failure.TheVariants.{Input}
 use Rattle.pylock_program.specs.declared.program.Failure.TheVariants.{Memory}
 use Rattle.pylock_program.specs.declared.program.Work.{Work}
 use Rattle.pylock_program.specs.declared.program.Work.TheVariants.{Greet, Select, Judge, Ask}

@@ -4,8 +4,10 @@ ghost use Rattle.std.specs.Prelude.{◌≡◌, IfOk};
 ghost use Rattle.std.specs.Option.{option_copied};
 ghost use Rattle.pyver_core.specs.Agreement.{Gives};
 ghost use Rattle.pylock_program.specs.Line.Commands.{variable_in, entry_in, policy_in, name_after};
-ghost use Rattle.pylock_program.specs.Line.Commands.{show_after, set_after, unset_after, add_extra_after};
-ghost use Rattle.pylock_program.specs.Line.Commands.{drop_extra_after, add_group_after, drop_group_after};
+ghost use Rattle.pylock_program.specs.Line.Commands.{show_after, set_after, unset_after};
+ghost use Rattle.pylock_program.specs.Line.Commands.{add_extra_after};
+ghost use Rattle.pylock_program.specs.Line.Commands.{drop_extra_after, add_group_after};
+ghost use Rattle.pylock_program.specs.Line.Commands.{drop_group_after};
 ghost use Rattle.pylock_program.specs.Line.Commands.{tags_after, add_after, put_after, del_after};
 ghost use Rattle.pylock_program.specs.Line.Commands.{policy_after, edit_after, command_after};
 

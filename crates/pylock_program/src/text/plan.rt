@@ -6,8 +6,10 @@ ghost use Rattle.pylock_core.specs.Inner.Strings.{text_pairs};
 ghost use Rattle.pylock_core.specs.declared.answer.Answer.TheVariants.{Plan};
 ghost use Rattle.pylock_program.specs.Inner.Hashes.{escaped_hash, more_hashes};
 ghost use Rattle.pylock_program.specs.Text.Field.{field, tabbed};
-ghost use Rattle.pylock_program.specs.Text.Plan.{hashes_text, revision, vcs_fields, directory_fields};
-ghost use Rattle.pylock_program.specs.Text.Plan.{archive_fields, file_fields, source_fields, fault_word};
+ghost use Rattle.pylock_program.specs.Text.Plan.{hashes_text, revision, vcs_fields};
+ghost use Rattle.pylock_program.specs.Text.Plan.{directory_fields};
+ghost use Rattle.pylock_program.specs.Text.Plan.{archive_fields, file_fields, source_fields};
+ghost use Rattle.pylock_program.specs.Text.Plan.{fault_word};
 ghost use Rattle.pylock_program.specs.Text.Plan.{plan_line, pick_text, answer_text, fault_text};
 
 use crate::text::field::{push_decimal, push_escaped, push_last_word, push_next};

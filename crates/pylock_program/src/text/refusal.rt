@@ -2,7 +2,8 @@
 
 ghost use Rattle.std.specs.Prelude.{◌≡◌, ◌++◌, ◌∷◌, [], OnOk};
 ghost use Rattle.pylock_program.specs.Text.Field.{tabbed};
-ghost use Rattle.pylock_program.specs.Text.Refusal.{head_word, key_word, entry_word, lock_words, lock_text};
+ghost use Rattle.pylock_program.specs.Text.Refusal.{head_word, key_word, entry_word, lock_words};
+ghost use Rattle.pylock_program.specs.Text.Refusal.{lock_text};
 ghost use Rattle.pylock_program.specs.Text.Refusal.{environment_words, environment_text};
 ghost use Rattle.pylock_program.specs.Text.Refusal.{refused_text, refusal_text};
 ghost use Rattle.pylock_core.specs.declared.error.LockError.TheVariants.{Head, Entry};
