@@ -49,7 +49,12 @@ impl Model for Session {
 
     ghost Value = { SessionValue };
 
-    ghost coded = { Prim.hlevel (codes, environment_code, marker_code, map_of.code {R = slice_cmp nat_cmp} (coded_list coded_ℕ) policy.the_row.coded) };
+    ghost coded = { Prim.hlevel (
+      codes,
+      environment_code,
+      marker_code,
+      map_of.code {R = slice_cmp nat_cmp} (coded_list coded_ℕ) policy.the_row.coded,
+    ) };
 
     ghost use Rattle.pylock_core.specs.Inner.Parts.{IsSession, shown};
 
