@@ -12,8 +12,8 @@ use Rattle.pymark_core.specs.declared.marker.keys.Key.{Key}
 use Rattle.pymark_core.specs.declared.marker.keys.Key.TheVariants.{Of, Extras, Groups}
 use Rattle.pymark_core.specs.declared.variable.Var.TheVariants as var
 use Rattle.pywheel_core.specs.Tag.{TagValue}
-use Rattle.pylock_core.specs.Entry.{EntryValue}
-use Rattle.pylock_core.specs.Lock.{HeadValue}
+use Rattle.pylock_readers.specs.Entry.{EntryValue}
+use Rattle.pylock_readers.specs.Lock.{HeadValue}
 use Rattle.pylock_core.specs.Inner.Again.{AllStand, AllWithin, DifferAt, after_head, fresh_row, has_head, row_anew, rows_anew, stored}
 use Rattle.pylock_core.specs.Inner.Index.{Rises, list_at}
 use Rattle.pylock_core.specs.Inner.Names.{members_under, number_in, policy_at}

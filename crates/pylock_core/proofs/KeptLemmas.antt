@@ -2,7 +2,7 @@
 use Rattle.std.proofs.Common.{◌≡◌, ℕ, ◌+◌, ◌∙◌, List, [], ◌∷◌, map, Option, Some, None, ap, sym, refl}
 use Rattle.pymark_core.specs.Environment.{EnvironmentValue}
 use Rattle.pywheel_core.specs.Tag.{TagValue}
-use Rattle.pylock_core.specs.Entry.{EntryValue}
+use Rattle.pylock_readers.specs.Entry.{EntryValue}
 use Rattle.pylock_core.specs.Inner.Names.{policies_in}
 use Rattle.pylock_core.specs.Inner.Parts.{IsJudged, IsNamed, IsSession, OfRows, shown, state_of, verdict_in}
 use Rattle.pylock_core.specs.Inner.Rows.{in_rows}

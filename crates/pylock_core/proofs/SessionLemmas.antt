@@ -7,7 +7,7 @@ use Rattle.std.proofs.lemmas.List.{get_or_default, map-append}
 use Rattle.pyver_core.specs.Options.{either}
 use Rattle.pymark_core.specs.Environment.{EnvironmentValue}
 use Rattle.pywheel_core.specs.Tag.{TagValue}
-use Rattle.pylock_core.specs.Entry.{EntryValue, FileValue, VcsValue, DirectoryValue, ArchiveValue}
+use Rattle.pylock_readers.specs.Entry.{EntryValue, FileValue, VcsValue, DirectoryValue, ArchiveValue}
 use Rattle.pylock_core.specs.Inner.Names.{IsNames, members_of, number_in, policies_in, policy_at}
 use Rattle.pylock_core.specs.Inner.Parts.{IsJudged, IsNamed, IsSession, OfBoth, OfRows, shown, sources_of, state_of}
 use Rattle.pylock_core.specs.Inner.Pass.{NamesBelow, checked_standing, conflict_among, file_source, is_number, pick_rows, picks_after_rows, put_row, row_source, slate_rows, source_from}

@@ -6,5 +6,3 @@ pub mod Parts
 pub mod Pass
 pub mod Progress
 pub mod Rows
-pub mod Strings
-pub mod Shared

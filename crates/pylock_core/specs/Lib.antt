@@ -1,6 +1,2 @@
-pub mod Text
-pub mod Entry
 pub mod Session
-pub mod Lock
-pub mod Environment
 pub mod Inner

@@ -3,7 +3,7 @@
 ghost use Rattle.std.specs.Prelude.{◌≡◌};
 ghost use Rattle.pylock_core.specs.declared.edit.EditError.TheVariants.{Memory};
 
-use crate::entry::Entry;
+use pylock_readers::Entry;
 use pymark_core::Var;
 use pyver_core::Label;
 use pywheel_core::TagList;

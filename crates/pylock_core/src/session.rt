@@ -21,10 +21,9 @@ ghost use Rattle.pylock_core.specs.declared.edit.EditError.TheVariants.{Memory};
 
 use crate::answer::Answer;
 use crate::edit::{Edit, EditError};
-use crate::entry::Entry;
-use crate::lock::Lock;
 use crate::session::edits::{edit_parts, entry_in, start};
 use crate::session::parts::{Parts, answer};
+use pylock_readers::{Entry, Lock};
 use pymark_core::Environment;
 use pywheel_core::TagList;
 use std::alloc::{AllocError, Global};

@@ -8,7 +8,7 @@ use Rattle.std.specs.Str.{bytes_eq}
 use Rattle.std.proofs.lemmas.Bool.{eq-eqb, ne_eqb}
 use Rattle.std.proofs.lemmas.List.Elements.{All-head, All-tail}
 use Rattle.std.proofs.lemmas.List.Sums.{sum_by-append, sum_by-cons}
-use Rattle.pylock_core.specs.Entry.{ArchiveValue, DirectoryValue, EntryValue, FileValue, VcsValue, file_name, place_of}
+use Rattle.pylock_readers.specs.Entry.{ArchiveValue, DirectoryValue, EntryValue, FileValue, VcsValue, file_name, place_of}
 use Rattle.pylock_core.specs.Session.Picks.{IsPickAmong}
 use Rattle.pylock_core.specs.Session.State.{State, entry_at}
 use Rattle.pylock_core.specs.Session.Steps.{answer}

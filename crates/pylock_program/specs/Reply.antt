@@ -28,10 +28,10 @@ use Rattle.pywheel_core.specs.Wheel.Reading.{wheel_of}
 use Rattle.pywheel_core.specs.Wheel.Value.{WheelValue}
 use Rattle.pywheel_core.specs.declared.error.WheelError.{WheelError}
 use Rattle.pywheel_core.specs.declared.error.WheelError.TheVariants as wheel
-use Rattle.pylock_core.specs.Environment.{env_of}
+use Rattle.pylock_readers.specs.Environment.{env_of}
 use Rattle.pylock_core.specs.Session.Steps.{marker_code}
 use Rattle.pylock_core.specs.declared.answer.FaultCode.{FaultCode}
-use Rattle.pylock_core.specs.declared.error.EnvError.{EnvError}
+use Rattle.pylock_readers.specs.declared.error.EnvError.{EnvError}
 use Rattle.pylock_program.specs.Report.{Report}
 use Rattle.pylock_program.specs.Text.Field.{field, line_of}
 use Rattle.pylock_program.specs.Text.Plan.{fault_word}

@@ -5,8 +5,8 @@ use Rattle.std.specs.Prelude.{ℕ, ◌+◌, ◌++◌, ◌&&◌, ◌||◌, not, B
 use Rattle.std.specs.Prelude.{List, [], ◌∷◌, Result, Ok, Err}
 use Rattle.std.specs.Result.{is_err, result_map_both, result_unwrap_or}
 use Rattle.pyver_core.specs.Results.{◌>>=◌}
-use Rattle.pylock_core.specs.Environment.{env_of}
-use Rattle.pylock_core.specs.Lock.Reading.{lock_of}
+use Rattle.pylock_readers.specs.Environment.{env_of}
+use Rattle.pylock_readers.specs.Lock.Reading.{lock_of}
 use Rattle.pylock_core.specs.Session.State.{State, first, apply}
 use Rattle.pylock_core.specs.Session.Steps.{answer}
 use Rattle.pylock_core.specs.declared.answer.Answer.{Answer}

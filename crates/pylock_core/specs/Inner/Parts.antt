@@ -6,19 +6,19 @@ use Rattle.std.specs.Str.{bytes_eq}
 use Rattle.std.specs.declared.vec.Vec.{Vec}
 use Rattle.pymark_core.specs.Environment.{EnvironmentValue}
 use Rattle.pywheel_core.specs.Tag.{TagValue}
-use Rattle.pylock_core.specs.Entry.{EntryValue}
+use Rattle.pylock_readers.specs.Entry.{EntryValue}
 use Rattle.pylock_core.specs.Inner.Names.{IsNames, members_of, number_in, policies_in, policy_at}
 use Rattle.pylock_core.specs.Inner.Rows.{in_rows}
 use Rattle.pylock_core.specs.Session.Judgement.{SessionValue, VerdictValue, and_head, entry_reads}
 use Rattle.pylock_core.specs.Session.Judgement.{head_reads, keys, numbers_where, verdict_of}
-use Rattle.pylock_core.specs.Lock.{HeadValue}
+use Rattle.pylock_readers.specs.Lock.{HeadValue}
 use Rattle.pylock_core.specs.Session.State.{State}
 use Rattle.pylock_core.specs.Session.Steps.{head_fault, is_any}
 use Rattle.pylock_core.specs.declared.edit.Policy.{Policy}
 use Rattle.pylock_core.specs.declared.session.names.Names.{Names}
 use Rattle.pylock_core.specs.declared.session.parts.Parts.{Parts}
 use Rattle.pylock_core.specs.declared.session.row.Row.{Row}
-use Rattle.pylock_core.specs.declared.session.row.Sources.{Sources}
+use Rattle.pylock_core.specs.declared.session.row.SourceKinds.{SourceKinds}
 
 -- ---- what the parts show
 
@@ -49,7 +49,7 @@ shown parts = record {
 
 -- ---- what a row keeps of its entry
 
-abbrev pub sources_of : EntryValue → Sources
+abbrev pub sources_of : EntryValue → SourceKinds
 sources_of entry = record {
   vcs = is_some entry.vcs;
   directory = is_some entry.directory;

@@ -14,11 +14,11 @@ use Rattle.pylock_core.specs.declared.answer.Standing.{Standing}
 use Rattle.pylock_core.specs.declared.answer.Standing.TheVariants.{Skipped, Faulty, Active}
 use Rattle.pylock_core.specs.declared.edit.Policy.{Policy}
 use Rattle.pylock_core.specs.declared.edit.Policy.TheVariants.{Any, Wheel, Source}
-use Rattle.pylock_core.specs.declared.session.row.Sources.{Sources}
+use Rattle.pylock_core.specs.declared.session.row.SourceKinds.{SourceKinds}
 use Rattle.pylock_core.specs.declared.session.row.Row.{Row}
 
 -- whether sources of more than one kind stand
-abbrev pub conflict_among : Sources → Bool
+abbrev pub conflict_among : SourceKinds → Bool
 conflict_among sources =
     nat_lt 1 (count_by (λ stands. stands)
     (sources.vcs ∷ sources.directory ∷ sources.archive ∷ (sources.sdist || sources.wheels) ∷ []))
@@ -31,7 +31,7 @@ file_source None true Wheel = None
 file_source None true Source = Some source.Sdist
 file_source None false policy = None
 
-abbrev pub source_from : Sources → Option ℕ → Policy → Option PickSource
+abbrev pub source_from : SourceKinds → Option ℕ → Policy → Option PickSource
 source_from sources best policy =
     if sources.vcs
     then Some source.Vcs

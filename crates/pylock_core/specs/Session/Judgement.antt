@@ -13,8 +13,8 @@ use Rattle.pymark_core.specs.declared.marker.keys.Key.TheVariants.{Of, Extras, G
 use Rattle.pymark_core.specs.declared.variable.Var.TheVariants.{PythonFullVersion}
 use Rattle.pymark_core.specs.Variables.{variables}
 use Rattle.pywheel_core.specs.Tag.{TagValue}
-use Rattle.pylock_core.specs.Entry.{EntryValue}
-use Rattle.pylock_core.specs.Lock.{HeadValue}
+use Rattle.pylock_readers.specs.Entry.{EntryValue}
+use Rattle.pylock_readers.specs.Lock.{HeadValue}
 use Rattle.pylock_core.specs.declared.edit.Edit.{Edit}
 use Rattle.pylock_core.specs.declared.edit.Edit.TheVariants as edit
 use Rattle.pylock_core.specs.Session.State.{State, policy_of}

@@ -1,7 +1,7 @@
 -- What a pick and a fault name: an entry that stands in the state, and of a pick has its source.
 use Rattle.std.specs.Prelude.{◌≡◌, ◌⊎◌, ℕ, ◌<◌, List, length, Some, None, IsSome}
 use Rattle.std.specs.List.{Contains}
-use Rattle.pylock_core.specs.Entry.{EntryValue}
+use Rattle.pylock_readers.specs.Entry.{EntryValue}
 use Rattle.pylock_core.specs.Session.State.{State}
 use Rattle.pylock_core.specs.Session.Steps.{head_fault}
 use Rattle.pylock_core.specs.declared.answer.FaultCode.{FaultCode}

@@ -12,8 +12,8 @@ use Rattle.pyver_core.specs.Name.{norm}
 use Rattle.pymark_core.specs.Environment.{EnvironmentValue, with_extra, with_group, with_variable}
 use Rattle.pymark_core.specs.Environment.{without_extra, without_group, without_variable}
 use Rattle.pywheel_core.specs.Tag.{TagValue}
-use Rattle.pylock_core.specs.Entry.{EntryValue}
-use Rattle.pylock_core.specs.Lock.{HeadValue, LockValue}
+use Rattle.pylock_readers.specs.Entry.{EntryValue}
+use Rattle.pylock_readers.specs.Lock.{HeadValue, LockValue}
 use Rattle.pylock_core.specs.declared.edit.Edit.{Edit}
 use Rattle.pylock_core.specs.declared.edit.Edit.TheVariants as edit
 use Rattle.pylock_core.specs.declared.edit.Policy.{Policy}

@@ -19,8 +19,8 @@ use Rattle.pyver_core.specs.declared.version.error.VersionError.{VersionError}
 use Rattle.pymark_core.specs.declared.variable.Var.TheVariants.{PythonFullVersion}
 use Rattle.pywheel_core.specs.Choice.{best}
 use Rattle.pywheel_core.specs.Tag.{TagValue}
-use Rattle.pylock_core.specs.Entry.{EntryValue, wheel_names}
-use Rattle.pylock_core.specs.Lock.{HeadValue}
+use Rattle.pylock_readers.specs.Entry.{EntryValue, wheel_names}
+use Rattle.pylock_readers.specs.Lock.{HeadValue}
 use Rattle.pylock_core.specs.Session.State.{State, Policies, policy_of}
 use Rattle.pylock_core.specs.declared.answer.Answer.{Answer}
 use Rattle.pylock_core.specs.declared.answer.Answer.TheVariants.{Plan, Fault}

@@ -12,9 +12,9 @@ ghost use Rattle.pylock_core.specs.declared.edit.Edit.TheVariants as edit;
 ghost use Rattle.pylock_core.specs.declared.edit.EditError.TheVariants.{Memory};
 
 use crate::edit::{EditError, Policy};
-use crate::lock::HeadNames;
 use crate::session::judgement::{change_environment, change_policy, change_tags};
 use crate::session::parts::Parts;
+use pylock_readers::HeadNames;
 use pymark_core::{Environment, Key, Var};
 use pyver_core::{Label, normal_name};
 use pywheel_core::TagList;

@@ -16,8 +16,6 @@ ghost use Rattle.pylock_core.specs.declared.edit.Edit.TheVariants as edit;
 ghost use Rattle.pylock_core.specs.declared.edit.EditError.TheVariants.{Memory};
 
 use crate::edit::{Edit, EditError, Policy};
-use crate::entry::Entry;
-use crate::lock::{Head, Lock};
 use crate::session::changes::{
     add_extra, add_group, drop_extra, drop_group, give_policy, set_tags, set_variable,
     unset_variable,
@@ -27,6 +25,7 @@ use crate::session::names::Names;
 use crate::session::parts::{Parts, add, del, put};
 use crate::session::row::Row;
 use crate::session::verdict::{HeadVerdict, Judge};
+use pylock_readers::{Entry, Head, Lock};
 use pymark_core::Environment;
 use pywheel_core::TagList;
 use std::alloc::{AllocError, Global};

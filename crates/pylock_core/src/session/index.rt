@@ -8,8 +8,7 @@ ghost use Rattle.pylock_core.specs.Inner.Index.{list_at, moved, numbers_in, put_
 ghost use Rattle.pylock_core.specs.Inner.Index.{read_by, take_out};
 ghost use Rattle.pylock_core.specs.Inner.Rows.{passes};
 
-use crate::entry::Entry;
-use crate::lock::Head;
+use pylock_readers::{Entry, Head};
 use pymark_core::{Key, Marker, Var};
 use std::alloc::{AllocError, Global};
 

@@ -16,14 +16,13 @@ ghost use Rattle.pylock_core.specs.Session.State.{in_environment, with_policy};
 ghost use Rattle.pylock_core.specs.Session.Steps.{head_fault};
 
 use crate::edit::Policy;
-use crate::entry::Entry;
 use crate::laws::{entry_reads, head_reads};
-use crate::lock::Head;
 use crate::session::names::{number_of, set_policy};
 use crate::session::parts::Parts;
 use crate::session::room::put_at;
 use crate::session::row::Row;
 use crate::session::verdict::{HeadVerdict, Judge};
+use pylock_readers::{Entry, Head};
 use pymark_core::{Environment, Key, Var};
 use pywheel_core::TagList;
 use std::alloc::AllocError;

@@ -13,14 +13,13 @@ ghost use Rattle.pylock_core.specs.Session.State.{with_entry, with_next, without
 ghost use Rattle.pylock_core.specs.Session.Steps.{answer};
 
 use crate::answer::Answer;
-use crate::entry::Entry;
-use crate::lock::Head;
 use crate::session::index::{Lists, change_each, entry_keys, keys_at, reserve_each};
 use crate::session::names::{Names, move_member, number_of, reserve_member};
 use crate::session::pass::answer_of;
 use crate::session::room::{push_within, put_at};
-use crate::session::row::{Row, Sources};
+use crate::session::row::{Row, SourceKinds};
 use crate::session::verdict::{HeadVerdict, Judge};
+use pylock_readers::{Entry, Head};
 use pymark_core::Environment;
 use pywheel_core::TagList;
 use std::alloc::{AllocError, Global};
@@ -64,10 +63,10 @@ pub(crate) fn answer(alloc: Global, parts: &Parts) -> Result<Answer, AllocError>
 }
 
 /// The kinds of sources that the entry has.
-fn sources_of(entry: &Entry) -> Sources
+fn sources_of(entry: &Entry) -> SourceKinds
     ensures { result ≡ sources_of entry.now }
 {
-    Sources {
+    SourceKinds {
         vcs: entry.vcs().is_some(),
         directory: entry.directory().is_some(),
         archive: entry.archive().is_some(),

@@ -9,7 +9,7 @@ use crate::session::verdict::Verdict;
 
 /// Which kinds of sources an entry has.
 #[derive(Clone, Copy, Debug)]
-pub(crate) struct Sources {
+pub(crate) struct SourceKinds {
     pub(crate) vcs: bool,
     pub(crate) directory: bool,
     pub(crate) archive: bool,
@@ -17,7 +17,7 @@ pub(crate) struct Sources {
     pub(crate) wheels: bool,
 }
 
-impl Sources {
+impl SourceKinds {
     /// Whether they are of more than one kind, an sdist and wheels being one.
     pub(crate) fn has_conflict(&self) -> bool
         ensures { result ≡ conflict_among self.now }
@@ -35,7 +35,7 @@ impl Sources {
 pub(crate) struct Row {
     pub(crate) verdict: Verdict,
     pub(crate) name: usize,
-    pub(crate) sources: Sources,
+    pub(crate) sources: SourceKinds,
 }
 
 impl Row {

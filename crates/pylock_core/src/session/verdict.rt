@@ -11,8 +11,7 @@ ghost use Rattle.pylock_core.specs.declared.answer.Standing.TheVariants.{Skipped
 
 use crate::answer::{FaultCode, Standing};
 use crate::edit::Policy;
-use crate::entry::Entry;
-use crate::lock::Head;
+use pylock_readers::{Entry, Head};
 use pymark_core::{Environment, EvalFault, Marker, Var};
 use pyver_core::SpecifierSet;
 use pywheel_core::{TagList, choose};

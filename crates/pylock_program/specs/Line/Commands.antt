@@ -8,8 +8,8 @@ use Rattle.pyver_core.specs.Results.{◌>>=◌}
 use Rattle.pymark_core.specs.Variables.{variable_of}
 use Rattle.pymark_core.specs.declared.variable.Var.{Var}
 use Rattle.pywheel_core.specs.Tag.{TagValue, tags_of}
-use Rattle.pylock_core.specs.Entry.{EntryValue}
-use Rattle.pylock_core.specs.Entry.Reading.{entry_of}
+use Rattle.pylock_readers.specs.Entry.{EntryValue}
+use Rattle.pylock_readers.specs.Entry.Reading.{entry_of}
 use Rattle.pylock_core.specs.declared.edit.Edit.{Edit}
 use Rattle.pylock_core.specs.declared.edit.Edit.TheVariants as edit
 use Rattle.pylock_core.specs.declared.edit.Policy.{Policy}

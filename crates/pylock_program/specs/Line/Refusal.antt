@@ -3,8 +3,8 @@ use Rattle.pywheel_core.specs.declared.error.TagListError.{TagListError}
 use Rattle.pywheel_core.specs.declared.error.TagListError.TheVariants as tags
 use Rattle.pylock_core.specs.declared.edit.EditError.{EditError}
 use Rattle.pylock_core.specs.declared.edit.EditError.TheVariants as edit
-use Rattle.pylock_core.specs.declared.error.EntryError.{EntryError}
-use Rattle.pylock_core.specs.declared.error.EntryError.TheVariants as entry
+use Rattle.pylock_readers.specs.declared.error.EntryError.{EntryError}
+use Rattle.pylock_readers.specs.declared.error.EntryError.TheVariants as entry
 use Rattle.pylock_program.specs.declared.line.refusal.LineRefusal.{LineRefusal}
 use Rattle.pylock_program.specs.declared.line.refusal.LineRefusal.TheVariants as refusal
 

@@ -1,15 +1,15 @@
 -- The refusal of a line, of a lock and of an environment, as it is printed. Each line ends in LF.
 use Rattle.std.specs.Prelude.{ℕ, ◌++◌, List, [], ◌∷◌, codes, decimal}
-use Rattle.pylock_core.specs.declared.error.EntryError.{EntryError}
-use Rattle.pylock_core.specs.declared.error.EntryError.TheVariants as entry_error
-use Rattle.pylock_core.specs.declared.error.EntryKey.{EntryKey}
-use Rattle.pylock_core.specs.declared.error.EntryKey.TheVariants as entry_key
-use Rattle.pylock_core.specs.declared.error.EnvError.{EnvError}
-use Rattle.pylock_core.specs.declared.error.EnvError.TheVariants as env_error
-use Rattle.pylock_core.specs.declared.error.HeadKey.{HeadKey}
-use Rattle.pylock_core.specs.declared.error.HeadKey.TheVariants as head_key
-use Rattle.pylock_core.specs.declared.error.LockError.{LockError}
-use Rattle.pylock_core.specs.declared.error.LockError.TheVariants as lock_error
+use Rattle.pylock_readers.specs.declared.error.EntryError.{EntryError}
+use Rattle.pylock_readers.specs.declared.error.EntryError.TheVariants as entry_error
+use Rattle.pylock_readers.specs.declared.error.EntryKey.{EntryKey}
+use Rattle.pylock_readers.specs.declared.error.EntryKey.TheVariants as entry_key
+use Rattle.pylock_readers.specs.declared.error.EnvError.{EnvError}
+use Rattle.pylock_readers.specs.declared.error.EnvError.TheVariants as env_error
+use Rattle.pylock_readers.specs.declared.error.HeadKey.{HeadKey}
+use Rattle.pylock_readers.specs.declared.error.HeadKey.TheVariants as head_key
+use Rattle.pylock_readers.specs.declared.error.LockError.{LockError}
+use Rattle.pylock_readers.specs.declared.error.LockError.TheVariants as lock_error
 use Rattle.pylock_program.specs.declared.line.refusal.LineRefusal.{LineRefusal}
 use Rattle.pylock_program.specs.declared.line.refusal.LineRefusal.TheVariants as refusal
 use Rattle.pylock_program.specs.declared.report.opening.OpenError.{OpenError}

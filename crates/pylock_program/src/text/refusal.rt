@@ -6,8 +6,8 @@ ghost use Rattle.pylock_program.specs.Text.Refusal.{head_word, key_word, entry_w
 ghost use Rattle.pylock_program.specs.Text.Refusal.{lock_text};
 ghost use Rattle.pylock_program.specs.Text.Refusal.{environment_words, environment_text};
 ghost use Rattle.pylock_program.specs.Text.Refusal.{refused_text, refusal_text};
-ghost use Rattle.pylock_core.specs.declared.error.LockError.TheVariants.{Head, Entry};
-ghost use Rattle.pylock_core.specs.declared.error.EnvError.TheVariants.{Tag};
+ghost use Rattle.pylock_readers.specs.declared.error.LockError.TheVariants.{Head, Entry};
+ghost use Rattle.pylock_readers.specs.declared.error.EnvError.TheVariants.{Tag};
 
 use crate::line::refusal::LineRefusal;
 use crate::report::opening::OpenError;

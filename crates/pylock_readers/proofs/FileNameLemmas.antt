@@ -1,0 +1,54 @@
+-- The part of a list after the last element that passes a test, by its place.
+use Rattle.std.proofs.Common.{◌≡◌, ◌∙◌, ◌==◌, ℕ, ◌+◌, ◌-◌, ◌<◌, ◌≤◌, Bool, true, false, not, List, [], ◌∷◌, length, get_or, drop, IsUtf8, arith, refl, ap}
+use Rattle.std.proofs.Math.Logic.{⊎_elim}
+use Rattle.std.proofs.lemmas.Bool.{cases_Bool, cond-true, cond-false, or_parts}
+use Rattle.std.proofs.lemmas.Str.{is_utf8-from_IsUtf8, IsUtf8-from_is_utf8}
+use Rattle.std.specs.Str.{is_utf8}
+use Rattle.percent_encoding.specs.Percent.{is_escape, percent_decode}
+use Rattle.pylock_readers.specs.Entry.FileName.{decoded}
+use Rattle.std.specs.List.{after_last, list_any, suffix_len}
+use Rattle.std.proofs.lemmas.List.Sums.{suffix_len_is}
+
+pub after_last_at : (p : ℕ → Bool) (xs : List ℕ) (i : ℕ) → i < length xs → p (get_or xs i 0) ≡ true
+    → ((k : ℕ) → i + 1 ≤ k → k < length xs → p (get_or xs k 0) ≡ false) → after_last p xs ≡ drop (i + 1) xs
+after_last_at p xs i within here after =
+    let back : i + 1 - 1 ≡ i = omega arith in
+    let len = suffix_len_is (λ x. not (p x)) xs (i + 1) 0 (omega arith) (λ k low high. ap not (after k low high)) (λ _. rw back (ap not here)) in
+    let start : length xs - suffix_len (λ x. not (p x)) xs ≡ i + 1 = omega (arith, len) in
+    ap (λ n. drop n xs) start
+
+pub after_last_none : (p : ℕ → Bool) (xs : List ℕ) → ((k : ℕ) → k < length xs → p (get_or xs k 0) ≡ false) → after_last p xs ≡ xs
+after_last_none p xs none =
+    let len = suffix_len_is (λ x. not (p x)) xs 0 0 (omega arith) (λ k low high. ap not (none k high)) (λ some. absurd (omega arith)) in
+    let start : length xs - suffix_len (λ x. not (p x)) xs ≡ 0 = omega (arith, len) in
+    ap (λ n. drop n xs) start
+
+-- ---- percent-decoding
+
+pub decoded_text : (text : List ℕ) → IsUtf8 (percent_decode text) → decoded text ≡ percent_decode text
+decoded_text text utf8 = cond-true _ _ _ (is_utf8-from_IsUtf8 _ utf8)
+
+pub decoded_else : (text : List ℕ) → (IsUtf8 (percent_decode text) → ⊥) → decoded text ≡ text
+decoded_else text other =
+    ⊎_elim
+    (λ yes_utf8. absurd (other (IsUtf8-from_is_utf8 _ yes_utf8)))
+    (λ no_utf8. cond-false _ _ _ no_utf8)
+    (cases_Bool (is_utf8 (percent_decode text)))
+
+-- bytes with no `%` have no escape
+no_escape : (text : List ℕ) → list_any (λ b. b == 37) text ≡ false → percent_decode text ≡ text
+unfolding percent_decode
+no_escape [] none = refl
+no_escape (b ∷ []) none = refl
+no_escape (b ∷ c ∷ []) none = refl
+no_escape (b ∷ high ∷ low ∷ rest) none =
+    let parts = or_parts (b == 37) (list_any (λ b. b == 37) (high ∷ low ∷ rest)) none in
+    let plain : is_escape b high low ≡ false = rw parts.0 refl in
+    cond-false _ _ _ plain ∙ ap (λ bs. b ∷ bs) (no_escape (high ∷ low ∷ rest) parts.1)
+
+pub decoded_plain : (text : List ℕ) → list_any (λ b. b == 37) text ≡ false → decoded text ≡ text
+decoded_plain text none =
+    ⊎_elim
+    (λ yes_utf8. cond-true _ _ _ yes_utf8 ∙ no_escape text none)
+    (λ no_utf8. cond-false _ _ _ no_utf8)
+    (cases_Bool (is_utf8 (percent_decode text)))

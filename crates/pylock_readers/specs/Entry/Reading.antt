@@ -1,0 +1,125 @@
+-- The reading of an entry (PEP 751, `packages`): its keys in order; the first that isn't of its
+-- form is the entry's refusal.
+use Rattle.std.specs.Prelude.{ℕ, codes, List, Option, ok_or, Result, Ok, Err}
+use Rattle.toml.specs.Data.{Data, Members, get_member, as_table}
+use Rattle.toml.specs.Parse.{parse_value}
+use Rattle.pyver_core.specs.Results.{◌>>=◌}
+use Rattle.pyver_core.specs.declared.set.specifier.Specifier.{Specifier}
+use Rattle.pymark_core.specs.Marker.Reading.{MarkerValue}
+use Rattle.pylock_readers.specs.Entry.{VcsValue, DirectoryValue, ArchiveValue, FileValue}
+use Rattle.pylock_readers.specs.Entry.{EntryValue}
+use Rattle.pylock_readers.specs.Entry.Fields.{present_in, optional, name_of, optional_text_in}
+use Rattle.pylock_readers.specs.Entry.Fields.{marker_field, set_field}
+use Rattle.pylock_readers.specs.Entry.Sources.{vcs_of, directory_of, archive_of, file_of, files_in}
+use Rattle.pylock_readers.specs.declared.field.FieldError.{FieldError}
+use Rattle.pylock_readers.specs.declared.field.FieldError.TheVariants as field
+use Rattle.pylock_readers.specs.declared.error.EntryError.{EntryError}
+use Rattle.pylock_readers.specs.declared.error.EntryError.TheVariants as error
+use Rattle.pylock_readers.specs.declared.error.EntryKey.TheVariants as key
+
+-- the entry's refusal for a field that has this one
+abbrev pub refusal_for : EntryError → FieldError → EntryError
+refusal_for wrong field.Wrong = wrong
+refusal_for wrong field.Memory = error.Memory
+
+-- a field of an entry, where this is the entry's refusal
+abbrev pub or_refused : {V : Type 0} → EntryError → Result V FieldError → Result V EntryError
+or_refused wrong (Ok x) = Ok x
+or_refused wrong (Err e) = Err (refusal_for wrong e)
+
+-- ---- the sources
+
+pub record SourcesValue : Type 0 where
+  pub vcs : Option VcsValue
+  pub directory : Option DirectoryValue
+  pub archive : Option ArchiveValue
+  pub sdist : Option FileValue
+  pub wheels : List FileValue
+
+abbrev pub vcs_in : Option Data → Result (Option VcsValue) EntryError
+vcs_in field = or_refused (error.Key key.Vcs) (optional vcs_of field)
+
+abbrev pub directory_in : Option Data → Result (Option DirectoryValue) EntryError
+directory_in field = or_refused (error.Key key.Directory) (optional directory_of field)
+
+abbrev pub archive_in : Option Data → Result (Option ArchiveValue) EntryError
+archive_in field = or_refused (error.Key key.Archive) (optional archive_of field)
+
+abbrev pub sdist_in : Option Data → Result (Option FileValue) EntryError
+sdist_in field = or_refused (error.Key key.Sdist) (optional file_of field)
+
+abbrev pub wheels_in : Option Data → Result (List FileValue) EntryError
+wheels_in field = or_refused (error.Key key.Wheels) (files_in field)
+
+unfoldable pub sources_in : (vcs directory archive sdist wheels : Option Data)
+    → Result SourcesValue EntryError
+sources_in vcs directory archive sdist wheels = do
+  vcs ← vcs_in vcs
+  directory ← directory_in directory
+  archive ← archive_in archive
+  sdist ← sdist_in sdist
+  wheels ← wheels_in wheels
+  Ok (record {
+    vcs = vcs;
+    directory = directory;
+    archive = archive;
+    sdist = sdist;
+    wheels = wheels;
+  })
+
+-- ---- the whole entry
+
+abbrev pub table_in : Data → Result Members EntryError
+table_in d = ok_or (as_table d) error.NotTable
+
+abbrev pub name_in : Option Data → Result (List ℕ) EntryError
+name_in field = or_refused error.Name (present_in field >>= name_of)
+
+abbrev pub version_in : Option Data → Result (Option (List ℕ)) EntryError
+version_in field = or_refused (error.Key key.Version) (optional_text_in field)
+
+abbrev pub marker_in : Option Data → Result (Option MarkerValue) EntryError
+marker_in field = or_refused error.Marker (optional marker_field field)
+
+abbrev pub requires_python_in : Option Data → Result (Option (List Specifier)) EntryError
+requires_python_in field = or_refused error.RequiresPython (optional set_field field)
+
+-- the entry that has these sources and conditions
+abbrev pub entry_with : List ℕ → Option (List ℕ) → SourcesValue → Option MarkerValue
+    → Option (List Specifier) → EntryValue
+entry_with name version sources marker requires_python = record {
+  name = name;
+  version = version;
+  vcs = sources.vcs;
+  directory = sources.directory;
+  archive = sources.archive;
+  sdist = sources.sdist;
+  wheels = sources.wheels;
+  marker = marker;
+  requires_python = requires_python;
+}
+
+-- the entry that a member of `packages` is
+unfoldable pub entry_in : Data → Result EntryValue EntryError
+entry_in d = do
+  members ← table_in d
+  name ← name_in (get_member (codes "name") members)
+  version ← version_in (get_member (codes "version") members)
+  sources ←
+      sources_in
+      (get_member (codes "vcs") members)
+      (get_member (codes "directory") members)
+      (get_member (codes "archive") members)
+      (get_member (codes "sdist") members)
+      (get_member (codes "wheels") members)
+  marker ← marker_in (get_member (codes "marker") members)
+  requires_python ← requires_python_in (get_member (codes "requires-python") members)
+  Ok (entry_with name version sources marker requires_python)
+
+-- the text as a TOML value
+abbrev pub toml_value : List ℕ → Result Data EntryError
+toml_value text = ok_or (parse_value text) error.Toml
+
+-- the entry that a text is, which is one TOML value
+unfoldable pub entry_of : List ℕ → Result EntryValue EntryError
+entry_of text = toml_value text >>= entry_in

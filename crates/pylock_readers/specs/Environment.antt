@@ -1,0 +1,86 @@
+-- The text of an environment: the variables and the tags of the Python that is installed for.
+use Rattle.std.specs.Prelude.{ℕ, codes, List, [], ◌∷◌, Option, Some, None, option_and_then}
+use Rattle.std.specs.Prelude.{option_map, ok_or, Result, Ok, Err}
+use Rattle.serde_json.specs.Data.{Data, Items, no_items, item, Members}
+use Rattle.serde_json.specs.Find.{get, get_member, as_str, as_array, as_object}
+use Rattle.serde_json.specs.Read.{read}
+use Rattle.pyver_core.specs.Results.{◌>>=◌}
+use Rattle.pymark_core.specs.Environment.{EnvironmentValue, empty, with_variable}
+use Rattle.pymark_core.specs.Variables.{variable_name, variables}
+use Rattle.pymark_core.specs.declared.variable.Var.{Var}
+use Rattle.pywheel_core.specs.Tag.{TagValue, tags_of}
+use Rattle.pywheel_core.specs.declared.error.TagListError.{TagListError}
+use Rattle.pywheel_core.specs.declared.error.TagListError.TheVariants as list
+use Rattle.pylock_readers.specs.Text.{text_of}
+use Rattle.pylock_readers.specs.declared.error.EnvError.{EnvError}
+use Rattle.pylock_readers.specs.declared.error.EnvError.TheVariants as error
+
+-- the object `environment`
+abbrev pub members_in : Data → Result Members EnvError
+members_in d = ok_or (option_and_then as_object (get (codes "environment") d)) error.Shape
+
+-- the list `tags`
+abbrev pub tags_in : Data → Result Items EnvError
+tags_in d = ok_or (option_and_then as_array (get (codes "tags") d)) error.Shape
+
+-- the text of a member, which is a text where it is there
+abbrev pub text_in : Option Data → Result (Option (List ℕ)) EnvError
+text_in None = Ok None
+text_in (Some d) = ok_or (option_map Some (as_str d)) error.Shape
+
+-- the environment where the variable has the text, if there is one
+abbrev pub with_text : Var → Option (List ℕ) → EnvironmentValue → EnvironmentValue
+with_text variable None environment = environment
+with_text variable (Some text) environment = with_variable variable text environment
+
+-- the environment where the variable has the text of the member of its name
+abbrev pub with_member : Var → Members → EnvironmentValue → Result EnvironmentValue EnvError
+with_member variable members environment =
+    text_in (get_member (variable_name variable) members)
+    >>= (λ text. Ok (with_text variable text environment))
+
+-- the same of each of these variables
+unfoldable pub with_members : List Var → Members → EnvironmentValue
+    → Result EnvironmentValue EnvError
+with_members [] ms environment = Ok environment
+with_members (variable ∷ more) ms environment =
+    with_member variable ms environment >>= with_members more ms
+
+-- the texts of a list
+abbrev pub texts_in : Items → Result (List (List ℕ)) EnvError
+texts_in no_items = Ok []
+texts_in (item d ds) =
+    ok_or (as_str d) error.Shape >>= (λ text. texts_in ds >>= (λ texts. Ok (text ∷ texts)))
+
+-- the refusal of tags is that of the environment
+abbrev pub tag_refusal : TagListError → EnvError
+tag_refusal (list.Tag place) = error.Tag place
+tag_refusal list.Memory = error.Memory
+
+abbrev pub listed : List (List ℕ) → Result (List TagValue) EnvError
+listed texts = by (tags_of texts)
+  where
+    by : Result (List TagValue) TagListError → Result (List TagValue) EnvError
+    by (Ok tags) = Ok tags
+    by (Err e) = Err (tag_refusal e)
+
+-- the environment and the tags of a value; its form is judged before any tag
+unfoldable pub env_in : Data → Result (EnvironmentValue × List TagValue) EnvError
+env_in d = do
+  members ← members_in d
+  environment ← with_members variables members empty
+  items ← tags_in d
+  texts ← texts_in items
+  tags ← listed texts
+  Ok (environment, tags)
+
+-- the text as JSON
+abbrev pub value_of : List ℕ → Result Data EnvError
+value_of text = ok_or (read text) error.Json
+
+-- the environment and the tags that the bytes are
+unfoldable pub env_of : List ℕ → Result (EnvironmentValue × List TagValue) EnvError
+env_of bytes = do
+  text ← ok_or (text_of bytes) error.Json
+  value ← value_of text
+  env_in value

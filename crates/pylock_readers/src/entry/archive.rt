@@ -1,0 +1,115 @@
+//! Archives.
+ghost use Rattle.std.specs.Prelude.{◌≡◌, codes, option_map};
+ghost use Rattle.std.specs.Option.{option_copied};
+ghost use Rattle.toml.specs.Data.{get_member};
+ghost use Rattle.toml.specs.View.{view, table_view};
+ghost use Rattle.pyver_core.specs.Agreement.{Gives};
+ghost use Rattle.pylock_readers.specs.Entry.{place_of};
+ghost use Rattle.pylock_readers.specs.Entry.Sources.{archive_of};
+ghost use Rattle.pylock_readers.specs.Inner.Strings.{text_pairs};
+
+use crate::entry::hashes::hashes;
+use crate::entry::location::Location;
+use crate::field::{FieldError, into_table, optional_text, take};
+use std::alloc::Global;
+use std::marker::Model;
+use toml::{Table, Value};
+
+/// An archive to install from (PEP 751, `packages.archive`).
+#[derive(Debug, Drop)]
+pub struct Archive {
+    location: Location,
+    hashes: Vec<(String, String)>,
+    subdirectory: Option<String>,
+}
+
+impl Model for Archive {
+    ghost use Rattle.std.specs.Prelude.{option_map, string_bytes};
+    ghost use Rattle.pylock_readers.specs.Entry.{ArchiveValue};
+    ghost use Rattle.pylock_readers.specs.Inner.Strings.{text_pairs};
+
+    ghost Value = { ArchiveValue };
+
+    ghost view = { λ a. record {
+      location = a.location;
+      hashes = text_pairs a.hashes.items;
+      subdirectory = option_map string_bytes a.subdirectory;
+    } };
+}
+
+impl Archive {
+    /// The key `url`.
+    pub fn url(&self) -> Option<&str>
+        ensures { option_copied result ≡ self.now.location.url }
+    {
+        self.location.url()
+    }
+
+    /// The key `path`.
+    pub fn path(&self) -> Option<&str>
+        ensures { option_copied result ≡ self.now.location.path }
+    {
+        self.location.path()
+    }
+
+    /// Where the archive lies: its path, else its URL.
+    pub fn place(&self) -> &str
+        ensures { result.now ≡ place_of self.now.location }
+    {
+        self.location.place()
+    }
+
+    /// The pairs of algorithm and value of the key `hashes`, in byte order of the algorithm.
+    pub fn hashes(&self) -> &[(String, String)]
+        ensures { text_pairs result.now ≡ self.now.hashes }
+    {
+        self.hashes.as_slice()
+    }
+
+    /// The key `subdirectory`.
+    pub fn subdirectory(&self) -> Option<&str>
+        ensures { option_copied result ≡ self.now.subdirectory }
+    {
+        self.subdirectory.as_deref()
+    }
+
+    #[tactic(auto, unfolding(crate::specs::Entry::Sources::archive_of))]
+    pub(crate) fn read(alloc: Global, value: Value) -> Result<Archive, FieldError>
+        ensures { Gives FieldError.Memory (λ a. a) result (archive_of (view value)) }
+    {
+        let fields = take_fields(into_table(value)?);
+        let location = Location::read(fields.url, fields.path)?;
+        let hashes = hashes(alloc, fields.hashes)?;
+        let subdirectory = optional_text(fields.subdirectory)?;
+        Ok(Archive {
+            location,
+            hashes,
+            subdirectory,
+        })
+    }
+}
+
+/// The values of the keys, out of the table that is let go.
+#[derive(Drop)]
+struct Fields {
+    url: Option<Value>,
+    path: Option<Value>,
+    hashes: Option<Value>,
+    subdirectory: Option<Value>,
+}
+
+fn take_fields(mut table: Table) -> Fields
+    ensures url { option_map view result.url ≡ get_member (codes "url") (table_view table) }
+    ensures path { option_map view result.path ≡ get_member (codes "path") (table_view table) }
+    ensures hashes { option_map view result.hashes
+        ≡ get_member (codes "hashes") (table_view table) }
+    ensures subdirectory { option_map view result.subdirectory
+        ≡ get_member (codes "subdirectory") (table_view table) }
+{
+    Fields {
+        url: take(&mut table, "url"),
+        path: take(&mut table, "path"),
+        hashes: take(&mut table, "hashes"),
+        subdirectory: take(&mut table, "subdirectory"),
+    }
+}

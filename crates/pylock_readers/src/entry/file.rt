@@ -1,0 +1,152 @@
+//! Sdists and wheels.
+ghost use Rattle.std.specs.Prelude.{◌≡◌, codes, option_map, string_bytes, IfOk};
+ghost use Rattle.std.specs.Option.{option_copied};
+ghost use Rattle.toml.specs.Data.{get_member};
+ghost use Rattle.toml.specs.View.{view, table_view};
+ghost use Rattle.pyver_core.specs.Agreement.{Gives};
+ghost use Rattle.pylock_readers.specs.Entry.{file_name, place_of};
+ghost use Rattle.pylock_readers.specs.Entry.Sources.{file_of};
+ghost use Rattle.pylock_readers.specs.Inner.Strings.{text_pairs};
+
+use crate::entry::file_name::file_name;
+use crate::entry::hashes::hashes;
+use crate::entry::location::Location;
+use crate::field::{FieldError, into_table, optional_text, take};
+use std::alloc::{AllocError, Global};
+use std::marker::Model;
+use toml::{Table, Value};
+
+/// An sdist or a wheel to install from (PEP 751, `packages.sdist` and `packages.wheels`).
+#[derive(Debug, Drop)]
+pub struct DistributionFile {
+    name: Option<String>,
+    location: Location,
+    hashes: Vec<(String, String)>,
+    file_name: Option<String>,
+}
+
+/// A source distribution (PEP 751, `packages.sdist`).
+pub type Sdist = DistributionFile;
+
+/// A wheel (PEP 751, `packages.wheels`).
+pub type WheelFile = DistributionFile;
+
+impl Model for DistributionFile {
+    ghost use Rattle.std.specs.Prelude.{◌≡◌, option_map, string_bytes};
+    ghost use Rattle.pylock_readers.specs.Entry.{FileValue};
+    ghost use Rattle.pylock_readers.specs.Entry.FileName.{file_name_of};
+    ghost use Rattle.pylock_readers.specs.Inner.Strings.{text_pairs};
+
+    ghost Value = { FileValue };
+
+    ghost view = { λ f. record {
+      name = option_map string_bytes f.name;
+      location = f.location;
+      hashes = text_pairs f.hashes.items;
+    } };
+
+    ghost invariant = { λ f. option_map string_bytes f.file_name
+        ≡ file_name_of (option_map string_bytes f.name) f.location.path f.location.url };
+}
+
+impl DistributionFile {
+    /// The key `name`.
+    pub fn name(&self) -> Option<&str>
+        ensures { option_copied result ≡ self.now.name }
+    {
+        self.name.as_deref()
+    }
+
+    /// The key `url`.
+    pub fn url(&self) -> Option<&str>
+        ensures { option_copied result ≡ self.now.location.url }
+    {
+        self.location.url()
+    }
+
+    /// The key `path`.
+    pub fn path(&self) -> Option<&str>
+        ensures { option_copied result ≡ self.now.location.path }
+    {
+        self.location.path()
+    }
+
+    /// Where the file lies: its path, else its URL.
+    pub fn place(&self) -> &str
+        ensures { result.now ≡ place_of self.now.location }
+    {
+        self.location.place()
+    }
+
+    /// The file name: the key `name`, else the last part of the path, else the last part of the URL
+    /// with its escapes decoded. An empty file name counts as absent.
+    pub fn file_name(&self) -> Option<&str>
+        ensures { option_copied result ≡ file_name self.now }
+    {
+        self.file_name.as_deref()
+    }
+
+    /// The pairs of algorithm and value of the key `hashes`, in byte order of the algorithm.
+    pub fn hashes(&self) -> &[(String, String)]
+        ensures { text_pairs result.now ≡ self.now.hashes }
+    {
+        self.hashes.as_slice()
+    }
+
+    #[tactic(auto, unfolding(crate::specs::Entry::Sources::file_of))]
+    pub(crate) fn read(alloc: Global, value: Value) -> Result<DistributionFile, FieldError>
+        ensures { Gives FieldError.Memory (λ f. f) result (file_of (view value)) }
+    {
+        let fields = take_fields(into_table(value)?);
+        let name = optional_text(fields.name)?;
+        let location = Location::read(fields.url, fields.path)?;
+        let hashes = hashes(alloc, fields.hashes)?;
+        Ok(DistributionFile::new(alloc, name, location, hashes)?)
+    }
+
+    /// Takes memory for the file name alone.
+    fn new(
+        alloc: Global,
+        name: Option<String>,
+        location: Location,
+        hashes: Vec<(String, String)>,
+    ) -> Result<DistributionFile, AllocError>
+        ensures { IfOk result (λ f. f ≡ record {
+          name = option_map string_bytes name;
+          location = location;
+          hashes = text_pairs hashes.items;
+        }) }
+    {
+        let file_name = file_name(alloc, name.as_deref(), location.path(), location.url())?;
+        Ok(DistributionFile {
+            name,
+            location,
+            hashes,
+            file_name,
+        })
+    }
+}
+
+/// The values of the keys, out of the table that is let go.
+#[derive(Drop)]
+struct Fields {
+    name: Option<Value>,
+    url: Option<Value>,
+    path: Option<Value>,
+    hashes: Option<Value>,
+}
+
+fn take_fields(mut table: Table) -> Fields
+    ensures name { option_map view result.name ≡ get_member (codes "name") (table_view table) }
+    ensures url { option_map view result.url ≡ get_member (codes "url") (table_view table) }
+    ensures path { option_map view result.path ≡ get_member (codes "path") (table_view table) }
+    ensures hashes { option_map view result.hashes
+        ≡ get_member (codes "hashes") (table_view table) }
+{
+    Fields {
+        name: take(&mut table, "name"),
+        url: take(&mut table, "url"),
+        path: take(&mut table, "path"),
+        hashes: take(&mut table, "hashes"),
+    }
+}

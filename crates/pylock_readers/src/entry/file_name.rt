@@ -1,0 +1,122 @@
+//! The file names of sdists and wheels (PEP 751, `packages.sdist.name`).
+ghost use Rattle.std.specs.Prelude.{◌≡◌, ◌==◌, ◌<◌, option_map, IfOk, string_bytes};
+ghost use Rattle.std.specs.Option.{option_copied};
+ghost use Rattle.std.specs.List.{before_first, after_last, list_any};
+ghost use Rattle.pylock_readers.specs.Entry.FileName.{is_slash, ends_segment, present};
+ghost use Rattle.pylock_readers.specs.Entry.FileName.{last_of_path};
+ghost use Rattle.pylock_readers.specs.Entry.FileName.{last_of_url, decoded, file_name_of};
+
+use percent_encoding::{DecodeError, percent_decode};
+use std::alloc::{AllocError, Global};
+
+/// The file name that the key `name` gives, else the path, else the URL. Nothing where each of them
+/// is absent or ends in an empty name.
+pub(crate) fn file_name(
+    alloc: Global,
+    name: Option<&str>,
+    path: Option<&str>,
+    url: Option<&str>,
+) -> Result<Option<String>, AllocError>
+    ensures { IfOk result (λ file. option_map string_bytes file
+        ≡ file_name_of (option_copied name.entry) (option_copied path.entry)
+        (option_copied url.entry)) }
+{
+    let written = name.and_then(present).or(path.and_then(path_file_name));
+    match (written, url) {
+        (Some(text), _) => Ok(Some(String::from_str(alloc, text)?)),
+        (None, Some(url)) => url_file_name(alloc, url),
+        (None, None) => Ok(None),
+    }
+}
+
+fn path_file_name(path: &str) -> Option<&str>
+    ensures { option_copied result ≡ present (last_of_path path.now) }
+{
+    present(last_of_path(path))
+}
+
+/// The last segment of the URL's path, percent-decoded where the decoded bytes are text.
+fn url_file_name(alloc: Global, url: &str) -> Result<Option<String>, AllocError>
+    ensures { IfOk result
+        (λ file. option_map string_bytes file ≡ present (decoded (last_of_url url.now))) }
+{
+    let name = decoded(alloc, last_of_url(url))?;
+    Ok(if name.is_empty() { None } else { Some(name) })
+}
+
+fn decoded(alloc: Global, text: &str) -> Result<String, AllocError>
+    ensures { IfOk result (λ name. string_bytes name ≡ decoded text.now) }
+{
+    if !has_percent(text) {
+        return String::from_str(alloc, text);
+    }
+    match percent_decode(text.as_bytes()).decode_utf8(alloc) {
+        Ok(name) => {
+            let owned = name.into_owned(alloc)?;
+            Ok(owned)
+        }
+        Err(DecodeError::Utf8(_)) => String::from_str(alloc, text),
+        Err(DecodeError::OutOfMemory) => Err(AllocError),
+    }
+}
+
+/// Whether there is a `%`, without which a text has no escape.
+fn has_percent(text: &str) -> bool
+    ensures { result ≡ list_any (λ b. b == 37) text.now }
+{
+    text.as_bytes().contains(&b'%')
+}
+
+/// The text, unless it is empty.
+fn present(text: &str) -> Option<&str>
+    ensures { option_copied result ≡ present text.now }
+{
+    if text.is_empty() { None } else { Some(text) }
+}
+
+fn last_of_path(path: &str) -> &str
+    ensures { result.now ≡ last_of_path path.now }
+{
+    match path.as_bytes().iter().rposition(|byte| ends_segment(*byte)) {
+        Some(at) => &path[at + 1..],
+        None => path,
+    }
+}
+
+fn last_of_url(url: &str) -> &str
+    ensures { result.now ≡ last_of_url url.now }
+{
+    last_segment(before(before(url, '#'), '?'))
+}
+
+fn last_segment(path: &str) -> &str
+    ensures { result.now ≡ after_last is_slash path.now }
+{
+    match path.as_bytes().iter().rposition(|byte| is_slash(*byte)) {
+        Some(at) => &path[at + 1..],
+        None => path,
+    }
+}
+
+/// The text before the first such character, or all of it.
+fn before(text: &str, end: char) -> &str
+    requires { end < 128 }
+    ensures { result.now ≡ before_first (λ b. b == end) text.now }
+{
+    match text.split_once(end) {
+        Some((front, _)) => front,
+        None => text,
+    }
+}
+
+fn is_slash(byte: u8) -> bool
+    ensures { result ≡ is_slash byte }
+{
+    byte == b'/'
+}
+
+fn ends_segment(byte: u8) -> bool
+    ensures { result ≡ ends_segment byte }
+{
+    matches!(byte, b'/' | b'\\')
+}

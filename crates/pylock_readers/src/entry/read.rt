@@ -1,0 +1,175 @@
+//! Entries from TOML values.
+ghost use Rattle.std.specs.Prelude.{◌≡◌, codes, option_map, string_bytes};
+ghost use Rattle.toml.specs.Data.{get_member};
+ghost use Rattle.toml.specs.View.{view, table_view};
+ghost use Rattle.pyver_core.specs.Agreement.{Gives};
+ghost use Rattle.pylock_readers.specs.Entry.Reading.{table_in, name_in, version_in, marker_in};
+ghost use Rattle.pylock_readers.specs.Entry.Reading.{requires_python_in, entry_in, entry_of};
+ghost use Rattle.pylock_readers.specs.Entry.Reading.{toml_value};
+
+use crate::conditions::Conditions;
+use crate::entry::Entry;
+use crate::entry::sources::{SourceFields, Sources, refusal};
+use crate::error::{EntryError, EntryKey};
+use crate::field::{into_name, optional_text, take};
+use pymark_core::Marker;
+use pyver_core::SpecifierSet;
+use std::alloc::Global;
+use std::rc::Rc;
+use toml::{Table, Value};
+
+impl Entry {
+    /// Reads an entry from a text that is one TOML value, a table, with nothing before or after it.
+    /// The refusals come in the order of `EntryError`; keys that are not named there are ignored.
+    ///
+    /// Takes memory for the value and for the entry.
+    #[tactic(auto, unfolding(crate::specs::Entry::Reading::entry_of))]
+    pub fn read_text(alloc: Global, text: &str) -> Result<Entry, EntryError>
+        ensures { Gives EntryError.Memory (λ e. e) result (entry_of text.now) }
+    {
+        let value = toml_value(alloc, text)?;
+        let mut conditions = Conditions::new(alloc);
+        read_entry(alloc, value, &mut conditions)
+    }
+}
+
+fn toml_value(alloc: Global, text: &str) -> Result<Value, EntryError>
+    ensures { Gives EntryError.Memory view result (toml_value text.now) }
+{
+    match Value::from_str(alloc, text) {
+        Ok(value) => Ok(value),
+        Err(fault) if fault.is_memory() => Err(EntryError::Memory),
+        Err(_) => Err(EntryError::Toml),
+    }
+}
+
+/// The entry that the value is.
+#[tactic(auto, unfolding(crate::specs::Entry::Reading::entry_in))]
+pub(crate) fn read_entry(
+    alloc: Global,
+    value: Value,
+    conditions: &mut Conditions,
+) -> Result<Entry, EntryError>
+    ensures { Gives EntryError.Memory (λ e. e) result (entry_in (view value)) }
+{
+    let fields = take_fields(require_table(value)?);
+    let name = read_name(alloc, fields.name)?;
+    let version = read_version(fields.version)?;
+    let sources = Sources::read(alloc, fields.sources)?;
+    let marker = read_marker(alloc, fields.marker, conditions)?;
+    let requires_python = read_requires_python(alloc, fields.requires_python, conditions)?;
+    Ok(Entry {
+        name,
+        version,
+        sources,
+        marker,
+        requires_python,
+    })
+}
+
+fn require_table(value: Value) -> Result<Table, EntryError>
+    ensures { Gives EntryError.Memory table_view result (table_in (view value)) }
+{
+    match value {
+        Value::Table(table) => Ok(table),
+        _ => Err(EntryError::NotTable),
+    }
+}
+
+fn read_name(alloc: Global, field: Option<Value>) -> Result<String, EntryError>
+    ensures { Gives EntryError.Memory string_bytes result (name_in (option_map view field)) }
+{
+    let value = field.ok_or(EntryError::Name)?;
+    match into_name(alloc, value) {
+        Ok(name) => Ok(name),
+        Err(fault) => Err(refusal(fault, EntryError::Name)),
+    }
+}
+
+fn read_version(field: Option<Value>) -> Result<Option<String>, EntryError>
+    ensures { Gives EntryError.Memory (option_map string_bytes) result
+        (version_in (option_map view field)) }
+{
+    match optional_text(field) {
+        Ok(version) => Ok(version),
+        Err(fault) => Err(refusal(fault, EntryError::Key(EntryKey::Version))),
+    }
+}
+
+fn read_marker(
+    alloc: Global,
+    field: Option<Value>,
+    conditions: &mut Conditions,
+) -> Result<Option<Rc<Marker>>, EntryError>
+    ensures { Gives EntryError.Memory (option_map (λ m. m.value)) result
+        (marker_in (option_map view field)) }
+{
+    match field {
+        None => Ok(None),
+        Some(value) => match conditions.markers.read(alloc, value) {
+            Ok(marker) => Ok(Some(marker)),
+            Err(fault) => Err(refusal(fault, EntryError::Marker)),
+        },
+    }
+}
+
+fn read_requires_python(
+    alloc: Global,
+    field: Option<Value>,
+    conditions: &mut Conditions,
+) -> Result<Option<Rc<SpecifierSet>>, EntryError>
+    ensures { Gives EntryError.Memory (option_map (λ s. s.value)) result
+        (requires_python_in (option_map view field)) }
+{
+    match field {
+        None => Ok(None),
+        Some(value) => match conditions.sets.read(alloc, value) {
+            Ok(set) => Ok(Some(set)),
+            Err(fault) => Err(refusal(fault, EntryError::RequiresPython)),
+        },
+    }
+}
+
+/// The values of the keys of an entry, out of the table that is let go.
+#[derive(Drop)]
+struct Fields {
+    name: Option<Value>,
+    version: Option<Value>,
+    sources: SourceFields,
+    marker: Option<Value>,
+    requires_python: Option<Value>,
+}
+
+fn take_fields(mut table: Table) -> Fields
+    ensures name { option_map view result.name ≡ get_member (codes "name") (table_view table) }
+    ensures version { option_map view result.version
+        ≡ get_member (codes "version") (table_view table) }
+    ensures vcs { option_map view result.sources.vcs
+        ≡ get_member (codes "vcs") (table_view table) }
+    ensures directory { option_map view result.sources.directory
+        ≡ get_member (codes "directory") (table_view table) }
+    ensures archive { option_map view result.sources.archive
+        ≡ get_member (codes "archive") (table_view table) }
+    ensures sdist { option_map view result.sources.sdist
+        ≡ get_member (codes "sdist") (table_view table) }
+    ensures wheels { option_map view result.sources.wheels
+        ≡ get_member (codes "wheels") (table_view table) }
+    ensures marker { option_map view result.marker
+        ≡ get_member (codes "marker") (table_view table) }
+    ensures requires_python { option_map view result.requires_python
+        ≡ get_member (codes "requires-python") (table_view table) }
+{
+    Fields {
+        name: take(&mut table, "name"),
+        version: take(&mut table, "version"),
+        sources: SourceFields {
+            vcs: take(&mut table, "vcs"),
+            directory: take(&mut table, "directory"),
+            archive: take(&mut table, "archive"),
+            sdist: take(&mut table, "sdist"),
+            wheels: take(&mut table, "wheels"),
+        },
+        marker: take(&mut table, "marker"),
+        requires_python: take(&mut table, "requires-python"),
+    }
+}

@@ -1,0 +1,92 @@
+//! The wheels of an entry.
+ghost use Rattle.std.specs.Prelude.{◌≡◌, IfOk, map, option_map};
+ghost use Rattle.toml.specs.View.{view, items_view};
+ghost use Rattle.pyver_core.specs.Agreement.{Gives};
+ghost use Rattle.pylock_readers.specs.Entry.{wheel_name};
+ghost use Rattle.pylock_readers.specs.Entry.Fields.{each};
+ghost use Rattle.pylock_readers.specs.Entry.Sources.{file_of, files_in};
+
+use crate::entry::file::{DistributionFile, WheelFile};
+use crate::field::{FieldError, items};
+use pywheel_core::{WheelError, WheelName};
+use std::alloc::{AllocError, Global};
+use std::marker::Model;
+use toml::Value;
+
+/// The wheels of an entry, and what their file names say, read once.
+#[derive(Debug, Drop)]
+pub(crate) struct Wheels {
+    files: Vec<WheelFile>,
+    names: Vec<Option<WheelName>>,
+}
+
+impl Model for Wheels {
+    ghost use Rattle.std.specs.Prelude.{◌≡◌, List, map};
+    ghost use Rattle.pylock_readers.specs.Entry.{FileValue, wheel_name};
+
+    ghost Value = { List FileValue };
+
+    ghost view = { λ w. w.files.items };
+
+    ghost invariant = { λ w. w.names.items ≡ map wheel_name w.files.items };
+}
+
+impl Wheels {
+    /// The wheels of the key `wheels`; none where it is absent.
+    pub(crate) fn read(alloc: Global, field: Option<Value>) -> Result<Wheels, FieldError>
+        ensures { Gives FieldError.Memory (λ w. w) result (files_in (option_map view field)) }
+    {
+        let values = items(alloc, field)?;
+        let files = read_files(alloc, values)?;
+        let names = read_names(alloc, &files)?;
+        Ok(Wheels { files, names })
+    }
+
+    /// The wheels, in their order.
+    pub(crate) fn files(&self) -> &[WheelFile]
+        ensures { result.now ≡ self.now }
+    {
+        self.files.as_slice()
+    }
+
+    /// What the file name of each wheel says, nothing where it is absent or refused.
+    pub(crate) fn names(&self) -> &[Option<WheelName>]
+        ensures { result.now ≡ map wheel_name self.now }
+    {
+        self.names.as_slice()
+    }
+}
+
+fn read_files(alloc: Global, values: Vec<Value>) -> Result<Vec<WheelFile>, FieldError>
+    ensures { Gives FieldError.Memory (λ v. v.items) result
+        (each file_of (items_view values.items)) }
+{
+    let mut files = Vec::with_capacity(alloc, values.len())?;
+    for value in values {
+        files.push(DistributionFile::read(alloc, value)?)?;
+    }
+    Ok(files)
+}
+
+fn read_names(alloc: Global, files: &[WheelFile]) -> Result<Vec<Option<WheelName>>, AllocError>
+    ensures { IfOk result (λ names. names.items ≡ map wheel_name files.now) }
+{
+    let mut names = Vec::with_capacity(alloc, files.len())?;
+    for file in files {
+        names.push(read_name(alloc, file)?)?;
+    }
+    Ok(names)
+}
+
+fn read_name(alloc: Global, file: &WheelFile) -> Result<Option<WheelName>, AllocError>
+    ensures { IfOk result (λ name. name ≡ wheel_name file.now) }
+{
+    let Some(name) = file.file_name() else {
+        return Ok(None);
+    };
+    match WheelName::parse(alloc, name) {
+        Ok(name) => Ok(Some(name)),
+        Err(WheelError::Memory) => Err(AllocError),
+        Err(_) => Ok(None),
+    }
+}

@@ -1,0 +1,176 @@
+//! Environments from their texts.
+ghost use Rattle.std.specs.Prelude.{◌≡◌, IfOk, map, option_map};
+ghost use Rattle.std.specs.Option.{option_copied};
+ghost use Rattle.serde_json.specs.Find.{get_member};
+ghost use Rattle.serde_json.specs.View.{view, items_view, members_view};
+ghost use Rattle.pyver_core.specs.Agreement.{Gives};
+ghost use Rattle.pymark_core.specs.Environment.{empty};
+ghost use Rattle.pymark_core.specs.Variables.{variable_name, variables};
+ghost use Rattle.pylock_readers.specs.Environment.{members_in, tags_in, text_in, with_member};
+ghost use Rattle.pylock_readers.specs.Environment.{with_members, texts_in, tag_refusal, listed};
+ghost use Rattle.pylock_readers.specs.Environment.{env_in, value_of, env_of};
+
+use crate::error::EnvError;
+use crate::text::as_text;
+use pymark_core::{Environment, Var};
+use pywheel_core::{TagList, TagListError};
+use serde_json::{Map, Value};
+use std::alloc::{AllocError, Global};
+
+/// The variables of markers (PEP 508, "Environment Markers").
+const VARIABLES: [Var; 11] = [
+    Var::OsName,
+    Var::SysPlatform,
+    Var::PlatformMachine,
+    Var::PlatformPythonImplementation,
+    Var::PlatformRelease,
+    Var::PlatformSystem,
+    Var::PlatformVersion,
+    Var::PythonVersion,
+    Var::PythonFullVersion,
+    Var::ImplementationName,
+    Var::ImplementationVersion,
+];
+
+/// Reads the text of an environment: a JSON object with `environment`, an object whose members
+/// named like a variable of markers are texts, and `tags`, a list of texts, each a tag (PEP 425).
+/// Other members are ignored. The refusals come in the order of `EnvError`.
+///
+/// Gives the environment with these variables set and nothing asked for, and the list of the tags.
+/// Takes memory for the JSON value and for both of them.
+#[tactic(auto, unfolding(crate::specs::Environment::env_of))]
+pub fn read_environment(alloc: Global, bytes: &[u8]) -> Result<(Environment, TagList), EnvError>
+    ensures { Gives EnvError.Memory (λ e. e) result (env_of bytes.now) }
+{
+    let text = as_text(bytes).ok_or(EnvError::Json)?;
+    let value = json(alloc, text)?;
+    read_value(alloc, &value)
+}
+
+fn json(alloc: Global, text: &str) -> Result<Value, EnvError>
+    ensures { Gives EnvError.Memory view result (value_of text.now) }
+{
+    match Value::from_str(alloc, text) {
+        Ok(value) => Ok(value),
+        Err(fault) if fault.is_memory() => Err(EnvError::Memory),
+        Err(_) => Err(EnvError::Json),
+    }
+}
+
+#[tactic(auto, unfolding(crate::specs::Environment::env_in))]
+fn read_value(alloc: Global, value: &Value) -> Result<(Environment, TagList), EnvError>
+    ensures { Gives EnvError.Memory (λ e. e) result (env_in (view value.now)) }
+{
+    let members = members(value)?;
+    let environment = read_variables(alloc, members)?;
+    let items = tags(value)?;
+    let texts = texts(alloc, items)?;
+    let tags = tag_list(alloc, &texts)?;
+    Ok((environment, tags))
+}
+
+fn members(value: &Value) -> Result<&Map<String, Value>, EnvError>
+    ensures { Gives EnvError.Memory (λ m. members_view m.now.entries) result
+        (members_in (view value.now)) }
+{
+    match value.get("environment") {
+        Some(value) => value.as_object().ok_or(EnvError::Shape),
+        None => Err(EnvError::Shape),
+    }
+}
+
+fn tags(value: &Value) -> Result<&[Value], EnvError>
+    ensures { Gives EnvError.Memory (λ v. items_view v.now) result (tags_in (view value.now)) }
+{
+    match value.get("tags") {
+        Some(value) => match value.as_array() {
+            Some(tags) => Ok(tags.as_slice()),
+            None => Err(EnvError::Shape),
+        },
+        None => Err(EnvError::Shape),
+    }
+}
+
+/// The environment where each variable has the text of the member of its name.
+fn read_variables(alloc: Global, members: &Map<String, Value>) -> Result<Environment, EnvError>
+    ensures { Gives EnvError.Memory (λ e. e) result
+        (with_members variables (members_view members.now.entries) empty) }
+{
+    let mut environment = Environment::new(alloc);
+    set_members(&mut environment, members, &VARIABLES)?;
+    Ok(environment)
+}
+
+/// Gives each of these variables the text of the member of its name.
+fn set_members(
+    environment: &mut Environment,
+    members: &Map<String, Value>,
+    variables: &[Var],
+) -> Result<(), EnvError>
+    ensures { Gives EnvError.Memory (λ _. environment.new) result
+        (with_members variables.now (members_view members.now.entries) environment.old) }
+{
+    for variable in variables {
+        set_member(environment, members, *variable)?;
+    }
+    Ok(())
+}
+
+/// Gives the variable the text of the member of its name, if there is one.
+fn set_member(
+    environment: &mut Environment,
+    members: &Map<String, Value>,
+    variable: Var,
+) -> Result<(), EnvError>
+    ensures { Gives EnvError.Memory (λ _. environment.new) result
+        (with_member variable (members_view members.now.entries) environment.old) }
+{
+    match member_text(members, variable)? {
+        Some(text) => environment.set(variable, text)?,
+        None => {}
+    }
+    Ok(())
+}
+
+/// The text of the member that is named like the variable.
+fn member_text(members: &Map<String, Value>, variable: Var) -> Result<Option<&str>, EnvError>
+    ensures { Gives EnvError.Memory option_copied result
+        (text_in (get_member (variable_name variable) (members_view members.now.entries))) }
+{
+    match member(members, variable.name()) {
+        None => Ok(None),
+        Some(value) => match value.as_str() {
+            Some(text) => Ok(Some(text)),
+            None => Err(EnvError::Shape),
+        },
+    }
+}
+
+fn member<'a>(members: &'a Map<String, Value>, name: &str) -> Option<&'a Value>
+    ensures { option_map (λ value. view value.now) result
+        ≡ get_member name.now (members_view members.now.entries) }
+{
+    members.get(name)
+}
+
+/// The texts of a list of texts.
+fn texts(alloc: Global, items: &[Value]) -> Result<Vec<&str>, EnvError>
+    ensures { Gives EnvError.Memory (λ v. map (λ text. text.now) v.items) result
+        (texts_in (items_view items.now)) }
+{
+    let mut texts = Vec::with_capacity(alloc, items.len())?;
+    for item in items {
+        texts.push(item.as_str().ok_or(EnvError::Shape)?)?;
+    }
+    Ok(texts)
+}
+
+fn tag_list(alloc: Global, texts: &[&str]) -> Result<TagList, EnvError>
+    ensures { Gives EnvError.Memory (λ l. l) result (listed (map (λ text. text.now) texts.now)) }
+{
+    match TagList::parse(alloc, texts) {
+        Ok(tags) => Ok(tags),
+        Err(TagListError::Tag(place)) => Err(EnvError::Tag(place)),
+        Err(TagListError::Memory) => Err(EnvError::Memory),
+    }
+}

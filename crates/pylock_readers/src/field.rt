@@ -1,0 +1,124 @@
+//! The fields of a TOML table, taken by value, so that a string of the document moves into the
+//! lock.
+ghost use Rattle.std.specs.Prelude.{◌≡◌, ℕ, List, false, option_map, string_bytes};
+ghost use Rattle.toml.specs.Data.{get_member, same_key};
+ghost use Rattle.toml.specs.View.{view, items_view, table_view};
+ghost use Rattle.pyver_core.specs.Agreement.{Gives};
+ghost use Rattle.pylock_readers.specs.declared.field.FieldError.TheVariants as field;
+ghost use Rattle.pylock_readers.specs.Entry.Fields.{required, text_of, members_of, name_of};
+ghost use Rattle.pylock_readers.specs.Entry.Fields.{text_in};
+ghost use Rattle.pylock_readers.specs.Entry.Fields.{optional_text_in, flag_in, items_in};
+
+use pyver_core::{is_name, normal_name};
+use std::alloc::{AllocError, Global};
+use std::mem;
+use toml::{Table, Value};
+
+/// Why a field was not read.
+#[derive(Debug, Drop)]
+pub(crate) enum FieldError {
+    /// It is not of its form.
+    Wrong,
+    /// Memory was refused.
+    Memory,
+}
+
+impl<E: Into<AllocError> + Drop> From<E> for FieldError {
+    ghost from_gives = { λ _ e. e ≡ field.Memory };
+
+    fn from(_refused: E) -> FieldError {
+        FieldError::Memory
+    }
+}
+
+/// Takes the value of the key, once, and leaves a small one in its place: to take a member out of a
+/// table that is soon let go would cost more.
+pub(crate) fn take(table: &mut Table, key: &str) -> Option<Value>
+    ensures taken { option_map view result ≡ get_member key.now (table_view table.old) }
+    ensures others { (other : List ℕ) → same_key other key.now ≡ false
+        → get_member other (table_view table.new) ≡ get_member other (table_view table.old) }
+{
+    match table.get_mut(key) {
+        Some(value) => Some(mem::replace(value, Value::Boolean(false))),
+        None => None,
+    }
+}
+
+/// Refuses where the test fails.
+pub(crate) fn require(test: bool) -> Result<(), FieldError>
+    ensures { Gives FieldError.Memory (λ u. u) result (required test) }
+{
+    if test { Ok(()) } else { Err(FieldError::Wrong) }
+}
+
+/// The text that a value is.
+pub(crate) fn into_text(value: Value) -> Result<String, FieldError>
+    ensures { Gives FieldError.Memory string_bytes result (text_of (view value)) }
+{
+    match value {
+        Value::String(text) => Ok(text),
+        _ => Err(FieldError::Wrong),
+    }
+}
+
+/// The table that a value is.
+pub(crate) fn into_table(value: Value) -> Result<Table, FieldError>
+    ensures { Gives FieldError.Memory table_view result (members_of (view value)) }
+{
+    match value {
+        Value::Table(table) => Ok(table),
+        _ => Err(FieldError::Wrong),
+    }
+}
+
+/// A name, in normal form.
+pub(crate) fn into_name(alloc: Global, value: Value) -> Result<String, FieldError>
+    ensures { Gives FieldError.Memory string_bytes result (name_of (view value)) }
+{
+    let text = into_text(value)?;
+    if !is_name(text.as_str()) {
+        return Err(FieldError::Wrong);
+    }
+    Ok(normal_name(alloc, text.as_str())?)
+}
+
+/// A text that has to be there.
+pub(crate) fn text(field: Option<Value>) -> Result<String, FieldError>
+    ensures { Gives FieldError.Memory string_bytes result (text_in (option_map view field)) }
+{
+    into_text(field.ok_or(FieldError::Wrong)?)
+}
+
+/// A text that may be absent.
+pub(crate) fn optional_text(field: Option<Value>) -> Result<Option<String>, FieldError>
+    ensures { Gives FieldError.Memory (option_map string_bytes) result
+        (optional_text_in (option_map view field)) }
+{
+    match field {
+        None => Ok(None),
+        Some(value) => Ok(Some(into_text(value)?)),
+    }
+}
+
+/// A boolean, which is false where it is absent.
+pub(crate) fn flag(field: Option<Value>) -> Result<bool, FieldError>
+    ensures { Gives FieldError.Memory (λ flag. flag) result (flag_in (option_map view field)) }
+{
+    match field {
+        None => Ok(false),
+        Some(Value::Boolean(flag)) => Ok(flag),
+        Some(_) => Err(FieldError::Wrong),
+    }
+}
+
+/// A list, which is empty where it is absent.
+pub(crate) fn items(alloc: Global, field: Option<Value>) -> Result<Vec<Value>, FieldError>
+    ensures { Gives FieldError.Memory (λ values. items_view values.items) result
+        (items_in (option_map view field)) }
+{
+    match field {
+        None => Ok(Vec::new(alloc)),
+        Some(Value::Array(values)) => Ok(values),
+        Some(_) => Err(FieldError::Wrong),
+    }
+}

@@ -1,0 +1,219 @@
+//! The head of a lock (PEP 751).
+ghost use Rattle.std.specs.Prelude.{◌≡◌, map, option_map, string_bytes};
+ghost use Rattle.std.specs.Option.{option_copied};
+ghost use Rattle.toml.specs.View.{view, items_view};
+ghost use Rattle.pyver_core.specs.Agreement.{Gives};
+ghost use Rattle.pylock_readers.specs.Entry.Fields.{each, marker_field, name_of, set_field};
+ghost use Rattle.pylock_readers.specs.Lock.Head.{refusal_for, names_in, markers_in};
+ghost use Rattle.pylock_readers.specs.Lock.Head.{environments_in};
+ghost use Rattle.pylock_readers.specs.Lock.Head.{requires_python_in, head_names_in, head_in};
+
+use crate::conditions::{read_marker, read_set};
+use crate::error::{HeadKey, LockError};
+use crate::field::{FieldError, into_name, into_text, items};
+use crate::lock::names::HeadNames;
+use pymark_core::Marker;
+use pyver_core::SpecifierSet;
+use std::alloc::Global;
+use std::marker::Model;
+use toml::Value;
+
+/// The head of a lock (PEP 751): what it says of itself, which is the environments and the Pythons
+/// that it is for, its extras and its groups.
+#[derive(Debug, Drop)]
+pub struct Head {
+    environments: Vec<Marker>,
+    requires_python: Option<SpecifierSet>,
+    extras: HeadNames,
+    groups: HeadNames,
+    default_groups: HeadNames,
+}
+
+impl Model for Head {
+    ghost use Rattle.pylock_readers.specs.Lock.{HeadValue};
+    ghost use Rattle.std.specs.Coded.{codes};
+    ghost use Rattle.pymark_core.specs.Inner.Coding.{marker_code};
+
+    ghost Value = { HeadValue };
+
+    ghost coded = { Prim.hlevel (codes, marker_code) };
+
+    ghost view = { λ h. record {
+      environments = h.environments.items;
+      requires_python = h.requires_python;
+      extras = h.extras;
+      groups = h.groups;
+      default_groups = h.default_groups;
+    } };
+}
+
+/// The values of the keys of a head.
+#[derive(Drop)]
+pub(crate) struct HeadFields {
+    pub(crate) environments: Option<Value>,
+    pub(crate) requires_python: Option<Value>,
+    pub(crate) extras: Option<Value>,
+    pub(crate) groups: Option<Value>,
+    pub(crate) default_groups: Option<Value>,
+}
+
+impl Head {
+    /// The head of these keys, which are judged in their order.
+    #[tactic(auto, unfolding(crate::specs::Lock::Head::head_in))]
+    pub(crate) fn read(alloc: Global, fields: HeadFields) -> Result<Head, LockError>
+        ensures { Gives LockError.Memory (λ h. h) result
+            (head_in (option_map view fields.environments) (option_map view fields.requires_python)
+            (option_map view fields.extras) (option_map view fields.groups)
+            (option_map view fields.default_groups)) }
+    {
+        let environments = read_environments(alloc, fields.environments)?;
+        let requires_python = read_requires_python(alloc, fields.requires_python)?;
+        let extras = read_head_names(alloc, HeadKey::Extras, fields.extras)?;
+        let groups = read_head_names(alloc, HeadKey::DependencyGroups, fields.groups)?;
+        let default_groups = read_head_names(alloc, HeadKey::DefaultGroups, fields.default_groups)?;
+        Ok(Head {
+            environments,
+            requires_python,
+            extras,
+            groups,
+            default_groups,
+        })
+    }
+
+    /// The markers of the key `environments`, in their order.
+    pub fn environments(&self) -> &[Marker]
+        ensures { result.now ≡ self.now.environments }
+    {
+        self.environments.as_slice()
+    }
+
+    /// The key `requires-python`.
+    pub fn requires_python(&self) -> Option<&SpecifierSet>
+        ensures { option_copied result ≡ self.now.requires_python }
+    {
+        self.requires_python.as_ref()
+    }
+
+    /// The names of the key `extras`.
+    pub fn extras(&self) -> &HeadNames
+        ensures { result.now ≡ self.now.extras }
+    {
+        &self.extras
+    }
+
+    /// The names of the key `dependency-groups`.
+    pub fn groups(&self) -> &HeadNames
+        ensures { result.now ≡ self.now.groups }
+    {
+        &self.groups
+    }
+
+    /// The names of the key `default-groups`.
+    pub fn default_groups(&self) -> &HeadNames
+        ensures { result.now ≡ self.now.default_groups }
+    {
+        &self.default_groups
+    }
+}
+
+fn read_environments(alloc: Global, field: Option<Value>) -> Result<Vec<Marker>, LockError>
+    ensures { Gives LockError.Memory (λ v. v.items) result
+        (environments_in (option_map view field)) }
+{
+    match environment_markers(alloc, field) {
+        Ok(markers) => Ok(markers),
+        Err(fault) => Err(refusal(fault, LockError::Head(HeadKey::Environments))),
+    }
+}
+
+fn environment_markers(alloc: Global, field: Option<Value>) -> Result<Vec<Marker>, FieldError>
+    ensures { Gives FieldError.Memory (λ v. v.items) result (markers_in (option_map view field)) }
+{
+    let values = items(alloc, field)?;
+    read_markers(alloc, values)
+}
+
+fn read_markers(alloc: Global, values: Vec<Value>) -> Result<Vec<Marker>, FieldError>
+    ensures { Gives FieldError.Memory (λ v. v.items) result
+        (each marker_field (items_view values.items)) }
+{
+    let mut markers = Vec::with_capacity(alloc, values.len())?;
+    for value in values {
+        markers.push(marker(alloc, value)?)?;
+    }
+    Ok(markers)
+}
+
+fn marker(alloc: Global, value: Value) -> Result<Marker, FieldError>
+    ensures { Gives FieldError.Memory (λ m. m) result (marker_field (view value)) }
+{
+    let text = into_text(value)?;
+    read_marker(alloc, text.as_str())
+}
+
+fn read_requires_python(
+    alloc: Global,
+    field: Option<Value>,
+) -> Result<Option<SpecifierSet>, LockError>
+    ensures { Gives LockError.Memory (λ s. s) result
+        (requires_python_in (option_map view field)) }
+{
+    match field {
+        None => Ok(None),
+        Some(value) => match set(alloc, value) {
+            Ok(set) => Ok(Some(set)),
+            Err(fault) => Err(refusal(fault, LockError::Head(HeadKey::RequiresPython))),
+        },
+    }
+}
+
+fn set(alloc: Global, value: Value) -> Result<SpecifierSet, FieldError>
+    ensures { Gives FieldError.Memory (λ s. s) result (set_field (view value)) }
+{
+    let text = into_text(value)?;
+    read_set(alloc, text.as_str())
+}
+
+/// The names of a key, in normal form, each once.
+fn read_head_names(
+    alloc: Global,
+    key: HeadKey,
+    field: Option<Value>,
+) -> Result<HeadNames, LockError>
+    ensures { Gives LockError.Memory (λ names. names) result
+        (head_names_in key (option_map view field)) }
+{
+    match names(alloc, field) {
+        Ok(names) => Ok(names),
+        Err(fault) => Err(refusal(fault, LockError::Head(key))),
+    }
+}
+
+fn names(alloc: Global, field: Option<Value>) -> Result<HeadNames, FieldError>
+    ensures { Gives FieldError.Memory (λ names. names) result (names_in (option_map view field)) }
+{
+    let values = items(alloc, field)?;
+    let names = read_names(alloc, values)?;
+    Ok(HeadNames::of(alloc, names)?)
+}
+
+fn read_names(alloc: Global, values: Vec<Value>) -> Result<Vec<String>, FieldError>
+    ensures { Gives FieldError.Memory (λ v. map string_bytes v.items) result
+        (each name_of (items_view values.items)) }
+{
+    let mut names = Vec::with_capacity(alloc, values.len())?;
+    for value in values {
+        names.push(into_name(alloc, value)?)?;
+    }
+    Ok(names)
+}
+
+/// The refusal of a lock for a field that was not read.
+pub(crate) fn refusal(fault: FieldError, wrong: LockError) -> LockError
+    ensures { result ≡ refusal_for wrong fault }
+{
+    match fault {
+        FieldError::Wrong => wrong,
+        FieldError::Memory => LockError::Memory,
+    }
+}

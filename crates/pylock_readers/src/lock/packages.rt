@@ -1,0 +1,81 @@
+//! The entries of a lock, one after the other (PEP 751, `packages`).
+ghost use Rattle.std.specs.Prelude.{◌≡◌, ◌≤◌, IfOk, OnOk, length, option_map, vec_len};
+ghost use Rattle.toml.specs.View.{view, items_view};
+ghost use Rattle.pyver_core.specs.Agreement.{Gives};
+ghost use Rattle.pylock_readers.specs.Entry.Reading.{entry_in};
+ghost use Rattle.pylock_readers.specs.Lock.Reading.{at_place, entries_in, entries_of, packages_in};
+ghost use Rattle.pylock_readers.specs.Lock.Reading.{room_for};
+
+use crate::conditions::Conditions;
+use crate::entry::{Entry, read_entry};
+use crate::error::{EntryError, LockError};
+use crate::field::items;
+use crate::lock::MOST_ENTRIES;
+use crate::lock::head::refusal;
+use std::alloc::Global;
+use toml::Value;
+
+/// The key `packages`: at most 100,000 entries, none where it is absent.
+#[tactic(auto, unfolding(crate::specs::Lock::Reading::entries_in))]
+pub(crate) fn read_packages(alloc: Global, field: Option<Value>) -> Result<Vec<Entry>, LockError>
+    ensures gives { Gives LockError.Memory (λ v. v.items) result
+        (entries_in (option_map view field)) }
+    ensures within { IfOk result (λ v. vec_len v ≤ 100000) }
+{
+    let values = packages(alloc, field)?;
+    require_room(&values)?;
+    read_entries(alloc, values)
+}
+
+fn packages(alloc: Global, field: Option<Value>) -> Result<Vec<Value>, LockError>
+    ensures { Gives LockError.Memory (λ values. items_view values.items) result
+        (packages_in (option_map view field)) }
+{
+    match items(alloc, field) {
+        Ok(values) => Ok(values),
+        Err(fault) => Err(refusal(fault, LockError::Packages)),
+    }
+}
+
+#[tactic(auto, using(crate::proofs::EntryLemmas::count_of_items))]
+fn require_room(values: &[Value]) -> Result<(), LockError>
+    ensures gives { Gives LockError.Memory (λ u. u) result (room_for (items_view values.now)) }
+    ensures within { OnOk result (length values.now ≤ 100000) }
+{
+    if values.len() > MOST_ENTRIES {
+        Err(LockError::TooMany)
+    } else {
+        Ok(())
+    }
+}
+
+fn read_entries(alloc: Global, values: Vec<Value>) -> Result<Vec<Entry>, LockError>
+    requires { vec_len values ≤ 100000 }
+    ensures gives { Gives LockError.Memory (λ v. v.items) result
+        (entries_of 1 (items_view values.items)) }
+    ensures len { IfOk result (λ v. vec_len v ≡ vec_len values) }
+{
+    let mut entries = Vec::with_capacity(alloc, values.len())?;
+    let mut conditions = Conditions::new(alloc);
+    for value in values {
+        let place = entries.len() + 1;
+        entries.push(read_entry_at(alloc, place, value, &mut conditions)?)?;
+    }
+    Ok(entries)
+}
+
+/// The entry of the value, which is let go.
+fn read_entry_at(
+    alloc: Global,
+    place: usize,
+    value: Value,
+    conditions: &mut Conditions,
+) -> Result<Entry, LockError>
+    ensures { Gives LockError.Memory (λ e. e) result (at_place place (entry_in (view value))) }
+{
+    match read_entry(alloc, value, conditions) {
+        Ok(entry) => Ok(entry),
+        Err(EntryError::Memory) => Err(LockError::Memory),
+        Err(refusal) => Err(LockError::Entry(place, refusal)),
+    }
+}
