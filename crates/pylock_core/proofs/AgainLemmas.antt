@@ -15,7 +15,8 @@ use Rattle.pywheel_core.specs.Tag.{TagValue}
 use Rattle.pylock_readers.specs.Entry.{EntryValue}
 use Rattle.pylock_readers.specs.Lock.{HeadValue}
 use Rattle.pylock_core.specs.Inner.Again.{AllStand, AllWithin, DifferAt, after_head, fresh_row, has_head, row_anew, rows_anew, stored}
-use Rattle.pylock_core.specs.Inner.Index.{Rises, list_at}
+use Rattle.pylock_core.specs.Inner.Index.{list_at}
+use Rattle.pylock_core.specs.Session.State.{Rises}
 use Rattle.pylock_core.specs.Inner.Names.{members_under, number_in, policy_at}
 use Rattle.pylock_core.specs.Inner.Parts.{IsJudged, IsNamed, IsSession, OfBoth, OfRows, state_of}
 use Rattle.pylock_core.specs.Inner.Pass.{is_number}

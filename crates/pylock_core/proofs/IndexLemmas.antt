@@ -9,7 +9,8 @@ use Rattle.std.proofs.lemmas.List.{get_or-map, get_or-set_same, get_or-set_other
 use Rattle.pymark_core.specs.Marker.Keys.{reads}
 use Rattle.pymark_core.specs.Marker.Reading.{MarkerValue}
 use Rattle.pylock_readers.specs.Entry.{EntryValue}
-use Rattle.pylock_core.specs.Inner.Index.{Rises, put_in, take_out, moved, list_at, numbers_in, read_by}
+use Rattle.pylock_core.specs.Inner.Index.{put_in, take_out, moved, list_at, numbers_in, read_by}
+use Rattle.pylock_core.specs.Session.State.{Rises}
 use Rattle.pylock_readers.specs.Lock.{HeadValue}
 use Rattle.pylock_core.specs.Session.Judgement.{IndexKey, Marked, OfTags, and_head, entry_reads, head_reads, is_python, keys, marker_reads}
 use Rattle.pylock_core.specs.Session.Steps.{is_any}

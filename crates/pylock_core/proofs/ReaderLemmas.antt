@@ -1,10 +1,16 @@
 -- Lemmas on the numbers of the rows that pass a test, and on what a change of a row makes of them.
-use Rattle.std.proofs.Common.{◌≡◌, ℕ, suc, zero, ◌+◌, ◌<◌, ◌∙◌, Bool, true, false, List, [], ◌∷◌, map, length, get_or, set, Option, Some, None, cond, subst, ap, sym, refl, eq-eqb, arith}
+use Rattle.std.proofs.Common.{◌≡◌, ℕ, suc, zero, ◌+◌, ◌<◌, ◌≤◌, ◌∙◌, Bool, true, false, List, [], ◌∷◌, map, length, get_or, set, Option, Some, None, cond, subst, ap, sym, refl, eq-eqb, arith}
 use Rattle.std.specs.List.{filter}
 use Rattle.std.proofs.lemmas.Bool.{ne_eqb, lt-ltb, le-ltb}
-use Rattle.pylock_core.specs.Inner.Index.{Rises, put_in, take_out, moved}
+use Rattle.pylock_core.specs.Inner.Index.{put_in, take_out, moved}
+use Rattle.std.specs.Str.{bytes_eq}
+use Rattle.pyver_core.specs.Name.{norm}
+use Rattle.pymark_core.specs.declared.marker.keys.Key.TheVariants.{Of, Extras, Groups}
+use Rattle.pylock_core.specs.Session.State.{NumbersRise, Rises, State}
 use Rattle.pylock_core.specs.Inner.Rows.{in_rows, passes}
-use Rattle.pylock_core.specs.Session.Judgement.{numbers_where, and_head}
+use Rattle.pylock_core.specs.Session.Judgement.{IndexKey, Marked, OfTags, numbers_where, and_head, entry_reads, head_reads, readers, touched}
+use Rattle.pylock_core.specs.declared.edit.Edit.{Edit}
+use Rattle.pylock_core.specs.declared.edit.Edit.TheVariants as edit
 use Rattle.pylock_core.proofs.IndexLemmas.{rises_from}
 
 -- the numbers of the rows that pass, n the first row's
@@ -84,3 +90,36 @@ moved_head was is false n ns less = refl
 pub head_rises : (b : Bool) (ns : List ℕ) → Rises 1 ns → Rises 0 (and_head b ns)
 head_rises true ns r = (omega arith, r)
 head_rises false ns r = rises_from 1 0 ns (omega arith) r
+
+-- ---- numbers increase
+
+pub numbers_rise : {X : Type 0} (n : ℕ) (rows : List (Option X)) → Rises n (map (λ e. e.0) (in_rows n rows))
+numbers_rise n [] = tt
+numbers_rise n (None ∷ rows) = rises_from (n + 1) n (map (λ e. e.0) (in_rows (n + 1) rows)) (omega arith) (numbers_rise (n + 1) rows)
+numbers_rise n (Some x ∷ rows) = (omega arith, numbers_rise (n + 1) rows)
+
+-- of increasing numbers those that pass increase
+filtered_row : {X : Type 0} (b : Bool) (n : ℕ) (e : ℕ × X) (es : List (ℕ × X)) → n ≤ e.0 → Rises (e.0 + 1) (map (λ e. e.0) es) → Rises n (map (λ e. e.0) (cond b (e ∷ es) es))
+filtered_row true n e es le r = (le, r)
+filtered_row false n e es le r = rises_from (e.0 + 1) n (map (λ e. e.0) es) (omega (arith, le)) r
+
+pub filtered_rise : {X : Type 0} (test : X → Bool) (n : ℕ) (es : List (ℕ × X)) → Rises n (map (λ e. e.0) es) → Rises n (numbers_where test es)
+filtered_rise test n [] r = tt
+filtered_rise test n (e ∷ es) r = filtered_row (test e.1) n e (filter (λ e. test e.1) es) r.0 (filtered_rise test (e.0 + 1) es r.1)
+
+pub readers_rise : (key : IndexKey) (state : State) → NumbersRise state → Rises 0 (readers key state)
+readers_rise key state rise = head_rises (head_reads key state.head) (numbers_where (entry_reads key) state.entries) (filtered_rise (entry_reads key) 1 state.entries rise)
+
+pub touched_rises : (edit : Edit) (state : State) → NumbersRise state → Rises 0 (touched edit state)
+touched_rises (edit.Set variable text) state rise = readers_rise (Marked (Of variable)) state rise
+touched_rises (edit.Unset variable) state rise = readers_rise (Marked (Of variable)) state rise
+touched_rises (edit.AddExtra name) state rise = readers_rise (Marked Extras) state rise
+touched_rises (edit.DropExtra name) state rise = readers_rise (Marked Extras) state rise
+touched_rises (edit.AddGroup name) state rise = readers_rise (Marked Groups) state rise
+touched_rises (edit.DropGroup name) state rise = readers_rise (Marked Groups) state rise
+touched_rises (edit.Tags tags) state rise = readers_rise OfTags state rise
+touched_rises (edit.Add entry) state rise = (omega arith, tt)
+touched_rises (edit.Put n entry) state rise = (omega arith, tt)
+touched_rises (edit.Del n) state rise = tt
+touched_rises (edit.Policy name policy) state rise =
+    rises_from 1 0 (touched (edit.Policy name policy) state) (omega arith) (filtered_rise (λ entry. bytes_eq (norm name) entry.name) 1 state.entries rise)

@@ -5,7 +5,8 @@ use Rattle.std.specs.Str.{bytes_eq}
 use Rattle.std.specs.declared.vec.Vec.{Vec}
 use Rattle.std.proofs.lemmas.List.{get_or-map, get_or_default, length-map}
 use Rattle.pylock_readers.specs.Entry.{EntryValue}
-use Rattle.pylock_core.specs.Inner.Index.{AllRise, HaveRoom, Rises, list_at, moved, numbers_in}
+use Rattle.pylock_core.specs.Inner.Index.{AllRise, HaveRoom, list_at, moved, numbers_in}
+use Rattle.pylock_core.specs.Session.State.{Rises}
 use Rattle.pylock_core.specs.Inner.Names.{HasRoom, IsNames, is_at, members_under, number_in}
 use Rattle.pylock_core.specs.Inner.Parts.{AreMembers, IsIndex, IsNamed, IsSession, OfBoth, OfRows, shown, state_of, verdict_in}
 use Rattle.pylock_core.specs.Inner.Rows.{in_rows, passes}

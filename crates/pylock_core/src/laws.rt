@@ -9,13 +9,14 @@ ghost use Rattle.pywheel_core.specs.Tag.{TagValue};
 ghost use Rattle.pylock_readers.specs.Entry.{EntryValue};
 ghost use Rattle.pylock_readers.specs.Lock.{HeadValue};
 ghost use Rattle.pylock_core.specs.Session.Judgement.{AgreeAtKey, IndexKey, entry_reads};
-ghost use Rattle.pylock_core.specs.Session.Judgement.{head_reads, verdict_of};
+ghost use Rattle.pylock_core.specs.Session.Judgement.{head_reads, readers, touched, verdict_of};
 ghost use Rattle.pylock_core.specs.Session.Picks.{IsFaultIn, IsPickAmong};
-ghost use Rattle.pylock_core.specs.Session.State.{State};
+ghost use Rattle.pylock_core.specs.Session.State.{NumbersRise, Rises, State};
 ghost use Rattle.pylock_core.specs.Session.Steps.{answer, head_fault, python_check};
 ghost use Rattle.pylock_core.specs.declared.answer.Answer.TheVariants.{Plan, Fault};
 ghost use Rattle.pylock_core.specs.declared.answer.FaultCode.{FaultCode};
 ghost use Rattle.pylock_core.specs.declared.answer.Pick.{Pick};
+ghost use Rattle.pylock_core.specs.declared.edit.Edit.{Edit};
 ghost use Rattle.pylock_core.specs.declared.edit.Policy.{Policy};
 
 use pymark_core::laws::marker_reads;
@@ -47,6 +48,17 @@ pub fn head_reads()
 {
     marker_reads();
 }
+
+/// The numbers of what reads a key increase, where those of the entries do, as they do in every
+/// session.
+pub fn readers_rise()
+    ensures { (key : IndexKey) (state : State) → NumbersRise state → Rises 0 (readers key state) }
+{}
+
+/// The numbers that an edit touches increase, where those of the entries do.
+pub fn touched_rises()
+    ensures { (edit : Edit) (state : State) → NumbersRise state → Rises 0 (touched edit state) }
+{}
 
 /// Each pick of a plan names an entry that stands in the state, and that entry has the pick's
 /// source.

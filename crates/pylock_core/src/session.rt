@@ -11,10 +11,11 @@ pub(crate) mod room;
 pub(crate) mod row;
 pub(crate) mod verdict;
 
-ghost use Rattle.std.specs.Prelude.{◌≡◌, Ok, Err, IfOk, IfErr, OnOk, length};
+ghost use Rattle.std.specs.Prelude.{◌≡◌, Ok, Err, IfOk, IfErr, OnOk, IsTrue, length};
 ghost use Rattle.std.specs.Option.{option_copied};
 ghost use Rattle.pylock_core.specs.Session.Judgement.{all_numbers, index_of, touched, verdicts_of};
-ghost use Rattle.pylock_core.specs.Session.State.{apply, entry_at, first};
+ghost use Rattle.pylock_core.specs.Session.State.{NumbersRise, apply, entry_at, first};
+ghost use Rattle.pylock_core.specs.Session.State.{takes_memory};
 ghost use Rattle.pylock_core.specs.Session.Steps.{answer};
 ghost use Rattle.pylock_core.specs.declared.edit.EditError.{EditError};
 ghost use Rattle.pylock_core.specs.declared.edit.EditError.TheVariants.{Memory};
@@ -64,9 +65,11 @@ impl Model for Session {
 
 impl Session {
     /// A session on the entries of the lock, with the numbers 1, 2, .. in their order. No extra is
-    /// asked for, and of the groups the default ones, whatever sets the environment held. Takes
-    /// memory for what it keeps of each entry: a row, its number under each key that it reads and
-    /// under its name.
+    /// asked for, and of the groups the default ones, whatever sets the environment held. Where it
+    /// is refused, its arguments are dropped.
+    ///
+    /// Takes memory for what it keeps of each entry: a row, its number under each key that it reads
+    /// and under its name, and the name.
     pub fn start(
         alloc: Global,
         lock: Lock,
@@ -77,6 +80,7 @@ impl Session {
         ensures verdicts { IfOk result (λ session. session.verdicts ≡ verdicts_of session.state) }
         ensures index { IfOk result (λ session. session.index ≡ index_of session.state) }
         ensures judged { IfOk result (λ session. session.judged ≡ all_numbers session.state) }
+        ensures rising { IfOk result (λ session. NumbersRise session.state) }
     {
         let parts = start(alloc, lock, environment, tags)?;
         Ok(Session { parts })
@@ -84,8 +88,10 @@ impl Session {
 
     /// Makes an edit, and answers how many judgements it made: one for what reads the variable, the
     /// extras, the groups or the tags that are edited, for the entry that is brought, or for each
-    /// entry of the policy's name. A refused edit leaves the session as it was. `Del` takes no
-    /// memory.
+    /// entry of the policy's name. A refused edit is dropped and leaves the session as it was.
+    ///
+    /// Takes memory for the verdicts that it makes and the numbers of their entries, and for what it
+    /// brings: the text of a variable, a name, the row and the places of an entry. `Del` takes none.
     pub fn edit(&mut self, edit: Edit) -> Result<u64, EditError>
         ensures accepted { OnOk result (apply edit self.old.state ≡ Ok self.new.state) }
         ensures refused { IfErr result (λ error. (error ≡ Memory → ⊥)
@@ -95,16 +101,18 @@ impl Session {
         ensures count { IfOk result (λ judgements. judgements ≡ length self.new.judged) }
         ensures verdicts { self.new.verdicts ≡ verdicts_of self.new.state }
         ensures index { self.new.index ≡ index_of self.new.state }
+        ensures memory { IfErr result (λ error. error ≡ Memory → IsTrue (takes_memory edit)) }
+        ensures rising { NumbersRise self.new.state }
     {
         edit_parts(&mut self.parts, edit)
     }
 
     /// The answer of the installation steps (PEP 751) on the state as it stands. Changes nothing;
-    /// takes memory for a stamp for each name and for the picks.
-    pub fn answer(&self, alloc: Global) -> Result<Answer, AllocError>
+    /// takes memory for a stamp for each name and a pick for each number that was given out.
+    pub fn answer(&self) -> Result<Answer, AllocError>
         ensures { IfOk result (λ found. found ≡ answer self.now.state) }
     {
-        answer(alloc, &self.parts)
+        answer(&self.parts)
     }
 
     /// The entry of the number.

@@ -1,5 +1,7 @@
 //! What an edit and an answer grow by, however many entries stand beside that read another key:
 //! `tools/growths/run` counts the growths of each of these tests and compares their differences.
+//! The value of a marker that asks for a variable's text among the extras takes memory for its
+//! normal form, so that a body that evaluates it and drops the value has more growths.
 use pylock_core::{Edit, Lock, Session, read_environment};
 use pymark_core::Var;
 use pyver_core::Label;
@@ -17,7 +19,10 @@ const MANY: &str = "lock-version = \"1.0\"\ncreated-by = \"t\"\npackages = [\n\
     {name=\"f\", marker=\"python_version < '3'\", directory={path=\"f\"}},\n\
     {name=\"g\", marker=\"python_version < '3'\", directory={path=\"g\"}},\n\
     {name=\"h\", marker=\"python_version < '3'\", directory={path=\"h\"}},\n\
-    {name=\"i\", marker=\"python_version < '3'\", directory={path=\"i\"}}]\n";
+    {name=\"i\", marker=\"python_version < '3'\", directory={path=\"i\"}},\n\
+    {name=\"j\", marker=\"python_version in extras\", directory={path=\"j\"}},\n\
+    {name=\"k\", marker=\"python_version in extras\", directory={path=\"k\"}},\n\
+    {name=\"l\", marker=\"python_version in extras\", directory={path=\"l\"}}]\n";
 
 /// A session on the lock, where memory allows it.
 fn started(alloc: Global, lock: &str) -> Option<Session> {
@@ -41,7 +46,7 @@ fn edited(alloc: Global, lock: &str) -> Option<Session> {
 /// Whether the answer after that edit is given.
 fn is_answered(alloc: Global, lock: &str) -> bool {
     match edited(alloc, lock) {
-        Some(session) => session.answer(alloc).is_ok(),
+        Some(session) => session.answer().is_ok(),
         None => false,
     }
 }

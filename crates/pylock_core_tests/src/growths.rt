@@ -147,7 +147,7 @@ fn session(alloc: Global) -> Option<Session> {
 
 /// Whether the answer, if memory allows it, has so many picks; none where it is a fault.
 fn has_picks(alloc: Global, session: &Session, count: usize) -> bool {
-    match session.answer(alloc) {
+    match session.answer() {
         Ok(Answer::Plan(plan)) => plan.picks().len() == count,
         Ok(Answer::Fault { id: _, code: _ }) => count == 0,
         Err(_) => true,

@@ -4,6 +4,8 @@
 #[cfg(test)]
 mod answers;
 #[cfg(test)]
+mod edit_growths;
+#[cfg(test)]
 mod entries;
 #[cfg(test)]
 mod environments;

@@ -27,7 +27,7 @@ pub(super) fn session(
 /// The answer as `plan` with the number and source of each pick, or `fault` with its number and
 /// code.
 pub(super) fn answer(alloc: Global, session: &Session) -> Result<String, AllocError> {
-    match session.answer(alloc)? {
+    match session.answer()? {
         Answer::Fault { id, code } => format!(in alloc; "fault {id} {code:?}"),
         Answer::Plan(plan) => {
             let mut text = String::from_str(alloc, "plan")?;

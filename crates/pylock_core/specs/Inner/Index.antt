@@ -9,6 +9,7 @@ use Rattle.pymark_core.specs.Marker.Keys.{reads}
 use Rattle.pymark_core.specs.Marker.Reading.{MarkerValue}
 use Rattle.pymark_core.specs.declared.marker.keys.Key.{Key}
 use Rattle.pylock_core.specs.Session.Judgement.{IndexKey, Marked, OfTags, is_python}
+use Rattle.pylock_core.specs.Session.State.{Rises}
 
 -- what is read by what has these markers, a Python check or not, and wheels or not
 abbrev pub any_reads : Key → List MarkerValue → Bool
@@ -25,11 +26,6 @@ numbers_in lists = map (λ list. list.items) lists
 -- the numbers under a key
 abbrev pub list_at : List (Vec ℕ Global) → ℕ → List ℕ
 list_at lists key = slice_index_or (numbers_in lists) key []
-
--- each number is at least n and more than the one before
-abbrev pub Rises : ℕ → List ℕ → Type 0
-Rises n [] = Unit {0}
-Rises n (x ∷ xs) = (n ≤ x) × Rises (x + 1) xs
 
 -- an increasing list with the number in it
 abbrev pub put_in : ℕ → List ℕ → List ℕ

@@ -1,5 +1,6 @@
 -- The state of a session, and what an edit makes of it.
-use Rattle.std.specs.Prelude.{ℕ, ◌+◌, Bool, not, ◌==◌, ◌||◌, nat_lt, List, [], ◌∷◌, ◌++◌, map}
+use Rattle.std.specs.Prelude.{ℕ, ◌+◌, ◌≤◌, Bool, true, false, not, ◌==◌, ◌||◌, nat_lt, List, [], ◌∷◌}
+use Rattle.std.specs.Prelude.{◌++◌, map}
 use Rattle.std.specs.Prelude.{length, filter, Option, Some, None, is_some, unwrap_or, Result, Ok}
 use Rattle.std.specs.Prelude.{Err, if◌then◌else◌}
 use Rattle.std.specs.Cmp.Lexicographic.{slice_cmp}
@@ -36,6 +37,15 @@ pub record State : Type 0 where
   pub environment : EnvironmentValue
   pub tags : List TagValue
   pub policies : Policies
+
+-- each number is at least n and more than the one before
+abbrev pub Rises : ℕ → List ℕ → Type 0
+Rises n [] = Unit {0}
+Rises n (x ∷ xs) = (n ≤ x) × Rises (x + 1) xs
+
+-- the numbers of the entries increase, and none is 0
+abbrev pub NumbersRise : State → Type 0
+NumbersRise state = Rises 1 (map (λ e. e.0) state.entries)
 
 -- the environment in which these groups are asked for beside those that were
 abbrev pub asking_for : List (List ℕ) → EnvironmentValue → EnvironmentValue
@@ -112,6 +122,11 @@ with_next entry state =
       last = state.last + 1;
     })
     else Err TooMany
+
+-- whether an edit takes memory, and so may be refused for want of it: each but `Del` does
+abbrev pub takes_memory : Edit → Bool
+takes_memory (edit.Del n) = false
+takes_memory _ = true
 
 -- the state after an edit, or why the edit is refused
 abbrev pub apply : Edit → State → Result State EditError

@@ -1,7 +1,8 @@
 //! The edits of a session, one by one, and its start.
 
 ghost use Rattle.std.specs.Prelude.{◌≡◌, ◌+◌, ◌++◌, ◌∷◌, [], None, Ok, Err, IfOk, IfErr, IfSome};
-ghost use Rattle.std.specs.Prelude.{IsNone, IsSome, OnErr, OnOk, OnSome, length, slice_index_or};
+ghost use Rattle.std.specs.Prelude.{IsNone, IsSome, IsTrue, OnErr, OnOk, OnSome, length};
+ghost use Rattle.std.specs.Prelude.{slice_index_or};
 ghost use Rattle.std.specs.Prelude.{string_bytes, map};
 ghost use Rattle.std.specs.FinMap as map_of;
 ghost use Rattle.std.specs.Option.{option_copied};
@@ -10,7 +11,7 @@ ghost use Rattle.pylock_core.specs.Inner.Parts.{IsSession, shown, state_of};
 ghost use Rattle.pylock_core.specs.Inner.Rows.{in_rows};
 ghost use Rattle.pylock_core.specs.Session.Judgement.{all_numbers, and_head, head_reads, index_of};
 ghost use Rattle.pylock_core.specs.Session.Judgement.{keys, touched, verdicts_of};
-ghost use Rattle.pylock_core.specs.Session.State.{apply, asking, entry_at, first};
+ghost use Rattle.pylock_core.specs.Session.State.{apply, asking, entry_at, first, takes_memory};
 ghost use Rattle.pylock_core.specs.Session.Steps.{head_fault};
 ghost use Rattle.pylock_core.specs.declared.edit.Edit.TheVariants as edit;
 ghost use Rattle.pylock_core.specs.declared.edit.EditError.TheVariants.{Memory};
@@ -103,8 +104,8 @@ fn del_entry(parts: &mut Parts, number: u32) -> Result<(), EditError>
     ensures session { IsSession parts.new }
     ensures ok { OnOk result
         (apply (edit.Del number) (state_of parts.old) ≡ Ok (state_of parts.new)) }
-    ensures refused { IfErr result (λ error. (error ≡ Memory → ⊥)
-        → apply (edit.Del number) (state_of parts.old) ≡ Err error) }
+    ensures refused { IfErr result (λ error. apply (edit.Del number) (state_of parts.old) ≡ Err error) }
+    ensures memory { IfErr result (λ error. error ≡ Memory → ⊥) }
     ensures err { OnErr result (shown parts.new ≡ shown parts.old) }
 {
     let Some(place) = place_of(parts, number) else {
@@ -123,6 +124,7 @@ fn make(parts: &mut Parts, edit: Edit, judged: &mut Vec<u32>) -> Result<(), Edit
         ≡ judged.old.items ++ touched edit (state_of parts.old)) }
     ensures refused { IfErr result (λ error. (error ≡ Memory → ⊥)
         → apply edit (state_of parts.old) ≡ Err error) }
+    ensures memory { IfErr result (λ error. error ≡ Memory → IsTrue (takes_memory edit)) }
     ensures err { OnErr result (shown parts.new ≡ shown parts.old) }
 {
     match edit {
@@ -151,6 +153,7 @@ pub(crate) fn edit_parts(parts: &mut Parts, edit: Edit) -> Result<u64, EditError
     ensures ok { OnOk result (apply edit (state_of parts.old) ≡ Ok (state_of parts.new)) }
     ensures refused { IfErr result (λ error. (error ≡ Memory → ⊥)
         → apply edit (state_of parts.old) ≡ Err error) }
+    ensures memory { IfErr result (λ error. error ≡ Memory → IsTrue (takes_memory edit)) }
     ensures err { OnErr result (shown parts.new ≡ shown parts.old) }
 {
     let mut judged = Vec::new(parts.alloc);

@@ -3,7 +3,8 @@
 ghost use Rattle.std.specs.Prelude.{◌≡◌, ℕ, ◌<◌, false, [], IfOk, IsTrue, OnOk, length, map};
 ghost use Rattle.std.specs.Prelude.{slice_index_or, vec_len, vec_capacity};
 ghost use Rattle.pylock_core.specs.Session.Judgement.{and_head, entry_reads, head_reads, keys};
-ghost use Rattle.pylock_core.specs.Inner.Index.{AllRise, HaveRoom, Rises, any_reads};
+ghost use Rattle.pylock_core.specs.Inner.Index.{AllRise, HaveRoom, any_reads};
+ghost use Rattle.pylock_core.specs.Session.State.{Rises};
 ghost use Rattle.pylock_core.specs.Inner.Index.{list_at, moved, numbers_in, put_in};
 ghost use Rattle.pylock_core.specs.Inner.Index.{read_by, take_out};
 ghost use Rattle.pylock_core.specs.Inner.Rows.{passes};

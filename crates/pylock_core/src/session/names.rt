@@ -2,7 +2,8 @@
 
 ghost use Rattle.std.specs.Prelude.{◌≡◌, ℕ, ◌<◌, nat_eq, not, List, Some, IfOk, IfSome, OnOk};
 ghost use Rattle.std.specs.Prelude.{IsTrue, length, slice_set, if◌then◌else◌};
-ghost use Rattle.pylock_core.specs.Inner.Index.{Rises, list_at, moved};
+ghost use Rattle.pylock_core.specs.Inner.Index.{list_at, moved};
+ghost use Rattle.pylock_core.specs.Session.State.{Rises};
 ghost use Rattle.pylock_core.specs.Inner.Names.{HasRoom, IsNames, is_at, members_of, number_in};
 ghost use Rattle.pylock_core.specs.Inner.Names.{policies_in};
 ghost use Rattle.pylock_core.specs.Session.State.{with_policy};
@@ -45,13 +46,6 @@ pub(crate) fn number_of(alloc: Global, names: &mut Names, name: &str) -> Result<
     push_within(&mut names.policies, Policy::Any);
     push_within(&mut names.members, Vec::new(alloc));
     Ok(number)
-}
-
-/// The number of the name, if it has one.
-pub(crate) fn find(names: &Names, name: &str) -> Option<usize>
-    ensures { result ≡ number_in names.now name.now }
-{
-    names.numbers.get(name).copied()
 }
 
 /// Gives the name of this number the policy.

@@ -48,7 +48,7 @@ pub(crate) struct Parts {
 }
 
 /// The answer of the installation steps.
-pub(crate) fn answer(alloc: Global, parts: &Parts) -> Result<Answer, AllocError>
+pub(crate) fn answer(parts: &Parts) -> Result<Answer, AllocError>
     requires { IsSession parts.now }
     ensures { IfOk result (λ found. found ≡ answer (state_of parts.now)) }
 {
@@ -56,7 +56,7 @@ pub(crate) fn answer(alloc: Global, parts: &Parts) -> Result<Answer, AllocError>
         return Ok(Answer::Fault { id: 0, code });
     }
     answer_of(
-        alloc,
+        parts.alloc,
         parts.rows.as_slice(),
         parts.names.policies.as_slice(),
     )

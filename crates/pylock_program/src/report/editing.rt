@@ -163,7 +163,7 @@ impl Editing {
         self.ended += 1;
         self.line.clear();
         match outcome {
-            Ok(()) => self.plan = push_standing(self.alloc, &self.session, out)?,
+            Ok(()) => self.plan = push_standing(&self.session, out)?,
             Err(LineRefusal::Memory) => return Err(AllocError),
             Err(refusal) => {
                 self.refused = true;
@@ -191,11 +191,11 @@ fn obey(alloc: Global, session: &mut Session, line: &[u8]) -> Result<(), LineRef
 }
 
 /// Pushes the answer as it stands, and answers whether it is a plan.
-fn push_standing(alloc: Global, session: &Session, out: &mut Vec<u8>) -> Result<bool, AllocError>
+fn push_standing(session: &Session, out: &mut Vec<u8>) -> Result<bool, AllocError>
     ensures plan { IfOk result (λ plan. plan ≡ is_plan (answer session.now.state)) }
     ensures text { OnOk result (out.new.items ≡ out.old.items ++ standing_text session.now.state) }
 {
-    let answer = session.answer(alloc)?;
+    let answer = session.answer()?;
     push_answer(out, session, &answer)?;
     Ok(matches!(answer, Answer::Plan(_)))
 }

@@ -2,7 +2,8 @@ use Rattle.std.proofs.Common.{◌≡◌, ℕ, ◌<◌, ◌∙◌, false, List, [
 use Rattle.std.specs.Global.{Global}
 use Rattle.std.specs.declared.vec.Vec.{Vec}
 use Rattle.std.proofs.lemmas.List.{get_or-set_other, get_or-map, length-set}
-use Rattle.pylock_core.specs.Inner.Index.{Rises, list_at, moved}
+use Rattle.pylock_core.specs.Inner.Index.{list_at, moved}
+use Rattle.pylock_core.specs.Session.State.{Rises}
 use Rattle.pylock_core.proofs.IndexLemmas.{changed_at, list_at_other}
 use Rattle.pylock_core.proofs.session.index.change_each.Goals as goal
 

@@ -1,6 +1,6 @@
 use Rattle.std.proofs.Common.{◌∙◌, false, replicate, get_or, subst, sym, ap, []}
 use Rattle.std.proofs.lemmas.List.{get_or-replicate}
-use Rattle.pylock_core.specs.Inner.Index.{Rises}
+use Rattle.pylock_core.specs.Session.State.{Rises}
 use Rattle.pylock_core.proofs.IndexLemmas.{head_lists, same_length}
 use Rattle.pylock_core.proofs.session.index.head_index.Goals as goal
 

@@ -1,6 +1,7 @@
 use Rattle.std.proofs.Common.{◌∙◌, nat_eq, true, false, cond, subst, ap, sym}
 use Rattle.std.proofs.lemmas.Bool.{ne_eqb}
-use Rattle.pylock_core.specs.Inner.Index.{Rises, list_at, moved}
+use Rattle.pylock_core.specs.Inner.Index.{list_at, moved}
+use Rattle.pylock_core.specs.Session.State.{Rises}
 use Rattle.pylock_core.proofs.IndexLemmas.{moved_same, moved_two}
 use Rattle.pylock_core.proofs.session.names.move_between.Goals as goal
 

@@ -1,6 +1,7 @@
 use Rattle.std.proofs.Common.{◌∙◌, ◌+◌, ◌<◌, ◌≤◌, length, IfSome, subst, ap, sym, arith}
 use Rattle.std.proofs.lemmas.List.{length-set}
-use Rattle.pylock_core.specs.Inner.Index.{HaveRoom, Rises, list_at, moved}
+use Rattle.pylock_core.specs.Inner.Index.{HaveRoom, list_at, moved}
+use Rattle.pylock_core.specs.Session.State.{Rises}
 use Rattle.pylock_core.specs.Inner.Names.{HasRoom, is_at}
 use Rattle.pylock_core.specs.Inner.Parts.{AreMembers, IsIndex, IsJudged, IsNamed, state_of}
 use Rattle.pylock_core.specs.Inner.Rows.{in_rows}

@@ -1,0 +1,5 @@
+use Rattle.pylock_core.proofs.ReaderLemmas.{readers_rise}
+use Rattle.pylock_core.proofs.laws.readers_rise.Goals as goal
+
+pub returns : goal.returns
+returns c = readers_rise
