@@ -104,12 +104,12 @@ standard error says why it ended early:
 
 const VERSION_ABOUT: &str = "Print the normal form of a version (PEP 440)";
 
-const VERSION_HELP: &str = "A version, such as 1.0rc1; one that begins with - is given after --";
+const VERSION_HELP: &str = "A version, such as 1.0rc1";
 
 const VERSION_REPLY: &str = "\
 Prints the normal form, or refused, TAB and one of the words syntax and number.
-Status: 0, it is a version; 1, it is refused; 3, the output failed or memory
-ran out.";
+Status: 0, it is a version; 1, it is refused; 2, the command line is refused;
+3, the output failed or memory ran out.";
 
 const MATCH_ABOUT: &str = "Print whether a specifier set admits a version (PEP 440)";
 
@@ -118,17 +118,18 @@ const SET_HELP: &str = "A specifier set, such as '>=2.8.1, ==2.8.*'";
 const MATCH_REPLY: &str = "\
 Prints true or false, or refused, TAB and one of the words set-syntax,
 set-number, version-syntax and version-number.
-Status: 0, an answer; 1, a text is refused; 3, the output failed or memory ran
-out.";
+Status: 0, an answer; 1, a text is refused; 2, the command line is refused;
+3, the output failed or memory ran out.";
 
 const NAME_ABOUT: &str = "Print the normal form of a name (PEP 503)";
 
-const NAME_HELP: &str = "The name of a package, an extra or a group";
+const NAME_HELP: &str =
+    "The name of a package, an extra or a group; what begins with - goes after --";
 
 const NAME_REPLY: &str = "\
 Prints the normal form, or refused, TAB and the word name.
-Status: 0, it is a name; 1, it is refused; 3, the output failed or memory ran
-out.";
+Status: 0, it is a name; 1, it is refused; 2, the command line is refused;
+3, the output failed or memory ran out.";
 
 const MARKER_ABOUT: &str = "Print whether a marker holds in an environment (PEP 508)";
 
@@ -139,8 +140,9 @@ Prints true or false; or fault, TAB and one of the codes marker-unset,
 marker-extra, marker-undefined and marker-number; or refused, TAB and one of
 the words too-deep, syntax and set-misuse; or the refusal of the environment,
 as select does.
-Status: 0, an answer; 1, a fault or a refused text; 2, the environment is
-refused; 3, a file can't be read, the output failed or memory ran out.";
+Status: 0, an answer; 1, a fault or a refused text; 2, the environment or the
+command line is refused; 3, a file can't be read, the output failed or memory
+ran out.";
 
 const REQUIREMENT_ABOUT: &str = "Print the parts of a requirement (PEP 508)";
 
@@ -150,8 +152,8 @@ const REQUIREMENT_REPLY: &str = "\
 Prints name, extras, specifier set, URL and marker, with a TAB between each
 two; or refused, TAB and one of the words name, extras, specifier, url, marker
 and trailing.
-Status: 0, it is a requirement; 1, it is refused; 3, the output failed or
-memory ran out.";
+Status: 0, it is a requirement; 1, it is refused; 2, the command line is
+refused; 3, the output failed or memory ran out.";
 
 const WHEEL_ABOUT: &str = "Print the parts of a wheel's file name (PEP 427)";
 
@@ -160,8 +162,8 @@ const WHEEL_HELP: &str = "A file name, such as numpy-2.2.1-cp312-cp312-win_amd64
 const WHEEL_REPLY: &str = "\
 Prints name, version, build and tags, with a TAB between each two; or refused,
 TAB and one of the words extension, parts, name, version, build and tags.
-Status: 0, it is the name of a wheel; 1, it is refused; 3, the output failed or
-memory ran out.";
+Status: 0, it is the name of a wheel; 1, it is refused; 2, the command line is
+refused; 3, the output failed or memory ran out.";
 
 /// `select LOCK ENV`.
 fn select_command<'a>(alloc: Global) -> Result<Command<'a>, AllocError>

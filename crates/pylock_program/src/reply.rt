@@ -35,8 +35,8 @@ use pywheel_core::{Tag, WheelError, WheelName};
 use std::alloc::{AllocError, Global};
 
 /// Writes the reply of a one-shot command, and answers the program's status: 0 for an answer, 1
-/// where a text is refused. After a fault a front of the reply is written. Takes memory for what it
-/// parses and for the reply.
+/// where a text is refused or a marker has a fault, 2 where the environment is refused. After a
+/// fault a front of the reply is written. Takes memory for what it parses and for the reply.
 pub fn query<W: Sink>(alloc: Global, query: Query<'_>, writer: &mut W) -> Result<u8, RunFault>
     ensures text { OnOk result (Appends (W.value writer.old).held (W.value writer.new).held
         (reply query.entry).text) }

@@ -175,7 +175,7 @@ fn asking(mut environment: Environment, groups: &[String]) -> Result<Environment
 
 /// Lists for entries and names, empty.
 #[derive(Drop)]
-struct Room {
+struct EntryLists {
     rows: Vec<Option<Row>>,
     policies: Vec<Policy>,
     members: Vec<Vec<u32>>,
@@ -183,13 +183,13 @@ struct Room {
 }
 
 /// Room for so many entries, each with a name of its own.
-fn room_for(alloc: Global, count: usize) -> Result<Room, AllocError>
-    ensures rows { IfOk result (λ room. room.rows.items ≡ []) }
-    ensures policies { IfOk result (λ room. room.policies.items ≡ []) }
-    ensures members { IfOk result (λ room. room.members.items ≡ []) }
-    ensures entries { IfOk result (λ room. room.entries.items ≡ []) }
+fn entry_lists(alloc: Global, count: usize) -> Result<EntryLists, AllocError>
+    ensures rows { IfOk result (λ lists. lists.rows.items ≡ []) }
+    ensures policies { IfOk result (λ lists. lists.policies.items ≡ []) }
+    ensures members { IfOk result (λ lists. lists.members.items ≡ []) }
+    ensures entries { IfOk result (λ lists. lists.entries.items ≡ []) }
 {
-    Ok(Room {
+    Ok(EntryLists {
         rows: Vec::with_capacity(alloc, count)?,
         policies: Vec::with_capacity(alloc, count)?,
         members: Vec::with_capacity(alloc, count)?,
@@ -238,15 +238,15 @@ fn without_entries(
     environment: Environment,
     tags: TagList,
     beginning: Beginning,
-    room: Room,
+    lists: EntryLists,
 ) -> Parts
     requires verdict { beginning.head_verdict ≡ head_fault head environment }
     requires index { numbers_in beginning.index
         ≡ map (λ key. and_head (head_reads key head) []) keys }
-    requires rows { room.rows.items ≡ [] }
-    requires policies { room.policies.items ≡ [] }
-    requires members { room.members.items ≡ [] }
-    requires entries { room.entries.items ≡ [] }
+    requires rows { lists.rows.items ≡ [] }
+    requires policies { lists.policies.items ≡ [] }
+    requires members { lists.members.items ≡ [] }
+    requires entries { lists.entries.items ≡ [] }
     ensures session { IsSession result }
     ensures state { state_of result ≡ record {
       head = head;
@@ -261,12 +261,12 @@ fn without_entries(
         index,
         head_verdict,
     } = beginning;
-    let Room {
+    let EntryLists {
         rows,
         policies,
         members,
         entries,
-    } = room;
+    } = lists;
     Parts {
         alloc,
         judged: Vec::new(alloc),
@@ -301,11 +301,11 @@ pub(crate) fn start(
     ensures judged { IfOk result (λ parts. parts.judged.items ≡ all_numbers (state_of parts)) }
 {
     let (head, entries) = lock.into_parts();
-    let room = room_for(alloc, entries.len())?;
+    let lists = entry_lists(alloc, entries.len())?;
     let environment = asking(environment, head.default_groups().as_slice())?;
     let mut judged = Vec::new(alloc);
     let beginning = begin(alloc, &head, &environment, &tags, &mut judged)?;
-    let mut parts = without_entries(alloc, head, environment, tags, beginning, room);
+    let mut parts = without_entries(alloc, head, environment, tags, beginning, lists);
     for entry in entries {
         add(&mut parts, entry, &mut judged)?;
     }

@@ -83,7 +83,7 @@ impl Editing {
         ensures editing { IfOk result (λ editing. editing ≡ start session.state) }
         ensures text { OnOk result (out.new.items ≡ out.old.items ++ standing_text session.state) }
     {
-        let plan = push_standing(alloc, &session, out)?;
+        let plan = push_standing(&session, out)?;
         Ok(Editing {
             alloc,
             session,
