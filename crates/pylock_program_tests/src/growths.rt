@@ -2,11 +2,14 @@
 //! each of its growths, that one refused. A test passes where the call answers want of memory and
 //! leaves what it should, or answers just what it answers with ample memory.
 
+use crate::check::{End, check_growth};
 use pylock_command::{CommandError, Task, command};
 use pylock_core::{
     Answer, Edit, EditError, Entry, EnvError, Lock, LockError, Session, read_environment,
 };
-use pylock_program::{FileFault, Pieces, Query, Room, RunFault, query, read_whole, run};
+use pylock_program::{FileFault, Pieces, Query, Room, query, read_whole, run};
+use std::alloc::Global;
+use std::process::Abort;
 
 const LOCK: &str =
     "lock-version = \"1.0\"\ncreated-by = \"t\"\npackages = [{name=\"B_b\", version=\"1.0\", \
@@ -25,18 +28,26 @@ const REPORT: &[u8] = b"plan 2\n1\tb-b\t1.0\tdirectory\t-\t./b\t-\t-\ts\n\
         2\ta\t2\tsdist\ta-2+.tar.gz\thttps://h/a-2%2B.tar.gz\tmd5=11,sha256=00\t-\t-\n\
         refused 4\tno-entry\n";
 
+fn check_bytes<R: Abort>(rt: &R, bytes: &[u8]) {
+    assert_eq!(rt; bytes, INPUT);
+}
+
 #[test]
 fn whole_file(rt: HostRuntime) {
     match read_whole(rt.alloc(), &mut Pieces::new(INPUT, 3, None), 100) {
-        Ok(bytes) => assert_eq!(rt; bytes.as_slice(), INPUT),
+        Ok(bytes) => check_bytes(&rt, bytes.as_slice()),
         Err(fault) => assert_eq!(rt; fault, FileFault::Memory),
     }
+}
+
+fn check_lock<R: Abort>(rt: &R, lock: &Lock) {
+    assert_eq!(rt; lock.entries().len(), 2);
 }
 
 #[test]
 fn lock_read(rt: HostRuntime) {
     match Lock::read(rt.alloc(), LOCK.as_bytes()) {
-        Ok(lock) => assert_eq!(rt; lock.entries().len(), 2),
+        Ok(lock) => check_lock(&rt, &lock),
         Err(error) => assert!(rt; matches!(error, LockError::Memory), "{error:?}"),
     }
 }
@@ -48,52 +59,62 @@ fn environment_read(rt: HostRuntime) {
     }
 }
 
-#[test]
-fn session_answers(rt: HostRuntime) {
-    let Ok(lock) = Lock::read(rt.alloc(), LOCK.as_bytes()) else {
-        return;
-    };
-    let Ok((environment, tags)) = read_environment(rt.alloc(), ENVIRONMENT.as_bytes()) else {
-        return;
-    };
-    let Ok(mut session) = Session::start(rt.alloc(), lock, environment, tags) else {
-        return;
-    };
-    // Whether it is refused memory or not, an answer changes nothing.
-    let _ = session.answer(rt.alloc());
+/// A session on `LOCK`, where memory allows it.
+fn session(alloc: Global) -> Option<Session> {
+    let lock = Lock::read(alloc, LOCK.as_bytes()).ok()?;
+    let (environment, tags) = read_environment(alloc, ENVIRONMENT.as_bytes()).ok()?;
+    Session::start(alloc, lock, environment, tags).ok()
+}
+
+fn check_answer<R: Abort>(rt: &R, answer: &Answer) {
+    assert!(rt;
+        matches!(answer, Answer::Plan(plan) if plan.picks().len() == 1),
+        "{answer:?}"
+    );
+}
+
+fn check_edits<R: Abort>(rt: &R, session: &mut Session) {
     assert_eq!(rt; session.entry(1).map(Entry::name), Some("b-b"));
     assert!(rt; matches!(session.edit(Edit::Del(1)), Ok(0)));
     assert!(rt; matches!(session.edit(Edit::Del(1)), Err(EditError::NoEntry)));
+}
+
+fn check_session<R: Abort + AllocGlobal>(rt: &R, session: &mut Session) {
+    // Whether it is refused memory or not, an answer changes nothing.
+    let _ = session.answer(rt.alloc());
+    check_edits(rt, session);
     if let Ok(answer) = session.answer(rt.alloc()) {
-        assert!(rt;
-            matches!(&answer, Answer::Plan(plan) if plan.picks().len() == 1),
-            "{answer:?}"
-        );
+        check_answer(rt, &answer);
     }
 }
 
 #[test]
-fn whole_run(rt: HostRuntime) {
-    let Ok(mut writer) = Room::new(rt.alloc(), 4096, 7, None) else {
+fn session_answers(rt: HostRuntime) {
+    if let Some(mut session) = session(rt.alloc()) {
+        check_session(&rt, &mut session);
+    }
+}
+
+/// A run ends so, or is refused memory. It writes to a room of that size, in pieces of that size.
+fn check_run<R: Abort + AllocGlobal>(
+    rt: &R,
+    files: (&[u8], &[u8]),
+    reader: &mut Pieces<'_>,
+    sizes: (usize, usize),
+    wanted: End<'_>,
+) {
+    let Ok(mut room) = Room::new(rt.alloc(), sizes.0, sizes.1, None) else {
         return;
     };
+    let answer = run(rt.alloc(), files.0, files.1, reader, &mut room);
+    check_growth(rt, (answer, room.bytes()), wanted);
+}
+
+#[test]
+fn whole_run(rt: HostRuntime) {
+    let files = (LOCK.as_bytes(), ENVIRONMENT.as_bytes());
     let mut reader = Pieces::new(INPUT, 5, None);
-    match run(
-        rt.alloc(),
-        LOCK.as_bytes(),
-        ENVIRONMENT.as_bytes(),
-        &mut reader,
-        &mut writer,
-    ) {
-        Ok(status) => {
-            assert_eq!(rt; status, 1);
-            assert_eq!(rt; writer.bytes(), REPORT);
-        }
-        Err(fault) => {
-            assert_eq!(rt; fault, RunFault::Memory);
-            assert!(rt; REPORT.starts_with(writer.bytes()));
-        }
-    }
+    check_run(&rt, files, &mut reader, (4096, 7), (Ok(1), REPORT));
 }
 
 /// A line of each command that takes memory.
@@ -110,21 +131,9 @@ const EDITED: &[u8] = b"plan 0\nplan 0\nplan 0\nplan 0\nplan 0\nplan 0\nplan 0\n
 fn every_command(rt: HostRuntime) {
     let lock = b"lock-version = \"1.0\"\ncreated-by = \"t\"\nextras = [\"x\"]\ndependency-groups = \
             [\"g\"]\n";
-    let Ok(mut writer) = Room::new(rt.alloc(), 4096, 4096, None) else {
-        return;
-    };
+    let files = (lock.as_slice(), ENVIRONMENT.as_bytes());
     let mut reader = Pieces::new(EDITS, 4096, None);
-    let environment = ENVIRONMENT.as_bytes();
-    match run(rt.alloc(), lock, environment, &mut reader, &mut writer) {
-        Ok(status) => {
-            assert_eq!(rt; status, 0);
-            assert_eq!(rt; writer.bytes(), EDITED);
-        }
-        Err(fault) => {
-            assert_eq!(rt; fault, RunFault::Memory);
-            assert!(rt; EDITED.starts_with(writer.bytes()));
-        }
-    }
+    check_run(&rt, files, &mut reader, (4096, 4096), (Ok(0), EDITED));
 }
 
 /// An entry with wheels and an sdist, whose marker is judged, and one whose extra isn't asked for.
@@ -139,31 +148,20 @@ const WHEELS: &str =
 const TAGGED: &str = "{\"environment\":{\"os_name\":\"posix\",\"python_full_version\":\"3.12.4\"},\
         \"tags\":[\"py3-none-any\"]}";
 
+const CHOSEN: &[u8] = b"plan 1\n\
+        1\ta\t1\twheel\ta-1-2-py3-none-any.whl\tw/a-1-2-py3-none-any.whl\tsha256=aa\t-\t-\n\
+        plan 1\n1\ta\t1\tsdist\ta-1.tar.gz\ts/a-1.tar.gz\t-\t-\t-\nplan 1\n\
+        1\ta\t1\twheel\ta-1-2-py3-none-any.whl\tw/a-1-2-py3-none-any.whl\tsha256=aa\t-\t-\n\
+        plan 2\n\
+        1\ta\t1\twheel\ta-1-2-py3-none-any.whl\tw/a-1-2-py3-none-any.whl\tsha256=aa\t-\t-\n\
+        2\tb\t-\tdirectory\t-\tb\t-\t-\t-\nfault 0\tpython-not-met\n";
+
 #[test]
 fn run_over_wheels(rt: HostRuntime) {
     let input = b"policy a source\npolicy a any\nextra+ x\nset python_full_version 3.8\n";
-    let wheel =
-        "1\ta\t1\twheel\ta-1-2-py3-none-any.whl\tw/a-1-2-py3-none-any.whl\tsha256=aa\t-\t-\n";
-    let Ok(report) = format!(in rt.alloc();
-        "plan 1\n{wheel}plan 1\n1\ta\t1\tsdist\ta-1.tar.gz\ts/a-1.tar.gz\t-\t-\t-\nplan 1\n{wheel}plan 2\n{wheel}2\tb\t-\tdirectory\t-\tb\t-\t-\t-\nfault 0\tpython-not-met\n"
-    ) else {
-        return;
-    };
-    let Ok(mut writer) = Room::new(rt.alloc(), 4096, 4096, None) else {
-        return;
-    };
+    let files = (WHEELS.as_bytes(), TAGGED.as_bytes());
     let mut reader = Pieces::new(input, 4096, None);
-    let (lock, environment) = (WHEELS.as_bytes(), TAGGED.as_bytes());
-    match run(rt.alloc(), lock, environment, &mut reader, &mut writer) {
-        Ok(status) => {
-            assert_eq!(rt; status, 1);
-            assert_eq!(rt; writer.bytes(), report.as_bytes());
-        }
-        Err(fault) => {
-            assert_eq!(rt; fault, RunFault::Memory);
-            assert!(rt; report.as_bytes().starts_with(writer.bytes()));
-        }
-    }
+    check_run(&rt, files, &mut reader, (4096, 4096), (Ok(1), CHOSEN));
 }
 
 #[test]
@@ -175,21 +173,24 @@ fn refused_files(rt: HostRuntime) {
         (half, tag, b"lock\tentry\t1\tmarker\n".as_slice()),
         (LOCK.as_bytes(), tag, b"environment\ttag\t2\n"),
     ] {
-        let Ok(mut writer) = Room::new(rt.alloc(), 100, 7, None) else {
-            return;
-        };
         let mut reader = Pieces::new(b"show\n", 5, None);
-        match run(rt.alloc(), lock, environment, &mut reader, &mut writer) {
-            Ok(status) => {
-                assert_eq!(rt; status, 2);
-                assert_eq!(rt; writer.bytes(), text);
-            }
-            Err(fault) => {
-                assert_eq!(rt; fault, RunFault::Memory);
-                assert!(rt; text.starts_with(writer.bytes()));
-            }
-        }
+        check_run(
+            &rt,
+            (lock, environment),
+            &mut reader,
+            (100, 7),
+            (Ok(2), text),
+        );
     }
+}
+
+/// The reply is that, with any status, or memory is refused.
+fn check_query<R: Abort + AllocGlobal>(rt: &R, asked: Query<'_>, reply: &[u8]) {
+    let Ok(mut room) = Room::new(rt.alloc(), 100, 7, None) else {
+        return;
+    };
+    let answer = query(rt.alloc(), asked, &mut room);
+    check_growth(rt, (answer, room.bytes()), (answer, reply));
 }
 
 #[test]
@@ -229,16 +230,7 @@ fn queries(rt: HostRuntime) {
             b"environment\tshape\n",
         ),
     ] {
-        let Ok(mut writer) = Room::new(rt.alloc(), 100, 7, None) else {
-            return;
-        };
-        match query(rt.alloc(), asked, &mut writer) {
-            Ok(_) => assert_eq!(rt; writer.bytes(), reply),
-            Err(fault) => {
-                assert_eq!(rt; fault, RunFault::Memory);
-                assert!(rt; reply.starts_with(writer.bytes()));
-            }
-        }
+        check_query(&rt, asked, reply);
     }
 }
 

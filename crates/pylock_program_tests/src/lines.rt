@@ -1,10 +1,12 @@
 //! Worked examples of selections, of edit lines and of policies.
 
+use crate::check::{
+    HEAD, ROOM, check_end, check_environment_fronts, check_front, check_lock_fronts, check_run,
+};
 use pylock_program::{Pieces, Room, RunFault, run};
 use std::alloc::{AllocError, Global};
+use std::process::Abort;
 use std::test::Fail;
-
-const HEAD: &str = "lock-version = \"1.0\"\ncreated-by = \"t\"\n";
 
 /// What a run is given, what it has to write, and its status.
 #[derive(Clone, Copy)]
@@ -18,14 +20,11 @@ struct Case {
     status: u8,
 }
 
-/// What the run of a case answers, and what it writes.
-fn ran(alloc: Global, case: Case) -> Result<(Result<u8, RunFault>, Room), AllocError> {
-    let lock = format!(in alloc; "{HEAD}{}\n", case.lock)?;
-    let mut reader = Pieces::new(case.input.as_bytes(), 65_536, None);
-    let mut room = Room::new(alloc, 65_536, 65_536, None)?;
-    let environment = case.environment.as_bytes();
-    let answer = run(alloc, lock.as_bytes(), environment, &mut reader, &mut room);
-    Ok((answer, room))
+fn check_case<R: Abort + AllocGlobal>(rt: &R, case: Case) -> Result<(), AllocError> {
+    let lock = format!(in rt.alloc(); "{HEAD}{}\n", case.lock)?;
+    let files = (lock.as_bytes(), case.environment.as_bytes());
+    let wanted = (Ok(case.status), case.text.as_bytes());
+    check_run(rt, files, case.input.as_bytes(), wanted, case.name)
 }
 
 const SELECTIONS: [Case; 9] = [
@@ -64,7 +63,8 @@ const SELECTIONS: [Case; 9] = [
         environment: "{\"environment\":{\"sys_platform\":\"linux\",\"os_name\":\"posix\"},\
             \"tags\":[]}",
         input: "del 1\ndel 1\n",
-        text: "fault 2\tambiguous\nplan 1\n2\ta\t-\tdirectory\t-\ty\t-\t-\t-\nrefused 2\tno-entry\n",
+        text: "fault 2\tambiguous\nplan 1\n2\ta\t-\tdirectory\t-\ty\t-\t-\t-\nrefused \
+            2\tno-entry\n",
         status: 1,
     },
     Case {
@@ -124,9 +124,7 @@ const SELECTIONS: [Case; 9] = [
 #[test]
 fn selects(rt: HostRuntime) -> Result<(), Fail> {
     for case in SELECTIONS {
-        let (answer, room) = ran(rt.alloc(), case)?;
-        assert_eq!(rt; answer, Ok(case.status), "{}", case.name);
-        assert_eq!(rt; room.bytes(), case.text.as_bytes(), "{}", case.name);
+        check_case(&rt, case)?;
     }
     Ok(())
 }
@@ -230,9 +228,7 @@ const EDITS: [Case; 8] = [
 #[test]
 fn takes_edit_lines(rt: HostRuntime) -> Result<(), Fail> {
     for case in EDITS {
-        let (answer, room) = ran(rt.alloc(), case)?;
-        assert_eq!(rt; answer, Ok(case.status), "{}", case.name);
-        assert_eq!(rt; room.bytes(), case.text.as_bytes(), "{}", case.name);
+        check_case(&rt, case)?;
     }
     Ok(())
 }
@@ -240,89 +236,114 @@ fn takes_edit_lines(rt: HostRuntime) -> Result<(), Fail> {
 /// The place of the example of refusals among the edits.
 const REFUSALS: usize = 2;
 
-/// The input of that example with CR and LF after each line, in pieces of any size.
-#[test]
-fn cuts_edit_lines_anyhow(rt: HostRuntime) -> Result<(), Fail> {
-    let case = EDITS[REFUSALS];
-    let lock = format!(in rt.alloc(); "{HEAD}\n")?;
-    let mut input = Vec::new(rt.alloc());
-    for line in case.input.lines() {
+/// The lock of that example.
+const LOCK: &str = "lock-version = \"1.0\"\ncreated-by = \"t\"\n\n";
+
+/// The input of that example with CR and LF after each line.
+fn with_returns(alloc: Global) -> Result<Vec<u8>, AllocError> {
+    let mut input = Vec::new(alloc);
+    for line in EDITS[REFUSALS].input.lines() {
         input.extend_from_slice(line.as_bytes())?;
         input.extend_from_slice(b"\r\n")?;
     }
+    Ok(input)
+}
+
+/// The example over this reader, with a byte written at each call.
+fn check_bytewise<R: Abort + AllocGlobal>(
+    rt: &R,
+    reader: &mut Pieces<'_>,
+) -> Result<(), AllocError> {
+    let case = EDITS[REFUSALS];
+    let mut room = Room::new(rt.alloc(), ROOM, 1, None)?;
+    let files = (LOCK.as_bytes(), case.environment.as_bytes());
+    let answer = run(rt.alloc(), files.0, files.1, reader, &mut room);
+    let wanted = (Ok(case.status), case.text.as_bytes());
+    check_end(rt, (answer, room.bytes()), wanted, case.name);
+    Ok(())
+}
+
+fn check_cuts<R: Abort + AllocGlobal>(rt: &R, input: &[u8]) -> Result<(), AllocError> {
     for piece in [1, 2, 3, 65_535, 65_536] {
-        let mut reader = Pieces::new(&input, piece, None);
-        let mut room = Room::new(rt.alloc(), 65_536, 1, None)?;
-        let environment = case.environment.as_bytes();
-        let answer = run(
-            rt.alloc(),
-            lock.as_bytes(),
-            environment,
-            &mut reader,
-            &mut room,
-        );
-        assert_eq!(rt; answer, Ok(1));
-        assert_eq!(rt; room.bytes(), case.text.as_bytes());
+        check_bytewise(rt, &mut Pieces::new(input, piece, None))?;
     }
+    Ok(())
+}
+
+/// The input of that example with CR and LF after each line, in pieces of any size.
+#[test]
+fn cuts_edit_lines_anyhow(rt: HostRuntime) -> Result<(), Fail> {
+    let input = with_returns(rt.alloc())?;
+    check_cuts(&rt, input.as_slice()).map_err(Fail::from)
+}
+
+/// The example with the write of this number failing.
+fn check_write<R: Abort + AllocGlobal>(rt: &R, call: u64) -> Result<(), AllocError> {
+    let case = EDITS[REFUSALS];
+    let mut reader = Pieces::new(case.input.as_bytes(), ROOM, None);
+    let mut room = Room::new(rt.alloc(), ROOM, 1, Some(call))?;
+    let files = (LOCK.as_bytes(), case.environment.as_bytes());
+    let answer = run(rt.alloc(), files.0, files.1, &mut reader, &mut room);
+    let text = case.text.as_bytes();
+    check_front(rt, (answer, room.bytes()), RunFault::Write, text, call);
     Ok(())
 }
 
 /// Each write of that example failing in turn.
 #[test]
 fn edit_lines_meet_a_failed_write(rt: HostRuntime) -> Result<(), Fail> {
-    let case = EDITS[REFUSALS];
-    let lock = format!(in rt.alloc(); "{HEAD}\n")?;
-    for call in 1..=case.text.len() as u64 {
-        let mut reader = Pieces::new(case.input.as_bytes(), 65_536, None);
-        let mut room = Room::new(rt.alloc(), 65_536, 1, Some(call))?;
-        let environment = case.environment.as_bytes();
-        let answer = run(
-            rt.alloc(),
-            lock.as_bytes(),
-            environment,
-            &mut reader,
-            &mut room,
-        );
-        assert_eq!(rt; answer, Err(RunFault::Write));
-        assert!(rt; case.text.as_bytes().starts_with(room.bytes()));
+    for call in 1..=EDITS[REFUSALS].text.len() as u64 {
+        check_write(&rt, call)?;
     }
     Ok(())
+}
+
+/// The lines that end before the last of these bytes.
+fn whole_lines(read: &[u8]) -> &[u8] {
+    let last = read.iter().rposition(|byte| *byte == b'\n');
+    let whole = last.map_or(0, |place| place.saturating_add(1));
+    read.get(..whole).unwrap_or(read)
+}
+
+fn check_is_ok<R: Abort>(rt: &R, answer: Result<u8, RunFault>) {
+    assert!(rt; answer.is_ok());
+}
+
+fn check_starts_with<R: Abort>(rt: &R, text: &[u8], front: &[u8]) {
+    assert!(rt; text.starts_with(front));
+}
+
+/// The example with a byte given at each call, and the call of this number failing: as much as
+/// `least` is written.
+fn check_read<R: Abort + AllocGlobal>(rt: &R, call: u64, least: &[u8]) -> Result<(), AllocError> {
+    let case = EDITS[REFUSALS];
+    let mut reader = Pieces::new(case.input.as_bytes(), 1, Some(call));
+    let mut room = Room::new(rt.alloc(), ROOM, ROOM, None)?;
+    let files = (LOCK.as_bytes(), case.environment.as_bytes());
+    let answer = run(rt.alloc(), files.0, files.1, &mut reader, &mut room);
+    let text = case.text.as_bytes();
+    check_front(rt, (answer, room.bytes()), RunFault::Read, text, call);
+    check_starts_with(rt, room.bytes(), least);
+    Ok(())
+}
+
+/// The example with a byte given at each call, and the call after these bytes failing.
+fn check_read_after<R: Abort + AllocGlobal>(rt: &R, read: &[u8]) -> Result<(), AllocError> {
+    let mut reader = Pieces::new(whole_lines(read), ROOM, None);
+    let mut least = Room::new(rt.alloc(), ROOM, ROOM, None)?;
+    let files = (LOCK.as_bytes(), EDITS[REFUSALS].environment.as_bytes());
+    let answer = run(rt.alloc(), files.0, files.1, &mut reader, &mut least);
+    check_is_ok(rt, answer);
+    check_read(rt, (read.len() as u64).saturating_add(1), least.bytes())
 }
 
 /// Each read of that example failing in turn: the first answer is written, and the text of each
 /// line that was read whole.
 #[test]
 fn edit_lines_meet_a_failed_read(rt: HostRuntime) -> Result<(), Fail> {
-    let case = EDITS[REFUSALS];
-    let lock = format!(in rt.alloc(); "{HEAD}\n")?;
-    let environment = case.environment.as_bytes();
-    for end in 0..case.input.len() {
-        let read = &case.input.as_bytes()[..end];
-        let last = read.iter().rposition(|byte| *byte == b'\n');
-        let whole = last.map_or(0, |place| place.saturating_add(1));
-        let mut lines = Pieces::new(read.get(..whole).unwrap_or(read), 65_536, None);
-        let mut least = Room::new(rt.alloc(), 65_536, 65_536, None)?;
-        let answer = run(
-            rt.alloc(),
-            lock.as_bytes(),
-            environment,
-            &mut lines,
-            &mut least,
-        );
-        assert!(rt; answer.is_ok());
-        let fail_at = Some(end as u64 + 1);
-        let mut reader = Pieces::new(case.input.as_bytes(), 1, fail_at);
-        let mut room = Room::new(rt.alloc(), 65_536, 65_536, None)?;
-        let answer = run(
-            rt.alloc(),
-            lock.as_bytes(),
-            environment,
-            &mut reader,
-            &mut room,
-        );
-        assert_eq!(rt; answer, Err(RunFault::Read));
-        assert!(rt; room.bytes().starts_with(least.bytes()));
-        assert!(rt; case.text.as_bytes().starts_with(room.bytes()));
+    let input = EDITS[REFUSALS].input.as_bytes();
+    for end in 0..input.len() {
+        check_read_after(&rt, &input[..end])?;
     }
     Ok(())
 }
@@ -339,10 +360,25 @@ fn lock_of(alloc: Global, member: &str, count: usize) -> Result<String, AllocErr
     Ok(lock)
 }
 
+/// The environment with nothing set.
+const E0: &str = "{\"environment\":{},\"tags\":[]}";
+
+fn check_many<R: Abort + AllocGlobal>(
+    rt: &R,
+    member: &str,
+    count: usize,
+    input: &str,
+    wanted: (u8, &str),
+) -> Result<(), AllocError> {
+    let lock = lock_of(rt.alloc(), member, count)?;
+    let files = (lock.as_bytes(), E0.as_bytes());
+    let wanted = (Ok(wanted.0), wanted.1.as_bytes());
+    check_run(rt, files, input.as_bytes(), wanted, member)
+}
+
 /// A lock has at most 100,000 entries, and none further has a number.
 #[test]
 fn entries_end_at_a_hundred_thousand(rt: HostRuntime) -> Result<(), Fail> {
-    let environment = b"{\"environment\":{},\"tags\":[]}";
     let skipped = "{name=\"a\", marker=\"'a' == 'b'\"}";
     for (member, count, input, text, status) in [
         ("1", 100_001, "", "lock\ttoo-many\n", 2),
@@ -355,20 +391,18 @@ fn entries_end_at_a_hundred_thousand(rt: HostRuntime) -> Result<(), Fail> {
             1,
         ),
     ] {
-        let lock = lock_of(rt.alloc(), member, count)?;
-        let mut reader = Pieces::new(input.as_bytes(), 65_536, None);
-        let mut room = Room::new(rt.alloc(), 65_536, 65_536, None)?;
-        let answer = run(
-            rt.alloc(),
-            lock.as_bytes(),
-            environment,
-            &mut reader,
-            &mut room,
-        );
-        assert_eq!(rt; answer, Ok(status));
-        assert_eq!(rt; room.bytes(), text.as_bytes());
+        check_many(&rt, member, count, input, (status, text))?;
     }
     Ok(())
+}
+
+fn check_fronts<R: Abort + AllocGlobal>(
+    rt: &R,
+    lock: &[u8],
+    environment: &[u8],
+) -> Result<(), AllocError> {
+    check_lock_fronts(rt, lock, environment)?;
+    check_environment_fronts(rt, lock, environment)
 }
 
 /// Every front of a lock and of an environment is read or refused.
@@ -376,20 +410,5 @@ fn entries_end_at_a_hundred_thousand(rt: HostRuntime) -> Result<(), Fail> {
 fn reads_every_front(rt: HostRuntime) -> Result<(), Fail> {
     let case = SELECTIONS[6];
     let lock = format!(in rt.alloc(); "{HEAD}{}\n", case.lock)?;
-    for end in 0..lock.len() {
-        let mut reader = Pieces::new(b"", 1, None);
-        let mut room = Room::new(rt.alloc(), 65_536, 65_536, None)?;
-        let environment = case.environment.as_bytes();
-        let front = &lock.as_bytes()[..end];
-        let answer = run(rt.alloc(), front, environment, &mut reader, &mut room);
-        assert!(rt; answer.is_ok(), "{end}");
-    }
-    for end in 0..case.environment.len() {
-        let mut reader = Pieces::new(b"", 1, None);
-        let mut room = Room::new(rt.alloc(), 65_536, 65_536, None)?;
-        let front = &case.environment.as_bytes()[..end];
-        let answer = run(rt.alloc(), lock.as_bytes(), front, &mut reader, &mut room);
-        assert_eq!(rt; answer, Ok(2), "{end}");
-    }
-    Ok(())
+    check_fronts(&rt, lock.as_bytes(), case.environment.as_bytes()).map_err(Fail::from)
 }

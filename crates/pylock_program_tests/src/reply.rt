@@ -1,11 +1,38 @@
 //! Worked examples of the one-shot commands.
 
+use crate::check::check_front;
 use pylock_program::{Query, Room, RunFault, query};
+use std::alloc::AllocError;
+use std::process::Abort;
 use std::test::Fail;
 
 const GREATEST: &str = "340282366920938463463374607431768211455";
 
 const TOO_LARGE: &str = "340282366920938463463374607431768211456";
+
+/// The reply is that text, and then LF, where all is well.
+fn check_line<R: Abort>(
+    rt: &R,
+    answer: Result<u8, RunFault>,
+    status: u8,
+    written: &[u8],
+    text: &str,
+) {
+    assert_eq!(rt; answer, Ok(status), "{text}");
+    assert_eq!(rt; written.split_last(), Some((&b'\n', text.as_bytes())));
+}
+
+fn check_reply<R: Abort + AllocGlobal>(
+    rt: &R,
+    asked: Query<'_>,
+    text: &str,
+    status: u8,
+) -> Result<(), AllocError> {
+    let mut room = Room::new(rt.alloc(), 100, 100, None)?;
+    let answer = query(rt.alloc(), asked, &mut room);
+    check_line(rt, answer, status, room.bytes(), text);
+    Ok(())
+}
 
 #[test]
 fn replies(rt: HostRuntime) -> Result<(), Fail> {
@@ -66,15 +93,21 @@ fn replies(rt: HostRuntime) -> Result<(), Fail> {
         (Query::Name("A.-_B"), "a-b", 0),
         (Query::Name("a-"), "refused\tname", 1),
     ] {
-        let mut room = Room::new(rt.alloc(), 100, 100, None)?;
-        assert_eq!(rt;
-            query(rt.alloc(), asked, &mut room),
-            Ok(status),
-            "{asked:?}"
-        );
-        let line = format!(in rt.alloc(); "{text}\n")?;
-        assert_eq!(rt; room.bytes(), line.as_bytes(), "{asked:?}");
+        check_reply(&rt, asked, text, status)?;
     }
+    Ok(())
+}
+
+/// With the call of that number of the writer failing, a front of the reply is written.
+fn check_write<R: Abort + AllocGlobal>(
+    rt: &R,
+    asked: Query<'_>,
+    text: &[u8],
+    call: u64,
+) -> Result<(), AllocError> {
+    let mut room = Room::new(rt.alloc(), 100, 1, Some(call))?;
+    let answer = query(rt.alloc(), asked, &mut room);
+    check_front(rt, (answer, room.bytes()), RunFault::Write, text, call);
     Ok(())
 }
 
@@ -82,10 +115,8 @@ fn replies(rt: HostRuntime) -> Result<(), Fail> {
 fn a_failed_write_leaves_a_front(rt: HostRuntime) -> Result<(), Fail> {
     let reply = b"1.0rc1.post2.dev0+ubuntu.1\n";
     for call in 1..=27 {
-        let mut room = Room::new(rt.alloc(), 100, 1, Some(call))?;
         let asked = Query::Version("1.0rc1.post2.dev0+ubuntu.1");
-        assert_eq!(rt; query(rt.alloc(), asked, &mut room), Err(RunFault::Write));
-        assert!(rt; reply.starts_with(room.bytes()));
+        check_write(&rt, asked, reply, call)?;
     }
     Ok(())
 }
@@ -152,23 +183,21 @@ fn markers_are_judged(rt: HostRuntime) -> Result<(), Fail> {
         ("\"a\" in extras", E0, "false", 0),
         ("\"a\" not in dependency_groups", E0, "true", 0),
     ] {
-        let mut room = Room::new(rt.alloc(), 100, 100, None)?;
-        let asked = Query::Marker(marker, environment);
-        assert_eq!(rt; query(rt.alloc(), asked, &mut room), Ok(status), "{marker}");
-        let line = format!(in rt.alloc(); "{text}\n")?;
-        assert_eq!(rt; room.bytes(), line.as_bytes(), "{marker}");
+        check_reply(&rt, Query::Marker(marker, environment), text, status)?;
     }
     Ok(())
 }
 
+/// A marker of so many parentheses.
+fn check_deep<R: Abort + AllocGlobal>(rt: &R, count: usize, text: &str) -> Result<(), AllocError> {
+    let marker = "(".repeat(rt.alloc(), count)?;
+    check_reply(rt, Query::Marker(&marker, E0), text, 1)
+}
+
 #[test]
 fn deep_markers_are_refused(rt: HostRuntime) -> Result<(), Fail> {
-    for (count, text) in [(64, "refused\tsyntax\n"), (65, "refused\ttoo-deep\n")] {
-        let marker = "(".repeat(rt.alloc(), count)?;
-        let mut room = Room::new(rt.alloc(), 100, 100, None)?;
-        let asked = Query::Marker(&marker, E0);
-        assert_eq!(rt; query(rt.alloc(), asked, &mut room), Ok(1));
-        assert_eq!(rt; room.bytes(), text.as_bytes());
+    for (count, text) in [(64, "refused\tsyntax"), (65, "refused\ttoo-deep")] {
+        check_deep(&rt, count, text)?;
     }
     Ok(())
 }
@@ -179,15 +208,12 @@ fn environments_are_refused(rt: HostRuntime) -> Result<(), Fail> {
     let half: &[u8] = b"{\"environment\":{}}";
     let bad: &[u8] = b"{\"environment\":{},\"tags\":[\"py3-none-any\",\"py3\"]}";
     for (marker, environment, text, status) in [
-        ("\"a\" == \"a\"", b"{".as_slice(), "environment\tjson\n", 2),
-        ("\"a\" == \"a\"", half, "environment\tshape\n", 2),
-        ("\"a\" == \"a\"", bad, "environment\ttag\t2\n", 2),
-        ("\"a\" ==", b"{".as_slice(), "refused\tsyntax\n", 1),
+        ("\"a\" == \"a\"", b"{".as_slice(), "environment\tjson", 2),
+        ("\"a\" == \"a\"", half, "environment\tshape", 2),
+        ("\"a\" == \"a\"", bad, "environment\ttag\t2", 2),
+        ("\"a\" ==", b"{".as_slice(), "refused\tsyntax", 1),
     ] {
-        let mut room = Room::new(rt.alloc(), 100, 100, None)?;
-        let asked = Query::Marker(marker, environment);
-        assert_eq!(rt; query(rt.alloc(), asked, &mut room), Ok(status));
-        assert_eq!(rt; room.bytes(), text.as_bytes());
+        check_reply(&rt, Query::Marker(marker, environment), text, status)?;
     }
     Ok(())
 }
@@ -220,15 +246,7 @@ fn requirements_have_five_fields(rt: HostRuntime) -> Result<(), Fail> {
         ("a ;", "refused\tmarker", 1),
         ("a @ u v", "refused\ttrailing", 1),
     ] {
-        let mut room = Room::new(rt.alloc(), 100, 100, None)?;
-        let asked = Query::Requirement(requirement);
-        assert_eq!(rt;
-            query(rt.alloc(), asked, &mut room),
-            Ok(status),
-            "{requirement}"
-        );
-        let line = format!(in rt.alloc(); "{text}\n")?;
-        assert_eq!(rt; room.bytes(), line.as_bytes(), "{requirement}");
+        check_reply(&rt, Query::Requirement(requirement), text, status)?;
     }
     Ok(())
 }
@@ -249,11 +267,18 @@ fn wheels_have_four_fields(rt: HostRuntime) -> Result<(), Fail> {
         ("a-1-b-py3-none-any.whl", "refused\tbuild", 1),
         ("a-1-py3..py2-none-any.whl", "refused\ttags", 1),
     ] {
-        let mut room = Room::new(rt.alloc(), 100, 100, None)?;
-        let asked = Query::Wheel(wheel);
-        assert_eq!(rt; query(rt.alloc(), asked, &mut room), Ok(status), "{wheel}");
-        let line = format!(in rt.alloc(); "{text}\n")?;
-        assert_eq!(rt; room.bytes(), line.as_bytes(), "{wheel}");
+        check_reply(&rt, Query::Wheel(wheel), text, status)?;
+    }
+    Ok(())
+}
+
+fn check_writes<R: Abort + AllocGlobal>(
+    rt: &R,
+    asked: Query<'_>,
+    text: &[u8],
+) -> Result<(), AllocError> {
+    for call in 1..=text.len() as u64 {
+        check_write(rt, asked, text, call)?;
     }
     Ok(())
 }
@@ -281,12 +306,7 @@ fn a_failed_write_leaves_a_front_of_a_requirement(rt: HostRuntime) -> Result<(),
         ("a ;", "refused\tmarker\n"),
         ("a @ u v", "refused\ttrailing\n"),
     ] {
-        for call in 1..=text.len() as u64 {
-            let mut room = Room::new(rt.alloc(), 100, 1, Some(call))?;
-            let asked = Query::Requirement(requirement);
-            assert_eq!(rt; query(rt.alloc(), asked, &mut room), Err(RunFault::Write));
-            assert!(rt; text.as_bytes().starts_with(room.bytes()), "{requirement}");
-        }
+        check_writes(&rt, Query::Requirement(requirement), text.as_bytes())?;
     }
     Ok(())
 }

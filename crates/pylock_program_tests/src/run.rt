@@ -1,10 +1,13 @@
 //! Worked examples of runs over memory.
 
+use crate::check::{
+    End, HEAD, ROOM, check_end, check_environment_fronts, check_front, check_lock_fronts,
+    check_run, check_run_by,
+};
 use pylock_program::{IoFault, Pieces, Room, RunFault, Source, run};
 use std::alloc::{AllocError, Global};
+use std::process::Abort;
 use std::test::Fail;
-
-const HEAD: &str = "lock-version = \"1.0\"\ncreated-by = \"t\"\n";
 
 const ENVIRONMENT: &str = "{\"environment\":{},\"tags\":[]}";
 
@@ -18,97 +21,72 @@ const FIRST_ANSWER: &str = "plan 2\n1\tb-b\t1.0\tdirectory\t-\t./b\t-\t-\t-\n\
 
 const SDIST_LINE: &str = "2\ta\t2\tsdist\ta-2.tar.gz\thttps://h/a-2.tar.gz\tsha256=00\t-\t-\n";
 
-/// How much a test writes at most.
-const ROOM: usize = 65_536;
-
-/// What a run answers, and what it wrote.
-#[derive(Drop)]
-struct Outcome {
-    answer: Result<u8, RunFault>,
-    room: Room,
-}
-
-fn ran(alloc: Global, lock: &[u8], env: &[u8], input: &[u8]) -> Result<Outcome, AllocError> {
-    ran_by(alloc, lock, env, &mut Pieces::new(input, 65_536, None))
-}
-
-fn ran_by<R: Source>(
-    alloc: Global,
-    lock: &[u8],
-    env: &[u8],
-    reader: &mut R,
-) -> Result<Outcome, AllocError> {
-    ran_to(
-        alloc,
-        lock,
-        env,
-        reader,
-        Room::new(alloc, ROOM, ROOM, None)?,
-    )
-}
-
-fn ran_to<R: Source>(
-    alloc: Global,
-    lock: &[u8],
-    env: &[u8],
-    reader: &mut R,
-    mut room: Room,
-) -> Result<Outcome, AllocError> {
-    let answer = run(alloc, lock, env, reader, &mut room);
-    Ok(Outcome { answer, room })
-}
-
-/// A lock of the two lines of `HEAD` and what follows them.
-fn lock(alloc: Global, rest: &str) -> Result<String, AllocError> {
-    format!(in alloc; "{HEAD}{rest}\n")
+/// A run over the lock `FIRST_PATH` ends so.
+fn check_first_path<R: Abort + AllocGlobal>(
+    rt: &R,
+    input: &[u8],
+    status: u8,
+    text: &str,
+) -> Result<(), AllocError> {
+    let files = (FIRST_PATH.as_bytes(), ENVIRONMENT.as_bytes());
+    check_run(rt, files, input, (Ok(status), text.as_bytes()), "")
 }
 
 #[test]
 fn selects_and_deletes(rt: HostRuntime) -> Result<(), Fail> {
-    let alloc = rt.alloc();
-    let input = b"show\ndel 1\ndel 1\n";
-    let done = ran(alloc, FIRST_PATH.as_bytes(), ENVIRONMENT.as_bytes(), input)?;
-    let want = format!(in alloc;
+    let want = format!(in rt.alloc();
         "{FIRST_ANSWER}{FIRST_ANSWER}plan 1\n{SDIST_LINE}refused 3\tno-entry\n"
     )?;
-    assert_eq!(rt; done.answer, Ok(1));
-    assert_eq!(rt; done.room.bytes(), want.as_bytes());
-    Ok(())
+    check_first_path(&rt, b"show\ndel 1\ndel 1\n", 1, &want).map_err(Fail::from)
+}
+
+/// A run over a lock of the two lines of `HEAD` and these packages ends so.
+fn check_packages<R: Abort + AllocGlobal>(
+    rt: &R,
+    packages: &str,
+    input: &[u8],
+    status: u8,
+    text: &str,
+) -> Result<(), AllocError> {
+    let lock = format!(in rt.alloc(); "{HEAD}{packages}\n")?;
+    let files = (lock.as_bytes(), ENVIRONMENT.as_bytes());
+    check_run(rt, files, input, (Ok(status), text.as_bytes()), packages)
 }
 
 #[test]
 fn names_faults_and_refusals(rt: HostRuntime) -> Result<(), Fail> {
-    let alloc = rt.alloc();
     let packages = "packages = [{name=\"a\"}, {name=\"b\", directory={path=\"-\"}}, {name=\"c\", \
             directory={path=\"c\"}, sdist={path=\"c.tar.gz\"}}]";
-    let lock = lock(alloc, packages)?;
     let input = b"del 3\ndel 1\nfly\ndel 01\nshow x\n";
-    let done = ran(alloc, lock.as_bytes(), ENVIRONMENT.as_bytes(), input)?;
     let want =
         "fault 3\tsources\nfault 1\tno-file\nplan 1\n2\tb\t-\tdirectory\t-\t\\-\t-\t-\t-\nrefused \
             3\tcommand\nrefused 4\targument\nrefused 5\targument\n";
-    assert_eq!(rt; done.answer, Ok(1));
-    assert_eq!(rt; done.room.bytes(), want.as_bytes());
-    Ok(())
+    check_packages(&rt, packages, input, 1, want).map_err(Fail::from)
 }
 
 #[test]
 fn selects_an_editable_directory(rt: HostRuntime) -> Result<(), Fail> {
-    let alloc = rt.alloc();
     let packages =
         "packages = [{name=\"a\", directory={path=\"x\"}}, {name=\"A\", directory={path=\"y\", \
             editable=true}}]";
-    let lock = lock(alloc, packages)?;
-    let done = ran(alloc, lock.as_bytes(), ENVIRONMENT.as_bytes(), b"del 1\n")?;
     let want = "fault 2\tambiguous\nplan 1\n2\ta\t-\teditable\t-\ty\t-\t-\t-\n";
-    assert_eq!(rt; done.answer, Ok(0));
-    assert_eq!(rt; done.room.bytes(), want.as_bytes());
-    Ok(())
+    check_packages(&rt, packages, b"del 1\n", 0, want).map_err(Fail::from)
+}
+
+/// A run over no input ends so.
+fn check_files<R: Abort + AllocGlobal>(
+    rt: &R,
+    lock: &[u8],
+    environment: &str,
+    text: &str,
+) -> Result<(), AllocError> {
+    let status = if text == "plan 0\n" { 0 } else { 2 };
+    let files = (lock, environment.as_bytes());
+    check_run(rt, files, b"", (Ok(status), text.as_bytes()), "")
 }
 
 #[test]
 fn refuses_locks_and_environments(rt: HostRuntime) -> Result<(), Fail> {
-    let alloc = rt.alloc();
     for (lock, env, want) in [
         (HEAD, ENVIRONMENT, "plan 0\n"),
         ("", ENVIRONMENT, "lock\tlock-version\n"),
@@ -154,15 +132,10 @@ fn refuses_locks_and_environments(rt: HostRuntime) -> Result<(), Fail> {
             "environment\ttag\t2\n",
         ),
     ] {
-        let done = ran(alloc, lock.as_bytes(), env.as_bytes(), b"")?;
-        let status = if want == "plan 0\n" { 0 } else { 2 };
-        assert_eq!(rt; done.answer, Ok(status));
-        assert_eq!(rt; done.room.bytes(), want.as_bytes());
+        check_files(&rt, lock.as_bytes(), env, want)?;
     }
     for lock in [b"\xff".as_slice(), b"created-by = \"\xc3"] {
-        let done = ran(alloc, lock, ENVIRONMENT.as_bytes(), b"")?;
-        assert_eq!(rt; done.answer, Ok(2));
-        assert_eq!(rt; done.room.bytes(), b"lock\tnot-text\n".as_slice());
+        check_files(&rt, lock, ENVIRONMENT, "lock\tnot-text\n")?;
     }
     Ok(())
 }
@@ -175,60 +148,81 @@ fn hostile_input(alloc: Global) -> Result<Vec<u8>, AllocError> {
     Ok(input)
 }
 
-#[test]
-fn cuts_the_input_anyhow(rt: HostRuntime) -> Result<(), Fail> {
-    let alloc = rt.alloc();
-    let input = hostile_input(alloc)?;
-    let want = format!(in alloc;
-        "{FIRST_ANSWER}refused 1\ttoml\nrefused 2\tlong\nrefused 3\ttext\n{FIRST_ANSWER}{FIRST_ANSWER}"
-    )?;
-    for piece in [1, 2, 3, 65_535, 65_536] {
-        let mut reader = Pieces::new(&input, piece, None);
-        let done = ran_by(
-            alloc,
-            FIRST_PATH.as_bytes(),
-            ENVIRONMENT.as_bytes(),
-            &mut reader,
-        )?;
-        assert_eq!(rt; done.answer, Ok(1), "{piece}");
-        assert_eq!(rt; done.room.bytes(), want.as_bytes(), "{piece}");
+fn check_cuts<R: Abort + AllocGlobal>(rt: &R, input: &[u8], text: &[u8]) -> Result<(), AllocError> {
+    let files = (FIRST_PATH.as_bytes(), ENVIRONMENT.as_bytes());
+    for (piece, name) in [
+        (1, "1"),
+        (2, "2"),
+        (3, "3"),
+        (65_535, "65535"),
+        (65_536, "65536"),
+    ] {
+        let mut reader = Pieces::new(input, piece, None);
+        check_run_by(rt, files, &mut reader, (Ok(1), text), name)?;
     }
     Ok(())
 }
 
+fn check_hostile<R: Abort + AllocGlobal>(rt: &R, text: &str) -> Result<(), AllocError> {
+    let input = hostile_input(rt.alloc())?;
+    check_cuts(rt, input.as_slice(), text.as_bytes())
+}
+
+#[test]
+fn cuts_the_input_anyhow(rt: HostRuntime) -> Result<(), Fail> {
+    let want = format!(in rt.alloc();
+        "{FIRST_ANSWER}refused 1\ttoml\nrefused 2\tlong\nrefused 3\ttext\n\
+            {FIRST_ANSWER}{FIRST_ANSWER}"
+    )?;
+    check_hostile(&rt, &want).map_err(Fail::from)
+}
+
+/// The read of this number fails.
+fn check_late<R: Abort + AllocGlobal>(rt: &R, call: u64, text: &[u8]) -> Result<(), AllocError> {
+    let files = (HEAD.as_bytes(), ENVIRONMENT.as_bytes());
+    let mut reader = Pieces::new(b"show\nsh", 7, Some(call));
+    check_run_by(rt, files, &mut reader, (Err(RunFault::Read), text), "")
+}
+
 #[test]
 fn writes_before_it_reads_on(rt: HostRuntime) -> Result<(), Fail> {
-    let alloc = rt.alloc();
-    let mut reader = Pieces::new(b"show\nsh", 7, Some(2));
-    let late = ran_by(alloc, HEAD.as_bytes(), ENVIRONMENT.as_bytes(), &mut reader)?;
-    assert_eq!(rt; late.answer, Err(RunFault::Read));
-    assert_eq!(rt; late.room.bytes(), b"plan 0\nplan 0\n".as_slice());
-
-    let mut reader = Pieces::new(b"show\nsh", 7, Some(1));
-    let early = ran_by(alloc, HEAD.as_bytes(), ENVIRONMENT.as_bytes(), &mut reader)?;
-    assert_eq!(rt; early.answer, Err(RunFault::Read));
-    assert_eq!(rt; early.room.bytes(), b"plan 0\n".as_slice());
+    check_late(&rt, 2, b"plan 0\nplan 0\n")?;
+    check_late(&rt, 1, b"plan 0\n")?;
     Ok(())
+}
+
+/// So many times the letter, and the end of the line.
+fn line_of(alloc: Global, length: usize, end: &str) -> Result<Vec<u8>, AllocError> {
+    let mut line = vec![in alloc; b'x'; length]?;
+    line.extend_from_slice(end.as_bytes())?;
+    Ok(line)
+}
+
+fn check_line<R: Abort + AllocGlobal>(
+    rt: &R,
+    length: usize,
+    end: &str,
+    text: &str,
+) -> Result<(), AllocError> {
+    let line = line_of(rt.alloc(), length, end)?;
+    let files = (HEAD.as_bytes(), ENVIRONMENT.as_bytes());
+    check_run(rt, files, line.as_slice(), (Ok(1), text.as_bytes()), text)
 }
 
 /// A line of exactly the limit, one byte more, and the same with a CR that counts.
 #[test]
 fn limits_a_line(rt: HostRuntime) -> Result<(), Fail> {
-    let alloc = rt.alloc();
-    for (length, end, word) in [
-        (1_048_576, "\n", "command"),
-        (1_048_577, "\n", "long"),
-        (1_048_575, "\r\n", "command"),
-        (1_048_576, "\r\n", "long"),
-        (1_048_576, "", "command"),
-        (1_048_577, "", "long"),
+    let is_short = "plan 0\nrefused 1\tcommand\n";
+    let is_long = "plan 0\nrefused 1\tlong\n";
+    for (length, end, text) in [
+        (1_048_576, "\n", is_short),
+        (1_048_577, "\n", is_long),
+        (1_048_575, "\r\n", is_short),
+        (1_048_576, "\r\n", is_long),
+        (1_048_576, "", is_short),
+        (1_048_577, "", is_long),
     ] {
-        let mut input = vec![in alloc; b'x'; length]?;
-        input.extend_from_slice(end.as_bytes())?;
-        let done = ran(alloc, HEAD.as_bytes(), ENVIRONMENT.as_bytes(), &input)?;
-        let want = format!(in alloc; "plan 0\nrefused 1\t{word}\n")?;
-        assert_eq!(rt; done.answer, Ok(1));
-        assert_eq!(rt; done.room.bytes(), want.as_bytes());
+        check_line(&rt, length, end, text)?;
     }
     Ok(())
 }
@@ -248,58 +242,70 @@ impl Source for Endless {
     }
 }
 
-#[test]
-fn limits_the_input(rt: HostRuntime) -> Result<(), Fail> {
-    let alloc = rt.alloc();
+/// A million lines, and a byte more.
+fn too_many_lines(alloc: Global) -> Result<Vec<u8>, AllocError> {
     let mut input = Vec::new(alloc);
     for _ in 0..1_000_000 {
         input.extend_from_slice(b"show\n")?;
     }
-    let room = Room::new(alloc, 8_000_000, 65_536, None)?;
-    let mut reader = Pieces::new(&input, 65_536, None);
-    let most = ran_to(
-        alloc,
-        HEAD.as_bytes(),
-        ENVIRONMENT.as_bytes(),
-        &mut reader,
-        room,
-    )?;
-    assert_eq!(rt; most.answer, Ok(0));
-    assert_eq!(rt; most.room.bytes().len(), 7_000_007);
-
     input.push(b'x')?;
-    let room = Room::new(alloc, 8_000_000, 65_536, None)?;
-    let mut reader = Pieces::new(&input, 65_536, None);
-    let more = ran_to(
-        alloc,
-        HEAD.as_bytes(),
-        ENVIRONMENT.as_bytes(),
-        &mut reader,
-        room,
-    )?;
-    assert_eq!(rt; more.answer, Err(RunFault::Input));
+    Ok(input)
+}
 
-    let endless = ran_by(alloc, HEAD.as_bytes(), ENVIRONMENT.as_bytes(), &mut Endless)?;
-    assert_eq!(rt; endless.answer, Err(RunFault::Input));
+fn check_answer<R: Abort>(rt: &R, answer: Result<u8, RunFault>, wanted: Result<u8, RunFault>) {
+    assert_eq!(rt; answer, wanted);
+}
+
+fn check_written<R: Abort>(rt: &R, written: &[u8], length: usize) {
+    assert_eq!(rt; written.len(), length);
+}
+
+/// A run over this input, which writes so much where it ends well.
+fn check_lines<R: Abort + AllocGlobal>(
+    rt: &R,
+    input: &[u8],
+    wanted: Result<u8, RunFault>,
+) -> Result<(), AllocError> {
+    let mut room = Room::new(rt.alloc(), 8_000_000, ROOM, None)?;
+    let mut reader = Pieces::new(input, ROOM, None);
+    let (lock, environment) = (HEAD.as_bytes(), ENVIRONMENT.as_bytes());
+    let answer = run(rt.alloc(), lock, environment, &mut reader, &mut room);
+    check_answer(rt, answer, wanted);
+    if wanted.is_ok() {
+        check_written(rt, room.bytes(), 7_000_007);
+    }
+    Ok(())
+}
+
+fn check_last_line<R: Abort + AllocGlobal>(rt: &R, input: &[u8]) -> Result<(), AllocError> {
+    if let Some((_, lines)) = input.split_last() {
+        check_lines(rt, lines, Ok(0))?;
+    }
+    check_lines(rt, input, Err(RunFault::Input))
+}
+
+#[test]
+fn limits_the_lines(rt: HostRuntime) -> Result<(), Fail> {
+    let input = too_many_lines(rt.alloc())?;
+    check_last_line(&rt, input.as_slice()).map_err(Fail::from)
+}
+
+fn endless_answer(alloc: Global) -> Result<Result<u8, RunFault>, AllocError> {
+    let mut room = Room::new(alloc, ROOM, ROOM, None)?;
+    let (lock, environment) = (HEAD.as_bytes(), ENVIRONMENT.as_bytes());
+    Ok(run(alloc, lock, environment, &mut Endless, &mut room))
+}
+
+#[test]
+fn limits_the_input(rt: HostRuntime) -> Result<(), Fail> {
+    assert_eq!(rt; endless_answer(rt.alloc())?, Err(RunFault::Input));
     Ok(())
 }
 
 #[test]
 fn reads_every_prefix(rt: HostRuntime) -> Result<(), Fail> {
-    let alloc = rt.alloc();
-    for end in 0..FIRST_PATH.len() {
-        let done = ran(
-            alloc,
-            &FIRST_PATH.as_bytes()[..end],
-            ENVIRONMENT.as_bytes(),
-            b"",
-        )?;
-        assert!(rt; done.answer.is_ok(), "{end}");
-    }
-    for end in 0..ENVIRONMENT.len() {
-        let done = ran(alloc, HEAD.as_bytes(), &ENVIRONMENT.as_bytes()[..end], b"")?;
-        assert_eq!(rt; done.answer, Ok(2), "{end}");
-    }
+    check_lock_fronts(&rt, FIRST_PATH.as_bytes(), ENVIRONMENT.as_bytes())?;
+    check_environment_fronts(&rt, HEAD.as_bytes(), ENVIRONMENT.as_bytes())?;
     Ok(())
 }
 
@@ -309,74 +315,95 @@ const EDITS: &[u8] = b"show\ndel x\ndel 2\nfly\ndel 2\nshow";
 fn edited(alloc: Global) -> Result<String, AllocError> {
     let line = "1\tb-b\t1.0\tdirectory\t-\t./b\t-\t-\t-\n";
     format!(in alloc;
-        "{FIRST_ANSWER}{FIRST_ANSWER}refused 2\targument\nplan 1\n{line}refused 4\tcommand\nrefused 5\tno-entry\nplan 1\n{line}"
+        "{FIRST_ANSWER}{FIRST_ANSWER}refused 2\targument\nplan 1\n{line}refused 4\tcommand\n\
+            refused 5\tno-entry\nplan 1\n{line}"
     )
+}
+
+/// Whether the run over `EDITS` ended as without a failure; else it met that fault at that call,
+/// and wrote a front.
+fn is_over<R: Abort>(rt: &R, end: End<'_>, text: &[u8], fault: RunFault, call: u64) -> bool {
+    if end.0 == Ok(1) {
+        check_end(rt, end, (Ok(1), text), "");
+        return true;
+    }
+    check_front(rt, end, fault, text, call);
+    false
+}
+
+/// Whether the run is over before the write of this number, which fails.
+fn is_written<R: Abort + AllocGlobal>(rt: &R, text: &[u8], call: u64) -> Result<bool, AllocError> {
+    let mut room = Room::new(rt.alloc(), ROOM, 1, Some(call))?;
+    let mut reader = Pieces::new(EDITS, ROOM, None);
+    let (lock, environment) = (FIRST_PATH.as_bytes(), ENVIRONMENT.as_bytes());
+    let answer = run(rt.alloc(), lock, environment, &mut reader, &mut room);
+    let end = (answer, room.bytes());
+    Ok(is_over(rt, end, text, RunFault::Write, call))
+}
+
+fn check_writes<R: Abort + AllocGlobal>(rt: &R, text: &[u8]) -> Result<(), AllocError> {
+    let mut reached = 0;
+    for call in 1..1_000 {
+        if is_written(rt, text, call)? {
+            break;
+        }
+        reached = call;
+    }
+    assert_eq!(rt; reached, text.len() as u64);
+    Ok(())
 }
 
 #[test]
 fn fails_at_each_write(rt: HostRuntime) -> Result<(), Fail> {
-    let alloc = rt.alloc();
-    let want = edited(alloc)?;
+    let want = edited(rt.alloc())?;
+    check_writes(&rt, want.as_bytes()).map_err(Fail::from)
+}
+
+fn check_full<R: Abort + AllocGlobal>(rt: &R) -> Result<(), AllocError> {
+    let mut full = Room::new(rt.alloc(), 3, ROOM, None)?;
+    let mut reader = Pieces::new(EDITS, ROOM, None);
+    let (lock, environment) = (FIRST_PATH.as_bytes(), ENVIRONMENT.as_bytes());
+    let answer = run(rt.alloc(), lock, environment, &mut reader, &mut full);
+    let end = (answer, full.bytes());
+    check_end(rt, end, (Err(RunFault::Write), b"pla"), "");
+    Ok(())
+}
+
+#[test]
+fn fails_at_a_full_room(rt: HostRuntime) -> Result<(), Fail> {
+    check_full(&rt).map_err(Fail::from)
+}
+
+fn check_first_answer<R: Abort>(rt: &R, written: &[u8], call: u64) {
+    assert!(rt; written.starts_with(FIRST_ANSWER.as_bytes()), "{call}");
+}
+
+/// Whether the run is over before the read of this number, which fails. The first answer is written
+/// in any case.
+fn is_read<R: Abort + AllocGlobal>(rt: &R, text: &[u8], call: u64) -> Result<bool, AllocError> {
+    let mut room = Room::new(rt.alloc(), ROOM, ROOM, None)?;
+    let mut reader = Pieces::new(EDITS, 1, Some(call));
+    let (lock, environment) = (FIRST_PATH.as_bytes(), ENVIRONMENT.as_bytes());
+    let answer = run(rt.alloc(), lock, environment, &mut reader, &mut room);
+    check_first_answer(rt, room.bytes(), call);
+    let end = (answer, room.bytes());
+    Ok(is_over(rt, end, text, RunFault::Read, call))
+}
+
+fn check_reads<R: Abort + AllocGlobal>(rt: &R, text: &[u8]) -> Result<(), AllocError> {
     let mut reached = 0;
-    for fail_at in 1..1_000 {
-        let room = Room::new(alloc, ROOM, 1, Some(fail_at))?;
-        let mut reader = Pieces::new(EDITS, 65_536, None);
-        let done = ran_to(
-            alloc,
-            FIRST_PATH.as_bytes(),
-            ENVIRONMENT.as_bytes(),
-            &mut reader,
-            room,
-        )?;
-        if done.answer == Ok(1) {
-            assert_eq!(rt; done.room.bytes(), want.as_bytes());
+    for call in 1..1_000 {
+        if is_read(rt, text, call)? {
             break;
         }
-        assert_eq!(rt; done.answer, Err(RunFault::Write), "{fail_at}");
-        assert!(rt; want.as_bytes().starts_with(done.room.bytes()), "{fail_at}");
-        reached = fail_at;
+        reached = call;
     }
-    assert_eq!(rt; reached, want.len() as u64);
-
-    let full = Room::new(alloc, 3, 65_536, None)?;
-    let mut reader = Pieces::new(EDITS, 65_536, None);
-    let done = ran_to(
-        alloc,
-        FIRST_PATH.as_bytes(),
-        ENVIRONMENT.as_bytes(),
-        &mut reader,
-        full,
-    )?;
-    assert_eq!(rt; done.answer, Err(RunFault::Write));
-    assert_eq!(rt; done.room.bytes(), b"pla".as_slice());
+    assert_eq!(rt; reached, EDITS.len() as u64 + 1);
     Ok(())
 }
 
 #[test]
 fn fails_at_each_read(rt: HostRuntime) -> Result<(), Fail> {
-    let alloc = rt.alloc();
-    let want = edited(alloc)?;
-    let mut reached = 0;
-    for fail_at in 1..1_000 {
-        let mut reader = Pieces::new(EDITS, 1, Some(fail_at));
-        let done = ran_by(
-            alloc,
-            FIRST_PATH.as_bytes(),
-            ENVIRONMENT.as_bytes(),
-            &mut reader,
-        )?;
-        if done.answer == Ok(1) {
-            assert_eq!(rt; done.room.bytes(), want.as_bytes());
-            break;
-        }
-        assert_eq!(rt; done.answer, Err(RunFault::Read), "{fail_at}");
-        assert!(rt;
-            done.room.bytes().starts_with(FIRST_ANSWER.as_bytes()),
-            "{fail_at}"
-        );
-        assert!(rt; want.as_bytes().starts_with(done.room.bytes()), "{fail_at}");
-        reached = fail_at;
-    }
-    assert_eq!(rt; reached, EDITS.len() as u64 + 1);
-    Ok(())
+    let want = edited(rt.alloc())?;
+    check_reads(&rt, want.as_bytes()).map_err(Fail::from)
 }
