@@ -1,28 +1,52 @@
 //! Words of the command line.
 
 use pylock_command::{CommandError, Task, command};
-use std::test::Fail;
+use std::alloc::Global;
+
+/// The word of a task, and its texts.
+fn texts_of(task: Task<'_>) -> (&str, &str, &str) {
+    match task {
+        Task::Bare => ("", "", ""),
+        Task::Select(lock, environment) => ("select", lock, environment),
+        Task::Version(version) => ("version", version, ""),
+        Task::Match(set, version) => ("match", set, version),
+        Task::Name(name) => ("name", name, ""),
+        Task::Marker(marker, environment) => ("marker", marker, environment),
+        Task::Requirement(requirement) => ("requirement", requirement, ""),
+        Task::Wheel(wheel) => ("wheel", wheel, ""),
+    }
+}
+
+/// The word of the task that the words come to, and its texts; else `refused` or `memory`.
+pub(crate) fn told<'a>(alloc: Global, words: &'a [&'a str]) -> (&'a str, &'a str, &'a str) {
+    match command(alloc, words) {
+        Ok(task) => texts_of(task),
+        Err(CommandError::Refused(_)) => ("refused", "", ""),
+        Err(CommandError::Memory) => ("memory", "", ""),
+    }
+}
 
 #[test]
-fn reads_words(rt: HostRuntime) -> Result<(), Fail> {
-    assert!(rt; matches!(command(rt.alloc(), &["pylock"])?, Task::Bare));
-    let task = command(rt.alloc(), &["pylock", "select", "a", "b"])?;
-    assert!(rt; matches!(task, Task::Select("a", "b")));
-    let task = command(rt.alloc(), &["pylock", "select", "--", "-a", "-b"])?;
-    assert!(rt; matches!(task, Task::Select("-a", "-b")));
-    let task = command(rt.alloc(), &["pylock", "name", "--", "-a"])?;
-    assert!(rt; matches!(task, Task::Name("-a")));
-    let task = command(rt.alloc(), &["pylock", "version", "1"])?;
-    assert!(rt; matches!(task, Task::Version("1")));
-    let task = command(rt.alloc(), &["pylock", "match", "", "1"])?;
-    assert!(rt; matches!(task, Task::Match("", "1")));
-    let task = command(rt.alloc(), &["pylock", "marker", "a", "b"])?;
-    assert!(rt; matches!(task, Task::Marker("a", "b")));
-    let task = command(rt.alloc(), &["pylock", "requirement", "a >= 1"])?;
-    assert!(rt; matches!(task, Task::Requirement("a >= 1")));
-    let task = command(rt.alloc(), &["pylock", "wheel", "a.whl"])?;
-    assert!(rt; matches!(task, Task::Wheel("a.whl")));
-    Ok(())
+fn reads_words(rt: HostRuntime) {
+    for (words, task) in [
+        (["pylock"].as_slice(), ("", "", "")),
+        (&["pylock", "select", "a", "b"], ("select", "a", "b")),
+        (
+            &["pylock", "select", "--", "-a", "-b"],
+            ("select", "-a", "-b"),
+        ),
+        (&["pylock", "name", "--", "-a"], ("name", "-a", "")),
+        (&["pylock", "version", "1"], ("version", "1", "")),
+        (&["pylock", "match", "", "1"], ("match", "", "1")),
+        (&["pylock", "marker", "a", "b"], ("marker", "a", "b")),
+        (
+            &["pylock", "requirement", "a >= 1"],
+            ("requirement", "a >= 1", ""),
+        ),
+        (&["pylock", "wheel", "a.whl"], ("wheel", "a.whl", "")),
+    ] {
+        assert_eq!(rt; told(rt.alloc(), words), task);
+    }
 }
 
 #[test]
@@ -37,7 +61,6 @@ fn refuses_words(rt: HostRuntime) {
         &["pylock", "requirement"],
         &["pylock", "wheel", "a", "b"],
     ] {
-        let refused = command(rt.alloc(), words);
-        assert!(rt; matches!(refused, Err(CommandError::Refused(_))));
+        assert_eq!(rt; told(rt.alloc(), words), ("refused", "", ""));
     }
 }

@@ -3,7 +3,7 @@
 //! leaves what it should, or answers just what it answers with ample memory.
 
 use crate::check::{End, check_growth};
-use pylock_command::{CommandError, Task, command};
+use crate::command::told;
 use pylock_core::{
     Answer, Edit, EditError, Entry, EnvError, Lock, LockError, Session, read_environment,
 };
@@ -127,11 +127,13 @@ const EDITED: &[u8] = b"plan 0\nplan 0\nplan 0\nplan 0\nplan 0\nplan 0\nplan 0\n
         1\ta\t-\tarchive\t-\tp\t-\t-\t-\nplan 1\n1\ta\t-\tvcs\t-\tg\t-\tgit@f0\t-\nplan 1\n\
         1\ta\t-\tvcs\t-\tg\t-\tgit@f0\t-\nplan 0\n";
 
+/// A lock of the extra and the group that those lines name.
+const NAMES: &str = "lock-version = \"1.0\"\ncreated-by = \"t\"\nextras = [\"x\"]\n\
+        dependency-groups = [\"g\"]\n";
+
 #[test]
 fn every_command(rt: HostRuntime) {
-    let lock = b"lock-version = \"1.0\"\ncreated-by = \"t\"\nextras = [\"x\"]\ndependency-groups = \
-            [\"g\"]\n";
-    let files = (lock.as_slice(), ENVIRONMENT.as_bytes());
+    let files = (NAMES.as_bytes(), ENVIRONMENT.as_bytes());
     let mut reader = Pieces::new(EDITS, 4096, None);
     check_run(&rt, files, &mut reader, (4096, 4096), (Ok(0), EDITED));
 }
@@ -148,6 +150,8 @@ const WHEELS: &str =
 const TAGGED: &str = "{\"environment\":{\"os_name\":\"posix\",\"python_full_version\":\"3.12.4\"},\
         \"tags\":[\"py3-none-any\"]}";
 
+const CHOICES: &[u8] = b"policy a source\npolicy a any\nextra+ x\nset python_full_version 3.8\n";
+
 const CHOSEN: &[u8] = b"plan 1\n\
         1\ta\t1\twheel\ta-1-2-py3-none-any.whl\tw/a-1-2-py3-none-any.whl\tsha256=aa\t-\t-\n\
         plan 1\n1\ta\t1\tsdist\ta-1.tar.gz\ts/a-1.tar.gz\t-\t-\t-\nplan 1\n\
@@ -158,29 +162,25 @@ const CHOSEN: &[u8] = b"plan 1\n\
 
 #[test]
 fn run_over_wheels(rt: HostRuntime) {
-    let input = b"policy a source\npolicy a any\nextra+ x\nset python_full_version 3.8\n";
     let files = (WHEELS.as_bytes(), TAGGED.as_bytes());
-    let mut reader = Pieces::new(input, 4096, None);
+    let mut reader = Pieces::new(CHOICES, 4096, None);
     check_run(&rt, files, &mut reader, (4096, 4096), (Ok(1), CHOSEN));
 }
 
+const HALF: &str =
+    "lock-version = \"1.0\"\ncreated-by = \"t\"\npackages = [{name=\"a\", marker=\"x\"}]\n";
+
 #[test]
 fn refused_files(rt: HostRuntime) {
-    let half: &[u8] =
-        b"lock-version = \"1.0\"\ncreated-by = \"t\"\npackages = [{name=\"a\", marker=\"x\"}]\n";
-    let tag: &[u8] = b"{\"environment\":{},\"tags\":[\"py3-none-any\",\"py3\"]}";
-    for (lock, environment, text) in [
-        (half, tag, b"lock\tentry\t1\tmarker\n".as_slice()),
-        (LOCK.as_bytes(), tag, b"environment\ttag\t2\n"),
+    let tag = "{\"environment\":{},\"tags\":[\"py3-none-any\",\"py3\"]}";
+    for (lock, text) in [
+        (HALF, "lock\tentry\t1\tmarker\n"),
+        (LOCK, "environment\ttag\t2\n"),
     ] {
         let mut reader = Pieces::new(b"show\n", 5, None);
-        check_run(
-            &rt,
-            (lock, environment),
-            &mut reader,
-            (100, 7),
-            (Ok(2), text),
-        );
+        let wanted = (Ok(2), text.as_bytes());
+        let files = (lock.as_bytes(), tag.as_bytes());
+        check_run(&rt, files, &mut reader, (100, 7), wanted);
     }
 }
 
@@ -194,63 +194,85 @@ fn check_query<R: Abort + AllocGlobal>(rt: &R, asked: Query<'_>, reply: &[u8]) {
 }
 
 #[test]
-fn queries(rt: HostRuntime) {
-    for (asked, reply) in [
+fn version_query(rt: HostRuntime) {
+    let asked = Query::Version(" V1.0-RC.1_r2.DEV+Ubuntu-01 ");
+    check_query(&rt, asked, b"1.0rc1.post2.dev0+ubuntu.1\n");
+}
+
+#[test]
+fn match_queries(rt: HostRuntime) {
+    let asked = Query::Match("~=2.2.post3, ==2.*", "2.9");
+    check_query(&rt, asked, b"true\n");
+    check_query(&rt, Query::Match("~=1", "1"), b"refused\tset-syntax\n");
+}
+
+#[test]
+fn name_query(rt: HostRuntime) {
+    check_query(&rt, Query::Name("A.-_B"), b"a-b\n");
+}
+
+#[test]
+fn marker_queries(rt: HostRuntime) {
+    for (marker, environment, reply) in [
+        ("os_name == 'posix' and '1.0' == '1'", ENVIRONMENT, "true\n"),
         (
-            Query::Version(" V1.0-RC.1_r2.DEV+Ubuntu-01 "),
-            b"1.0rc1.post2.dev0+ubuntu.1\n".as_slice(),
+            "platform_machine == 'x'",
+            ENVIRONMENT,
+            "fault\tmarker-unset\n",
         ),
-        (Query::Match("~=2.2.post3, ==2.*", "2.9"), b"true\n"),
-        (Query::Match("~=1", "1"), b"refused\tset-syntax\n"),
-        (Query::Name("A.-_B"), b"a-b\n"),
-        (
-            Query::Marker(
-                "os_name == 'posix' and '1.0' == '1'",
-                ENVIRONMENT.as_bytes(),
-            ),
-            b"true\n",
-        ),
-        (
-            Query::Requirement("A.b[B_b, c] >=1.0 ; os_name == 'nt'"),
-            b"a-b\tb-b,c\t>=1.0\t-\tos_name == 'nt'\n",
-        ),
-        (
-            Query::Wheel("Foo_Bar-1.0-1b-py2.py3-none-any.whl"),
-            b"foo-bar\t1.0\t1b\tpy2-none-any py3-none-any\n",
-        ),
-        (Query::Requirement("a @ u v"), b"refused\ttrailing\n"),
-        (Query::Requirement("a (>=1"), b"refused\tspecifier\n"),
-        (Query::Wheel("a-1-b-py3-none-any.whl"), b"refused\tbuild\n"),
-        (
-            Query::Marker("platform_machine == 'x'", ENVIRONMENT.as_bytes()),
-            b"fault\tmarker-unset\n",
-        ),
-        (
-            Query::Marker("'a' == 'a'", b"{\"environment\":{}}"),
-            b"environment\tshape\n",
-        ),
+        ("'a' == 'a'", "{\"environment\":{}}", "environment\tshape\n"),
     ] {
-        check_query(&rt, asked, reply);
+        let asked = Query::Marker(marker, environment.as_bytes());
+        check_query(&rt, asked, reply.as_bytes());
     }
 }
 
 #[test]
-fn command_words(rt: HostRuntime) {
-    match command(rt.alloc(), &["pylock", "select", "a", "b"]) {
-        Ok(task) => assert!(rt; matches!(task, Task::Select("a", "b"))),
-        Err(error) => assert!(rt; matches!(error, CommandError::Memory)),
-    }
-    match command(rt.alloc(), &["pylock", "name", "--", "-a"]) {
-        Ok(task) => assert!(rt; matches!(task, Task::Name("-a"))),
-        Err(error) => assert!(rt; matches!(error, CommandError::Memory)),
-    }
-    // A refusal takes memory for its text.
-    for words in [
-        ["pylock", "fly"].as_slice(),
-        &["pylock", "match", "1"],
-        &["pylock", "select", "--help"],
+fn requirement_queries(rt: HostRuntime) {
+    for (requirement, reply) in [
+        (
+            "A.b[B_b, c] >=1.0 ; os_name == 'nt'",
+            "a-b\tb-b,c\t>=1.0\t-\tos_name == 'nt'\n",
+        ),
+        ("a @ u v", "refused\ttrailing\n"),
+        ("a (>=1", "refused\tspecifier\n"),
     ] {
-        let refused = command(rt.alloc(), words);
-        assert!(rt; refused.is_err());
+        check_query(&rt, Query::Requirement(requirement), reply.as_bytes());
+    }
+}
+
+#[test]
+fn wheel_queries(rt: HostRuntime) {
+    for (wheel, reply) in [
+        (
+            "Foo_Bar-1.0-1b-py2.py3-none-any.whl",
+            "foo-bar\t1.0\t1b\tpy2-none-any py3-none-any\n",
+        ),
+        ("a-1-b-py3-none-any.whl", "refused\tbuild\n"),
+    ] {
+        check_query(&rt, Query::Wheel(wheel), reply.as_bytes());
+    }
+}
+
+/// The words come to that task, or memory is refused.
+fn check_words<R: Abort + AllocGlobal>(rt: &R, words: &[&str], task: (&str, &str, &str)) {
+    let told = told(rt.alloc(), words);
+    assert!(rt; told == task || told == ("memory", "", ""), "{told:?}");
+}
+
+#[test]
+fn command_words(rt: HostRuntime) {
+    for (words, task) in [
+        (
+            ["pylock", "select", "a", "b"].as_slice(),
+            ("select", "a", "b"),
+        ),
+        (&["pylock", "name", "--", "-a"], ("name", "-a", "")),
+        // A refusal takes memory for its text.
+        (&["pylock", "fly"], ("refused", "", "")),
+        (&["pylock", "match", "1"], ("refused", "", "")),
+        (&["pylock", "select", "--help"], ("refused", "", "")),
+    ] {
+        check_words(&rt, words, task);
     }
 }

@@ -27,6 +27,17 @@ fn check_case<R: Abort + AllocGlobal>(rt: &R, case: Case) -> Result<(), AllocErr
     check_run(rt, files, case.input.as_bytes(), wanted, case.name)
 }
 
+/// A lock whose head is judged.
+const HEADED: Case = Case {
+    name: "head",
+    lock: "requires-python = \">=3.9\"\nenvironments = [\"sys_platform == 'win32'\"]",
+    environment: "{\"environment\":{\"sys_platform\":\"linux\"},\"tags\":[]}",
+    input: "set python_full_version 3.8.1\nset python_full_version 3.9.0\nset sys_platform \
+        win32\n",
+    text: "fault 0\tpython-unknown\nfault 0\tpython-not-met\nfault 0\tno-environment\nplan 0\n",
+    status: 0,
+};
+
 const SELECTIONS: [Case; 9] = [
     Case {
         name: "empty lock",
@@ -101,15 +112,7 @@ const SELECTIONS: [Case; 9] = [
             .0%2Bcpu-cp312-cp312-linux_x86_64.whl?x#y\tsha256=aa,sha512=bb\t-\t-\n",
         status: 0,
     },
-    Case {
-        name: "head",
-        lock: "requires-python = \">=3.9\"\nenvironments = [\"sys_platform == 'win32'\"]",
-        environment: "{\"environment\":{\"sys_platform\":\"linux\"},\"tags\":[]}",
-        input: "set python_full_version 3.8.1\nset python_full_version 3.9.0\nset sys_platform \
-            win32\n",
-        text: "fault 0\tpython-unknown\nfault 0\tpython-not-met\nfault 0\tno-environment\nplan 0\n",
-        status: 0,
-    },
+    HEADED,
     Case {
         name: "archive",
         lock: "packages = [{name=\"a\", archive={url=\"https://h/a.zip\", hashes={sha256=\"aa\"}, \
@@ -128,6 +131,22 @@ fn selects(rt: HostRuntime) -> Result<(), Fail> {
     }
     Ok(())
 }
+
+/// Edits of each kind, most of them refused.
+const REFUSALS: Case = Case {
+    name: "refusals",
+    lock: "",
+    environment: "{\"environment\":{},\"tags\":[]}",
+    input: "add {name = \"a\", directory = {path = \"p\", editable = true, subdirectory = \
+        \"s\"}}\nput 1 {name = \"a\", vcs = {type = \"git\", url = \"g\", commit-id = \
+        \"f0\"}}\nadd {name = \"-x\", directory = {path = \"p\"}}\nadd 5\nset os.name x\n\
+        tags py3\nfly\ndel x\nput 2 {name = \"b\"}\n",
+    text: "plan 0\nplan 1\n1\ta\t-\teditable\t-\tp\t-\t-\ts\nplan 1\n\
+        1\ta\t-\tvcs\t-\tg\t-\tgit@f0\t-\nrefused 3\tentry\nrefused 4\ttoml\nrefused \
+        5\tvariable\nrefused 6\ttag\nrefused 7\tcommand\nrefused 8\targument\nrefused \
+        9\tno-entry\n",
+    status: 1,
+};
 
 const EDITS: [Case; 8] = [
     Case {
@@ -152,20 +171,7 @@ const EDITS: [Case; 8] = [
             2\tb\t-\tdirectory\t-\tb\t-\t-\t-\nrefused 3\tgroup\n",
         status: 1,
     },
-    Case {
-        name: "refusals",
-        lock: "",
-        environment: "{\"environment\":{},\"tags\":[]}",
-        input: "add {name = \"a\", directory = {path = \"p\", editable = true, subdirectory = \
-            \"s\"}}\nput 1 {name = \"a\", vcs = {type = \"git\", url = \"g\", commit-id = \
-            \"f0\"}}\nadd {name = \"-x\", directory = {path = \"p\"}}\nadd 5\nset os.name x\n\
-            tags py3\nfly\ndel x\nput 2 {name = \"b\"}\n",
-        text: "plan 0\nplan 1\n1\ta\t-\teditable\t-\tp\t-\t-\ts\nplan 1\n\
-            1\ta\t-\tvcs\t-\tg\t-\tgit@f0\t-\nrefused 3\tentry\nrefused 4\ttoml\nrefused \
-            5\tvariable\nrefused 6\ttag\nrefused 7\tcommand\nrefused 8\targument\nrefused \
-            9\tno-entry\n",
-        status: 1,
-    },
+    REFUSALS,
     Case {
         name: "order of refusals",
         lock: "",
@@ -233,28 +239,15 @@ fn takes_edit_lines(rt: HostRuntime) -> Result<(), Fail> {
     Ok(())
 }
 
-/// The place of the example of refusals among the edits.
-const REFUSALS: usize = 2;
-
-/// The lock of that example.
+/// The lock of the example `REFUSALS`.
 const LOCK: &str = "lock-version = \"1.0\"\ncreated-by = \"t\"\n\n";
-
-/// The input of that example with CR and LF after each line.
-fn with_returns(alloc: Global) -> Result<Vec<u8>, AllocError> {
-    let mut input = Vec::new(alloc);
-    for line in EDITS[REFUSALS].input.lines() {
-        input.extend_from_slice(line.as_bytes())?;
-        input.extend_from_slice(b"\r\n")?;
-    }
-    Ok(input)
-}
 
 /// The example over this reader, with a byte written at each call.
 fn check_bytewise<R: Abort + AllocGlobal>(
     rt: &R,
+    case: Case,
     reader: &mut Pieces<'_>,
 ) -> Result<(), AllocError> {
-    let case = EDITS[REFUSALS];
     let mut room = Room::new(rt.alloc(), ROOM, 1, None)?;
     let files = (LOCK.as_bytes(), case.environment.as_bytes());
     let answer = run(rt.alloc(), files.0, files.1, reader, &mut room);
@@ -263,9 +256,9 @@ fn check_bytewise<R: Abort + AllocGlobal>(
     Ok(())
 }
 
-fn check_cuts<R: Abort + AllocGlobal>(rt: &R, input: &[u8]) -> Result<(), AllocError> {
+fn check_cuts<R: Abort + AllocGlobal>(rt: &R, case: Case, input: &str) -> Result<(), AllocError> {
     for piece in [1, 2, 3, 65_535, 65_536] {
-        check_bytewise(rt, &mut Pieces::new(input, piece, None))?;
+        check_bytewise(rt, case, &mut Pieces::new(input.as_bytes(), piece, None))?;
     }
     Ok(())
 }
@@ -273,13 +266,12 @@ fn check_cuts<R: Abort + AllocGlobal>(rt: &R, input: &[u8]) -> Result<(), AllocE
 /// The input of that example with CR and LF after each line, in pieces of any size.
 #[test]
 fn cuts_edit_lines_anyhow(rt: HostRuntime) -> Result<(), Fail> {
-    let input = with_returns(rt.alloc())?;
-    check_cuts(&rt, input.as_slice()).map_err(Fail::from)
+    let input = REFUSALS.input.replace(rt.alloc(), "\n", "\r\n")?;
+    check_cuts(&rt, REFUSALS, &input).map_err(Fail::from)
 }
 
 /// The example with the write of this number failing.
-fn check_write<R: Abort + AllocGlobal>(rt: &R, call: u64) -> Result<(), AllocError> {
-    let case = EDITS[REFUSALS];
+fn check_write<R: Abort + AllocGlobal>(rt: &R, case: Case, call: u64) -> Result<(), AllocError> {
     let mut reader = Pieces::new(case.input.as_bytes(), ROOM, None);
     let mut room = Room::new(rt.alloc(), ROOM, 1, Some(call))?;
     let files = (LOCK.as_bytes(), case.environment.as_bytes());
@@ -292,8 +284,8 @@ fn check_write<R: Abort + AllocGlobal>(rt: &R, call: u64) -> Result<(), AllocErr
 /// Each write of that example failing in turn.
 #[test]
 fn edit_lines_meet_a_failed_write(rt: HostRuntime) -> Result<(), Fail> {
-    for call in 1..=EDITS[REFUSALS].text.len() as u64 {
-        check_write(&rt, call)?;
+    for call in 1..=REFUSALS.text.len() as u64 {
+        check_write(&rt, REFUSALS, call)?;
     }
     Ok(())
 }
@@ -315,8 +307,12 @@ fn check_starts_with<R: Abort>(rt: &R, text: &[u8], front: &[u8]) {
 
 /// The example with a byte given at each call, and the call of this number failing: as much as
 /// `least` is written.
-fn check_read<R: Abort + AllocGlobal>(rt: &R, call: u64, least: &[u8]) -> Result<(), AllocError> {
-    let case = EDITS[REFUSALS];
+fn check_read<R: Abort + AllocGlobal>(
+    rt: &R,
+    case: Case,
+    call: u64,
+    least: &[u8],
+) -> Result<(), AllocError> {
     let mut reader = Pieces::new(case.input.as_bytes(), 1, Some(call));
     let mut room = Room::new(rt.alloc(), ROOM, ROOM, None)?;
     let files = (LOCK.as_bytes(), case.environment.as_bytes());
@@ -328,22 +324,27 @@ fn check_read<R: Abort + AllocGlobal>(rt: &R, call: u64, least: &[u8]) -> Result
 }
 
 /// The example with a byte given at each call, and the call after these bytes failing.
-fn check_read_after<R: Abort + AllocGlobal>(rt: &R, read: &[u8]) -> Result<(), AllocError> {
+fn check_read_after<R: Abort + AllocGlobal>(
+    rt: &R,
+    case: Case,
+    read: &[u8],
+) -> Result<(), AllocError> {
     let mut reader = Pieces::new(whole_lines(read), ROOM, None);
     let mut least = Room::new(rt.alloc(), ROOM, ROOM, None)?;
-    let files = (LOCK.as_bytes(), EDITS[REFUSALS].environment.as_bytes());
+    let files = (LOCK.as_bytes(), case.environment.as_bytes());
     let answer = run(rt.alloc(), files.0, files.1, &mut reader, &mut least);
     check_is_ok(rt, answer);
-    check_read(rt, (read.len() as u64).saturating_add(1), least.bytes())
+    let call = (read.len() as u64).saturating_add(1);
+    check_read(rt, case, call, least.bytes())
 }
 
 /// Each read of that example failing in turn: the first answer is written, and the text of each
 /// line that was read whole.
 #[test]
 fn edit_lines_meet_a_failed_read(rt: HostRuntime) -> Result<(), Fail> {
-    let input = EDITS[REFUSALS].input.as_bytes();
+    let input = REFUSALS.input.as_bytes();
     for end in 0..input.len() {
-        check_read_after(&rt, &input[..end])?;
+        check_read_after(&rt, REFUSALS, &input[..end])?;
     }
     Ok(())
 }
@@ -408,7 +409,6 @@ fn check_fronts<R: Abort + AllocGlobal>(
 /// Every front of a lock and of an environment is read or refused.
 #[test]
 fn reads_every_front(rt: HostRuntime) -> Result<(), Fail> {
-    let case = SELECTIONS[6];
-    let lock = format!(in rt.alloc(); "{HEAD}{}\n", case.lock)?;
-    check_fronts(&rt, lock.as_bytes(), case.environment.as_bytes()).map_err(Fail::from)
+    let lock = format!(in rt.alloc(); "{HEAD}{}\n", HEADED.lock)?;
+    check_fronts(&rt, lock.as_bytes(), HEADED.environment.as_bytes()).map_err(Fail::from)
 }

@@ -242,16 +242,6 @@ impl Source for Endless {
     }
 }
 
-/// A million lines, and a byte more.
-fn too_many_lines(alloc: Global) -> Result<Vec<u8>, AllocError> {
-    let mut input = Vec::new(alloc);
-    for _ in 0..1_000_000 {
-        input.extend_from_slice(b"show\n")?;
-    }
-    input.push(b'x')?;
-    Ok(input)
-}
-
 fn check_answer<R: Abort>(rt: &R, answer: Result<u8, RunFault>, wanted: Result<u8, RunFault>) {
     assert_eq!(rt; answer, wanted);
 }
@@ -263,11 +253,11 @@ fn check_written<R: Abort>(rt: &R, written: &[u8], length: usize) {
 /// A run over this input, which writes so much where it ends well.
 fn check_lines<R: Abort + AllocGlobal>(
     rt: &R,
-    input: &[u8],
+    lines: &str,
     wanted: Result<u8, RunFault>,
 ) -> Result<(), AllocError> {
     let mut room = Room::new(rt.alloc(), 8_000_000, ROOM, None)?;
-    let mut reader = Pieces::new(input, ROOM, None);
+    let mut reader = Pieces::new(lines.as_bytes(), ROOM, None);
     let (lock, environment) = (HEAD.as_bytes(), ENVIRONMENT.as_bytes());
     let answer = run(rt.alloc(), lock, environment, &mut reader, &mut room);
     check_answer(rt, answer, wanted);
@@ -277,17 +267,23 @@ fn check_lines<R: Abort + AllocGlobal>(
     Ok(())
 }
 
-fn check_last_line<R: Abort + AllocGlobal>(rt: &R, input: &[u8]) -> Result<(), AllocError> {
-    if let Some((_, lines)) = input.split_last() {
-        check_lines(rt, lines, Ok(0))?;
-    }
-    check_lines(rt, input, Err(RunFault::Input))
+#[test]
+fn limits_the_lines(rt: HostRuntime) -> Result<(), Fail> {
+    let lines = "show\n".repeat(rt.alloc(), 1_000_000)?;
+    check_lines(&rt, &lines, Ok(0)).map_err(Fail::from)
+}
+
+/// A million lines, and a byte more.
+fn too_many_lines(alloc: Global) -> Result<String, AllocError> {
+    let mut lines = "show\n".repeat(alloc, 1_000_000)?;
+    lines.push('x')?;
+    Ok(lines)
 }
 
 #[test]
-fn limits_the_lines(rt: HostRuntime) -> Result<(), Fail> {
-    let input = too_many_lines(rt.alloc())?;
-    check_last_line(&rt, input.as_slice()).map_err(Fail::from)
+fn refuses_a_line_too_many(rt: HostRuntime) -> Result<(), Fail> {
+    let lines = too_many_lines(rt.alloc())?;
+    check_lines(&rt, &lines, Err(RunFault::Input)).map_err(Fail::from)
 }
 
 fn endless_answer(alloc: Global) -> Result<Result<u8, RunFault>, AllocError> {

@@ -4,48 +4,97 @@
 use pylock_program::{
     FileFault, FromRead, IoFault, Pieces, Room, Sink, Source, ToWrite, read_whole, write_all,
 };
+use std::alloc::{AllocError, Global};
 use std::io;
 use std::io::{Read, Write};
+use std::process::Abort;
 use std::test::Fail;
+
+/// The next call of the source answers that.
+fn check_read<R: Abort, S: Source>(
+    rt: &R,
+    source: &mut S,
+    buffer: &mut [u8],
+    wanted: Result<usize, IoFault>,
+) {
+    assert_eq!(rt; source.read(buffer), wanted);
+}
+
+fn check_bytes<R: Abort>(rt: &R, bytes: &[u8], wanted: &[u8]) {
+    assert_eq!(rt; bytes, wanted);
+}
 
 #[test]
 fn gives_pieces(rt: HostRuntime) {
     let mut pieces = Pieces::new(b"hello", 3, Some(2));
     let mut buffer = [0; 4];
-    assert_eq!(rt; pieces.read(&mut buffer), Ok(3));
-    assert_eq!(rt; buffer, [104, 101, 108, 0]);
-    assert_eq!(rt; pieces.read(&mut buffer), Err(IoFault));
-    assert_eq!(rt; pieces.read(&mut buffer), Ok(2));
-    assert_eq!(rt; pieces.read(&mut buffer), Ok(0));
+    check_read(&rt, &mut pieces, &mut buffer, Ok(3));
+    check_bytes(&rt, &buffer, b"hel\0");
+    check_read(&rt, &mut pieces, &mut buffer, Err(IoFault));
+    check_read(&rt, &mut pieces, &mut buffer, Ok(2));
+    check_read(&rt, &mut pieces, &mut buffer, Ok(0));
+}
+
+/// The next call of the sink answers that.
+fn check_write<R: Abort, S: Sink>(
+    rt: &R,
+    sink: &mut S,
+    piece: &[u8],
+    wanted: Result<usize, IoFault>,
+) {
+    assert_eq!(rt; sink.write(piece), wanted);
+}
+
+fn check_pieces<R: Abort>(rt: &R, room: &mut Room) {
+    check_write(rt, room, b"hello", Ok(3));
+    check_write(rt, room, b"lo", Err(IoFault));
+    check_write(rt, room, b"lo", Ok(1));
+    check_write(rt, room, b"o", Ok(0));
+    check_bytes(rt, room.bytes(), b"hell");
 }
 
 #[test]
 fn takes_pieces(rt: HostRuntime) -> Result<(), Fail> {
     let mut room = Room::new(rt.alloc(), 4, 3, Some(2))?;
-    assert_eq!(rt; room.write(b"hello"), Ok(3));
-    assert_eq!(rt; room.write(b"lo"), Err(IoFault));
-    assert_eq!(rt; room.write(b"lo"), Ok(1));
-    assert_eq!(rt; room.write(b"o"), Ok(0));
-    assert_eq!(rt; room.bytes(), b"hell".as_slice());
+    check_pieces(&rt, &mut room);
     Ok(())
+}
+
+/// Writing the whole text answers that.
+fn check_write_all<R: Abort, S: Sink>(
+    rt: &R,
+    sink: &mut S,
+    text: &[u8],
+    wanted: Result<(), IoFault>,
+) {
+    assert_eq!(rt; write_all(sink, text), wanted);
+}
+
+fn check_whole_texts<R: Abort>(rt: &R, room: &mut Room) {
+    check_write_all(rt, room, b"plan", Ok(()));
+    check_write_all(rt, room, b"", Ok(()));
+    check_write_all(rt, room, b" 0000\n", Err(IoFault));
+    check_bytes(rt, room.bytes(), b"plan 0000");
 }
 
 #[test]
 fn writes_whole_texts(rt: HostRuntime) -> Result<(), Fail> {
     let mut room = Room::new(rt.alloc(), 9, 2, None)?;
-    assert_eq!(rt; write_all(&mut room, b"plan"), Ok(()));
-    assert_eq!(rt; write_all(&mut room, b""), Ok(()));
-    assert_eq!(rt; write_all(&mut room, b" 0000\n"), Err(IoFault));
-    assert_eq!(rt; room.bytes(), b"plan 0000".as_slice());
+    check_whole_texts(&rt, &mut room);
+    Ok(())
+}
+
+fn check_front<R: Abort + AllocGlobal>(rt: &R, call: u64, front: &str) -> Result<(), AllocError> {
+    let mut room = Room::new(rt.alloc(), 9, 2, Some(call))?;
+    check_write_all(rt, &mut room, b"plan 0\n", Err(IoFault));
+    check_bytes(rt, room.bytes(), front.as_bytes());
     Ok(())
 }
 
 #[test]
 fn leaves_a_front(rt: HostRuntime) -> Result<(), Fail> {
     for (call, front) in [(1, ""), (2, "pl"), (3, "plan")] {
-        let mut room = Room::new(rt.alloc(), 9, 2, Some(call))?;
-        assert_eq!(rt; write_all(&mut room, b"plan 0\n"), Err(IoFault));
-        assert_eq!(rt; room.bytes(), front.as_bytes());
+        check_front(&rt, call, front)?;
     }
     Ok(())
 }
@@ -65,29 +114,56 @@ impl Source for Endless {
     }
 }
 
-#[test]
-fn reads_up_to_the_limit(rt: HostRuntime) -> Result<(), Fail> {
-    for piece in [1, 3, 10, 64] {
-        let ten = read_whole(rt.alloc(), &mut Pieces::new(b"0123456789", piece, None), 10)?;
-        assert_eq!(rt; ten.as_slice(), b"0123456789".as_slice());
-        let eleven = read_whole(
-            rt.alloc(),
-            &mut Pieces::new(b"0123456789a", piece, None),
-            10,
-        );
-        assert_eq!(rt; eleven.err(), Some(FileFault::Limit));
+fn check_given<R: Abort>(
+    rt: &R,
+    given: Result<&[u8], FileFault>,
+    wanted: Result<&[u8], FileFault>,
+) {
+    assert_eq!(rt; given, wanted);
+}
+
+/// Reading the whole source, of ten bytes at most, ends so.
+fn check_whole<R: Abort + AllocGlobal, S: Source>(
+    rt: &R,
+    source: &mut S,
+    wanted: Result<&[u8], FileFault>,
+) {
+    match read_whole(rt.alloc(), source, 10) {
+        Ok(bytes) => check_given(rt, Ok(bytes.as_slice()), wanted),
+        Err(fault) => check_given(rt, Err(fault), wanted),
     }
-    let endless = read_whole(rt.alloc(), &mut Endless, 10);
-    assert_eq!(rt; endless.err(), Some(FileFault::Limit));
-    let empty = read_whole(rt.alloc(), &mut Pieces::new(b"", 1, None), 0)?;
-    assert!(rt; empty.is_empty());
-    Ok(())
+}
+
+#[test]
+fn reads_up_to_the_limit(rt: HostRuntime) {
+    for piece in [1, 3, 10, 64] {
+        let mut ten = Pieces::new(b"0123456789", piece, None);
+        check_whole(&rt, &mut ten, Ok(b"0123456789"));
+        let mut eleven = Pieces::new(b"0123456789a", piece, None);
+        check_whole(&rt, &mut eleven, Err(FileFault::Limit));
+    }
+}
+
+#[test]
+fn reads_no_end(rt: HostRuntime) {
+    check_whole(&rt, &mut Endless, Err(FileFault::Limit));
+}
+
+/// Nothing, of which there may be nothing, is read.
+fn is_empty(alloc: Global) -> Result<bool, FileFault> {
+    let empty = read_whole(alloc, &mut Pieces::new(b"", 1, None), 0)?;
+    Ok(empty.is_empty())
+}
+
+#[test]
+fn reads_nothing(rt: HostRuntime) {
+    assert_eq!(rt; is_empty(rt.alloc()), Ok(true));
 }
 
 #[test]
 fn tells_a_failed_read(rt: HostRuntime) {
-    let after_three = read_whole(rt.alloc(), &mut Pieces::new(b"0123456789", 3, Some(2)), 10);
-    assert_eq!(rt; after_three.err(), Some(FileFault::Read));
+    let mut pieces = Pieces::new(b"0123456789", 3, Some(2));
+    check_whole(&rt, &mut pieces, Err(FileFault::Read));
 }
 
 /// A reader over bytes, and a writer onto others, whose calls do in turn what `steps` says: a count
@@ -147,75 +223,85 @@ impl<'a> Write for Stubborn<'a> {
     }
 }
 
+fn check_reader<R: Abort, S: Source>(rt: &R, from: &mut S) {
+    let mut buffer = [0; 4];
+    check_read(rt, from, &mut buffer, Ok(3));
+    check_bytes(rt, &buffer, b"012\0");
+    check_read(rt, from, &mut buffer, Err(IoFault));
+    check_read(rt, from, &mut buffer, Ok(1));
+    check_bytes(rt, &buffer[..1], b"3");
+    check_read(rt, from, &mut buffer, Ok(0));
+    check_read(rt, from, &mut buffer, Ok(4));
+    check_bytes(rt, &buffer, b"4567");
+    check_read(rt, from, &mut buffer, Ok(2));
+    check_read(rt, from, &mut buffer, Ok(0));
+}
+
 #[test]
-fn reads_what_a_reader_gives(rt: HostRuntime) -> Result<(), Fail> {
+fn reads_what_a_reader_gives(rt: HostRuntime) {
     let mut from = FromRead::new(Stubborn {
         rest: b"0123456789",
         taken: Vec::new(rt.alloc()),
         steps: &[Some(3), None, Some(1), Some(0), Some(9)],
         calls: 0,
     });
-    let mut buffer = [0; 4];
-    assert_eq!(rt; from.read(&mut buffer), Ok(3));
-    assert_eq!(rt; buffer, [48, 49, 50, 0]);
-    assert_eq!(rt; from.read(&mut buffer), Err(IoFault));
-    assert_eq!(rt; from.read(&mut buffer), Ok(1));
-    assert_eq!(rt; buffer[0], 51);
-    assert_eq!(rt; from.read(&mut buffer), Ok(0));
-    assert_eq!(rt; from.read(&mut buffer), Ok(4));
-    assert_eq!(rt; buffer, [52, 53, 54, 55]);
-    assert_eq!(rt; from.read(&mut buffer), Ok(2));
-    assert_eq!(rt; from.read(&mut buffer), Ok(0));
-    Ok(())
+    check_reader(&rt, &mut from);
+}
+
+fn check_calls<R: Abort>(rt: &R, calls: usize, wanted: usize) {
+    assert_eq!(rt; calls, wanted);
+}
+
+/// Reading ends at a call that fails, which is the last.
+fn check_failed_read<R: Abort + AllocGlobal>(rt: &R, steps: &[Option<usize>], calls: usize) {
+    let mut reader = Stubborn {
+        rest: b"0123456789",
+        taken: Vec::new(rt.alloc()),
+        steps,
+        calls: 0,
+    };
+    check_whole(rt, &mut FromRead::new(&mut reader), Err(FileFault::Read));
+    check_calls(rt, reader.calls, calls);
 }
 
 #[test]
-fn stops_at_each_failed_read(rt: HostRuntime) -> Result<(), Fail> {
+fn stops_at_each_failed_read(rt: HostRuntime) {
     for failing in 0..4 {
         let mut steps = [Some(4); 5];
         steps[failing] = None;
-        let mut reader = Stubborn {
-            rest: b"0123456789",
-            taken: Vec::new(rt.alloc()),
-            steps: &steps,
-            calls: 0,
-        };
-        let read = read_whole(rt.alloc(), &mut FromRead::new(&mut reader), 10);
-        assert_eq!(rt; read.err(), Some(FileFault::Read), "{failing}");
-        assert_eq!(rt; reader.calls, failing + 1, "{failing}");
+        check_failed_read(&rt, &steps, failing + 1);
     }
-    Ok(())
 }
 
-#[test]
-fn writes_what_a_writer_takes(rt: HostRuntime) -> Result<(), Fail> {
+/// Writing ten bytes ends so.
+fn check_writer<R: Abort + AllocGlobal>(
+    rt: &R,
+    steps: &[Option<usize>],
+    wanted: Result<(), IoFault>,
+    taken: &[u8],
+    calls: usize,
+) {
     let mut writer = Stubborn {
         rest: b"",
         taken: Vec::new(rt.alloc()),
-        steps: &[Some(3), Some(1), Some(2)],
+        steps,
         calls: 0,
     };
-    let written = write_all(&mut ToWrite::new(&mut writer), b"0123456789");
-    assert_eq!(rt; written, Ok(()));
-    assert_eq!(rt; writer.taken.as_slice(), b"0123456789".as_slice());
-    assert_eq!(rt; writer.calls, 4);
-    Ok(())
+    check_write_all(rt, &mut ToWrite::new(&mut writer), b"0123456789", wanted);
+    check_bytes(rt, writer.taken.as_slice(), taken);
+    check_calls(rt, writer.calls, calls);
 }
 
 #[test]
-fn stops_at_each_failed_write(rt: HostRuntime) -> Result<(), Fail> {
-    for (failure, front) in [(None, "0123"), (Some(0), "0123")] {
+fn writes_what_a_writer_takes(rt: HostRuntime) {
+    let steps = [Some(3), Some(1), Some(2)];
+    check_writer(&rt, &steps, Ok(()), b"0123456789", 4);
+}
+
+#[test]
+fn stops_at_each_failed_write(rt: HostRuntime) {
+    for failure in [None, Some(0)] {
         let steps = [Some(4), failure, Some(9)];
-        let mut writer = Stubborn {
-            rest: b"",
-            taken: Vec::new(rt.alloc()),
-            steps: &steps,
-            calls: 0,
-        };
-        let written = write_all(&mut ToWrite::new(&mut writer), b"0123456789");
-        assert_eq!(rt; written, Err(IoFault));
-        assert_eq!(rt; writer.taken.as_slice(), front.as_bytes());
-        assert_eq!(rt; writer.calls, 2);
+        check_writer(&rt, &steps, Err(IoFault), b"0123", 2);
     }
-    Ok(())
 }
