@@ -10,16 +10,17 @@ const GREATEST: &str = "340282366920938463463374607431768211455";
 
 const TOO_LARGE: &str = "340282366920938463463374607431768211456";
 
-/// The reply is that text, and then LF, where all is well.
-fn check_line<R: Abort>(
-    rt: &R,
-    answer: Result<u8, RunFault>,
-    status: u8,
-    written: &[u8],
-    text: &str,
-) {
-    assert_eq!(rt; answer, Ok(status), "{text}");
-    assert_eq!(rt; written.split_last(), Some((&b'\n', text.as_bytes())));
+/// What is written is that text, and then LF.
+fn check_line<R: Abort>(rt: &R, asked: Query<'_>, written: &[u8], text: &str) {
+    assert_eq!(rt;
+        written.split_last(),
+        Some((&b'\n', text.as_bytes())),
+        "{asked:?}"
+    );
+}
+
+fn check_answer<R: Abort>(rt: &R, asked: Query<'_>, answer: Result<u8, RunFault>, status: u8) {
+    assert_eq!(rt; answer, Ok(status), "{asked:?}");
 }
 
 fn check_reply<R: Abort + AllocGlobal>(
@@ -30,7 +31,8 @@ fn check_reply<R: Abort + AllocGlobal>(
 ) -> Result<(), AllocError> {
     let mut room = Room::new(rt.alloc(), 100, 100, None)?;
     let answer = query(rt.alloc(), asked, &mut room);
-    check_line(rt, answer, status, room.bytes(), text);
+    check_answer(rt, asked, answer, status);
+    check_line(rt, asked, room.bytes(), text);
     Ok(())
 }
 
