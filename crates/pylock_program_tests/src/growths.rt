@@ -81,9 +81,9 @@ fn check_edits<R: Abort>(rt: &R, session: &mut Session) {
 
 fn check_session<R: Abort + AllocGlobal>(rt: &R, session: &mut Session) {
     // Whether it is refused memory or not, an answer changes nothing.
-    let _ = session.answer(rt.alloc());
+    let _ = session.answer();
     check_edits(rt, session);
-    if let Ok(answer) = session.answer(rt.alloc()) {
+    if let Ok(answer) = session.answer() {
         check_answer(rt, &answer);
     }
 }

@@ -343,7 +343,7 @@ fn check_read_after<R: Abort + AllocGlobal>(
 #[test]
 fn edit_lines_meet_a_failed_read(rt: HostRuntime) -> Result<(), Fail> {
     let input = REFUSALS.input.as_bytes();
-    for end in 0..input.len() {
+    for end in 0..=input.len() {
         check_read_after(&rt, REFUSALS, &input[..end])?;
     }
     Ok(())
@@ -394,6 +394,16 @@ fn entries_end_at_a_hundred_thousand(rt: HostRuntime) -> Result<(), Fail> {
     ] {
         check_many(&rt, member, count, input, (status, text))?;
     }
+    Ok(())
+}
+
+/// The last number is given out, and none after it.
+#[test]
+fn the_last_number_is_given_out(rt: HostRuntime) -> Result<(), Fail> {
+    let skipped = "{name=\"a\", marker=\"'a' == 'b'\"}";
+    let input = "add {name = \"b\", marker = \"'a' == 'b'\"}\nadd {name = \"c\"}\n";
+    let text = "plan 0\nplan 0\nrefused 2\ttoo-many\n";
+    check_many(&rt, skipped, 99_999, input, (1, text))?;
     Ok(())
 }
 
