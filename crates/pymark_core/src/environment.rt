@@ -1,7 +1,8 @@
 //! The environment that markers are judged in (PEP 508, "Environment Markers"; PEP 751,
 //! "Installation").
 
-ghost use Rattle.std.specs.Prelude.{◌≡◌, not, option_map, replicate, IfOk, OnErr, OnOk};
+ghost use Rattle.std.specs.Prelude.{◌≡◌, not, option_map, replicate, IfOk, None, OnErr, OnOk};
+ghost use Rattle.std.specs.Prelude.{Some};
 ghost use Rattle.std.specs.FinSet as set;
 ghost use Rattle.pyver_core.specs.Name.{norm};
 ghost use Rattle.pyver_core.specs.Parsed.{parsed_version};
@@ -84,6 +85,7 @@ impl Environment {
     /// no memory for it, the variable keeps what it had.
     pub fn set(&mut self, variable: Var, text: &str) -> Result<(), AllocError>
         ensures ok { OnOk result (self.new ≡ with_variable variable text.now self.old) }
+        ensures given { OnOk result (variable_in variable self.new ≡ Some text.now) }
         ensures err { OnErr result (self.new ≡ self.old) }
     {
         let candidate = Candidate::new(self.alloc, text)?;
@@ -93,7 +95,8 @@ impl Environment {
 
     /// Leaves the variable without a text. It takes no memory.
     pub fn unset(&mut self, variable: Var)
-        ensures { self.new ≡ without_variable variable self.old }
+        ensures others { self.new ≡ without_variable variable self.old }
+        ensures unset { variable_in variable self.new ≡ None }
     {
         self.variables[variable.place()] = None;
     }
