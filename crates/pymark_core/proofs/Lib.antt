@@ -7,6 +7,7 @@ pub mod DepthLemmas
 pub mod Judged
 pub mod MarkerLemmas
 pub mod NamesSoFar
+pub mod NormalNames
 pub mod NoteLemmas
 pub mod NotedLemmas
 pub mod ReadingSound

@@ -6,7 +6,7 @@ use Rattle.pymark_core.specs.Inner.Building.{NotesMore}
 use Rattle.pymark_core.specs.Marker.Comparison.{ComparisonValue}
 use Rattle.pymark_core.specs.Marker.Grammar.{is_misuse}
 use Rattle.pymark_core.specs.declared.marker.notes.Notes.{Notes}
-use Rattle.pymark_core.specs.Marker.Keys.{comparison_reads, has_key, is_in, is_key, operand_keys}
+use Rattle.pymark_core.specs.Marker.Keys.{comparison_reads, has_key, is_flagged, is_key, operand_keys}
 use Rattle.pymark_core.specs.declared.marker.keys.Key.{Key}
 use Rattle.pymark_core.specs.declared.operand.Operand.{Operand}
 
@@ -14,11 +14,11 @@ pub both_read : (key : Key) (left right : Operand) → (has_key key (operand_key
 both_read key left right = sym (list_any-append (is_key key) (operand_keys left) (operand_keys right))
 
 pub nothing_noted : (notes : Notes) → NotesMore notes notes []
-nothing_noted notes = record { reads = λ key. sym (or-false (is_in notes.reads key)); misuse = sym (or-false notes.misuse) }
+nothing_noted notes = record { reads = λ key. sym (or-false (is_flagged notes.reads key)); misuse = sym (or-false notes.misuse) }
 
-pub one_noted : (old new : Notes) (c : ComparisonValue) → ((key : Key) → is_in new.reads key ≡ (is_in old.reads key || comparison_reads key c)) → new.misuse ≡ (old.misuse || is_misuse c)
+pub one_noted : (old new : Notes) (c : ComparisonValue) → ((key : Key) → is_flagged new.reads key ≡ (is_flagged old.reads key || comparison_reads key c)) → new.misuse ≡ (old.misuse || is_misuse c)
     → NotesMore old new (c ∷ [])
 one_noted old new c reads misuse = record {
-  reads = λ key. reads key ∙ ap (λ x. is_in old.reads key || x) (sym (or-false (comparison_reads key c)));
+  reads = λ key. reads key ∙ ap (λ x. is_flagged old.reads key || x) (sym (or-false (comparison_reads key c)));
   misuse = misuse ∙ ap (λ x. old.misuse || x) (sym (or-false (is_misuse c)));
 }

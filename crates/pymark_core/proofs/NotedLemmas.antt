@@ -12,7 +12,7 @@ use Rattle.pymark_core.proofs.Choices.{chosen, map_some}
 use Rattle.pymark_core.specs.Inner.Building.{NotesMore, NotesOf, noted}
 use Rattle.pymark_core.specs.Marker.Comparison.{ComparisonValue}
 use Rattle.pymark_core.specs.Marker.Grammar.{atom_comparisons, comparisons, conjunction_comparisons, is_misuse}
-use Rattle.pymark_core.specs.Marker.Keys.{comparison_reads, is_in}
+use Rattle.pymark_core.specs.Marker.Keys.{comparison_reads, is_flagged}
 use Rattle.pymark_core.specs.Marker.Reading.{Frame, Place, Stage, at_atom, at_operator, at_in, at_right, at_rest, behind_atom, behind_atom_start, behind_closing, behind_left, behind_not, behind_right, empty_frame, end_at, finish, frame_conjunction, frame_tree, operand_of, place_behind, read, staged, start, step, tree_text}
 use Rattle.pymark_core.specs.Marker.Token.{Token, opening, closing, sign, word, quoted, tokens}
 use Rattle.pymark_core.specs.Marker.Tree.{Tree, Conjunction, Atom, leaf, group, conjunction_of, tree_of}
@@ -217,7 +217,7 @@ module _ (p : ComparisonValue → Bool) where
 
 -- what was noted is what was read up to the place
 pub record Kept (notes : Notes) (place : Place) : Type 0 where
-  pub reads : (key : Key) → is_in notes.reads key ≡ place_any (comparison_reads key) place
+  pub reads : (key : Key) → is_flagged notes.reads key ≡ place_any (comparison_reads key) place
   pub misuse : notes.misuse ≡ place_any is_misuse place
 
 pub kept_step : (old new : Notes) (place next : Place) (t : Token) → Kept old place → ok_or (step place t) Syntax ≡ Ok next → NotesMore old new (noted place.stage t) → Kept new next
@@ -234,7 +234,7 @@ kept_end notes place tree kept e = record {
   misuse = kept.misuse ∙ sym (finish_any is_misuse place tree e);
 }
 
-pub kept_start : (notes : Notes) → ((key : Key) → is_in notes.reads key ≡ false) → notes.misuse ≡ false → Kept notes start
+pub kept_start : (notes : Notes) → ((key : Key) → is_flagged notes.reads key ≡ false) → notes.misuse ≡ false → Kept notes start
 kept_start notes reads misuse = record { reads = reads; misuse = misuse }
 
 -- what stays true while a marker is read: what is left, read from here, is the tree of the whole text

@@ -16,7 +16,7 @@ use Rattle.pyver_core.specs.Version.Reading.{after_white}
 use Rattle.pyver_core.specs.declared.set.specifier.Specifier.{Specifier}
 use Rattle.pyver_core.proofs.Lemmas.Version.Complete.Pieces.{dropped_exact, prefix_len_exact, taken_exact, white_again}
 use Rattle.pymark_core.specs.Marker.Reading.{MarkerValue}
-use Rattle.pymark_core.specs.Requirement.Grammar.{ExtrasText, IsExtras, IsWithin, Lacks, MarkerPart, Req, SetText, SourceText, UrlText}
+use Rattle.pymark_core.specs.Requirement.Grammar.{ExtrasText, IsExtras, IsWithin, Lacks, MarkerPart, Req, SetPart, SourceText, UrlText}
 use Rattle.pymark_core.specs.Requirement.Reading.{Source, around, behind, cut_at, cut_source, extras_at, extras_behind, extras_from, extras_in, marker_in, marker_text_at, name_at, names_in, refused_as, requirement_of, set_source, source_at, source_from, url_len, url_source, within_from, within_parentheses, before_end}
 use Rattle.pymark_core.specs.Requirement.Value.{RequirementValue}
 use Rattle.pymark_core.specs.White.{trimmed}
@@ -188,7 +188,7 @@ within_again text inner (inr closed) = ap within_parentheses closed ∙ before_a
         (slice_get-get_or text (length text - 1) 0 inside ∙ ap Some (get_or_push inner 41 0 (length text - 1) (sym len)))
         (take-append_seam inner (41 ∷ []))
 
-set_again : (text : List ℕ) (set : List Specifier) (marker : Option MarkerValue) (s : SetText text set marker)
+set_again : (text : List ℕ) (set : List Specifier) (marker : Option MarkerValue) (s : SetPart text set marker)
     → source_at text ≡ Ok (record { set = set; url = None; marker = part_text s.last marker s.is_last })
 unfolding source_at set_source
 set_again text set marker s =

@@ -1,6 +1,6 @@
 -- What is read of a requirement, the text is.
 use Rattle.std.proofs.Common.{◌≡◌, ℕ, ◌+◌, ◌-◌, ◌<◌, ◌≤◌, Bool, true, false, cond, not, ◌&&◌, ◌||◌, List, [], ◌∷◌, ◌++◌, length, take, drop, map, get_or, Option, Some, None, ok_or, Result, Ok, Err, ◌∙◌, ap, refl, sym, subst, inl, inr, append_assoc, append-nil, arith}
-use Rattle.std.specs.Prelude.{◌==◌, nat_lt, option_map, slice_get, unwrap_or}
+use Rattle.std.specs.Prelude.{IfOk, ◌==◌, nat_lt, option_map, slice_get, unwrap_or}
 use Rattle.std.specs.List.{list_all, list_any, prefix_len, slice_split}
 use Rattle.std.proofs.lemmas.Bool.{cases_lt, ltb-false}
 use Rattle.std.proofs.lemmas.Bool.Decides.{Decides-eqb, Decides-ltb}
@@ -8,6 +8,7 @@ use Rattle.std.proofs.lemmas.List.{drop_all, drop_more, take-append-drop, take_a
 use Rattle.std.proofs.lemmas.List.Sums.{prefix_len_stops}
 use Rattle.std.proofs.lemmas.List.Folds.{length-prefix_len}
 use Rattle.std.proofs.lemmas.Option.{slice_get-get_or}
+use Rattle.pyver_core.specs.Agreement.{Gives}
 use Rattle.pyver_core.specs.Name.{is_name, is_name_byte}
 use Rattle.pyver_core.specs.Parsed.{parsed_set}
 use Rattle.pyver_core.specs.Results.{◌>>=◌}
@@ -341,3 +342,9 @@ requirement_takes text parts e =
       is_second_gap = second_gap.2;
       is_source = source_takes source third.0 fourth.0 third.1 fourth.1;
     })
+
+-- ---- what a call says, over what it gives
+
+pub given_requirement : (text : List ℕ) (r : Result RequirementValue RequirementError) → Gives refusal.Memory (λ parts. parts) r (requirement_of text) → IfOk r (λ parts. Req text parts)
+given_requirement text (Ok parts) gives = requirement_takes text parts gives
+given_requirement text (Err e) gives = tt

@@ -1,16 +1,18 @@
 -- A `BTreeSet` of texts as the finite set of their bytes.
-use Rattle.std.proofs.Common.{◌≡◌, ℕ, Bool, true, false, cond, not, ◌&&◌, ◌||◌, List, [], ◌∷◌, map, ◌∙◌, ap, refl, sym}
+use Rattle.std.proofs.Common.{Ordering, Less, Equal, Greater, inl, inr, ◌≡◌, ℕ, Bool, true, false, cond, not, ◌&&◌, ◌||◌, List, [], ◌∷◌, map, ◌∙◌, ap, refl, sym}
+use Rattle.std.proofs.lemmas.Bool.{cases_Bool}
 use Rattle.std.proofs.lemmas.Map.Text.{btree_set_updates_text, is_eq-slice_cmp}
 use Rattle.std.specs.BTreeSet.{BTreeSet, UpdatesBy, contains_text}
 use Rattle.std.specs.Cmp.Lexicographic.{nat_list_cmp_total, nat_list_eq_equiv, slice_cmp}
 use Rattle.std.specs.FinSet as set
 use Rattle.std.specs.FinSet.{slice_cmp-IsAntisymmetric, nat_cmp-IsAntisymmetric}
 use Rattle.std.specs.List.{AllZip, list_any}
-use Rattle.std.specs.Ordering.{eq_by_cmp, nat_cmp}
+use Rattle.std.specs.Ordering.{eq_by_cmp, is_eq, nat_cmp}
 use Rattle.std.specs.Str.{bytes_eq}
 use Rattle.std.specs.String.{string_bytes, string_cmp}
 use Rattle.std.specs.declared.string.String.{String}
-use Rattle.pymark_core.specs.Environment.{Texts}
+use Rattle.pyver_core.specs.Name.{norm}
+use Rattle.pymark_core.specs.Environment.{AreNormal, Texts}
 
 -- the set of the texts
 abbrev pub seen : {Y : Type 0} → BTreeSet (String Y) → Texts
@@ -59,3 +61,30 @@ seen-clone [] [] each = refl
 seen-clone [] (y ∷ ys) each = absurd each
 seen-clone (x ∷ xs) [] each = absurd each
 seen-clone (x ∷ xs) (y ∷ ys) each = λ i. each.0 i ∷ seen-clone xs ys each.1 i
+
+-- ---- names in normal form
+
+is_equal : (o : Ordering) → is_eq o ≡ true → o ≡ Equal
+is_equal Less is = absurd cc
+is_equal Equal is = refl
+is_equal Greater is = absurd cc
+
+module _ {Y : Type 0} (s n : BTreeSet (String Y)) (k : List ℕ) where
+  -- a set with a normal name more
+  pub normal-put : norm k ≡ k → UpdatesBy string_cmp (λ x. slice_cmp nat_cmp k (string_bytes x)) s n true → AreNormal (seen s) → AreNormal (seen n)
+  normal-put is u all q there = elim (cases_Bool (eq_by_cmp (slice_cmp nat_cmp) q k)) [
+    | inl same ↦ (let equal : q ≡ k = slice_cmp-IsAntisymmetric nat_cmp-IsAntisymmetric q k (is_equal (slice_cmp nat_cmp q k) same) in rw equal is)
+    | inr other ↦ all q (rw other at (sym (after s n k true u q) ∙ there))
+  ]
+
+  -- a set with a name less
+  pub normal-taken : UpdatesBy string_cmp (λ x. slice_cmp nat_cmp k (string_bytes x)) s n false → AreNormal (seen s) → AreNormal (seen n)
+  normal-taken u all q there = elim (cases_Bool (eq_by_cmp (slice_cmp nat_cmp) q k)) [
+    | inl same ↦ (let contradiction : false ≡ true = (rw same at (sym (after s n k false u q) ∙ there)) in absurd cc)
+    | inr other ↦ all q (rw other at (sym (after s n k false u q) ∙ there))
+  ]
+
+-- no name at all
+pub normal-none : {Y : Type 0} (s : BTreeSet (String Y)) → s.keys ≡ [] → AreNormal (seen s)
+normal-none s none q there =
+    let contradiction : false ≡ true = (rw none at (sym (contains-seen s q) ∙ there)) in absurd cc

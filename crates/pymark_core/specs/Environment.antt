@@ -1,8 +1,8 @@
 -- The environment that markers are judged in (PEP 508, "Environment Markers"): a text for each
 -- variable that has one, and the extras and dependency groups that are asked for (PEP 751,
 -- "Installation").
-use Rattle.std.specs.Prelude.{ℕ, Bool, List, Option, Some, None, replicate, slice_index_or}
-use Rattle.std.specs.Prelude.{slice_set, refl}
+use Rattle.std.specs.Prelude.{◌≡◌, ℕ, Bool, IsTrue, List, Option, Some, None, replicate}
+use Rattle.std.specs.Prelude.{slice_index_or, slice_set, refl}
 use Rattle.std.specs.Cmp.Lexicographic.{slice_cmp}
 use Rattle.std.specs.Coded.{Coded, code_by, coded×, coded_ℕ, coded_list, coded_option}
 use Rattle.std.specs.FinSet as set
@@ -17,6 +17,10 @@ Texts = set.FinSet (slice_cmp nat_cmp)
 
 abbrev texts_code : Coded Texts
 texts_code = set.code (coded_list coded_ℕ)
+
+-- each is in normal form
+abbrev pub AreNormal : Texts → Type 0
+AreNormal names = (name : List ℕ) → IsTrue (set.contains names name) → norm name ≡ name
 
 -- `variables` has the text of each variable at its place, and the sets hold normal names
 pub record EnvironmentValue : Type 0 where

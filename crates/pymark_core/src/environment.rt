@@ -1,8 +1,8 @@
 //! The environment that markers are judged in (PEP 508, "Environment Markers"; PEP 751,
 //! "Installation").
 
-ghost use Rattle.std.specs.Prelude.{◌≡◌, not, option_map, replicate, IfOk, None, OnErr, OnOk};
-ghost use Rattle.std.specs.Prelude.{Some};
+ghost use Rattle.std.specs.Prelude.{◌≡◌, not, option_map, replicate, IfOk, IsTrue, None, OnErr};
+ghost use Rattle.std.specs.Prelude.{OnOk, Some};
 ghost use Rattle.std.specs.FinSet as set;
 ghost use Rattle.pyver_core.specs.Name.{norm};
 ghost use Rattle.pyver_core.specs.Parsed.{parsed_version};
@@ -17,8 +17,9 @@ use pyver_core::{Version, VersionError};
 use std::alloc::{AllocError, Global};
 use std::marker::Model;
 
-/// The environment that markers are judged in: a text for each variable that has one, and the sets
-/// of the extras and of the dependency groups that are asked for, in normal form (PEP 503).
+/// The environment that markers are judged in (PEP 508, "Environment Markers"): a text for each
+/// variable that has one, and the sets of the extras and of the dependency groups that are asked
+/// for, in normal form (PEP 503).
 ///
 /// Contracts see the texts and the sets.
 #[derive(Debug, Drop)]
@@ -70,7 +71,8 @@ impl Environment {
     }
 
     /// The version that the text of the variable spells, or why it spells none; nothing where the
-    /// variable has no text. It was read when the variable was set, so it takes no memory.
+    /// variable has no text. It was read when the variable was set, so it takes no memory, and the
+    /// reason is never [`VersionError::Memory`].
     pub fn version(&self, variable: Var) -> Option<&Result<Version, VersionError>>
         ensures { option_map (λ read. read.now) result
             ≡ option_map parsed_version (variable_in variable self.now) }
@@ -155,19 +157,22 @@ impl Environment {
 
     /// Whether this very text is among the extras, which are in normal form. It takes no memory.
     pub fn has_extra(&self, name: &str) -> bool
-        ensures { result ≡ has_extra name.now self.now }
+        ensures has { result ≡ has_extra name.now self.now }
+        ensures normal { IsTrue result → norm name.now ≡ name.now }
     {
         self.extras.has(name)
     }
 
     /// Whether this very text is among the groups, which are in normal form. It takes no memory.
     pub fn has_group(&self, name: &str) -> bool
-        ensures { result ≡ has_group name.now self.now }
+        ensures has { result ≡ has_group name.now self.now }
+        ensures normal { IsTrue result → norm name.now ≡ name.now }
     {
         self.groups.has(name)
     }
 
-    /// An environment with the same variables and sets.
+    /// An environment with the same variables and sets. It takes memory for each text, for the
+    /// version that it spells, and for each name. Nothing is read again.
     pub fn copy(&self) -> Result<Environment, AllocError>
         ensures { IfOk result (λ copy. copy ≡ self.now) }
     {
@@ -180,6 +185,7 @@ impl Environment {
     }
 }
 
+/// A copy, as [`Environment::copy`] makes it.
 impl Clone for Environment {
     ghost is_clone = { λ environment copy. copy ≡ environment };
 

@@ -6,7 +6,7 @@ ghost use Rattle.pymark_core.specs.declared.fault.EvalFault.TheVariants.{Memory}
 use crate::variable::Var;
 use std::alloc::AllocError;
 
-/// Why a marker is neither true nor false in an environment.
+/// Why a marker is neither true nor false in an environment (PEP 508, "Environment Markers").
 #[derive(Clone, Copy, PartialEq, Eq, Debug)]
 pub enum EvalFault {
     /// The marker reads a variable that has no text.

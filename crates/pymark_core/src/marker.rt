@@ -16,7 +16,7 @@ ghost use Rattle.std.specs.Prelude.{◌≡◌, IfOk, IsErrOf, Some, false, true}
 ghost use Rattle.pyver_core.specs.Agreement.{Gives};
 ghost use Rattle.pymark_core.specs.Marker.Depth.{is_deep};
 ghost use Rattle.pymark_core.specs.Marker.Grammar.{MarkerText, has_misuse};
-ghost use Rattle.pymark_core.specs.Marker.Keys.{is_in, reads};
+ghost use Rattle.pymark_core.specs.Marker.Keys.{is_flagged, reads};
 ghost use Rattle.pymark_core.specs.Marker.Reading.{marker_of};
 ghost use Rattle.pymark_core.specs.Marker.Tree.{Tree};
 ghost use Rattle.pymark_core.specs.Marker.Value.{marker_value};
@@ -57,13 +57,13 @@ impl Model for Marker {
     ghost coded = { marker_code };
 
     ghost use Rattle.std.specs.Prelude.{◌≡◌, string_bytes};
-    ghost use Rattle.pymark_core.specs.Marker.Keys.{is_in, reads};
+    ghost use Rattle.pymark_core.specs.Marker.Keys.{is_flagged, reads};
     ghost use Rattle.pymark_core.specs.Inner.View.{tree_view};
     ghost use Rattle.pymark_core.specs.declared.marker.keys.Key.{Key};
 
     ghost view = { λ m. record { text = string_bytes m.text; tree = tree_view m.tree } };
 
-    ghost invariant = { λ m. (key : Key) → is_in m.keys key ≡ reads key (tree_view m.tree) };
+    ghost invariant = { λ m. (key : Key) → is_flagged m.keys key ≡ reads key (tree_view m.tree) };
 }
 
 impl Marker {
@@ -100,8 +100,8 @@ impl Marker {
 
     /// The value of the marker in an environment (PEP 508, "Environment Markers"). Every comparison
     /// is judged, left to right, so that the first fault of the text is the marker's fault. It
-    /// takes time linear in the marker, and memory only where the text of a variable has to be read
-    /// as an operand, or normalised as a name.
+    /// takes time linear in the marker and in the texts that it compares, and memory only where the
+    /// text of a variable has to be read as an operand, or normalised as a name.
     pub fn evaluate(&self, alloc: Global, environment: &Environment) -> Result<bool, EvalFault>
         ensures { Gives EvalFault.Memory (λ b. b) result
             (marker_value environment.now self.now.tree) }
@@ -111,7 +111,7 @@ impl Marker {
 
     /// The keys that stand in the marker as an operand. It takes no memory.
     pub fn reads(&self) -> Reads
-        ensures { (key : Key) → is_in result key ≡ reads key self.now.tree }
+        ensures { (key : Key) → is_flagged result key ≡ reads key self.now.tree }
     {
         self.keys
     }

@@ -1,6 +1,6 @@
 //! Sets of normal names.
 
-ghost use Rattle.std.specs.Prelude.{◌≡◌, not, IfOk, OnErr};
+ghost use Rattle.std.specs.Prelude.{◌≡◌, not, IfOk, IsTrue, OnErr};
 ghost use Rattle.std.specs.FinSet as set;
 ghost use Rattle.pyver_core.specs.Name.{norm};
 
@@ -19,13 +19,15 @@ impl Model for NameSet {
     ghost use Rattle.std.specs.Prelude.{List, ℕ, map, string_bytes};
     ghost use Rattle.std.specs.Coded.{coded_list, coded_ℕ};
     ghost use Rattle.std.specs.FinSet as set;
-    ghost use Rattle.pymark_core.specs.Environment.{Texts};
+    ghost use Rattle.pymark_core.specs.Environment.{AreNormal, Texts};
 
     ghost Value = { Texts };
 
     ghost coded = { set.code (coded_list coded_ℕ) };
 
     ghost view = { λ a. set.from_list (map string_bytes a.names.keys) };
+
+    ghost invariant = { λ a. AreNormal (set.from_list (map string_bytes a.names.keys)) };
 }
 
 impl NameSet {
@@ -40,7 +42,8 @@ impl NameSet {
 
     /// Whether this very text is in the set.
     pub(crate) fn has(&self, name: &str) -> bool
-        ensures { result ≡ set.contains self.now name.now }
+        ensures has { result ≡ set.contains self.now name.now }
+        ensures normal { IsTrue result → norm name.now ≡ name.now }
     {
         self.names.contains(name)
     }

@@ -12,7 +12,7 @@ use crate::marker::{Marker, MarkerError};
 use crate::white::past_white;
 pub use error::RequirementError;
 use parts::{read_extras, read_name, read_source};
-use pyver_core::{Label, SpecifierSet};
+use pyver_core::SpecifierSet;
 use std::alloc::{AllocError, Global};
 use std::marker::Model;
 
@@ -50,46 +50,39 @@ impl Model for Requirement {
 impl Requirement {
     /// The requirement that the text is (PEP 508, "Grammar"), or the first fault from the left.
     ///
-    /// White space (TAB, LF, VT, FF, CR, space) may stand before, between and after the parts.
-    #[tactic(auto, unfolding(crate::specs::Requirement::Reading::requirement_of))]
+    /// White space (TAB, LF, VT, FF, CR, space) may stand before, between and after the parts. It
+    /// takes memory for each part, and for the marker as [`Marker::parse`] does.
     pub fn parse(alloc: Global, text: &str) -> Result<Requirement, RequirementError>
+        ensures ok { IfOk result (λ r. Req text.now r) }
+
+        // The same, over the one answer of the grammar.
         ensures exact { Gives RequirementError.Memory (λ r. r) result (requirement_of text.now) }
     {
-        let (name, rest) = read_name(past_white(text))?;
-        let (extras, rest) = read_extras(alloc, past_white(rest))?;
-        let source = read_source(alloc, past_white(rest))?;
-        let marker = read_marker(alloc, source.marker)?;
-        Ok(Requirement {
-            name: String::from_str(alloc, name)?,
-            extras,
-            set: source.set,
-            url: own(alloc, source.url)?,
-            marker,
-        })
+        read_requirement(alloc, text)
     }
 
-    /// The name as it is written.
+    /// The name as it is written. It takes no memory.
     pub fn name(&self) -> &str
         ensures { result.now ≡ self.now.name }
     {
         self.name.as_str()
     }
 
-    /// The extras as they are written, in order, repeats too.
+    /// The extras as they are written, in order, repeats too. It takes no memory.
     pub fn extras(&self) -> &[String]
         ensures { map string_bytes result.now ≡ self.now.extras }
     {
         &self.extras
     }
 
-    /// The specifiers, none where the requirement has a URL.
+    /// The specifiers, none where the requirement has a URL. It takes no memory.
     pub fn set(&self) -> &SpecifierSet
         ensures { result.now ≡ self.now.set }
     {
         &self.set
     }
 
-    /// The URL.
+    /// The URL. It takes no memory.
     pub fn url(&self) -> Option<&str>
         ensures { option_map (λ url. url.now) result ≡ self.now.url }
     {
@@ -99,7 +92,7 @@ impl Requirement {
         }
     }
 
-    /// The marker.
+    /// The marker. It takes no memory.
     pub fn marker(&self) -> Option<&Marker>
         ensures { option_map (λ marker. marker.now) result ≡ self.now.marker }
     {
@@ -120,6 +113,23 @@ impl Clone for Requirement {
             marker: copy_marker(&self.marker)?,
         })
     }
+}
+
+#[tactic(auto, unfolding(crate::specs::Requirement::Reading::requirement_of))]
+fn read_requirement(alloc: Global, text: &str) -> Result<Requirement, RequirementError>
+    ensures { Gives RequirementError.Memory (λ r. r) result (requirement_of text.now) }
+{
+    let (name, rest) = read_name(past_white(text))?;
+    let (extras, rest) = read_extras(alloc, past_white(rest))?;
+    let source = read_source(alloc, past_white(rest))?;
+    let marker = read_marker(alloc, source.marker)?;
+    Ok(Requirement {
+        name: String::from_str(alloc, name)?,
+        extras,
+        set: source.set,
+        url: own(alloc, source.url)?,
+        marker,
+    })
 }
 
 /// The text in memory of its own, if there is one.

@@ -6,7 +6,8 @@ ghost use Rattle.pymark_core.specs.Variables.{place, variable_name, variable_of}
 
 use std::fmt;
 
-/// A variable of markers: a text about the Python that is installed for.
+/// A variable of markers (PEP 508, "Environment Markers"): a text about the Python that is installed
+/// for.
 #[derive(Clone, Copy, PartialEq, Eq, Hash, Debug)]
 pub enum Var {
     /// `os_name`
@@ -59,7 +60,7 @@ impl Var {
             .find(|variable| variable.name() == name)
     }
 
-    /// The name of the variable in markers.
+    /// The name of the variable in markers. It takes no memory.
     pub fn name(self) -> &'static str
         ensures { result.now ≡ variable_name self }
     {

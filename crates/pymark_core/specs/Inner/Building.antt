@@ -5,7 +5,7 @@ use Rattle.std.specs.Option.{option_to_list}
 use Rattle.std.specs.List.{list_any}
 use Rattle.pymark_core.specs.Marker.Comparison.{ComparisonValue}
 use Rattle.pymark_core.specs.Marker.Grammar.{is_misuse}
-use Rattle.pymark_core.specs.Marker.Keys.{comparison_reads, is_in}
+use Rattle.pymark_core.specs.Marker.Keys.{comparison_reads, is_flagged}
 use Rattle.pymark_core.specs.Marker.Reading as reading
 use Rattle.pymark_core.specs.Marker.Reading.{Place, at_atom, at_operator, at_in, at_right, at_rest}
 use Rattle.pymark_core.specs.Marker.Reading.{operand_of}
@@ -65,10 +65,10 @@ noted (at_rest atom) t = []
 -- what was noted is what was noted before, and these comparisons
 pub record NotesMore (old new : Notes) (cs : List ComparisonValue) : Type 0 where
   pub reads : (key : Key)
-      → is_in new.reads key ≡ (is_in old.reads key || list_any (comparison_reads key) cs)
+      → is_flagged new.reads key ≡ (is_flagged old.reads key || list_any (comparison_reads key) cs)
   pub misuse : new.misuse ≡ (old.misuse || list_any is_misuse cs)
 
 -- what was noted is these comparisons
 pub record NotesOf (notes : Notes) (cs : List ComparisonValue) : Type 0 where
-  pub reads : (key : Key) → is_in notes.reads key ≡ list_any (comparison_reads key) cs
+  pub reads : (key : Key) → is_flagged notes.reads key ≡ list_any (comparison_reads key) cs
   pub misuse : notes.misuse ≡ list_any is_misuse cs

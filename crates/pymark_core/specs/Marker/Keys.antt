@@ -1,11 +1,10 @@
 -- What of an environment a marker reads.
-use Rattle.std.specs.Prelude.{ℕ, Bool, false, ◌==◌, List, [], ◌∷◌, map, ◌++◌, filter}
-use Rattle.std.specs.Prelude.{slice_index_or}
+use Rattle.std.specs.Prelude.{ℕ, Bool, false, ◌==◌, List, [], ◌∷◌, ◌++◌, slice_index_or}
 use Rattle.std.specs.List.{list_any}
 use Rattle.pymark_core.specs.Marker.Comparison.{ComparisonValue}
 use Rattle.pymark_core.specs.Marker.Grammar.{comparisons}
 use Rattle.pymark_core.specs.Marker.Tree.{Tree}
-use Rattle.pymark_core.specs.Variables.{place, variables}
+use Rattle.pymark_core.specs.Variables.{place}
 use Rattle.pymark_core.specs.declared.marker.keys.Key.{Key}
 use Rattle.pymark_core.specs.declared.marker.keys.Key.TheVariants as key
 use Rattle.pymark_core.specs.declared.operand.Operand.{Operand}
@@ -20,10 +19,6 @@ key_number key.Groups = 12
 
 abbrev pub is_key : Key → Key → Bool
 is_key k other = key_number k == key_number other
-
--- the keys, each once
-abbrev pub all_keys : List Key
-all_keys = map key.Of variables ++ (key.Extras ∷ key.Groups ∷ [])
 
 -- the key that an operand is, or none: a text and `extra` are none
 abbrev pub operand_keys : Operand → List Key
@@ -48,11 +43,7 @@ comparison_reads k c = has_key k (comparison_keys c)
 abbrev pub reads : Key → Tree → Bool
 reads k tree = list_any (comparison_reads k) (comparisons tree)
 
--- the keys that stand in the tree as an operand, each once
-abbrev pub keys_of : Tree → List Key
-keys_of tree = filter (λ k. reads k tree) all_keys
-
 -- ---- a set of keys, as whether each key is in it, by the keys' numbers
 
-abbrev pub is_in : List Bool → Key → Bool
-is_in flags k = slice_index_or flags (key_number k) false
+abbrev pub is_flagged : List Bool → Key → Bool
+is_flagged flags k = slice_index_or flags (key_number k) false

@@ -63,7 +63,7 @@ IsWithin text inner =
     ⊎ (text ≡ codes "(" ++ (inner ++ codes ")"))
 
 -- specifiers, and a marker
-pub record SetText (text : List ℕ) (set : List Specifier) (marker : Option MarkerValue)
+pub record SetPart (text : List ℕ) (set : List Specifier) (marker : Option MarkerValue)
     : Type 0 where
   pub declared : List ℕ
   pub inner : List ℕ
@@ -76,7 +76,7 @@ pub record SetText (text : List ℕ) (set : List Specifier) (marker : Option Mar
   pub is_last : MarkerPart last marker
 
 abbrev pub SourceText : List ℕ → List Specifier → Option (List ℕ) → Option MarkerValue → Type 0
-SourceText text set None marker = SetText text set marker
+SourceText text set None marker = SetPart text set marker
 SourceText text set (Some url) marker = (set ≡ []) × (url ≡ [] → ⊥) × UrlText text url marker
 
 -- ---- the whole

@@ -22,7 +22,7 @@ use crate::comparison::Comparison;
 use crate::operand::{Comparator, Operand};
 use crate::variable::Var;
 use pyver_core::Label;
-use std::alloc::{AllocError, Global};
+use std::alloc::Global;
 use std::mem;
 
 /// What stands so far inside one pair of parentheses.

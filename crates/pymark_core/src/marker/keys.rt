@@ -1,14 +1,14 @@
 //! What of an environment a marker reads.
 
 ghost use Rattle.std.specs.Prelude.{◌≡◌, ◌<◌, ◌||◌, ◌++◌, List, Bool, false};
-ghost use Rattle.pymark_core.specs.Marker.Keys.{has_key, is_in, is_key, key_number, operand_keys};
+ghost use Rattle.pymark_core.specs.Marker.Keys.{has_key, is_flagged, is_key, key_number, operand_keys};
 ghost use Rattle.pymark_core.specs.declared.marker.keys.Key.{Key};
 
 use crate::operand::Operand;
 use crate::variable::Var;
 use std::marker::Model;
 
-/// What of an environment a marker may read.
+/// What of an environment a marker may read (PEP 508, "Environment Markers").
 #[derive(Clone, Copy, PartialEq, Eq, Hash, Debug)]
 pub enum Key {
     /// A variable.
@@ -35,7 +35,7 @@ impl Key {
     }
 }
 
-/// The keys that a marker reads.
+/// The keys that a marker reads (PEP 508, "Environment Markers").
 #[derive(Clone, Copy, PartialEq, Eq, Debug)]
 pub struct Reads {
     flags: [bool; KEYS],
@@ -52,7 +52,7 @@ impl Model for Reads {
 impl Reads {
     /// No key.
     pub(super) fn none() -> Reads
-        ensures { (key : Key) → is_in result key ≡ false }
+        ensures { (key : Key) → is_flagged result key ≡ false }
     {
         Reads {
             flags: [false; KEYS],
@@ -61,15 +61,15 @@ impl Reads {
 
     /// Whether the key is among them. It takes no memory.
     pub fn has(&self, key: Key) -> bool
-        ensures { result ≡ is_in self.now key }
+        ensures { result ≡ is_flagged self.now key }
     {
         self.flags[key.number()]
     }
 
     /// Adds the keys that the operands of a comparison are.
     pub(super) fn insert_operands(&mut self, left: &Operand, right: &Operand)
-        ensures { (key : Key) → is_in self.new key
-            ≡ (is_in self.old key
+        ensures { (key : Key) → is_flagged self.new key
+            ≡ (is_flagged self.old key
             || has_key key (operand_keys left.now ++ operand_keys right.now)) }
     {
         self.insert_operand(left);
@@ -78,8 +78,8 @@ impl Reads {
 
     /// Adds the key that the operand is, if it is one.
     fn insert_operand(&mut self, operand: &Operand)
-        ensures { (key : Key) → is_in self.new key
-            ≡ (is_in self.old key || has_key key (operand_keys operand.now)) }
+        ensures { (key : Key) → is_flagged self.new key
+            ≡ (is_flagged self.old key || has_key key (operand_keys operand.now)) }
     {
         match operand {
             Operand::Variable(variable) => self.insert(Key::Of(*variable)),
@@ -91,7 +91,7 @@ impl Reads {
 
     /// Adds a key.
     fn insert(&mut self, added: Key)
-        ensures { (key : Key) → is_in self.new key ≡ (is_in self.old key || is_key key added) }
+        ensures { (key : Key) → is_flagged self.new key ≡ (is_flagged self.old key || is_key key added) }
     {
         self.flags[added.number()] = true;
     }

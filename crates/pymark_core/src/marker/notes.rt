@@ -2,7 +2,7 @@
 
 ghost use Rattle.std.specs.Prelude.{◌≡◌, ◌||◌, false};
 ghost use Rattle.pymark_core.specs.Marker.Grammar.{is_by, is_misuse, is_set};
-ghost use Rattle.pymark_core.specs.Marker.Keys.{comparison_reads, is_in};
+ghost use Rattle.pymark_core.specs.Marker.Keys.{comparison_reads, is_flagged};
 ghost use Rattle.pymark_core.specs.declared.marker.keys.Key.{Key};
 
 use super::keys::Reads;
@@ -43,7 +43,7 @@ fn is_misuse(left: &Operand, comparator: Comparator, right: &Operand) -> bool
 impl Notes {
     /// Nothing.
     pub(super) fn none() -> Notes
-        ensures reads { (key : Key) → is_in result.reads key ≡ false }
+        ensures reads { (key : Key) → is_flagged result.reads key ≡ false }
         ensures misuse { result.misuse ≡ false }
     {
         Notes {
@@ -54,7 +54,7 @@ impl Notes {
 
     /// Notes a comparison.
     pub(super) fn add(&mut self, left: &Operand, comparator: Comparator, right: &Operand)
-        ensures reads { (key : Key) → is_in self.new.reads key ≡ (is_in self.old.reads key
+        ensures reads { (key : Key) → is_flagged self.new.reads key ≡ (is_flagged self.old.reads key
             || comparison_reads key (record {
               left = left.now;
               comparator = comparator;

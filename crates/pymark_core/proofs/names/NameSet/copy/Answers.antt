@@ -5,3 +5,6 @@ use Rattle.pymark_core.proofs.names.NameSet.copy.Goals as goal
 
 pub returns : goal.returns
 returns c = ap from_list (seen-clone _ _ c.in_ok-names.ensures.cases) ∙ c.self.view_is
+
+pub invariant_of-result : goal.invariant_of-result
+invariant_of-result c = rw (seen-clone _ _ c.in_ok-names.ensures.cases) c.self.invariant
