@@ -1,6 +1,6 @@
 //! Texts that markers compare, with the version that each spells.
 
-ghost use Rattle.std.specs.Prelude.{◌≡◌, IfOk, IfSome};
+ghost use Rattle.std.specs.Prelude.{◌≡◌, IfOk, IfSome, string_bytes};
 ghost use Rattle.pyver_core.specs.Name.{norm};
 ghost use Rattle.pyver_core.specs.Parsed.{parsed_version};
 
@@ -34,11 +34,10 @@ impl Model for Candidate {
 
 impl Candidate {
     /// The text, read.
-    pub(crate) fn new(alloc: Global, text: &str) -> Result<Candidate, AllocError>
-        ensures { IfOk result (λ candidate. candidate ≡ text.now) }
+    pub(crate) fn new(alloc: Global, text: String) -> Result<Candidate, AllocError>
+        ensures { IfOk result (λ candidate. candidate ≡ string_bytes text) }
     {
-        let version = read_version(alloc, text)?;
-        let text = String::from_str(alloc, text)?;
+        let version = read_version(alloc, text.as_str())?;
         Ok(Candidate {
             text,
             version,
@@ -47,17 +46,13 @@ impl Candidate {
     }
 
     /// The text, read, and in normal form beside.
-    pub(crate) fn named(alloc: Global, text: &str) -> Result<Candidate, AllocError>
-        ensures { IfOk result (λ candidate. candidate ≡ text.now) }
+    pub(crate) fn named(alloc: Global, text: String) -> Result<Candidate, AllocError>
+        ensures { IfOk result (λ candidate. candidate ≡ string_bytes text) }
     {
-        let Candidate {
-            text: own,
-            version,
-            ..
-        } = Candidate::new(alloc, text)?;
-        let name = Label::new(normal_name(alloc, text)?);
+        let name = Label::new(normal_name(alloc, text.as_str())?);
+        let version = read_version(alloc, text.as_str())?;
         Ok(Candidate {
-            text: own,
+            text,
             version,
             name: Some(name),
         })

@@ -1,6 +1,6 @@
 //! Comparisons of markers (PEP 508, "Environment Markers").
 
-ghost use Rattle.std.specs.Prelude.{◌≡◌, IfOk, Result};
+ghost use Rattle.std.specs.Prelude.{◌≡◌, IfOk, Result, string_bytes};
 ghost use Rattle.pyver_core.specs.Agreement.{Gives};
 ghost use Rattle.pyver_core.specs.Name.{norm};
 ghost use Rattle.pymark_core.specs.Environment.{has_extra, has_group};
@@ -173,7 +173,7 @@ fn read_left(alloc: Global, operand: Operand, right: &Operand) -> Result<Left, A
     ensures { IfOk result (λ left. left_operand left ≡ operand) }
 {
     Ok(match operand {
-        Operand::Text(text) => Left::Text(read_text(alloc, text.as_str(), right)?),
+        Operand::Text(text) => Left::Text(read_text(alloc, text.into_string(), right)?),
         Operand::Variable(variable) => Left::Variable(variable),
         Operand::Extra => Left::Extra,
         Operand::Extras => Left::Extras,
@@ -182,8 +182,8 @@ fn read_left(alloc: Global, operand: Operand, right: &Operand) -> Result<Left, A
 }
 
 /// The text, left of this operand, with what it reads as there.
-fn read_text(alloc: Global, text: &str, right: &Operand) -> Result<Candidate, AllocError>
-    ensures { IfOk result (λ candidate. candidate ≡ text.now) }
+fn read_text(alloc: Global, text: String, right: &Operand) -> Result<Candidate, AllocError>
+    ensures { IfOk result (λ candidate. candidate ≡ string_bytes text) }
 {
     match right {
         Operand::Extras | Operand::Groups => Candidate::named(alloc, text),

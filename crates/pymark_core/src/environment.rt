@@ -90,7 +90,7 @@ impl Environment {
         ensures given { OnOk result (variable_in variable self.new ≡ Some text.now) }
         ensures err { OnErr result (self.new ≡ self.old) }
     {
-        let candidate = Candidate::new(self.alloc, text)?;
+        let candidate = Candidate::new(self.alloc, String::from_str(self.alloc, text)?)?;
         self.variables[variable.place()] = Some(candidate);
         Ok(())
     }
