@@ -9,29 +9,25 @@ use std::alloc::AllocError;
 use thiserror::Error;
 
 /// Why a text isn't taken as a tag.
-#[derive(Debug, Drop, Error)]
+#[derive(Debug, Drop)]
 pub enum TagError {
     /// The text isn't three parts joined by `-`, each one or more ASCII letters, digits and `_`.
-    #[error("shape")]
     Shape,
     /// There was no memory for the tag.
-    #[error("memory")]
     Memory,
 }
 
 /// Why texts aren't taken as a list of tags.
-#[derive(Debug, Drop, Error)]
+#[derive(Debug, Drop)]
 pub enum TagListError {
     /// The text at this place, counted from 1, is the first that is no tag.
-    #[error("tag {0}")]
     Tag(usize),
     /// There was no memory for the list.
-    #[error("memory")]
     Memory,
 }
 
 /// Why a text isn't taken as the name of a wheel, in the order in which these are judged.
-#[derive(Debug, Drop, Error)]
+#[derive(Clone, Copy, PartialEq, Eq, Debug, Error)]
 pub enum WheelError {
     /// The text doesn't end in `.whl`.
     #[error("extension")]
