@@ -54,10 +54,25 @@ fn other_shapes_are_refused(rt: HostRuntime) -> Result<(), Fail> {
     Ok(())
 }
 
-/// How many tags a list has: as it says, as it lends them, and whether it says that it has none.
-fn counts(alloc: Global, texts: &[&str]) -> Result<(usize, usize, bool), Fail> {
+/// How many tags a list has, and whether it says that it has none.
+fn counts(alloc: Global, texts: &[&str]) -> Result<(usize, bool), Fail> {
     let tags = TagList::parse(alloc, texts)?;
-    Ok((tags.len(), tags.tags().len(), tags.is_empty()))
+    Ok((tags.len(), tags.is_empty()))
+}
+
+/// These tags, with a space before each.
+fn print(alloc: Global, tags: &[Tag]) -> Result<String, Fail> {
+    let mut text = String::new(alloc);
+    for tag in tags {
+        write!(text, " {tag}")?;
+    }
+    Ok(text)
+}
+
+/// The tags of the list of the texts, with a space before each.
+fn listed(alloc: Global, texts: &[&str]) -> Result<String, Fail> {
+    let tags = TagList::parse(alloc, texts)?;
+    print(alloc, tags.tags())
 }
 
 /// How many tags a list has, and the rank of one.
@@ -84,9 +99,11 @@ fn ranked_in_copy(
 }
 
 #[test]
-fn lists_count_distinct_tags(rt: HostRuntime) -> Result<(), Fail> {
+fn lists_have_distinct_tags_in_order(rt: HostRuntime) -> Result<(), Fail> {
     let texts = ["PY3-none-any", "cp312-cp312-win32", "py3-none-any"];
-    assert_eq!(rt; counts(rt.alloc(), &texts)?, (2, 2, false));
+    assert_eq!(rt; counts(rt.alloc(), &texts)?, (2, false));
+    let listed = listed(rt.alloc(), &texts)?;
+    assert_eq!(rt; listed.as_str(), " py3-none-any cp312-cp312-win32");
     Ok(())
 }
 
@@ -117,7 +134,7 @@ fn is_second_refused(alloc: Global, texts: &[&str]) -> bool {
 #[test]
 fn a_list_names_its_first_bad_text(rt: HostRuntime) -> Result<(), Fail> {
     assert!(rt; is_second_refused(rt.alloc(), &["py3-none-any", "py3", ""]));
-    assert_eq!(rt; counts(rt.alloc(), &[])?, (0, 0, true));
+    assert_eq!(rt; counts(rt.alloc(), &[])?, (0, true));
     Ok(())
 }
 

@@ -68,7 +68,12 @@ fn refusals_in_order(rt: HostRuntime) -> Result<(), Fail> {
         ("a__b-1-py3-none-any.whl", "name"),
         ("-x-b-py3..py2-none-any.whl", "name"),
         ("a-x-py3-none-any.whl", "version"),
+        (
+            "a-340282366920938463463374607431768211456-py3-none-any.whl",
+            "version",
+        ),
         ("a-1-b-py3-none-any.whl", "build"),
+        ("a-1--py3-none-any.whl", "build"),
         ("a-1-1\u{e4}-py3-none-any.whl", "build"),
         ("a-1-py3..py2-none-any.whl", "tags"),
     ] {
@@ -191,6 +196,10 @@ fn names_of_the_field(rt: HostRuntime) -> Result<(), Fail> {
             "zope.interface, 7.2, no build, cp313-cp313-win_amd64",
         ),
         ("_- 1.0 -py3-none-any.whl", "_, 1.0, no build, py3-none-any"),
+        (
+            "a-1-1~ x-py3-none-any.whl",
+            "a, 1, build 1~ x (1, \"~ x\"), py3-none-any",
+        ),
     ] {
         check(&rt, text, said)?;
     }
@@ -205,22 +214,27 @@ fn names_of_the_standard(rt: HostRuntime) -> Result<(), Fail> {
     check(&rt, text, said)
 }
 
-/// Whether the name has a compressed tag set.
-fn has_tag_set(alloc: Global, text: &str) -> Result<bool, Fail> {
-    Ok(!WheelName::parse(alloc, text)?.tag_set().is_empty())
+/// Whether the name has this compressed tag set.
+fn has_tag_set(alloc: Global, text: &str, set: &str) -> Result<bool, Fail> {
+    Ok(WheelName::parse(alloc, text)?.tag_set() == set)
 }
 
 #[test]
 fn names_print_as_file_names(rt: HostRuntime) -> Result<(), Fail> {
-    for (text, wanted) in [
+    for (text, wanted, set) in [
         (
             "Foo_Bar-V1.0-1b-Py3-none-any.whl",
             "Foo_Bar-1.0-1b-py3-none-any.whl",
+            "py3-none-any",
         ),
-        ("a-1-py2.py3-none-any.whl", "a-1-py2.py3-none-any.whl"),
+        (
+            "a-1-Py2.py3-none-Win32.any.whl",
+            "a-1-py2.py3-none-win32.any.whl",
+            "py2.py3-none-win32.any",
+        ),
     ] {
         check_print(&rt, text, wanted)?;
-        assert!(rt; has_tag_set(rt.alloc(), text)?, "{text}");
+        assert!(rt; has_tag_set(rt.alloc(), text, set)?, "{text}");
     }
     Ok(())
 }
