@@ -1,5 +1,5 @@
 -- What is read as the name of a wheel is what the relation says, and the other way round.
-use Rattle.std.proofs.Common.{◌≡◌, ℕ, ◌+◌, ◌-◌, ◌≤◌, Bool, true, false, ◌==◌, ◌&&◌, ◌||◌, not, nat_le, nat_lt, bytes_eq, if◌then◌else◌, codes, List, [], ◌∷◌, ◌++◌, length, take, drop, Option, Some, None, Result, Ok, Err, refl, sym, subst, ap, ◌∙◌, inl, inr, arith}
+use Rattle.std.proofs.Common.{◌≡◌, ◌≢◌, ℕ, ◌+◌, ◌-◌, ◌≤◌, Bool, true, false, ◌==◌, ◌&&◌, ◌||◌, not, nat_le, nat_lt, bytes_eq, if◌then◌else◌, codes, List, [], ◌∷◌, ◌++◌, length, take, drop, Option, Some, None, Result, Ok, Err, refl, sym, subst, ap, ◌∙◌, inl, inr, arith}
 use Rattle.std.proofs.Math.Bool.{true≢false}
 use Rattle.std.proofs.Math.Seq.{drop-append_seam, take-append_seam}
 use Rattle.std.proofs.lemmas.Bool.Decides.{Decides-eqb, nat_tests}
@@ -9,6 +9,7 @@ use Rattle.std.specs.Char.{to_ascii_lowercase}
 use Rattle.std.specs.Cmp.Lexicographic.{bytes_decides}
 use Rattle.std.specs.List.{join_with_byte, list_all, list_any}
 use Rattle.std.specs.Option.{IfSome, ok_or, option_to_list}
+use Rattle.std.specs.Result.{IfErr, IfOk}
 use Rattle.std.specs.Str.{str_to_ascii_lowercase}
 use Rattle.pyver_core.proofs.Lemmas.Version.Complete.Whole.{version_again}
 use Rattle.pyver_core.proofs.Lemmas.Sight.{option_sight, sight}
@@ -16,6 +17,7 @@ use Rattle.pyver_core.proofs.Lemmas.Version.Sound.Parts.{version_takes}
 use Rattle.pyver_core.specs.Version.Grammar.{IsLarge, Spells, has_large, numbers}
 use Rattle.pyver_core.specs.Version.Parts.{Parts}
 use Rattle.pyver_core.specs.Version.Reading.{version_of}
+use Rattle.pyver_core.specs.Agreement.{Gives}
 use Rattle.pyver_core.specs.Results.{◌>>=◌}
 use Rattle.pyver_core.specs.Parsed.{parsed_version}
 use Rattle.pywheel_core.specs.Tag.{TAGS_LIMIT, TagParts, TagValue, are_tag_parts, has_tag_parts, is_tag_byte, is_tag_part, is_tag_set, pieces, tag_count, tags_in}
@@ -36,15 +38,15 @@ use Rattle.pywheel_core.proofs.Versions.{version_taken}
 
 -- ---- steps that are taken
 
-bind_ok : {A B E : Type 0} (r : Result A E) (f : A → Result B E) (y : B) → (r >>= f) ≡ Ok y → (x : A) × (r ≡ Ok x) × (f x ≡ Ok y)
+pub bind_ok : {A B E : Type 0} (r : Result A E) (f : A → Result B E) (y : B) → (r >>= f) ≡ Ok y → (x : A) × (r ≡ Ok x) × (f x ≡ Ok y)
 bind_ok (Ok x) f y h = (x, refl, h)
 bind_ok (Err e) f y h = absurd cc
 
-ok_or_some : {A E : Type 0} (o : Option A) (e : E) (x : A) → ok_or o e ≡ Ok x → o ≡ Some x
+pub ok_or_some : {A E : Type 0} (o : Option A) (e : E) (x : A) → ok_or o e ≡ Ok x → o ≡ Some x
 ok_or_some None e x h = absurd cc
 ok_or_some (Some y) e x h = cc
 
-if_ok : {A E : Type 0} (b : Bool) (x y : A) (e : E) → (if b then Ok x else Err e) ≡ Ok y → (b ≡ true) × (x ≡ y)
+pub if_ok : {A E : Type 0} (b : Bool) (x y : A) (e : E) → (if b then Ok x else Err e) ≡ Ok y → (b ≡ true) × (x ≡ y)
 if_ok true x y e h = (refl, cc)
 if_ok false x y e h = absurd cc
 
@@ -238,7 +240,7 @@ tag_byte_no_dash b h = grind (arith, nat_tests, h)
 name_byte_no_dash : (b : ℕ) → is_wheel_name_byte b ≡ true → (b == 45) ≡ false
 name_byte_no_dash b h = grind (arith, nat_tests, h)
 
-part_lacks : (s : List ℕ) → is_tag_part s ≡ true → Lacks 45 s
+pub part_lacks : (s : List ℕ) → is_tag_part s ≡ true → Lacks 45 s
 part_lacks s h = bytes_lack is_tag_byte tag_byte_no_dash s (and_both (nat_lt 0 (length s)) (list_all is_tag_byte s) h).1
 
 joined_lack : (ps : List (List ℕ)) → are_tag_parts ps ≡ true → Lacks 45 (join_with_byte 46 ps)
@@ -312,3 +314,17 @@ wheel_made text name version build tags x =
           ∙ (ap (λ r. r >>= λ s. Ok (record { name = name; version = version; build = build; tag_set = s.0; tags = s.1 })) e6
           ∙ ap (λ all. Ok (record { name = name; version = version; build = build; tag_set = lower; tags = all })) (sym x.is_tag_set.triples)))))),
     )
+
+-- ---- what a call gives
+
+pub given_wheel : (text : List ℕ) (r : Result WheelValue WheelError) → Gives wheel.Memory (λ w. w) r (wheel_of text) → IfOk r (λ w. Wheel text w.name w.version w.build w.tags)
+given_wheel text (Ok w) h = wheel_says text w h
+given_wheel text (Err e) h = tt
+
+pub given_no_wheel : (text : List ℕ) (r : Result WheelValue WheelError) → Gives wheel.Memory (λ w. w) r (wheel_of text)
+    → IfErr r (λ e. e ≢ wheel.Memory → (name : List ℕ) (version : Parts) (build : Option (List ℕ)) (tags : List TagValue) → Wheel text name version build tags → ⊥)
+given_no_wheel text (Ok w) h = tt
+given_no_wheel text (Err e) h = λ other name version build tags x.
+    let made = (wheel_made text name version build tags x).1 in
+    let refused = h other in
+    absurd cc

@@ -1,7 +1,7 @@
 -- Tags of wheels (PEP 425, "Details"), and lists of tags in the order of preference ("Use").
-use Rattle.std.specs.Prelude.{ℕ, ◌*◌, suc, Bool, ◌==◌, ◌&&◌, ◌||◌, nat_le, nat_lt, nat_eq}
-use Rattle.std.specs.Prelude.{if◌then◌else◌, List, [], ◌∷◌, ◌++◌, length, map, Option, ok_or}
-use Rattle.std.specs.Prelude.{position, Result, Ok, Err}
+use Rattle.std.specs.Prelude.{◌≡◌, ℕ, ◌*◌, suc, Bool, true, ◌==◌, ◌&&◌, ◌||◌, nat_le, nat_lt}
+use Rattle.std.specs.Prelude.{nat_eq, if◌then◌else◌, List, [], ◌∷◌, ◌++◌, length, map, Option}
+use Rattle.std.specs.Prelude.{ok_or, position, Result, Ok, Err}
 use Rattle.std.specs.Char.{is_ascii_alphanumeric}
 use Rattle.std.specs.Cmp.Lexicographic.{pointwise}
 use Rattle.std.specs.List.{flat_map, list_all, list_any}
@@ -48,6 +48,14 @@ tag_of text = do
 -- `python-abi-platform`
 abbrev pub tag_text : TagValue → List ℕ
 tag_text t = t.python ++ (45 ∷ (t.abi ++ (45 ∷ t.platform)))
+
+-- The text, in any case, is this tag: three parts of a tag with `-` between them. `tag_of` gives a
+-- tag exactly where this holds: the law `tag_of_is_the_answer`.
+pub record TagText (text : List ℕ) (t : TagValue) : Type 0 where
+  pub whole : str_to_ascii_lowercase text ≡ tag_text t
+  pub python : is_tag_part t.python ≡ true
+  pub abi : is_tag_part t.abi ≡ true
+  pub platform : is_tag_part t.platform ≡ true
 
 abbrev pub text_eq : List ℕ → List ℕ → Bool
 text_eq = pointwise nat_eq

@@ -1,4 +1,4 @@
-//! The choice of a wheel.
+//! The choice of a wheel (PEP 425, "Use"; PEP 427, "File name convention", on the build tag).
 
 ghost use Rattle.std.specs.Prelude.{◌≡◌, None, option_map};
 ghost use Rattle.pywheel_core.specs.Choice.{IsBest, best, best_from, better, is_better, least_rank};
@@ -18,8 +18,9 @@ pub(crate) struct Candidate<'a> {
 }
 
 /// The place of the best wheel: of those with a tag in the list, the one whose best tag stands
-/// first there; then the greater build; then the earlier place. `None` among the wheels is never
-/// chosen. It takes no memory and looks at each tag once.
+/// first there (PEP 425, "Use"); then the greater build (PEP 427, "File name convention"); then the
+/// earlier place, which is a rule of this crate's own. `None` among the wheels is never chosen. It
+/// takes no memory and looks at each tag once.
 pub fn choose(wheels: &[Option<WheelName>], tags: &TagList) -> Option<usize>
     ensures best { IsBest wheels.now tags.now result }
     ensures exact { result ≡ best wheels.now tags.now }

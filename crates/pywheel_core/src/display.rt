@@ -8,7 +8,8 @@ use crate::tag::Tag;
 use crate::wheel::WheelName;
 use std::fmt;
 
-/// The three parts, with `-` between them.
+/// The three parts, with `-` between them. Printing takes no memory; a width that is asked for isn't
+/// filled up to, since the three parts are no one text.
 impl fmt::Display for Tag {
     ghost output = { λ t. Some (tag_text t) };
 
@@ -24,7 +25,8 @@ impl fmt::Debug for Tag {
 }
 
 /// The file name: the name and the build tag as written, the version in its normal form, the tags
-/// in lower case.
+/// in lower case. Printing takes no memory; a width that is asked for isn't filled up to, since the
+/// parts are no one text.
 impl fmt::Display for WheelName {
     ghost output = { λ w. Some (wheel_text w) };
 

@@ -1,12 +1,31 @@
 //! Laws of the definitions alone: each function's contract is a law, and its body is empty.
 
-ghost use Rattle.std.specs.Prelude.{◌≡◌, ℕ, List, Option, Ok};
+ghost use Rattle.std.specs.Prelude.{◌≡◌, ◌∷◌, ℕ, List, Option, Some, Ok};
+ghost use Rattle.std.specs.List.{IsDistinct};
 ghost use Rattle.pyver_core.specs.Version.Parts.{Parts};
 ghost use Rattle.pywheel_core.specs.Choice.{IsBest, best};
-ghost use Rattle.pywheel_core.specs.Tag.{TagValue};
+ghost use Rattle.pywheel_core.specs.Tag.{TagText, TagValue, rank_of, tag_eq, tag_of, tags_of};
 ghost use Rattle.pywheel_core.specs.Wheel.Grammar.{Wheel};
 ghost use Rattle.pywheel_core.specs.Wheel.Reading.{wheel_of};
 ghost use Rattle.pywheel_core.specs.Wheel.Value.{WheelValue};
+
+/// What [`Tag::parse`](crate::Tag::parse) reads, the text is, and what the text is, it reads.
+pub fn tag_of_is_the_answer()
+    ensures sound { (text : List ℕ) (t : TagValue) → tag_of text ≡ Ok t → TagText text t }
+    ensures complete { (text : List ℕ) (t : TagValue) → TagText text t → tag_of text ≡ Ok t }
+{}
+
+/// No two tags of a list are equal: each has one rank.
+pub fn tags_are_distinct()
+    ensures { (texts : List (List ℕ)) (tags : List TagValue)
+        → tags_of texts ≡ Ok tags → IsDistinct tag_eq tags }
+{}
+
+/// The tag of the first text has the rank 0.
+pub fn first_tag_ranks_first()
+    ensures { (text : List ℕ) (texts : List (List ℕ)) (t : TagValue) (tags : List TagValue)
+        → tag_of text ≡ Ok t → tags_of (text ∷ texts) ≡ Ok tags → rank_of t tags ≡ Some 0 }
+{}
 
 /// Among some wheels there is one best place, or none: the one that [`choose`](crate::choose)
 /// answers.

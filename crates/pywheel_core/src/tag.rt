@@ -1,11 +1,11 @@
 //! Tags (PEP 425).
 
-ghost use Rattle.std.specs.Prelude.{◌≡◌};
+ghost use Rattle.std.specs.Prelude.{◌≡◌, IfOk, IsErrOf};
 ghost use Rattle.std.specs.Cmp.{partial_equiv_from_equiv};
 ghost use Rattle.std.specs.Rc.{rc_str_bytes};
 ghost use Rattle.pyver_core.specs.Agreement.{Gives};
 ghost use Rattle.pywheel_core.specs.Inner.Places.{IsAsciiText, IsWithin, tag_at};
-ghost use Rattle.pywheel_core.specs.Tag.{tag_eq, tag_of};
+ghost use Rattle.pywheel_core.specs.Tag.{TagText, TagValue, tag_eq, tag_of};
 ghost use Rattle.pywheel_core.specs.TagLaws.{alike, fed_tag, tag_equiv};
 
 use crate::cut::{lowercase, three_parts};
@@ -61,41 +61,52 @@ impl Tag {
     /// The tag that the text is, in any case: three parts joined by `-`, each one or more ASCII
     /// letters, digits and `_` (PEP 425, "Details"). It takes the memory of one text as long as the
     /// given one.
-    #[tactic(auto, unfolding(crate::specs::Tag::tag_of))]
     pub fn parse(alloc: Global, text: &str) -> Result<Tag, TagError>
-        ensures { Gives TagError.Memory (λ t. t) result (tag_of text.now) }
+        ensures ok { IfOk result (λ t. TagText text.now t) }
+        ensures shape { IsErrOf result TagError.Shape → (t : TagValue) → TagText text.now t → ⊥ }
+
+        // The same, over the one answer of the definition.
+        ensures exact { Gives TagError.Memory (λ t. t) result (tag_of text.now) }
     {
-        let text = lowercase(alloc, text)?;
-        let Some(parts) = three_parts(text.as_str()) else {
-            return Err(TagError::Shape);
-        };
-        if !parts.is_tag() {
-            return Err(TagError::Shape);
-        }
-        let (python, abi, platform) = parts.places(text.len());
-        Ok(Tag::new(text, python, abi, platform))
+        read_tag(alloc, text)
     }
 
-    /// The Python implementation and version, as `cp312` or `py3` (PEP 425, "Python Tag").
+    /// The Python implementation and version, as `cp312` or `py3` (PEP 425, "Python Tag"). It
+    /// takes no memory.
     pub fn python(&self) -> &str
         ensures { result.now ≡ self.now.python }
     {
         self.python.of(self.text.as_str())
     }
 
-    /// The binary interface, as `abi3` or `none` (PEP 425, "ABI Tag").
+    /// The binary interface, as `abi3` or `none` (PEP 425, "ABI Tag"). It takes no memory.
     pub fn abi(&self) -> &str
         ensures { result.now ≡ self.now.abi }
     {
         self.abi.of(self.text.as_str())
     }
 
-    /// The platform, as `win_amd64` or `any` (PEP 425, "Platform Tag").
+    /// The platform, as `win_amd64` or `any` (PEP 425, "Platform Tag"). It takes no memory.
     pub fn platform(&self) -> &str
         ensures { result.now ≡ self.now.platform }
     {
         self.platform.of(self.text.as_str())
     }
+}
+
+#[tactic(auto, unfolding(crate::specs::Tag::tag_of))]
+fn read_tag(alloc: Global, text: &str) -> Result<Tag, TagError>
+    ensures { Gives TagError.Memory (λ t. t) result (tag_of text.now) }
+{
+    let text = lowercase(alloc, text)?;
+    let Some(parts) = three_parts(text.as_str()) else {
+        return Err(TagError::Shape);
+    };
+    if !parts.is_tag() {
+        return Err(TagError::Shape);
+    }
+    let (python, abi, platform) = parts.places(text.len());
+    Ok(Tag::new(text, python, abi, platform))
 }
 
 /// Two tags are equal where their parts are. It takes no memory.

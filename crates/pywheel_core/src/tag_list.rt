@@ -10,7 +10,7 @@ use indexmap::IndexSet;
 use std::alloc::{AllocError, Global};
 use std::marker::Model;
 
-/// Distinct tags, the most preferred first. A tag's rank is its position.
+/// Distinct tags, the most preferred first (PEP 425, "Use"). A tag's rank is its position.
 #[derive(Debug, Drop)]
 pub struct TagList {
     tags: IndexSet<Tag>,
@@ -46,21 +46,21 @@ impl TagList {
         self.tags.get_index_of(tag)
     }
 
-    /// How many distinct tags there are.
+    /// How many distinct tags there are. It takes no memory.
     pub fn len(&self) -> usize
         ensures { result ≡ length self.now }
     {
         self.tags.len()
     }
 
-    /// Whether there is no tag.
+    /// Whether there is no tag. It takes no memory.
     pub fn is_empty(&self) -> bool
         ensures { result ≡ (length self.now == 0) }
     {
         self.tags.is_empty()
     }
 
-    /// The distinct tags in order.
+    /// The distinct tags in order. It takes no memory.
     pub fn tags(&self) -> &[Tag]
         ensures { result.now ≡ self.now }
     {

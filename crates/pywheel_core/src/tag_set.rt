@@ -42,7 +42,7 @@ fn read_tags(alloc: Global, text: &RcStr) -> Result<Vec<Tag>, WheelError>
 {
     let set = three_parts(text.as_str()).ok_or(WheelError::Tags)?;
     let count = set.small_count().ok_or(WheelError::Tags)?;
-    Ok(set.tags(alloc, text, count)?)
+    set.tags(alloc, text, count)
 }
 
 impl TagSet<'_> {
@@ -159,7 +159,7 @@ fn push_platforms(
 }
 
 /// What stands before the first dot, and what stands after it.
-fn cut(text: &str) -> Option<(&str, &str)>
+fn cut_at_dot(text: &str) -> Option<(&str, &str)>
     ensures { option_map (λ x. (x.0.now, x.1.now)) result ≡ cut_at 46 text.now }
 {
     text.split_once('.')
@@ -170,7 +170,7 @@ fn are_tag_parts(part: &str) -> bool
     ensures { result ≡ are_tag_parts (pieces part.now) }
 {
     let mut rest = part;
-    while let Some((piece, after)) = cut(rest) {
+    while let Some((piece, after)) = cut_at_dot(rest) {
         if !is_tag_part(piece) {
             return false;
         }
@@ -198,10 +198,10 @@ fn piece_places(alloc: Global, start: usize, part: &str) -> Result<Vec<Place>, W
     ensures { Gives WheelError.Memory (λ v. v.items) result
         (Ok (places_from start (pieces part.now))) }
 {
-    let mut places = Vec::new(alloc);
+    let mut places = Vec::with_capacity(alloc, count_pieces(part))?;
     let mut start = start;
     let mut rest = part;
-    while let Some((piece, after)) = cut(rest) {
+    while let Some((piece, after)) = cut_at_dot(rest) {
         let end = start + piece.len();
         places.push(Place { start, end })?;
         start = end + 1;

@@ -1,11 +1,15 @@
 //! The names of wheels (PEP 427, "File name convention").
 
-ghost use Rattle.std.specs.Prelude.{◌≡◌, option_map, string_bytes};
+ghost use Rattle.std.specs.Prelude.{◌≡◌, ◌≢◌, ℕ, List, Option, option_map, IfErr, IfOk};
+ghost use Rattle.std.specs.Prelude.{string_bytes};
 ghost use Rattle.std.specs.List.{list_all};
 ghost use Rattle.pyver_core.specs.Agreement.{Gives};
+ghost use Rattle.pyver_core.specs.Version.Parts.{Parts};
 ghost use Rattle.pywheel_core.specs.Inner.Lent.{wheel_parts};
+ghost use Rattle.pywheel_core.specs.Tag.{TagValue};
 ghost use Rattle.pywheel_core.specs.Texts.{has_pair};
 ghost use Rattle.pywheel_core.specs.Wheel.Build.{build_number, build_rest, builds_cmp};
+ghost use Rattle.pywheel_core.specs.Wheel.Grammar.{Wheel};
 ghost use Rattle.pywheel_core.specs.Wheel.Name.{is_wheel_name, is_wheel_name_byte};
 ghost use Rattle.pywheel_core.specs.Wheel.Reading.{build_in, name_in, version_in, wheel_in};
 ghost use Rattle.pywheel_core.specs.Wheel.Reading.{wheel_of};
@@ -58,13 +62,16 @@ impl WheelName {
     /// compressed tag set, joined by `-`, and `.whl` (PEP 427, "File name convention"). The
     /// refusals are judged in the order of [`WheelError`]. It takes the memory of the name, the
     /// version, the build tag and the tags, which share one text.
-    #[tactic(auto, unfolding(crate::specs::Wheel::Reading::wheel_of))]
     pub fn parse(alloc: Global, text: &str) -> Result<WheelName, WheelError>
-        ensures { Gives WheelError.Memory (λ w. w) result (wheel_of text.now) }
+        ensures ok { IfOk result (λ w. Wheel text.now w.name w.version w.build w.tags) }
+        ensures refused { IfErr result (λ e. e ≢ WheelError.Memory
+            → (name : List ℕ) (version : Parts) (build : Option (List ℕ)) (tags : List TagValue)
+            → Wheel text.now name version build tags → ⊥) }
+
+        // The same, over the one answer of the grammar, and which refusal it is.
+        ensures exact { Gives WheelError.Memory (λ w. w) result (wheel_of text.now) }
     {
-        let stem = stem(text).ok_or(WheelError::Extension)?;
-        let parts = stem_parts(stem).ok_or(WheelError::Parts)?;
-        WheelName::read(alloc, &parts)
+        read_wheel(alloc, text)
     }
 
     /// What the parts say.
@@ -85,14 +92,14 @@ impl WheelName {
         })
     }
 
-    /// The name as written.
+    /// The name as written. It takes no memory.
     pub fn name(&self) -> &str
         ensures { result.now ≡ self.now.name }
     {
         self.name.as_str()
     }
 
-    /// The version.
+    /// The version. It takes no memory.
     pub fn version(&self) -> &Version
         ensures { result.now ≡ self.now.version }
     {
@@ -100,7 +107,7 @@ impl WheelName {
     }
 
     /// The build tag, where there is one: the number of the digits in front, and what stands after
-    /// them.
+    /// them (PEP 427, "File name convention"). It takes no memory.
     pub fn build(&self) -> Option<(u128, &str)>
         ensures number { option_map (λ b. b.0) result ≡ option_map build_number self.now.build }
         ensures rest { option_map (λ b. b.1.now) result ≡ option_map build_rest self.now.build }
@@ -109,7 +116,7 @@ impl WheelName {
         Some((build.number(), build.rest()))
     }
 
-    /// The build tag as written, where there is one.
+    /// The build tag as written, where there is one. It takes no memory.
     pub fn build_text(&self) -> Option<&str>
         ensures { option_map (λ b. b.now) result ≡ self.now.build }
     {
@@ -117,8 +124,8 @@ impl WheelName {
         Some(build.as_str())
     }
 
-    /// The tags: all combinations of the three parts' pieces. The platform runs fastest, then the
-    /// ABI.
+    /// The tags: all combinations of the three parts' pieces (PEP 425, "Compressed Tag Sets"). The
+    /// platform runs fastest, then the ABI. It takes no memory.
     pub fn tags(&self) -> &[Tag]
         ensures { result.now ≡ self.now.tags }
     {
@@ -126,7 +133,7 @@ impl WheelName {
     }
 
     /// The compressed tag set that stands for the tags, in lower case (PEP 425, "Compressed Tag
-    /// Sets").
+    /// Sets"). It takes no memory.
     pub fn tag_set(&self) -> &str
         ensures { result.now ≡ self.now.tag_set }
     {
@@ -160,6 +167,15 @@ impl Clone for WheelName {
             tags: self.tags.clone()?,
         })
     }
+}
+
+#[tactic(auto, unfolding(crate::specs::Wheel::Reading::wheel_of))]
+fn read_wheel(alloc: Global, text: &str) -> Result<WheelName, WheelError>
+    ensures { Gives WheelError.Memory (λ w. w) result (wheel_of text.now) }
+{
+    let stem = stem(text).ok_or(WheelError::Extension)?;
+    let parts = stem_parts(stem).ok_or(WheelError::Parts)?;
+    WheelName::read(alloc, &parts)
 }
 
 /// The name, where it is one.

@@ -4,7 +4,7 @@ use Rattle.pywheel_core.specs.Inner.Lent.{set_of}
 use Rattle.pywheel_core.specs.Tag.{is_tag}
 use Rattle.pywheel_core.specs.Texts.{three_parts}
 use Rattle.pywheel_core.proofs.Pieces.{tag_stands, tag_taken, three_length}
-use Rattle.pywheel_core.proofs.tag.Tag.parse.Goals as goal
+use Rattle.pywheel_core.proofs.tag.read_tag.Goals as goal
 
 pub places-requires : goal.places-requires
 places-requires c =
