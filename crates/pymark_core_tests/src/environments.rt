@@ -204,6 +204,36 @@ fn groups_are_in_normal_form(rt: HostRuntime) -> Result<(), Fail> {
     check_copied_groups(&rt, &mut environment)
 }
 
+fn check_nothing_asked<R: Abort + AllocGlobal>(
+    rt: &R,
+    environment: &mut Environment,
+) -> Result<(), Fail> {
+    environment.set(Var::OsName, "nt")?;
+    let asked = [
+        (Call::AddExtra, "a", true),
+        (Call::AddGroup, "b", true),
+        (Call::HasExtra, "a", true),
+        (Call::HasGroup, "b", true),
+    ];
+    check_calls(rt, environment, &asked)?;
+    environment.ask_nothing();
+    let dropped = [
+        (Call::HasExtra, "a", false),
+        (Call::HasGroup, "b", false),
+        (Call::AddExtra, "a", true),
+        (Call::AddGroup, "b", true),
+    ];
+    check_calls(rt, environment, &dropped)?;
+    assert_eq!(rt; environment.get(Var::OsName), Some("nt"));
+    Ok(())
+}
+
+#[test]
+fn nothing_is_asked_for_and_variables_stay(rt: HostRuntime) -> Result<(), Fail> {
+    let mut environment = Environment::new(rt.alloc());
+    check_nothing_asked(&rt, &mut environment)
+}
+
 fn check_name<R: Abort>(rt: &R, name: &str, variable: Var) {
     assert_eq!(rt; Var::of(name), Some(variable));
     assert_eq!(rt; variable.name(), name);

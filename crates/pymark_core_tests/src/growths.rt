@@ -95,12 +95,12 @@ fn check_url<R: Abort + AllocGlobal>(rt: &R, requirement: &Requirement) {
     assert_eq!(rt; requirement.url(), Some("https://pypi.org/pip.zip"));
 }
 
+/// A requirement with a URL.
+const URL_REQUIREMENT: &str = "pip[a, b] @ https://pypi.org/pip.zip ; os_name == 'nt'";
+
 #[test]
 fn requirement_with_a_url_parse(rt: HostRuntime) {
-    match Requirement::parse(
-        rt.alloc(),
-        "pip[a, b] @ https://pypi.org/pip.zip ; os_name == 'nt'",
-    ) {
+    match Requirement::parse(rt.alloc(), URL_REQUIREMENT) {
         Ok(requirement) => check_url(&rt, &requirement),
         Err(error) => assert!(rt; matches!(error, RequirementError::Memory), "{error:?}"),
     }
@@ -124,6 +124,21 @@ fn check_requirement_copy<R: Abort + AllocGlobal>(rt: &R, requirement: &Requirem
 fn requirement_copy(rt: HostRuntime) {
     if let Ok(requirement) = Requirement::parse(rt.alloc(), REQUIREMENT) {
         check_requirement_copy(&rt, &requirement);
+    }
+}
+
+fn check_url_copy<R: Abort + AllocGlobal>(rt: &R, requirement: &Requirement) {
+    if let Ok(copy) = requirement.clone() {
+        check_same(rt, &copy, requirement);
+        check_url(rt, &copy);
+    }
+    check_url(rt, requirement);
+}
+
+#[test]
+fn requirement_with_a_url_copy(rt: HostRuntime) {
+    if let Ok(requirement) = Requirement::parse(rt.alloc(), URL_REQUIREMENT) {
+        check_url_copy(&rt, &requirement);
     }
 }
 

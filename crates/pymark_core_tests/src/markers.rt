@@ -43,10 +43,10 @@ fn push_times(text: &mut String, piece: &str, times: usize) -> Result<(), AllocE
     Ok(())
 }
 
-/// The piece so many times.
-fn repeated(alloc: Global, piece: &str, times: usize) -> Result<String, AllocError> {
-    let mut text = String::new(alloc);
-    push_times(&mut text, piece, times)?;
+/// This front, and behind it so many `(`.
+fn opened(alloc: Global, front: &str, times: usize) -> Result<String, AllocError> {
+    let mut text = String::from_str(alloc, front)?;
+    push_times(&mut text, "(", times)?;
     Ok(text)
 }
 
@@ -100,14 +100,37 @@ fn marker_refusals(rt: HostRuntime) {
     }
 }
 
-/// The first parenthesis too many is found before the text ends amiss.
+/// The first parenthesis too many is found before the text ends amiss. The count may go below zero;
+/// a quotation ends at the next same sign, whatever stands in it, or else at the end of the text.
 #[test]
 fn parentheses_alone(rt: HostRuntime) -> Result<(), Fail> {
-    for (depth, refusal) in [(65, MarkerError::TooDeep), (64, MarkerError::Syntax)] {
-        let text = repeated(rt.alloc(), "(", depth)?;
+    for (front, times, refusal) in [
+        ("", 65, MarkerError::TooDeep),
+        ("", 64, MarkerError::Syntax),
+        ("))))))))))", 75, MarkerError::TooDeep),
+        ("))))))))))", 74, MarkerError::Syntax),
+        ("'\u{1}'", 65, MarkerError::TooDeep),
+        ("\"", 65, MarkerError::Syntax),
+        ("'\"", 65, MarkerError::Syntax),
+    ] {
+        let text = opened(rt.alloc(), front, times)?;
         check_refused(&rt, text.as_str(), refusal);
     }
     Ok(())
+}
+
+#[test]
+fn tabs_in_texts_and_white_space_between_tokens(rt: HostRuntime) -> Result<(), Fail> {
+    check(
+        &rt,
+        &[(Var::OsName, "posix")],
+        &[
+            ("'a\tb' == 'a\tb'", Ok(true)),
+            ("'a\tb' == 'a b'", Ok(false)),
+            ("\u{b}os_name\u{b}==\u{c}'posix'\u{c}", Ok(true)),
+            ("\t(\nos_name\r==\u{b}'nt'\u{c})", Ok(false)),
+        ],
+    )
 }
 
 #[test]
@@ -221,6 +244,9 @@ fn texts_that_are_no_markers(rt: HostRuntime) {
         "os_name = 'nt'",
         "os_name == 'nt",
         "os_name == 'n\\t'",
+        "os_name == 'n\n'",
+        "os_name == 'n\u{1}'",
+        "os_name == 'n\u{7f}'",
         "os_name == 'nt' and",
         "os_name == 'nt' os_name == 'nt'",
         "os_name == 'nt')",

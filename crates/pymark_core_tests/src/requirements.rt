@@ -76,6 +76,31 @@ fn parts_of_requirements(rt: HostRuntime) -> Result<(), Fail> {
     Ok(())
 }
 
+fn check_copy<R: Abort + AllocGlobal>(
+    rt: &R,
+    requirement: &Requirement,
+    text: &str,
+    wanted: &str,
+) -> Result<(), Fail> {
+    let copy = requirement.clone()?;
+    check_parts(rt, &copy, text, wanted)
+}
+
+#[test]
+fn copies_have_the_same_parts(rt: HostRuntime) -> Result<(), Fail> {
+    for (text, wanted) in [
+        (
+            "pip[a, b] @ https://h/p.zip ; os_name=='nt'",
+            "pip,a,b||https://h/p.zip|os_name=='nt'",
+        ),
+        ("A.B (>=3, <2)", "A.B|>=3,<2|-|-"),
+    ] {
+        let requirement = Requirement::parse(rt.alloc(), text)?;
+        check_copy(&rt, &requirement, text, wanted)?;
+    }
+    Ok(())
+}
+
 /// The examples of PEP 508 that this grammar takes as it does.
 #[test]
 fn requirements_of_the_standard(rt: HostRuntime) -> Result<(), Fail> {
