@@ -2,6 +2,7 @@ pub mod Best
 pub mod Choosing
 pub mod Cuts
 pub mod Listing
+pub mod Lowering
 pub mod Naming
 pub mod NamingParts
 pub mod Pieces

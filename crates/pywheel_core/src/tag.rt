@@ -94,19 +94,18 @@ impl Tag {
     }
 }
 
-#[tactic(auto, unfolding(crate::specs::Tag::tag_of))]
 fn read_tag(alloc: Global, text: &str) -> Result<Tag, TagError>
     ensures { Gives TagError.Memory (λ t. t) result (tag_of text.now) }
 {
-    let text = lowercase(alloc, text)?;
-    let Some(parts) = three_parts(text.as_str()) else {
+    let Some(parts) = three_parts(text) else {
         return Err(TagError::Shape);
     };
     if !parts.is_tag() {
         return Err(TagError::Shape);
     }
     let (python, abi, platform) = parts.places(text.len());
-    Ok(Tag::new(text, python, abi, platform))
+    let lower = lowercase(alloc, text)?;
+    Ok(Tag::new(lower, python, abi, platform))
 }
 
 /// Two tags are equal where their parts are. It takes no memory.

@@ -1,0 +1,132 @@
+-- A text in lower case is cut where the text is, and its parts are parts of a tag where those are.
+use Rattle.std.proofs.Common.{◌≡◌, ℕ, ◌+◌, ◌<◌, ◌≤◌, true, false, ◌==◌, ◌&&◌, nat_lt, List, [], ◌∷◌, length, Option, Some, None, option_map, Ok, Err, refl, sym, ap, ◌∙◌, inl, inr, arith}
+use Rattle.std.proofs.lemmas.Bool.Decides.{Decides-eqb, nat_tests}
+use Rattle.std.proofs.lemmas.List.{length-map}
+use Rattle.std.specs.Char.{to_ascii_lowercase}
+use Rattle.std.specs.List.{list_all}
+use Rattle.std.specs.Str.{str_to_ascii_lowercase}
+use Rattle.pyver_core.proofs.Lemmas.Sight.{option_sight, sight}
+use Rattle.pywheel_core.specs.Inner.Places.{places_of}
+use Rattle.pywheel_core.specs.Tag.{TagParts, is_tag, is_tag_byte, is_tag_part, tag_of, tag_with}
+use Rattle.pywheel_core.specs.Texts.{before_cut, cut_at, three_parts}
+use Rattle.pywheel_core.specs.declared.error.TagError.TheVariants as tag
+use Rattle.pywheel_core.specs.declared.place.Place.{Place}
+use Rattle.pywheel_core.proofs.Cuts.{same_test}
+use Rattle.pywheel_core.proofs.Pieces.{TagStands, tag_stands, tag_taken}
+
+-- ---- one byte
+
+pub lower_eq : (c b : ℕ) → c < 65 → (to_ascii_lowercase b == c) ≡ (b == c)
+lower_eq c b small = elim (sight (nat_lt b 65)) [
+  | inl e ↦ rw e refl
+  | inr e ↦
+      let low : 65 ≤ b = grind (arith, nat_tests, e) in
+      elim (sight (nat_lt b 91)) [
+        | inl f ↦ rw (e, f) (same_test (b + 32 == c) (b == c)
+            (λ t. absurd (let z = (Decides-eqb (b + 32) c).0 t in omega (arith, z, low, small)))
+            (λ t. absurd (let z = (Decides-eqb b c).0 t in omega (arith, z, low, small))))
+        | inr f ↦ rw (e, f) refl
+      ]
+]
+
+lower_tag_byte : (b : ℕ) → is_tag_byte (to_ascii_lowercase b) ≡ is_tag_byte b
+lower_tag_byte b = elim (sight (nat_lt b 65)) [
+  | inl e ↦ rw e refl
+  | inr e ↦ elim (sight (nat_lt b 91)) [
+    | inl f ↦
+        let x : is_tag_byte (b + 32) ≡ true = grind (arith, nat_tests, e, f) in
+        let y : is_tag_byte b ≡ true = grind (arith, nat_tests, e, f) in
+        rw (e, f) (x ∙ sym y)
+    | inr f ↦ rw (e, f) refl
+  ]
+]
+
+-- ---- parts
+
+lower_bytes : (s : List ℕ) → list_all is_tag_byte (str_to_ascii_lowercase s) ≡ list_all is_tag_byte s
+lower_bytes [] = refl
+lower_bytes (b ∷ s) = λ i. lower_tag_byte b i && lower_bytes s i
+
+lower_length : (s : List ℕ) → length (str_to_ascii_lowercase s) ≡ length s
+lower_length s = length-map s to_ascii_lowercase
+
+pub lower_part : (s : List ℕ) → is_tag_part (str_to_ascii_lowercase s) ≡ is_tag_part s
+lower_part s = λ i. nat_lt 0 (lower_length s i) && lower_bytes s i
+
+abbrev pub lower_set : TagParts → TagParts
+lower_set s = (str_to_ascii_lowercase s.0, str_to_ascii_lowercase s.1, str_to_ascii_lowercase s.2)
+
+pub lower_is_tag : (s : TagParts) → is_tag (lower_set s) ≡ is_tag s
+lower_is_tag s = λ i. lower_part s.0 i && (lower_part s.1 i && lower_part s.2 i)
+
+-- ---- cuts
+
+before_map : (b : ℕ) (o : Option (List ℕ × List ℕ))
+    → option_map (before_cut (to_ascii_lowercase b)) (option_map (λ x. (str_to_ascii_lowercase x.0, str_to_ascii_lowercase x.1)) o)
+    ≡ option_map (λ x. (str_to_ascii_lowercase x.0, str_to_ascii_lowercase x.1)) (option_map (before_cut b) o)
+before_map b None = refl
+before_map b (Some x) = refl
+
+lower_cut : (s : List ℕ) → cut_at 45 (str_to_ascii_lowercase s) ≡ option_map (λ x. (str_to_ascii_lowercase x.0, str_to_ascii_lowercase x.1)) (cut_at 45 s)
+lower_cut [] = refl
+lower_cut (b ∷ s) = elim (sight (b == 45)) [
+  | inl e ↦ let q = lower_eq 45 b (omega arith) ∙ e in rw (q, e) refl
+  | inr e ↦ let q = lower_eq 45 b (omega arith) ∙ e in rw (q, e) (ap (option_map (before_cut (to_ascii_lowercase b))) (lower_cut s) ∙ before_map b (cut_at 45 s))
+]
+
+lower_cut_none : (s : List ℕ) → cut_at 45 s ≡ None → cut_at 45 (str_to_ascii_lowercase s) ≡ None
+lower_cut_none s e = lower_cut s ∙ ap (option_map (λ x. (str_to_ascii_lowercase x.0, str_to_ascii_lowercase x.1))) e
+
+lower_cut_some : (s x y : List ℕ) → cut_at 45 s ≡ Some (x, y) → cut_at 45 (str_to_ascii_lowercase s) ≡ Some (str_to_ascii_lowercase x, str_to_ascii_lowercase y)
+lower_cut_some s x y e = lower_cut s ∙ ap (option_map (λ z. (str_to_ascii_lowercase z.0, str_to_ascii_lowercase z.1))) e
+
+pub lower_three_parts : (s : List ℕ) → three_parts 45 (str_to_ascii_lowercase s) ≡ option_map lower_set (three_parts 45 s)
+unfolding three_parts
+lower_three_parts s = elim (option_sight (cut_at 45 s)) [
+  | inl none ↦ let n = lower_cut_none s none in rw (n, none) refl
+  | inr f ↦
+      let x = f.1 in
+      let m = lower_cut_some s f.0.0 f.0.1 f.1 in
+      elim (option_sight (cut_at 45 f.0.1)) [
+        | inl none ↦ let n = lower_cut_none f.0.1 none in rw (m, x, n, none) refl
+        | inr g ↦
+            let y = g.1 in
+            let k = lower_cut_some f.0.1 g.0.0 g.0.1 g.1 in
+            elim (option_sight (cut_at 45 g.0.1)) [
+              | inl none ↦ let n = lower_cut_none g.0.1 none in rw (m, x, k, y, n, none) refl
+              | inr h ↦ let z = h.1 in let n = lower_cut_some g.0.1 h.0.0 h.0.1 h.1 in rw (m, x, k, y, n, z) refl
+            ]
+      ]
+]
+
+-- ---- one tag
+
+pub no_tag : (text : List ℕ) → three_parts 45 text ≡ None → tag_of text ≡ Err tag.Shape
+unfolding tag_of
+no_tag text h = let e : three_parts 45 (str_to_ascii_lowercase text) ≡ None = lower_three_parts text ∙ ap (option_map lower_set) h in rw e refl
+
+pub bad_tag : (text : List ℕ) (s : TagParts) → three_parts 45 text ≡ Some s → is_tag s ≡ false → tag_of text ≡ Err tag.Shape
+unfolding tag_of
+bad_tag text s h bad =
+    let e : three_parts 45 (str_to_ascii_lowercase text) ≡ Some (lower_set s) = lower_three_parts text ∙ ap (option_map lower_set) h in
+    let f = lower_is_tag s ∙ bad in
+    rw (e, f) refl
+
+-- the places of three parts of these lengths
+abbrev placed : ℕ → ℕ → ℕ → Place × Place × Place
+placed n m k = (
+  record { start = 0; end = n },
+  record { start = n + 1; end = n + 1 + m },
+  record { start = n + 1 + m + 1; end = n + 1 + m + 1 + k },
+)
+
+lower_places : (s : TagParts) → places_of s ≡ places_of (lower_set s)
+lower_places s = sym (λ i. placed (lower_length s.0 i) (lower_length s.1 i) (lower_length s.2 i))
+
+-- the places of a text's parts in it in lower case, and that the tag is what stands there
+pub tag_lowered : (text lower : List ℕ) (s : TagParts) (x : Place × Place × Place) → lower ≡ str_to_ascii_lowercase text → three_parts 45 text ≡ Some s → is_tag s ≡ true → x ≡ places_of s
+    → TagStands lower (lower_set s) x × (tag_of text ≡ Ok (tag_with (lower_set s)))
+tag_lowered text lower s x e h ok made =
+    let cut : three_parts 45 lower ≡ Some (lower_set s) = ap (three_parts 45) e ∙ (lower_three_parts text ∙ ap (option_map lower_set) h) in
+    let is = lower_is_tag s ∙ ok in
+    (tag_stands lower (lower_set s) x (made ∙ lower_places s) cut is, tag_taken text lower (lower_set s) e cut is)
