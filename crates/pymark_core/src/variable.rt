@@ -6,8 +6,8 @@ ghost use Rattle.pymark_core.specs.Variables.{place, variable_name, variable_of}
 
 use std::fmt;
 
-/// A variable of markers (PEP 508, "Environment Markers"): a text about the Python that is installed
-/// for.
+/// A variable of markers (PEP 508, "Environment Markers"): a text about the Python that is
+/// installed for.
 #[derive(Clone, Copy, PartialEq, Eq, Hash, Debug)]
 pub enum Var {
     /// `os_name`

@@ -1,7 +1,8 @@
 //! What of an environment a marker reads.
 
 ghost use Rattle.std.specs.Prelude.{◌≡◌, ◌<◌, ◌||◌, ◌++◌, List, Bool, false};
-ghost use Rattle.pymark_core.specs.Marker.Keys.{has_key, is_flagged, is_key, key_number, operand_keys};
+ghost use Rattle.pymark_core.specs.Marker.Keys.{has_key, is_flagged, is_key, key_number};
+ghost use Rattle.pymark_core.specs.Marker.Keys.{operand_keys};
 ghost use Rattle.pymark_core.specs.declared.marker.keys.Key.{Key};
 
 use crate::operand::Operand;
@@ -91,7 +92,8 @@ impl Reads {
 
     /// Adds a key.
     fn insert(&mut self, added: Key)
-        ensures { (key : Key) → is_flagged self.new key ≡ (is_flagged self.old key || is_key key added) }
+        ensures { (key : Key) → is_flagged self.new key
+            ≡ (is_flagged self.old key || is_key key added) }
     {
         self.flags[added.number()] = true;
     }
