@@ -1,18 +1,22 @@
 -- A text in lower case is cut where the text is, and its parts are parts of a tag where those are.
-use Rattle.std.proofs.Common.{◌≡◌, ℕ, ◌+◌, ◌<◌, ◌≤◌, true, false, ◌==◌, ◌&&◌, nat_lt, List, [], ◌∷◌, length, Option, Some, None, option_map, Ok, Err, refl, sym, ap, ◌∙◌, inl, inr, arith}
+use Rattle.std.proofs.Common.{◌≡◌, ℕ, ◌+◌, ◌*◌, ◌<◌, ◌≤◌, true, false, ◌==◌, ◌&&◌, nat_lt, List, [], ◌∷◌, length, Option, Some, None, option_map, Result, Ok, Err, refl, sym, ap, ◌∙◌, inl, inr, arith, map, nat_le}
 use Rattle.std.proofs.lemmas.Bool.Decides.{Decides-eqb, nat_tests}
 use Rattle.std.proofs.lemmas.List.{length-map}
 use Rattle.std.specs.Char.{to_ascii_lowercase}
-use Rattle.std.specs.List.{list_all}
+use Rattle.std.specs.List.{list_all, onto_first}
 use Rattle.std.specs.Str.{str_to_ascii_lowercase}
 use Rattle.pyver_core.proofs.Lemmas.Sight.{option_sight, sight}
-use Rattle.pywheel_core.specs.Inner.Places.{places_of}
-use Rattle.pywheel_core.specs.Tag.{TagParts, is_tag, is_tag_byte, is_tag_part, tag_of, tag_with}
+use Rattle.pywheel_core.specs.Inner.Lent.{lower_set}
+use Rattle.pywheel_core.specs.Inner.Places.{places_from, places_of}
+use Rattle.pywheel_core.specs.Tag.{TAGS_LIMIT, TagParts, TagValue, are_tag_parts, is_tag, is_tag_byte, is_tag_part, is_tag_set, pieces, tag_of, tag_with, tags_in}
 use Rattle.pywheel_core.specs.Texts.{before_cut, cut_at, three_parts}
+use Rattle.pywheel_core.specs.Wheel.Reading.{set_tags_in, tag_set_in}
 use Rattle.pywheel_core.specs.declared.error.TagError.TheVariants as tag
+use Rattle.pywheel_core.specs.declared.error.WheelError.{WheelError}
+use Rattle.pywheel_core.specs.declared.error.WheelError.TheVariants as wheel
 use Rattle.pywheel_core.specs.declared.place.Place.{Place}
 use Rattle.pywheel_core.proofs.Cuts.{same_test}
-use Rattle.pywheel_core.proofs.Pieces.{TagStands, tag_stands, tag_taken}
+use Rattle.pywheel_core.proofs.Pieces.{SetStands, TagStands, made_of, set_places, tag_stands, tag_taken}
 
 -- ---- one byte
 
@@ -52,9 +56,6 @@ lower_length s = length-map s to_ascii_lowercase
 
 pub lower_part : (s : List ℕ) → is_tag_part (str_to_ascii_lowercase s) ≡ is_tag_part s
 lower_part s = λ i. nat_lt 0 (lower_length s i) && lower_bytes s i
-
-abbrev pub lower_set : TagParts → TagParts
-lower_set s = (str_to_ascii_lowercase s.0, str_to_ascii_lowercase s.1, str_to_ascii_lowercase s.2)
 
 pub lower_is_tag : (s : TagParts) → is_tag (lower_set s) ≡ is_tag s
 lower_is_tag s = λ i. lower_part s.0 i && (lower_part s.1 i && lower_part s.2 i)
@@ -130,3 +131,74 @@ tag_lowered text lower s x e h ok made =
     let cut : three_parts 45 lower ≡ Some (lower_set s) = ap (three_parts 45) e ∙ (lower_three_parts text ∙ ap (option_map lower_set) h) in
     let is = lower_is_tag s ∙ ok in
     (tag_stands lower (lower_set s) x (made ∙ lower_places s) cut is, tag_taken text lower (lower_set s) e cut is)
+
+-- ---- pieces
+
+onto_lower : (b : ℕ) (ps : List (List ℕ)) → onto_first (to_ascii_lowercase b) (map str_to_ascii_lowercase ps) ≡ map str_to_ascii_lowercase (onto_first b ps)
+onto_lower b [] = refl
+onto_lower b (p ∷ ps) = refl
+
+lower_pieces : (s : List ℕ) → pieces (str_to_ascii_lowercase s) ≡ map str_to_ascii_lowercase (pieces s)
+lower_pieces [] = refl
+lower_pieces (b ∷ s) = elim (sight (b == 46)) [
+  | inl e ↦ let q = lower_eq 46 b (omega arith) ∙ e in rw (q, e) (ap (λ l. [] ∷ l) (lower_pieces s))
+  | inr e ↦ let q = lower_eq 46 b (omega arith) ∙ e in rw (q, e) (ap (onto_first (to_ascii_lowercase b)) (lower_pieces s) ∙ onto_lower b (pieces s))
+]
+
+lower_parts : (ps : List (List ℕ)) → are_tag_parts (map str_to_ascii_lowercase ps) ≡ are_tag_parts ps
+lower_parts [] = refl
+lower_parts (p ∷ ps) = λ i. lower_part p i && lower_parts ps i
+
+lower_are : (s : List ℕ) → are_tag_parts (pieces (str_to_ascii_lowercase s)) ≡ are_tag_parts (pieces s)
+lower_are s = ap are_tag_parts (lower_pieces s) ∙ lower_parts (pieces s)
+
+lower_count : (s : List ℕ) → length (pieces (str_to_ascii_lowercase s)) ≡ length (pieces s)
+lower_count s = ap length (lower_pieces s) ∙ length-map (pieces s) str_to_ascii_lowercase
+
+lower_is_set : (s : TagParts) → is_tag_set (lower_set s) ≡ is_tag_set s
+lower_is_set s = λ i. (lower_are s.0 i && (lower_are s.1 i && lower_are s.2 i)) && nat_le (lower_count s.0 i * (lower_count s.1 i * lower_count s.2 i)) TAGS_LIMIT
+
+lower_from : (start : ℕ) (ps : List (List ℕ)) → places_from start (map str_to_ascii_lowercase ps) ≡ places_from start ps
+lower_from start [] = refl
+lower_from start (p ∷ ps) = (λ i. record { start = start; end = start + lower_length p i } ∷ places_from (start + lower_length p i + 1) (map str_to_ascii_lowercase ps))
+    ∙ ap (λ l. record { start = start; end = start + length p } ∷ l) (lower_from (start + length p + 1) ps)
+
+pieces_from : (start : ℕ) (s : List ℕ) → places_from start (pieces (str_to_ascii_lowercase s)) ≡ places_from start (pieces s)
+pieces_from start s = ap (places_from start) (lower_pieces s) ∙ lower_from start (pieces s)
+
+-- ---- compressed tag sets
+
+pub lower_cut_set : (text : List ℕ) (s : TagParts) → three_parts 45 text ≡ Some s → three_parts 45 (str_to_ascii_lowercase text) ≡ Some (lower_set s)
+lower_cut_set text s h = lower_three_parts text ∙ ap (option_map lower_set) h
+
+abbrev pub made_tags : List TagValue → Result (List TagValue) WheelError
+made_tags tags = Ok tags
+
+same_tags : (a b : List TagValue) → made_tags a ≡ made_tags b → a ≡ b
+same_tags a b h = cc
+
+pub set_read : (text lower : List ℕ) (s : TagParts) (tags : List TagValue) → lower ≡ str_to_ascii_lowercase text → three_parts 45 text ≡ Some s → is_tag_set s ≡ true
+    → made_tags (tags_in (lower_set s)) ≡ made_tags tags → tag_set_in text ≡ Ok (lower, tags)
+unfolding tag_set_in set_tags_in
+set_read text lower s tags is h ok made =
+    let e = lower_cut_set text s h in
+    let f = lower_is_set s ∙ ok in
+    rw (e, f) (λ i. Ok (sym is i, same_tags (tags_in (lower_set s)) tags made i))
+
+pub set_refused : (text : List ℕ) (s : TagParts) → three_parts 45 text ≡ Some s → (is_tag_set s ≡ true → ⊥) → tag_set_in text ≡ Err wheel.Tags
+unfolding tag_set_in set_tags_in
+set_refused text s h bad = elim (sight (is_tag_set s)) [
+  | inl e ↦ absurd (bad e)
+  | inr fails ↦ let e = lower_cut_set text s h in let f = lower_is_set s ∙ fails in rw (e, f) refl
+]
+
+-- the places of the pieces of a text's parts in it in lower case
+pub set_lowered : (text lower : List ℕ) (s : TagParts) (x : Place × Place × Place) (ps bs qs : List Place) → lower ≡ str_to_ascii_lowercase text → x ≡ places_of s
+    → made_of (places_from x.0.start (pieces s.0)) ≡ made_of ps
+    → made_of (places_from x.1.start (pieces s.1)) ≡ made_of bs
+    → made_of (places_from x.2.start (pieces s.2)) ≡ made_of qs
+    → three_parts 45 text ≡ Some s → is_tag_set s ≡ true → SetStands lower (lower_set s) ps bs qs
+set_lowered text lower s x ps bs qs e made p b q h ok =
+    set_places lower (lower_set s) x ps bs qs (made ∙ lower_places s)
+    (ap made_of (pieces_from x.0.start s.0) ∙ p) (ap made_of (pieces_from x.1.start s.1) ∙ b) (ap made_of (pieces_from x.2.start s.2) ∙ q)
+    (ap (three_parts 45) e ∙ lower_cut_set text s h) (lower_is_set s ∙ ok)

@@ -1,8 +1,8 @@
 -- What is read as the name of a wheel is what the relation says, and the other way round.
-use Rattle.std.proofs.Common.{◌≡◌, ◌≢◌, ℕ, ◌+◌, ◌-◌, ◌≤◌, Bool, true, false, ◌==◌, ◌&&◌, ◌||◌, not, nat_le, nat_lt, bytes_eq, if◌then◌else◌, codes, List, [], ◌∷◌, ◌++◌, length, take, drop, Option, Some, None, Result, Ok, Err, refl, sym, subst, ap, ◌∙◌, inl, inr, arith}
+use Rattle.std.proofs.Common.{◌≡◌, ◌≢◌, ℕ, ◌-◌, Bool, true, false, ◌==◌, ◌&&◌, ◌||◌, not, nat_le, nat_lt, bytes_eq, if◌then◌else◌, codes, List, [], ◌∷◌, ◌++◌, length, take, drop, Option, Some, None, Result, Ok, Err, refl, sym, subst, ap, ◌∙◌, inl, inr, arith}
 use Rattle.std.proofs.Math.Bool.{true≢false}
 use Rattle.std.proofs.Math.Seq.{drop-append_seam, take-append_seam}
-use Rattle.std.proofs.lemmas.Bool.Decides.{Decides-eqb, nat_tests}
+use Rattle.std.proofs.lemmas.Bool.Decides.{nat_tests}
 use Rattle.std.proofs.lemmas.List.{length-append, take-append-drop}
 use Rattle.std.proofs.lemmas.Option.{same_Some}
 use Rattle.std.specs.Char.{to_ascii_lowercase}
@@ -31,7 +31,8 @@ use Rattle.pywheel_core.specs.Wheel.Reading.{build_in, name_in, set_tags_in, tag
 use Rattle.pywheel_core.specs.Wheel.Value.{WheelValue, with_build}
 use Rattle.pywheel_core.specs.declared.error.WheelError.{WheelError}
 use Rattle.pywheel_core.specs.declared.error.WheelError.TheVariants as wheel
-use Rattle.pywheel_core.proofs.Cuts.{Lacks, and_both, cut_joined, cut_lacking, same_test}
+use Rattle.pywheel_core.proofs.Cuts.{Lacks, and_both, cut_joined, cut_lacking}
+use Rattle.pywheel_core.proofs.Lowering.{lower_cut_set, lower_eq}
 use Rattle.pywheel_core.proofs.NamingParts.{parts_made, parts_say}
 use Rattle.pywheel_core.proofs.Pieces.{three_say}
 use Rattle.pywheel_core.proofs.Versions.{version_taken}
@@ -53,25 +54,11 @@ if_ok false x y e h = absurd cc
 -- ---- lower case keeps `-`
 
 lower_dash : (b : ℕ) → (to_ascii_lowercase b == 45) ≡ (b == 45)
-lower_dash b = elim (sight (nat_lt b 65)) [
-  | inl e ↦ rw e refl
-  | inr e ↦
-      let low : 65 ≤ b = grind (arith, nat_tests, e) in
-      elim (sight (nat_lt b 91)) [
-        | inl f ↦ rw (e, f) (same_test (b + 32 == 45) (b == 45)
-            (λ t. absurd (let z = (Decides-eqb (b + 32) 45).0 t in omega (arith, z, low)))
-            (λ t. absurd (let z = (Decides-eqb b 45).0 t in omega (arith, z, low))))
-        | inr f ↦ rw (e, f) refl
-      ]
-]
+lower_dash b = lower_eq 45 b (omega arith)
 
 lower_lacks : (s : List ℕ) → list_any (λ b. b == 45) (str_to_ascii_lowercase s) ≡ list_any (λ b. b == 45) s
 lower_lacks [] = refl
 lower_lacks (b ∷ s) = λ i. lower_dash b i || lower_lacks s i
-
-lower_append : (s t : List ℕ) → str_to_ascii_lowercase (s ++ t) ≡ str_to_ascii_lowercase s ++ str_to_ascii_lowercase t
-lower_append [] t = refl
-lower_append (b ∷ s) t = ap (λ l. to_ascii_lowercase b ∷ l) (lower_append s t)
 
 -- ---- three parts with `-` between them
 
@@ -90,14 +77,6 @@ four_refused b p a q x y z =
     let second = cut_joined 45 p (a ++ (45 ∷ q)) y in
     let third = cut_joined 45 a q z in
     rw (first, second, third) refl
-
-lower_three : (p a q : List ℕ) → str_to_ascii_lowercase (p ++ (45 ∷ (a ++ (45 ∷ q)))) ≡ str_to_ascii_lowercase p ++ (45 ∷ (str_to_ascii_lowercase a ++ (45 ∷ str_to_ascii_lowercase q)))
-lower_three p a q = lower_append p (45 ∷ (a ++ (45 ∷ q))) ∙ ap (λ l. str_to_ascii_lowercase p ++ (45 ∷ l)) (lower_append a (45 ∷ q))
-
-lower_three_parts : (p a q : List ℕ) → Lacks 45 p → Lacks 45 a → Lacks 45 q
-    → three_parts 45 (str_to_ascii_lowercase (p ++ (45 ∷ (a ++ (45 ∷ q))))) ≡ Some (str_to_ascii_lowercase p, str_to_ascii_lowercase a, str_to_ascii_lowercase q)
-lower_three_parts p a q x y z = ap (three_parts 45) (lower_three p a q)
-    ∙ three_joined (str_to_ascii_lowercase p) (str_to_ascii_lowercase a) (str_to_ascii_lowercase q) (lower_lacks p ∙ x) (lower_lacks a ∙ y) (lower_lacks q ∙ z)
 
 -- ---- the extension
 
@@ -202,7 +181,7 @@ wheel_says text w h =
     let t = say.4.0 in
     let three = three_say 45 parts.tag_set t say.4.1 in
     let lower : TagParts = (str_to_ascii_lowercase t.0, str_to_ascii_lowercase t.1, str_to_ascii_lowercase t.2) in
-    let lowered : three_parts 45 (str_to_ascii_lowercase parts.tag_set) ≡ Some lower = ap (λ l. three_parts 45 (str_to_ascii_lowercase l)) three.0 ∙ lower_three_parts t.0 t.1 t.2 three.1 three.2 three.3 in
+    let lowered : three_parts 45 (str_to_ascii_lowercase parts.tag_set) ≡ Some lower = lower_cut_set parts.tag_set t say.4.1 in
     let set = set_says parts.tag_set lower s.0 lowered s.1 in
     let it : Wheel text parts.name v.0 parts.build s.0.1 = record {
       spelling = parts.version;
@@ -304,7 +283,7 @@ wheel_made text name version build tags x =
     let e2 : parts_of stem ≡ Some parts = parts_made name x.spelling build set (p, a, q) ln x.is_undashed (build_lacks build x.is_build) (three_joined p a q lp la lq) (build_four build p a q x.is_build lp la) in
     let e4 = version_taken x.spelling version (version_again x.spelling version x.spells) x.fits in
     let e5 = build_taken build x.is_build in
-    let e6 = set_taken set t (lower_three_parts p a q lp la lq) (set_holds t tags x.is_tag_set) in (
+    let e6 = set_taken set t (lower_cut_set set (p, a, q) (three_joined p a q lp la lq)) (set_holds t tags x.is_tag_set) in (
       lower,
       ap (λ o. ok_or o wheel.Extension >>= λ s. ok_or (parts_of s) wheel.Parts >>= λ u. wheel_in u) e1
           ∙ (ap (λ o. ok_or o wheel.Parts >>= λ u. wheel_in u) e2

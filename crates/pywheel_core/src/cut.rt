@@ -1,10 +1,11 @@
 //! Texts cut at `-`: the parts of a tag, of a compressed tag set and of a wheel's name.
 
-ghost use Rattle.std.specs.Prelude.{◌≡◌, ◌+◌, length, option_map, IfOk};
+ghost use Rattle.std.specs.Prelude.{◌≡◌, ◌+◌, Some, length, option_map, IfOk};
 ghost use Rattle.std.specs.List.{list_all};
+ghost use Rattle.std.specs.Option.{IfSome};
 ghost use Rattle.std.specs.Rc.{rc_str_bytes};
 ghost use Rattle.std.specs.Str.{str_to_ascii_lowercase};
-ghost use Rattle.pywheel_core.specs.Inner.Lent.{set_of, wheel_parts};
+ghost use Rattle.pywheel_core.specs.Inner.Lent.{IsCut, set_of, wheel_parts};
 ghost use Rattle.pywheel_core.specs.Inner.Places.{places_of};
 ghost use Rattle.pywheel_core.specs.Tag.{is_tag, is_tag_byte, is_tag_part};
 ghost use Rattle.pywheel_core.specs.Texts.{cut_at, three_parts};
@@ -22,14 +23,18 @@ pub(crate) struct TagSet<'a> {
     pub(crate) platform: &'a str,
 }
 
-/// The parts of a wheel's name as written; `tag_set` is the last three.
+/// The parts of a wheel's name as written; `tag_set` is the last three, and `set` these three cut.
 #[derive(Clone, Copy)]
 pub(crate) struct StemParts<'a> {
     pub(crate) name: &'a str,
     pub(crate) version: &'a str,
     pub(crate) build: Option<&'a str>,
     pub(crate) tag_set: &'a str,
+    pub(crate) set: TagSet<'a>,
 }
+
+/// What stands behind a version: a build tag or none, and the last three parts, whole and cut.
+type End<'a> = (Option<&'a str>, &'a str, TagSet<'a>);
 
 /// The text in lower case, to be shared.
 pub(crate) fn lowercase(alloc: Global, text: &str) -> Result<RcStr, AllocError>
@@ -74,31 +79,36 @@ pub(crate) fn stem(text: &str) -> Option<&str>
 
 /// What stands behind the version, where no build tag does.
 #[tactic(auto, unfolding(crate::specs::Wheel::Cut::unbuilt))]
-fn unbuilt(text: &str) -> Option<(Option<&str>, &str)>
-    ensures { option_map (λ x. (option_map (λ b. b.now) x.0, x.1.now)) result ≡ unbuilt text.now }
+fn unbuilt(text: &str) -> Option<End<'_>>
+    ensures end { option_map (λ x. (option_map (λ b. b.now) x.0, x.1.now)) result
+        ≡ unbuilt text.now }
+    ensures set { IfSome result (λ x. three_parts 45 x.1.now ≡ Some (set_of x.2)) }
 {
-    three_parts(text)?;
-    Some((None, text))
+    let set = three_parts(text)?;
+    Some((None, text, set))
 }
 
 /// A build tag and what stands behind it.
 #[tactic(auto, unfolding(crate::specs::Wheel::Cut::built))]
-fn built(text: &str) -> Option<(Option<&str>, &str)>
-    ensures { option_map (λ x. (option_map (λ b. b.now) x.0, x.1.now)) result ≡ built text.now }
+fn built(text: &str) -> Option<End<'_>>
+    ensures end { option_map (λ x. (option_map (λ b. b.now) x.0, x.1.now)) result
+        ≡ built text.now }
+    ensures set { IfSome result (λ x. three_parts 45 x.1.now ≡ Some (set_of x.2)) }
 {
     let (build, rest) = cut(text)?;
-    three_parts(rest)?;
-    Some((Some(build), rest))
+    let set = three_parts(rest)?;
+    Some((Some(build), rest, set))
 }
 
 /// The five or six parts before `.whl`.
 #[tactic(auto, unfolding(crate::specs::Wheel::Cut::parts_of))]
 pub(crate) fn stem_parts(stem: &str) -> Option<StemParts<'_>>
-    ensures { option_map wheel_parts result ≡ parts_of stem.now }
+    ensures parts { option_map wheel_parts result ≡ parts_of stem.now }
+    ensures set { IfSome result (λ p. IsCut p) }
 {
     let (name, rest) = cut(stem)?;
     let (version, rest) = cut(rest)?;
-    let (build, tag_set) = match unbuilt(rest) {
+    let (build, tag_set, set) = match unbuilt(rest) {
         Some(end) => end,
         None => built(rest)?,
     };
@@ -107,6 +117,7 @@ pub(crate) fn stem_parts(stem: &str) -> Option<StemParts<'_>>
         version,
         build,
         tag_set,
+        set,
     })
 }
 

@@ -60,7 +60,7 @@ impl Tag {
 
     /// The tag that the text is, in any case: three parts joined by `-`, each one or more ASCII
     /// letters, digits and `_` (PEP 425, "Details"). It takes the memory of one text as long as the
-    /// given one.
+    /// given one, and none where the shape is refused.
     pub fn parse(alloc: Global, text: &str) -> Result<Tag, TagError>
         ensures ok { IfOk result (λ t. TagText text.now t) }
         ensures shape { IsErrOf result TagError.Shape → (t : TagValue) → TagText text.now t → ⊥ }

@@ -4,16 +4,17 @@ ghost use Rattle.std.specs.Prelude.{◌≡◌, ◌==◌, ◌+◌, ◌<◌, ◌^�
 ghost use Rattle.std.specs.Prelude.{SomeIff, count_by, length, map, option_map};
 ghost use Rattle.std.specs.List.{flat_map};
 ghost use Rattle.std.specs.Rc.{rc_str_bytes};
+ghost use Rattle.std.specs.Str.{str_to_ascii_lowercase};
 ghost use Rattle.pyver_core.specs.Agreement.{Gives};
-ghost use Rattle.pywheel_core.specs.Inner.Lent.{set_of};
+ghost use Rattle.pywheel_core.specs.Inner.Lent.{lower_set, set_of};
 ghost use Rattle.pywheel_core.specs.Inner.Places.{AreWithin, IsAsciiText, IsWithin, places_from};
 ghost use Rattle.pywheel_core.specs.Inner.Places.{tag_at};
 ghost use Rattle.pywheel_core.specs.Tag.{are_tag_parts, has_tag_parts, is_tag_set, pieces};
 ghost use Rattle.pywheel_core.specs.Tag.{tag_count, tags_in};
 ghost use Rattle.pywheel_core.specs.Texts.{cut_at, three_parts};
-ghost use Rattle.pywheel_core.specs.Wheel.Reading.{set_tags_in, tag_set_in};
+ghost use Rattle.pywheel_core.specs.Wheel.Reading.{tag_set_in};
 
-use crate::cut::{TagSet, is_tag_part, lowercase, three_parts};
+use crate::cut::{TagSet, is_tag_part, lowercase};
 use crate::error::WheelError;
 use crate::place::Place;
 use crate::tag::Tag;
@@ -24,25 +25,23 @@ use std::rc::RcStr;
 const TAGS_LIMIT: usize = 1024;
 
 /// A compressed tag set in lower case, and every tag that it stands for: the platform runs fastest,
-/// then the ABI. How many there are is judged before one is made.
-#[tactic(auto, unfolding(crate::specs::Wheel::Reading::tag_set_in))]
-pub(crate) fn read_tag_set(alloc: Global, text: &str) -> Result<(RcStr, Vec<Tag>), WheelError>
+/// then the ABI. The text is the three parts of the set; what they are and how many tags there are is
+/// judged before anything is made.
+pub(crate) fn read_tag_set(
+    alloc: Global,
+    text: &str,
+    set: &TagSet<'_>,
+) -> Result<(RcStr, Vec<Tag>), WheelError>
+    requires { three_parts 45 text.now ≡ Some (set_of set.now) }
     ensures { Gives WheelError.Memory (λ x. (rc_str_bytes x.0, x.1.items)) result
         (tag_set_in text.now) }
 {
-    let text = lowercase(alloc, text)?;
-    let tags = read_tags(alloc, &text)?;
-    Ok((text, tags))
-}
-
-/// The tags of a compressed tag set in lower case.
-#[tactic(auto, unfolding(crate::specs::Wheel::Reading::set_tags_in))]
-fn read_tags(alloc: Global, text: &RcStr) -> Result<Vec<Tag>, WheelError>
-    ensures { Gives WheelError.Memory (λ v. v.items) result (set_tags_in (rc_str_bytes text.now)) }
-{
-    let set = three_parts(text.as_str()).ok_or(WheelError::Tags)?;
-    let count = set.small_count().ok_or(WheelError::Tags)?;
-    set.tags(alloc, text, count)
+    let Some(count) = set.small_count() else {
+        return Err(WheelError::Tags);
+    };
+    let lower = lowercase(alloc, text)?;
+    let tags = set.tags(alloc, text, &lower, count)?;
+    Ok((lower, tags))
 }
 
 impl TagSet<'_> {
@@ -74,18 +73,26 @@ impl TagSet<'_> {
         count_pieces(self.python).checked_mul(pairs)
     }
 
-    /// The tags, whose parts stand in the text that these three make with `-` between them.
-    fn tags(&self, alloc: Global, text: &RcStr, count: usize) -> Result<Vec<Tag>, WheelError>
-        requires whole { three_parts 45 (rc_str_bytes text.now) ≡ Some (set_of self.now) }
+    /// The tags, whose parts stand in the text that these three make, in lower case.
+    fn tags(
+        &self,
+        alloc: Global,
+        text: &str,
+        lower: &RcStr,
+        count: usize,
+    ) -> Result<Vec<Tag>, WheelError>
+        requires whole { three_parts 45 text.now ≡ Some (set_of self.now) }
+        requires lower { rc_str_bytes lower.now ≡ str_to_ascii_lowercase text.now }
         requires set { is_tag_set (set_of self.now) ≡ true }
-        ensures { Gives WheelError.Memory (λ v. v.items) result (Ok (tags_in (set_of self.now))) }
+        ensures { Gives WheelError.Memory (λ v. v.items) result
+            (Ok (tags_in (lower_set (set_of self.now)))) }
     {
         let (python, abi, platform) = self.places(text.len());
         let pythons = piece_places(alloc, python.start, self.python)?;
         let abis = piece_places(alloc, abi.start, self.abi)?;
         let platforms = piece_places(alloc, platform.start, self.platform)?;
         let mut tags = Vec::with_capacity(alloc, count)?;
-        push_tags(&mut tags, text, &pythons, &abis, &platforms)?;
+        push_tags(&mut tags, lower, &pythons, &abis, &platforms)?;
         Ok(tags)
     }
 }

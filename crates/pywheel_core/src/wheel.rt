@@ -5,7 +5,7 @@ ghost use Rattle.std.specs.Prelude.{string_bytes};
 ghost use Rattle.std.specs.List.{list_all};
 ghost use Rattle.pyver_core.specs.Agreement.{Gives};
 ghost use Rattle.pyver_core.specs.Version.Parts.{Parts};
-ghost use Rattle.pywheel_core.specs.Inner.Lent.{wheel_parts};
+ghost use Rattle.pywheel_core.specs.Inner.Lent.{IsCut, wheel_parts};
 ghost use Rattle.pywheel_core.specs.Tag.{TagValue};
 ghost use Rattle.pywheel_core.specs.Texts.{has_pair};
 ghost use Rattle.pywheel_core.specs.Wheel.Build.{build_number, build_rest, builds_cmp};
@@ -77,12 +77,13 @@ impl WheelName {
     /// What the parts say.
     #[tactic(auto, unfolding(crate::specs::Wheel::Reading::wheel_in))]
     fn read(alloc: Global, parts: &StemParts<'_>) -> Result<WheelName, WheelError>
+        requires { IsCut parts.now }
         ensures { Gives WheelError.Memory (λ w. w) result (wheel_in (wheel_parts parts.now)) }
     {
         let name = read_name(alloc, parts.name)?;
         let version = read_version(alloc, parts.version)?;
         let build = read_build(alloc, parts.build)?;
-        let (tag_set, tags) = read_tag_set(alloc, parts.tag_set)?;
+        let (tag_set, tags) = read_tag_set(alloc, parts.tag_set, &parts.set)?;
         Ok(WheelName {
             name,
             version,
