@@ -8,8 +8,8 @@ use crate::tag::Tag;
 use crate::wheel::WheelName;
 use std::fmt;
 
-/// The three parts, with `-` between them. Printing takes no memory; a width that is asked for isn't
-/// filled up to, since the three parts are no one text.
+/// The three parts, with `-` between them. Printing takes no memory; a width that is asked for
+/// isn't filled up to, since the three parts are no one text.
 impl fmt::Display for Tag {
     ghost output = { λ t. Some (tag_text t) };
 

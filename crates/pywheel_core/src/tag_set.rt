@@ -25,8 +25,8 @@ use std::rc::RcStr;
 const TAGS_LIMIT: usize = 1024;
 
 /// A compressed tag set in lower case, and every tag that it stands for: the platform runs fastest,
-/// then the ABI. The text is the three parts of the set; what they are and how many tags there are is
-/// judged before anything is made.
+/// then the ABI. The text is the three parts of the set. Whether they can stand in tags and how many
+/// tags there are is judged before anything is made.
 pub(crate) fn read_tag_set(
     alloc: Global,
     text: &str,

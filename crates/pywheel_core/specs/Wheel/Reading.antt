@@ -1,6 +1,6 @@
 -- Reading the name of a wheel: the first refusal in order, or what the name says. It gives an
--- answer only where `Wheel` holds, and that of which it holds: the law `wheel_of_is_the_answer`; and
--- wherever it holds: the law `wheel_of_is_complete`.
+-- answer only where `Wheel` holds, and that of which it holds (the law `wheel_of_is_the_answer`),
+-- and wherever `Wheel` holds (the law `wheel_of_is_complete`).
 use Rattle.std.specs.Prelude.{ℕ, if◌then◌else◌, List, Option, Some, None, ok_or, Result, Ok, Err}
 use Rattle.std.specs.Str.{str_to_ascii_lowercase}
 use Rattle.pyver_core.specs.Version.Parts.{Parts}
