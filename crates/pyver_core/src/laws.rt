@@ -11,8 +11,10 @@ ghost use Rattle.pyver_core.specs.Version.Normal.{normal};
 ghost use Rattle.pyver_core.specs.Version.Order.{version_cmp};
 ghost use Rattle.pyver_core.specs.Version.Reading.{version_of};
 ghost use Rattle.pyver_core.specs.Set.Equality.{set_eq, specifier_eq};
-ghost use Rattle.pyver_core.specs.Set.Grammar.{SetText};
-ghost use Rattle.pyver_core.specs.Set.Normal.{set_text, specifier_text};
+ghost use Rattle.pyver_core.specs.Set.Grammar.{IsOperand, SetText};
+ghost use Rattle.pyver_core.specs.Set.Normal.{operator_of, set_text, specifier_text};
+ghost use Rattle.pyver_core.specs.Set.Reading.{operand_of, set_of};
+ghost use Rattle.pyver_core.specs.declared.set.specifier.Operator.{Operator};
 ghost use Rattle.pyver_core.specs.declared.set.specifier.Specifier.{Specifier};
 
 /// A text spells at most one version, and so does the normal form of what it spells: the same one
@@ -37,6 +39,24 @@ pub fn version_of_is_complete()
 pub fn parts_have_a_spelling()
     ensures made { (p v : Parts) → version_from p ≡ Ok v → (v ≡ p) × Spells (normal p) p }
     ensures spelt { (text : List ℕ) (p : Parts) → Spells text p → version_from p ≡ Ok p }
+{}
+
+/// What [`SpecifierSet::parse`](crate::SpecifierSet::parse) reads, the text writes.
+pub fn set_of_is_written()
+    ensures { (text : List ℕ) (s : List Specifier) → set_of text ≡ Some s → SetText text s }
+{}
+
+/// What a text writes, [`SpecifierSet::parse`](crate::SpecifierSet::parse) reads.
+pub fn set_of_is_complete()
+    ensures { (text : List ℕ) (s : List Specifier) → SetText text s → set_of text ≡ Some s }
+{}
+
+/// What is read behind an operator is an operand of it, and every operand is read behind its own.
+pub fn operand_of_is_complete()
+    ensures sound { (operator : Operator) (text : List ℕ) (s : Specifier)
+        → operand_of operator text ≡ Some s → (operator_of s ≡ operator) × IsOperand text s }
+    ensures complete { (text : List ℕ) (s : Specifier)
+        → IsOperand text s → operand_of (operator_of s) text ≡ Some s }
 {}
 
 /// A text writes at most one specifier set.
