@@ -1,20 +1,19 @@
 -- Texts cut at a byte: what std's words say, in the words of `cut_at` and `pieces_at`.
-use Rattle.std.proofs.Common.{◌≡◌, ◌↔◌, ℕ, suc, ◌+◌, ◌-◌, ◌<◌, Bool, true, false, ◌==◌, ◌&&◌, ◌||◌, ◌⊎◌, bytes_eq, codes, List, [], ◌∷◌, ◌++◌, length, take, drop, Option, Some, None, option_map, MatchOption, Bor, refl, sym, subst, ap, ◌∙◌, inl, inr, arith}
-use Rattle.std.proofs.Math.Bool.{and-true, true≢false}
+use Rattle.std.proofs.Common.{◌≡◌, ℕ, suc, ◌+◌, ◌-◌, ◌<◌, Bool, true, false, ◌==◌, ◌&&◌, ◌||◌, bytes_eq, codes, List, [], ◌∷◌, ◌++◌, length, take, drop, Option, Some, None, option_map, MatchOption, Bor, refl, sym, subst, ap, ◌∙◌, inl, inr, arith}
+use Rattle.std.proofs.Math.Bool.{true≢false}
 use Rattle.std.proofs.lemmas.Bool.Decides.{Decides-eqb}
 use Rattle.std.proofs.lemmas.List.{append_assoc, append_cancel_left, take-append-drop}
 use Rattle.std.proofs.lemmas.List.Elements.{All-cons}
-use Rattle.std.proofs.lemmas.List.Splits.{slice_split_at, slice_split_none}
+use Rattle.std.proofs.lemmas.List.Splits.{length-slice_split, slice_split_at, slice_split_none}
 use Rattle.std.proofs.lemmas.Option.{same_Some}
 use Rattle.std.proofs.lemmas.List.{length-append}
 use Rattle.std.specs.Cmp.Lexicographic.{bytes_decides}
-use Rattle.std.specs.Str.Iter.{HasSubslice}
 use Rattle.std.specs.Str.Pattern.{FindsTextSuffix, StripsSuffix}
 use Rattle.std.specs.List.{All, after_first, before_first, list_any, position_or_len}
 use Rattle.pyver_core.proofs.Lemmas.Sight.{option_sight, sight}
-use Rattle.pywheel_core.specs.Texts.{before_cut, begins_with, cut_at, has_pair, pieces_at}
+use Rattle.pywheel_core.specs.Texts.{before_cut, cut_at, pieces_at}
 use Rattle.pywheel_core.specs.Inner.Places.{places_from}
-use Rattle.pywheel_core.specs.Tag.{are_tag_parts, is_tag_part, pieces}
+use Rattle.pywheel_core.specs.Tag.{pieces}
 use Rattle.pywheel_core.specs.Wheel.Cut.{stem_of}
 use Rattle.pywheel_core.specs.declared.place.Place.{Place}
 
@@ -70,38 +69,9 @@ same_test true b f g = sym (f refl)
 same_test false true f g = absurd (true≢false (sym (g refl)))
 same_test false false f g = refl
 
-or_cases : (x y : Bool) → (x || y) ≡ true → (x ≡ true) ⊎ (y ≡ true)
-or_cases true y h = inl refl
-or_cases false y h = inr h
-
-or_right : (x y : Bool) → y ≡ true → (x || y) ≡ true
-or_right true y h = refl
-or_right false y h = h
-
 pub and_both : (x y : Bool) → (x && y) ≡ true → (x ≡ true) × (y ≡ true)
 and_both true y h = (refl, h)
 and_both false y h = absurd (true≢false (sym h))
-
-starts_with_it : (c : ℕ) (s : List ℕ) → begins_with c s ≡ true → (rest : List ℕ) × (s ≡ c ∷ rest)
-starts_with_it c [] h = absurd (true≢false (sym h))
-starts_with_it c (b ∷ s) h = (s, ap (λ x. x ∷ s) ((Decides-eqb b c).0 h))
-
-pair_stands : (c : ℕ) (s : List ℕ) → has_pair c s ≡ true → HasSubslice s (c ∷ (c ∷ []))
-pair_stands c [] h = absurd (true≢false (sym h))
-pair_stands c (b ∷ s) h = elim (or_cases ((b == c) && begins_with c s) (has_pair c s) h) [
-  | inl e ↦ let p = and_both (b == c) (begins_with c s) e in let r = starts_with_it c s p.1 in
-      ([], r.0, (λ i. (Decides-eqb b c).0 p.0 i ∷ r.1 i))
-  | inr e ↦ let x = pair_stands c s e in (b ∷ x.0, x.1, ap (λ l. b ∷ l) x.2)
-]
-
-stands_pair : (c : ℕ) (front back : List ℕ) → has_pair c (front ++ (c ∷ (c ∷ back))) ≡ true
-stands_pair c [] back = let e : (c == c) ≡ true = (Decides-eqb c c).1 refl in rw e refl
-stands_pair c (b ∷ front) back = or_right _ (has_pair c (front ++ (c ∷ (c ∷ back)))) (stands_pair c front back)
-
-pub contains_pair : (c : ℕ) (s : List ℕ) (r : Bool) → (r ≡ true) ↔ HasSubslice s (c ∷ (c ∷ [])) → r ≡ has_pair c s
-contains_pair c s r h = same_test r (has_pair c s)
-    (λ e. let x = h.0 e in subst (λ t. has_pair c t ≡ true) (sym x.2) (stands_pair c x.0 x.1))
-    (λ e. h.1 (pair_stands c s e))
 
 -- ---- what a cut says of the text
 
@@ -181,13 +151,7 @@ pieces_whole c s h = slice_split_none (λ b. b == c) s (lacks_all c s (no_cut_sa
 pub length_cut : (c : ℕ) (s x y : List ℕ) → cut_at c s ≡ Some (x, y) → length s ≡ length x + (1 + length y)
 length_cut c s x y h = ap length (cut_says c s x y h).0 ∙ (length-append x (c ∷ y) ∙ omega arith)
 
--- ---- all pieces are parts of a tag
-
-pub parts_step : (s x y : List ℕ) → Some (x, y) ≡ cut_at 46 s → are_tag_parts (pieces s) ≡ (is_tag_part x && are_tag_parts (pieces y))
-parts_step s x y h = ap are_tag_parts (pieces_cut 46 s x y (sym h))
-
-pub parts_last : (s : List ℕ) → None ≡ cut_at 46 s → are_tag_parts (pieces s) ≡ is_tag_part s
-parts_last s h = ap are_tag_parts (pieces_whole 46 s (sym h)) ∙ and-true (is_tag_part s)
+-- ---- the places of pieces
 
 pub places_step : (front : List Place) (start : ℕ) (s x y : List ℕ) → Some (x, y) ≡ cut_at 46 s
     → front ++ places_from start (pieces s) ≡ (front ++ record { start = start; end = start + length x } ∷ []) ++ places_from (start + length x + 1) (pieces y)
@@ -200,3 +164,17 @@ places_last front start s h = ap (λ ps. front ++ places_from start ps) (pieces_
 
 pub length_step : (s x y : List ℕ) → Some (x, y) ≡ cut_at 46 s → length s ≡ length x + (1 + length y)
 length_step s x y h = length_cut 46 s x y (sym h)
+
+-- ---- a part that is one piece
+
+pub one_piece : (s : List ℕ) → length (pieces s) ≡ 1 → pieces s ≡ s ∷ []
+one_piece s h = elim (option_sight (cut_at 46 s)) [
+  | inl none ↦ pieces_whole 46 s none
+  | inr f ↦
+      let two = ap length (pieces_cut 46 s f.0.0 f.0.1 f.1) in
+      let more = length-slice_split (λ b. b == 46) f.0.1 in
+      absurd (omega (arith, h, two, more))
+]
+
+pub one_place : (start : ℕ) (s : List ℕ) → length (pieces s) ≡ 1 → places_from start (pieces s) ≡ record { start = start; end = start + length s } ∷ []
+one_place start s h = ap (places_from start) (one_piece s h)

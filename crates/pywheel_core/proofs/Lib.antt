@@ -1,8 +1,10 @@
 pub mod Best
 pub mod Choosing
+pub mod Counting
 pub mod Cuts
 pub mod Listing
 pub mod Lowering
+pub mod NameBytes
 pub mod Naming
 pub mod NamingParts
 pub mod Pieces

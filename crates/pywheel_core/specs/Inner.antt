@@ -1,3 +1,4 @@
 -- What serves contracts inside the crate alone.
 pub mod Lent
+pub mod Pieces
 pub mod Places

@@ -131,9 +131,14 @@ pub(crate) fn is_tag_part(part: &str) -> bool
 fn has_tag_bytes(bytes: &[u8]) -> bool
     ensures { result ≡ list_all is_tag_byte bytes.now }
 {
-    bytes
-        .iter()
-        .all(|byte| byte.is_ascii_alphanumeric() || *byte == b'_')
+    bytes.iter().all(|byte| is_tag_byte(*byte))
+}
+
+/// Whether this is an ASCII letter, a digit or `_`.
+pub(crate) fn is_tag_byte(byte: u8) -> bool
+    ensures { result ≡ is_tag_byte byte }
+{
+    byte.is_ascii_alphanumeric() || byte == b'_'
 }
 
 impl TagSet<'_> {

@@ -1,7 +1,7 @@
 //! Compressed tag sets (PEP 425, "Compressed Tag Sets").
 
 ghost use Rattle.std.specs.Prelude.{◌≡◌, ◌==◌, ◌+◌, ◌<◌, ◌^◌, ◌++◌, true, Ok, Some, OnErr, OnOk};
-ghost use Rattle.std.specs.Prelude.{SomeIff, count_by, length, map, option_map};
+ghost use Rattle.std.specs.Prelude.{SomeIff, length, map, option_map};
 ghost use Rattle.std.specs.List.{flat_map};
 ghost use Rattle.std.specs.Rc.{rc_str_bytes};
 ghost use Rattle.std.specs.Str.{str_to_ascii_lowercase};
@@ -9,24 +9,25 @@ ghost use Rattle.pyver_core.specs.Agreement.{Gives};
 ghost use Rattle.pywheel_core.specs.Inner.Lent.{lower_set, set_of};
 ghost use Rattle.pywheel_core.specs.Inner.Places.{AreWithin, IsAsciiText, IsWithin, places_from};
 ghost use Rattle.pywheel_core.specs.Inner.Places.{tag_at};
-ghost use Rattle.pywheel_core.specs.Tag.{are_tag_parts, has_tag_parts, is_tag_set, pieces};
-ghost use Rattle.pywheel_core.specs.Tag.{tag_count, tags_in};
+ghost use Rattle.pywheel_core.specs.Inner.Pieces.{AreCountable, counts_of, places_in};
+ghost use Rattle.pywheel_core.specs.Tag.{are_tag_parts, is_tag_set, pieces, tags_in};
 ghost use Rattle.pywheel_core.specs.Texts.{cut_at, three_parts};
 ghost use Rattle.pywheel_core.specs.Wheel.Reading.{tag_set_in};
 
-use crate::cut::{TagSet, is_tag_part, lowercase};
+use crate::cut::{TagSet, is_tag_byte, lowercase};
 use crate::error::WheelError;
 use crate::place::Place;
 use crate::tag::Tag;
 use std::alloc::Global;
 use std::rc::RcStr;
+use std::slice;
 
 /// The most tags that a compressed tag set may stand for.
 const TAGS_LIMIT: usize = 1024;
 
 /// A compressed tag set in lower case, and every tag that it stands for: the platform runs fastest,
-/// then the ABI. The text is the three parts of the set. Whether they can stand in tags and how many
-/// tags there are is judged before anything is made.
+/// then the ABI. The text is the three parts of the set. Whether they can stand in tags and how
+/// many tags there are is judged before anything is made.
 pub(crate) fn read_tag_set(
     alloc: Global,
     text: &str,
@@ -36,41 +37,49 @@ pub(crate) fn read_tag_set(
     ensures { Gives WheelError.Memory (λ x. (rc_str_bytes x.0, x.1.items)) result
         (tag_set_in text.now) }
 {
-    let Some(count) = set.small_count() else {
+    let Some(counts) = set.small_counts() else {
         return Err(WheelError::Tags);
     };
     let lower = lowercase(alloc, text)?;
-    let tags = set.tags(alloc, text, &lower, count)?;
+    let tags = set.tags(alloc, text, &lower, &counts)?;
     Ok((lower, tags))
 }
 
+/// How many pieces the parts of a compressed tag set have, and how many tags these make.
+#[derive(Clone, Copy)]
+struct PieceCounts {
+    python: usize,
+    abi: usize,
+    platform: usize,
+    tags: usize,
+}
+
 impl TagSet<'_> {
-    /// How many tags there are, where all pieces can stand in a tag and there are no more than may
+    /// How many pieces there are, where all can stand in a tag and there are no more tags than may
     /// be.
-    fn small_count(&self) -> Option<usize>
+    fn small_counts(&self) -> Option<PieceCounts>
         ensures { SomeIff result (is_tag_set (set_of self.now) ≡ true)
-            (tag_count (set_of self.now)) }
+            (counts_of (set_of self.now)) }
     {
-        if !self.has_tag_parts() {
-            return None;
-        }
-        self.count().filter(|count| *count <= TAGS_LIMIT)
+        self.counts().filter(|counts| counts.tags <= TAGS_LIMIT)
     }
 
-    /// Whether all pieces can stand in a tag.
-    fn has_tag_parts(&self) -> bool
-        ensures { result ≡ has_tag_parts (set_of self.now) }
+    /// How many pieces there are, where all can stand in a tag and a `usize` holds how many tags
+    /// these make.
+    fn counts(&self) -> Option<PieceCounts>
+        ensures { SomeIff result (AreCountable (set_of self.now)) (counts_of (set_of self.now)) }
     {
-        are_tag_parts(self.python) && are_tag_parts(self.abi) && are_tag_parts(self.platform)
-    }
-
-    /// How many tags there are, where a `usize` holds that.
-    fn count(&self) -> Option<usize>
-        ensures { SomeIff result (tag_count (set_of self.now) < 2 ^ 64)
-            (tag_count (set_of self.now)) }
-    {
-        let pairs = count_pieces(self.abi).checked_mul(count_pieces(self.platform))?;
-        count_pieces(self.python).checked_mul(pairs)
+        let python = count_tag_parts(self.python.as_bytes())?;
+        let abi = count_tag_parts(self.abi.as_bytes())?;
+        let platform = count_tag_parts(self.platform.as_bytes())?;
+        let pairs = abi.checked_mul(platform)?;
+        let tags = python.checked_mul(pairs)?;
+        Some(PieceCounts {
+            python,
+            abi,
+            platform,
+            tags,
+        })
     }
 
     /// The tags, whose parts stand in the text that these three make, in lower case.
@@ -79,20 +88,27 @@ impl TagSet<'_> {
         alloc: Global,
         text: &str,
         lower: &RcStr,
-        count: usize,
+        counts: &PieceCounts,
     ) -> Result<Vec<Tag>, WheelError>
         requires whole { three_parts 45 text.now ≡ Some (set_of self.now) }
         requires lower { rc_str_bytes lower.now ≡ str_to_ascii_lowercase text.now }
         requires set { is_tag_set (set_of self.now) ≡ true }
+        requires counts { counts.now ≡ counts_of (set_of self.now) }
         ensures { Gives WheelError.Memory (λ v. v.items) result
             (Ok (tags_in (lower_set (set_of self.now)))) }
     {
         let (python, abi, platform) = self.places(text.len());
-        let pythons = piece_places(alloc, python.start, self.python)?;
-        let abis = piece_places(alloc, abi.start, self.abi)?;
-        let platforms = piece_places(alloc, platform.start, self.platform)?;
-        let mut tags = Vec::with_capacity(alloc, count)?;
-        push_tags(&mut tags, lower, &pythons, &abis, &platforms)?;
+        let pythons = PiecePlaces::of(alloc, python.start, self.python, counts.python)?;
+        let abis = PiecePlaces::of(alloc, abi.start, self.abi, counts.abi)?;
+        let platforms = PiecePlaces::of(alloc, platform.start, self.platform, counts.platform)?;
+        let mut tags = Vec::with_capacity(alloc, counts.tags)?;
+        push_tags(
+            &mut tags,
+            lower,
+            pythons.as_slice(),
+            abis.as_slice(),
+            platforms.as_slice(),
+        )?;
         Ok(tags)
     }
 }
@@ -172,40 +188,70 @@ fn cut_at_dot(text: &str) -> Option<(&str, &str)>
     text.split_once('.')
 }
 
-/// Whether all pieces can stand in a tag.
-fn are_tag_parts(part: &str) -> bool
-    ensures { result ≡ are_tag_parts (pieces part.now) }
+/// How many pieces there are, where all can stand in a tag: none is empty.
+fn count_tag_parts(part: &[u8]) -> Option<usize>
+    ensures { SomeIff result (are_tag_parts (pieces part.now) ≡ true) (length (pieces part.now)) }
 {
-    let mut rest = part;
-    while let Some((piece, after)) = cut_at_dot(rest) {
-        if !is_tag_part(piece) {
-            return false;
+    let mut count = 1;
+    let mut is_empty = true;
+    for byte in part {
+        if is_tag_byte(*byte) {
+            is_empty = false;
+        } else if *byte == b'.' && !is_empty {
+            count += 1;
+            is_empty = true;
+        } else {
+            return None;
         }
-        rest = after;
     }
-    is_tag_part(rest)
+    (!is_empty).then_some(count)
 }
 
-/// How many pieces there are.
-fn count_pieces(part: &str) -> usize
-    ensures { result ≡ length (pieces part.now) }
-{
-    count_dots(part.as_bytes()) + 1
+/// The places of the pieces of a part. One alone, as most parts have, takes no memory.
+#[derive(Drop)]
+enum PiecePlaces {
+    One(Place),
+    Many(Vec<Place>),
 }
 
-fn count_dots(bytes: &[u8]) -> usize
-    ensures { result ≡ count_by (λ b. b == 46) bytes.now }
-{
-    bytes.iter().filter(|byte| **byte == b'.').count()
+impl PiecePlaces {
+    /// Those in a text where the part stands at `start`.
+    fn of(alloc: Global, start: usize, part: &str, count: usize) -> Result<PiecePlaces, WheelError>
+        requires start { start + length part.now < 2 ^ 64 }
+        requires count { count ≡ length (pieces part.now) }
+        ensures { Gives WheelError.Memory places_in result
+            (Ok (places_from start (pieces part.now))) }
+    {
+        if count == 1 {
+            let end = start + part.len();
+            return Ok(PiecePlaces::One(Place { start, end }));
+        }
+        Ok(PiecePlaces::Many(list_places(alloc, start, part, count)?))
+    }
+
+    fn as_slice(&self) -> &[Place]
+        ensures { result.now ≡ places_in self.now }
+    {
+        match self {
+            PiecePlaces::One(place) => slice::from_ref(place),
+            PiecePlaces::Many(places) => places,
+        }
+    }
 }
 
-/// The places of the pieces in a text where the part stands at `start`.
-fn piece_places(alloc: Global, start: usize, part: &str) -> Result<Vec<Place>, WheelError>
+/// The places of the pieces in a text where the part stands at `start`, in a list with room for
+/// `count`.
+fn list_places(
+    alloc: Global,
+    start: usize,
+    part: &str,
+    count: usize,
+) -> Result<Vec<Place>, WheelError>
     requires { start + length part.now < 2 ^ 64 }
     ensures { Gives WheelError.Memory (λ v. v.items) result
         (Ok (places_from start (pieces part.now))) }
 {
-    let mut places = Vec::with_capacity(alloc, count_pieces(part))?;
+    let mut places = Vec::with_capacity(alloc, count)?;
     let mut start = start;
     let mut rest = part;
     while let Some((piece, after)) = cut_at_dot(rest) {

@@ -1,7 +1,7 @@
 //! The names of wheels (PEP 427, "File name convention").
 
 ghost use Rattle.std.specs.Prelude.{◌≡◌, ◌≢◌, ℕ, List, Option, option_map, IfErr, IfOk};
-ghost use Rattle.std.specs.Prelude.{string_bytes};
+ghost use Rattle.std.specs.Prelude.{◌&&◌, not, string_bytes};
 ghost use Rattle.std.specs.List.{list_all};
 ghost use Rattle.pyver_core.specs.Agreement.{Gives};
 ghost use Rattle.pyver_core.specs.Version.Parts.{Parts};
@@ -190,28 +190,32 @@ fn read_name(alloc: Global, name: &str) -> Result<String, WheelError>
     Ok(String::from_str(alloc, name)?)
 }
 
+#[tactic(auto, using(crate::proofs::NameBytes::name_is))]
 fn is_wheel_name(name: &str) -> bool
     ensures { result ≡ is_wheel_name name.now }
 {
-    !name.is_empty() && has_name_bytes(name.as_bytes()) && !has_double_underscore(name)
+    !name.is_empty() && are_name_bytes(name.as_bytes())
 }
 
-fn has_name_bytes(bytes: &[u8]) -> bool
-    ensures { result ≡ list_all is_wheel_name_byte bytes.now }
+/// Whether a name may have these bytes, among which no two `_` stand in a row.
+fn are_name_bytes(bytes: &[u8]) -> bool
+    ensures { result ≡ (list_all is_wheel_name_byte bytes.now && not (has_pair 95 bytes.now)) }
 {
-    bytes.iter().all(|byte| is_wheel_name_byte(*byte))
+    let mut after_underscore = false;
+    for byte in bytes {
+        let is_underscore = *byte == b'_';
+        if after_underscore && is_underscore || !is_wheel_name_byte(*byte) {
+            return false;
+        }
+        after_underscore = is_underscore;
+    }
+    true
 }
 
 fn is_wheel_name_byte(byte: u8) -> bool
     ensures { result ≡ is_wheel_name_byte byte }
 {
     byte.is_ascii_alphanumeric() || matches!(byte, b'_' | b'.')
-}
-
-fn has_double_underscore(name: &str) -> bool
-    ensures { result ≡ has_pair 95 name.now }
-{
-    name.contains("__")
 }
 
 /// The version, where the text is one.

@@ -29,6 +29,27 @@ fn parts_are_in_lower_case(rt: HostRuntime) -> Result<(), Fail> {
     Ok(())
 }
 
+/// The tag of the text has these parts.
+fn check_parts<R: Abort + AllocGlobal>(rt: &R, text: &str, wanted: &str) -> Result<(), Fail> {
+    assert_eq!(rt; parts(rt.alloc(), text)?.as_str(), wanted, "{text}");
+    Ok(())
+}
+
+// PEP 425, "Overview", "Use", and "Compressed Tag Sets", on an impossible tag.
+#[test]
+fn tags_of_the_standard(rt: HostRuntime) -> Result<(), Fail> {
+    for (text, wanted) in [
+        ("py27-none-any", "py27 none any"),
+        ("cp33-cp33m-linux_x86_64", "cp33 cp33m linux_x86_64"),
+        ("cp33-abi3-linux_x86_64", "cp33 abi3 linux_x86_64"),
+        ("cp33-none-linux_x86_64", "cp33 none linux_x86_64"),
+        ("cp33-cp31u-win64", "cp33 cp31u win64"),
+    ] {
+        check_parts(&rt, text, wanted)?;
+    }
+    Ok(())
+}
+
 /// Whether the text is refused for its shape.
 fn is_shapeless(alloc: Global, text: &str) -> bool {
     matches!(Tag::parse(alloc, text), Err(TagError::Shape))
@@ -124,6 +145,42 @@ fn ranks_are_positions_of_distinct_tags(rt: HostRuntime) -> Result<(), Fail> {
         check_rank(&rt, text, rank)?;
     }
     Ok(())
+}
+
+/// The list of PEP 425, "Use", for CPython 3.3 on `linux_x86_64`.
+const STANDARD: [&str; 14] = [
+    "cp33-cp33m-linux_x86_64",
+    "cp33-abi3-linux_x86_64",
+    "cp3-abi3-linux_x86_64",
+    "cp33-none-linux_x86_64",
+    "cp3-none-linux_x86_64",
+    "py33-none-linux_x86_64",
+    "py3-none-linux_x86_64",
+    "cp33-none-any",
+    "cp3-none-any",
+    "py33-none-any",
+    "py3-none-any",
+    "py32-none-any",
+    "py31-none-any",
+    "py30-none-any",
+];
+
+/// The list of the standard has fourteen tags, and this is the rank of the tag of the text.
+fn check_standard<R: Abort + AllocGlobal>(
+    rt: &R,
+    text: &str,
+    rank: Option<usize>,
+) -> Result<(), Fail> {
+    assert_eq!(rt; ranked(rt.alloc(), &STANDARD, text)?, (14, rank), "{text}");
+    Ok(())
+}
+
+#[test]
+fn ranks_in_the_list_of_the_standard(rt: HostRuntime) -> Result<(), Fail> {
+    for (rank, text) in STANDARD.iter().enumerate() {
+        check_standard(&rt, text, Some(rank))?;
+    }
+    check_standard(&rt, "py27-none-any", None)
 }
 
 /// Whether the second of these texts is the first that is refused.

@@ -206,11 +206,30 @@ fn names_of_the_field(rt: HostRuntime) -> Result<(), Fail> {
     Ok(())
 }
 
-// PEP 427, "File name convention".
+// PEP 427, "File name convention", and "Details", on installing.
 #[test]
 fn names_of_the_standard(rt: HostRuntime) -> Result<(), Fail> {
-    let text = "distribution-1.0-1-py27-none-any.whl";
-    let said = "distribution, 1.0, build 1 (1, \"\"), py27-none-any";
+    for (text, said) in [
+        (
+            "distribution-1.0-1-py27-none-any.whl",
+            "distribution, 1.0, build 1 (1, \"\"), py27-none-any",
+        ),
+        (
+            "distribution-1.0-py32-none-any.whl",
+            "distribution, 1.0, no build, py32-none-any",
+        ),
+    ] {
+        check(&rt, text, said)?;
+    }
+    Ok(())
+}
+
+// PEP 425, "Compressed Tag Sets", on `pip`, whose version is made up here. The two tags stand in
+// this order in PEP 427, "File contents".
+#[test]
+fn set_of_the_standard(rt: HostRuntime) -> Result<(), Fail> {
+    let text = "pip-1.0-py2.py3-none-any.whl";
+    let said = "pip, 1.0, no build, py2-none-any py3-none-any";
     check(&rt, text, said)
 }
 

@@ -2,15 +2,16 @@ use Rattle.std.proofs.Common.{◌≡◌, ◌∙◌, ◌++◌, Ok, ap, map, subst
 use Rattle.std.specs.List.{flat_map}
 use Rattle.std.specs.Rc.{rc_str_bytes}
 use Rattle.pywheel_core.specs.Inner.Lent.{lower_set, set_of}
+use Rattle.pywheel_core.specs.Inner.Pieces.{places_in}
 use Rattle.pywheel_core.specs.Inner.Places.{AreWithin, tag_at}
 use Rattle.pywheel_core.proofs.Lowering.{set_lowered}
 use Rattle.pywheel_core.proofs.Pieces.{SetStands, three_length}
 use Rattle.pywheel_core.proofs.cut.TagSet.tags.Goals as goal
 
-stands : (c : goal.After-deref-3) → SetStands (rc_str_bytes c.args.lower.now) (lower_set (set_of c.args.self.now))
-    c.in_ok-pythons.pythons.items c.in_ok-abis.abis.items c.in_ok-platforms.platforms.items
+stands : (c : goal.After-as_slice-3) → SetStands (rc_str_bytes c.args.lower.now) (lower_set (set_of c.args.self.now))
+    (places_in c.in_ok-pythons.pythons) (places_in c.in_ok-abis.abis) (places_in c.in_ok-platforms.platforms)
 stands c = set_lowered c.args.text.now (rc_str_bytes c.args.lower.now) (set_of c.args.self.now) c.places.result
-    c.in_ok-pythons.pythons.items c.in_ok-abis.abis.items c.in_ok-platforms.platforms.items c.requires.lower c.places.ensures
+    (places_in c.in_ok-pythons.pythons) (places_in c.in_ok-abis.abis) (places_in c.in_ok-platforms.platforms) c.requires.lower c.places.ensures
     c.in_ok-pythons.ensures c.in_ok-abis.ensures c.in_ok-platforms.ensures c.requires.whole c.requires.set
 
 pub places-requires : goal.places-requires
@@ -20,20 +21,20 @@ pub push_tags-requires-clause-ascii : goal.push_tags-requires-clause-ascii
 push_tags-requires-clause-ascii c = (stands c).ascii
 
 pub push_tags-requires-clause-pythons : goal.push_tags-requires-clause-pythons
-push_tags-requires-clause-pythons c = subst (AreWithin (rc_str_bytes c.args.lower.now)) (sym c.deref.ensures.value) (stands c).pythons_within
+push_tags-requires-clause-pythons c = subst (AreWithin (rc_str_bytes c.args.lower.now)) (sym c.as_slice.ensures) (stands c).pythons_within
 
 pub push_tags-requires-clause-abis : goal.push_tags-requires-clause-abis
-push_tags-requires-clause-abis c = subst (AreWithin (rc_str_bytes c.args.lower.now)) (sym c.deref-2.ensures.value) (stands c).abis_within
+push_tags-requires-clause-abis c = subst (AreWithin (rc_str_bytes c.args.lower.now)) (sym c.as_slice-2.ensures) (stands c).abis_within
 
 pub push_tags-requires-clause-platforms : goal.push_tags-requires-clause-platforms
-push_tags-requires-clause-platforms c = subst (AreWithin (rc_str_bytes c.args.lower.now)) (sym c.deref-3.ensures.value) (stands c).platforms_within
+push_tags-requires-clause-platforms c = subst (AreWithin (rc_str_bytes c.args.lower.now)) (sym c.as_slice-3.ensures) (stands c).platforms_within
 
 pub returns : goal.returns
 returns c =
     let text = rc_str_bytes c.args.lower.now in
     let stand = set_lowered c.args.text.now text (set_of c.args.self.now) c.places.result
-    c.in_ok-pythons.pythons.items c.in_ok-abis.abis.items c.in_ok-platforms.platforms.items c.requires.lower c.places.ensures
+    (places_in c.in_ok-pythons.pythons) (places_in c.in_ok-abis.abis) (places_in c.in_ok-platforms.platforms) c.requires.lower c.places.ensures
     c.in_ok-pythons.ensures c.in_ok-abis.ensures c.in_ok-platforms.ensures c.requires.whole c.requires.set in
-    let made : c.push_tags.new.tags.items ≡ flat_map (λ p. flat_map (λ b. map (λ q. tag_at text p b q) c.in_ok-platforms.platforms.items) c.in_ok-abis.abis.items) c.in_ok-pythons.pythons.items =
-    c.in_ok-push_tags.ensures.added ∙ (λ i. c.in_ok-tags.ensures.items i ++ flat_map (λ p. flat_map (λ b. map (λ q. tag_at text p b q) (c.deref-3.ensures.value i)) (c.deref-2.ensures.value i)) (c.deref.ensures.value i)) in
+    let made : c.push_tags.new.tags.items ≡ flat_map (λ p. flat_map (λ b. map (λ q. tag_at text p b q) (places_in c.in_ok-platforms.platforms)) (places_in c.in_ok-abis.abis)) (places_in c.in_ok-pythons.pythons) =
+    c.in_ok-push_tags.ensures.added ∙ (λ i. c.in_ok-tags.ensures.items i ++ flat_map (λ p. flat_map (λ b. map (λ q. tag_at text p b q) (c.as_slice-3.ensures i)) (c.as_slice-2.ensures i)) (c.as_slice.ensures i)) in
     ap Ok (sym (made ∙ stand.tags))

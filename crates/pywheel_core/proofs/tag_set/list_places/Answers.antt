@@ -1,6 +1,6 @@
 use Rattle.std.proofs.Common.{◌∙◌, Ok, ap, sym, arith}
 use Rattle.pywheel_core.proofs.Cuts.{length_step, places_last, places_step}
-use Rattle.pywheel_core.proofs.tag_set.piece_places.Goals as goal
+use Rattle.pywheel_core.proofs.tag_set.list_places.Goals as goal
 
 pub overflow_add-end : goal.overflow_add-end
 overflow_add-end c =

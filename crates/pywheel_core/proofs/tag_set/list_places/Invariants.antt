@@ -3,7 +3,7 @@ use denote.Text.{Utf8}
 use Rattle.std.proofs.Common.{◌≡◌, ◌+◌, ◌++◌, length}
 use Rattle.pywheel_core.specs.Inner.Places.{places_from}
 use Rattle.pywheel_core.specs.Tag.{pieces}
-use Rattle.pywheel_core.proofs.tag_set.piece_places.Given as goal
+use Rattle.pywheel_core.proofs.tag_set.list_places.Given as goal
 
 abbrev pub decreases-loop-piece : goal.decreases-loop-piece
 decreases-loop-piece l = length l.rest
