@@ -1,12 +1,12 @@
--- The part of a list after the last element that passes a test, by its place.
-use Rattle.std.proofs.Common.{◌≡◌, ◌∙◌, ◌==◌, ℕ, ◌+◌, ◌-◌, ◌<◌, ◌≤◌, Bool, true, false, not, List, [], ◌∷◌, length, get_or, drop, IsUtf8, arith, refl, ap}
+-- The part of a list after the last element that passes a test, by its place, and before the first.
+use Rattle.std.proofs.Common.{◌≡◌, ◌∙◌, ◌==◌, ℕ, ◌+◌, ◌-◌, ◌<◌, ◌≤◌, Bool, true, false, not, List, [], ◌∷◌, length, get_or, take, drop, suc, cond, IsUtf8, arith, refl, ap}
 use Rattle.std.proofs.Math.Logic.{⊎_elim}
 use Rattle.std.proofs.lemmas.Bool.{cases_Bool, cond-true, cond-false, or_parts}
 use Rattle.std.proofs.lemmas.Str.{is_utf8-from_IsUtf8, IsUtf8-from_is_utf8}
 use Rattle.std.specs.Str.{is_utf8}
 use Rattle.percent_encoding.specs.Percent.{is_escape, percent_decode}
 use Rattle.pylock_readers.specs.Entry.FileName.{decoded}
-use Rattle.std.specs.List.{after_last, list_any, suffix_len}
+use Rattle.std.specs.List.{after_last, before_first, list_any, position_or_len, suffix_len}
 use Rattle.std.proofs.lemmas.List.Sums.{suffix_len_is}
 
 pub after_last_at : (p : ℕ → Bool) (xs : List ℕ) (i : ℕ) → i < length xs → p (get_or xs i 0) ≡ true
@@ -22,6 +22,16 @@ after_last_none p xs none =
     let len = suffix_len_is (λ x. not (p x)) xs 0 0 (omega arith) (λ k low high. ap not (none k high)) (λ some. absurd (omega arith)) in
     let start : length xs - suffix_len (λ x. not (p x)) xs ≡ 0 = omega (arith, len) in
     ap (λ n. drop n xs) start
+
+pub before_none : (p : ℕ → Bool) (xs : List ℕ) → list_any p xs ≡ false → before_first p xs ≡ xs
+before_none p [] none = refl
+before_none p (x ∷ xs) none =
+    let parts = or_parts (p x) (list_any p xs) none in
+    let len = position_or_len p xs in
+    let more : 1 + len ≡ suc len = omega arith in
+    ap (λ b. take (cond (not b) (1 + len) 0) (x ∷ xs)) parts.0
+    ∙ ap (λ n. take n (x ∷ xs)) more
+    ∙ ap (λ rest. x ∷ rest) (before_none p xs parts.1)
 
 -- ---- percent-decoding
 

@@ -11,7 +11,7 @@ use Rattle.pymark_core.specs.declared.variable.Var.{Var}
 use Rattle.pywheel_core.specs.Tag.{TagValue, tags_of}
 use Rattle.pywheel_core.specs.declared.error.TagListError.{TagListError}
 use Rattle.pywheel_core.specs.declared.error.TagListError.TheVariants as list
-use Rattle.pylock_readers.specs.Text.{text_of}
+use Rattle.pylock_readers.specs.Text.{utf8_text}
 use Rattle.pylock_readers.specs.declared.error.EnvError.{EnvError}
 use Rattle.pylock_readers.specs.declared.error.EnvError.TheVariants as error
 
@@ -20,13 +20,13 @@ abbrev pub members_in : Data → Result Members EnvError
 members_in d = ok_or (option_and_then as_object (get (codes "environment") d)) error.Shape
 
 -- the list `tags`
-abbrev pub tags_in : Data → Result Items EnvError
-tags_in d = ok_or (option_and_then as_array (get (codes "tags") d)) error.Shape
+abbrev pub tag_items : Data → Result Items EnvError
+tag_items d = ok_or (option_and_then as_array (get (codes "tags") d)) error.Shape
 
 -- the text of a member, which is a text where it is there
-abbrev pub text_in : Option Data → Result (Option (List ℕ)) EnvError
-text_in None = Ok None
-text_in (Some d) = ok_or (option_map Some (as_str d)) error.Shape
+abbrev pub member_text_in : Option Data → Result (Option (List ℕ)) EnvError
+member_text_in None = Ok None
+member_text_in (Some d) = ok_or (option_map Some (as_str d)) error.Shape
 
 -- the environment where the variable has the text, if there is one
 abbrev pub with_text : Var → Option (List ℕ) → EnvironmentValue → EnvironmentValue
@@ -36,7 +36,7 @@ with_text variable (Some text) environment = with_variable variable text environ
 -- the environment where the variable has the text of the member of its name
 abbrev pub with_member : Var → Members → EnvironmentValue → Result EnvironmentValue EnvError
 with_member variable members environment =
-    text_in (get_member (variable_name variable) members)
+    member_text_in (get_member (variable_name variable) members)
     >>= (λ text. Ok (with_text variable text environment))
 
 -- the same of each of these variables
@@ -69,7 +69,7 @@ unfoldable pub env_in : Data → Result (EnvironmentValue × List TagValue) EnvE
 env_in d = do
   members ← members_in d
   environment ← with_members variables members empty
-  items ← tags_in d
+  items ← tag_items d
   texts ← texts_in items
   tags ← listed texts
   Ok (environment, tags)
@@ -81,6 +81,6 @@ value_of text = ok_or (read text) error.Json
 -- the environment and the tags that the bytes are
 unfoldable pub env_of : List ℕ → Result (EnvironmentValue × List TagValue) EnvError
 env_of bytes = do
-  text ← ok_or (text_of bytes) error.Json
+  text ← ok_or (utf8_text bytes) error.Json
   value ← value_of text
   env_in value

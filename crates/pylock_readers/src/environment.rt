@@ -6,8 +6,9 @@ ghost use Rattle.serde_json.specs.View.{view, items_view, members_view};
 ghost use Rattle.pyver_core.specs.Agreement.{Gives};
 ghost use Rattle.pymark_core.specs.Environment.{empty};
 ghost use Rattle.pymark_core.specs.Variables.{variable_name, variables};
-ghost use Rattle.pylock_readers.specs.Environment.{members_in, tags_in, text_in, with_member};
-ghost use Rattle.pylock_readers.specs.Environment.{with_members, texts_in, tag_refusal, listed};
+ghost use Rattle.pylock_readers.specs.Environment.{members_in, tag_items, member_text_in};
+ghost use Rattle.pylock_readers.specs.Environment.{with_member, with_members, texts_in};
+ghost use Rattle.pylock_readers.specs.Environment.{tag_refusal, listed};
 ghost use Rattle.pylock_readers.specs.Environment.{env_in, value_of, env_of};
 
 use crate::error::EnvError;
@@ -80,7 +81,7 @@ fn members(value: &Value) -> Result<&Map<String, Value>, EnvError>
 }
 
 fn tags(value: &Value) -> Result<&[Value], EnvError>
-    ensures { Gives EnvError.Memory (λ v. items_view v.now) result (tags_in (view value.now)) }
+    ensures { Gives EnvError.Memory (λ v. items_view v.now) result (tag_items (view value.now)) }
 {
     match value.get("tags") {
         Some(value) => match value.as_array() {
@@ -135,7 +136,7 @@ fn set_member(
 /// The text of the member that is named like the variable.
 fn member_text(members: &Map<String, Value>, variable: Var) -> Result<Option<&str>, EnvError>
     ensures { Gives EnvError.Memory option_copied result
-        (text_in (get_member (variable_name variable) (members_view members.now.entries))) }
+        (member_text_in (get_member (variable_name variable) (members_view members.now.entries))) }
 {
     match member(members, variable.name()) {
         None => Ok(None),

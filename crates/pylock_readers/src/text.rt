@@ -1,11 +1,11 @@
 //! Texts from bytes.
 ghost use Rattle.std.specs.Prelude.{◌≡◌};
 ghost use Rattle.std.specs.Option.{option_copied};
-ghost use Rattle.pylock_readers.specs.Text.{text_of};
+ghost use Rattle.pylock_readers.specs.Text.{utf8_text};
 
 /// The bytes as text, where they are UTF-8.
 pub(crate) fn as_text(bytes: &[u8]) -> Option<&str>
-    ensures { option_copied result ≡ text_of bytes.now }
+    ensures { option_copied result ≡ utf8_text bytes.now }
 {
     match std::str::from_utf8(bytes) {
         Ok(text) => Some(text),

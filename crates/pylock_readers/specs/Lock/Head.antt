@@ -1,10 +1,10 @@
 -- The head of a lock (PEP 751): its keys in order; the first that isn't of its form is the refusal.
-use Rattle.std.specs.Prelude.{ℕ, Bool, not, ◌&&◌, ◌==◌, codes, nat_eq, List, [], ◌∷◌, drop, filter}
-use Rattle.std.specs.Prelude.{length, Option, Result, Ok, Err, ⊤}
-use Rattle.std.specs.Char.{is_ascii_digit}
-use Rattle.std.specs.List.{list_all, starts_with}
+use Rattle.std.specs.Prelude.{ℕ, Bool, not, ◌&&◌, codes, nat_eq, List, [], ◌∷◌, drop, filter}
+use Rattle.std.specs.Prelude.{Option, Result, Ok, Err, ⊤}
+use Rattle.std.specs.List.{starts_with}
 use Rattle.std.specs.Str.{bytes_eq}
 use Rattle.toml.specs.Data.{Data}
+use Rattle.pyver_core.specs.Digits.{is_number}
 use Rattle.pyver_core.specs.Results.{◌>>=◌}
 use Rattle.pyver_core.specs.declared.set.specifier.Specifier.{Specifier}
 use Rattle.pymark_core.specs.Marker.Reading.{MarkerValue}
@@ -21,20 +21,16 @@ use Rattle.pylock_readers.specs.declared.error.HeadKey.TheVariants.{Extras, Depe
 use Rattle.pylock_readers.specs.declared.error.HeadKey.TheVariants.{DefaultGroups}
 
 -- the lock's refusal for a field that has this one
-abbrev pub refusal_for : LockError → FieldError → LockError
-refusal_for wrong field.Wrong = wrong
-refusal_for wrong field.Memory = error.Memory
+abbrev pub lock_refusal : LockError → FieldError → LockError
+lock_refusal wrong field.Wrong = wrong
+lock_refusal wrong field.Memory = error.Memory
 
 -- a field of a lock, where this is the lock's refusal
-abbrev pub or_refused : {V : Type 0} → LockError → Result V FieldError → Result V LockError
-or_refused wrong (Ok x) = Ok x
-or_refused wrong (Err e) = Err (refusal_for wrong e)
+abbrev pub or_lock_refused : {V : Type 0} → LockError → Result V FieldError → Result V LockError
+or_lock_refused wrong (Ok x) = Ok x
+or_lock_refused wrong (Err e) = Err (lock_refusal wrong e)
 
 -- ---- the version of the lock and its maker
-
--- one or more digits
-abbrev pub is_number : List ℕ → Bool
-is_number text = not (length text == 0) && list_all is_ascii_digit text
 
 -- `1.` and a minor number (PEP 751, `lock-version`)
 abbrev pub is_lock_version : List ℕ → Bool
@@ -42,10 +38,10 @@ is_lock_version text = starts_with nat_eq text (codes "1.") && is_number (drop 2
 
 abbrev pub lock_version_in : Option Data → Result ⊤ LockError
 lock_version_in field =
-    or_refused error.LockVersion (text_in field >>= (λ text. required (is_lock_version text)))
+    or_lock_refused error.LockVersion (text_in field >>= (λ text. required (is_lock_version text)))
 
 abbrev pub created_by_in : Option Data → Result ⊤ LockError
-created_by_in field = or_refused error.CreatedBy (text_in field >>= (λ text. Ok tt))
+created_by_in field = or_lock_refused error.CreatedBy (text_in field >>= (λ text. Ok tt))
 
 -- ---- the optional keys
 
@@ -63,19 +59,20 @@ abbrev pub markers_in : Option Data → Result (List MarkerValue) FieldError
 markers_in field = items_in field >>= each marker_field
 
 abbrev pub environments_in : Option Data → Result (List MarkerValue) LockError
-environments_in field = or_refused (error.Head Environments) (markers_in field)
+environments_in field = or_lock_refused (error.Head Environments) (markers_in field)
 
-abbrev pub requires_python_in : Option Data → Result (Option (List Specifier)) LockError
-requires_python_in field = or_refused (error.Head RequiresPython) (optional set_field field)
+abbrev pub head_requires_python_in : Option Data → Result (Option (List Specifier)) LockError
+head_requires_python_in field =
+    or_lock_refused (error.Head RequiresPython) (optional set_field field)
 
 abbrev pub head_names_in : HeadKey → Option Data → Result (List (List ℕ)) LockError
-head_names_in key field = or_refused (error.Head key) (names_in field)
+head_names_in key field = or_lock_refused (error.Head key) (names_in field)
 
 unfoldable pub head_in : (environments requires_python extras groups default_groups : Option Data)
     → Result HeadValue LockError
 head_in environments requires_python extras groups default_groups = do
   environments ← environments_in environments
-  requires_python ← requires_python_in requires_python
+  requires_python ← head_requires_python_in requires_python
   extras ← head_names_in Extras extras
   groups ← head_names_in DependencyGroups groups
   default_groups ← head_names_in DefaultGroups default_groups

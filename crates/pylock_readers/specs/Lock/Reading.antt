@@ -9,8 +9,8 @@ use Rattle.pylock_readers.specs.Entry.{EntryValue}
 use Rattle.pylock_readers.specs.Entry.Fields.{items_in}
 use Rattle.pylock_readers.specs.Entry.Reading.{entry_in}
 use Rattle.pylock_readers.specs.Lock.{LockValue}
-use Rattle.pylock_readers.specs.Lock.Head.{or_refused, lock_version_in, created_by_in, head_in}
-use Rattle.pylock_readers.specs.Text.{text_of}
+use Rattle.pylock_readers.specs.Lock.Head.{or_lock_refused, lock_version_in, created_by_in, head_in}
+use Rattle.pylock_readers.specs.Text.{utf8_text}
 use Rattle.pylock_readers.specs.declared.error.EntryError.{EntryError}
 use Rattle.pylock_readers.specs.declared.error.LockError.{LockError}
 use Rattle.pylock_readers.specs.declared.error.LockError.TheVariants.{NotText, Toml, Packages}
@@ -40,7 +40,7 @@ count no_items = 0
 count (item d ds) = suc (count ds)
 
 abbrev pub packages_in : Option Data → Result Items LockError
-packages_in field = or_refused Packages (items_in field)
+packages_in field = or_lock_refused Packages (items_in field)
 
 abbrev pub room_for : Items → Result ⊤ LockError
 room_for items = if nat_lt most_entries (count items) then Err TooMany else Ok tt
@@ -73,4 +73,4 @@ document_of text = ok_or (parse_document text) Toml
 
 -- the lock that the bytes are
 unfoldable pub lock_of : List ℕ → Result LockValue LockError
-lock_of bytes = ok_or (text_of bytes) NotText >>= document_of >>= lock_in
+lock_of bytes = ok_or (utf8_text bytes) NotText >>= document_of >>= lock_in

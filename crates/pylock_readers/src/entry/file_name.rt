@@ -47,7 +47,7 @@ fn url_file_name(alloc: Global, url: &str) -> Result<Option<String>, AllocError>
 fn decoded(alloc: Global, text: &str) -> Result<String, AllocError>
     ensures { IfOk result (λ name. string_bytes name ≡ decoded text.now) }
 {
-    if !has_percent(text) {
+    if !has_byte(text, b'%') {
         return String::from_str(alloc, text);
     }
     match percent_decode(text.as_bytes()).decode_utf8(alloc) {
@@ -60,11 +60,11 @@ fn decoded(alloc: Global, text: &str) -> Result<String, AllocError>
     }
 }
 
-/// Whether there is a `%`, without which a text has no escape.
-fn has_percent(text: &str) -> bool
-    ensures { result ≡ list_any (λ b. b == 37) text.now }
+/// Whether the byte stands in the text, many bytes tested at a time.
+fn has_byte(text: &str, byte: u8) -> bool
+    ensures { result ≡ list_any (λ b. b == byte) text.now }
 {
-    text.as_bytes().contains(&b'%')
+    text.as_bytes().contains(&byte)
 }
 
 /// The text, unless it is empty.
@@ -86,7 +86,7 @@ fn last_of_path(path: &str) -> &str
 fn last_of_url(url: &str) -> &str
     ensures { result.now ≡ last_of_url url.now }
 {
-    last_segment(before(before(url, '#'), '?'))
+    last_segment(before(before(url, b'#'), b'?'))
 }
 
 fn last_segment(path: &str) -> &str
@@ -98,12 +98,15 @@ fn last_segment(path: &str) -> &str
     }
 }
 
-/// The text before the first such character, or all of it.
-fn before(text: &str, end: char) -> &str
+/// The text before the first such byte, or all of it, as nearly always.
+fn before(text: &str, end: u8) -> &str
     requires { end < 128 }
     ensures { result.now ≡ before_first (λ b. b == end) text.now }
 {
-    match text.split_once(end) {
+    if !has_byte(text, end) {
+        return text;
+    }
+    match text.split_once(end as char) {
         Some((front, _)) => front,
         None => text,
     }

@@ -4,9 +4,9 @@ ghost use Rattle.std.specs.Option.{option_copied};
 ghost use Rattle.toml.specs.View.{view, items_view};
 ghost use Rattle.pyver_core.specs.Agreement.{Gives};
 ghost use Rattle.pylock_readers.specs.Entry.Fields.{each, marker_field, name_of, set_field};
-ghost use Rattle.pylock_readers.specs.Lock.Head.{refusal_for, names_in, markers_in};
+ghost use Rattle.pylock_readers.specs.Lock.Head.{lock_refusal, names_in, markers_in};
 ghost use Rattle.pylock_readers.specs.Lock.Head.{environments_in};
-ghost use Rattle.pylock_readers.specs.Lock.Head.{requires_python_in, head_names_in, head_in};
+ghost use Rattle.pylock_readers.specs.Lock.Head.{head_requires_python_in, head_names_in, head_in};
 
 use crate::conditions::{read_marker, read_set};
 use crate::error::{HeadKey, LockError};
@@ -156,7 +156,7 @@ fn read_requires_python(
     field: Option<Value>,
 ) -> Result<Option<SpecifierSet>, LockError>
     ensures { Gives LockError.Memory (λ s. s) result
-        (requires_python_in (option_map view field)) }
+        (head_requires_python_in (option_map view field)) }
 {
     match field {
         None => Ok(None),
@@ -210,7 +210,7 @@ fn read_names(alloc: Global, values: Vec<Value>) -> Result<Vec<String>, FieldErr
 
 /// The refusal of a lock for a field that was not read.
 pub(crate) fn refusal(fault: FieldError, wrong: LockError) -> LockError
-    ensures { result ≡ refusal_for wrong fault }
+    ensures { result ≡ lock_refusal wrong fault }
 {
     match fault {
         FieldError::Wrong => wrong,

@@ -5,7 +5,8 @@ ghost use Rattle.std.specs.List.{list_all};
 ghost use Rattle.toml.specs.Data.{get_member};
 ghost use Rattle.toml.specs.View.{view, table_view};
 ghost use Rattle.pyver_core.specs.Agreement.{Gives};
-ghost use Rattle.pylock_readers.specs.Lock.Head.{created_by_in, is_lock_version, is_number};
+ghost use Rattle.pyver_core.specs.Digits.{is_number};
+ghost use Rattle.pylock_readers.specs.Lock.Head.{created_by_in, is_lock_version};
 ghost use Rattle.pylock_readers.specs.Lock.Head.{lock_version_in};
 ghost use Rattle.pylock_readers.specs.Lock.Reading.{document_of, lock_in, lock_of};
 

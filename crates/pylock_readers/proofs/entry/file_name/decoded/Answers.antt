@@ -4,8 +4,8 @@ use Rattle.percent_encoding.specs.Percent.{percent_decode}
 use Rattle.pylock_readers.proofs.FileNameLemmas.{decoded_text, decoded_else, decoded_plain}
 use Rattle.pylock_readers.proofs.entry.file_name.decoded.Goals as goal
 
-pub returns-then-not-has_percent : goal.returns-then-not-has_percent
-returns-then-not-has_percent c =
+pub returns-then-not-has_byte : goal.returns-then-not-has_byte
+returns-then-not-has_byte c =
     let none : list_any (λ b. b == 37) c.args.text.now ≡ false = search rules in
     rw (decoded_plain c.args.text.now none) (search rules)
 
