@@ -17,9 +17,9 @@ use Rattle.pylock_readers.specs.Lock.{HeadValue}
 use Rattle.pylock_core.specs.Inner.Again.{AllStand, AllWithin, DifferAt, after_head, fresh_row, has_head, row_anew, rows_anew, stored}
 use Rattle.pylock_core.specs.Inner.Index.{list_at}
 use Rattle.pylock_core.specs.Session.State.{Rises}
-use Rattle.pylock_core.specs.Inner.Names.{members_under, number_in, policy_at}
+use Rattle.pylock_core.specs.Inner.Names.{members_under, number_named, policy_at}
 use Rattle.pylock_core.specs.Inner.Parts.{IsJudged, IsNamed, IsSession, OfBoth, OfRows, state_of}
-use Rattle.pylock_core.specs.Inner.Pass.{is_number}
+use Rattle.pylock_core.specs.Inner.Pass.{has_number}
 use Rattle.pylock_core.specs.Inner.Rows.{passes}
 use Rattle.pylock_core.specs.Session.Judgement.{AgreeAtKey, IndexKey, Marked, OfTags, and_head, entry_reads, head_reads, keys, readers, verdict_of}
 use Rattle.pylock_core.specs.Session.Steps.{head_fault}
@@ -64,24 +64,24 @@ pub all_stand : (test : EntryValue → Bool) (entries : List (Option EntryValue)
 all_stand test entries numbers is =
     subst (AllStand entries) (sym is) (λ i within. let stands = passing_stands test 1 entries i within in (omega (arith, stands.0), stands.1))
 
-not_among : (n m : ℕ) (ns : List ℕ) → n < m → Rises m ns → is_number ns n ≡ false
+not_among : (n m : ℕ) (ns : List ℕ) → n < m → Rises m ns → has_number ns n ≡ false
 not_among n m [] less r = refl
 not_among n m (x ∷ xs) less r = rw (ne_eqb n x (λ same. omega (arith, r.0, same))) (not_among n (x + 1) xs (omega (arith, r.0)) r.1)
 
-among_first : (b : Bool) (n m : ℕ) (ns : List ℕ) → n ≡ m → Rises (m + 1) ns → is_number (with_row b m ns) n ≡ b
+among_first : (b : Bool) (n m : ℕ) (ns : List ℕ) → n ≡ m → Rises (m + 1) ns → has_number (with_row b m ns) n ≡ b
 among_first true n m ns same r = rw (eq-eqb n m same) refl
 among_first false n m ns same r = not_among n (m + 1) ns (omega (arith, same)) r
 
-among_later : (b : Bool) (n m : ℕ) (ns : List ℕ) → m < n → is_number (with_row b m ns) n ≡ is_number ns n
+among_later : (b : Bool) (n m : ℕ) (ns : List ℕ) → m < n → has_number (with_row b m ns) n ≡ has_number ns n
 among_later true n m ns less = rw (ne_eqb n m (λ same. omega (arith, same))) refl
 among_later false n m ns less = refl
 
-pub among_passing : {X : Type 0} (test : X → Bool) (n m k : ℕ) (rows : List (Option X)) → n ≡ m + k → is_number (passing test m rows) n ≡ passes test (get_or rows k None)
+pub among_passing : {X : Type 0} (test : X → Bool) (n m k : ℕ) (rows : List (Option X)) → n ≡ m + k → has_number (passing test m rows) n ≡ passes test (get_or rows k None)
 among_passing test n m k [] is = refl
 among_passing test n m zero (row ∷ rows) is =
-    ap (λ ns. is_number ns n) (passing_row test m row rows) ∙ among_first (passes test row) n m (passing test (m + 1) rows) (omega (arith, is)) (passing_rises test (m + 1) rows)
+    ap (λ ns. has_number ns n) (passing_row test m row rows) ∙ among_first (passes test row) n m (passing test (m + 1) rows) (omega (arith, is)) (passing_rises test (m + 1) rows)
 among_passing test n m (suc k) (row ∷ rows) is =
-    ap (λ ns. is_number ns n) (passing_row test m row rows) ∙ among_later (passes test row) n m (passing test (m + 1) rows) (omega (arith, is))
+    ap (λ ns. has_number ns n) (passing_row test m row rows) ∙ among_later (passes test row) n m (passing test (m + 1) rows) (omega (arith, is))
     ∙ among_passing test n (m + 1) k rows (omega (arith, is))
 
 -- where an entry stands, its row stands
@@ -119,7 +119,7 @@ stored_length (one ∷ more) rows = stored_length more (set rows one.0 one.1) �
 
 -- at the places whose numbers are in the list stand the new rows, at all others those that stood there
 stored_at : (new : ℕ → Option Row) (ns : List ℕ) (rows : List (Option Row)) (k : ℕ) → k < length rows → ((i : ℕ) → i < length ns → 0 < get_or ns i 0)
-    → get_or (stored (map (λ n. (n - 1, new (n - 1))) ns) rows) k None ≡ cond (is_number ns (k + 1)) (new k) (get_or rows k None)
+    → get_or (stored (map (λ n. (n - 1, new (n - 1))) ns) rows) k None ≡ cond (has_number ns (k + 1)) (new k) (get_or rows k None)
 stored_at new [] rows k within above = refl
 stored_at new (n ∷ ns) rows k within above =
     stored_at new ns (set rows (n - 1) (new (n - 1))) k (omega (arith, length-set rows (n - 1) (new (n - 1)))) (λ i less. above (suc i) (omega arith))
@@ -130,17 +130,17 @@ stored_at new (n ∷ ns) rows k within above =
     both false x = refl
 
     by : (b : Bool) → nat_eq (k + 1) n ≡ b
-        → cond (is_number ns (k + 1)) (new k) (get_or (set rows (n - 1) (new (n - 1))) k None) ≡ cond (b || is_number ns (k + 1)) (new k) (get_or rows k None)
+        → cond (has_number ns (k + 1)) (new k) (get_or (set rows (n - 1) (new (n - 1))) k None) ≡ cond (b || has_number ns (k + 1)) (new k) (get_or rows k None)
     by true is =
         let same : k + 1 ≡ n = eqb-true (k + 1) n is in
         let place : k ≡ n - 1 = omega (arith, same) in
         let here : get_or (set rows (n - 1) (new (n - 1))) k None ≡ new k =
         subst (λ (j : ℕ). get_or (set rows j (new j)) k None ≡ new k) place (get_or-set_same rows k (new k) None within) in
-        ap (cond (is_number ns (k + 1)) (new k)) here ∙ both (is_number ns (k + 1)) (new k)
+        ap (cond (has_number ns (k + 1)) (new k)) here ∙ both (has_number ns (k + 1)) (new k)
     by false is =
         let ne : (k + 1 ≡ n → ⊥) = eqb-false (k + 1) n is in
         let positive : 0 < n = above 0 (omega arith) in
-        ap (cond (is_number ns (k + 1)) (new k)) (get_or-set_other rows (n - 1) k (new (n - 1)) None (λ same. ne (omega (arith, same, positive))))
+        ap (cond (has_number ns (k + 1)) (new k)) (get_or-set_other rows (n - 1) k (new (n - 1)) None (λ same. ne (omega (arith, same, positive))))
 
 -- what holds of each entry and its row, where the row at each place is made of what stood there
 of_rows_places : (P Q : EntryValue → Row → Type 0) (f : Option EntryValue → Option Row → Option Row)
@@ -353,21 +353,21 @@ head_suffices reading parts environment key s differ = by (head_reads (Marked ke
 -- ---- a policy
 
 -- the entries of a name
-pub members_here : (parts : Parts) (name : List ℕ) (number : ℕ) → IsSession parts → number_in parts.names name ≡ Some number
+pub members_here : (parts : Parts) (name : List ℕ) (number : ℕ) → IsSession parts → number_named parts.names name ≡ Some number
     → list_at parts.names.members.items number ≡ passing (λ entry. bytes_eq name entry.name) 1 parts.entries.items
 members_here parts name number s found = ap (members_under parts.names.members.items) (sym found) ∙ s.members name
 
-pub members_stand : (parts : Parts) (name : List ℕ) (number : ℕ) → IsSession parts → number_in parts.names name ≡ Some number
+pub members_stand : (parts : Parts) (name : List ℕ) (number : ℕ) → IsSession parts → number_named parts.names name ≡ Some number
     → AllStand parts.entries.items (list_at parts.names.members.items number)
 members_stand parts name number s found =
     all_stand (λ entry. bytes_eq name entry.name) parts.entries.items (list_at parts.names.members.items number) (members_here parts name number s found)
 
-policy_suffices : (parts : Parts) (name : List ℕ) (number : ℕ) (policy : Policy) → IsSession parts → number_in parts.names name ≡ Some number
+policy_suffices : (parts : Parts) (name : List ℕ) (number : ℕ) (policy : Policy) → IsSession parts → number_named parts.names name ≡ Some number
     → Suffices parts (λ entry. bytes_eq name entry.name) parts.environment parts.tags (set parts.names.policies.items number policy) (λ n. policy)
 policy_suffices parts name number policy s found = record {
   hit = λ e r named is.
       let same : name ≡ e.name = (bytes_eq-Decides name e.name).0 is in
-      let numbers : number ≡ r.name = ap (λ o. unwrap_or o 0) (sym found ∙ ap (number_in parts.names) same ∙ named.name) in
+      let numbers : number ≡ r.name = ap (λ o. unwrap_or o 0) (sym found ∙ ap (number_named parts.names) same ∙ named.name) in
       subst (λ (n : ℕ). policy ≡ policy_at (set policies number policy) n) numbers (sym (get_or-set_same policies number policy Any (s.names.numbering.below name number found)));
   miss = λ e r named is.
       let ne : (r.name ≡ number → ⊥) = (λ same. let texts = s.names.numbering.apart name e.name number found (named.name ∙ ap Some same) in
@@ -379,8 +379,8 @@ policy_suffices parts name number policy s found = record {
     policies = parts.names.policies.items
 
 -- the rows under a policy that is written, where those of the name are judged again
-pub policy_again : (parts : Parts) (two : Names) (name : List ℕ) (number : ℕ) (policy : Policy) (rows : List (Option Row)) → IsSession parts → number_in parts.names name ≡ Some number
-    → ((q : List ℕ) → number_in two q ≡ number_in parts.names q) → two.policies.items ≡ set parts.names.policies.items number policy
+pub policy_again : (parts : Parts) (two : Names) (name : List ℕ) (number : ℕ) (policy : Policy) (rows : List (Option Row)) → IsSession parts → number_named parts.names name ≡ Some number
+    → ((q : List ℕ) → number_named two q ≡ number_named parts.names q) → two.policies.items ≡ set parts.names.policies.items number policy
     → rows ≡ stored (map (fresh_row parts.environment parts.tags (λ n. policy) parts.entries.items parts.rows.items) (list_at parts.names.members.items number)) parts.rows.items
     → OfRows (IsNamed two) parts.entries.items rows × OfRows (IsJudged parts.environment parts.tags two.policies.items) parts.entries.items rows
 policy_again parts two name number policy rows s found numbers policies made =

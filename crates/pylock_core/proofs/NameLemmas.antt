@@ -12,7 +12,7 @@ use Rattle.std.proofs.lemmas.List.{get_or-set_same, get_or-set_other, length-map
 use Rattle.std.proofs.lemmas.Slice.Eq.{bytes_eq-Decides}
 use Rattle.std.proofs.lemmas.Map.Text.{is_eq-slice_cmp}
 use Rattle.pylock_core.specs.Inner.Index.{list_at}
-use Rattle.pylock_core.specs.Inner.Names.{IsNumbering, IsNames, policy_at, policies_from, policies_in, members_of, members_under, number_in}
+use Rattle.pylock_core.specs.Inner.Names.{IsNumbering, IsNames, policy_at, policies_from, policies_in, members_named, members_under, number_named}
 use Rattle.pylock_core.specs.Session.State.{Policies, with_policy, policy_of}
 use Rattle.pylock_core.specs.declared.session.names.Names.{Names}
 use Rattle.pylock_core.specs.declared.edit.Policy.{Policy}
@@ -149,7 +149,7 @@ get_policies_from (e ∷ es) policies q =
     by true = refl
     by false = refl
 
-pub get_policies_in : (names : Names) (q : List ℕ) → map_of.get (policies_in names) q ≡ chosen_under names.policies.items (number_in names q)
+pub get_policies_in : (names : Names) (q : List ℕ) → map_of.get (policies_in names) q ≡ chosen_under names.policies.items (number_named names q)
 get_policies_in names q = get_policies_from names.numbers.entries names.policies.items q
 
 pub same_policies : (one other : Policies) → ((q : List ℕ) → map_of.get one q ≡ map_of.get other q) → one ≡ other
@@ -160,8 +160,8 @@ abbrev pub policy_under : List Policy → Option ℕ → Policy
 policy_under policies None = Any
 policy_under policies (Some n) = policy_at policies n
 
-pub policy_of_in : (names : Names) (q : List ℕ) → policy_of (policies_in names) q ≡ policy_under names.policies.items (number_in names q)
-policy_of_in names q = ap (λ p. unwrap_or p Any) (get_policies_in names q) ∙ by (number_in names q)
+pub policy_of_in : (names : Names) (q : List ℕ) → policy_of (policies_in names) q ≡ policy_under names.policies.items (number_named names q)
+policy_of_in names q = ap (λ p. unwrap_or p Any) (get_policies_in names q) ∙ by (number_named names q)
   where
     of : (policy : Policy) → unwrap_or (chosen policy) Any ≡ policy
     of Any = refl
@@ -176,23 +176,23 @@ policy_of_in names q = ap (λ p. unwrap_or p Any) (get_policies_in names q) ∙ 
 
 -- the names with one more
 pub record Grown (old new : Names) (name : List ℕ) (v : Vec ℕ Global) : Type 0 where
-  pub numbers : Gains (number_in old) (number_in new) name (length old.policies.items)
-  pub absent : number_in old name ≡ None
+  pub numbers : Gains (number_named old) (number_named new) name (length old.policies.items)
+  pub absent : number_named old name ≡ None
   pub policies : new.policies.items ≡ old.policies.items ++ Any ∷ []
   pub members : new.members.items ≡ old.members.items ++ v ∷ []
   pub empty : v.items ≡ []
 
-pub grown_members : (old new : Names) (name : List ℕ) (v : Vec ℕ Global) → IsNames old → Grown old new name v → (q : List ℕ) → members_of new q ≡ members_of old q
+pub grown_members : (old new : Names) (name : List ℕ) (v : Vec ℕ Global) → IsNames old → Grown old new name v → (q : List ℕ) → members_named new q ≡ members_named old q
 grown_members old new name v is g q =
-    ap (λ ms. members_under ms (number_in new q)) g.members
-    ∙ gains_under members_under [] (λ ms. refl) (number_in old) (number_in new) name (length old.policies.items) old.members.items v g.numbers g.absent is.numbering is.even
+    ap (λ ms. members_under ms (number_named new q)) g.members
+    ∙ gains_under members_under [] (λ ms. refl) (number_named old) (number_named new) name (length old.policies.items) old.members.items v g.numbers g.absent is.numbering is.even
     (members_last old.members.items v (length old.policies.items) (sym is.even) ∙ g.empty)
     (λ k within. members_front old.members.items v k within) q
 
 pub grown_policies : (old new : Names) (name : List ℕ) (v : Vec ℕ Global) → IsNames old → Grown old new name v → policies_in new ≡ policies_in old
 grown_policies old new name v is g = same_policies (policies_in new) (policies_in old) (λ q.
-    get_policies_in new q ∙ ap (λ ps. chosen_under ps (number_in new q)) g.policies
-    ∙ gains_under chosen_under None (λ ps. refl) (number_in old) (number_in new) name (length old.policies.items) old.policies.items Any g.numbers g.absent is.numbering refl
+    get_policies_in new q ∙ ap (λ ps. chosen_under ps (number_named new q)) g.policies
+    ∙ gains_under chosen_under None (λ ps. refl) (number_named old) (number_named new) name (length old.policies.items) old.policies.items Any g.numbers g.absent is.numbering refl
     (ap chosen (last old.policies.items Any Any (length old.policies.items) refl))
     (λ k within. ap chosen (front old.policies.items Any Any k within)) q
     ∙ sym (get_policies_in old q))
@@ -202,14 +202,14 @@ grown_is old new name v is g =
     let longer : length new.policies.items ≡ length old.policies.items + 1 = ap length g.policies ∙ length_more old.policies.items Any in
     let wider : length new.members.items ≡ length old.members.items + 1 = ap length g.members ∙ length_more old.members.items v in
     record {
-      numbering = gains_numbering (number_in old) (number_in new) name (length old.policies.items) (length new.policies.items) g.numbers longer is.numbering;
+      numbering = gains_numbering (number_named old) (number_named new) name (length old.policies.items) (length new.policies.items) g.numbers longer is.numbering;
       even = omega (arith, longer, wider, is.even);
     }
 
 -- ---- a policy, and what entries have a name
 
 -- the policy under a number is written
-pub policies_set : (names : Names) (n : ℕ) (policy : Policy) (name : List ℕ) → IsNames names → n < length names.policies.items → number_in names name ≡ Some n
+pub policies_set : (names : Names) (n : ℕ) (policy : Policy) (name : List ℕ) → IsNames names → n < length names.policies.items → number_named names name ≡ Some n
     → policies_from names.numbers.entries (set names.policies.items n policy) ≡ with_policy (policies_in names) name policy
 policies_set names n policy name is within has =
     same_policies (policies_from names.numbers.entries (set names.policies.items n policy)) (with_policy (policies_in names) name policy) (λ q.
@@ -220,17 +220,17 @@ policies_set names n policy name is within has =
     other None ne = refl
     other (Some m) ne = ap chosen (get_or-set_other names.policies.items n m policy Any (ne m refl))
 
-    by : (q : List ℕ) → chosen_under (set names.policies.items n policy) (number_in names q) ≡ cond (is_eq (slice_cmp nat_cmp q name)) (chosen policy) (chosen_under names.policies.items (number_in names q))
+    by : (q : List ℕ) → chosen_under (set names.policies.items n policy) (number_named names q) ≡ cond (is_eq (slice_cmp nat_cmp q name)) (chosen policy) (chosen_under names.policies.items (number_named names q))
     by q = same_or_not q name
-        (λ same. ap (chosen_under (set names.policies.items n policy)) (ap (number_in names) same ∙ has)
+        (λ same. ap (chosen_under (set names.policies.items n policy)) (ap (number_named names) same ∙ has)
         ∙ ap chosen (get_or-set_same names.policies.items n policy Any within)
-        ∙ sym (ap (λ b. cond b (chosen policy) (chosen_under names.policies.items (number_in names q))) (is_eq-slice_cmp q name ∙ (bytes_eq-Decides q name).1 same)))
-        (λ differs ne. other (number_in names q) (λ m found m_is. ne (is.numbering.apart q name n (found ∙ ap Some m_is) has))
-        ∙ sym (ap (λ b. cond b (chosen policy) (chosen_under names.policies.items (number_in names q))) (is_eq-slice_cmp q name ∙ differs)))
+        ∙ sym (ap (λ b. cond b (chosen policy) (chosen_under names.policies.items (number_named names q))) (is_eq-slice_cmp q name ∙ (bytes_eq-Decides q name).1 same)))
+        (λ differs ne. other (number_named names q) (λ m found m_is. ne (is.numbering.apart q name n (found ∙ ap Some m_is) has))
+        ∙ sym (ap (λ b. cond b (chosen policy) (chosen_under names.policies.items (number_named names q))) (is_eq-slice_cmp q name ∙ differs)))
 
 -- lists that keep their numbers
-pub members_same : (names : Names) (lists : List (Vec ℕ Global)) → ((n : ℕ) → list_at lists n ≡ list_at names.members.items n) → (q : List ℕ) → members_under lists (number_in names q) ≡ members_of names q
-members_same names lists same q = by (number_in names q)
+pub members_same : (names : Names) (lists : List (Vec ℕ Global)) → ((n : ℕ) → list_at lists n ≡ list_at names.members.items n) → (q : List ℕ) → members_under lists (number_named names q) ≡ members_named names q
+members_same names lists same q = by (number_named names q)
   where
     by : (found : Option ℕ) → members_under lists found ≡ members_under names.members.items found
     by None = refl

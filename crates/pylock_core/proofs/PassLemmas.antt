@@ -1,18 +1,16 @@
 -- Lemmas on the installation steps over rows, row by row.
-use Rattle.std.proofs.Common.{◌≡◌, ℕ, suc, zero, ◌+◌, ◌<◌, ◌≤◌, Bool, true, false, ◌||◌, nat_eq, List, [], ◌∷◌, ◌++◌, length, drop, get_or, set, replicate, Option, Some, None, Result, Ok, Err, ◌∙◌, ap, refl, sym, append_assoc, append-nil, eq-eqb, arith}
-use Rattle.std.proofs.lemmas.Bool.{ne_eqb, eqb-true, eqb-false}
-use Rattle.std.proofs.lemmas.List.{drop_all, drop_more, get_or-set_same, get_or-set_other}
-use Rattle.pylock_core.specs.Inner.Pass.{IsStamped, is_number, pick_rows, picks_after_rows, put_row, row_source, row_standing, slate_rows, stamps_after}
+use Rattle.std.proofs.Common.{◌≡◌, ℕ, ◌+◌, ◌<◌, ◌≤◌, Bool, ◌||◌, nat_eq, List, [], ◌∷◌, ◌++◌, length, drop, get_or, Option, Some, None, Result, Ok, Err, ◌∙◌, ap, refl, sym, append_assoc, append-nil}
+use Rattle.std.proofs.lemmas.List.{drop_all, drop_more}
+use Rattle.pylock_core.specs.Inner.Pass.{AreSlated, has_number, pick_rows, picks_after_rows, put_row, row_source, row_standing, slate_rows}
 use Rattle.pylock_core.specs.Inner.Names.{policy_at}
 use Rattle.pylock_core.specs.Inner.Progress.{pick_after}
 use Rattle.pylock_core.specs.Inner.Rows.{in_rows}
-use Rattle.pylock_core.specs.Session.Steps.{FirstFault, answer_by, pick_before, by_standing}
+use Rattle.pylock_core.specs.Session.Steps.{FirstFault, answer_by, pick_before}
 use Rattle.pylock_core.specs.declared.answer.Answer.{Answer}
 use Rattle.pylock_core.specs.declared.answer.Answer.TheVariants.{Fault}
 use Rattle.pylock_core.specs.declared.answer.FaultCode.{FaultCode}
 use Rattle.pylock_core.specs.declared.answer.Pick.{Pick}
 use Rattle.pylock_core.specs.declared.answer.PickSource.{PickSource}
-use Rattle.pylock_core.specs.declared.answer.Standing.{Standing}
 use Rattle.pylock_core.specs.declared.answer.Standing.TheVariants.{Skipped, Faulty, Active}
 use Rattle.pylock_core.specs.declared.edit.Policy.{Policy}
 use Rattle.pylock_core.specs.declared.session.row.Row.{Row}
@@ -63,15 +61,15 @@ answer_from_end policies made names = ap answer_by (all_made made)
 
 -- a row that is skipped, one that has a fault, one that is slated
 pub row_skipped : (policies : List Policy) (made : Result (List Pick) FirstFault) (names : List ℕ) (n : ℕ) (row : Row) (rest : List (ℕ × Row))
-    → row_standing row (is_number names row.name) ≡ Skipped → answer_from policies made names ((n, row) ∷ rest) ≡ answer_from policies made names rest
+    → row_standing row (has_number names row.name) ≡ Skipped → answer_from policies made names ((n, row) ∷ rest) ≡ answer_from policies made names rest
 row_skipped policies made names n row rest is = rw is
 
 pub row_faulty : (policies : List Policy) (made : Result (List Pick) FirstFault) (names : List ℕ) (n : ℕ) (row : Row) (rest : List (ℕ × Row)) (code : FaultCode)
-    → row_standing row (is_number names row.name) ≡ Faulty code → answer_from policies made names ((n, row) ∷ rest) ≡ Fault n code
+    → row_standing row (has_number names row.name) ≡ Faulty code → answer_from policies made names ((n, row) ∷ rest) ≡ Fault n code
 row_faulty policies made names n row rest code is = rw is
 
 pub row_active : (policies : List Policy) (made : Result (List Pick) FirstFault) (names : List ℕ) (n : ℕ) (row : Row) (rest : List (ℕ × Row))
-    → row_standing row (is_number names row.name) ≡ Active
+    → row_standing row (has_number names row.name) ≡ Active
     → answer_from policies made names ((n, row) ∷ rest) ≡ answer_from policies (pick_after made n (row_source row (policy_at policies row.name))) (row.name ∷ names) rest
 row_active policies made names n row rest is = rw is (ap answer_by (by (slate_rows rest (row.name ∷ names))))
   where
@@ -80,19 +78,10 @@ row_active policies made names n row rest is = rw is (ap answer_by (by (slate_ro
     by (Err fault) = refl
     by (Ok slated) = pick_moves made n (row_source row (policy_at policies row.name)) (pick_rows slated policies)
 
--- ---- stamps
+-- ---- names that are slated
 
-pub none_stamped : (k : ℕ) → IsStamped (replicate k false) []
-none_stamped zero n = refl
-none_stamped (suc k) zero = refl
-none_stamped (suc k) (suc n) = none_stamped k n
-
-pub one_stamped : (stamps : List Bool) (names : List ℕ) (name : ℕ) → name < length stamps → IsStamped stamps names → IsStamped (set stamps name true) (name ∷ names)
-one_stamped stamps names name within is n =
-    elim (nat_eq n name) as (λ b. nat_eq n name ≡ b → get_or (set stamps name true) n false ≡ (b || is_number names n)) [
-      | true ↦ λ same. ap (λ j. get_or (set stamps name true) j false) (eqb-true n name same) ∙ get_or-set_same stamps name true false within
-      | false ↦ λ apart. get_or-set_other stamps name n true false (eqb-false n name apart) ∙ is n
-    ] refl
+pub one_slated : (slated more : ℕ → Bool) (names : List ℕ) (name : ℕ) → ((n : ℕ) → more n ≡ (nat_eq n name || slated n)) → AreSlated slated names → AreSlated more (name ∷ names)
+one_slated slated more names name grows is n = grows n ∙ ap (λ b. nat_eq n name || b) (is n)
 
 -- ---- rows
 
@@ -109,63 +98,63 @@ rows_some rows place x within there =
 
 -- ---- the pass
 
--- the picks so far, and stamps of the names that are slated, with the rows that are left, make the answer
-abbrev pub Passed : List Policy → List (Option Row) → ℕ → List Bool → Result (List Pick) FirstFault → Type 0
-Passed policies rows place stamps made =
-    (names : List ℕ) × (IsStamped stamps names)
+-- the picks so far, and the names that are slated, with the rows that are left, make the answer
+abbrev pub Passed : List Policy → List (Option Row) → ℕ → (ℕ → Bool) → Result (List Pick) FirstFault → Type 0
+Passed policies rows place slated made =
+    (names : List ℕ) × (AreSlated slated names)
     × (answer_from policies made names (in_rows (place + 1) (drop place rows)) ≡ answer_from policies (Ok []) [] (in_rows 1 rows))
 
 -- the row at the place is none, is skipped, is slated, or ends the pass
-pub passed_none : (policies : List Policy) (rows : List (Option Row)) (place : ℕ) (stamps : List Bool) (made : Result (List Pick) FirstFault)
-    → place < length rows → get_or rows place None ≡ None → Passed policies rows place stamps made → Passed policies rows (place + 1) stamps made
-passed_none policies rows place stamps made within there passed =
+pub passed_none : (policies : List Policy) (rows : List (Option Row)) (place : ℕ) (slated : ℕ → Bool) (made : Result (List Pick) FirstFault)
+    → place < length rows → get_or rows place None ≡ None → Passed policies rows place slated made → Passed policies rows (place + 1) slated made
+passed_none policies rows place slated made within there passed =
     (passed.0, passed.1, ap (answer_from policies made passed.0) (sym (rows_none rows place within there)) ∙ passed.2)
 
-pub passed_skipped : (policies : List Policy) (rows : List (Option Row)) (place : ℕ) (stamps : List Bool) (made : Result (List Pick) FirstFault) (row : Row)
-    → place < length rows → get_or rows place (Some row) ≡ Some row → row_standing row (get_or stamps row.name false) ≡ Skipped
-    → Passed policies rows place stamps made → Passed policies rows (place + 1) stamps made
-passed_skipped policies rows place stamps made row within there is passed =
+pub passed_skipped : (policies : List Policy) (rows : List (Option Row)) (place : ℕ) (slated : ℕ → Bool) (made : Result (List Pick) FirstFault) (row : Row)
+    → place < length rows → get_or rows place (Some row) ≡ Some row → row_standing row (slated row.name) ≡ Skipped
+    → Passed policies rows place slated made → Passed policies rows (place + 1) slated made
+passed_skipped policies rows place slated made row within there is passed =
     let names = passed.0 in
-    let standing : row_standing row (is_number names row.name) ≡ Skipped = ap (row_standing row) (sym (passed.1 row.name)) ∙ is in (
+    let standing : row_standing row (has_number names row.name) ≡ Skipped = ap (row_standing row) (sym (passed.1 row.name)) ∙ is in (
       names,
       passed.1,
       sym (row_skipped policies made names (place + 1) row (in_rows (place + 1 + 1) (drop (place + 1) rows)) standing)
           ∙ ap (answer_from policies made names) (sym (rows_some rows place row within there)) ∙ passed.2,
     )
 
-pub passed_active : (policies : List Policy) (rows : List (Option Row)) (place : ℕ) (stamps : List Bool) (made : Result (List Pick) FirstFault) (row : Row)
-    → place < length rows → get_or rows place (Some row) ≡ Some row → row_standing row (get_or stamps row.name false) ≡ Active → row.name < length stamps
-    → Passed policies rows place stamps made
-    → Passed policies rows (place + 1) (set stamps row.name true) (pick_after made (place + 1) (row_source row (policy_at policies row.name)))
-passed_active policies rows place stamps made row within there is named passed =
+pub passed_active : (policies : List Policy) (rows : List (Option Row)) (place : ℕ) (slated more : ℕ → Bool) (made : Result (List Pick) FirstFault) (row : Row)
+    → place < length rows → get_or rows place (Some row) ≡ Some row → row_standing row (slated row.name) ≡ Active → ((n : ℕ) → more n ≡ (nat_eq n row.name || slated n))
+    → Passed policies rows place slated made
+    → Passed policies rows (place + 1) more (pick_after made (place + 1) (row_source row (policy_at policies row.name)))
+passed_active policies rows place slated more made row within there is grows passed =
     let names = passed.0 in
-    let standing : row_standing row (is_number names row.name) ≡ Active = ap (row_standing row) (sym (passed.1 row.name)) ∙ is in (
+    let standing : row_standing row (has_number names row.name) ≡ Active = ap (row_standing row) (sym (passed.1 row.name)) ∙ is in (
       row.name ∷ names,
-      one_stamped stamps names row.name named passed.1,
+      one_slated slated more names row.name grows passed.1,
       sym (row_active policies made names (place + 1) row (in_rows (place + 1 + 1) (drop (place + 1) rows)) standing)
           ∙ ap (answer_from policies made names) (sym (rows_some rows place row within there)) ∙ passed.2,
     )
 
-pub passed_faulty : (policies : List Policy) (rows : List (Option Row)) (place : ℕ) (stamps : List Bool) (made : Result (List Pick) FirstFault) (row : Row) (code : FaultCode)
-    → place < length rows → get_or rows place (Some row) ≡ Some row → row_standing row (get_or stamps row.name false) ≡ Faulty code
-    → Passed policies rows place stamps made → Fault (place + 1) code ≡ answer_by (picks_after_rows (slate_rows (in_rows 1 rows) []) policies)
-passed_faulty policies rows place stamps made row code within there is passed =
+pub passed_faulty : (policies : List Policy) (rows : List (Option Row)) (place : ℕ) (slated : ℕ → Bool) (made : Result (List Pick) FirstFault) (row : Row) (code : FaultCode)
+    → place < length rows → get_or rows place (Some row) ≡ Some row → row_standing row (slated row.name) ≡ Faulty code
+    → Passed policies rows place slated made → Fault (place + 1) code ≡ answer_by (picks_after_rows (slate_rows (in_rows 1 rows) []) policies)
+passed_faulty policies rows place slated made row code within there is passed =
     let names = passed.0 in
-    let standing : row_standing row (is_number names row.name) ≡ Faulty code = ap (row_standing row) (sym (passed.1 row.name)) ∙ is in
+    let standing : row_standing row (has_number names row.name) ≡ Faulty code = ap (row_standing row) (sym (passed.1 row.name)) ∙ is in
     sym (row_faulty policies made names (place + 1) row (in_rows (place + 1 + 1) (drop (place + 1) rows)) code standing)
     ∙ ap (answer_from policies made names) (sym (rows_some rows place row within there)) ∙ passed.2 ∙ answer_from_start policies (in_rows 1 rows)
 
-pub passed_all : (policies : List Policy) (rows : List (Option Row)) (place : ℕ) (stamps : List Bool) (made : Result (List Pick) FirstFault)
-    → length rows ≤ place → Passed policies rows place stamps made → answer_by made ≡ answer_by (picks_after_rows (slate_rows (in_rows 1 rows) []) policies)
-passed_all policies rows place stamps made past passed =
+pub passed_all : (policies : List Policy) (rows : List (Option Row)) (place : ℕ) (slated : ℕ → Bool) (made : Result (List Pick) FirstFault)
+    → length rows ≤ place → Passed policies rows place slated made → answer_by made ≡ answer_by (picks_after_rows (slate_rows (in_rows 1 rows) []) policies)
+passed_all policies rows place slated made past passed =
     sym (answer_from_end policies made passed.0)
     ∙ ap (λ rest. answer_from policies made passed.0 (in_rows (place + 1) rest)) (sym (drop_all place rows past))
     ∙ passed.2 ∙ answer_from_start policies (in_rows 1 rows)
 
-pub passed_same : (policies : List Policy) (rows : List (Option Row)) (place : ℕ) (stamps others : List Bool) (made more : Result (List Pick) FirstFault)
-    → others ≡ stamps → more ≡ made → Passed policies rows place stamps made → Passed policies rows place others more
-passed_same policies rows place stamps others made more same_stamps same_made passed = (
+pub passed_same : (policies : List Policy) (rows : List (Option Row)) (place : ℕ) (slated others : ℕ → Bool) (made more : Result (List Pick) FirstFault)
+    → ((n : ℕ) → others n ≡ slated n) → more ≡ made → Passed policies rows place slated made → Passed policies rows place others more
+passed_same policies rows place slated others made more same_slated same_made passed = (
   passed.0,
-  (λ n. ap (λ s. get_or s n false) same_stamps ∙ passed.1 n),
+  (λ n. same_slated n ∙ passed.1 n),
   ap (λ m. answer_from policies m passed.0 (in_rows (place + 1) (drop place rows))) same_made ∙ passed.2,
 )

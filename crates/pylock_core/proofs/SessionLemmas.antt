@@ -8,9 +8,9 @@ use Rattle.pyver_core.specs.Options.{either}
 use Rattle.pymark_core.specs.Environment.{EnvironmentValue}
 use Rattle.pywheel_core.specs.Tag.{TagValue}
 use Rattle.pylock_readers.specs.Entry.{EntryValue, FileValue, VcsValue, DirectoryValue, ArchiveValue}
-use Rattle.pylock_core.specs.Inner.Names.{IsNames, members_of, number_in, policies_in, policy_at}
+use Rattle.pylock_core.specs.Inner.Names.{IsNames, members_named, number_named, policies_in, policy_at}
 use Rattle.pylock_core.specs.Inner.Parts.{IsJudged, IsNamed, IsSession, OfBoth, OfRows, shown, sources_of, state_of}
-use Rattle.pylock_core.specs.Inner.Pass.{NamesBelow, checked_standing, conflict_among, file_source, is_number, pick_rows, picks_after_rows, put_row, row_source, slate_rows, source_from}
+use Rattle.pylock_core.specs.Inner.Pass.{NamesBelow, checked_standing, conflict_among, file_source, has_number, pick_rows, picks_after_rows, put_row, row_source, slate_rows, source_among}
 use Rattle.pylock_core.specs.Inner.Rows.{in_rows}
 use Rattle.pylock_core.specs.Session.Judgement.{all_numbers, verdict_of}
 use Rattle.pylock_core.specs.Session.State.{State, entry_at, if_entry, policy_of, with_entry, with_next, without}
@@ -99,14 +99,14 @@ names_below names is (e ∷ es) (r ∷ rs) h zero row stands = below_one names i
 names_below names is (e ∷ es) (r ∷ rs) h (suc k) row stands = names_below names is es rs h.1 k row stands
 
 -- the policy of an entry's name stands under the number that its row has
-pub policy_here : (names : Names) (q : List ℕ) (n : ℕ) → number_in names q ≡ Some n → policy_of (policies_in names) q ≡ policy_at names.policies.items n
+pub policy_here : (names : Names) (q : List ℕ) (n : ℕ) → number_named names q ≡ Some n → policy_of (policies_in names) q ≡ policy_at names.policies.items n
 policy_here names q n is = policy_of_in names q ∙ ap (policy_under names.policies.items) is
 
 -- names that keep their numbers, policies and entries
 pub record Kept (old new : Names) : Type 0 where
-  pub numbers : (q : List ℕ) (n : ℕ) → number_in old q ≡ Some n → number_in new q ≡ Some n
+  pub numbers : (q : List ℕ) (n : ℕ) → number_named old q ≡ Some n → number_named new q ≡ Some n
   pub policies : policies_in new ≡ policies_in old
-  pub members : (q : List ℕ) → members_of new q ≡ members_of old q
+  pub members : (q : List ℕ) → members_named new q ≡ members_named old q
 
 pub named_kept : (old new : Names) → Kept old new → (es : List (Option EntryValue)) (rs : List (Option Row)) → OfRows (IsNamed old) es rs → OfRows (IsNamed new) es rs
 named_kept old new kept es rs h = of_rows_weaker (IsNamed old) (IsNamed new) (λ e r is. record { name = kept.numbers e.name r.name is.name; sources = is.sources }) es rs h
@@ -237,17 +237,17 @@ stand_equal names environment tags n e r both s t st shared other so conflict al
 
 -- names and numbers that stand for each other
 abbrev SameNames : Names → List (List ℕ) → List ℕ → Type 0
-SameNames names ns ms = (q : List ℕ) (n : ℕ) → number_in names q ≡ Some n → is_among ns q ≡ is_number ms n
+SameNames names ns ms = (q : List ℕ) (n : ℕ) → number_named names q ≡ Some n → is_among ns q ≡ has_number ms n
 
-pub same_number : (names : Names) → IsNames names → (q p : List ℕ) (n m : ℕ) → number_in names q ≡ Some n → number_in names p ≡ Some m → bytes_eq q p ≡ nat_eq n m
+pub same_number : (names : Names) → IsNames names → (q p : List ℕ) (n m : ℕ) → number_named names q ≡ Some n → number_named names p ≡ Some m → bytes_eq q p ≡ nat_eq n m
 same_number names is q p n m has_q has_p =
     same_or_not q p
-    (λ same. let both : ◌≡◌ {A = Option ℕ} (Some n) (Some m) = sym has_q ∙ ap (number_in names) same ∙ has_p in
+    (λ same. let both : ◌≡◌ {A = Option ℕ} (Some n) (Some m) = sym has_q ∙ ap (number_named names) same ∙ has_p in
     let equal : n ≡ m = cc in
     (ap (bytes_eq q) (sym same) ∙ text_itself q) ∙ sym (eq-eqb n m equal))
     (λ differs ne. differs ∙ sym (ne_eqb n m (λ equal. ne (is.numbering.apart q p m (has_q ∙ ap Some equal) has_p))))
 
-more_names : (names : Names) → IsNames names → (ns : List (List ℕ)) (ms : List ℕ) (p : List ℕ) (m : ℕ) → number_in names p ≡ Some m → SameNames names ns ms → SameNames names (p ∷ ns) (m ∷ ms)
+more_names : (names : Names) → IsNames names → (ns : List (List ℕ)) (ms : List ℕ) (p : List ℕ) (m : ℕ) → number_named names p ≡ Some m → SameNames names ns ms → SameNames names (p ∷ ns) (m ∷ ms)
 more_names names is ns ms p m has h q n has_q =
     ap (λ b. b || is_among ns q) (same_number names is q p n m has_q has) ∙ ap (λ b. nat_eq n m || b) (h q n has_q)
 
@@ -263,10 +263,10 @@ slate_same names environment tags is (Some e ∷ es) (None ∷ rs) k ns ms h sam
 slate_same names environment tags is (Some e ∷ es) (Some r ∷ rs) k ns ms h same =
     let stands : r.verdict.standing ≡ standing e environment = ap (λ v. v.standing) h.0.1 in
     let conflict : conflict_among r.sources ≡ has_conflict e = ap conflict_among h.0.0.sources in
-    let shared : is_number ms r.name ≡ is_among ns e.name = sym (same e.name r.name h.0.0.name) in
+    let shared : has_number ms r.name ≡ is_among ns e.name = sym (same e.name r.name h.0.0.name) in
     let later = slate_same names environment tags is es rs (k + 1) ns ms h.1 same in
     let after = slate_same names environment tags is es rs (k + 1) (e.name ∷ ns) (r.name ∷ ms) h.1 (more_names names is ns ms e.name r.name h.0.0.name same) in
-    stand_equal names environment tags k e r h.0 (standing e environment) r.verdict.standing stands (is_among ns e.name) (is_number ms r.name) shared (has_conflict e) (conflict_among r.sources) conflict
+    stand_equal names environment tags k e r h.0 (standing e environment) r.verdict.standing stands (is_among ns e.name) (has_number ms r.name) shared (has_conflict e) (conflict_among r.sources) conflict
     (slate (in_rows (k + 1) es) environment ns) (slate (in_rows (k + 1) es) environment (e.name ∷ ns)) (slate_rows (in_rows (k + 1) rs) ms) (slate_rows (in_rows (k + 1) rs) (r.name ∷ ms)) later after
 
 sdist_same : (file : Option FileValue) (policy : Policy) (e : EntryValue) → e.sdist ≡ file → sdist_source e policy ≡ file_source None (is_some file) policy
@@ -277,12 +277,12 @@ sdist_same (Some file) Any e is = ap (option_map (λ sdist. source.Sdist)) is
 sdist_same (Some file) Wheel e is = refl
 sdist_same (Some file) Source e is = ap (option_map (λ sdist. source.Sdist)) is
 
-source_same : (e : EntryValue) (tags : List TagValue) (policy : Policy) → source_of e tags policy ≡ source_from (sources_of e) (best_wheel e tags policy) policy
+source_same : (e : EntryValue) (tags : List TagValue) (policy : Policy) → source_of e tags policy ≡ source_among (sources_of e) (best_wheel e tags policy) policy
 source_same e tags policy = by e.vcs e.directory e.archive (best_wheel e tags policy)
   where
     by : (vcs : Option VcsValue) (directory : Option DirectoryValue) (archive : Option ArchiveValue) (best : Option ℕ)
         → either (option_map (λ vcs. source.Vcs) vcs) (either (option_map (λ directory. source.Directory) directory) (either (option_map (λ archive. source.Archive) archive) (either (option_map source.Wheel best) (sdist_source e policy))))
-        ≡ source_from (record { vcs = is_some vcs; directory = is_some directory; archive = is_some archive; sdist = is_some e.sdist; wheels = (sources_of e).wheels }) best policy
+        ≡ source_among (record { vcs = is_some vcs; directory = is_some directory; archive = is_some archive; sdist = is_some e.sdist; wheels = (sources_of e).wheels }) best policy
     by (Some v) d a b = refl
     by None (Some d) a b = refl
     by None None (Some a) b = refl
@@ -300,8 +300,8 @@ picks_same names environment tags (x ∷ xs) (y ∷ ys) h =
     let best : best_wheel x.1 tags (policy_at names.policies.items y.1.name) ≡ y.1.verdict.best = sym (ap (λ v. v.best) h.1.1) in
     let chosen : source_of x.1 tags (policy_of (policies_in names) x.1.name) ≡ row_source y.1 (policy_at names.policies.items y.1.name) =
     ap (source_of x.1 tags) policy ∙ source_same x.1 tags (policy_at names.policies.items y.1.name)
-    ∙ ap (λ s. source_from s (best_wheel x.1 tags (policy_at names.policies.items y.1.name)) (policy_at names.policies.items y.1.name)) (sym named.sources)
-    ∙ ap (λ b. source_from y.1.sources b (policy_at names.policies.items y.1.name)) best in
+    ∙ ap (λ s. source_among s (best_wheel x.1 tags (policy_at names.policies.items y.1.name)) (policy_at names.policies.items y.1.name)) (sym named.sources)
+    ∙ ap (λ b. source_among y.1.sources b (policy_at names.policies.items y.1.name)) best in
     ap (λ n. pick_before n (source_of x.1 tags (policy_of (policies_in names) x.1.name)) (picks xs tags (policies_in names))) h.0
     ∙ ap (λ s. pick_before y.0 s (picks xs tags (policies_in names))) chosen
     ∙ ap (pick_before y.0 (row_source y.1 (policy_at names.policies.items y.1.name))) (picks_same names environment tags xs ys h.2)

@@ -7,7 +7,7 @@ use Rattle.std.proofs.lemmas.List.{get_or-map, get_or_default, length-map}
 use Rattle.pylock_readers.specs.Entry.{EntryValue}
 use Rattle.pylock_core.specs.Inner.Index.{AllRise, HaveRoom, list_at, moved, numbers_in}
 use Rattle.pylock_core.specs.Session.State.{Rises}
-use Rattle.pylock_core.specs.Inner.Names.{HasRoom, IsNames, is_at, members_under, number_in}
+use Rattle.pylock_core.specs.Inner.Names.{HasRoom, IsNames, is_at, members_under, number_named}
 use Rattle.pylock_core.specs.Inner.Parts.{AreMembers, IsIndex, IsNamed, IsSession, OfBoth, OfRows, shown, state_of, verdict_in}
 use Rattle.pylock_core.specs.Inner.Rows.{in_rows, passes}
 use Rattle.pylock_readers.specs.Lock.{HeadValue}
@@ -54,7 +54,7 @@ row_room names None h = tt
 row_room names (Some r) h = h
 
 -- what stands under the number of a name
-under : (names : Names) (es : List (Option EntryValue)) (q : List ℕ) (n : ℕ) → AreMembers names es → number_in names q ≡ Some n
+under : (names : Names) (es : List (Option EntryValue)) (q : List ℕ) (n : ℕ) → AreMembers names es → number_named names q ≡ Some n
     → list_at names.members.items n ≡ passing (λ entry. bytes_eq q entry.name) 1 es
 under names es q n members has = sym (ap (members_under names.members.items) has) ∙ members q
 
@@ -69,7 +69,7 @@ row_rises names es (Some e) (Some r) members h =
 -- ---- the entries of each name
 
 -- by the number of its name, whether an entry has a name
-named_at : (names : Names) (q : List ℕ) (n : ℕ) (e : Option EntryValue) (r : Option Row) → IsNames names → number_in names q ≡ Some n → OfBoth (IsNamed names) e r
+named_at : (names : Names) (q : List ℕ) (n : ℕ) (e : Option EntryValue) (r : Option Row) → IsNames names → number_named names q ≡ Some n → OfBoth (IsNamed names) e r
     → is_at n (row_name r) ≡ passes (λ entry. bytes_eq q entry.name) e
 named_at names q n None None is has h = refl
 named_at names q n None (Some r) is has h = absurd h
@@ -77,27 +77,27 @@ named_at names q n (Some e) None is has h = absurd h
 named_at names q n (Some e) (Some r) is has h = sym (same_number names is q e.name n r.name has h.name)
 
 -- a name with no number is no entry's
-unnamed : (names : Names) (q : List ℕ) (e : Option EntryValue) (r : Option Row) → number_in names q ≡ None → OfBoth (IsNamed names) e r
+unnamed : (names : Names) (q : List ℕ) (e : Option EntryValue) (r : Option Row) → number_named names q ≡ None → OfBoth (IsNamed names) e r
     → passes (λ entry. bytes_eq q entry.name) e ≡ false
 unnamed names q None r none h = refl
 unnamed names q (Some e) None none h = absurd h
 unnamed names q (Some e) (Some r) none h =
-    text_other q e.name (λ same. no_number (number_in names q) r.name none (ap (number_in names) same ∙ h.name))
+    text_other q e.name (λ same. no_number (number_named names q) r.name none (ap (number_named names) same ∙ h.name))
 
 pub members_written : (names new : Names) (es : List (Option EntryValue)) (place number : ℕ) (old e : Option EntryValue) (gone r : Option Row)
     → IsNames names → old ≡ get_or es place None → OfBoth (IsNamed names) old gone → OfBoth (IsNamed names) e r → AreMembers names es → number ≡ 1 + place → place < length es
-    → ((q : List ℕ) → number_in new q ≡ number_in names q)
+    → ((q : List ℕ) → number_named new q ≡ number_named names q)
     → ((n : ℕ) → list_at new.members.items n ≡ moved number (is_at n (row_name gone)) (is_at n (row_name r)) (list_at names.members.items n))
     → AreMembers new (set es place e)
 members_written names new es place number old e gone r is there before after members here within numbers moves q =
-    ap (members_under new.members.items) (numbers q) ∙ by (number_in names q) refl
+    ap (members_under new.members.items) (numbers q) ∙ by (number_named names q) refl
     ∙ ap (λ o. moved number (passes test o) (passes test e) (passing test 1 es)) there
     ∙ sym (passing_set test number 1 place es e here within)
   where
     test : EntryValue → Bool
     test entry = bytes_eq q entry.name
 
-    by : (found : Option ℕ) → number_in names q ≡ found → members_under new.members.items found ≡ moved number (passes test old) (passes test e) (passing test 1 es)
+    by : (found : Option ℕ) → number_named names q ≡ found → members_under new.members.items found ≡ moved number (passes test old) (passes test e) (passing test 1 es)
     by None has =
         let nothing : passing test 1 es ≡ [] = sym (members q) ∙ ap (members_under names.members.items) has in
         sym (ap (λ b. moved number b (passes test e) (passing test 1 es)) (unnamed names q old gone has before)
@@ -170,17 +170,17 @@ pub shown_index : (p : Parts) (lists : _) → numbers_in lists ≡ numbers_in p.
 shown_index p lists kept = ap (λ all. record (shown p) { index = all }) kept
 
 -- names that keep all but room
-pub kept_numbers : (old new : Names) → ((q : List ℕ) → number_in new q ≡ number_in old q) → (q : List ℕ) (n : ℕ) → number_in old q ≡ Some n → number_in new q ≡ Some n
+pub kept_numbers : (old new : Names) → ((q : List ℕ) → number_named new q ≡ number_named old q) → (q : List ℕ) (n : ℕ) → number_named old q ≡ Some n → number_named new q ≡ Some n
 kept_numbers old new numbers q n has = numbers q ∙ has
 
-pub named_as : (old new : Names) → ((q : List ℕ) → number_in new q ≡ number_in old q) → (e : EntryValue) (r : Row) → IsNamed old e r → IsNamed new e r
+pub named_as : (old new : Names) → ((q : List ℕ) → number_named new q ≡ number_named old q) → (e : EntryValue) (r : Row) → IsNamed old e r → IsNamed new e r
 named_as old new numbers e r h = record { name = numbers e.name ∙ h.name; sources = h.sources }
 
-pub rows_named_as : (old new : Names) → ((q : List ℕ) → number_in new q ≡ number_in old q) → (es : List (Option EntryValue)) (rs : List (Option Row))
+pub rows_named_as : (old new : Names) → ((q : List ℕ) → number_named new q ≡ number_named old q) → (es : List (Option EntryValue)) (rs : List (Option Row))
     → OfRows (IsNamed old) es rs → OfRows (IsNamed new) es rs
 rows_named_as old new numbers es rs h = of_rows_weaker (IsNamed old) (IsNamed new) (named_as old new numbers) es rs h
 
-pub both_named_as : (old new : Names) → ((q : List ℕ) → number_in new q ≡ number_in old q) → (e : Option EntryValue) (r : Option Row)
+pub both_named_as : (old new : Names) → ((q : List ℕ) → number_named new q ≡ number_named old q) → (e : Option EntryValue) (r : Option Row)
     → OfBoth (IsNamed old) e r → OfBoth (IsNamed new) e r
 both_named_as old new numbers e r h = of_both_weaker (IsNamed old) (IsNamed new) (named_as old new numbers) e r h
 

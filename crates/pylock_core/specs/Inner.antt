@@ -6,3 +6,4 @@ pub mod Parts
 pub mod Pass
 pub mod Progress
 pub mod Rows
+pub mod Slated

@@ -9,6 +9,7 @@ pub(crate) mod parts;
 pub(crate) mod pass;
 pub(crate) mod room;
 pub(crate) mod row;
+pub(crate) mod slated;
 pub(crate) mod verdict;
 
 ghost use Rattle.std.specs.Prelude.{◌≡◌, Ok, Err, IfOk, IfErr, OnOk, IsTrue, length};
@@ -90,8 +91,9 @@ impl Session {
     /// extras, the groups or the tags that are edited, for the entry that is brought, or for each
     /// entry of the policy's name. A refused edit is dropped and leaves the session as it was.
     ///
-    /// Takes memory for the verdicts that it makes and the numbers of their entries, and for what it
-    /// brings: the text of a variable, a name, the row and the places of an entry. `Del` takes none.
+    /// Takes memory for the verdicts that it makes and the numbers of their entries, and for what
+    /// it brings: the text of a variable, a name, the row and the places of an entry. `Del` takes
+    /// none.
     pub fn edit(&mut self, edit: Edit) -> Result<u64, EditError>
         ensures accepted { OnOk result (apply edit self.old.state ≡ Ok self.new.state) }
         ensures refused { IfErr result (λ error. (error ≡ Memory → ⊥)
@@ -108,7 +110,7 @@ impl Session {
     }
 
     /// The answer of the installation steps (PEP 751) on the state as it stands. Changes nothing;
-    /// takes memory for a stamp for each name and a pick for each number that was given out.
+    /// takes memory for the names that are slated and a pick for each number that was given out.
     pub fn answer(&self) -> Result<Answer, AllocError>
         ensures { IfOk result (λ found. found ≡ answer self.now.state) }
     {

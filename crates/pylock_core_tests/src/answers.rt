@@ -41,6 +41,12 @@ fn the_head_comes_first(rt: HostRuntime) -> Result<(), Fail> {
         ("", "", "plan"),
         ("environments = []", "", "plan"),
         ("requires-python = '>=3.9'", "", "fault 0 PythonUnknown"),
+        ("requires-python = ''", "", "fault 0 PythonUnknown"),
+        (
+            "requires-python = ''",
+            "'python_full_version':'3.9.0'",
+            "plan",
+        ),
         (
             "requires-python = '>=3.9'",
             "'python_full_version':'x'",
@@ -120,6 +126,10 @@ fn entries_are_slated_in_order(rt: HostRuntime) -> Result<(), Fail> {
         ),
         (
             "{name = 'a', requires-python = '>=3.9', D}",
+            "fault 1 PythonUnknown",
+        ),
+        (
+            "{name = 'a', requires-python = '', D}",
             "fault 1 PythonUnknown",
         ),
         (

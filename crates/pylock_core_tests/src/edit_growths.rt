@@ -1,6 +1,6 @@
-//! Edits of every kind, whose growths are refused in turn: a refused edit leaves the answer and the
-//! judged numbers as they were, and with memory it then makes what it makes in a session that met
-//! no refusal.
+//! Edits of every kind, whose growths are refused in turn: a refused edit leaves the entries, the
+//! answer and the judged numbers as they were, and with memory it then makes what it makes in a
+//! session that met no refusal.
 use crate::sessions::{answer, label, session};
 use pylock_core::{Edit, EditError, Entry, Policy, Session};
 use pymark_core::Var;
@@ -8,14 +8,18 @@ use pywheel_core::TagList;
 use std::alloc::{AllocError, Global};
 use std::process::Abort;
 
-/// An edit as a word, a number and a text; the numbers that it judges; and the answer after it.
-type Step = (
-    &'static str,
-    u32,
-    &'static str,
-    &'static [u32],
-    &'static str,
-);
+/// What a session shows: the numbers judged last, the name of the entry of each number, `-` where
+/// none is, and the answer.
+type Shown = (&'static [u32], [&'static str; 4], &'static str);
+
+/// An edit as a word, a number and a text, and what the session shows after it.
+type Step = (&'static str, u32, &'static str, Shown);
+
+const THREE: [&str; 4] = ["a", "b", "c", "-"];
+
+const FOUR: [&str; 4] = ["a", "b", "c", "d"];
+
+const LAST_PUT: [&str; 4] = ["a", "b", "c", "e"];
 
 const LINES: &str = "extras = [\"x\"]\ndependency-groups = [\"dev\"]\npackages = [\
     {name=\"a\", sdist={path=\"a-1.tar.gz\"}, wheels=[{path=\"a-1-py3-none-any.whl\"}]}, \
@@ -25,51 +29,65 @@ const LINES: &str = "extras = [\"x\"]\ndependency-groups = [\"dev\"]\npackages =
 
 const MEMBERS: &str = "\"os_name\":\"posix\",\"python_full_version\":\"3.12.0\"";
 
+/// What the session shows at its start.
+const START: Shown = (&[0, 1, 2, 3], THREE, "plan 1 Wheel(0)");
+
 /// Each kind of edit, each after those before it.
-const STEPS: [Step; 13] = [
-    ("extra", 0, "x", &[2], "plan 1 Wheel(0) 2 Directory"),
+const STEPS: [Step; 14] = [
+    (
+        "extra",
+        0,
+        "x",
+        (&[2], THREE, "plan 1 Wheel(0) 2 Directory"),
+    ),
     (
         "group",
         0,
         "dev",
-        &[3],
-        "plan 1 Wheel(0) 2 Directory 3 Directory",
+        (&[3], THREE, "plan 1 Wheel(0) 2 Directory 3 Directory"),
     ),
     (
         "python_full_version",
         0,
         "3.8",
-        &[3],
-        "fault 3 PythonNotMet",
+        (&[3], THREE, "fault 3 PythonNotMet"),
     ),
     (
         "unset python_full_version",
         0,
         "",
-        &[3],
-        "fault 3 PythonUnknown",
+        (&[3], THREE, "fault 3 PythonUnknown"),
     ),
-    ("drop group", 0, "dev", &[3], "plan 1 Wheel(0) 2 Directory"),
-    ("tags", 0, "", &[1], "plan 1 Sdist 2 Directory"),
-    ("wheel", 0, "A", &[1], "fault 1 NoFile"),
-    ("source", 0, "a", &[1], "plan 1 Sdist 2 Directory"),
+    (
+        "drop group",
+        0,
+        "dev",
+        (&[3], THREE, "plan 1 Wheel(0) 2 Directory"),
+    ),
+    ("tags", 0, "", (&[1], THREE, "plan 1 Sdist 2 Directory")),
+    ("wheel", 0, "A", (&[1], THREE, "fault 1 NoFile")),
+    ("source", 0, "a", (&[1], THREE, "plan 1 Sdist 2 Directory")),
+    ("wheel", 0, "zz", (&[], THREE, "plan 1 Sdist 2 Directory")),
     (
         "add",
         0,
         "{name=\"d\", directory={path=\"d\"}}",
-        &[4],
-        "plan 1 Sdist 2 Directory 4 Directory",
+        (&[4], FOUR, "plan 1 Sdist 2 Directory 4 Directory"),
     ),
     (
         "put",
         4,
-        "{name=\"d\", marker=\"os_name == 'nt'\", vcs={type=\"git\", commit-id=\"f\", url=\"u\"}}",
-        &[4],
-        "plan 1 Sdist 2 Directory",
+        "{name=\"e\", marker=\"os_name == 'nt'\", vcs={type=\"git\", commit-id=\"f\", url=\"u\"}}",
+        (&[4], LAST_PUT, "plan 1 Sdist 2 Directory"),
     ),
-    ("os_name", 0, "nt", &[4], "plan 1 Sdist 2 Directory 4 Vcs"),
-    ("drop extra", 0, "x", &[2], "plan 1 Sdist 4 Vcs"),
-    ("del", 4, "", &[], "plan 1 Sdist"),
+    (
+        "os_name",
+        0,
+        "nt",
+        (&[4], LAST_PUT, "plan 1 Sdist 2 Directory 4 Vcs"),
+    ),
+    ("drop extra", 0, "x", (&[2], LAST_PUT, "plan 1 Sdist 4 Vcs")),
+    ("del", 4, "", (&[], THREE, "plan 1 Sdist")),
 ];
 
 /// Whether the session's answer, where memory allows one, is this.
@@ -80,7 +98,27 @@ fn answers(alloc: Global, session: &Session, wanted: &str) -> bool {
     }
 }
 
-/// The edit of a step that has a name or a text, where memory allows it.
+/// Whether the entry of the number has this name, or `-` stands for none.
+fn is_named(session: &Session, number: u32, name: &str) -> bool {
+    session.entry(number).map_or("-", Entry::name) == name
+}
+
+/// Whether the entries of the first four numbers have these names.
+fn are_entries(session: &Session, names: [&str; 4]) -> bool {
+    let [first, second, third, fourth] = names;
+    is_named(session, 1, first)
+        && is_named(session, 2, second)
+        && is_named(session, 3, third)
+        && is_named(session, 4, fourth)
+}
+
+/// Whether the session shows this.
+fn shows(alloc: Global, session: &Session, wanted: Shown) -> bool {
+    let (judged, names, answer) = wanted;
+    session.judged() == judged && are_entries(session, names) && answers(alloc, session, answer)
+}
+
+/// The edit of a step that has a name or a text, where memory allows it; none for a wrong word.
 fn named(alloc: Global, word: &str, text: &str) -> Option<Edit> {
     let text = label(alloc, text).ok()?;
     match word {
@@ -91,14 +129,15 @@ fn named(alloc: Global, word: &str, text: &str) -> Option<Edit> {
         "wheel" => Some(Edit::Policy(text, Policy::Wheel)),
         "source" => Some(Edit::Policy(text, Policy::Source)),
         "os_name" => Some(Edit::Set(Var::OsName, text)),
-        _ => Some(Edit::Set(Var::PythonFullVersion, text)),
+        "python_full_version" => Some(Edit::Set(Var::PythonFullVersion, text)),
+        _ => None,
     }
 }
 
 /// The edit of a step, where memory allows it.
 fn edit(alloc: Global, step: Step) -> Option<Edit> {
     match step.0 {
-        "unset" => Some(Edit::Unset(Var::PythonFullVersion)),
+        "unset python_full_version" => Some(Edit::Unset(Var::PythonFullVersion)),
         "tags" => Some(Edit::Tags(TagList::parse(alloc, &[]).ok()?)),
         "add" => Some(Edit::Add(Entry::read_text(alloc, step.2).ok()?)),
         "put" => Some(Edit::Put(step.1, Entry::read_text(alloc, step.2).ok()?)),
@@ -118,39 +157,25 @@ fn made(alloc: Global, session: &mut Session, step: Step) -> Option<u64> {
 }
 
 /// Makes the step, a second time where memory was refused at the first; whether all is as it is to
-/// be: a refused edit left the numbers judged before and the answer before.
-fn is_whole(
-    alloc: Global,
-    session: &mut Session,
-    step: Step,
-    judged: &[u32],
-    before: &str,
-) -> bool {
+/// be: a refused edit left all that the session showed before.
+fn is_whole(alloc: Global, session: &mut Session, step: Step, before: Shown) -> bool {
     let made = match made(alloc, session, step) {
         Some(judgements) => Some(judgements),
         None => {
-            if session.judged() != judged || !answers(alloc, session, before) {
+            if !shows(alloc, session, before) {
                 return false;
             }
             made(alloc, session, step)
         }
     };
-    made == Some(step.3.len() as u64)
-        && session.judged() == step.3
-        && answers(alloc, session, step.4)
+    made == Some(step.3.0.len() as u64) && shows(alloc, session, step.3)
 }
 
 fn check_steps<R: Abort + AllocGlobal>(rt: &R, session: &mut Session) {
-    let mut judged: &[u32] = &[0, 1, 2, 3];
-    let mut before = "plan 1 Wheel(0)";
+    let mut before = START;
     for step in STEPS {
-        assert!(rt;
-            is_whole(rt.alloc(), session, step, judged, before),
-            "{}",
-            step.0
-        );
-        judged = step.3;
-        before = step.4;
+        assert!(rt; is_whole(rt.alloc(), session, step, before), "{}", step.0);
+        before = step.3;
     }
 }
 

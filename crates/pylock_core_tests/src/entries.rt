@@ -1,5 +1,5 @@
 //! Entries: their refusals in order, and what they tell.
-use crate::locks::with_head;
+use crate::locks::{enclosed, with_head};
 use pylock_core::{Entry, EntryError, Lock};
 use pymark_core::Marker;
 use pyver_core::SpecifierSet;
@@ -60,12 +60,37 @@ fn entries_are_refused_at_their_first_fault(rt: HostRuntime) -> Result<(), Fail>
         ),
         ("{name = \"a\", marker = 1}", "Marker"),
         ("{name = \"a\", marker = \"\"}", "Marker"),
+        ("{name = \"a\", marker = \"extras == 'x'\"}", "Marker"),
+        (
+            "{name = \"a\", marker = \"dependency_groups in 'x'\"}",
+            "Marker",
+        ),
+        ("{name = \"a\", marker = \"'x' not in extras\"}", "ok"),
         ("{name = \"a\", requires-python = \"x\"}", "RequiresPython"),
         ("{name = \"a\", requires-python = \"\"}", "ok"),
+        (
+            "{name = \"a\", requires-python = \"<340282366920938463463374607431768211455\"}",
+            "ok",
+        ),
+        (
+            "{name = \"a\", requires-python = \"<340282366920938463463374607431768211456\"}",
+            "RequiresPython",
+        ),
         ("{name = \"a\", unknown = 1}", "ok"),
     ];
     for (text, wanted) in cases {
         assert_eq!(rt; refusal(alloc, text)?.as_str(), wanted, "{text}");
+    }
+    Ok(())
+}
+
+#[test]
+fn a_marker_has_at_most_64_open_parentheses(rt: HostRuntime) -> Result<(), Fail> {
+    let alloc = rt.alloc();
+    for (count, wanted) in [(64, "ok"), (65, "Marker")] {
+        let marker = enclosed(alloc, count)?;
+        let text = format!(in alloc; "{{name = \"a\", marker = \"{marker}\"}}")?;
+        assert_eq!(rt; refusal(alloc, text.as_str())?.as_str(), wanted, "{count}");
     }
     Ok(())
 }

@@ -15,7 +15,7 @@ fn refusal(alloc: Global, bytes: &[u8]) -> Result<String, AllocError> {
 #[test]
 fn environments_are_refused_at_their_first_fault(rt: HostRuntime) -> Result<(), Fail> {
     let alloc = rt.alloc();
-    let cases: [(&[u8], &str); 16] = [
+    let cases: [(&[u8], &str); 20] = [
         (b"{\"environment\":{},\"tags\":[]}", "ok"),
         (
             b"{\"environment\":{\"os_name\":\"posix\",\"x\":1},\"tags\":[],\"y\":2}",
@@ -29,6 +29,22 @@ fn environments_are_refused_at_their_first_fault(rt: HostRuntime) -> Result<(), 
         (b"\xFF", "Json"),
         (b"\xEF\xBB\xBF{\"environment\":{},\"tags\":[]}", "Json"),
         (b"{\"environment\":{},\"tags\":[],\"x\":1e999}", "Json"),
+        (
+            b"{\"environment\":{\"os_name\":\"\\uD83D\\uDE00\"},\"tags\":[]}",
+            "ok",
+        ),
+        (
+            b"{\"environment\":{\"os_name\":\"\\uD83D\"},\"tags\":[]}",
+            "Json",
+        ),
+        (
+            b"{\"environment\":{},\"tags\":[],\"x\":\"\\uDE00\"}",
+            "Json",
+        ),
+        (
+            b"{\"environment\":{\"x\":\"\\uD83D-\"},\"tags\":[]}",
+            "Json",
+        ),
         (b"{\"environment\":{}}", "Shape"),
         (b"{\"tags\":[]}", "Shape"),
         (b"[]", "Shape"),
@@ -44,6 +60,28 @@ fn environments_are_refused_at_their_first_fault(rt: HostRuntime) -> Result<(), 
     ];
     for (bytes, wanted) in cases {
         assert_eq!(rt; refusal(alloc, bytes)?.as_str(), wanted);
+    }
+    Ok(())
+}
+
+/// An environment of arrays within arrays, as a member that is ignored.
+fn nested(alloc: Global, count: usize) -> Result<String, AllocError> {
+    let open = "[".repeat(alloc, count)?;
+    let close = "]".repeat(alloc, count)?;
+    format!(in alloc; "{{\"environment\":{{}},\"tags\":[],\"x\":{open}{close}}}")
+}
+
+/// `serde_json` takes 127 arrays and objects that are open, one of them the environment's own.
+#[test]
+fn an_ignored_member_is_not_too_deep(rt: HostRuntime) -> Result<(), Fail> {
+    let alloc = rt.alloc();
+    for (count, wanted) in [(126, "ok"), (127, "Json"), (10_000, "Json")] {
+        let text = nested(alloc, count)?;
+        assert_eq!(rt;
+            refusal(alloc, text.as_bytes())?.as_str(),
+            wanted,
+            "{count}"
+        );
     }
     Ok(())
 }

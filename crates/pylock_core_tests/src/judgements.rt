@@ -1,6 +1,6 @@
 //! What each edit judges again: the count that it answers, and the numbers.
 use crate::sessions::{entry, label, session};
-use pylock_core::{Edit, Policy, Session};
+use pylock_core::{Edit, Entry, Policy, Session};
 use pymark_core::Var;
 use pywheel_core::TagList;
 use std::alloc::{AllocError, Global};
@@ -87,13 +87,24 @@ pub(super) fn edit(alloc: Global, word: &str, number: u32, text: &str) -> Result
     }
 }
 
-/// The first step that judges something else, with what it judges; nothing where there is none.
+/// What a step judges; or, where its word is `entry`, the name of the entry of its number.
+fn told(alloc: Global, session: &mut Session, step: Step) -> Result<String, Fail> {
+    let (word, number, text, _) = step;
+    if word == "entry" {
+        let name = session.entry(number).map_or("none", Entry::name);
+        return Ok(String::from_str(alloc, name)?);
+    }
+    let edit = edit(alloc, word, number, text)?;
+    Ok(judged(alloc, session, edit)?)
+}
+
+/// The first step that tells something else, with what it tells; nothing where there is none.
 fn first_wrong(alloc: Global, session: &mut Session, steps: &[Step]) -> Result<String, Fail> {
-    for (word, number, text, wanted) in steps.iter().copied() {
-        let edit = edit(alloc, word, number, text)?;
-        let judged = judged(alloc, session, edit)?;
-        if judged.as_str() != wanted {
-            return Ok(format!(in alloc; "{word} {number} {text}: {judged}")?);
+    for step in steps.iter().copied() {
+        let told = told(alloc, session, step)?;
+        let (word, number, text, wanted) = step;
+        if told.as_str() != wanted {
+            return Ok(format!(in alloc; "{word} {number} {text}: {told}")?);
         }
     }
     Ok(String::new(alloc))
@@ -119,14 +130,16 @@ fn each_edit_judges_what_reads_its_key(rt: HostRuntime) -> Result<(), Fail> {
         {name=\"b\", requires-python=\">=3.8\", directory={path=\"b\"}}, \
         {name=\"c\", version=\"1\", wheels=[{path=\"w/c-1-py3-none-any.whl\"}]}, \
         {name=\"d\", directory={path=\"d\"}}]";
-    let steps: [Step; 12] = [
+    let steps: [Step; 14] = [
         ("os_name", 0, "posix", "1 [1]"),
         ("python_full_version", 0, "3.13.0", "2 [0, 2]"),
         ("tags", 0, "", "1 [3]"),
         ("extra", 0, "x", "0 []"),
         ("add", 0, "{name=\"e\", directory={path=\"e\"}}", "1 [5]"),
+        ("entry", 5, "", "e"),
         ("put", 4, "{name=\"d\", directory={path=\"f\"}}", "1 [4]"),
         ("del", 5, "", "0 []"),
+        ("entry", 5, "", "none"),
         ("unset os_name", 0, "", "1 [1]"),
         ("del", 5, "", "NoEntry"),
         ("put", 5, "{name=\"d\", directory={path=\"f\"}}", "NoEntry"),

@@ -39,7 +39,7 @@ fn push_joined(text: &mut String, names: &[String]) -> Result<(), AllocError> {
 #[test]
 fn locks_are_refused_at_their_first_fault(rt: HostRuntime) -> Result<(), Fail> {
     let alloc = rt.alloc();
-    let cases: [(&[u8], &str); 12] = [
+    let cases: [(&[u8], &str); 13] = [
         (b"\xFF", "NotText"),
         (b"created-by = \"\xC3", "NotText"),
         (b"lock-version = \"1.0\"\ncreated-by = \"\xC3", "NotText"),
@@ -52,6 +52,10 @@ fn locks_are_refused_at_their_first_fault(rt: HostRuntime) -> Result<(), Fail> {
         (b"lock-version = \"1.0\"", "CreatedBy"),
         (b"lock-version = \"1.0\"\ncreated-by = 1", "CreatedBy"),
         (b"lock-version = \"1.12\"\ncreated-by = \"\"", "ok"),
+        (
+            b"\xEF\xBB\xBFlock-version = \"1.0\"\ncreated-by = \"t\"",
+            "ok",
+        ),
     ];
     for (bytes, wanted) in cases {
         assert_eq!(rt; refusal(alloc, bytes)?.as_str(), wanted);
@@ -98,9 +102,19 @@ fn keys_of_the_head_are_judged_in_order(rt: HostRuntime) -> Result<(), Fail> {
             "Head(Environments)",
         ),
         ("environments = []", "ok"),
+        ("environments = [\"extras == 'x'\"]", "Head(Environments)"),
+        ("environments = [\"'x' in extras\"]", "ok"),
         ("requires-python = 1", "Head(RequiresPython)"),
         ("requires-python = \">=3.9, <4\"", "ok"),
         ("requires-python = \"\"", "ok"),
+        (
+            "requires-python = \">=340282366920938463463374607431768211455\"",
+            "ok",
+        ),
+        (
+            "requires-python = \">=340282366920938463463374607431768211456\"",
+            "Head(RequiresPython)",
+        ),
         ("extras = {}", "Head(Extras)"),
         ("extras = [\"-\"]", "Head(Extras)"),
         ("extras = [\"a\", 1]", "Head(Extras)"),
@@ -124,6 +138,29 @@ fn keys_of_the_head_are_judged_in_order(rt: HostRuntime) -> Result<(), Fail> {
     for (text, wanted) in cases {
         let lock = with_head(alloc, text)?;
         assert_eq!(rt; refusal(alloc, lock.as_bytes())?.as_str(), wanted, "{text}");
+    }
+    Ok(())
+}
+
+/// A marker in so many parentheses.
+pub(super) fn enclosed(alloc: Global, count: usize) -> Result<String, AllocError> {
+    let open = "(".repeat(alloc, count)?;
+    let close = ")".repeat(alloc, count)?;
+    format!(in alloc; "{open}os_name == 'nt'{close}")
+}
+
+#[test]
+fn an_environment_has_at_most_64_open_parentheses(rt: HostRuntime) -> Result<(), Fail> {
+    let alloc = rt.alloc();
+    for (count, wanted) in [(64, "ok"), (65, "Head(Environments)")] {
+        let marker = enclosed(alloc, count)?;
+        let environments = format!(in alloc; "environments = [\"{marker}\"]")?;
+        let lock = with_head(alloc, environments.as_str())?;
+        assert_eq!(rt;
+            refusal(alloc, lock.as_bytes())?.as_str(),
+            wanted,
+            "{count}"
+        );
     }
     Ok(())
 }

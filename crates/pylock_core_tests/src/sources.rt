@@ -116,6 +116,22 @@ fn an_sdist_tells_its_keys(rt: HostRuntime) -> Result<(), Fail> {
     Ok(())
 }
 
+fn check_empty_path<R: Abort>(rt: &R, sdist: &Sdist) {
+    assert_eq!(rt; sdist.path(), Some(""));
+    assert_eq!(rt; sdist.place(), "");
+    assert_eq!(rt; sdist.file_name(), Some("u"));
+}
+
+#[test]
+fn an_empty_path_is_the_place(rt: HostRuntime) -> Result<(), Fail> {
+    let entry = entry_with(rt.alloc(), "sdist = {path = \"\", url = \"h/u\"}")?;
+    match entry.sdist() {
+        Some(sdist) => check_empty_path(&rt, sdist),
+        None => assert!(rt; false, "no sdist"),
+    }
+    Ok(())
+}
+
 fn check_wheels<R: Abort + AllocGlobal>(rt: &R, wheels: &[WheelFile]) {
     let [first, second, third] = wheels else {
         assert!(rt; false, "not three wheels");
@@ -181,6 +197,7 @@ fn file_names_come_from_name_path_or_url(rt: HostRuntime) -> Result<(), Fail> {
     let cases = [
         (Some("n"), Some("d/p"), Some("h/u"), Some("n")),
         (Some(""), Some("d/p"), Some("h/u"), Some("p")),
+        (None, Some(""), Some("h/u"), Some("u")),
         (None, Some("d\\p"), None, Some("p")),
         (None, Some("d/e\\"), Some("h/u"), Some("u")),
         (None, None, Some(url), Some(wheel)),

@@ -1,5 +1,5 @@
 -- The index of a session as its lists of numbers, one for each key.
-use Rattle.std.specs.Prelude.{ℕ, ◌+◌, ◌<◌, ◌≤◌, ◌==◌, nat_lt, Bool, true, false, ◌&&◌, ◌||◌, IsTrue}
+use Rattle.std.specs.Prelude.{ℕ, ◌<◌, ◌≤◌, ◌==◌, nat_lt, Bool, true, false, ◌&&◌, ◌||◌, IsTrue}
 use Rattle.std.specs.Prelude.{List, [], ◌∷◌, map, slice_index_or, vec_len, vec_capacity}
 use Rattle.std.specs.Prelude.{if◌then◌else◌}
 use Rattle.std.specs.Global.{Global}

@@ -20,8 +20,8 @@ pub record IsNumbering (number : List ℕ → Option ℕ) (count : ℕ) : Type 0
       → number one ≡ Some n → number other ≡ Some n → one ≡ other
 
 -- the number of a name
-abbrev pub number_in : Names → List ℕ → Option ℕ
-number_in names name = get_by_text names.numbers name
+abbrev pub number_named : Names → List ℕ → Option ℕ
+number_named names name = get_by_text names.numbers name
 
 -- the policy under a number
 abbrev pub policy_at : List Policy → ℕ → Policy
@@ -41,8 +41,8 @@ abbrev pub members_under : List (Vec ℕ Global) → Option ℕ → List ℕ
 members_under members None = []
 members_under members (Some n) = list_at members n
 
-abbrev pub members_of : Names → List ℕ → List ℕ
-members_of names name = members_under names.members.items (number_in names name)
+abbrev pub members_named : Names → List ℕ → List ℕ
+members_named names name = members_under names.members.items (number_named names name)
 
 -- whether a number is this one
 abbrev pub is_at : ℕ → Option ℕ → Bool
@@ -51,7 +51,7 @@ is_at n (Some m) = nat_eq n m
 
 -- each name has a number of its own, and under it a policy and entries
 pub record IsNames (names : Names) : Type 0 where
-  pub numbering : IsNumbering (number_in names) (length names.policies.items)
+  pub numbering : IsNumbering (number_named names) (length names.policies.items)
   pub even : length names.members.items ≡ length names.policies.items
 
 -- under the number there is room for one more entry

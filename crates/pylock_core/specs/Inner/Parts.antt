@@ -7,7 +7,8 @@ use Rattle.std.specs.declared.vec.Vec.{Vec}
 use Rattle.pymark_core.specs.Environment.{EnvironmentValue}
 use Rattle.pywheel_core.specs.Tag.{TagValue}
 use Rattle.pylock_readers.specs.Entry.{EntryValue}
-use Rattle.pylock_core.specs.Inner.Names.{IsNames, members_of, number_in, policies_in, policy_at}
+use Rattle.pylock_core.specs.Inner.Names.{IsNames, members_named, number_named, policies_in}
+use Rattle.pylock_core.specs.Inner.Names.{policy_at}
 use Rattle.pylock_core.specs.Inner.Rows.{in_rows}
 use Rattle.pylock_core.specs.Session.Judgement.{SessionValue, VerdictValue, and_head, entry_reads}
 use Rattle.pylock_core.specs.Session.Judgement.{head_reads, keys, numbers_where, verdict_of}
@@ -60,7 +61,7 @@ sources_of entry = record {
 
 -- the name and the sources of an entry, which no judgement changes
 pub record IsNamed (names : Names) (entry : EntryValue) (row : Row) : Type 0 where
-  pub name : number_in names entry.name ≡ Some row.name
+  pub name : number_named names entry.name ≡ Some row.name
   pub sources : row.sources ≡ sources_of entry
 
 abbrev pub IsJudged : EnvironmentValue → List TagValue → List Policy → EntryValue → Row → Type 0
@@ -88,7 +89,8 @@ OfRows P (entry ∷ entries) (row ∷ rows) = OfBoth P entry row × OfRows P ent
 abbrev pub AreMembers : Names → List (Option EntryValue) → Type 0
 AreMembers names entries =
     (name : List ℕ)
-    → members_of names name ≡ numbers_where (λ entry. bytes_eq name entry.name) (in_rows 1 entries)
+    → members_named names name
+    ≡ numbers_where (λ entry. bytes_eq name entry.name) (in_rows 1 entries)
 
 -- the numbers of what reads each key
 abbrev pub IsIndex : List (Vec ℕ Global) → HeadValue → List (Option EntryValue) → Type 0

@@ -1,7 +1,7 @@
 -- The installation steps over the flat rows of a session, where names are numbers.
 use Rattle.std.specs.Prelude.{◌≡◌, ◌<◌, ℕ, Bool, true, false, ◌||◌, nat_eq, nat_lt, List, [], ◌∷◌}
 use Rattle.std.specs.Prelude.{count_by, Option, Some, None, Result, Ok, Err, if◌then◌else◌}
-use Rattle.std.specs.Prelude.{slice_index_or, slice_set}
+use Rattle.std.specs.Prelude.{slice_index_or}
 use Rattle.std.specs.List.{list_any}
 use Rattle.pylock_core.specs.Inner.Names.{policy_at}
 use Rattle.pylock_core.specs.Session.Steps.{FirstFault, by_standing, pick_before}
@@ -31,8 +31,8 @@ file_source None true Wheel = None
 file_source None true Source = Some source.Sdist
 file_source None false policy = None
 
-abbrev pub source_from : SourceKinds → Option ℕ → Policy → Option PickSource
-source_from sources best policy =
+abbrev pub source_among : SourceKinds → Option ℕ → Policy → Option PickSource
+source_among sources best policy =
     if sources.vcs
     then Some source.Vcs
     else if sources.directory
@@ -42,11 +42,11 @@ source_from sources best policy =
     else file_source best sources.sdist policy
 
 abbrev pub row_source : Row → Policy → Option PickSource
-row_source row policy = source_from row.sources row.verdict.best policy
+row_source row policy = source_among row.sources row.verdict.best policy
 
 -- whether a number is among these
-abbrev pub is_number : List ℕ → ℕ → Bool
-is_number numbers n = list_any (nat_eq n) numbers
+abbrev pub has_number : List ℕ → ℕ → Bool
+has_number numbers n = list_any (nat_eq n) numbers
 
 abbrev pub put_row : ℕ × Row → Result (List (ℕ × Row)) FirstFault
     → Result (List (ℕ × Row)) FirstFault
@@ -69,7 +69,7 @@ row_standing row shared =
 abbrev pub slate_rows : List (ℕ × Row) → List ℕ → Result (List (ℕ × Row)) FirstFault
 slate_rows [] names = Ok []
 slate_rows (e ∷ es) names =
-    by_standing (row_standing e.1 (is_number names e.1.name))
+    by_standing (row_standing e.1 (has_number names e.1.name))
     (slate_rows es names)
     (λ code. Err (e.0, code))
     (put_row e (slate_rows es (e.1.name ∷ names)))
@@ -85,15 +85,15 @@ abbrev pub picks_after_rows : Result (List (ℕ × Row)) FirstFault → List Pol
 picks_after_rows (Ok slated) policies = pick_rows slated policies
 picks_after_rows (Err fault) policies = Err fault
 
--- the stamps after an entry that stands so, whose name has this number
-abbrev pub stamps_after : Standing → List Bool → ℕ → List Bool
-stamps_after Skipped stamps n = stamps
-stamps_after (Faulty code) stamps n = stamps
-stamps_after Active stamps n = slice_set stamps n true
+-- which names are slated after an entry that stands so, whose name has this number
+abbrev pub slated_after : Standing → (ℕ → Bool) → ℕ → ℕ → Bool
+slated_after Skipped slated name n = slated n
+slated_after (Faulty code) slated name n = slated n
+slated_after Active slated name n = nat_eq n name || slated n
 
--- each of these numbers, and no other, has its stamp
-abbrev pub IsStamped : List Bool → List ℕ → Type 0
-IsStamped stamps names = (n : ℕ) → slice_index_or stamps n false ≡ is_number names n
+-- these numbers, and no other, are slated
+abbrev pub AreSlated : (ℕ → Bool) → List ℕ → Type 0
+AreSlated slated names = (n : ℕ) → slated n ≡ has_number names n
 
 -- each row has a name below the count
 abbrev pub NamesBelow : ℕ → List (Option Row) → Type 0

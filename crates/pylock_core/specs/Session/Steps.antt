@@ -45,12 +45,12 @@ FirstFault = ℕ × FaultCode
 -- ---- markers and the Python check
 
 -- the code of a marker's fault; no marker's value is want of memory
-abbrev pub marker_code : EvalFault → FaultCode
-marker_code (Unset variable) = MarkerUnset
-marker_code Extra = MarkerExtra
-marker_code Undefined = MarkerUndefined
-marker_code NumberTooLarge = MarkerNumber
-marker_code Memory = MarkerUnset
+abbrev pub fault_code : EvalFault → FaultCode
+fault_code (Unset variable) = MarkerUnset
+fault_code Extra = MarkerExtra
+fault_code Undefined = MarkerUndefined
+fault_code NumberTooLarge = MarkerNumber
+fault_code Memory = MarkerUnset
 
 -- the Python check of a set, where `python_full_version` has this text or is unset
 abbrev pub version_check : List Specifier → Result Parts VersionError → Option FaultCode
@@ -72,7 +72,7 @@ python_check (Some set) environment = text_check set (variable_in PythonFullVers
 abbrev pub decided_by : Result Bool EvalFault → Option FaultCode → Option FaultCode
 decided_by (Ok true) rest = None
 decided_by (Ok false) rest = rest
-decided_by (Err fault) rest = Some (marker_code fault)
+decided_by (Err fault) rest = Some (fault_code fault)
 
 abbrev pub first_true : List MarkerValue → EnvironmentValue → Option FaultCode
 first_true [] environment = Some NoEnvironment
@@ -100,7 +100,7 @@ by_check (Some code) = Faulty code
 abbrev pub by_marker : Result Bool EvalFault → Standing → Standing
 by_marker (Ok true) checked = checked
 by_marker (Ok false) checked = Skipped
-by_marker (Err fault) checked = Faulty (marker_code fault)
+by_marker (Err fault) checked = Faulty (fault_code fault)
 
 abbrev pub marked_standing : Option MarkerValue → EnvironmentValue → Standing → Standing
 marked_standing None environment checked = checked

@@ -68,7 +68,7 @@ impl Change<'_> {
 }
 
 /// An environment like that of the session, of which the next is made: the spare one, or a copy
-/// where there is none.
+/// where a change that was refused has left none.
 fn take_spare(parts: &mut Parts) -> Result<Environment, AllocError>
     ensures same { IfOk result (λ spare. IsSession parts.old → spare ≡ parts.old.environment) }
     ensures taken { parts.new ≡ record parts.old { spare = None } }

@@ -104,7 +104,8 @@ fn del_entry(parts: &mut Parts, number: u32) -> Result<(), EditError>
     ensures session { IsSession parts.new }
     ensures ok { OnOk result
         (apply (edit.Del number) (state_of parts.old) ≡ Ok (state_of parts.new)) }
-    ensures refused { IfErr result (λ error. apply (edit.Del number) (state_of parts.old) ≡ Err error) }
+    ensures refused { IfErr result (λ error.
+        apply (edit.Del number) (state_of parts.old) ≡ Err error) }
     ensures memory { IfErr result (λ error. error ≡ Memory → ⊥) }
     ensures err { OnErr result (shown parts.new ≡ shown parts.old) }
 {
@@ -197,14 +198,15 @@ fn entry_lists(alloc: Global, count: usize) -> Result<EntryLists, AllocError>
     })
 }
 
-/// What a session makes of its head.
+/// What a session makes of its head and its environment.
 #[derive(Drop)]
 struct Beginning {
     index: Lists,
     head_verdict: HeadVerdict,
+    spare: Environment,
 }
 
-/// The verdict of the head, and an index of it alone.
+/// The verdict of the head, an index of it alone, and a second environment.
 fn begin(
     alloc: Global,
     head: &Head,
@@ -216,6 +218,7 @@ fn begin(
         ≡ head_fault head.now environment.now) }
     ensures index { IfOk result (λ beginning. numbers_in beginning.index
         ≡ map (λ key. and_head (head_reads key head.now) []) keys) }
+    ensures spare { IfOk result (λ beginning. beginning.spare ≡ environment.now) }
     ensures judged { OnOk result (judged.new.items ≡ judged.old.items ++ 0 ∷ []) }
 {
     let judge = Judge {
@@ -225,9 +228,11 @@ fn begin(
     };
     let head_verdict = judge.head(head, judged)?;
     let index = head_index(alloc, head)?;
+    let spare = environment.copy()?;
     Ok(Beginning {
         index,
         head_verdict,
+        spare,
     })
 }
 
@@ -241,6 +246,7 @@ fn without_entries(
     lists: EntryLists,
 ) -> Parts
     requires verdict { beginning.head_verdict ≡ head_fault head environment }
+    requires spare { beginning.spare ≡ environment }
     requires index { numbers_in beginning.index
         ≡ map (λ key. and_head (head_reads key head) []) keys }
     requires rows { lists.rows.items ≡ [] }
@@ -260,6 +266,7 @@ fn without_entries(
     let Beginning {
         index,
         head_verdict,
+        spare,
     } = beginning;
     let EntryLists {
         rows,
@@ -280,7 +287,7 @@ fn without_entries(
         head,
         head_verdict,
         environment,
-        spare: None,
+        spare: Some(spare),
         tags,
         entries,
     }

@@ -1,10 +1,14 @@
 //! The names of a session: each has a number, and by the number its policy and its entries.
 
-ghost use Rattle.std.specs.Prelude.{◌≡◌, ℕ, ◌<◌, nat_eq, not, List, Some, IfOk, IfSome, OnOk};
-ghost use Rattle.std.specs.Prelude.{IsTrue, length, slice_set, if◌then◌else◌};
+ghost use Rattle.std.specs.Prelude.{◌≡◌, ℕ, ◌<◌, nat_eq, not, List, Some, None, IfOk, IfSome};
+ghost use Rattle.std.specs.Prelude.{OnOk, OnErr, IsSome, IsTrue, length, slice_set, string_bytes};
+ghost use Rattle.std.specs.Prelude.{if◌then◌else◌};
+ghost use Rattle.std.specs.BTreeMap.{Updates, get_by_text};
+ghost use Rattle.std.specs.String.{string_cmp};
 ghost use Rattle.pylock_core.specs.Inner.Index.{list_at, moved};
 ghost use Rattle.pylock_core.specs.Session.State.{Rises};
-ghost use Rattle.pylock_core.specs.Inner.Names.{HasRoom, IsNames, is_at, members_of, number_in};
+ghost use Rattle.pylock_core.specs.Inner.Names.{HasRoom, IsNames, is_at, members_named};
+ghost use Rattle.pylock_core.specs.Inner.Names.{number_named};
 ghost use Rattle.pylock_core.specs.Inner.Names.{policies_in};
 ghost use Rattle.pylock_core.specs.Session.State.{with_policy};
 
@@ -13,6 +17,7 @@ use crate::session::index::{change, reserve_one};
 use crate::session::room::push_within;
 use std::alloc::{AllocError, Global};
 use std::collections::BTreeMap;
+use std::collections::btree_map::Entry;
 
 /// The names that an entry or a policy ever had. Equal names have one number.
 #[derive(Debug, Drop)]
@@ -24,25 +29,45 @@ pub(crate) struct Names {
     pub(crate) members: Vec<Vec<u32>>,
 }
 
+/// Gives the name this number where it has none, and answers the number that it had.
+fn give_number(
+    numbers: &mut BTreeMap<String, usize>,
+    name: String,
+    number: usize,
+) -> Result<Option<usize>, AllocError>
+    ensures had { IfOk result (λ had. had ≡ get_by_text numbers.old (string_bytes name)) }
+    ensures given { IfOk result (λ had. had ≡ None
+        → Updates string_cmp numbers.old numbers.new name (Some number)) }
+    ensures known { IfOk result (λ had. IsSome had → numbers.new.entries ≡ numbers.old.entries) }
+    ensures err { OnErr result (numbers.new.entries ≡ numbers.old.entries) }
+{
+    match numbers.entry(name)? {
+        Entry::Occupied(entry) => Ok(Some(*entry.get())),
+        Entry::Vacant(entry) => {
+            entry.insert(number);
+            Ok(None)
+        }
+    }
+}
+
 /// The number of the name, which gets one here where it has none. Where there is no memory for it,
 /// all stays but for room.
 pub(crate) fn number_of(alloc: Global, names: &mut Names, name: &str) -> Result<usize, AllocError>
     requires { IsNames names.old }
-    ensures found { IfOk result (λ number. number_in names.new name.now ≡ Some number) }
+    ensures found { IfOk result (λ number. number_named names.new name.now ≡ Some number) }
     ensures kept { (q : List ℕ) (n : ℕ)
-        → number_in names.old q ≡ Some n → number_in names.new q ≡ Some n }
-    ensures members { (q : List ℕ) → members_of names.new q ≡ members_of names.old q }
+        → number_named names.old q ≡ Some n → number_named names.new q ≡ Some n }
+    ensures members { (q : List ℕ) → members_named names.new q ≡ members_named names.old q }
     ensures policies { policies_in names.new ≡ policies_in names.old }
     ensures is { IsNames names.new }
 {
-    if let Some(number) = names.numbers.get(name) {
-        return Ok(*number);
-    }
     let number = names.policies.len();
     names.policies.reserve(1)?;
     names.members.reserve(1)?;
     let key = String::from_str(alloc, name)?;
-    names.numbers.insert(key, number)?;
+    if let Some(known) = give_number(&mut names.numbers, key, number)? {
+        return Ok(known);
+    }
     push_within(&mut names.policies, Policy::Any);
     push_within(&mut names.members, Vec::new(alloc));
     Ok(number)
@@ -53,10 +78,10 @@ pub(crate) fn set_policy(names: &mut Names, number: usize, policy: Policy)
     requires is { IsNames names.old }
     requires within { number < length names.old.policies.items }
     ensures items { names.new.policies.items ≡ slice_set names.old.policies.items number policy }
-    ensures policies { (name : List ℕ) → number_in names.old name ≡ Some number
+    ensures policies { (name : List ℕ) → number_named names.old name ≡ Some number
         → policies_in names.new ≡ with_policy (policies_in names.old) name policy }
-    ensures members { (q : List ℕ) → members_of names.new q ≡ members_of names.old q }
-    ensures numbers { (q : List ℕ) → number_in names.new q ≡ number_in names.old q }
+    ensures members { (q : List ℕ) → members_named names.new q ≡ members_named names.old q }
+    ensures numbers { (q : List ℕ) → number_named names.new q ≡ number_named names.old q }
     ensures is { IsNames names.new }
 {
     names.policies[number] = policy;
@@ -67,8 +92,8 @@ pub(crate) fn reserve_member(names: &mut Names, number: usize) -> Result<(), All
     requires is { IsNames names.old }
     requires within { number < length names.old.policies.items }
     ensures room { OnOk result (HasRoom names.new number) }
-    ensures members { (q : List ℕ) → members_of names.new q ≡ members_of names.old q }
-    ensures numbers { (q : List ℕ) → number_in names.new q ≡ number_in names.old q }
+    ensures members { (q : List ℕ) → members_named names.new q ≡ members_named names.old q }
+    ensures numbers { (q : List ℕ) → number_named names.new q ≡ number_named names.old q }
     ensures items { names.new.policies.items ≡ names.old.policies.items }
     ensures policies { policies_in names.new ≡ policies_in names.old }
     ensures is { IsNames names.new }
@@ -85,7 +110,7 @@ fn change_member(names: &mut Names, number: usize, entry: u32, is: bool)
     ensures members { (n : ℕ) → list_at names.new.members.items n ≡ (if nat_eq n number
         then moved entry (not is) is (list_at names.old.members.items n)
         else list_at names.old.members.items n) }
-    ensures numbers { (q : List ℕ) → number_in names.new q ≡ number_in names.old q }
+    ensures numbers { (q : List ℕ) → number_named names.new q ≡ number_named names.old q }
     ensures items { names.new.policies.items ≡ names.old.policies.items }
     ensures policies { policies_in names.new ≡ policies_in names.old }
     ensures is { IsNames names.new }
@@ -104,7 +129,7 @@ fn move_between(names: &mut Names, entry: u32, was: usize, is: usize)
     requires is_rises { Rises 0 (list_at names.old.members.items is) }
     ensures members { (n : ℕ) → list_at names.new.members.items n
         ≡ moved entry (nat_eq n was) (nat_eq n is) (list_at names.old.members.items n) }
-    ensures numbers { (q : List ℕ) → number_in names.new q ≡ number_in names.old q }
+    ensures numbers { (q : List ℕ) → number_named names.new q ≡ number_named names.old q }
     ensures items { names.new.policies.items ≡ names.old.policies.items }
     ensures policies { policies_in names.new ≡ policies_in names.old }
     ensures is { IsNames names.new }
@@ -126,7 +151,7 @@ pub(crate) fn move_member(names: &mut Names, entry: u32, was: Option<usize>, is:
     requires is_rises { IfSome is (λ n. Rises 0 (list_at names.old.members.items n)) }
     ensures members { (n : ℕ) → list_at names.new.members.items n
         ≡ moved entry (is_at n was) (is_at n is) (list_at names.old.members.items n) }
-    ensures numbers { (q : List ℕ) → number_in names.new q ≡ number_in names.old q }
+    ensures numbers { (q : List ℕ) → number_named names.new q ≡ number_named names.old q }
     ensures items { names.new.policies.items ≡ names.old.policies.items }
     ensures policies { policies_in names.new ≡ policies_in names.old }
     ensures is { IsNames names.new }

@@ -4,7 +4,7 @@ ghost use Rattle.std.specs.Prelude.{◌≡◌, ◌++◌, ◌∷◌, [], IfOk, On
 ghost use Rattle.std.specs.Option.{option_copied};
 ghost use Rattle.pylock_core.specs.Session.Judgement.{verdict_of};
 ghost use Rattle.pylock_core.specs.Session.Steps.{best_wheel, by_check, by_marker, by_standing};
-ghost use Rattle.pylock_core.specs.Session.Steps.{environments_check, head_fault, marker_code};
+ghost use Rattle.pylock_core.specs.Session.Steps.{environments_check, head_fault, fault_code};
 ghost use Rattle.pylock_core.specs.Session.Steps.{python_check, standing};
 ghost use Rattle.pymark_core.specs.Marker.Value.{marker_value};
 ghost use Rattle.pylock_core.specs.declared.answer.Standing.TheVariants.{Skipped, Faulty, Active};
@@ -157,13 +157,13 @@ fn marker_standing(
         Ok(true) => Ok(Standing::Active),
         Ok(false) => Ok(Standing::Skipped),
         Err(EvalFault::Memory) => Err(AllocError),
-        Err(fault) => Ok(Standing::Faulty(marker_code(fault))),
+        Err(fault) => Ok(Standing::Faulty(fault_code(fault))),
     }
 }
 
 /// The code of a fault of a marker.
-fn marker_code(fault: EvalFault) -> FaultCode
-    ensures { result ≡ marker_code fault }
+fn fault_code(fault: EvalFault) -> FaultCode
+    ensures { result ≡ fault_code fault }
 {
     match fault {
         EvalFault::Unset(_) => FaultCode::MarkerUnset,

@@ -1,4 +1,4 @@
-use Rattle.std.proofs.Common.{◌≡◌, ◌∙◌, ◌<◌, ◌≤◌, IfOk, length, subst, ap, sym, arith}
+use Rattle.std.proofs.Common.{◌≡◌, ◌∙◌, ◌≤◌, IfOk, length, subst, sym, arith}
 use Rattle.pylock_core.specs.declared.answer.Answer.{Answer}
 use Rattle.pylock_core.proofs.SessionLemmas.{session_answer, session_below, session_even}
 use Rattle.pylock_core.proofs.session.parts.answer.Goals as goal
