@@ -5,7 +5,7 @@
 use pylock_command::{CommandError, Task, command};
 use pylock_program::{
     Failure, FileFault, Files, FromRead, Query, ToWrite, Work, greet, query, read_file,
-    read_inputs, run, words_failure, work_of,
+    read_inputs, run_leaving, words_failure, work_of,
 };
 use std::process::ExitCode;
 use std::{env, fs};
@@ -37,7 +37,7 @@ fn perform(rt: &HostRuntime, task: Task<'_>) -> Result<u8, Failure> {
         Work::Select(lock, env) => {
             let inputs = read_inputs(&HostFiles { rt }, lock, env)?;
             let mut reader = FromRead::new(rt.stdin());
-            let status = run(
+            let status = run_leaving(
                 rt.alloc(),
                 &inputs.lock,
                 &inputs.environment,

@@ -29,7 +29,7 @@ use Rattle.pywheel_core.specs.Wheel.Value.{WheelValue}
 use Rattle.pywheel_core.specs.declared.error.WheelError.{WheelError}
 use Rattle.pywheel_core.specs.declared.error.WheelError.TheVariants as wheel
 use Rattle.pylock_readers.specs.Environment.{env_of}
-use Rattle.pylock_core.specs.Session.Steps.{marker_code}
+use Rattle.pylock_core.specs.Session.Steps.{fault_code}
 use Rattle.pylock_core.specs.declared.answer.FaultCode.{FaultCode}
 use Rattle.pylock_readers.specs.declared.error.EnvError.{EnvError}
 use Rattle.pylock_program.specs.Report.{Report}
@@ -113,7 +113,7 @@ marker_word marker.Memory = codes "memory"
 -- the value in an environment
 abbrev pub value_answer : MarkerValue → EnvironmentValue → Result (List ℕ) Report
 value_answer marker environment = do
-  value ← or_else (λ fault. faulty (marker_code fault)) (marker_value environment marker.tree)
+  value ← or_else (λ fault. faulty (fault_code fault)) (marker_value environment marker.tree)
   Ok (line_of (truth_word value) [])
 
 -- the environment that is read has no extra and no group

@@ -16,7 +16,7 @@ pub use program::{
 pub use reply::queries::Query;
 pub use reply::query;
 pub use report::fault::RunFault;
-pub use report::run::run;
+pub use report::run::{run, run_leaving};
 pub use stream::memory::{Pieces, Room};
 pub use stream::whole::{FileFault, read_whole};
 pub use stream::wrapper::{FromRead, ToWrite};

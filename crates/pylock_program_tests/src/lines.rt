@@ -38,6 +38,20 @@ const HEADED: Case = Case {
     status: 0,
 };
 
+/// A lock with a wheel that has hashes, and whose file name comes from an escaped URL.
+const NAMED_BY_URL: Case = Case {
+    name: "file name of a URL",
+    lock: "packages = [{name=\"t\", version=\"2.5.0+cpu\", \
+        wheels=[{url=\"https://h/t-2.5.0%2Bcpu-cp312-cp312-linux_x86_64.whl?x#y\", \
+        hashes={sha512=\"bb\", sha256=\"aa\"}}]}]",
+    environment: "{\"environment\":{},\"tags\":[\"cp312-cp312-linux_x86_64\"]}",
+    input: "",
+    text: "plan 1\n\
+        1\tt\t2.5.0+cpu\twheel\tt-2.5.0+cpu-cp312-cp312-linux_x86_64.whl\thttps://h/t-2.5\
+        .0%2Bcpu-cp312-cp312-linux_x86_64.whl?x#y\tsha256=aa,sha512=bb\t-\t-\n",
+    status: 0,
+};
+
 const SELECTIONS: [Case; 9] = [
     Case {
         name: "empty lock",
@@ -100,18 +114,7 @@ const SELECTIONS: [Case; 9] = [
             plan 1\n1\ta\t1\tsdist\ta-1.tar.gz\ts/a-1.tar.gz\t-\t-\t-\n",
         status: 0,
     },
-    Case {
-        name: "file name of a URL",
-        lock: "packages = [{name=\"t\", version=\"2.5.0+cpu\", \
-            wheels=[{url=\"https://h/t-2.5.0%2Bcpu-cp312-cp312-linux_x86_64.whl?x#y\", \
-            hashes={sha512=\"bb\", sha256=\"aa\"}}]}]",
-        environment: "{\"environment\":{},\"tags\":[\"cp312-cp312-linux_x86_64\"]}",
-        input: "",
-        text: "plan 1\n\
-            1\tt\t2.5.0+cpu\twheel\tt-2.5.0+cpu-cp312-cp312-linux_x86_64.whl\thttps://h/t-2.5\
-            .0%2Bcpu-cp312-cp312-linux_x86_64.whl?x#y\tsha256=aa,sha512=bb\t-\t-\n",
-        status: 0,
-    },
+    NAMED_BY_URL,
     HEADED,
     Case {
         name: "archive",
@@ -188,13 +191,14 @@ const EDITS: [Case; 8] = [
         environment: "{\"environment\":{},\"tags\":[]}",
         input: "\r\nshow \nset  x\nunset\nunset \nunset os.name\nextra+\nextra+ \nextra+ -\nextra- \
             a b\ngroup+ \ngroup- a_\nadd\nadd \nadd  {name = \"a\"}\nadd {name = \"a\"} \n\
-            put 1\nput 1 \ndel\ndel 0\ndel 1234567\n\tshow\n",
+            put 1\nput 1 \ndel\ndel 0\ndel 1234567\n\tshow\n\u{feff}show\n\n\r",
         text: "plan 0\nrefused 1\tcommand\nrefused 2\targument\nrefused 3\tvariable\nrefused \
             4\targument\nrefused 5\targument\nrefused 6\tvariable\nrefused 7\targument\n\
             refused 8\targument\nrefused 9\textra\nrefused 10\textra\nrefused 11\targument\n\
             refused 12\tgroup\nrefused 13\targument\nrefused 14\targument\nrefused 15\ttoml\n\
             refused 16\ttoml\nrefused 17\targument\nrefused 18\targument\nrefused \
-            19\targument\nrefused 20\targument\nrefused 21\targument\nrefused 22\tcommand\n",
+            19\targument\nrefused 20\targument\nrefused 21\targument\nrefused 22\tcommand\n\
+            refused 23\tcommand\nrefused 24\tcommand\nrefused 25\tcommand\n",
         status: 1,
     },
     Case {
@@ -416,9 +420,16 @@ fn check_fronts<R: Abort + AllocGlobal>(
     check_environment_fronts(rt, lock, environment)
 }
 
+fn check_case_fronts<R: Abort + AllocGlobal>(rt: &R, case: Case) -> Result<(), AllocError> {
+    let lock = format!(in rt.alloc(); "{HEAD}{}\n", case.lock)?;
+    check_fronts(rt, lock.as_bytes(), case.environment.as_bytes())
+}
+
 /// Every front of a lock and of an environment is read or refused.
 #[test]
 fn reads_every_front(rt: HostRuntime) -> Result<(), Fail> {
-    let lock = format!(in rt.alloc(); "{HEAD}{}\n", HEADED.lock)?;
-    check_fronts(&rt, lock.as_bytes(), HEADED.environment.as_bytes()).map_err(Fail::from)
+    for case in [HEADED, NAMED_BY_URL] {
+        check_case_fronts(&rt, case)?;
+    }
+    Ok(())
 }

@@ -4,7 +4,7 @@ use crate::check::{
     End, HEAD, ROOM, check_end, check_environment_fronts, check_front, check_lock_fronts,
     check_run, check_run_by,
 };
-use pylock_program::{IoFault, Pieces, Room, RunFault, Source, run};
+use pylock_program::{IoFault, Pieces, Room, RunFault, Source, run, run_leaving};
 use std::alloc::{AllocError, Global};
 use std::process::Abort;
 use std::test::Fail;
@@ -40,6 +40,28 @@ fn selects_and_deletes(rt: HostRuntime) -> Result<(), Fail> {
     check_first_path(&rt, b"show\ndel 1\ndel 1\n", 1, &want).map_err(Fail::from)
 }
 
+/// A run that leaves its session ends as one that gives its memory back.
+fn check_leaving<R: Abort + AllocGlobal>(
+    rt: &R,
+    lock: &[u8],
+    wanted: End<'_>,
+) -> Result<(), AllocError> {
+    let mut room = Room::new(rt.alloc(), ROOM, ROOM, None)?;
+    let mut reader = Pieces::new(b"del 1\n", ROOM, None);
+    let environment = ENVIRONMENT.as_bytes();
+    let answer = run_leaving(rt.alloc(), lock, environment, &mut reader, &mut room);
+    check_end(rt, (answer, room.bytes()), wanted, "leaving");
+    Ok(())
+}
+
+#[test]
+fn leaves_a_session(rt: HostRuntime) -> Result<(), Fail> {
+    let want = format!(in rt.alloc(); "{FIRST_ANSWER}plan 1\n{SDIST_LINE}")?;
+    check_leaving(&rt, FIRST_PATH.as_bytes(), (Ok(0), want.as_bytes()))?;
+    check_leaving(&rt, b"", (Ok(2), b"lock\tlock-version\n"))?;
+    Ok(())
+}
+
 /// A run over a lock of the two lines of `HEAD` and these packages ends so.
 fn check_packages<R: Abort + AllocGlobal>(
     rt: &R,
@@ -71,6 +93,44 @@ fn selects_an_editable_directory(rt: HostRuntime) -> Result<(), Fail> {
             editable=true}}]";
     let want = "fault 2\tambiguous\nplan 1\n2\ta\t-\teditable\t-\ty\t-\t-\t-\n";
     check_packages(&rt, packages, b"del 1\n", 0, want).map_err(Fail::from)
+}
+
+/// How many policies are of names that no entry has.
+const STRAY: usize = 1_100;
+
+/// The text, so many times.
+fn times(alloc: Global, text: &str, count: usize) -> Result<String, AllocError> {
+    let mut all = String::new(alloc);
+    for _ in 0..count {
+        all.push_str(text)?;
+    }
+    Ok(all)
+}
+
+/// A policy of each of so many names.
+fn stray_policies(alloc: Global) -> Result<String, AllocError> {
+    let mut lines = String::new(alloc);
+    for place in 0..STRAY {
+        let line = format!(in alloc; "policy stray-{place} wheel\n")?;
+        lines.push_str(line.as_str())?;
+    }
+    Ok(lines)
+}
+
+fn check_stray<R: Abort + AllocGlobal>(rt: &R, packages: &str) -> Result<(), AllocError> {
+    let policies = stray_policies(rt.alloc())?;
+    let faults = times(rt.alloc(), "fault 2\tambiguous\n", STRAY + 1)?;
+    let input = format!(in rt.alloc(); "{policies}del 1\n")?;
+    let want = format!(in rt.alloc(); "{faults}plan 1\n2\ta\t-\teditable\t-\ty\t-\t-\t-\n")?;
+    check_packages(rt, packages, input.as_bytes(), 0, want.as_str())
+}
+
+#[test]
+fn slates_few_of_many_names(rt: HostRuntime) -> Result<(), Fail> {
+    let packages =
+        "packages = [{name=\"a\", directory={path=\"x\"}}, {name=\"A\", directory={path=\"y\", \
+            editable=true}}]";
+    check_stray(&rt, packages).map_err(Fail::from)
 }
 
 /// A run over no input ends so.

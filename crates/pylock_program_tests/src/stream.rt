@@ -6,7 +6,7 @@ use pylock_program::{
 };
 use std::alloc::{AllocError, Global};
 use std::io;
-use std::io::{Read, Write};
+use std::io::{Cursor, Read, Write};
 use std::process::Abort;
 use std::test::Fail;
 
@@ -298,10 +298,64 @@ fn writes_what_a_writer_takes(rt: HostRuntime) {
     check_writer(&rt, &steps, Ok(()), b"0123456789", 4);
 }
 
+/// A write that fails, or takes nothing, is the last one, at each place.
 #[test]
 fn stops_at_each_failed_write(rt: HostRuntime) {
     for failure in [None, Some(0)] {
-        let steps = [Some(4), failure, Some(9)];
-        check_writer(&rt, &steps, Err(IoFault), b"0123", 2);
+        for failing in 0..5 {
+            let mut steps = [Some(2); 5];
+            steps[failing] = failure;
+            let taken = &b"0123456789"[..2 * failing];
+            check_writer(&rt, &steps, Err(IoFault), taken, failing + 1);
+        }
     }
+}
+
+fn check_memory<R: Abort, S: Source>(rt: &R, from: &mut S) {
+    let mut buffer = [0; 4];
+    check_read(rt, from, &mut buffer, Ok(4));
+    check_bytes(rt, &buffer, b"0123");
+    check_read(rt, from, &mut buffer, Ok(4));
+    check_bytes(rt, &buffer, b"4567");
+    check_read(rt, from, &mut buffer, Ok(2));
+    check_bytes(rt, &buffer[..2], b"89");
+    check_read(rt, from, &mut buffer, Ok(0));
+}
+
+/// The readers of std over memory.
+#[test]
+fn reads_memory_of_std(rt: HostRuntime) {
+    let bytes: &[u8] = b"0123456789";
+    check_memory(&rt, &mut FromRead::new(bytes));
+    check_memory(&rt, &mut FromRead::new(Cursor::new(bytes)));
+    check_whole(&rt, &mut FromRead::new(bytes), Ok(bytes));
+    check_whole(&rt, &mut FromRead::new(Cursor::new(bytes)), Ok(bytes));
+    let more: &[u8] = b"0123456789a";
+    check_whole(&rt, &mut FromRead::new(more), Err(FileFault::Limit));
+}
+
+/// A vector grows by what is written.
+fn check_vector<R: Abort>(rt: &R, bytes: &mut Vec<u8>) {
+    check_write_all(rt, &mut ToWrite::new(&mut *bytes), b"plan ", Ok(()));
+    check_write(rt, &mut ToWrite::new(&mut *bytes), b"0\n", Ok(2));
+    check_write(rt, &mut ToWrite::new(&mut *bytes), b"", Ok(0));
+    check_bytes(rt, bytes, b"plan 0\n");
+}
+
+/// An array takes what it has room for.
+fn check_array<R: Abort>(rt: &R, array: &mut [u8]) {
+    check_write_all(
+        rt,
+        &mut ToWrite::new(Cursor::new(&mut *array)),
+        b"plan 00",
+        Err(IoFault),
+    );
+    check_bytes(rt, array, b"plan 0");
+}
+
+/// The writers of std onto memory.
+#[test]
+fn writes_memory_of_std(rt: HostRuntime) {
+    check_vector(&rt, &mut Vec::new(rt.alloc()));
+    check_array(&rt, &mut [0; 6]);
 }

@@ -37,8 +37,8 @@ is_entry_number (first ∷ rest) =
 abbrev pub entry_number : List ℕ → Option ℕ
 entry_number text = if is_entry_number text then Some (digits_value 10 text) else None
 
-abbrev pub number_in : List ℕ → Result ℕ LineRefusal
-number_in text = ok_or (entry_number text) refusal.Argument
+abbrev pub number_argument : List ℕ → Result ℕ LineRefusal
+number_argument text = ok_or (entry_number text) refusal.Argument
 
 -- the pieces between the spaces that aren't empty
 abbrev pub is_filled : List ℕ → Bool

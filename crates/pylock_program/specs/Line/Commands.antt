@@ -14,7 +14,8 @@ use Rattle.pylock_core.specs.declared.edit.Edit.{Edit}
 use Rattle.pylock_core.specs.declared.edit.Edit.TheVariants as edit
 use Rattle.pylock_core.specs.declared.edit.Policy.{Policy}
 use Rattle.pylock_core.specs.declared.edit.Policy.TheVariants as policy
-use Rattle.pylock_program.specs.Line.Argument.{given, filled, around_space, number_in, pieces_of}
+use Rattle.pylock_program.specs.Line.Argument.{given, filled, around_space, number_argument}
+use Rattle.pylock_program.specs.Line.Argument.{pieces_of}
 use Rattle.pylock_program.specs.Line.Refusal.{entry_refusal, tags_refusal}
 use Rattle.pylock_program.specs.declared.line.commands.Command.{Command}
 use Rattle.pylock_program.specs.declared.line.commands.Command.TheVariants as command
@@ -23,21 +24,21 @@ use Rattle.pylock_program.specs.declared.line.refusal.LineRefusal.TheVariants as
 
 -- ---- what an argument names
 
-abbrev pub variable_in : List ℕ → Result Var LineRefusal
-variable_in name = ok_or (variable_of name) refusal.Variable
+abbrev pub variable_argument : List ℕ → Result Var LineRefusal
+variable_argument name = ok_or (variable_of name) refusal.Variable
 
 -- a name, or this refusal
 abbrev pub name_or : LineRefusal → List ℕ → Result (List ℕ) LineRefusal
 name_or refused text = if is_name text then Ok text else Err refused
 
-abbrev pub entry_in : List ℕ → Result EntryValue LineRefusal
-entry_in text = result_map_both (λ entry. entry) entry_refusal (entry_of text)
+abbrev pub entry_argument : List ℕ → Result EntryValue LineRefusal
+entry_argument text = result_map_both (λ entry. entry) entry_refusal (entry_of text)
 
-abbrev pub tags_in : List (List ℕ) → Result (List TagValue) LineRefusal
-tags_in texts = result_map_both (λ tags. tags) tags_refusal (tags_of texts)
+abbrev pub tags_argument : List (List ℕ) → Result (List TagValue) LineRefusal
+tags_argument texts = result_map_both (λ tags. tags) tags_refusal (tags_of texts)
 
-abbrev pub policy_in : List ℕ → Result Policy LineRefusal
-policy_in word =
+abbrev pub policy_argument : List ℕ → Result Policy LineRefusal
+policy_argument word =
     if bytes_eq word (codes "any") then Ok policy.Any
     else if bytes_eq word (codes "wheel") then Ok policy.Wheel
     else if bytes_eq word (codes "source") then Ok policy.Source
@@ -55,7 +56,7 @@ unfoldable pub set_after : Option (List ℕ) → Result Edit LineRefusal
 set_after argument = do
   text ← given argument
   cut ← around_space text
-  variable ← variable_in cut.0
+  variable ← variable_argument cut.0
   Ok (edit.Set variable cut.1)
 
 -- `unset NAME`
@@ -63,7 +64,7 @@ unfoldable pub unset_after : Option (List ℕ) → Result Edit LineRefusal
 unset_after argument = do
   text ← given argument
   name ← filled text
-  variable ← variable_in name
+  variable ← variable_argument name
   Ok (edit.Unset variable)
 
 -- The argument of `extra+` and `extra-`, and of `group+` and `group-`: a name. Whether the lock
@@ -101,7 +102,7 @@ drop_group_after argument = do
 -- `tags TAG TAG ..`: tags with spaces between them; without an argument, none
 unfoldable pub tags_after : Option (List ℕ) → Result Edit LineRefusal
 tags_after argument = do
-  tags ← tags_in (pieces_of argument)
+  tags ← tags_argument (pieces_of argument)
   Ok (edit.Tags tags)
 
 -- `add ENTRY`
@@ -109,7 +110,7 @@ unfoldable pub add_after : Option (List ℕ) → Result Edit LineRefusal
 add_after argument = do
   text ← given argument
   body ← filled text
-  entry ← entry_in body
+  entry ← entry_argument body
   Ok (edit.Add entry)
 
 -- `put ID ENTRY`
@@ -117,16 +118,16 @@ unfoldable pub put_after : Option (List ℕ) → Result Edit LineRefusal
 put_after argument = do
   text ← given argument
   cut ← around_space text
-  number ← number_in cut.0
+  number ← number_argument cut.0
   body ← filled cut.1
-  entry ← entry_in body
+  entry ← entry_argument body
   Ok (edit.Put number entry)
 
 -- `del ID`
 unfoldable pub del_after : Option (List ℕ) → Result Edit LineRefusal
 del_after argument = do
   text ← given argument
-  number ← number_in text
+  number ← number_argument text
   Ok (edit.Del number)
 
 -- `policy NAME POLICY`
@@ -134,7 +135,7 @@ unfoldable pub policy_after : Option (List ℕ) → Result Edit LineRefusal
 policy_after argument = do
   text ← given argument
   cut ← around_space text
-  policy ← policy_in cut.1
+  policy ← policy_argument cut.1
   name ← name_or refusal.Name cut.0
   Ok (edit.Policy name policy)
 

@@ -5,7 +5,7 @@ ghost use Rattle.std.specs.Char.{is_ascii_digit};
 ghost use Rattle.std.specs.List.{list_all};
 ghost use Rattle.std.specs.Option.{option_copied};
 ghost use Rattle.pyver_core.specs.Agreement.{Gives};
-ghost use Rattle.pylock_program.specs.Line.Argument.{given, filled, around_space, number_in};
+ghost use Rattle.pylock_program.specs.Line.Argument.{given, filled, around_space, number_argument};
 ghost use Rattle.pylock_program.specs.Line.Argument.{entry_number};
 ghost use Rattle.pylock_program.specs.Line.Argument.{is_entry_number, is_filled, pieces, pieces_of};
 
@@ -42,8 +42,8 @@ pub fn around_space(text: &str) -> Result<(&str, &str), LineRefusal>
 }
 
 /// The number of an entry.
-pub fn number_in(text: &str) -> Result<u32, LineRefusal>
-    ensures { Gives LineRefusal.Memory (λ number. number) result (number_in text.now) }
+pub fn number_argument(text: &str) -> Result<u32, LineRefusal>
+    ensures { Gives LineRefusal.Memory (λ number. number) result (number_argument text.now) }
 {
     parse_entry_number(text).ok_or(LineRefusal::Argument)
 }

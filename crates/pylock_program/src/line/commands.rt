@@ -3,7 +3,8 @@
 ghost use Rattle.std.specs.Prelude.{◌≡◌, IfOk};
 ghost use Rattle.std.specs.Option.{option_copied};
 ghost use Rattle.pyver_core.specs.Agreement.{Gives};
-ghost use Rattle.pylock_program.specs.Line.Commands.{variable_in, entry_in, policy_in, name_after};
+ghost use Rattle.pylock_program.specs.Line.Commands.{variable_argument, entry_argument};
+ghost use Rattle.pylock_program.specs.Line.Commands.{policy_argument, name_after};
 ghost use Rattle.pylock_program.specs.Line.Commands.{show_after, set_after, unset_after};
 ghost use Rattle.pylock_program.specs.Line.Commands.{add_extra_after};
 ghost use Rattle.pylock_program.specs.Line.Commands.{drop_extra_after, add_group_after};
@@ -11,7 +12,7 @@ ghost use Rattle.pylock_program.specs.Line.Commands.{drop_group_after};
 ghost use Rattle.pylock_program.specs.Line.Commands.{tags_after, add_after, put_after, del_after};
 ghost use Rattle.pylock_program.specs.Line.Commands.{policy_after, edit_after, command_after};
 
-use crate::line::argument::{around_space, filled, given, number_in, pieces_of};
+use crate::line::argument::{around_space, filled, given, number_argument, pieces_of};
 use crate::line::refusal::LineRefusal;
 use pylock_core::{Edit, Entry, Policy};
 use pymark_core::Var;
@@ -80,7 +81,7 @@ fn set(alloc: Global, argument: Option<&str>) -> Result<Edit, LineRefusal>
     ensures { Gives LineRefusal.Memory (λ e. e) result (set_after (option_copied argument.entry)) }
 {
     let (name, value) = around_space(given(argument)?)?;
-    let variable = variable_in(name)?;
+    let variable = variable_argument(name)?;
     Ok(Edit::Set(variable, label(alloc, value)?))
 }
 
@@ -89,7 +90,7 @@ fn unset(argument: Option<&str>) -> Result<Edit, LineRefusal>
     ensures { Gives LineRefusal.Memory (λ e. e) result
         (unset_after (option_copied argument.entry)) }
 {
-    let variable = variable_in(filled(given(argument)?)?)?;
+    let variable = variable_argument(filled(given(argument)?)?)?;
     Ok(Edit::Unset(variable))
 }
 
@@ -146,7 +147,7 @@ fn put(alloc: Global, argument: Option<&str>) -> Result<Edit, LineRefusal>
     ensures { Gives LineRefusal.Memory (λ e. e) result (put_after (option_copied argument.entry)) }
 {
     let (id, text) = around_space(given(argument)?)?;
-    let number = number_in(id)?;
+    let number = number_argument(id)?;
     let text = filled(text)?;
     Ok(Edit::Put(number, Entry::read_text(alloc, text)?))
 }
@@ -155,7 +156,7 @@ fn put(alloc: Global, argument: Option<&str>) -> Result<Edit, LineRefusal>
 fn del(argument: Option<&str>) -> Result<Edit, LineRefusal>
     ensures { Gives LineRefusal.Memory (λ e. e) result (del_after (option_copied argument.entry)) }
 {
-    let number = number_in(given(argument)?)?;
+    let number = number_argument(given(argument)?)?;
     Ok(Edit::Del(number))
 }
 
@@ -165,7 +166,7 @@ fn policy(alloc: Global, argument: Option<&str>) -> Result<Edit, LineRefusal>
         (policy_after (option_copied argument.entry)) }
 {
     let (name, word) = around_space(given(argument)?)?;
-    let policy = policy_in(word)?;
+    let policy = policy_argument(word)?;
     if !is_name(name) {
         return Err(LineRefusal::Name);
     }
@@ -173,14 +174,14 @@ fn policy(alloc: Global, argument: Option<&str>) -> Result<Edit, LineRefusal>
 }
 
 /// The variable of markers that has this name.
-fn variable_in(name: &str) -> Result<Var, LineRefusal>
-    ensures { Gives LineRefusal.Memory (λ v. v) result (variable_in name.now) }
+fn variable_argument(name: &str) -> Result<Var, LineRefusal>
+    ensures { Gives LineRefusal.Memory (λ v. v) result (variable_argument name.now) }
 {
     Var::of(name).ok_or(LineRefusal::Variable)
 }
 
-fn policy_in(word: &str) -> Result<Policy, LineRefusal>
-    ensures { Gives LineRefusal.Memory (λ p. p) result (policy_in word.now) }
+fn policy_argument(word: &str) -> Result<Policy, LineRefusal>
+    ensures { Gives LineRefusal.Memory (λ p. p) result (policy_argument word.now) }
 {
     match word {
         "any" => Ok(Policy::Any),

@@ -24,6 +24,7 @@ use crate::stream::{Sink, Source};
 use crate::text::refusal::push_refusal;
 use pylock_core::Session;
 use std::alloc::Global;
+use std::mem;
 
 /// How many bytes of output are written at once, if no answer is longer.
 const FLUSH_BYTES: usize = 65_536;
@@ -211,10 +212,18 @@ fn end<W: Sink>(editing: &mut Editing, last: &mut Vec<u8>, writer: &mut W) -> Re
     flush(last, writer)
 }
 
+/// Gives the memory of the session back, or leaves it to the system.
+fn let_go(editing: Editing, leaves: bool) {
+    if leaves {
+        mem::forget(editing);
+    }
+}
+
 /// Edits a session by the whole input, and writes all answers and refusals.
 fn edit_all<R: Source, W: Sink>(
     alloc: Global,
     session: Session,
+    leaves: bool,
     reader: &mut R,
     writer: &mut W,
 ) -> Result<u8, RunFault>
@@ -228,7 +237,9 @@ fn edit_all<R: Source, W: Sink>(
     let mut editing = begin(alloc, session, &mut out, writer)?;
     feed_all(&mut editing, &mut buffer, reader, &mut out, writer)?;
     end(&mut editing, &mut out, writer)?;
-    Ok(editing.status())
+    let status = editing.status();
+    let_go(editing, leaves);
+    Ok(status)
 }
 
 /// Writes the refusal of a lock or an environment.
@@ -269,8 +280,46 @@ pub fn run<R: Source, W: Sink>(
     ensures unasked { IsErr (opened lock.now env.now)
         → R.value reader.new ≡ R.value reader.old }
 {
+    run_whole(alloc, lock, env, false, reader, writer)
+}
+
+/// Runs `select` as `run` does for a program that ends then: the memory of the session isn't given
+/// back but left to the system, which takes all of it at once.
+pub fn run_leaving<R: Source, W: Sink>(
+    alloc: Global,
+    lock: &[u8],
+    env: &[u8],
+    reader: &mut R,
+    writer: &mut W,
+) -> Result<u8, RunFault>
+    ensures reports { IfOk result (Reports (opened lock.now env.now)
+        (R.value reader.old) (R.value reader.new) (W.value writer.old) (W.value writer.new)) }
+    ensures stops { IfErr result (Stops (opened lock.now env.now)
+        (R.value reader.old) (R.value reader.new) (W.value writer.old) (W.value writer.new)) }
+    ensures unasked { IsErr (opened lock.now env.now)
+        → R.value reader.new ≡ R.value reader.old }
+{
+    run_whole(alloc, lock, env, true, reader, writer)
+}
+
+/// A run that at its end gives the memory of its session back, or leaves it.
+fn run_whole<R: Source, W: Sink>(
+    alloc: Global,
+    lock: &[u8],
+    env: &[u8],
+    leaves: bool,
+    reader: &mut R,
+    writer: &mut W,
+) -> Result<u8, RunFault>
+    ensures reports { IfOk result (Reports (opened lock.now env.now)
+        (R.value reader.old) (R.value reader.new) (W.value writer.old) (W.value writer.new)) }
+    ensures stops { IfErr result (Stops (opened lock.now env.now)
+        (R.value reader.old) (R.value reader.new) (W.value writer.old) (W.value writer.new)) }
+    ensures unasked { IsErr (opened lock.now env.now)
+        → R.value reader.new ≡ R.value reader.old }
+{
     match open(alloc, lock, env) {
-        Ok(session) => edit_all(alloc, session, reader, writer),
+        Ok(session) => edit_all(alloc, session, leaves, reader, writer),
         Err(OpenError::Memory) => Err(RunFault::Memory),
         Err(refusal) => refuse(alloc, &refusal, writer),
     }

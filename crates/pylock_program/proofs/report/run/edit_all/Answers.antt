@@ -31,4 +31,4 @@ returns-clause-reports g c =
     let begun = c.in_ok-editing.ensures in
     let fed = c.in_ok-feed_all.ensures in
     let ended = c.in_ok-end.ensures in
-    session_reports c.args.session.state _ _ _ _ _ _ _ _ _ _ begun.editing begun.written fed.edited fed.end ended.within ended.editing ended.written c.status.ensures
+    session_reports c.args.session.state _ _ _ _ _ _ _ _ _ _ begun.editing begun.written fed.edited fed.end ended.within ended.editing ended.written c.status-status.ensures

@@ -1,7 +1,7 @@
 use Rattle.std.proofs.Common.{rules, ◌≡◌, Err, refl}
 use Rattle.pylock_program.specs.Report.{opened}
 use Rattle.pylock_program.proofs.ReportLemmas.{stops_at_once, refused_runs}
-use Rattle.pylock_program.proofs.report.run.run.Goals as goal
+use Rattle.pylock_program.proofs.report.run.run_whole.Goals as goal
 
 pub returns-in-Err-Memory-clause-stops : goal.returns-in-Err-Memory-clause-stops
 returns-in-Err-Memory-clause-stops g c = stops_at_once _ _ _
