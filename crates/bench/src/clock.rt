@@ -29,3 +29,9 @@ pub(crate) fn print_whole<R: Clock + Print>(
     let milliseconds = start.elapsed(rt)?.as_millis();
     println!(rt; "{name}\t{milliseconds} ms\t({seen})")
 }
+
+/// Prints the microseconds since `start`, in which so many judgements were made.
+pub(crate) fn print_start<R: Clock + Print>(rt: &R, start: Instant, judged: u64) -> io::Result<()> {
+    let microseconds = start.elapsed(rt)?.as_micros();
+    println!(rt; "Session::start\t{microseconds} us\t({judged})")
+}

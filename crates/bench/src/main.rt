@@ -16,6 +16,8 @@ bench markers     nanoseconds for each parse and value of markers, and parse of 
 bench wheels      nanoseconds for each parse and choice of wheels
 bench toml FILE   milliseconds for reading a lock by toml alone, and letting go of it
 bench lock FILE   milliseconds for reading it as a lock, and letting go of it
+bench start FILE ENVIRONMENT
+                  microseconds for starting a session on it, which judges everything
 ";
 
 fn main(rt: HostRuntime) -> anyhow::Result<()> {
@@ -30,6 +32,11 @@ fn main(rt: HostRuntime) -> anyhow::Result<()> {
         [word, file] if word.as_str() == "lock" => {
             locks::time_read(&rt, &fs::read(&rt, file.as_str())?)
         }
+        [word, file, environment] if word.as_str() == "start" => locks::time_start(
+            &rt,
+            &fs::read(&rt, file.as_str())?,
+            &fs::read(&rt, environment.as_str())?,
+        ),
         _ => Ok(rt.print(USAGE)?),
     }
 }
