@@ -77,3 +77,9 @@ stripped_prefix p s (Some x) h =
 -- behind a first byte below 128
 pub boundary_behind_first : (bs : List ℕ) → IsUtf8 bs → 0 < length bs → get_or bs 0 0 < 128 → IsCharBoundary bs 1
 boundary_behind_first bs utf8 some low = IsCharBoundary-after_ascii bs 0 utf8 some low
+
+-- in front of the white space at the end
+pub ruleset before_white = (boundary_before_white, white_within)
+
+-- on either side of a byte below 128
+pub ruleset around_ascii = (boundary_before_ascii, boundary_behind_ascii)

@@ -73,3 +73,6 @@ no_end [] (at_in left) inner e = refl
 no_end [] (at_right left comparator) inner e = refl
 no_end [] (at_rest atom) inner e = absurd cc
 no_end (frame ∷ outer) stage inner e = refl
+
+-- whether a parenthesis is open
+pub ruleset open_or_none = (none_open, some_open)

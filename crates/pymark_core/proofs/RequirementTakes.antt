@@ -12,6 +12,7 @@ use Rattle.pyver_core.specs.Agreement.{Gives}
 use Rattle.pyver_core.specs.Name.{is_name, is_name_byte}
 use Rattle.pyver_core.specs.Parsed.{parsed_set}
 use Rattle.pyver_core.specs.Results.{◌>>=◌}
+use Rattle.pyver_core.specs.Set.Reading.{set_of, specifiers_of}
 use Rattle.pyver_core.specs.Version.Grammar.{is_white, starts}
 use Rattle.pyver_core.specs.Version.Reading.{after_white}
 use Rattle.pyver_core.specs.declared.set.specifier.Specifier.{Specifier}
@@ -348,3 +349,8 @@ requirement_takes text parts e =
 pub given_requirement : (text : List ℕ) (r : Result RequirementValue RequirementError) → Gives refusal.Memory (λ parts. parts) r (requirement_of text) → IfOk r (λ parts. Req text parts)
 given_requirement text (Ok parts) gives = requirement_takes text parts gives
 given_requirement text (Err e) gives = tt
+
+-- an empty text writes the empty set
+pub empty_set : parsed_set [] ≡ Ok []
+unfolding parsed_set set_of specifiers_of
+empty_set = refl

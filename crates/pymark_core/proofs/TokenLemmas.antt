@@ -32,3 +32,6 @@ quotation_front quote text = same_behind (quoted_at quote (drop 1 text)) text
     same_behind : (o : Option (List ℕ)) (text : List ℕ) → option_map {U = List ℕ × List ℕ} (λ inside. (inside, drop (length inside + 1) (drop 1 text))) o ≡ option_map {U = List ℕ × List ℕ} (λ inside. (inside, drop (length inside + 2) text)) o
     same_behind None text = refl
     same_behind (Some inside) text = ap (λ rest. Some (inside, rest)) (rw drop-drop (ap (λ n. drop n text) (omega arith)))
+
+-- the token in front, or none
+pub ruleset token_in_front = (token_of_first, token_of_none)

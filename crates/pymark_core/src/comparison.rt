@@ -328,7 +328,6 @@ fn value_by(
 }
 
 /// The left text against the right one, which reads as this specifier.
-#[tactic(auto, unfolding(pyver_core::specs::Parsed::parsed_version, pyver_core::specs::Parsed::parsed_operand))]
 fn judge(
     left: &Candidate,
     operator: Operator,

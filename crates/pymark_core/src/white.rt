@@ -38,7 +38,7 @@ pub(crate) fn past_white(text: &str) -> &str
 }
 
 /// The text without the white space at its front and at its end.
-#[tactic(auto, using(crate::proofs::Boundaries::boundary_before_white, crate::proofs::Boundaries::white_within))]
+#[tactic(auto, using(crate::proofs::Boundaries::before_white))]
 pub(crate) fn trimmed(text: &str) -> &str
     ensures { result.now ≡ trimmed text.now }
 {

@@ -278,7 +278,7 @@ impl Builder {
     }
 
     /// The stage behind one more token.
-    #[tactic(auto, using(crate::proofs::NoteLemmas::nothing_noted), unfolding(crate::specs::Marker::Reading::step))]
+    #[tactic(auto, unfolding(crate::specs::Marker::Reading::step))]
     pub(super) fn step(
         &mut self,
         alloc: Global,
@@ -301,7 +301,7 @@ impl Builder {
     }
 
     /// The tree, where the text may end behind this atom.
-    #[tactic(auto, using(crate::proofs::BuilderLemmas::none_open, crate::proofs::BuilderLemmas::some_open))]
+    #[tactic(auto, using(crate::proofs::BuilderLemmas::open_or_none))]
     fn end(self, atom: Atom) -> Option<Tree>
         ensures { option_map tree_view result
             ≡ end_at (outer_view self) (at_rest (atom_view atom)) (frame_view self.inner) }
@@ -315,7 +315,7 @@ impl Builder {
     }
 
     /// The tree, where the text may end at this stage.
-    #[tactic(auto, using(crate::proofs::BuilderLemmas::no_end), unfolding(crate::specs::Marker::Reading::finish))]
+    #[tactic(auto, unfolding(crate::specs::Marker::Reading::finish))]
     pub(super) fn finish(self, stage: Stage) -> Option<Tree>
         ensures { option_map tree_view result ≡ finish (place_view self stage) }
     {

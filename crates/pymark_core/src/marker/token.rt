@@ -70,7 +70,7 @@ fn word_len(text: &str) -> usize
 
 /// What stands between an opening quote, which is in front of the text, and the same quote, and the
 /// text behind it.
-#[tactic(auto, using(crate::proofs::Boundaries::boundary_before_ascii, crate::proofs::Boundaries::boundary_behind_ascii))]
+#[tactic(auto, using(crate::proofs::Boundaries::around_ascii))]
 fn quoted(quote: u8, text: &str) -> Option<(&str, &str)>
     requires { quote < 128 }
     ensures { option_map lent_cut result ≡ quoted_front quote text.now }
@@ -173,7 +173,7 @@ fn token_by(first: u8, text: &str) -> Option<(Token<'_>, &str)>
 }
 
 /// The token at the front of the text, and the text behind it.
-#[tactic(auto, using(crate::proofs::TokenLemmas::token_of_first, crate::proofs::TokenLemmas::token_of_none))]
+#[tactic(auto, using(crate::proofs::TokenLemmas::token_in_front))]
 pub(super) fn first_token(text: &str) -> Option<(Token<'_>, &str)>
     ensures { option_map lent_front result ≡ token_front text.now }
 {

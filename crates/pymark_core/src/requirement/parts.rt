@@ -71,7 +71,7 @@ fn name_len(text: &str) -> usize
 }
 
 /// The name at the front, and the text behind it.
-#[tactic(auto, using(crate::proofs::Cuts::boundary_behind_name), unfolding(crate::specs::Requirement::Reading::name_at))]
+#[tactic(auto, unfolding(crate::specs::Requirement::Reading::name_at))]
 pub(super) fn read_name(text: &str) -> Result<(&str, &str), RequirementError>
     ensures { Gives RequirementError.Memory (λ x. (x.0.now, x.1.now)) result (name_at text.now) }
 {
@@ -171,7 +171,7 @@ fn url_len(text: &str) -> usize
 }
 
 /// The URL, which goes on to the next white space, and the text of the marker.
-#[tactic(auto, using(crate::proofs::Cuts::boundary_behind_url), unfolding(crate::specs::Requirement::Reading::url_source))]
+#[tactic(auto, unfolding(crate::specs::Requirement::Reading::url_source))]
 fn read_url(alloc: Global, text: &str) -> Result<Source<'_>, RequirementError>
     ensures { Gives RequirementError.Memory source_view result (url_source text.now) }
 {
@@ -202,7 +202,7 @@ fn read_marker_text(text: &str) -> Result<Option<&str>, RequirementError>
 }
 
 /// The empty set.
-#[tactic(auto, unfolding(pyver_core::specs::Parsed::parsed_set, pyver_core::specs::Set::Reading::set_of, pyver_core::specs::Set::Reading::specifiers_of))]
+#[tactic(auto, using(crate::proofs::RequirementTakes::empty_set))]
 fn no_specifiers(alloc: Global) -> Result<SpecifierSet, AllocError>
     ensures { IfOk result (λ set. set ≡ []) }
 {

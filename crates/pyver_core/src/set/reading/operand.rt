@@ -63,7 +63,7 @@ fn arbitrary_len(bytes: &[u8]) -> usize
 }
 
 /// The text behind `===`, which has no white space, `;`, `)` or `,` in it.
-#[tactic(auto, using(crate::proofs::Lemmas::Set::Boundaries::boundary_behind_arbitrary), unfolding(crate::specs::Set::Reading::arbitrary_of))]
+#[tactic(auto, unfolding(crate::specs::Set::Reading::arbitrary_of))]
 pub(super) fn read_arbitrary(text: &str) -> Option<&str>
     ensures { option_map (λ t. t.now) result ≡ arbitrary_of text.now }
 {

@@ -157,7 +157,7 @@ pub(super) fn tail(bytes: &[u8]) -> (Digits<'_>, &[u8])
 }
 
 /// A segment of a local part, and the text behind it.
-#[tactic(auto, using(crate::proofs::Lemmas::Version::Fronts::fronts), unfolding(crate::specs::Version::Reading::segment_at))]
+#[tactic(auto, unfolding(crate::specs::Version::Reading::segment_at))]
 pub(super) fn segment(bytes: &[u8]) -> Option<(Segment<'_>, &[u8])>
     ensures { option_map (λ x. (x.0, x.1.now)) result ≡ segment_at bytes.now }
 {
