@@ -1,4 +1,5 @@
 mod FileNameLemmas
+pub mod NameLemmas
 mod TableLemmas
 mod FrontLemmas
 mod SharedLemmas

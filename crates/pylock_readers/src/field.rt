@@ -9,7 +9,8 @@ ghost use Rattle.pylock_readers.specs.Entry.Fields.{required, text_of, members_o
 ghost use Rattle.pylock_readers.specs.Entry.Fields.{text_in};
 ghost use Rattle.pylock_readers.specs.Entry.Fields.{optional_text_in, flag_in, items_in};
 
-use pyver_core::{is_name, normal_name};
+use crate::name::into_normal;
+use pyver_core::is_name;
 use std::alloc::{AllocError, Global};
 use std::mem;
 use toml::{Table, Value};
@@ -79,7 +80,7 @@ pub(crate) fn into_name(alloc: Global, value: Value) -> Result<String, FieldErro
     if !is_name(text.as_str()) {
         return Err(FieldError::Wrong);
     }
-    Ok(normal_name(alloc, text.as_str())?)
+    Ok(into_normal(alloc, text)?)
 }
 
 /// A text that has to be there.

@@ -8,6 +8,7 @@ mod environment;
 mod error;
 mod field;
 mod lock;
+mod name;
 mod text;
 
 pub use entry::{Archive, Directory, DistributionFile, Entry, Sdist, Vcs, WheelFile};

@@ -1,0 +1,15 @@
+-- Names that are their own normal form.
+use Rattle.std.specs.Prelude.{ℕ, ◌==◌, ◌&&◌, ◌||◌, not, Bool, false, true, if◌then◌else◌, List, [], ◌∷◌}
+use Rattle.std.specs.Char.{is_ascii_digit, is_ascii_lowercase}
+
+-- a byte that a normal form may have
+abbrev pub is_normal_byte : ℕ → Bool
+is_normal_byte b = is_ascii_lowercase b || is_ascii_digit b || (b == 45)
+
+-- whether a name goes on in normal form, behind a `-` or not
+abbrev pub is_normal_behind : Bool → List ℕ → Bool
+is_normal_behind after_dash [] = true
+is_normal_behind after_dash (b ∷ rest) =
+    if (after_dash && (b == 45)) || not (is_normal_byte b)
+    then false
+    else is_normal_behind (b == 45) rest
