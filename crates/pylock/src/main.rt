@@ -85,10 +85,10 @@ fn main(rt: HostRuntime) -> ExitCode {
             Ok(status) => ExitCode::from(status),
             Err(failure) => fail(&rt, failure),
         },
-        Err(CommandError::Refused(error)) => {
-            let _ = error.print(&rt);
-            ExitCode::from(error.exit_code() as u8)
-        }
+        Err(CommandError::Refused(error)) => match (error.print(&rt), error.exit_code()) {
+            (Err(_), 0) => fail(&rt, Failure::Write),
+            (_, status) => ExitCode::from(status as u8),
+        },
         Err(CommandError::Memory) => fail(&rt, Failure::Memory),
     }
 }
