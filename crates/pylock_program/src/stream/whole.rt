@@ -34,7 +34,7 @@ impl From<AllocError> for FileFault {
 
 /// A buffer for one piece.
 pub fn piece_buffer(alloc: Global) -> Result<Vec<u8>, AllocError>
-    ensures { IfOk result (λ buffer. 0 < vec_len buffer) }
+    ensures { IfOk result (λ buffer. vec_len buffer ≡ 65536) }
 {
     vec![in alloc; 0u8; PIECE_BYTES]
 }
