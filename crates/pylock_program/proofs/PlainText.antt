@@ -1,5 +1,5 @@
 -- A text without a byte to escape.
-use Rattle.std.proofs.Common.{◌≡◌, ◌∙◌, ◌<◌, ◌≤◌, ◌+◌, ◌-◌, ◌*◌, ◌/◌, ◌%◌, ◌==◌, ℕ, Bool, true, false, List, [], ◌∷◌, ◌++◌, ap, sym, refl, subst, take, drop, length, zero, suc, nat_lt, arith}
+use Rattle.std.proofs.Common.{◌≡◌, ◌∙◌, ◌<◌, ◌≤◌, ◌+◌, ◌-◌, ◌*◌, ◌/◌, ◌%◌, ◌==◌, ℕ, Bool, true, List, [], ◌∷◌, ◌++◌, ap, sym, refl, subst, take, drop, length, zero, suc, nat_lt, arith}
 use Rattle.std.proofs.lemmas.Bool.{and_parts, not-true, ne_eqb, ltb-true, eqb-true}
 use Rattle.std.proofs.lemmas.List.{take-append-drop, drop-drop, length-drop, nil_from_length}
 use Rattle.std.proofs.lemmas.List.Folds.{list_all-append}

@@ -1,21 +1,20 @@
 -- From the editing by an input to the report on its lines.
-use Rattle.std.proofs.Common.{◌≡◌, ℕ, ◌+◌, ◌<◌, ◌≤◌, List, [], ◌++◌, length, cond, ◌&&◌, not, Result, Ok, Err, IsErr, IfOk, OnOk, IfErr, OnErr, refl, sym, ap, ◌∙◌, arith, append_assoc, subst, inl, inr, ⊎_elim}
+use Rattle.std.proofs.Common.{◌≡◌, ℕ, ◌+◌, ◌<◌, ◌≤◌, List, [], ◌++◌, length, cond, ◌&&◌, not, Result, Ok, Err, IfOk, OnOk, IfErr, OnErr, refl, sym, ap, ◌∙◌, arith, append_assoc, subst, inl, inr, ⊎_elim}
 use Rattle.std.proofs.KnownBytes.{Appends-trans, Consumes-nil}
-use Rattle.std.specs.Io.KnownBytes.{Appends, Consumes, IsAtEnd}
+use Rattle.std.specs.Io.KnownBytes.{Appends, IsAtEnd}
 use Rattle.pylock_core.specs.Session.State.{State}
 use Rattle.pylock_core.specs.Session.Steps.{answer}
 use Rattle.pylock_program.specs.Inner.Edited.{EditsAll, EditFault}
 use Rattle.pylock_program.specs.Inner.Editing.{At, start, bytes_done, bytes_text, finished, finished_text, lines_begun}
 use Rattle.pylock_program.specs.Inner.Faults.{IsOutputFault}
 use Rattle.pylock_program.specs.Inner.Writes.{Writes}
-use Rattle.pylock_program.specs.Line.{input_lines, ended_lines}
+use Rattle.pylock_program.specs.Line.{input_lines}
 use Rattle.pylock_program.specs.Report.{standing_text, is_plan, state_after_all, report_on}
-use Rattle.pylock_program.specs.Report.Fault.{HasCause}
-use Rattle.pylock_program.specs.Report.Run.{Reports, Stops, PassesALimit, most_bytes, most_lines}
+use Rattle.pylock_program.specs.Report.Run.{Reports, Stops, most_bytes, most_lines}
 use Rattle.pylock_program.specs.Stream.{SourceValue, SinkValue, TakesFront, one_more}
 use Rattle.pylock_program.specs.Text.Refusal.{refusal_text}
 use Rattle.pylock_program.specs.declared.report.fault.RunFault.{RunFault}
-use Rattle.pylock_program.specs.declared.report.fault.RunFault.TheVariants.{Read, Write, Input, Memory}
+use Rattle.pylock_program.specs.declared.report.fault.RunFault.TheVariants.{Memory}
 use Rattle.pylock_program.specs.declared.report.opening.OpenError.{OpenError}
 use Rattle.pylock_program.proofs.EditingLemmas.{edits, prints_ended, plan_told, ended-finished}
 use Rattle.pylock_program.proofs.RunLemmas.{HasCause-map}

@@ -14,7 +14,7 @@ use Rattle.pylock_program.specs.Stream.{SourceValue, SinkValue, TakesFront, one_
 use Rattle.pylock_program.specs.declared.report.fault.RunFault.{RunFault}
 use Rattle.pylock_program.specs.declared.report.fault.RunFault.TheVariants.{Read, Write, Input, Memory}
 use Rattle.pylock_program.proofs.EditingLemmas.{begun_past, text_front, done_front, bytes_done-append, bytes_text-append}
-use Rattle.pylock_program.proofs.WriteLemmas.{Writes-nil, Writes-trans, Pours-none, Pours-more, Pours-flush, front_more, front_same, front_after, front_none, front_all}
+use Rattle.pylock_program.proofs.WriteLemmas.{Writes-nil, Writes-trans, Pours-none, Pours-more, Pours-flush, front_more, front_same, front_after, front_none}
 
 pub on_err : {T E P : Type 0} (r : Result T E) → P → OnErr r P
 on_err (Ok x) p = tt

@@ -1,5 +1,5 @@
 -- What the program does with its task, and how it ends.
-use Rattle.std.specs.Prelude.{ℕ, List, codes, if◌then◌else◌}
+use Rattle.std.specs.Prelude.{ℕ, List, codes}
 use Rattle.pylock_command.specs.declared.command_line.Task.{Task}
 use Rattle.pylock_command.specs.declared.command_line.Task.TheVariants as task
 use Rattle.pylock_program.specs.declared.program.Failure.{Failure}

@@ -153,7 +153,7 @@ impl Editing {
     }
 
     /// Ends the line, and pushes the answer after it or its refusal.
-    #[tactic(auto, unfolding(crate::specs::Inner::Editing::end_line, crate::specs::Inner::Editing::end_text))]
+    #[tactic(auto, unfolding(crate::specs::Inner::Editing::end_line))]
     fn end_line(&mut self, out: &mut Vec<u8>) -> Result<(), AllocError>
         requires { self.old.ended < most_lines }
         ensures editing { OnOk result (self.new ≡ end_line self.old) }

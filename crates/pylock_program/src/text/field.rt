@@ -9,7 +9,7 @@ ghost use Rattle.pylock_program.specs.Text.Field.{escape, escaped, field, line_o
 use std::alloc::AllocError;
 
 /// Pushes the decimal digits of a number.
-#[tactic(auto, using(std::proofs::lemmas::Fmt::decimal_step, std::proofs::lemmas::Fmt::decimal_digit, std::proofs::Common::append_assoc))]
+#[tactic(auto, using(crate::proofs::TextLemmas::decimal_steps))]
 pub fn push_decimal(out: &mut Vec<u8>, number: u64) -> Result<(), AllocError>
     ensures { OnOk result (out.new.items ≡ out.old.items ++ decimal number) }
 {
