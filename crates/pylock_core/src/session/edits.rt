@@ -32,6 +32,9 @@ use pywheel_core::TagList;
 use std::alloc::{AllocError, Global};
 use std::collections::BTreeMap;
 
+/// How many numbers a session gives out.
+const MOST_NUMBERS: usize = 100_000;
+
 /// The entry of the number, among the entries of which the first has the number 1.
 #[tactic(auto, using(crate::proofs::SessionLemmas::row_numbers))]
 pub(crate) fn entry_in(entries: &[Option<Entry>], number: u32) -> Option<&Entry>
@@ -67,7 +70,7 @@ fn add_entry(parts: &mut Parts, entry: Entry, judged: &mut Vec<u32>) -> Result<(
         → apply (edit.Add entry) (state_of parts.old) ≡ Err error) }
     ensures err { OnErr result (shown parts.new ≡ shown parts.old) }
 {
-    if parts.entries.len() >= 100_000 {
+    if parts.entries.len() >= MOST_NUMBERS {
         return Err(EditError::TooMany);
     }
     add(parts, entry, judged)?;

@@ -161,7 +161,7 @@ fn marker_standing(
     }
 }
 
-/// The code of a fault of a marker.
+/// The code of a fault of a marker. Want of memory is told apart before, so its arm is never met.
 fn fault_code(fault: EvalFault) -> FaultCode
     ensures { result ≡ fault_code fault }
 {
