@@ -1,6 +1,6 @@
 -- A requirement's text is read as the requirement that it is.
-use Rattle.std.proofs.Common.{◌≡◌, ℕ, ◌+◌, ◌-◌, ◌<◌, Bool, true, false, cond, not, ◌&&◌, ◌||◌, List, [], ◌∷◌, ◌++◌, length, take, drop, map, Option, Some, None, ok_or, Result, Ok, Err, ◌∙◌, ap, refl, sym, inl, inr, append_assoc, append-nil, length-append, arith}
-use Rattle.std.specs.Prelude.{◌==◌, nat_lt, option_map, slice_get, unwrap_or}
+use Rattle.std.proofs.Common.{◌≡◌, ◌≢◌, ℕ, ◌+◌, ◌-◌, ◌<◌, Bool, true, false, cond, not, ◌&&◌, ◌||◌, List, [], ◌∷◌, ◌++◌, length, take, drop, map, Option, Some, None, ok_or, Result, Ok, Err, ◌∙◌, ap, refl, sym, inl, inr, append_assoc, append-nil, length-append, arith}
+use Rattle.std.specs.Prelude.{◌==◌, IfErr, nat_lt, option_map, slice_get, unwrap_or}
 use Rattle.std.specs.List.{after_first, before_first, list_all, list_any, position_or_len, prefix_len, slice_split}
 use Rattle.std.proofs.Math.Dec.{eqb-suc-zero}
 use Rattle.std.proofs.Math.Seq.{drop-append-add, take-append_seam}
@@ -8,6 +8,7 @@ use Rattle.std.proofs.lemmas.Bool.{le-ltb}
 use Rattle.std.proofs.lemmas.List.{get_or_push}
 use Rattle.std.proofs.lemmas.Option.{slice_get-get_or}
 use Rattle.std.proofs.lemmas.Bool.Decides.{Decides-ltb}
+use Rattle.pyver_core.specs.Agreement.{Gives}
 use Rattle.pyver_core.specs.Name.{is_name, is_name_byte}
 use Rattle.pyver_core.specs.Parsed.{parsed_set}
 use Rattle.pyver_core.specs.Results.{◌>>=◌}
@@ -242,3 +243,13 @@ requirement_again text parts r =
 
     behind_name : List ℕ × List ℕ → Result RequirementValue RequirementError
     behind_name name = extras_at (after_white name.1) >>= λ extras. behind_extras name.0 extras
+
+-- ---- what a refusal says, over what a call gives
+
+pub given_no_requirement : (text : List ℕ) (r : Result RequirementValue RequirementError) → Gives refusal.Memory (λ parts. parts) r (requirement_of text)
+    → IfErr r (λ e. e ≢ refusal.Memory → (parts : RequirementValue) → Req text parts → ⊥)
+given_no_requirement text (Ok parts) gives = tt
+given_no_requirement text (Err e) gives = λ other parts is.
+    let read = requirement_again text parts is in
+    let refused = gives other in
+    absurd cc

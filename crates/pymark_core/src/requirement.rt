@@ -3,10 +3,11 @@
 mod error;
 mod parts;
 
-ghost use Rattle.std.specs.Prelude.{◌≡◌, IfOk, map, option_map, string_bytes};
+ghost use Rattle.std.specs.Prelude.{◌≡◌, ◌≢◌, IfErr, IfOk, map, option_map, string_bytes};
 ghost use Rattle.pyver_core.specs.Agreement.{Gives};
 ghost use Rattle.pymark_core.specs.Requirement.Grammar.{Req};
 ghost use Rattle.pymark_core.specs.Requirement.Reading.{marker_in, requirement_of};
+ghost use Rattle.pymark_core.specs.Requirement.Value.{RequirementValue};
 
 use crate::marker::{Marker, MarkerError};
 use crate::white::past_white;
@@ -54,8 +55,10 @@ impl Requirement {
     /// takes memory for each part, and for the marker as [`Marker::parse`] does.
     pub fn parse(alloc: Global, text: &str) -> Result<Requirement, RequirementError>
         ensures ok { IfOk result (λ r. Req text.now r) }
+        ensures refused { IfErr result (λ e. e ≢ RequirementError.Memory
+            → (parts : RequirementValue) → Req text.now parts → ⊥) }
 
-        // The same, over the one answer of the grammar.
+        // The same, over the one answer of the grammar, and which refusal it is.
         ensures exact { Gives RequirementError.Memory (λ r. r) result (requirement_of text.now) }
     {
         read_requirement(alloc, text)
