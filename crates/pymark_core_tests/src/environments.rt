@@ -194,7 +194,7 @@ fn check_copied_groups<R: Abort + AllocGlobal>(
             (Call::AddGroup, "a.b", false),
         ],
     )?;
-    let mut copy = environment.clone()?;
+    let mut copy = environment.copy()?;
     check_groups(rt, environment, &mut copy)
 }
 

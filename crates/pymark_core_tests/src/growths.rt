@@ -63,6 +63,9 @@ fn check_copy<R: Abort + AllocGlobal>(rt: &R, environment: &mut Environment) {
     if let Ok(copy) = environment.copy() {
         check_has(rt, &copy, is_set, is_in);
     }
+    if let Ok(copy) = environment.clone() {
+        check_has(rt, &copy, is_set, is_in);
+    }
     check_has(rt, environment, is_set, is_in);
 }
 

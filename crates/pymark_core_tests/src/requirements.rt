@@ -1,5 +1,5 @@
 //! Requirements: their parts and each refusal. Besides the worked examples, those of PEP 508,
-//! "Examples".
+//! "Examples" and "Environment Markers", and the strings that "Complete Grammar" tests.
 
 use pymark_core::{Requirement, RequirementError};
 use std::alloc::{AllocError, Global};
@@ -101,7 +101,31 @@ fn copies_have_the_same_parts(rt: HostRuntime) -> Result<(), Fail> {
     Ok(())
 }
 
-/// The examples of PEP 508 that this grammar takes as it does.
+/// The examples of PEP 508, "Examples" and "Environment Markers".
+#[test]
+fn examples_of_the_standard(rt: HostRuntime) -> Result<(), Fail> {
+    for (text, wanted) in [
+        (
+            "requests [security,tests] >= 2.8.1, == 2.8.* ; python_version < \"2.7\"",
+            "requests,security,tests|>=2.8.1,==2.8.*|-|python_version < \"2.7\"",
+        ),
+        (
+            "pip @ https://github.com/pypa/pip/archive/1.3.1.zip\
+             #sha1=da9234ee9982d4bbb3c72346a6de940a148ea686",
+            "pip||https://github.com/pypa/pip/archive/1.3.1.zip\
+             #sha1=da9234ee9982d4bbb3c72346a6de940a148ea686|-",
+        ),
+        (
+            "argparse;python_version<\"2.7\"",
+            "argparse||-|python_version<\"2.7\"",
+        ),
+    ] {
+        check(&rt, text, wanted)?;
+    }
+    Ok(())
+}
+
+/// The strings that PEP 508, "Complete Grammar", tests its grammar with.
 #[test]
 fn requirements_of_the_standard(rt: HostRuntime) -> Result<(), Fail> {
     for (text, wanted) in [
@@ -126,8 +150,20 @@ fn requirements_of_the_standard(rt: HostRuntime) -> Result<(), Fail> {
             "name||-|os_name=='a' or os_name=='b'",
         ),
         (
+            "name; os_name=='a' and os_name=='b' or os_name=='c'",
+            "name||-|os_name=='a' and os_name=='b' or os_name=='c'",
+        ),
+        (
             "name; os_name=='a' and (os_name=='b' or os_name=='c')",
             "name||-|os_name=='a' and (os_name=='b' or os_name=='c')",
+        ),
+        (
+            "name; os_name=='a' or os_name=='b' and os_name=='c'",
+            "name||-|os_name=='a' or os_name=='b' and os_name=='c'",
+        ),
+        (
+            "name; (os_name=='a' or os_name=='b') and os_name=='c'",
+            "name||-|(os_name=='a' or os_name=='b') and os_name=='c'",
         ),
     ] {
         check(&rt, text, wanted)?;
@@ -144,10 +180,19 @@ fn corners_of_requirements(rt: HostRuntime) -> Result<(), Fail> {
         ("a [ ] ==1", "a|==1|-|-"),
         ("a[b,b]", "a,b,b||-|-"),
         ("a @ ;", "a||;|-"),
+        ("a @ u ", "a||u|-"),
     ] {
         check(&rt, text, wanted)?;
     }
     Ok(())
+}
+
+fn check_refused<R: Abort + AllocGlobal>(rt: &R, text: &str, refusal: RequirementError) {
+    assert_eq!(rt;
+        Requirement::parse(rt.alloc(), text).err(),
+        Some(refusal),
+        "{text}"
+    );
 }
 
 #[test]
@@ -168,10 +213,15 @@ fn refusals_of_requirements(rt: HostRuntime) {
         ("a ; extras == \"x\"", RequirementError::Marker),
         ("a @ u v", RequirementError::Trailing),
     ] {
-        assert_eq!(rt;
-            Requirement::parse(rt.alloc(), text).err(),
-            Some(refusal),
-            "{text}"
-        );
+        check_refused(&rt, text, refusal);
     }
+}
+
+/// What [`Marker::parse`](pymark_core::Marker::parse) refuses as too deep is no marker.
+#[test]
+fn a_marker_too_deep_is_refused_as_a_marker(rt: HostRuntime) -> Result<(), Fail> {
+    let opened = "(".repeat(rt.alloc(), 65)?;
+    let text = format!(in rt.alloc(); "a ; {opened}")?;
+    check_refused(&rt, text.as_str(), RequirementError::Marker);
+    Ok(())
 }

@@ -126,6 +126,7 @@ fn the_left_operand_is_judged_first(rt: HostRuntime) -> Result<(), Fail> {
         &[
             ("platform_machine == extra", unset),
             ("extra == platform_machine", Err(EvalFault::Extra)),
+            ("extra in extras", Err(EvalFault::Extra)),
             ("platform_machine in extras", unset),
             ("os_name == os_name", Ok(true)),
             ("'3.12' == python_full_version", Ok(true)),
