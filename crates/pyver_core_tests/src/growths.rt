@@ -3,9 +3,11 @@
 //! just what it answers with ample memory.
 
 use pyver_core::{
-    Operator, PartsError, Specifier, SpecifierError, SpecifierSet, Version, VersionError,
-    VersionParts, normal_name,
+    Label, LocalPart, Operator, PartsError, Specifier, SpecifierError, SpecifierSet, Version,
+    VersionError, VersionParts, normal_name,
 };
+use std::alloc::{AllocError, Global};
+use std::process::Abort;
 use std::test::Fail;
 
 #[test]
@@ -13,6 +15,19 @@ fn version_parse(rt: HostRuntime) {
     match Version::parse(rt.alloc(), "1!2.0RC1.post3.dev4+Ubuntu.01") {
         Ok(version) => assert_eq!(rt; version.text(), "1!2.0rc1.post3.dev4+ubuntu.1"),
         Err(error) => assert!(rt; matches!(error, VersionError::Memory), "{error:?}"),
+    }
+}
+
+fn check_version_copy<R: Abort>(rt: &R, version: &Version) {
+    if let Ok(copy) = version.clone() {
+        assert_eq!(rt; copy.text(), version.text());
+    }
+}
+
+#[test]
+fn version_copy(rt: HostRuntime) {
+    if let Ok(version) = Version::parse(rt.alloc(), "1!2.0RC1.post3.dev4+Ubuntu.01") {
+        check_version_copy(&rt, &version);
     }
 }
 
@@ -29,6 +44,25 @@ fn specifier_new(rt: HostRuntime) {
     match Specifier::new(rt.alloc(), Operator::NotEqual, "1!2.0.*") {
         Ok(specifier) => assert!(rt; specifier.operator() == Operator::NotEqual),
         Err(error) => assert!(rt; matches!(error, SpecifierError::Memory), "{error:?}"),
+    }
+}
+
+fn check_specifier_copy<R: Abort>(rt: &R, specifier: &Specifier) {
+    if let Ok(copy) = specifier.clone() {
+        assert!(rt; copy == *specifier);
+    }
+}
+
+#[test]
+fn specifier_copy(rt: HostRuntime) {
+    for (operator, operand) in [
+        (Operator::NotEqual, "1!2.0.*"),
+        (Operator::Equal, "1+a.1"),
+        (Operator::Arbitrary, "x"),
+    ] {
+        if let Ok(specifier) = Specifier::new(rt.alloc(), operator, operand) {
+            check_specifier_copy(&rt, &specifier);
+        }
     }
 }
 
@@ -60,6 +94,30 @@ fn version_from_parts(rt: HostRuntime) -> Result<(), Fail> {
         Err(error) => assert!(rt; matches!(error, PartsError::Memory), "{error:?}"),
     }
     Ok(())
+}
+
+/// The parts of `7+a1.6`.
+fn parts_with_local(alloc: Global) -> Result<VersionParts, AllocError> {
+    let label = Label::new(String::from_str(alloc, "a1")?);
+    Ok(VersionParts {
+        epoch: 0,
+        release: vec![in alloc; 7]?,
+        pre: None,
+        post: None,
+        dev: None,
+        local: vec![in alloc; LocalPart::Text(label), LocalPart::Number(6)]?,
+    })
+}
+
+#[test]
+fn version_from_parts_with_a_local_part(rt: HostRuntime) {
+    let Ok(parts) = parts_with_local(rt.alloc()) else {
+        return;
+    };
+    match Version::from_parts(rt.alloc(), parts) {
+        Ok(version) => assert_eq!(rt; version.text(), "7+a1.6"),
+        Err(error) => assert!(rt; matches!(error, PartsError::Memory), "{error:?}"),
+    }
 }
 
 #[test]

@@ -105,3 +105,11 @@ fn largest_numbers(rt: HostRuntime) -> Result<(), Fail> {
     check_largest(&rt, &read);
     Ok(())
 }
+
+#[test]
+fn a_label_gives_its_text_back(rt: HostRuntime) -> Result<(), Fail> {
+    let label = Label::new(String::from_str(rt.alloc(), "a")?);
+    let text = label.into_string();
+    assert_eq!(rt; text.as_str(), "a");
+    Ok(())
+}

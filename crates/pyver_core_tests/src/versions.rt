@@ -60,6 +60,29 @@ fn version_long_form(rt: HostRuntime) -> Result<(), Fail> {
     Ok(())
 }
 
+/// Whether the version is a pre-release, and whether it is a post-release.
+fn kinds<R: AllocGlobal>(rt: &R, text: &str) -> Option<(bool, bool)> {
+    match Version::parse(rt.alloc(), text) {
+        Ok(version) => Some((version.is_prerelease(), version.is_postrelease())),
+        Err(_) => None,
+    }
+}
+
+#[test]
+fn pre_releases_and_post_releases(rt: HostRuntime) {
+    for (text, is_prerelease, is_postrelease) in [
+        ("1.0", false, false),
+        ("1.0a1", true, false),
+        ("1.0.dev1", true, false),
+        ("1.0.post1", false, true),
+    ] {
+        assert!(rt;
+            kinds(&rt, text) == Some((is_prerelease, is_postrelease)),
+            "{text}"
+        );
+    }
+}
+
 #[test]
 fn version_greedy_separators(rt: HostRuntime) {
     let answered = [
