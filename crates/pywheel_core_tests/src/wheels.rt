@@ -195,6 +195,10 @@ fn names_of_the_field(rt: HostRuntime) -> Result<(), Fail> {
             "zope.interface-7.2-cp313-cp313-win_amd64.whl",
             "zope.interface, 7.2, no build, cp313-cp313-win_amd64",
         ),
+        (
+            "PySide2-5.15.2.1-5.15.2-cp35-abi3-win_amd64.whl",
+            "PySide2, 5.15.2.1, build 5.15.2 (5, \".15.2\"), cp35-abi3-win_amd64",
+        ),
         ("_- 1.0 -py3-none-any.whl", "_, 1.0, no build, py3-none-any"),
         (
             "a-1-1~ x-py3-none-any.whl",
