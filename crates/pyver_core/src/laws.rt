@@ -1,8 +1,10 @@
 //! Laws of the definitions alone: each function's contract is a law, and its body is empty.
 
-ghost use Rattle.std.specs.Prelude.{◌≡◌, ℕ, List, [], ◌∷◌, ◌++◌, Ok, Some, false, replicate, true};
+ghost use Rattle.std.specs.Prelude.{◌≡◌, ℕ, List, [], ◌∷◌, ◌++◌, Err, Ok, Some, false, replicate};
+ghost use Rattle.std.specs.Prelude.{true};
 ghost use Rattle.std.specs.Char.{to_ascii_lowercase};
 ghost use Rattle.std.specs.List.{list_all};
+ghost use Rattle.pyver_core.specs.Parsed.{parsed_operand, parsed_set, parsed_version};
 ghost use Rattle.pyver_core.specs.Version.FromParts.{version_from};
 ghost use Rattle.pyver_core.specs.Version.Parts.{Parts};
 ghost use Rattle.pyver_core.specs.Version.Grammar.{Spells, is_separator, starts};
@@ -14,8 +16,11 @@ ghost use Rattle.pyver_core.specs.Set.Equality.{set_eq, specifier_eq};
 ghost use Rattle.pyver_core.specs.Set.Grammar.{IsOperand, SetText};
 ghost use Rattle.pyver_core.specs.Set.Normal.{operator_of, set_text, specifier_text};
 ghost use Rattle.pyver_core.specs.Set.Reading.{operand_of, set_of};
+ghost use Rattle.pyver_core.specs.declared.set.error.SpecifierError.TheVariants as specifier;
 ghost use Rattle.pyver_core.specs.declared.set.specifier.Operator.{Operator};
 ghost use Rattle.pyver_core.specs.declared.set.specifier.Specifier.{Specifier};
+ghost use Rattle.pyver_core.specs.declared.version.error.VersionError.TheVariants as version;
+ghost use Rattle.pyver_core.specs.declared.version.from_parts.PartsError.TheVariants as made;
 
 /// A text spells at most one version, and so does the normal form of what it spells: the same one
 /// (PEP 440, "Normalization").
@@ -85,4 +90,13 @@ pub fn runs_become_one_dash()
         → starts is_separator rest ≡ false → norm ((b ∷ run) ++ rest) ≡ 45 ∷ norm rest }
     ensures other { (b : ℕ) (rest : List ℕ) → is_separator b ≡ false
         → norm (b ∷ rest) ≡ to_ascii_lowercase b ∷ norm rest }
+{}
+
+/// The reading of a text is never want of memory, nor is what parts make: only a call may answer it.
+pub fn answers_want_no_memory()
+    ensures version { (text : List ℕ) → parsed_version text ≡ Err version.Memory → ⊥ }
+    ensures set { (text : List ℕ) → parsed_set text ≡ Err specifier.Memory → ⊥ }
+    ensures operand { (operator : Operator) (text : List ℕ)
+        → parsed_operand operator text ≡ Err specifier.Memory → ⊥ }
+    ensures made { (parts : Parts) → version_from parts ≡ Err made.Memory → ⊥ }
 {}
