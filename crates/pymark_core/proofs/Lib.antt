@@ -6,6 +6,7 @@ pub mod Cuts
 pub mod DepthLemmas
 pub mod Judged
 pub mod MarkerLemmas
+pub mod Memory
 pub mod NamesSoFar
 pub mod NormalNames
 pub mod NoteLemmas

@@ -1,6 +1,6 @@
 //! Laws of markers, each a public function that does nothing: its contract is the law.
 
-ghost use Rattle.std.specs.Prelude.{◌≡◌, ℕ, List, Some, Ok, false, true};
+ghost use Rattle.std.specs.Prelude.{◌≡◌, ℕ, List, Some, Err, Ok, false, true};
 ghost use Rattle.pymark_core.specs.Environment.{EnvironmentValue};
 ghost use Rattle.pymark_core.specs.Marker.Depth.{is_deep};
 ghost use Rattle.pymark_core.specs.Marker.Grammar.{MarkerText, has_misuse};
@@ -13,6 +13,8 @@ ghost use Rattle.pymark_core.specs.Requirement.Value.{RequirementValue};
 ghost use Rattle.pymark_core.specs.Marker.Value.{AgreeAt, marker_value};
 ghost use Rattle.pymark_core.specs.White.{trimmed};
 ghost use Rattle.pymark_core.specs.declared.marker.keys.Key.{Key};
+
+use crate::{EvalFault, MarkerError, RequirementError};
 
 /// A text has at most one tree.
 pub fn one_tree()
@@ -53,4 +55,13 @@ pub fn requirement_of_is_complete()
         → requirement_of text ≡ Ok parts → Req text parts }
     ensures complete { (text : List ℕ) (parts : RequirementValue)
         → Req text parts → requirement_of text ≡ Ok parts }
+{}
+
+/// The reading of a marker or of a requirement is never want of memory, nor is a marker's value:
+/// only a call may answer it.
+pub fn answers_want_no_memory()
+    ensures marker { (text : List ℕ) → marker_of text ≡ Err MarkerError.Memory → ⊥ }
+    ensures value { (environment : EnvironmentValue) (tree : Tree)
+        → marker_value environment tree ≡ Err EvalFault.Memory → ⊥ }
+    ensures requirement { (text : List ℕ) → requirement_of text ≡ Err RequirementError.Memory → ⊥ }
 {}

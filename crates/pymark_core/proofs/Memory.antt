@@ -1,0 +1,196 @@
+-- No definition answers want of memory.
+use Rattle.std.proofs.Common.{◌≡◌, ℕ, Bool, not, ◌||◌, ◌&&◌, List, [], ◌∷◌, take, drop, Option, Some, None, ok_or, Result, Ok, Err}
+use Rattle.std.specs.Prelude.{◌==◌}
+use Rattle.std.specs.List.{list_all, prefix_len, slice_split}
+use Rattle.pyver_core.proofs.Lemmas.Never.{Never, never_cond, never_err, never_or, never_then}
+use Rattle.pyver_core.specs.Name.{is_name, is_name_byte}
+use Rattle.pyver_core.specs.Parsed.{parsed_set}
+use Rattle.pyver_core.specs.Results.{◌>>=◌}
+use Rattle.pyver_core.specs.Set.Admission.{admits}
+use Rattle.pyver_core.specs.Set.Grammar.{specifier_numbers}
+use Rattle.pyver_core.specs.Set.Reading.{operand_of}
+use Rattle.pyver_core.specs.Version.Grammar.{has_large, is_white, numbers}
+use Rattle.pyver_core.specs.Version.Parts.{Parts}
+use Rattle.pyver_core.specs.Version.Reading.{after_white, version_of}
+use Rattle.pyver_core.specs.declared.set.specifier.Operator.{Operator}
+use Rattle.pyver_core.specs.declared.set.specifier.Operator.TheVariants as operator
+use Rattle.pyver_core.specs.declared.set.specifier.Specifier.{Specifier}
+use Rattle.pymark_core.specs.Environment.{EnvironmentValue, variable_in}
+use Rattle.pymark_core.specs.Marker.Comparison.{ComparisonValue}
+use Rattle.pymark_core.specs.Marker.Depth.{is_deep}
+use Rattle.pymark_core.specs.Marker.Grammar.{has_misuse}
+use Rattle.pymark_core.specs.Marker.Reading.{marker_from, marker_of, tree_text}
+use Rattle.pymark_core.specs.Marker.Tree.{Tree, last, or, Conjunction, only, and, Atom, leaf, group}
+use Rattle.pymark_core.specs.Marker.Value.{atom_value, both, comparison_value, conjunction_value, is_in, is_substring, marker_value, operand_text, operator_value, text_value, texts_value, version_value}
+use Rattle.pymark_core.specs.Requirement.Reading.{around, behind, cut_at, cut_source, extra_in, extras_at, extras_behind, extras_from, extras_in, marker_in, marker_text_at, name_at, names_in, refused_as, requirement_of, set_source, source_at, source_from, url_len, url_source, within_parentheses}
+use Rattle.pymark_core.specs.White.{trimmed}
+use Rattle.pymark_core.specs.declared.fault.EvalFault.{EvalFault}
+use Rattle.pymark_core.specs.declared.fault.EvalFault.TheVariants as fault
+use Rattle.pymark_core.specs.declared.marker.error.MarkerError.TheVariants as marker
+use Rattle.pymark_core.specs.declared.operand.Comparator.{Comparator}
+use Rattle.pymark_core.specs.declared.operand.Comparator.TheVariants.{By, In, NotIn}
+use Rattle.pymark_core.specs.declared.operand.Operand.{Operand}
+use Rattle.pymark_core.specs.declared.operand.Operand.TheVariants.{Text, Variable, Extra, Extras, Groups}
+use Rattle.pymark_core.specs.declared.requirement.error.RequirementError.{RequirementError}
+use Rattle.pymark_core.specs.declared.requirement.error.RequirementError.TheVariants as refusal
+
+-- ---- markers
+
+from_wants_none : (text : List ℕ) (tree : Option Tree) → Never marker.Memory (marker_from text tree)
+from_wants_none text None = λ e. cc e
+from_wants_none text (Some tree) =
+    never_cond marker.Memory (has_misuse tree) (Err marker.SetMisuse) (Ok (record { text = trimmed text; tree = tree })) (λ e. cc e) (λ e. cc e)
+
+pub marker_wants_none : (text : List ℕ) → Never marker.Memory (marker_of text)
+unfolding marker_of
+marker_wants_none text =
+    never_cond marker.Memory (is_deep text) (Err marker.TooDeep) (marker_from text (tree_text text)) (λ e. cc e) (from_wants_none text (tree_text text))
+
+-- ---- values
+
+module _ (environment : EnvironmentValue) where
+  operand_wants_none : (o : Operand) → Never fault.Memory (operand_text environment o)
+  operand_wants_none (Text text) = λ e. cc e
+  operand_wants_none (Variable v) = never_or fault.Memory (fault.Unset v) (variable_in v environment) (λ e. cc e)
+  operand_wants_none Extra = λ e. cc e
+  operand_wants_none Extras = λ e. cc e
+  operand_wants_none Groups = λ e. cc e
+
+  texts_want_none : (o : Operator) (x y : List ℕ) → Never fault.Memory (texts_value o x y)
+  texts_want_none operator.Equal x y = λ e. cc e
+  texts_want_none operator.NotEqual x y = λ e. cc e
+  texts_want_none operator.AtMost x y = λ e. cc e
+  texts_want_none operator.AtLeast x y = λ e. cc e
+  texts_want_none operator.Before x y = λ e. cc e
+  texts_want_none operator.After x y = λ e. cc e
+  texts_want_none operator.Compatible x y = λ e. cc e
+  texts_want_none operator.Arbitrary x y = λ e. cc e
+
+  version_wants_none : (v : Option Parts) (s : Option Specifier) (texts : Result Bool EvalFault) → Never fault.Memory texts
+      → Never fault.Memory (version_value v s texts)
+  version_wants_none (Some v) (Some s) texts never =
+      never_cond fault.Memory (has_large (numbers v) || has_large (specifier_numbers s)) (Err fault.NumberTooLarge) (Ok (admits s v)) (λ e. cc e) (λ e. cc e)
+  version_wants_none (Some v) None texts never = never
+  version_wants_none None s texts never = never
+
+  in_wants_none : (x : List ℕ) (o : Operand) → Never fault.Memory (is_in environment x o)
+  in_wants_none x (Text text) = λ e. cc e
+  in_wants_none x (Variable v) = never_then fault.Memory (operand_text environment (Variable v)) (λ y. Ok (is_substring x y)) (operand_wants_none (Variable v)) (λ y e. cc e)
+  in_wants_none x Extra = λ e. cc e
+  in_wants_none x Extras = λ e. cc e
+  in_wants_none x Groups = λ e. cc e
+
+  text_wants_none : (x : List ℕ) (c : Comparator) (o : Operand) → Never fault.Memory (text_value environment x c o)
+  text_wants_none x (By operator) o =
+      never_then fault.Memory (operand_text environment o) (λ y. operator_value operator x y) (operand_wants_none o)
+      (λ y. version_wants_none (version_of x) (operand_of operator y) (texts_value operator x y) (texts_want_none operator x y))
+  text_wants_none x In o = in_wants_none x o
+  text_wants_none x NotIn o = never_then fault.Memory (is_in environment x o) (λ is. Ok (not is)) (in_wants_none x o) (λ is e. cc e)
+
+  comparison_wants_none : (c : ComparisonValue) → Never fault.Memory (comparison_value environment c)
+  comparison_wants_none c =
+      never_then fault.Memory (operand_text environment c.left) (λ x. text_value environment x c.comparator c.right) (operand_wants_none c.left)
+      (λ x. text_wants_none x c.comparator c.right)
+
+  both_want_none : (join : Bool → Bool → Bool) (first second : Result Bool EvalFault) → Never fault.Memory first → Never fault.Memory second
+      → Never fault.Memory (both join first second)
+  both_want_none join first second a b =
+      never_then fault.Memory first (λ x. second >>= λ y. Ok (join x y)) a (λ x. never_then fault.Memory second (λ y. Ok (join x y)) b (λ y e. cc e))
+
+  mutual
+    pub value_wants_none : (t : Tree) → Never fault.Memory (marker_value environment t)
+    value_wants_none (last c) = conjunction_wants_none c
+    value_wants_none (or c rest) =
+        both_want_none (λ x y. x || y) (conjunction_value environment c) (marker_value environment rest) (conjunction_wants_none c) (value_wants_none rest)
+
+    conjunction_wants_none : (c : Conjunction) → Never fault.Memory (conjunction_value environment c)
+    conjunction_wants_none (only a) = atom_wants_none a
+    conjunction_wants_none (and a rest) =
+        both_want_none (λ x y. x && y) (atom_value environment a) (conjunction_value environment rest) (atom_wants_none a) (conjunction_wants_none rest)
+
+    atom_wants_none : (a : Atom) → Never fault.Memory (atom_value environment a)
+    atom_wants_none (leaf c) = comparison_wants_none c
+    atom_wants_none (group t) = value_wants_none t
+
+-- ---- requirements
+
+refused_wants_none : {X E : Type 0} (other : RequirementError) (r : Result X E) → (other ≡ refusal.Memory → ⊥) → Never refusal.Memory (refused_as other r)
+refused_wants_none other (Ok x) differ = λ e. cc e
+refused_wants_none other (Err f) differ = never_err refusal.Memory other differ
+
+name_wants_none : (text : List ℕ) → Never refusal.Memory (name_at text)
+unfolding name_at
+name_wants_none text =
+    let run = prefix_len is_name_byte text in
+    never_cond refusal.Memory (is_name (take run text)) (Ok (take run text, drop run text)) (Err refusal.Name) (λ e. cc e) (λ e. cc e)
+
+extra_wants_none : (piece : List ℕ) → Never refusal.Memory (extra_in piece)
+extra_wants_none piece = never_cond refusal.Memory (is_name (trimmed piece)) (Ok (trimmed piece)) (Err refusal.Extras) (λ e. cc e) (λ e. cc e)
+
+names_want_none : (pieces : List (List ℕ)) → Never refusal.Memory (names_in pieces)
+unfolding names_in
+names_want_none [] = λ e. cc e
+names_want_none (piece ∷ rest) =
+    never_then refusal.Memory (extra_in piece) (λ name. names_in rest >>= λ others. Ok (name ∷ others)) (extra_wants_none piece)
+    (λ name. never_then refusal.Memory (names_in rest) (λ others. Ok (name ∷ others)) (names_want_none rest) (λ others e. cc e))
+
+extras_in_wants_none : (inner : List ℕ) → Never refusal.Memory (extras_in inner)
+extras_in_wants_none inner =
+    never_cond refusal.Memory (list_all is_white inner) (Ok []) (names_in (slice_split (λ b. b == 44) inner)) (λ e. cc e)
+    (names_want_none (slice_split (λ b. b == 44) inner))
+
+extras_want_none : (text : List ℕ) (found : Option (List ℕ)) → Never refusal.Memory (extras_from text found)
+unfolding extras_behind
+extras_want_none text None = λ e. cc e
+extras_want_none text (Some rest) =
+    never_then refusal.Memory (ok_or (around 93 rest) refusal.Extras) (λ cut. extras_in cut.0 >>= λ extras. Ok (extras, cut.1))
+    (never_or refusal.Memory refusal.Extras (around 93 rest) (λ e. cc e))
+    (λ cut. never_then refusal.Memory (extras_in cut.0) (λ extras. Ok (extras, cut.1)) (extras_in_wants_none cut.0) (λ extras e. cc e))
+
+extras_at_wants_none : (text : List ℕ) → Never refusal.Memory (extras_at text)
+unfolding extras_at
+extras_at_wants_none text = extras_want_none text (behind 91 text)
+
+marker_text_wants_none : (text : List ℕ) → Never refusal.Memory (marker_text_at text)
+marker_text_wants_none [] = λ e. cc e
+marker_text_wants_none (b ∷ rest) = never_cond refusal.Memory (b == 59) (Ok (Some rest)) (Err refusal.Trailing) (λ e. cc e) (λ e. cc e)
+
+url_wants_none : (text : List ℕ) → Never refusal.Memory (url_source text)
+unfolding url_source
+url_wants_none text =
+    let len = url_len text in
+    never_cond refusal.Memory (len == 0) (Err refusal.Url) (marker_text_at (after_white (drop len text)) >>= λ marker. Ok (record { set = []; url = Some (take len text); marker = marker }))
+    (λ e. cc e)
+    (never_then refusal.Memory (marker_text_at (after_white (drop len text))) (λ marker. Ok (record { set = []; url = Some (take len text); marker = marker }))
+    (marker_text_wants_none (after_white (drop len text))) (λ marker e. cc e))
+
+cut_wants_none : (cut : List ℕ × Option (List ℕ)) → Never refusal.Memory (cut_source cut)
+cut_wants_none cut =
+    never_then refusal.Memory (ok_or (within_parentheses (trimmed cut.0)) refusal.Specifier)
+    (λ inner. refused_as refusal.Specifier (parsed_set inner) >>= λ set. Ok (record { set = set; url = None; marker = cut.1 }))
+    (never_or refusal.Memory refusal.Specifier (within_parentheses (trimmed cut.0)) (λ e. cc e))
+    (λ inner. never_then refusal.Memory (refused_as refusal.Specifier (parsed_set inner)) (λ set. Ok (record { set = set; url = None; marker = cut.1 }))
+    (refused_wants_none refusal.Specifier (parsed_set inner) (λ e. cc e)) (λ set e. cc e))
+
+source_wants_none : (text : List ℕ) (found : Option (List ℕ)) → Never refusal.Memory (source_from text found)
+unfolding set_source
+source_wants_none text None = cut_wants_none (cut_at text (around 59 text))
+source_wants_none text (Some rest) = url_wants_none (after_white rest)
+
+source_at_wants_none : (text : List ℕ) → Never refusal.Memory (source_at text)
+unfolding source_at
+source_at_wants_none text = source_wants_none text (behind 64 text)
+
+marker_in_wants_none : (text : Option (List ℕ)) → Never refusal.Memory (marker_in text)
+marker_in_wants_none None = λ e. cc e
+marker_in_wants_none (Some text) =
+    never_then refusal.Memory (refused_as refusal.Marker (marker_of text)) (λ marker. Ok (Some marker))
+    (refused_wants_none refusal.Marker (marker_of text) (λ e. cc e)) (λ marker e. cc e)
+
+pub requirement_wants_none : (text : List ℕ) → Never refusal.Memory (requirement_of text)
+unfolding requirement_of
+requirement_wants_none text =
+    never_then refusal.Memory (name_at (after_white text)) _ (name_wants_none (after_white text))
+    (λ name. never_then refusal.Memory (extras_at (after_white name.1)) _ (extras_at_wants_none (after_white name.1))
+    (λ extras. never_then refusal.Memory (source_at (after_white extras.1)) _ (source_at_wants_none (after_white extras.1))
+    (λ source. never_then refusal.Memory (marker_in source.marker) _ (marker_in_wants_none source.marker) (λ marker e. cc e))))
