@@ -16,11 +16,10 @@ ghost use Rattle.pyver_core.specs.Set.Equality.{set_eq, specifier_eq};
 ghost use Rattle.pyver_core.specs.Set.Grammar.{IsOperand, SetText};
 ghost use Rattle.pyver_core.specs.Set.Normal.{operator_of, set_text, specifier_text};
 ghost use Rattle.pyver_core.specs.Set.Reading.{operand_of, set_of};
-ghost use Rattle.pyver_core.specs.declared.set.error.SpecifierError.TheVariants as specifier;
 ghost use Rattle.pyver_core.specs.declared.set.specifier.Operator.{Operator};
 ghost use Rattle.pyver_core.specs.declared.set.specifier.Specifier.{Specifier};
-ghost use Rattle.pyver_core.specs.declared.version.error.VersionError.TheVariants as version;
-ghost use Rattle.pyver_core.specs.declared.version.from_parts.PartsError.TheVariants as made;
+
+use crate::{PartsError, SpecifierError, VersionError};
 
 /// A text spells at most one version, and so does the normal form of what it spells: the same one
 /// (PEP 440, "Normalization").
@@ -92,11 +91,12 @@ pub fn runs_become_one_dash()
         → norm (b ∷ rest) ≡ to_ascii_lowercase b ∷ norm rest }
 {}
 
-/// The reading of a text is never want of memory, nor is what parts make: only a call may answer it.
+/// The reading of a text is never want of memory, nor is what parts make: only a call may answer
+/// it.
 pub fn answers_want_no_memory()
-    ensures version { (text : List ℕ) → parsed_version text ≡ Err version.Memory → ⊥ }
-    ensures set { (text : List ℕ) → parsed_set text ≡ Err specifier.Memory → ⊥ }
+    ensures version { (text : List ℕ) → parsed_version text ≡ Err VersionError.Memory → ⊥ }
+    ensures set { (text : List ℕ) → parsed_set text ≡ Err SpecifierError.Memory → ⊥ }
     ensures operand { (operator : Operator) (text : List ℕ)
-        → parsed_operand operator text ≡ Err specifier.Memory → ⊥ }
-    ensures made { (parts : Parts) → version_from parts ≡ Err made.Memory → ⊥ }
+        → parsed_operand operator text ≡ Err SpecifierError.Memory → ⊥ }
+    ensures parts { (p : Parts) → version_from p ≡ Err PartsError.Memory → ⊥ }
 {}

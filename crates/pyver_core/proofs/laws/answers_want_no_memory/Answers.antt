@@ -2,4 +2,4 @@ use Rattle.pyver_core.proofs.Lemmas.Memory.{operand_wants_none, parts_want_none,
 use Rattle.pyver_core.proofs.laws.answers_want_no_memory.Goals as goal
 
 pub returns : goal.returns
-returns c = record { version = version_wants_none; set = set_wants_none; operand = operand_wants_none; made = parts_want_none }
+returns c = record { version = version_wants_none; set = set_wants_none; operand = operand_wants_none; parts = parts_want_none }
