@@ -4,6 +4,7 @@ pub mod Counting
 pub mod Cuts
 pub mod Listing
 pub mod Lowering
+pub mod Memory
 pub mod NameBytes
 pub mod Naming
 pub mod NamingParts

@@ -1,6 +1,6 @@
 //! Laws of the definitions alone: each function's contract is a law, and its body is empty.
 
-ghost use Rattle.std.specs.Prelude.{◌≡◌, ◌∷◌, ℕ, List, Option, Some, Ok};
+ghost use Rattle.std.specs.Prelude.{◌≡◌, ◌∷◌, ℕ, List, Option, Some, Err, Ok};
 ghost use Rattle.std.specs.List.{IsDistinct};
 ghost use Rattle.pyver_core.specs.Version.Parts.{Parts};
 ghost use Rattle.pywheel_core.specs.Choice.{IsBest, best};
@@ -8,6 +8,8 @@ ghost use Rattle.pywheel_core.specs.Tag.{TagText, TagValue, rank_of, tag_eq, tag
 ghost use Rattle.pywheel_core.specs.Wheel.Grammar.{Wheel};
 ghost use Rattle.pywheel_core.specs.Wheel.Reading.{wheel_of};
 ghost use Rattle.pywheel_core.specs.Wheel.Value.{WheelValue};
+
+use crate::{TagError, TagListError, WheelError};
 
 /// What [`Tag::parse`](crate::Tag::parse) reads, the text is, and what the text is, it reads.
 pub fn tag_of_is_the_answer()
@@ -53,4 +55,12 @@ pub fn wheel_of_is_complete()
           tag_set = set;
           tags = tags;
         })) }
+{}
+
+/// The reading of a tag, of a list of tags or of the name of a wheel is never want of memory: only
+/// a call may answer it.
+pub fn answers_want_no_memory()
+    ensures tag { (text : List ℕ) → tag_of text ≡ Err TagError.Memory → ⊥ }
+    ensures tags { (texts : List (List ℕ)) → tags_of texts ≡ Err TagListError.Memory → ⊥ }
+    ensures wheel { (text : List ℕ) → wheel_of text ≡ Err WheelError.Memory → ⊥ }
 {}
