@@ -135,20 +135,20 @@ fn named(alloc: Global, word: &str, text: &str) -> Option<Edit> {
 }
 
 /// The edit of a step, where memory allows it.
-fn edit(alloc: Global, step: Step) -> Option<Edit> {
-    match step.0 {
+pub(super) fn edit(alloc: Global, word: &str, number: u32, text: &str) -> Option<Edit> {
+    match word {
         "unset python_full_version" => Some(Edit::Unset(Var::PythonFullVersion)),
         "tags" => Some(Edit::Tags(TagList::parse(alloc, &[]).ok()?)),
-        "add" => Some(Edit::Add(Entry::read_text(alloc, step.2).ok()?)),
-        "put" => Some(Edit::Put(step.1, Entry::read_text(alloc, step.2).ok()?)),
-        "del" => Some(Edit::Del(step.1)),
-        word => named(alloc, word, step.2),
+        "add" => Some(Edit::Add(Entry::read_text(alloc, text).ok()?)),
+        "put" => Some(Edit::Put(number, Entry::read_text(alloc, text).ok()?)),
+        "del" => Some(Edit::Del(number)),
+        word => named(alloc, word, text),
     }
 }
 
 /// The number of judgements of the step, where memory allows the edit.
 fn made(alloc: Global, session: &mut Session, step: Step) -> Option<u64> {
-    let edit = edit(alloc, step)?;
+    let edit = edit(alloc, step.0, step.1, step.2)?;
     match session.edit(edit) {
         Ok(judgements) => Some(judgements),
         Err(EditError::Memory) => None,

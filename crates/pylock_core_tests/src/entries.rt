@@ -1,5 +1,5 @@
 //! Entries: their refusals in order, and what they tell.
-use crate::locks::{enclosed, with_head};
+use crate::locks::{arrays, enclosed, with_head};
 use pylock_core::{Entry, EntryError, Lock};
 use pymark_core::Marker;
 use pyver_core::SpecifierSet;
@@ -33,9 +33,28 @@ fn a_text_is_one_value(rt: HostRuntime) -> Result<(), Fail> {
         ("5", "NotTable"),
         ("[{name = \"a\"}]", "NotTable"),
         ("{name = \"a\",}", "ok"),
+        ("\u{feff}{name = \"a\"}", "ok"),
+        ("{name = \"a\",\n}", "ok"),
+        ("{name = \"\\x61\"}", "ok"),
+        ("{name = \"\\e\"}", "Name"),
+        ("{name = \"a\", t = 07:32}", "ok"),
+        ("{name = \"a\", n = 9223372036854775807}", "ok"),
+        ("{name = \"a\", n = 9223372036854775808}", "Toml"),
     ];
     for (text, wanted) in cases {
         assert_eq!(rt; refusal(alloc, text)?.as_str(), wanted, "{text}");
+    }
+    Ok(())
+}
+
+/// `toml` takes 80 arrays and tables that are open, one of them the entry itself.
+#[test]
+fn an_ignored_key_is_not_too_deep(rt: HostRuntime) -> Result<(), Fail> {
+    let alloc = rt.alloc();
+    for (count, wanted) in [(79, "ok"), (80, "Toml"), (10_000, "Toml")] {
+        let arrays = arrays(alloc, count)?;
+        let text = format!(in alloc; "{{name = \"a\", x = {arrays}}}")?;
+        assert_eq!(rt; refusal(alloc, text.as_str())?.as_str(), wanted, "{count}");
     }
     Ok(())
 }

@@ -1,7 +1,9 @@
 //! Environments: their refusals in order, and what they set.
+use crate::locks::arrays;
 use pylock_core::read_environment;
 use pymark_core::{Environment, Var};
 use std::alloc::{AllocError, Global};
+use std::process::Abort;
 use std::test::Fail;
 
 /// The refusal as `Debug` writes it, or `ok`.
@@ -15,7 +17,7 @@ fn refusal(alloc: Global, bytes: &[u8]) -> Result<String, AllocError> {
 #[test]
 fn environments_are_refused_at_their_first_fault(rt: HostRuntime) -> Result<(), Fail> {
     let alloc = rt.alloc();
-    let cases: [(&[u8], &str); 20] = [
+    let cases: [(&[u8], &str); 23] = [
         (b"{\"environment\":{},\"tags\":[]}", "ok"),
         (
             b"{\"environment\":{\"os_name\":\"posix\",\"x\":1},\"tags\":[],\"y\":2}",
@@ -25,6 +27,12 @@ fn environments_are_refused_at_their_first_fault(rt: HostRuntime) -> Result<(), 
             b"{\"environment\":{\"os_name\":1,\"os_name\":\"nt\"},\"tags\":[]}",
             "ok",
         ),
+        (
+            b"{\"environment\":{\"os_name\":\"nt\",\"os_name\":1},\"tags\":[]}",
+            "Shape",
+        ),
+        (b"{\"environment\":{},\"tags\":1,\"tags\":[]}", "ok"),
+        (b"{\"environment\":1,\"environment\":{},\"tags\":[]}", "ok"),
         (b"{", "Json"),
         (b"\xFF", "Json"),
         (b"\xEF\xBB\xBF{\"environment\":{},\"tags\":[]}", "Json"),
@@ -66,9 +74,8 @@ fn environments_are_refused_at_their_first_fault(rt: HostRuntime) -> Result<(), 
 
 /// An environment of arrays within arrays, as a member that is ignored.
 fn nested(alloc: Global, count: usize) -> Result<String, AllocError> {
-    let open = "[".repeat(alloc, count)?;
-    let close = "]".repeat(alloc, count)?;
-    format!(in alloc; "{{\"environment\":{{}},\"tags\":[],\"x\":{open}{close}}}")
+    let arrays = arrays(alloc, count)?;
+    format!(in alloc; "{{\"environment\":{{}},\"tags\":[],\"x\":{arrays}}}")
 }
 
 /// `serde_json` takes 127 arrays and objects that are open, one of them the environment's own.
@@ -135,6 +142,18 @@ fn each_variable_is_set(rt: HostRuntime) -> Result<(), Fail> {
         let wrong = first_wrong(alloc, text.as_str(), variable, &variables)?;
         assert_eq!(rt; wrong, None);
     }
+    Ok(())
+}
+
+fn check_os_name<R: Abort>(rt: &R, environment: &Environment, wanted: &str) {
+    assert_eq!(rt; environment.get(Var::OsName), Some(wanted));
+}
+
+#[test]
+fn the_last_value_of_a_member_counts(rt: HostRuntime) -> Result<(), Fail> {
+    let text = "{\"environment\":{\"os_name\":\"posix\",\"os_name\":\"nt\"},\"tags\":[]}";
+    let (environment, _) = read_environment(rt.alloc(), text.as_bytes()).map_err(Fail::from)?;
+    check_os_name(&rt, &environment, "nt");
     Ok(())
 }
 

@@ -1,51 +1,103 @@
-//! What an edit and an answer grow by, however many entries stand beside that read another key:
+//! What edits and an answer grow by, however many entries stand beside that read another key:
 //! `tools/growths/run` counts the growths of each of these tests and compares their differences.
-//! The value of a marker that asks for a variable's text among the extras takes memory for its
-//! normal form, so that a body that evaluates it and drops the value has more growths.
-use pylock_core::{Edit, Lock, Session, read_environment};
-use pymark_core::Var;
-use pyver_core::Label;
+//! The value of a marker that looks for a variable's text in a set, or compares two variables by
+//! versions, takes memory, so that a body that evaluates it and drops the value has more growths.
+use crate::edit_growths::edit;
+use pylock_core::{Lock, Session, read_environment};
 use std::alloc::Global;
 
-const FEW: &str = "lock-version = \"1.0\"\ncreated-by = \"t\"\npackages = [\n\
-    {name=\"a\", marker=\"os_name == 'posix'\", directory={path=\"a\"}}]\n";
+/// An edit as `edit_growths::edit` takes it.
+type Step = (&'static str, u32, &'static str);
 
-const MANY: &str = "lock-version = \"1.0\"\ncreated-by = \"t\"\npackages = [\n\
-    {name=\"a\", marker=\"os_name == 'posix'\", directory={path=\"a\"}},\n\
-    {name=\"b\", marker=\"python_version < '3'\", directory={path=\"b\"}},\n\
-    {name=\"c\", marker=\"python_version < '3'\", directory={path=\"c\"}},\n\
-    {name=\"d\", marker=\"python_version < '3'\", directory={path=\"d\"}},\n\
-    {name=\"e\", marker=\"python_version < '3'\", directory={path=\"e\"}},\n\
-    {name=\"f\", marker=\"python_version < '3'\", directory={path=\"f\"}},\n\
-    {name=\"g\", marker=\"python_version < '3'\", directory={path=\"g\"}},\n\
-    {name=\"h\", marker=\"python_version < '3'\", directory={path=\"h\"}},\n\
-    {name=\"i\", marker=\"python_version < '3'\", directory={path=\"i\"}},\n\
-    {name=\"j\", marker=\"python_version in extras\", directory={path=\"j\"}},\n\
-    {name=\"k\", marker=\"python_version in extras\", directory={path=\"k\"}},\n\
-    {name=\"l\", marker=\"python_version in extras\", directory={path=\"l\"}}]\n";
+const FEW: &str = "lock-version = \"1.0\"\ncreated-by = \"t\"\n\
+    extras = [\"x\"]\ndependency-groups = [\"dev\"]\npackages = [\n\
+    {name=\"a\", marker=\"python_full_version != '3' or os_name != 'x' or 'x' in extras or \
+    'dev' in dependency_groups\", \
+    sdist={path=\"a\"}, wheels=[{path=\"a-1-py3-none-any.whl\"}]}]\n";
+
+/// Its head and its entries behind the first read two variables, and in part the extras.
+const MANY: &str = "lock-version = \"1.0\"\ncreated-by = \"t\"\n\
+    environments = [\"python_version <= implementation_version\", \"python_version in extras\"]\n\
+    extras = [\"x\"]\ndependency-groups = [\"dev\"]\npackages = [\n\
+    {name=\"a\", marker=\"python_full_version != '3' or os_name != 'x' or 'x' in extras or \
+    'dev' in dependency_groups\", \
+    sdist={path=\"a\"}, wheels=[{path=\"a-1-py3-none-any.whl\"}]},\n\
+    {name=\"b\", marker=\"python_version < implementation_version\", sdist={path=\"b\"}},\n\
+    {name=\"c\", marker=\"python_version < implementation_version\", sdist={path=\"c\"}},\n\
+    {name=\"d\", marker=\"python_version < implementation_version\", sdist={path=\"d\"}},\n\
+    {name=\"e\", marker=\"python_version < implementation_version\", sdist={path=\"e\"}},\n\
+    {name=\"f\", marker=\"python_version < implementation_version\", sdist={path=\"f\"}},\n\
+    {name=\"g\", marker=\"python_version < implementation_version\", sdist={path=\"g\"}},\n\
+    {name=\"h\", marker=\"python_version < implementation_version\", sdist={path=\"h\"}},\n\
+    {name=\"i\", marker=\"python_version in extras\", sdist={path=\"i\"}},\n\
+    {name=\"j\", marker=\"python_version in extras\", sdist={path=\"j\"}},\n\
+    {name=\"k\", marker=\"python_version in extras\", sdist={path=\"k\"}},\n\
+    {name=\"l\", marker=\"python_version in extras\", sdist={path=\"l\"}}]\n";
+
+/// Edits that the head of `MANY` and its entries behind the first have no part in.
+const EDITS: [Step; 9] = [
+    ("unset python_full_version", 0, ""),
+    ("python_full_version", 0, "3.12.0"),
+    ("os_name", 0, "posix"),
+    ("group", 0, "dev"),
+    ("drop group", 0, "dev"),
+    ("tags", 0, ""),
+    ("source", 0, "a"),
+    ("put", 1, "{name=\"a\", sdist={path=\"a\"}}"),
+    ("add", 0, "{name=\"a\", marker=\"os_name == 'x'\"}"),
+];
+
+/// The same where they read the groups in place of the extras.
+const OF_EXTRAS: [Step; 2] = [("extra", 0, "x"), ("drop extra", 0, "x")];
 
 /// A session on the lock, where memory allows it.
 fn started(alloc: Global, lock: &str) -> Option<Session> {
     let lock = Lock::read(alloc, lock.as_bytes()).ok()?;
-    let environment = "{\"environment\":{\"python_version\":\"3.12\"},\"tags\":[]}";
+    let environment = "{\"environment\":{\"os_name\":\"nt\",\"python_version\":\"3.12\",\
+        \"implementation_version\":\"3.12\"},\"tags\":[]}";
     let (environment, tags) = read_environment(alloc, environment.as_bytes()).ok()?;
     Session::start(alloc, lock, environment, tags).ok()
 }
 
-/// The same after an edit of a variable that the first entry alone reads.
-fn edited(alloc: Global, lock: &str) -> Option<Session> {
-    let text = String::from_str(alloc, "posix").ok()?;
-    let mut session = started(alloc, lock)?;
-    let edit = Edit::Set(Var::OsName, Label::new(text));
-    if session.edit(edit).is_ok() {
+/// The same where what read the extras reads the groups.
+fn started_on_groups(alloc: Global, lock: &str) -> Option<Session> {
+    let groups = "python_version in dependency_groups";
+    let lock = lock
+        .replace(alloc, "python_version in extras", groups)
+        .ok()?;
+    started(alloc, lock.as_str())
+}
+
+/// Whether the edit is made.
+fn is_made(alloc: Global, session: &mut Session, step: Step) -> bool {
+    match edit(alloc, step.0, step.1, step.2) {
+        Some(edit) => session.edit(edit).is_ok(),
+        None => false,
+    }
+}
+
+/// Whether each of the edits is made.
+fn are_made(alloc: Global, session: &mut Session, steps: &[Step]) -> bool {
+    for step in steps.iter().copied() {
+        if !is_made(alloc, session, step) {
+            return false;
+        }
+    }
+    true
+}
+
+/// The session after the edits, where memory allows them.
+fn edited(alloc: Global, session: Option<Session>, steps: &[Step]) -> Option<Session> {
+    let mut session = session?;
+    if are_made(alloc, &mut session, steps) {
         return Some(session);
     }
     None
 }
 
-/// Whether the answer after that edit is given.
+/// Whether the answer after the edits is given.
 fn is_answered(alloc: Global, lock: &str) -> bool {
-    match edited(alloc, lock) {
+    match edited(alloc, started(alloc, lock), &EDITS) {
         Some(session) => session.answer().is_ok(),
         None => false,
     }
@@ -62,13 +114,13 @@ fn start_many(rt: HostRuntime) {
 }
 
 #[test]
-fn edit_few(rt: HostRuntime) {
-    let _ = edited(rt.alloc(), FEW);
+fn edits_few(rt: HostRuntime) {
+    let _ = edited(rt.alloc(), started(rt.alloc(), FEW), &EDITS);
 }
 
 #[test]
-fn edit_many(rt: HostRuntime) {
-    let _ = edited(rt.alloc(), MANY);
+fn edits_many(rt: HostRuntime) {
+    let _ = edited(rt.alloc(), started(rt.alloc(), MANY), &EDITS);
 }
 
 #[test]
@@ -79,4 +131,24 @@ fn answer_few(rt: HostRuntime) {
 #[test]
 fn answer_many(rt: HostRuntime) {
     let _ = is_answered(rt.alloc(), MANY);
+}
+
+#[test]
+fn groups_few(rt: HostRuntime) {
+    let _ = started_on_groups(rt.alloc(), FEW);
+}
+
+#[test]
+fn groups_many(rt: HostRuntime) {
+    let _ = started_on_groups(rt.alloc(), MANY);
+}
+
+#[test]
+fn extras_few(rt: HostRuntime) {
+    let _ = edited(rt.alloc(), started_on_groups(rt.alloc(), FEW), &OF_EXTRAS);
+}
+
+#[test]
+fn extras_many(rt: HostRuntime) {
+    let _ = edited(rt.alloc(), started_on_groups(rt.alloc(), MANY), &OF_EXTRAS);
 }

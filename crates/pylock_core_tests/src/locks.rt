@@ -142,6 +142,30 @@ fn keys_of_the_head_are_judged_in_order(rt: HostRuntime) -> Result<(), Fail> {
     Ok(())
 }
 
+/// So many arrays, each within the one before it.
+pub(super) fn arrays(alloc: Global, count: usize) -> Result<String, AllocError> {
+    let open = "[".repeat(alloc, count)?;
+    let close = "]".repeat(alloc, count)?;
+    format!(in alloc; "{open}{close}")
+}
+
+/// `toml` takes 80 arrays and tables that are open.
+#[test]
+fn an_ignored_key_is_not_too_deep(rt: HostRuntime) -> Result<(), Fail> {
+    let alloc = rt.alloc();
+    for (count, wanted) in [(80, "ok"), (81, "Toml"), (10_000, "Toml")] {
+        let arrays = arrays(alloc, count)?;
+        let key = format!(in alloc; "x = {arrays}")?;
+        let lock = with_head(alloc, key.as_str())?;
+        assert_eq!(rt;
+            refusal(alloc, lock.as_bytes())?.as_str(),
+            wanted,
+            "{count}"
+        );
+    }
+    Ok(())
+}
+
 /// A marker in so many parentheses.
 pub(super) fn enclosed(alloc: Global, count: usize) -> Result<String, AllocError> {
     let open = "(".repeat(alloc, count)?;

@@ -2,7 +2,9 @@
 use crate::judgements::{Step, edit};
 use crate::locks::with_head;
 use pylock_core::{Answer, Edit, Entry, Lock, Session, read_environment};
+use pymark_core::Environment;
 use pyver_core::Label;
+use pywheel_core::TagList;
 use std::alloc::{AllocError, Global};
 use std::test::Fail;
 
@@ -154,6 +156,47 @@ fn edits_are_taken_or_refused(rt: HostRuntime) -> Result<(), Fail> {
     ];
     let wrong = first_wrong_on(rt.alloc(), lines, "\"os_name\":\"nt\"", "", &steps)?;
     assert_eq!(rt; wrong.as_str(), "");
+    Ok(())
+}
+
+/// An environment with that name among the extras or among the groups, and nothing set.
+fn asking(alloc: Global, extra: &str, group: &str) -> Result<Environment, AllocError> {
+    let mut environment = Environment::new(alloc);
+    environment.add_extra(extra)?;
+    environment.add_group(group)?;
+    Ok(environment)
+}
+
+/// The first answer on that lock in that environment, without tags.
+fn first_answer(alloc: Global, lock: Lock, environment: Environment) -> Result<String, Fail> {
+    match TagList::parse(alloc, &[]) {
+        Ok(tags) => {
+            let session = Session::start(alloc, lock, environment, tags)?;
+            Ok(answer(alloc, &session)?)
+        }
+        Err(_) => Err(Fail::from("no tags are refused")),
+    }
+}
+
+/// The first answer on the lock of this text in an environment that asks for `x` and `dev`.
+fn answer_asked(alloc: Global, text: &str) -> Result<String, Fail> {
+    let environment = asking(alloc, "x", "dev")?;
+    match Lock::read(alloc, text.as_bytes()) {
+        Ok(lock) => first_answer(alloc, lock, environment),
+        Err(refusal) => Err(Fail::from(refusal)),
+    }
+}
+
+#[test]
+fn a_start_asks_for_nothing(rt: HostRuntime) -> Result<(), Fail> {
+    let lock = with_head(
+        rt.alloc(),
+        "extras = [\"x\"]\ndependency-groups = [\"dev\"]\npackages = [\
+        {name=\"a\", marker=\"'x' in extras\", directory={path=\"a\"}}, \
+        {name=\"b\", marker=\"'dev' in dependency_groups\", directory={path=\"b\"}}]",
+    )?;
+    let answer = answer_asked(rt.alloc(), lock.as_str())?;
+    assert_eq!(rt; answer.as_str(), "plan");
     Ok(())
 }
 
