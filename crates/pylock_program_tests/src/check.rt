@@ -3,6 +3,8 @@
 
 use pylock_program::{Pieces, Room, RunFault, Source, run};
 use std::alloc::{AllocError, Global};
+use std::io;
+use std::io::Read;
 use std::process::Abort;
 
 /// The two lines that each lock begins with.
@@ -10,6 +12,21 @@ pub(crate) const HEAD: &str = "lock-version = \"1.0\"\ncreated-by = \"t\"\n";
 
 /// How much a run writes at most, and is given at once.
 pub(crate) const ROOM: usize = 65_536;
+
+/// A reader of bytes, which fails where it is asked for more than `ROOM` at once.
+#[derive(Drop)]
+pub(crate) struct Narrow<'a> {
+    pub(crate) rest: &'a [u8],
+}
+
+impl<'a> Read for Narrow<'a> {
+    fn read(&mut self, buf: &mut [u8]) -> io::Result<usize> {
+        if buf.len() > ROOM {
+            return Err(io::Error::from(io::ErrorKind::InvalidInput));
+        }
+        self.rest.read(buf)
+    }
+}
 
 /// What a call answers, and the text that it writes.
 pub(crate) type End<'a> = (Result<u8, RunFault>, &'a [u8]);

@@ -52,7 +52,7 @@ const NAMED_BY_URL: Case = Case {
     status: 0,
 };
 
-const SELECTIONS: [Case; 9] = [
+const SELECTIONS: [Case; 10] = [
     Case {
         name: "empty lock",
         lock: "",
@@ -125,12 +125,40 @@ const SELECTIONS: [Case; 9] = [
         text: "plan 1\n1\ta\t-\tarchive\t-\thttps://h/a.zip\tsha256=aa\t-\ts\n",
         status: 0,
     },
+    Case {
+        name: "escapes",
+        lock: "packages = [{name=\"a\", version=\"1\\t2\\n3\\r4\\\\5\", \
+            directory={path=\"d\\\\e\"}}]",
+        environment: E0,
+        input: "",
+        text: "plan 1\n1\ta\t1\\t2\\n3\\r4\\\\5\tdirectory\t-\td\\\\e\t-\t-\t-\n",
+        status: 0,
+    },
 ];
 
 #[test]
 fn selects(rt: HostRuntime) -> Result<(), Fail> {
     for case in SELECTIONS {
         check_case(&rt, case)?;
+    }
+    Ok(())
+}
+
+/// A path of so many letters and a backslash, which is written twice.
+fn check_backslash<R: Abort + AllocGlobal>(rt: &R, letters: usize) -> Result<(), AllocError> {
+    let path = "x".repeat(rt.alloc(), letters)?;
+    let lock = format!(in rt.alloc();
+        "{HEAD}packages = [{{name=\"a\", directory={{path='{path}\\'}}}}]\n"
+    )?;
+    let text = format!(in rt.alloc(); "plan 1\n1\ta\t-\tdirectory\t-\t{path}\\\\\t-\t-\t-\n")?;
+    let files = (lock.as_bytes(), E0.as_bytes());
+    check_run(rt, files, b"", (Ok(0), text.as_bytes()), path.as_str())
+}
+
+#[test]
+fn escapes_the_last_character(rt: HostRuntime) -> Result<(), Fail> {
+    for letters in 0..70 {
+        check_backslash(&rt, letters)?;
     }
     Ok(())
 }
@@ -151,7 +179,7 @@ const REFUSALS: Case = Case {
     status: 1,
 };
 
-const EDITS: [Case; 8] = [
+const EDITS: [Case; 10] = [
     Case {
         name: "extras",
         lock: "extras = [\"foo-bar\"]\npackages = [{name=\"a\", marker=\"\\\"Foo.Bar\\\" in \
@@ -200,6 +228,25 @@ const EDITS: [Case; 8] = [
             19\targument\nrefused 20\targument\nrefused 21\targument\nrefused 22\tcommand\n\
             refused 23\tcommand\nrefused 24\tcommand\nrefused 25\tcommand\n",
         status: 1,
+    },
+    Case {
+        name: "absent and empty arguments",
+        lock: "",
+        environment: E0,
+        input: "set\nextra-\nextra- \ngroup+\ngroup-\ngroup- \nput\npolicy \npolicy a \ntags \n",
+        text: "plan 0\nrefused 1\targument\nrefused 2\targument\nrefused 3\targument\n\
+            refused 4\targument\nrefused 5\targument\nrefused 6\targument\n\
+            refused 7\targument\nrefused 8\targument\nrefused 9\targument\nplan 0\n",
+        status: 1,
+    },
+    Case {
+        name: "a value with spaces",
+        lock: "packages = [{name=\"a\", marker=\"platform_version == 'a b '\", \
+            directory={path=\"a\"}}]",
+        environment: E0,
+        input: "set platform_version a b \n",
+        text: "fault 1\tmarker-unset\nplan 1\n1\ta\t-\tdirectory\t-\ta\t-\t-\t-\n",
+        status: 0,
     },
     Case {
         name: "tags",

@@ -3,9 +3,10 @@
 use pylock_command::Task;
 use pylock_program::{
     Failure, FileFault, Files, Inputs, Pieces, Query, Room, RunFault, Work, greet, read_file,
-    read_inputs, work_of,
+    read_inputs, words_failure, work_of,
 };
 use std::alloc::{AllocError, Global};
+use std::io::ErrorKind;
 use std::process::Abort;
 use std::test::Fail;
 
@@ -122,6 +123,8 @@ fn says_what_a_task_comes_to(rt: HostRuntime) {
 #[test]
 fn says_how_it_ends(rt: HostRuntime) {
     assert_eq!(rt; Failure::NotText.status(), 2);
+    assert_eq!(rt; words_failure(ErrorKind::InvalidData), Failure::NotText);
+    assert_eq!(rt; words_failure(ErrorKind::OutOfMemory), Failure::Memory);
     assert_eq!(rt; Failure::from(FileFault::Limit), Failure::File);
     assert_eq!(rt; Failure::from(RunFault::Input).message(), "input");
     assert_eq!(rt; Failure::from(RunFault::Input).status(), 3);

@@ -1,10 +1,10 @@
 //! Worked examples of runs over memory.
 
 use crate::check::{
-    End, HEAD, ROOM, check_end, check_environment_fronts, check_front, check_lock_fronts,
+    End, HEAD, Narrow, ROOM, check_end, check_environment_fronts, check_front, check_lock_fronts,
     check_run, check_run_by,
 };
-use pylock_program::{IoFault, Pieces, Room, RunFault, Source, run, run_leaving};
+use pylock_program::{FromRead, IoFault, Pieces, Room, RunFault, Source, run, run_leaving};
 use std::alloc::{AllocError, Global};
 use std::process::Abort;
 use std::test::Fail;
@@ -93,6 +93,17 @@ fn selects_an_editable_directory(rt: HostRuntime) -> Result<(), Fail> {
             editable=true}}]";
     let want = "fault 2\tambiguous\nplan 1\n2\ta\t-\teditable\t-\ty\t-\t-\t-\n";
     check_packages(&rt, packages, b"del 1\n", 0, want).map_err(Fail::from)
+}
+
+/// A policy stands for wheels and sdists alone.
+#[test]
+fn leaves_other_sources_to_any_policy(rt: HostRuntime) -> Result<(), Fail> {
+    let packages =
+        "packages = [{name=\"a\", directory={path=\"x\"}}, {name=\"b\", archive={path=\"y\"}}]";
+    let plan = "plan 2\n1\ta\t-\tdirectory\t-\tx\t-\t-\t-\n2\tb\t-\tarchive\t-\ty\t-\t-\t-\n";
+    let want = times(rt.alloc(), plan, 5)?;
+    let input = b"policy a wheel\npolicy b wheel\npolicy a source\npolicy b source\n";
+    check_packages(&rt, packages, input, 0, &want).map_err(Fail::from)
 }
 
 /// How many policies are of names that no entry has.
@@ -200,6 +211,51 @@ fn refuses_locks_and_environments(rt: HostRuntime) -> Result<(), Fail> {
     Ok(())
 }
 
+/// A lock of the two lines of `HEAD` and this one, refused for the key.
+fn check_key<R: Abort + AllocGlobal>(
+    rt: &R,
+    line: &str,
+    words: &str,
+    key: &str,
+) -> Result<(), AllocError> {
+    let lock = format!(in rt.alloc(); "{HEAD}{line}\n")?;
+    let text = format!(in rt.alloc(); "lock\t{words}\t{key}\n")?;
+    check_files(rt, lock.as_bytes(), ENVIRONMENT, text.as_str())
+}
+
+/// A key of an entry with a number for its value.
+fn check_entry_key<R: Abort + AllocGlobal>(rt: &R, key: &str) -> Result<(), AllocError> {
+    let line = format!(in rt.alloc(); "packages = [{{name=\"a\", {key} = 1}}]")?;
+    check_key(rt, line.as_str(), "entry\t1", key)
+}
+
+#[test]
+fn names_the_key_of_a_refused_lock(rt: HostRuntime) -> Result<(), Fail> {
+    for (line, key) in [
+        ("environments = 1", "environments"),
+        ("requires-python = 1", "requires-python"),
+        ("extras = 1", "extras"),
+        ("dependency-groups = 1", "dependency-groups"),
+        ("default-groups = 1", "default-groups"),
+    ] {
+        check_key(&rt, line, "head", key)?;
+    }
+    check_key(&rt, "packages = [{}]", "entry\t1", "name")?;
+    for key in [
+        "version",
+        "vcs",
+        "directory",
+        "archive",
+        "sdist",
+        "wheels",
+        "marker",
+        "requires-python",
+    ] {
+        check_entry_key(&rt, key)?;
+    }
+    Ok(())
+}
+
 /// Lines that a hostile peer could send.
 fn hostile_input(alloc: Global) -> Result<Vec<u8>, AllocError> {
     let mut input = Vec::from_slice(alloc, b"put 1 {name = \"a\"\n")?;
@@ -235,6 +291,20 @@ fn cuts_the_input_anyhow(rt: HostRuntime) -> Result<(), Fail> {
             {FIRST_ANSWER}{FIRST_ANSWER}"
     )?;
     check_hostile(&rt, &want).map_err(Fail::from)
+}
+
+/// A run over this input asks for no more than a piece at once.
+fn check_requests<R: Abort + AllocGlobal>(rt: &R, input: &[u8]) -> Result<(), AllocError> {
+    let files = (HEAD.as_bytes(), ENVIRONMENT.as_bytes());
+    let mut reader = FromRead::new(Narrow { rest: input });
+    let text = b"plan 0\nrefused 1\tcommand\n";
+    check_run_by(rt, files, &mut reader, (Ok(1), text), "")
+}
+
+#[test]
+fn asks_for_one_piece_at_once(rt: HostRuntime) -> Result<(), Fail> {
+    let input = line_of(rt.alloc(), 200_000, "\n")?;
+    check_requests(&rt, input.as_slice()).map_err(Fail::from)
 }
 
 /// The read of this number fails.

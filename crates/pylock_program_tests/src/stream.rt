@@ -1,6 +1,7 @@
 //! Sources and sinks over memory and over readers and writers of std, the loop that writes and the
 //! reading of a whole source.
 
+use crate::check::Narrow;
 use pylock_program::{
     FileFault, FromRead, IoFault, Pieces, Room, Sink, Source, ToWrite, read_whole, write_all,
 };
@@ -149,6 +150,19 @@ fn reads_no_end(rt: HostRuntime) {
     check_whole(&rt, &mut Endless, Err(FileFault::Limit));
 }
 
+/// How many bytes a reader that fails where it is asked for more than a piece gives of those.
+fn narrow_length(alloc: Global, bytes: &[u8]) -> Result<usize, FileFault> {
+    let read = read_whole(alloc, &mut FromRead::new(Narrow { rest: bytes }), 200_000)?;
+    Ok(read.len())
+}
+
+#[test]
+fn asks_for_one_piece_at_once(rt: HostRuntime) -> Result<(), Fail> {
+    let bytes = vec![in rt.alloc(); b'x'; 200_000]?;
+    assert_eq!(rt; narrow_length(rt.alloc(), bytes.as_slice()), Ok(200_000));
+    Ok(())
+}
+
 /// Nothing, of which there may be nothing, is read.
 fn is_empty(alloc: Global) -> Result<bool, FileFault> {
     let empty = read_whole(alloc, &mut Pieces::new(b"", 1, None), 0)?;
@@ -252,24 +266,39 @@ fn check_calls<R: Abort>(rt: &R, calls: usize, wanted: usize) {
     assert_eq!(rt; calls, wanted);
 }
 
-/// Reading ends at a call that fails, which is the last.
-fn check_failed_read<R: Abort + AllocGlobal>(rt: &R, steps: &[Option<usize>], calls: usize) {
+/// Reading ends so, after so many calls.
+fn check_reading<R: Abort + AllocGlobal>(
+    rt: &R,
+    steps: &[Option<usize>],
+    wanted: Result<&[u8], FileFault>,
+    calls: usize,
+) {
     let mut reader = Stubborn {
         rest: b"0123456789",
         taken: Vec::new(rt.alloc()),
         steps,
         calls: 0,
     };
-    check_whole(rt, &mut FromRead::new(&mut reader), Err(FileFault::Read));
+    check_whole(rt, &mut FromRead::new(&mut reader), wanted);
     check_calls(rt, reader.calls, calls);
 }
 
+/// A call that gives nothing is the last.
+#[test]
+fn stops_at_the_end(rt: HostRuntime) {
+    check_reading(&rt, &[Some(0)], Ok(b""), 1);
+    check_reading(&rt, &[Some(4), Some(0)], Ok(b"0123"), 2);
+    check_reading(&rt, &[], Ok(b"0123456789"), 2);
+    check_reading(&rt, &[Some(4); 2], Ok(b"0123456789"), 4);
+}
+
+/// A call that fails is the last.
 #[test]
 fn stops_at_each_failed_read(rt: HostRuntime) {
     for failing in 0..4 {
         let mut steps = [Some(4); 5];
         steps[failing] = None;
-        check_failed_read(&rt, &steps, failing + 1);
+        check_reading(&rt, &steps, Err(FileFault::Read), failing + 1);
     }
 }
 
