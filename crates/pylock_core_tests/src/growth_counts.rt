@@ -103,6 +103,19 @@ fn is_answered(alloc: Global, lock: &str) -> bool {
     }
 }
 
+/// Whether the edits of the extras are made.
+fn is_asked(alloc: Global, lock: &str) -> bool {
+    edited(alloc, started_on_groups(alloc, lock), &OF_EXTRAS).is_some()
+}
+
+#[test]
+fn every_edit_is_made(rt: HostRuntime) {
+    for lock in [FEW, MANY] {
+        assert!(rt; is_answered(rt.alloc(), lock));
+        assert!(rt; is_asked(rt.alloc(), lock));
+    }
+}
+
 #[test]
 fn start_few(rt: HostRuntime) {
     let _ = started(rt.alloc(), FEW);
@@ -145,10 +158,10 @@ fn groups_many(rt: HostRuntime) {
 
 #[test]
 fn extras_few(rt: HostRuntime) {
-    let _ = edited(rt.alloc(), started_on_groups(rt.alloc(), FEW), &OF_EXTRAS);
+    let _ = is_asked(rt.alloc(), FEW);
 }
 
 #[test]
 fn extras_many(rt: HostRuntime) {
-    let _ = edited(rt.alloc(), started_on_groups(rt.alloc(), MANY), &OF_EXTRAS);
+    let _ = is_asked(rt.alloc(), MANY);
 }
