@@ -4,7 +4,7 @@
 
 use pylock_command::{CommandError, Task, command};
 use pylock_program::{
-    Failure, FileFault, Files, FromRead, Query, ToWrite, Work, greet, query, read_file,
+    Failure, FileFault, Files, FromRead, Query, Sink, ToWrite, Work, greet, query, read_file,
     read_inputs, run_leaving, words_failure, work_of,
 };
 use std::process::ExitCode;
@@ -29,28 +29,33 @@ impl<'a> Files for HostFiles<'a> {
     }
 }
 
+/// Runs `select` on the files of this lock and this environment.
+fn select<W: Sink>(rt: &HostRuntime, lock: &str, env: &str, writer: &mut W) -> Result<u8, Failure> {
+    let inputs = read_inputs(&HostFiles { rt }, lock, env)?;
+    let mut reader = FromRead::new(rt.stdin());
+    let (lock, env) = (inputs.lock.as_slice(), inputs.environment.as_slice());
+    Ok(run_leaving(rt.alloc(), lock, env, &mut reader, writer)?)
+}
+
+/// Answers `marker` in the environment of this file.
+fn judge<W: Sink>(
+    rt: &HostRuntime,
+    marker: &str,
+    env: &str,
+    writer: &mut W,
+) -> Result<u8, Failure> {
+    let environment = HostFiles { rt }.read(env)?;
+    let asked = Query::Marker(marker, environment.as_slice());
+    Ok(query(rt.alloc(), asked, writer)?)
+}
+
 /// Does the task on the files, standard input and standard output of the host.
 fn perform(rt: &HostRuntime, task: Task<'_>) -> Result<u8, Failure> {
     let mut writer = ToWrite::new(rt.stdout());
     match work_of(task) {
         Work::Greet => greet(&mut writer),
-        Work::Select(lock, env) => {
-            let inputs = read_inputs(&HostFiles { rt }, lock, env)?;
-            let mut reader = FromRead::new(rt.stdin());
-            let status = run_leaving(
-                rt.alloc(),
-                &inputs.lock,
-                &inputs.environment,
-                &mut reader,
-                &mut writer,
-            )?;
-            Ok(status)
-        }
-        Work::Judge(marker, env) => {
-            let environment = HostFiles { rt }.read(env)?;
-            let asked = Query::Marker(marker, &environment);
-            Ok(query(rt.alloc(), asked, &mut writer)?)
-        }
+        Work::Select(lock, env) => select(rt, lock, env, &mut writer),
+        Work::Judge(marker, env) => judge(rt, marker, env, &mut writer),
         Work::Ask(asked) => Ok(query(rt.alloc(), asked, &mut writer)?),
     }
 }

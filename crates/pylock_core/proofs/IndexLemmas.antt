@@ -1,5 +1,5 @@
 -- Lemmas on increasing lists of numbers, and on the lists of an index.
-use Rattle.std.proofs.Common.{◌≡◌, ℕ, suc, zero, ◌+◌, ◌<◌, ◌≤◌, ◌∙◌, Bool, true, false, ◌&&◌, ◌||◌, IsTrue, nat_eq, nat_lt, List, [], ◌∷◌, map, length, ext_get_or, get_or, set, Some, is_some, Result, Ok, Err, IsOk, is_ok, cond, vec_len, vec_capacity, subst, ap, sym, refl, eq-eqb, arith}
+use Rattle.std.proofs.Common.{◌≡◌, ℕ, suc, zero, ◌+◌, ◌<◌, ◌≤◌, ◌∙◌, Bool, true, false, ◌&&◌, ◌||◌, IsTrue, nat_eq, nat_lt, List, [], ◌∷◌, map, length, ext_get_or, get_or, set, replicate, Some, is_some, Result, Ok, Err, IsOk, is_ok, cond, vec_len, vec_capacity, subst, ap, sym, refl, eq-eqb, arith}
 use Rattle.std.specs.Global.{Global}
 use Rattle.std.specs.declared.vec.Vec.{Vec}
 use Rattle.std.specs.List.{insert, remove}
@@ -192,11 +192,11 @@ lists_are lists ks f k long at =
     ext_get_or [] (numbers_in lists) (map f ks) (omega (arith, one, two, long))
     (λ i within. at i (omega (arith, within, one, long)) ∙ sym (get_or-map f ks i k [] (omega (arith, within, one, long))))
 
--- lists each of which is empty
-pub all_empty : (lists : List (Vec ℕ Global)) → ((i : ℕ) (v : Vec ℕ Global) → i < length lists → (get_or lists i v).items ≡ []) → (key : ℕ) → list_at lists key ≡ []
-all_empty [] empty key = refl
-all_empty (x ∷ xs) empty zero = empty 0 x (omega arith)
-all_empty (x ∷ xs) empty (suc key) = all_empty xs (λ i v within. empty (suc i) v (omega arith)) key
+-- among empty lists there is none under any key that has a number
+pub none_listed : (count key : ℕ) → get_or (replicate {A = List ℕ} count []) key [] ≡ []
+none_listed zero key = refl
+none_listed (suc count) zero = refl
+none_listed (suc count) (suc key) = none_listed count key
 
 -- the lists of the head alone
 head_alone : (b : Bool) → moved 0 false b [] ≡ and_head b []

@@ -29,7 +29,7 @@ pub struct Pick {
 
 /// What is to be installed, in the order of the entries; made from a `Vec` and given back as one
 /// without memory.
-#[derive(Debug, Drop)]
+#[derive(Debug)]
 pub struct Plan {
     picks: Vec<Pick>,
 }
@@ -41,6 +41,12 @@ impl Model for Plan {
     ghost Value = { List Pick };
 
     ghost view = { λ p. p.picks.items };
+}
+
+impl Drop for Plan {
+    fn drop(self) {
+        let Plan { picks: _ } = self;
+    }
 }
 
 impl Plan {

@@ -10,7 +10,7 @@ use pywheel_core::TagList;
 use std::alloc::AllocError;
 
 /// An edit of a session. An entry is named by its number; a name is taken in normal form (PEP 503).
-#[derive(Debug, Drop)]
+#[derive(Drop)]
 pub enum Edit {
     /// Gives the variable the text.
     Set(Var, Label),

@@ -33,7 +33,6 @@ use std::marker::Model;
 
 /// The entries of a lock, each with its number, and what edits make of them. A number is never used
 /// again.
-#[derive(Debug, Drop)]
 pub struct Session {
     parts: Parts,
 }
@@ -62,6 +61,12 @@ impl Model for Session {
     ghost view = { λ s. shown s.parts };
 
     ghost invariant = { λ s. IsSession s.parts };
+}
+
+impl Drop for Session {
+    fn drop(self) {
+        let Session { parts: _ } = self;
+    }
 }
 
 impl Session {

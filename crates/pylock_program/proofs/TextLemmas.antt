@@ -3,7 +3,6 @@ use Rattle.std.proofs.Common.{◌≡◌, ℕ, List, [], ◌∷◌, ◌++◌, Boo
 use Rattle.std.specs.List.{join_with_byte}
 use Rattle.std.specs.Str.{bytes_eq}
 use Rattle.std.specs.Prelude.{codes}
-use Rattle.std.proofs.lemmas.Fmt.{decimal_digit, decimal_step}
 use Rattle.std.proofs.lemmas.List.Concat.{flat_map-append}
 use Rattle.pylock_program.specs.Text.Field.{escape, escaped, field}
 use Rattle.pylock_program.specs.Text.Plan.{hash_text, hashes_text}
@@ -62,6 +61,3 @@ field_revision kind commit =
     let other : bytes_eq text (45 ∷ []) ≡ false = ap (λ t. bytes_eq t (45 ∷ [])) (append_assoc kind (codes "@") commit) ∙ not_dash 64 kind commit refl in
     ap (λ t. cond t (codes "\\-") (escaped text)) other
     ∙ flat_map-append escape (kind ++ codes "@") commit ∙ ap (λ t. t ++ escaped commit) (flat_map-append escape kind (codes "@"))
-
--- the digits of a number, the last one pushed behind the others
-pub ruleset decimal_steps = (decimal_step, decimal_digit, append_assoc)

@@ -145,12 +145,20 @@ pub trait Files {
 }
 
 /// The two files of a run.
-#[derive(Debug, Drop)]
 pub struct Inputs {
     /// The bytes of the lock.
     pub lock: Vec<u8>,
     /// The bytes of the environment.
     pub environment: Vec<u8>,
+}
+
+impl Drop for Inputs {
+    fn drop(self) {
+        let Inputs {
+            lock: _,
+            environment: _,
+        } = self;
+    }
 }
 
 /// Reads the lock and then the environment. Takes memory for both.

@@ -18,10 +18,18 @@ use std::rc::Rc;
 use toml::Value;
 
 /// The markers and specifier sets that were read so far.
-#[derive(Drop)]
 pub(crate) struct Conditions {
     pub(crate) markers: Markers,
     pub(crate) sets: Sets,
+}
+
+impl Drop for Conditions {
+    fn drop(self) {
+        let Conditions {
+            markers: _,
+            sets: _,
+        } = self;
+    }
 }
 
 impl Conditions {
@@ -35,9 +43,8 @@ impl Conditions {
 }
 
 /// The markers that were read so far, by their texts.
-#[derive(Drop)]
 pub(crate) struct Markers {
-    table: BTreeMap<String, Rc<Marker>>,
+    table: BTreeMap<String, Marker>,
 }
 
 impl Model for Markers {
@@ -48,7 +55,13 @@ impl Model for Markers {
 
     ghost view = { λ _. tt };
 
-    ghost invariant = { λ m. AllRead marker_of (λ marker. marker.value) m.table.entries };
+    ghost invariant = { λ m. AllRead marker_of (λ marker. marker) m.table.entries };
+}
+
+impl Drop for Markers {
+    fn drop(self) {
+        let Markers { table: _ } = self;
+    }
 }
 
 impl Markers {
@@ -60,8 +73,8 @@ impl Markers {
     }
 
     /// The marker of the text that the value is.
-    pub(crate) fn read(&mut self, alloc: Global, value: Value) -> Result<Rc<Marker>, FieldError>
-        ensures { Gives FieldError.Memory (λ m. m.value) result (marker_field (view value)) }
+    pub(crate) fn read(&mut self, alloc: Global, value: Value) -> Result<Marker, FieldError>
+        ensures { Gives FieldError.Memory (λ m. m) result (marker_field (view value)) }
     {
         let text = into_text(value)?;
         shared_marker(alloc, &mut self.table, text)
@@ -70,25 +83,25 @@ impl Markers {
 
 fn shared_marker(
     alloc: Global,
-    table: &mut BTreeMap<String, Rc<Marker>>,
+    table: &mut BTreeMap<String, Marker>,
     text: String,
-) -> Result<Rc<Marker>, FieldError>
-    requires { AllRead marker_of (λ m. m.value) table.old.entries }
-    ensures gives { Gives FieldError.Memory (λ m. m.value) result
+) -> Result<Marker, FieldError>
+    requires { AllRead marker_of (λ m. m) table.old.entries }
+    ensures gives { Gives FieldError.Memory (λ m. m) result
         (formed (marker_of (string_bytes text))) }
-    ensures keeps { AllRead marker_of (λ m. m.value) table.new.entries }
+    ensures keeps { AllRead marker_of (λ m. m) table.new.entries }
 {
     if let Some(marker) = known_marker(table, text.as_str()) {
         return Ok(marker.clone()?);
     }
-    let marker = Rc::new(alloc, read_marker(alloc, text.as_str())?)?;
+    let marker = read_marker(alloc, text.as_str())?;
     table.insert(text, marker.clone()?)?;
     Ok(marker)
 }
 
-fn known_marker<'a>(table: &'a BTreeMap<String, Rc<Marker>>, text: &str) -> Option<&'a Rc<Marker>>
-    requires { AllRead marker_of (λ m. m.value) table.now.entries }
-    ensures { IfSome result (λ m. marker_of text.now ≡ Ok m.now.value) }
+fn known_marker<'a>(table: &'a BTreeMap<String, Marker>, text: &str) -> Option<&'a Marker>
+    requires { AllRead marker_of (λ m. m) table.now.entries }
+    ensures { IfSome result (λ m. marker_of text.now ≡ Ok m.now) }
 {
     table.get(text)
 }
@@ -105,7 +118,6 @@ pub(crate) fn read_marker(alloc: Global, text: &str) -> Result<Marker, FieldErro
 }
 
 /// The specifier sets that were read so far, by their texts.
-#[derive(Drop)]
 pub(crate) struct Sets {
     table: BTreeMap<String, Rc<SpecifierSet>>,
 }
@@ -119,6 +131,12 @@ impl Model for Sets {
     ghost view = { λ _. tt };
 
     ghost invariant = { λ s. AllRead parsed_set (λ set. set.value) s.table.entries };
+}
+
+impl Drop for Sets {
+    fn drop(self) {
+        let Sets { table: _ } = self;
+    }
 }
 
 impl Sets {

@@ -27,12 +27,11 @@ use std::rc::Rc;
 pub use vcs::Vcs;
 
 /// A package of the lock (PEP 751, `packages`).
-#[derive(Debug, Drop)]
 pub struct Entry {
     name: String,
     version: Option<String>,
     sources: Sources,
-    marker: Option<Rc<Marker>>,
+    marker: Option<Marker>,
     requires_python: Option<Rc<SpecifierSet>>,
 }
 
@@ -54,9 +53,21 @@ impl Model for Entry {
       archive = e.sources.archive;
       sdist = e.sources.sdist;
       wheels = e.sources.wheels;
-      marker = option_map (λ m. m.value) e.marker;
+      marker = e.marker;
       requires_python = option_map (λ s. s.value) e.requires_python;
     } };
+}
+
+impl Drop for Entry {
+    fn drop(self) {
+        let Entry {
+            name: _,
+            version: _,
+            sources: _,
+            marker: _,
+            requires_python: _,
+        } = self;
+    }
 }
 
 impl Entry {
@@ -78,7 +89,7 @@ impl Entry {
     pub fn marker(&self) -> Option<&Marker>
         ensures { option_copied result ≡ self.now.marker }
     {
-        self.marker.as_deref()
+        self.marker.as_ref()
     }
 
     /// The key `requires-python`.

@@ -16,7 +16,7 @@ use std::mem;
 use toml::{Table, Value};
 
 /// Why a field was not read.
-#[derive(Debug, Drop)]
+#[derive(Drop)]
 pub(crate) enum FieldError {
     /// It is not of its form.
     Wrong,

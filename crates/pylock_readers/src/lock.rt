@@ -19,7 +19,6 @@ use std::marker::Model;
 pub const MOST_ENTRIES: usize = 100_000;
 
 /// A lock (PEP 751): its head, and the packages of `packages`, at most 100,000, in their order.
-#[derive(Debug, Drop)]
 pub struct Lock {
     head: Head,
     entries: Vec<Entry>,
@@ -38,6 +37,15 @@ impl Model for Lock {
     ghost view = { λ l. record { head = l.head; entries = l.entries.items } };
 
     ghost invariant = { λ l. vec_len l.entries ≤ 100000 };
+}
+
+impl Drop for Lock {
+    fn drop(self) {
+        let Lock {
+            head: _,
+            entries: _,
+        } = self;
+    }
 }
 
 impl Lock {

@@ -11,7 +11,6 @@ use std::marker::Model;
 /// A text with what it reads as by PEP 440, so that no comparison reads it again.
 ///
 /// Contracts see the text alone, since the version and the name follow from it.
-#[derive(Debug, Drop)]
 pub(crate) struct Candidate {
     text: String,
     version: Result<Version, VersionError>,
@@ -80,6 +79,16 @@ impl Candidate {
             Some(name) => Some(name.as_str()),
             None => None,
         }
+    }
+}
+
+impl Drop for Candidate {
+    fn drop(self) {
+        let Candidate {
+            text: _,
+            version: _,
+            name: _,
+        } = self;
     }
 }
 

@@ -23,7 +23,6 @@ use std::marker::Model;
 /// terms.
 ///
 /// Contracts see the operands and the operator, since what the texts read as follows from them.
-#[derive(Debug, Drop)]
 pub(crate) struct Comparison {
     left: Left,
     comparator: Comparator,
@@ -31,7 +30,7 @@ pub(crate) struct Comparison {
 }
 
 /// What stands left of an operator.
-#[derive(Debug, Drop)]
+#[derive(Drop)]
 enum Left {
     /// A quoted text, with the version that it spells.
     Text(Candidate),
@@ -42,7 +41,7 @@ enum Left {
 }
 
 /// What stands right of an operator.
-#[derive(Debug, Drop)]
+#[derive(Drop)]
 enum Right {
     /// A quoted text behind `in` or `not in`.
     Text(Label),
@@ -111,61 +110,14 @@ impl Comparison {
     }
 }
 
-impl Clone for Comparison {
-    ghost is_clone = { λ comparison copy. copy ≡ comparison };
-
-    fn clone(&self) -> Result<Comparison, AllocError> {
-        Ok(Comparison {
-            left: self.left.clone()?,
-            comparator: self.comparator,
-            right: self.right.clone()?,
-        })
+impl Drop for Comparison {
+    fn drop(self) {
+        let Comparison {
+            left: _,
+            comparator: _,
+            right: _,
+        } = self;
     }
-}
-
-impl Clone for Left {
-    ghost is_clone = { λ left copy. copy ≡ left };
-
-    fn clone(&self) -> Result<Left, AllocError> {
-        Ok(match self {
-            Left::Text(candidate) => Left::Text(candidate.clone()?),
-            Left::Variable(variable) => Left::Variable(*variable),
-            Left::Extra => Left::Extra,
-            Left::Extras => Left::Extras,
-            Left::Groups => Left::Groups,
-        })
-    }
-}
-
-impl Clone for Right {
-    ghost is_clone = { λ right copy. copy ≡ right };
-
-    fn clone(&self) -> Result<Right, AllocError> {
-        Ok(match self {
-            Right::Text(text) => Right::Text(text.clone()?),
-            Right::Operand(text, specifier) => {
-                Right::Operand(text.clone()?, copy_specifier(specifier)?)
-            }
-            Right::Variable(variable) => Right::Variable(*variable),
-            Right::Extra => Right::Extra,
-            Right::Extras => Right::Extras,
-            Right::Groups => Right::Groups,
-        })
-    }
-}
-
-/// What a text reads as, in memory of its own.
-fn copy_specifier(
-    specifier: &Result<Specifier, SpecifierError>,
-) -> Result<Result<Specifier, SpecifierError>, AllocError>
-    ensures { IfOk result (λ copy. copy ≡ specifier.now) }
-{
-    Ok(match specifier {
-        Ok(specifier) => Ok(specifier.clone()?),
-        Err(SpecifierError::Syntax) => Err(SpecifierError::Syntax),
-        Err(SpecifierError::NumberTooLarge) => Err(SpecifierError::NumberTooLarge),
-        Err(SpecifierError::Memory) => Err(SpecifierError::Memory),
-    })
 }
 
 /// The operand, left of this one, with what it reads as if it is a quoted text.

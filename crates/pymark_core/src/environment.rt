@@ -22,7 +22,6 @@ use std::marker::Model;
 /// for, in normal form (PEP 503).
 ///
 /// Contracts see the texts and the sets.
-#[derive(Debug, Drop)]
 pub struct Environment {
     alloc: Global,
     variables: [Option<Candidate>; 11],
@@ -38,6 +37,17 @@ impl Model for Environment {
     ghost coded = { environment_code };
 
     ghost view = { λ e. record { variables = e.variables; extras = e.extras; groups = e.groups } };
+}
+
+impl Drop for Environment {
+    fn drop(self) {
+        let Environment {
+            alloc: _,
+            variables: _,
+            extras: _,
+            groups: _,
+        } = self;
+    }
 }
 
 impl Environment {

@@ -1,7 +1,6 @@
 //! Markers (PEP 508, "Environment Markers").
 
 mod builder;
-mod copy;
 mod depth;
 mod error;
 mod keys;
@@ -12,8 +11,9 @@ pub(crate) mod tree;
 mod value;
 
 ghost use Rattle.std.specs.Fmt.{padded};
-ghost use Rattle.std.specs.Prelude.{◌≡◌, IfOk, IsErrOf, Some, false, true};
+ghost use Rattle.std.specs.Prelude.{◌≡◌, IfOk, IsErrOf, Some, false, string_bytes, true};
 ghost use Rattle.pyver_core.specs.Agreement.{Gives};
+ghost use Rattle.pymark_core.specs.Inner.View.{tree_view};
 ghost use Rattle.pymark_core.specs.Marker.Depth.{is_deep};
 ghost use Rattle.pymark_core.specs.Marker.Grammar.{MarkerText, has_misuse};
 ghost use Rattle.pymark_core.specs.Marker.Keys.{is_flagged, reads};
@@ -26,7 +26,6 @@ ghost use Rattle.pymark_core.specs.declared.marker.keys.Key.{Key};
 use crate::environment::Environment;
 use crate::fault::EvalFault;
 use crate::white::trimmed;
-use copy::copy_tree;
 use depth::is_deep;
 pub use error::MarkerError;
 pub use keys::{Key, Reads};
@@ -34,15 +33,21 @@ use parse::read_tree;
 use std::alloc::{AllocError, Global};
 use std::fmt;
 use std::marker::Model;
+use std::sync::Arc;
 use tree::Tree;
 use value::tree_value;
 
 /// A marker: a condition over an environment, with its text as it was given but for the white space
-/// round it.
+/// round it. Its copies share what was read.
 ///
 /// Contracts see the text and the tree, since the keys follow from the tree.
-#[derive(Debug, Drop)]
 pub struct Marker {
+    parsed: Arc<Parsed>,
+}
+
+/// What a marker's text was read as.
+#[derive(Drop)]
+struct Parsed {
     text: String,
     tree: Tree,
     keys: Reads,
@@ -61,9 +66,19 @@ impl Model for Marker {
     ghost use Rattle.pymark_core.specs.Inner.View.{tree_view};
     ghost use Rattle.pymark_core.specs.declared.marker.keys.Key.{Key};
 
-    ghost view = { λ m. record { text = string_bytes m.text; tree = tree_view m.tree } };
+    ghost view = { λ m. record {
+      text = string_bytes m.parsed.value.text;
+      tree = tree_view m.parsed.value.tree;
+    } };
 
-    ghost invariant = { λ m. (key : Key) → is_flagged m.keys key ≡ reads key (tree_view m.tree) };
+    ghost invariant = { λ m. (key : Key)
+        → is_flagged m.parsed.value.keys key ≡ reads key (tree_view m.parsed.value.tree) };
+}
+
+impl Drop for Marker {
+    fn drop(self) {
+        let Marker { parsed: _ } = self;
+    }
 }
 
 impl Marker {
@@ -95,7 +110,7 @@ impl Marker {
     pub fn text(&self) -> &str
         ensures { result.now ≡ self.now.text }
     {
-        self.text.as_str()
+        self.parsed.text.as_str()
     }
 
     /// The value of the marker in an environment (PEP 508, "Environment Markers"). Every comparison
@@ -106,27 +121,33 @@ impl Marker {
         ensures { Gives EvalFault.Memory (λ b. b) result
             (marker_value environment.now self.now.tree) }
     {
-        tree_value(alloc, environment, &self.tree)
+        tree_value(alloc, environment, &self.parsed.tree)
     }
 
     /// The keys that stand in the marker as an operand. It takes no memory.
     pub fn reads(&self) -> Reads
         ensures { (key : Key) → is_flagged result key ≡ reads key self.now.tree }
     {
-        self.keys
+        self.parsed.keys
     }
 }
 
-/// A copy takes memory as the marker did. Nothing is read again.
+/// A copy shares what was read, also with other threads. It takes no memory; it is refused only
+/// where 2^63 copies stand.
 impl Clone for Marker {
     ghost is_clone = { λ marker copy. copy ≡ marker };
 
     fn clone(&self) -> Result<Marker, AllocError> {
         Ok(Marker {
-            text: self.text.clone()?,
-            tree: copy_tree(*self.text.allocator(), &self.tree)?,
-            keys: self.keys,
+            parsed: self.parsed.clone()?,
         })
+    }
+}
+
+/// The text in quotes.
+impl fmt::Debug for Marker {
+    fn fmt<W: fmt::Write>(&self, f: &mut fmt::Formatter<W>) -> fmt::Result {
+        fmt::Debug::fmt(self.text(), f)
     }
 }
 
@@ -152,9 +173,18 @@ fn read_marker(alloc: Global, text: &str) -> Result<Marker, MarkerError>
         return Err(MarkerError::SetMisuse);
     }
     let text = String::from_str(alloc, trimmed(text))?;
-    Ok(Marker {
-        text,
-        tree,
-        keys: notes.reads,
-    })
+    let keys = notes.reads;
+    Ok(share(alloc, Parsed { text, tree, keys })?)
+}
+
+/// The marker of what was read.
+fn share(alloc: Global, parsed: Parsed) -> Result<Marker, AllocError>
+    requires { (key : Key) → is_flagged parsed.keys key ≡ reads key (tree_view parsed.tree) }
+    ensures { IfOk result (λ m. m ≡ record {
+      text = string_bytes parsed.text;
+      tree = tree_view parsed.tree;
+    }) }
+{
+    let parsed = Arc::new(alloc, parsed)?;
+    Ok(Marker { parsed })
 }

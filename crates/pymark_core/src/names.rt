@@ -10,7 +10,6 @@ use std::collections::BTreeSet;
 use std::marker::Model;
 
 /// A set of normal names.
-#[derive(Debug, Drop)]
 pub(crate) struct NameSet {
     names: BTreeSet<String>,
 }
@@ -28,6 +27,12 @@ impl Model for NameSet {
     ghost view = { λ a. set.from_list (map string_bytes a.names.keys) };
 
     ghost invariant = { λ a. AreNormal (set.from_list (map string_bytes a.names.keys)) };
+}
+
+impl Drop for NameSet {
+    fn drop(self) {
+        let NameSet { names: _ } = self;
+    }
 }
 
 impl NameSet {

@@ -20,7 +20,6 @@ use std::marker::Model;
 /// A requirement: a name, extras, and a specifier set or a URL, with a marker where it has one.
 ///
 /// Contracts see these parts.
-#[derive(Debug, Drop)]
 pub struct Requirement {
     name: String,
     extras: Vec<String>,
@@ -46,6 +45,18 @@ impl Model for Requirement {
       url = option_map string_bytes r.url;
       marker = r.marker;
     } };
+}
+
+impl Drop for Requirement {
+    fn drop(self) {
+        let Requirement {
+            name: _,
+            extras: _,
+            set: _,
+            url: _,
+            marker: _,
+        } = self;
+    }
 }
 
 impl Requirement {

@@ -27,7 +27,6 @@ use std::marker::Model;
 /// normal form. The empty set admits every version.
 ///
 /// Contracts see the list of the specifiers, since the normal form follows from it.
-#[derive(Debug, Drop)]
 pub struct SpecifierSet {
     items: Vec<Specifier>,
     text: String,
@@ -104,4 +103,10 @@ impl PartialEq for SpecifierSet {
 
 impl Eq for SpecifierSet {
     ghost laws = { set_equivalence };
+}
+
+impl Drop for SpecifierSet {
+    fn drop(self) {
+        let SpecifierSet { items: _, text: _ } = self;
+    }
 }

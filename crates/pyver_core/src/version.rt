@@ -28,7 +28,6 @@ use std::marker::Model;
 /// A version of a Python package (PEP 440), kept as its parts and its normal form.
 ///
 /// Contracts see the parts alone, since the normal form follows from them.
-#[derive(Debug, Drop)]
 pub struct Version {
     epoch: u128,
     release: Vec<u128>,
@@ -175,6 +174,22 @@ impl Version {
         ensures { result ≡ is_postrelease self.now }
     {
         self.post.is_some()
+    }
+}
+
+/// Written out, as are those of the other types: so what drops a version calls this, and its proof
+/// doesn't open the parts.
+impl Drop for Version {
+    fn drop(self) {
+        let Version {
+            epoch: _,
+            release: _,
+            pre: _,
+            post: _,
+            dev: _,
+            local: _,
+            text: _,
+        } = self;
     }
 }
 

@@ -13,7 +13,6 @@ use std::cmp::Ordering;
 use std::marker::Model;
 
 /// A build tag. Contracts see it as written.
-#[derive(Debug, Drop)]
 pub(crate) struct BuildTag {
     text: String,
     digits: usize,
@@ -33,6 +32,16 @@ impl Model for BuildTag {
     ghost invariant = { λ b. (is_build (string_bytes b.text) ≡ true)
         × (b.digits ≡ prefix_len is_ascii_digit (string_bytes b.text))
         × (b.number ≡ build_number (string_bytes b.text)) };
+}
+
+impl Drop for BuildTag {
+    fn drop(self) {
+        let BuildTag {
+            text: _,
+            digits: _,
+            number: _,
+        } = self;
+    }
 }
 
 impl BuildTag {

@@ -24,6 +24,13 @@ impl fmt::Debug for Tag {
     }
 }
 
+/// As it is displayed.
+impl fmt::Debug for WheelName {
+    fn fmt<W: fmt::Write>(&self, f: &mut fmt::Formatter<W>) -> fmt::Result {
+        fmt::Display::fmt(self, f)
+    }
+}
+
 /// The file name: the name and the build tag as written, the version in its normal form, the tags
 /// in lower case. Printing takes no memory; a width that is asked for isn't filled up to, since the
 /// parts are no one text.

@@ -19,7 +19,6 @@ use std::rc::RcStr;
 /// A tag of a wheel: a Python, an ABI and a platform, in lower case (PEP 425).
 ///
 /// The tags of one wheel share their text, so that a tag takes seven words besides it.
-#[derive(Drop)]
 pub struct Tag {
     text: RcStr,
     python: Place,
@@ -39,6 +38,17 @@ impl Model for Tag {
     ghost invariant = { λ t. IsAsciiText (rc_str_bytes t.text)
         × IsWithin (rc_str_bytes t.text) t.python
         × IsWithin (rc_str_bytes t.text) t.abi × IsWithin (rc_str_bytes t.text) t.platform };
+}
+
+impl Drop for Tag {
+    fn drop(self) {
+        let Tag {
+            text: _,
+            python: _,
+            abi: _,
+            platform: _,
+        } = self;
+    }
 }
 
 impl Tag {

@@ -11,7 +11,7 @@ use std::alloc::{AllocError, Global};
 use std::marker::Model;
 
 /// Distinct tags, the most preferred first (PEP 425, "Use"). A tag's rank is its position.
-#[derive(Debug, Drop)]
+#[derive(Debug)]
 pub struct TagList {
     tags: IndexSet<Tag>,
 }
@@ -23,6 +23,12 @@ impl Model for TagList {
     ghost Value = { List TagValue };
 
     ghost view = { λ l. l.tags.keys };
+}
+
+impl Drop for TagList {
+    fn drop(self) {
+        let TagList { tags: _ } = self;
+    }
 }
 
 impl TagList {

@@ -32,7 +32,6 @@ use std::rc::RcStr;
 /// text of the name; and what the version takes besides, 88 for `2.2.1`. Counted, these are 603
 /// bytes for `numpy-2.2.1-cp312-cp312-manylinux_2_17_x86_64.manylinux2014_x86_64.whl`, 70 bytes
 /// with two tags, and 687 with what the allocator of the C library adds to each piece.
-#[derive(Debug, Drop)]
 pub struct WheelName {
     name: String,
     version: Version,
@@ -55,6 +54,18 @@ impl Model for WheelName {
       tag_set = rc_str_bytes w.tag_set;
       tags = w.tags.items;
     } };
+}
+
+impl Drop for WheelName {
+    fn drop(self) {
+        let WheelName {
+            name: _,
+            version: _,
+            build: _,
+            tag_set: _,
+            tags: _,
+        } = self;
+    }
 }
 
 impl WheelName {

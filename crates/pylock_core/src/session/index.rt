@@ -1,7 +1,7 @@
 //! The index of a session: for each key the numbers of what reads it.
 
 ghost use Rattle.std.specs.Prelude.{◌≡◌, ℕ, ◌<◌, false, [], IfOk, IsTrue, OnOk, length, map};
-ghost use Rattle.std.specs.Prelude.{slice_index_or, vec_len, vec_capacity};
+ghost use Rattle.std.specs.Prelude.{replicate, slice_index_or, vec_len, vec_capacity};
 ghost use Rattle.pylock_core.specs.Session.Judgement.{and_head, entry_reads, head_reads, keys};
 ghost use Rattle.pylock_core.specs.Inner.Index.{AllRise, HaveRoom, any_reads};
 ghost use Rattle.pylock_core.specs.Session.State.{Rises};
@@ -87,10 +87,24 @@ fn head_keys(head: &Head) -> KeySet
 
 /// Lists that are empty.
 fn empty_lists(alloc: Global) -> Lists
-    ensures empty { (key : ℕ) → list_at result key ≡ [] }
-    ensures long { length result ≡ 14 }
+    ensures { numbers_in result ≡ replicate 14 [] }
 {
-    std::array::from_fn(|_| Vec::new(alloc))
+    [
+        Vec::new(alloc),
+        Vec::new(alloc),
+        Vec::new(alloc),
+        Vec::new(alloc),
+        Vec::new(alloc),
+        Vec::new(alloc),
+        Vec::new(alloc),
+        Vec::new(alloc),
+        Vec::new(alloc),
+        Vec::new(alloc),
+        Vec::new(alloc),
+        Vec::new(alloc),
+        Vec::new(alloc),
+        Vec::new(alloc),
+    ]
 }
 
 /// The lists of a session that has no entry: the number of the head under each key that it reads.

@@ -20,13 +20,22 @@ use std::collections::BTreeMap;
 use std::collections::btree_map::Entry;
 
 /// The names that an entry or a policy ever had. Equal names have one number.
-#[derive(Debug, Drop)]
 pub(crate) struct Names {
     pub(crate) numbers: BTreeMap<String, usize>,
     /// The policy of each number.
     pub(crate) policies: Vec<Policy>,
     /// The numbers of the entries that have the name of each number, in increasing order.
     pub(crate) members: Vec<Vec<u32>>,
+}
+
+impl Drop for Names {
+    fn drop(self) {
+        let Names {
+            numbers: _,
+            policies: _,
+            members: _,
+        } = self;
+    }
 }
 
 /// Gives the name this number where it has none, and answers the number that it had.

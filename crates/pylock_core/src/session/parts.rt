@@ -25,7 +25,6 @@ use pywheel_core::TagList;
 use std::alloc::{AllocError, Global};
 
 /// What a session keeps.
-#[derive(Debug, Drop)]
 pub(crate) struct Parts {
     pub(crate) alloc: Global,
     /// The numbers that the last accepted edit judged.
@@ -45,6 +44,24 @@ pub(crate) struct Parts {
     /// The entry of number k stands at place k - 1. They are let go last: the allocator merges
     /// their many small pieces only when a large one is given back behind them.
     pub(crate) entries: Vec<Option<Entry>>,
+}
+
+impl Drop for Parts {
+    fn drop(self) {
+        let Parts {
+            alloc: _,
+            judged: _,
+            index: _,
+            rows: _,
+            names: _,
+            head: _,
+            head_verdict: _,
+            environment: _,
+            spare: _,
+            tags: _,
+            entries: _,
+        } = self;
+    }
 }
 
 /// The answer of the installation steps.

@@ -8,7 +8,7 @@ use crate::edit::Policy;
 use crate::session::verdict::Verdict;
 
 /// Which kinds of sources an entry has.
-#[derive(Clone, Copy, Debug)]
+#[derive(Clone, Copy)]
 pub(crate) struct SourceKinds {
     pub(crate) vcs: bool,
     pub(crate) directory: bool,
@@ -31,7 +31,7 @@ impl SourceKinds {
 }
 
 /// The row of an entry: its verdict, the number of its name, and which sources it has.
-#[derive(Debug, Drop)]
+#[derive(Drop)]
 pub(crate) struct Row {
     pub(crate) verdict: Verdict,
     pub(crate) name: usize,

@@ -20,7 +20,7 @@ use std::marker::Model;
 
 /// The verdict on an entry: how it stands by its marker and its Python check, and which of its
 /// wheels is the best under its name's policy.
-#[derive(Debug, Drop)]
+#[derive(Drop)]
 pub(crate) struct Verdict {
     standing: Standing,
     best: Option<usize>,
@@ -35,7 +35,7 @@ impl Model for Verdict {
 }
 
 /// The verdict on the head: its fault or none.
-#[derive(Debug, Drop)]
+#[derive(Drop)]
 pub(crate) struct HeadVerdict {
     fault: Option<FaultCode>,
 }

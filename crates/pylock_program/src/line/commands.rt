@@ -21,7 +21,7 @@ use pywheel_core::TagList;
 use std::alloc::{AllocError, Global};
 
 /// What a line asks for.
-#[derive(Debug, Drop)]
+#[derive(Drop)]
 pub enum Command {
     /// The answer as it stands.
     Show,

@@ -9,7 +9,7 @@ use pywheel_core::TagListError;
 use std::alloc::{AllocError, AllocFailed};
 
 /// Why a line is refused.
-#[derive(Clone, Copy, Debug, Drop)]
+#[derive(Clone, Copy, Drop)]
 pub enum LineRefusal {
     /// It has more than `LINE_LIMIT` bytes.
     Long,

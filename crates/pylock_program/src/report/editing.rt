@@ -28,7 +28,6 @@ use std::marker::Model;
 pub const LINES: u64 = 1_000_000;
 
 /// A session, and how far its editing has come.
-#[derive(Debug, Drop)]
 pub struct Editing {
     alloc: Global,
     session: Session,
@@ -75,6 +74,19 @@ impl Model for Editing {
 
     ghost invariant = { λ e. (vec_len e.line ≤ line_limit + 1)
         × (e.ended + min 1 (vec_len e.line) ≤ most_lines) };
+}
+
+impl Drop for Editing {
+    fn drop(self) {
+        let Editing {
+            alloc: _,
+            session: _,
+            plan: _,
+            ended: _,
+            refused: _,
+            line: _,
+        } = self;
+    }
 }
 
 impl Editing {

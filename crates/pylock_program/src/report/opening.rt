@@ -8,7 +8,7 @@ use pylock_core::{EnvError, Lock, LockError, Session, read_environment};
 use std::alloc::{AllocError, Global};
 
 /// Why there is nothing to edit: the lock's refusal, and then the environment's.
-#[derive(Debug, Drop)]
+#[derive(Drop)]
 pub enum OpenError {
     /// The lock is refused.
     Lock(LockError),

@@ -22,7 +22,7 @@ fn counts_down(fails_in: &mut Option<u64>) -> bool
 }
 
 /// A source over bytes in memory.
-#[derive(Debug, Drop)]
+#[derive(Drop)]
 pub struct Pieces<'a> {
     rest: &'a [u8],
     piece: usize,
@@ -98,7 +98,6 @@ impl<'a> Source for Pieces<'a> {
 }
 
 /// A sink over memory that it took when it was made.
-#[derive(Debug, Drop)]
 pub struct Room {
     bytes: Vec<u8>,
     room: usize,
@@ -122,6 +121,18 @@ impl Model for Room {
     } };
 
     ghost invariant = { λ r. (vec_len r.bytes ≤ r.room) × (r.room ≤ vec_capacity r.bytes) };
+}
+
+impl Drop for Room {
+    fn drop(self) {
+        let Room {
+            bytes: _,
+            room: _,
+            piece: _,
+            fails_in: _,
+            failures: _,
+        } = self;
+    }
 }
 
 impl Room {

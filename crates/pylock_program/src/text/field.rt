@@ -6,18 +6,15 @@ ghost use Rattle.std.specs.Option.{option_copied};
 ghost use Rattle.pylock_program.specs.Inner.Plain.{is_ordinary};
 ghost use Rattle.pylock_program.specs.Text.Field.{escape, escaped, field, line_of};
 
+use itoa::Buffer;
 use std::alloc::AllocError;
 
 /// Pushes the decimal digits of a number.
-#[tactic(auto, using(crate::proofs::TextLemmas::decimal_steps))]
 pub fn push_decimal(out: &mut Vec<u8>, number: u64) -> Result<(), AllocError>
     ensures { OnOk result (out.new.items ≡ out.old.items ++ decimal number) }
 {
-    if number >= 10 {
-        push_decimal(out, number / 10)?;
-    }
-    out.push(b'0' + (number % 10) as u8)?;
-    Ok(())
+    let mut digits = Buffer::new();
+    out.extend_from_slice(digits.format(number).as_bytes())
 }
 
 /// Pushes a field: a text, or one that is absent.

@@ -16,7 +16,6 @@ use std::marker::Model;
 use toml::{Table, Value};
 
 /// An archive to install from (PEP 751, `packages.archive`).
-#[derive(Debug, Drop)]
 pub struct Archive {
     location: Location,
     hashes: Vec<(String, String)>,
@@ -35,6 +34,16 @@ impl Model for Archive {
       hashes = text_pairs a.hashes.items;
       subdirectory = option_map string_bytes a.subdirectory;
     } };
+}
+
+impl Drop for Archive {
+    fn drop(self) {
+        let Archive {
+            location: _,
+            hashes: _,
+            subdirectory: _,
+        } = self;
+    }
 }
 
 impl Archive {

@@ -11,7 +11,6 @@ use std::marker::Model;
 use toml::{Table, Value};
 
 /// A local directory to install from (PEP 751, `packages.directory`).
-#[derive(Debug, Drop)]
 pub struct Directory {
     path: String,
     editable: bool,
@@ -29,6 +28,16 @@ impl Model for Directory {
       editable = d.editable;
       subdirectory = option_map string_bytes d.subdirectory;
     } };
+}
+
+impl Drop for Directory {
+    fn drop(self) {
+        let Directory {
+            path: _,
+            editable: _,
+            subdirectory: _,
+        } = self;
+    }
 }
 
 impl Directory {

@@ -17,7 +17,6 @@ use std::marker::Model;
 use toml::{Table, Value};
 
 /// An sdist or a wheel to install from (PEP 751, `packages.sdist` and `packages.wheels`).
-#[derive(Debug, Drop)]
 pub struct DistributionFile {
     name: Option<String>,
     location: Location,
@@ -47,6 +46,17 @@ impl Model for DistributionFile {
 
     ghost invariant = { λ f. option_map string_bytes f.file_name
         ≡ file_name_of (option_map string_bytes f.name) f.location.path f.location.url };
+}
+
+impl Drop for DistributionFile {
+    fn drop(self) {
+        let DistributionFile {
+            name: _,
+            location: _,
+            hashes: _,
+            file_name: _,
+        } = self;
+    }
 }
 
 impl DistributionFile {

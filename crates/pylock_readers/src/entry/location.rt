@@ -11,7 +11,6 @@ use std::marker::Model;
 use toml::Value;
 
 /// The URL of a source, its path, or both.
-#[derive(Debug, Drop)]
 pub(crate) struct Location {
     url: Option<String>,
     path: Option<String>,
@@ -27,6 +26,12 @@ impl Model for Location {
       url = option_map string_bytes l.url;
       path = option_map string_bytes l.path;
     } };
+}
+
+impl Drop for Location {
+    fn drop(self) {
+        let Location { url: _, path: _ } = self;
+    }
 }
 
 impl Location {

@@ -100,8 +100,8 @@ fn read_marker(
     alloc: Global,
     field: Option<Value>,
     conditions: &mut Conditions,
-) -> Result<Option<Rc<Marker>>, EntryError>
-    ensures { Gives EntryError.Memory (option_map (λ m. m.value)) result
+) -> Result<Option<Marker>, EntryError>
+    ensures { Gives EntryError.Memory (λ m. m) result
         (marker_in (option_map view field)) }
 {
     match field {

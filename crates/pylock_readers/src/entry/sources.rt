@@ -17,7 +17,6 @@ use std::marker::Model;
 use toml::Value;
 
 /// The sources of an entry. Nearly every entry has one or two, and the others take no room.
-#[derive(Debug, Drop)]
 pub(crate) struct Sources {
     pub(crate) vcs: Option<Box<Vcs>>,
     pub(crate) directory: Option<Box<Directory>>,
@@ -49,6 +48,18 @@ pub(crate) struct SourceFields {
     pub(crate) archive: Option<Value>,
     pub(crate) sdist: Option<Value>,
     pub(crate) wheels: Option<Value>,
+}
+
+impl Drop for Sources {
+    fn drop(self) {
+        let Sources {
+            vcs: _,
+            directory: _,
+            archive: _,
+            sdist: _,
+            wheels: _,
+        } = self;
+    }
 }
 
 impl Sources {

@@ -13,7 +13,6 @@ use std::marker::Model;
 use toml::{Table, Value};
 
 /// A checkout of a version control system to install from (PEP 751, `packages.vcs`).
-#[derive(Debug, Drop)]
 pub struct Vcs {
     kind: String,
     commit_id: String,
@@ -33,6 +32,17 @@ impl Model for Vcs {
       location = v.location;
       subdirectory = option_map string_bytes v.subdirectory;
     } };
+}
+
+impl Drop for Vcs {
+    fn drop(self) {
+        let Vcs {
+            kind: _,
+            commit_id: _,
+            location: _,
+            subdirectory: _,
+        } = self;
+    }
 }
 
 impl Vcs {

@@ -14,7 +14,6 @@ use std::marker::Model;
 use toml::Value;
 
 /// The wheels of an entry, and what their file names say, read once.
-#[derive(Debug, Drop)]
 pub(crate) struct Wheels {
     files: Vec<WheelFile>,
     names: Vec<Option<WheelName>>,
@@ -29,6 +28,12 @@ impl Model for Wheels {
     ghost view = { λ w. w.files.items };
 
     ghost invariant = { λ w. w.names.items ≡ map wheel_name w.files.items };
+}
+
+impl Drop for Wheels {
+    fn drop(self) {
+        let Wheels { files: _, names: _ } = self;
+    }
 }
 
 impl Wheels {

@@ -20,7 +20,6 @@ use toml::Value;
 
 /// The head of a lock (PEP 751): what it says of itself, which is the environments and the Pythons
 /// that it is for, its extras and its groups.
-#[derive(Debug, Drop)]
 pub struct Head {
     environments: Vec<Marker>,
     requires_python: Option<SpecifierSet>,
@@ -55,6 +54,18 @@ pub(crate) struct HeadFields {
     pub(crate) extras: Option<Value>,
     pub(crate) groups: Option<Value>,
     pub(crate) default_groups: Option<Value>,
+}
+
+impl Drop for Head {
+    fn drop(self) {
+        let Head {
+            environments: _,
+            requires_python: _,
+            extras: _,
+            groups: _,
+            default_groups: _,
+        } = self;
+    }
 }
 
 impl Head {

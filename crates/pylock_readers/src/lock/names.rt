@@ -10,7 +10,6 @@ use std::marker::Model;
 
 /// Names in normal form (PEP 503), each once, in the order in which each comes first; and all of
 /// them in a set, so that one is found without a walk.
-#[derive(Debug, Drop)]
 pub struct HeadNames {
     names: Vec<String>,
     set: BTreeSet<String>,
@@ -31,6 +30,12 @@ impl Model for HeadNames {
 
     ghost invariant = { λ h. (text : List ℕ)
         → has_text h.set.keys text ≡ list_any (bytes_eq text) (map string_bytes h.names.items) };
+}
+
+impl Drop for HeadNames {
+    fn drop(self) {
+        let HeadNames { names: _, set: _ } = self;
+    }
 }
 
 impl HeadNames {

@@ -3,7 +3,7 @@
 use crate::comparison::Comparison;
 
 /// Parts with one word between them: conjunctions with `or`, atoms with `and`.
-#[derive(Debug, Drop)]
+#[derive(Drop)]
 pub(crate) struct Joined<T> {
     /// The parts but for the last, in the order in which they were written.
     pub(crate) front: Vec<T>,
@@ -12,7 +12,7 @@ pub(crate) struct Joined<T> {
 }
 
 /// A comparison, or a marker in parentheses.
-#[derive(Debug, Drop)]
+#[derive(Drop)]
 pub(crate) enum Atom {
     /// A comparison.
     Leaf(Comparison),

@@ -66,6 +66,13 @@ impl fmt::Display for Operator {
     }
 }
 
+/// The normal form in quotes.
+impl fmt::Debug for SpecifierSet {
+    fn fmt<W: fmt::Write>(&self, f: &mut fmt::Formatter<W>) -> fmt::Result {
+        fmt::Debug::fmt(self.text(), f)
+    }
+}
+
 /// The normal form: the specifiers in order, joined by commas.
 impl fmt::Display for SpecifierSet {
     ghost output = { λ set. Some (set_text set) };
@@ -127,6 +134,20 @@ impl fmt::Display for ReleasePrefix {
         write_epoch(f, self.epoch())?;
         write_release(f, self.release())?;
         f.write_str(".*")
+    }
+}
+
+/// As it is displayed.
+impl fmt::Debug for ReleasePrefix {
+    fn fmt<W: fmt::Write>(&self, f: &mut fmt::Formatter<W>) -> fmt::Result {
+        fmt::Display::fmt(self, f)
+    }
+}
+
+/// As it is displayed.
+impl fmt::Debug for Specifier {
+    fn fmt<W: fmt::Write>(&self, f: &mut fmt::Formatter<W>) -> fmt::Result {
+        fmt::Display::fmt(self, f)
     }
 }
 

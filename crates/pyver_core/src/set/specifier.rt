@@ -33,7 +33,6 @@ pub enum Operator {
 }
 
 /// What `==R.*` and `!=R.*` name: an epoch, and the numbers that a release begins with.
-#[derive(Debug, Drop)]
 pub struct ReleasePrefix {
     epoch: u128,
     release: Vec<u128>,
@@ -48,7 +47,6 @@ impl Model for ReleasePrefix {
 }
 
 /// An operator with its operand.
-#[derive(Debug, Drop)]
 pub enum Specifier {
     /// `==V`: the version itself, with any local part where V has none.
     Equal(Version),
@@ -162,6 +160,31 @@ impl Specifier {
             | Specifier::After(version)
             | Specifier::Compatible(version) => Operand::Text(version.text()),
             Specifier::Arbitrary(label) => Operand::Text(label.as_str()),
+        }
+    }
+}
+
+impl Drop for ReleasePrefix {
+    fn drop(self) {
+        let ReleasePrefix {
+            epoch: _,
+            release: _,
+        } = self;
+    }
+}
+
+impl Drop for Specifier {
+    fn drop(self) {
+        match self {
+            Specifier::EqualPrefix(_) | Specifier::NotEqualPrefix(_) => {}
+            Specifier::Equal(_)
+            | Specifier::NotEqual(_)
+            | Specifier::AtMost(_)
+            | Specifier::AtLeast(_)
+            | Specifier::Before(_)
+            | Specifier::After(_)
+            | Specifier::Compatible(_) => {}
+            Specifier::Arbitrary(_) => {}
         }
     }
 }

@@ -140,6 +140,13 @@ fn push_segment(text: &mut String, segment: &LocalPart) -> Result<(), AllocError
     }
 }
 
+/// The normal form in quotes.
+impl fmt::Debug for Version {
+    fn fmt<W: fmt::Write>(&self, f: &mut fmt::Formatter<W>) -> fmt::Result {
+        fmt::Debug::fmt(self.text(), f)
+    }
+}
+
 /// The normal form (PEP 440, "Normalization").
 impl fmt::Display for Version {
     ghost output = { λ v. Some (normal v) };

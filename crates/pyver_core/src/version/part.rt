@@ -11,6 +11,7 @@ ghost use Rattle.std.proofs.Common.{rules};
 
 use std::alloc::AllocError;
 use std::cmp::Ordering;
+use std::fmt;
 use std::hash::{Hash, Hasher};
 use std::marker::Model;
 
@@ -26,12 +27,20 @@ pub enum PreKind {
 }
 
 /// A segment of a local part, lowest first (PEP 440, "Local version identifiers").
-#[derive(PartialEq, Eq, PartialOrd, Ord, Hash, Debug, Drop)]
+#[derive(PartialEq, Eq, PartialOrd, Ord, Hash, Debug)]
 pub enum LocalPart {
     /// A segment with a letter in it, in lower case.
     Text(Label),
     /// A segment of digits alone.
     Number(u128),
+}
+
+impl Drop for LocalPart {
+    fn drop(self) {
+        match self {
+            LocalPart::Text(_) | LocalPart::Number(_) => {}
+        }
+    }
 }
 
 /// A copy takes memory for a text.
@@ -47,7 +56,6 @@ impl Clone for LocalPart {
 }
 
 /// A text that contracts see as the list of its bytes.
-#[derive(Debug, Drop)]
 pub struct Label {
     text: String,
 }
@@ -79,6 +87,19 @@ impl Label {
     {
         let Label { text } = self;
         text
+    }
+}
+
+impl Drop for Label {
+    fn drop(self) {
+        let Label { text: _ } = self;
+    }
+}
+
+/// The text in quotes.
+impl fmt::Debug for Label {
+    fn fmt<W: fmt::Write>(&self, f: &mut fmt::Formatter<W>) -> fmt::Result {
+        fmt::Debug::fmt(self.as_str(), f)
     }
 }
 

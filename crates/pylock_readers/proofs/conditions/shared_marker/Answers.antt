@@ -6,6 +6,6 @@ use Rattle.pylock_readers.proofs.conditions.shared_marker.Goals as goal
 
 pub returns-clause-keeps : goal.returns-clause-keeps
 returns-clause-keeps c =
-    let same : c.in_ok-read_marker.field-0 ≡ c.in_ok-clone-2.field-0.value = search rules in
-    let here : marker_of (string_bytes c.args.text) ≡ Ok c.in_ok-clone-2.field-0.value = formed_ok (marker_of (string_bytes c.args.text)) c.in_ok-clone-2.field-0.value (ap (λ t. formed (marker_of t)) (sym c.as_str-2.ensures.value) ∙ c.in_ok-read_marker.ensures ∙ ap (λ v. Ok v) same) in
-    rw c.in_ok-insert.ensures.entries (gains_read marker_of (λ m. m.value) c.args.text c.in_ok-clone-2.field-0 c.args.table.now.entries c.requires here)
+    let same : c.in_ok-marker.marker ≡ c.in_ok-clone-2.field-0 = search rules in
+    let here : marker_of (string_bytes c.args.text) ≡ Ok c.in_ok-clone-2.field-0 = formed_ok (marker_of (string_bytes c.args.text)) c.in_ok-clone-2.field-0 (ap (λ t. formed (marker_of t)) (sym c.as_str-2.ensures.value) ∙ c.in_ok-marker.ensures ∙ ap (λ v. Ok v) same) in
+    rw c.in_ok-insert.ensures.entries (gains_read marker_of (λ m. m) c.args.text c.in_ok-clone-2.field-0 c.args.table.now.entries c.requires here)

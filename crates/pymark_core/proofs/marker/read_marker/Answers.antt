@@ -24,4 +24,4 @@ pub returns : goal.returns
 returns c =
     let fits : has_misuse (tree_view c.in_ok-tree.tree) ≡ false = sym c.in_ok-tree.ensures.notes.misuse ∙ c.if-notes.false in
     marker_taken c.args.text.now (tree_view c.in_ok-tree.tree) (sym c.is_deep.ensures ∙ c.if-is_deep.false) c.in_ok-tree.ensures.tree fits
-    ∙ (let text : string_bytes c.in_ok-text.text ≡ trimmed c.args.text.now = search rules in rw text refl)
+    ∙ (let text : string_bytes c.in_ok-text.text ≡ trimmed c.args.text.now = search rules in rw (c.in_ok-share.ensures, text) refl)
