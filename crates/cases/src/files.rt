@@ -1,0 +1,29 @@
+//! The lock and the environment that a case is given.
+
+use case_files::bytes;
+use std::alloc::Global;
+use toml::Table;
+
+/// The two lines that most locks begin with.
+const HEAD: &[u8] = b"lock-version = \"1.0\"\ncreated-by = \"t\"\n";
+
+/// The environment where nothing is set and no tag is supported.
+const NOTHING: &[u8] = b"{\"environment\":{},\"tags\":[]}";
+
+/// The bytes of `lock`, or else `HEAD` and those of `lines`.
+pub(crate) fn lock(alloc: Global, case: &Table) -> anyhow::Result<Vec<u8>> {
+    if case.contains_key("lock") {
+        return bytes(alloc, case, "lock");
+    }
+    let mut lock = Vec::from_slice(alloc, HEAD)?;
+    lock.extend_from_slice(&bytes(alloc, case, "lines")?)?;
+    Ok(lock)
+}
+
+/// The bytes of `environment`, or else `NOTHING`.
+pub(crate) fn environment(alloc: Global, case: &Table) -> anyhow::Result<Vec<u8>> {
+    if case.contains_key("environment") {
+        return bytes(alloc, case, "environment");
+    }
+    Ok(Vec::from_slice(alloc, NOTHING)?)
+}

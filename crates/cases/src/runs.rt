@@ -1,0 +1,89 @@
+//! Runs over a lock, an environment and an input.
+
+use crate::files;
+use case_files::bytes;
+use pylock_program::{Inputs, Pieces, Room, RunFault, ToWrite, run, run_leaving};
+use std::alloc::Global;
+use toml::Table;
+
+/// The most bytes that a run asks for at once.
+const PIECE: usize = 65_536;
+
+/// The lengths of the pieces that the input of a case with the key `cut` is given in too.
+const PIECES: [usize; 5] = [1, 2, 3, 65_535, 65_536];
+
+/// What the run prints, and its status. A run that leaves its session as it is has to end alike;
+/// and where the case has the key `cut`, one with its input in pieces and its text byte by byte.
+pub(crate) fn tell(alloc: Global, case: &Table) -> anyhow::Result<String> {
+    let inputs = inputs(alloc, case)?;
+    let input = bytes(alloc, case, "input")?;
+    let report = report(alloc, &inputs, &input)?;
+    compare_left(alloc, &inputs, &input, report.as_str())?;
+    if case.contains_key("cut") {
+        compare_cuts(alloc, &inputs, &input, report.as_str())?;
+    }
+    Ok(report)
+}
+
+fn inputs(alloc: Global, case: &Table) -> anyhow::Result<Inputs> {
+    let lock = files::lock(alloc, case)?;
+    let environment = files::environment(alloc, case)?;
+    Ok(Inputs { lock, environment })
+}
+
+fn report(alloc: Global, inputs: &Inputs, input: &[u8]) -> anyhow::Result<String> {
+    let mut text = Vec::new(alloc);
+    let mut reader = Pieces::new(input, PIECE, None);
+    let mut writer = ToWrite::new(&mut text);
+    let end = run(alloc, &inputs.lock, &inputs.environment, &mut reader, &mut writer);
+    ended(text, end)
+}
+
+/// The text, and the status in a line of its own.
+pub(crate) fn ended(text: Vec<u8>, end: Result<u8, RunFault>) -> anyhow::Result<String> {
+    let mut text = String::from_utf8(text)?;
+    match end {
+        Ok(status) => writeln!(text, "status {status}")?,
+        Err(fault) => writeln!(text, "{fault:?}")?,
+    }
+    Ok(text)
+}
+
+fn compare_left(alloc: Global, inputs: &Inputs, input: &[u8], report: &str) -> anyhow::Result<()> {
+    let left = left_report(alloc, inputs, input)?;
+    if left.as_str() != report {
+        return Err(anyhow::anyhow!("another report where the session is left"));
+    }
+    Ok(())
+}
+
+fn left_report(alloc: Global, inputs: &Inputs, input: &[u8]) -> anyhow::Result<String> {
+    let mut text = Vec::new(alloc);
+    let mut reader = Pieces::new(input, PIECE, None);
+    let mut writer = ToWrite::new(&mut text);
+    let end = run_leaving(alloc, &inputs.lock, &inputs.environment, &mut reader, &mut writer);
+    ended(text, end)
+}
+
+fn compare_cuts(alloc: Global, inputs: &Inputs, input: &[u8], report: &str) -> anyhow::Result<()> {
+    for piece in PIECES {
+        let mut reader = Pieces::new(input, piece, None);
+        let cut = cut_report(alloc, inputs, &mut reader, report.len())?;
+        if cut.as_str() != report {
+            return Err(anyhow::anyhow!("another report where a piece has {piece} bytes"));
+        }
+    }
+    Ok(())
+}
+
+/// The report, of at most so many bytes, of a run over what the reader gives.
+fn cut_report(
+    alloc: Global,
+    inputs: &Inputs,
+    reader: &mut Pieces<'_>,
+    most: usize,
+) -> anyhow::Result<String> {
+    let mut room = Room::new(alloc, most, 1, None)?;
+    let end = run(alloc, &inputs.lock, &inputs.environment, reader, &mut room);
+    ended(Vec::from_slice(alloc, room.bytes())?, end)
+}

@@ -1,0 +1,155 @@
+//! Environments, call by call; and the names of variables.
+
+use case_files::{text, texts};
+use pymark_core::{Environment, Var};
+use std::alloc::{AllocError, Global};
+use toml::{Table, Value};
+
+/// The variables of markers.
+pub(crate) const VARIABLES: [Var; 11] = [
+    Var::OsName,
+    Var::SysPlatform,
+    Var::PlatformMachine,
+    Var::PlatformPythonImplementation,
+    Var::PlatformRelease,
+    Var::PlatformSystem,
+    Var::PlatformVersion,
+    Var::PythonVersion,
+    Var::PythonFullVersion,
+    Var::ImplementationName,
+    Var::ImplementationVersion,
+];
+
+/// Gives the environment the `variables`, the `extras` and the `groups` of a case.
+pub(crate) fn set_all(
+    environment: &mut Environment,
+    alloc: Global,
+    case: &Table,
+) -> anyhow::Result<()> {
+    if let Some(Value::Table(variables)) = case.get("variables") {
+        set_variables(environment, variables)?;
+    }
+    for extra in texts(alloc, case, "extras")? {
+        environment.add_extra(extra)?;
+    }
+    for group in texts(alloc, case, "groups")? {
+        environment.add_group(group)?;
+    }
+    Ok(())
+}
+
+fn set_variables(environment: &mut Environment, variables: &Table) -> anyhow::Result<()> {
+    for (name, text) in variables {
+        match (Var::of(name.as_str()), text) {
+            (Some(variable), Value::String(text)) => environment.set(variable, text.as_str())?,
+            _ => return Err(anyhow::anyhow!("no variable, or no text")),
+        }
+    }
+    Ok(())
+}
+
+/// What each of `calls` answers of an environment that begins empty, with a copy that is made
+/// behind them; then each of `later`, and each of `copied` of the copy.
+pub(crate) fn tell(alloc: Global, case: &Table) -> anyhow::Result<String> {
+    let mut environment = Environment::new(alloc);
+    told(alloc, &mut environment, case)
+}
+
+fn told(alloc: Global, environment: &mut Environment, case: &Table) -> anyhow::Result<String> {
+    let mut told = answers(alloc, environment, case, "calls")?;
+    let mut copy = environment.copy()?;
+    push_later(&mut told, alloc, environment, &mut copy, case)?;
+    Ok(told)
+}
+
+fn push_later(
+    told: &mut String,
+    alloc: Global,
+    environment: &mut Environment,
+    copy: &mut Environment,
+    case: &Table,
+) -> anyhow::Result<()> {
+    let later = answers(alloc, environment, case, "later")?;
+    let copied = answers(alloc, copy, case, "copied")?;
+    Ok(write!(told, "{later}{copied}")?)
+}
+
+/// What each call of the key's list answers, a line each.
+fn answers(
+    alloc: Global,
+    environment: &mut Environment,
+    case: &Table,
+    key: &str,
+) -> anyhow::Result<String> {
+    let mut answers = String::new(alloc);
+    for call in texts(alloc, case, key)? {
+        let answer = answer(alloc, environment, call)?;
+        writeln!(answers, "{call}: {answer}")?;
+    }
+    Ok(answers)
+}
+
+/// What one call answers.
+fn answer(alloc: Global, environment: &mut Environment, call: &str) -> anyhow::Result<String> {
+    let (word, rest) = call.split_once(' ').unwrap_or((call, ""));
+    match word {
+        "set" | "unset" | "ask_nothing" => {
+            change(environment, rest)?;
+            Ok(String::from_str(alloc, "done")?)
+        }
+        "get" => Ok(format!(in alloc; "{:?}", environment.get(variable(rest)?))?),
+        "version" => Ok(String::from_str(alloc, version(environment, variable(rest)?))?),
+        _ => Ok(ask(environment, word, rest)?.to_string(alloc)?),
+    }
+}
+
+fn variable(name: &str) -> anyhow::Result<Var> {
+    match Var::of(name) {
+        Some(variable) => Ok(variable),
+        None => Err(anyhow::anyhow!("no variable")),
+    }
+}
+
+/// Gives a variable the text behind its name, or leaves it without one; or asks for nothing.
+fn change(environment: &mut Environment, rest: &str) -> anyhow::Result<()> {
+    match rest.split_once(' ') {
+        Some((name, text)) => Ok(environment.set(variable(name)?, text)?),
+        None if rest.is_empty() => {
+            environment.ask_nothing();
+            Ok(())
+        }
+        None => {
+            environment.unset(variable(rest)?);
+            Ok(())
+        }
+    }
+}
+
+/// The text of the version that the variable spells.
+fn version(environment: &Environment, variable: Var) -> &str {
+    match environment.version(variable) {
+        Some(Ok(version)) => version.text(),
+        Some(Err(_)) => "no version",
+        None => "no text",
+    }
+}
+
+/// What a call with a name answers.
+fn ask(environment: &mut Environment, word: &str, name: &str) -> anyhow::Result<bool> {
+    match word {
+        "add_extra" => Ok(environment.add_extra(name)?),
+        "drop_extra" => Ok(environment.drop_extra(name)?),
+        "has_extra" => Ok(environment.has_extra(name)),
+        "add_group" => Ok(environment.add_group(name)?),
+        "drop_group" => Ok(environment.drop_group(name)?),
+        "has_group" => Ok(environment.has_group(name)),
+        _ => Err(anyhow::anyhow!("no call")),
+    }
+}
+
+/// The variable of a name, and its name.
+pub(crate) fn tell_variable(alloc: Global, case: &Table) -> anyhow::Result<String> {
+    let name = text(alloc, case, "variable")?;
+    let variable = Var::of(name.as_str());
+    Ok(format!(in alloc; "{variable:?}, {:?}", variable.map(Var::name))?)
+}

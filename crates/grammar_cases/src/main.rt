@@ -1,0 +1,52 @@
+//! Cases of versions, specifier sets, names, markers, environments, requirements, tags and wheels:
+//! what each is read as, and what it then says.
+#![tactic(auto)]
+
+mod environments;
+mod markers;
+mod names;
+mod requirements;
+mod sets;
+mod tags;
+mod told;
+mod versions;
+mod wheels;
+
+use case_files::{Answers, print_files};
+use std::alloc::Global;
+use toml::Table;
+
+/// The kinds of cases that this program knows.
+struct Cases;
+
+impl Answers for Cases {
+    fn answer(&self, alloc: Global, kind: &str, case: &Table) -> anyhow::Result<String> {
+        match kind {
+            "choice" => wheels::pick(alloc, case),
+            "environment" => environments::tell(alloc, case),
+            "equality" => sets::compare(alloc, case),
+            "items" => sets::tell_items(alloc, case),
+            "marker" => markers::judge(alloc, case),
+            "markers" => markers::judge_all(alloc, case),
+            "match" => sets::admit(alloc, case),
+            "name" => names::tell(alloc, case),
+            "order" => versions::compare(alloc, case),
+            "parts" => versions::tell_parts(alloc, case),
+            "reads" => markers::tell_reads(alloc, case),
+            "requirement" => requirements::tell(alloc, case),
+            "set" => sets::tell(alloc, case),
+            "specifier" => sets::make(alloc, case),
+            "tag" => tags::tell(alloc, case),
+            "tags" => tags::tell_list(alloc, case),
+            "variable" => environments::tell_variable(alloc, case),
+            "version" => versions::tell(alloc, case),
+            "wheel" => wheels::tell(alloc, case),
+            "wheel_text" => wheels::print(alloc, case),
+            _ => Err(anyhow::anyhow!("no kind of case")),
+        }
+    }
+}
+
+fn main(rt: HostRuntime) -> anyhow::Result<()> {
+    print_files(&rt, &Cases)
+}

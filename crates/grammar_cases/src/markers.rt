@@ -1,0 +1,96 @@
+//! Markers: what they are worth, and what they read.
+
+use crate::environments::{VARIABLES, set_all};
+use crate::told::printed;
+use case_files::{text, texts};
+use pymark_core::{Environment, Key, Marker, Reads};
+use std::alloc::{AllocError, Global};
+use toml::Table;
+
+/// What `marker` is worth, or why it is refused.
+pub(crate) fn judge(alloc: Global, case: &Table) -> anyhow::Result<String> {
+    let marker = text(alloc, case, "marker")?;
+    let mut environment = Environment::new(alloc);
+    set_all(&mut environment, alloc, case)?;
+    Ok(judged(alloc, &environment, marker.as_str())?)
+}
+
+/// The same of each of `markers`, with its text.
+pub(crate) fn judge_all(alloc: Global, case: &Table) -> anyhow::Result<String> {
+    let markers = texts(alloc, case, "markers")?;
+    let mut environment = Environment::new(alloc);
+    set_all(&mut environment, alloc, case)?;
+    all_judged(alloc, &environment, &markers)
+}
+
+fn all_judged(
+    alloc: Global,
+    environment: &Environment,
+    markers: &[&str],
+) -> anyhow::Result<String> {
+    let mut all = String::new(alloc);
+    for marker in markers {
+        let value = judged(alloc, environment, marker)?;
+        writeln!(all, "{marker:?}: {value}")?;
+    }
+    Ok(all)
+}
+
+fn judged(alloc: Global, environment: &Environment, text: &str) -> Result<String, AllocError> {
+    match Marker::parse(alloc, text) {
+        Ok(marker) => value(alloc, environment, &marker),
+        Err(refusal) => format!(in alloc; "{refusal:?}"),
+    }
+}
+
+/// The value or the fault of a marker, with that of its copy where it is another.
+fn value(
+    alloc: Global,
+    environment: &Environment,
+    marker: &Marker,
+) -> Result<String, AllocError> {
+    let copy = marker.clone()?;
+    let value = marker.evaluate(alloc, environment);
+    let copied = copy.evaluate(alloc, environment);
+    if copied == value {
+        return format!(in alloc; "{value:?}");
+    }
+    format!(in alloc; "{value:?}, but its copy {copied:?}")
+}
+
+/// The text of `marker`, and the keys that it reads.
+pub(crate) fn tell_reads(alloc: Global, case: &Table) -> anyhow::Result<String> {
+    let text = text(alloc, case, "marker")?;
+    let marker = Marker::parse(alloc, text.as_str())?;
+    Ok(reads(alloc, &marker)?)
+}
+
+fn reads(alloc: Global, marker: &Marker) -> Result<String, AllocError> {
+    let mut told = printed(alloc, marker)?;
+    push_keys(&mut told, marker.reads())?;
+    if copied_reads(marker)? != marker.reads() {
+        told.push_str("\nbut not its copy")?;
+    }
+    Ok(told)
+}
+
+fn copied_reads(marker: &Marker) -> Result<Reads, AllocError> {
+    let copy = marker.clone()?;
+    Ok(copy.reads())
+}
+
+fn push_keys(told: &mut String, reads: Reads) -> Result<(), AllocError> {
+    for variable in VARIABLES {
+        push_key(told, Key::Of(variable), reads)?;
+    }
+    push_key(told, Key::Extras, reads)?;
+    push_key(told, Key::Groups, reads)
+}
+
+/// The key, where it is read.
+fn push_key(told: &mut String, key: Key, reads: Reads) -> Result<(), AllocError> {
+    if reads.has(key) {
+        write!(told, "\n{key:?}")?;
+    }
+    Ok(())
+}

@@ -1,0 +1,86 @@
+//! Specifiers and sets of them: their texts, and what they admit.
+
+use crate::told::{printed, told};
+use case_files::text;
+use pyver_core::{Operator, Specifier, SpecifierSet, Version};
+use std::alloc::{AllocError, Global};
+use toml::Table;
+
+/// The normal text of `set`, or why it is refused.
+pub(crate) fn tell(alloc: Global, case: &Table) -> anyhow::Result<String> {
+    let text = text(alloc, case, "set")?;
+    Ok(told(alloc, SpecifierSet::parse(alloc, text.as_str()))?)
+}
+
+/// The specifiers of `set`, each with its operator before it.
+pub(crate) fn tell_items(alloc: Global, case: &Table) -> anyhow::Result<String> {
+    let text = text(alloc, case, "set")?;
+    let set = SpecifierSet::parse(alloc, text.as_str())?;
+    Ok(items(alloc, set.items())?)
+}
+
+fn items(alloc: Global, specifiers: &[Specifier]) -> Result<String, AllocError> {
+    let mut items = String::new(alloc);
+    for specifier in specifiers {
+        let printed = printed(alloc, specifier)?;
+        writeln!(items, "{}  {printed}", specifier.operator())?;
+    }
+    Ok(items)
+}
+
+/// Whether `set` admits `version`.
+pub(crate) fn admit(alloc: Global, case: &Table) -> anyhow::Result<String> {
+    let set = text(alloc, case, "set")?;
+    let version = text(alloc, case, "version")?;
+    let version = Version::parse(alloc, version.as_str())?;
+    Ok(admits(alloc, set.as_str(), &version)?)
+}
+
+fn admits(alloc: Global, set: &str, version: &Version) -> anyhow::Result<String> {
+    let set = SpecifierSet::parse(alloc, set)?;
+    Ok(set.admits(version).to_string(alloc)?)
+}
+
+/// Whether the sets `left` and `right` are equal.
+pub(crate) fn compare(alloc: Global, case: &Table) -> anyhow::Result<String> {
+    let left = text(alloc, case, "left")?;
+    let right = text(alloc, case, "right")?;
+    let is_equal = are_equal(alloc, left.as_str(), right.as_str())?;
+    Ok(is_equal.to_string(alloc)?)
+}
+
+fn are_equal(alloc: Global, left: &str, right: &str) -> anyhow::Result<bool> {
+    let left = SpecifierSet::parse(alloc, left)?;
+    let right = SpecifierSet::parse(alloc, right)?;
+    Ok(left == right)
+}
+
+/// The specifier of `operator` and `operand`, or why it is refused; and whether it admits
+/// `version`, where there is one.
+pub(crate) fn make(alloc: Global, case: &Table) -> anyhow::Result<String> {
+    let operator = text(alloc, case, "operator")?;
+    let operand = text(alloc, case, "operand")?;
+    match operator_of(operator.as_str()) {
+        Some(operator) => made(alloc, operator, operand.as_str()),
+        None => Err(anyhow::anyhow!("no operator")),
+    }
+}
+
+fn made(alloc: Global, operator: Operator, operand: &str) -> anyhow::Result<String> {
+    Ok(told(alloc, Specifier::new(alloc, operator, operand))?)
+}
+
+/// The operator of a sign.
+fn operator_of(sign: &str) -> Option<Operator> {
+    match sign {
+        "==" => Some(Operator::Equal),
+        "!=" => Some(Operator::NotEqual),
+        "<=" => Some(Operator::AtMost),
+        ">=" => Some(Operator::AtLeast),
+        "<" => Some(Operator::Before),
+        ">" => Some(Operator::After),
+        "~=" => Some(Operator::Compatible),
+        "===" => Some(Operator::Arbitrary),
+        _ => None,
+    }
+}

@@ -1,0 +1,78 @@
+//! Tags and lists of them.
+
+use crate::told::printed;
+use case_files::{text, texts};
+use pywheel_core::{Tag, TagList};
+use std::alloc::{AllocError, Global};
+use toml::Table;
+
+/// The text of `tag` and its parts, or why it is refused.
+pub(crate) fn tell(alloc: Global, case: &Table) -> anyhow::Result<String> {
+    let text = text(alloc, case, "tag")?;
+    match Tag::parse(alloc, text.as_str()) {
+        Ok(tag) => Ok(parts(alloc, &tag)?),
+        Err(refusal) => Ok(format!(in alloc; "{refusal:?}")?),
+    }
+}
+
+fn parts(alloc: Global, tag: &Tag) -> Result<String, AllocError> {
+    let text = printed(alloc, tag)?;
+    format!(in alloc; "{text}: {}, {}, {}", tag.python(), tag.abi(), tag.platform())
+}
+
+/// How many tags the list of `tags` has, or why it is refused; and the rank of each of `ranks`, or
+/// the tags where none is asked for.
+pub(crate) fn tell_list(alloc: Global, case: &Table) -> anyhow::Result<String> {
+    let text = text(alloc, case, "tags")?;
+    let ranks = texts(alloc, case, "ranks")?;
+    let tags = tag_texts(alloc, text.as_str())?;
+    match TagList::parse(alloc, &tags) {
+        Ok(tags) => told(alloc, &tags, &ranks),
+        Err(refusal) => Ok(format!(in alloc; "{refusal:?}")?),
+    }
+}
+
+/// The texts between the spaces of a text; none where it is empty.
+pub(crate) fn tag_texts(alloc: Global, text: &str) -> Result<Vec<&str>, AllocError> {
+    if text.is_empty() {
+        return Ok(Vec::new(alloc));
+    }
+    text.split(' ').collect(alloc)
+}
+
+fn told(alloc: Global, tags: &TagList, ranks: &[&str]) -> anyhow::Result<String> {
+    let mut told = format!(in alloc; "{} tags, empty {}\n", tags.len(), tags.is_empty())?;
+    if ranks.is_empty() {
+        push_tags(&mut told, tags.tags())?;
+    }
+    for text in ranks {
+        push_rank(&mut told, alloc, tags, text)?;
+    }
+    Ok(told)
+}
+
+fn push_tags(told: &mut String, tags: &[Tag]) -> Result<(), AllocError> {
+    for tag in tags {
+        writeln!(told, "{tag}")?;
+    }
+    Ok(())
+}
+
+/// The rank of a tag in the list, with that in its copy where it is another.
+fn push_rank(told: &mut String, alloc: Global, tags: &TagList, text: &str) -> anyhow::Result<()> {
+    let Ok(tag) = Tag::parse(alloc, text) else {
+        return Err(anyhow::anyhow!("the tag is refused"));
+    };
+    let rank = tags.rank(&tag);
+    writeln!(told, "{tag} {rank:?}")?;
+    let copied = copied_rank(tags, &tag)?;
+    if copied != rank {
+        writeln!(told, "{copied:?} in the copy")?;
+    }
+    Ok(())
+}
+
+fn copied_rank(tags: &TagList, tag: &Tag) -> Result<Option<usize>, AllocError> {
+    let copy = tags.clone()?;
+    Ok(copy.rank(tag))
+}

@@ -1,0 +1,79 @@
+//! The names of wheels, and the choice of a wheel.
+
+use crate::tags::tag_texts;
+use crate::told::printed;
+use case_files::{text, texts};
+use pywheel_core::{Tag, TagList, WheelName, choose};
+use std::alloc::{AllocError, Global};
+use toml::Table;
+
+/// What the name `wheel` says: the name, the version, the build tag and the tags; or why it is
+/// refused.
+pub(crate) fn tell(alloc: Global, case: &Table) -> anyhow::Result<String> {
+    let text = text(alloc, case, "wheel")?;
+    match WheelName::parse(alloc, text.as_str()) {
+        Ok(wheel) => Ok(said(alloc, &wheel)?),
+        Err(refusal) => Ok(refusal.to_string(alloc)?),
+    }
+}
+
+fn said(alloc: Global, wheel: &WheelName) -> Result<String, AllocError> {
+    let (name, version, build) = (wheel.name(), wheel.version(), wheel.build());
+    let mut said = format!(in alloc; "{name}, {version}, {:?}, {build:?},", wheel.build_text())?;
+    push_tags(&mut said, wheel.tags())?;
+    Ok(said)
+}
+
+fn push_tags(said: &mut String, tags: &[Tag]) -> Result<(), AllocError> {
+    for tag in tags {
+        write!(said, " {tag}")?;
+    }
+    Ok(())
+}
+
+/// The text that the name `wheel` prints, its compressed tag set, and how many tags it has.
+pub(crate) fn print(alloc: Global, case: &Table) -> anyhow::Result<String> {
+    let text = text(alloc, case, "wheel")?;
+    match WheelName::parse(alloc, text.as_str()) {
+        Ok(wheel) => Ok(text_of(alloc, &wheel)?),
+        Err(refusal) => Ok(refusal.to_string(alloc)?),
+    }
+}
+
+fn text_of(alloc: Global, wheel: &WheelName) -> Result<String, AllocError> {
+    let text = printed(alloc, wheel)?;
+    format!(in alloc; "{text}\n{}\n{}", wheel.tag_set(), wheel.tags().len())
+}
+
+/// The place of the best of `wheels` by `tags`, which are written with spaces between them. Where a
+/// wheel is an empty text, no name stands in its place.
+pub(crate) fn pick(alloc: Global, case: &Table) -> anyhow::Result<String> {
+    let tags = text(alloc, case, "tags")?;
+    let tags = tag_texts(alloc, tags.as_str())?;
+    let names = texts(alloc, case, "wheels")?;
+    let wheels = wheels(alloc, &names)?;
+    Ok(picked(alloc, &wheels, &tags)?)
+}
+
+fn wheels(alloc: Global, names: &[&str]) -> anyhow::Result<Vec<Option<WheelName>>> {
+    let mut wheels = Vec::new(alloc);
+    for name in names {
+        if name.is_empty() {
+            wheels.push(None)?;
+        } else {
+            wheels.push(Some(WheelName::parse(alloc, name)?))?;
+        }
+    }
+    Ok(wheels)
+}
+
+fn picked(
+    alloc: Global,
+    wheels: &[Option<WheelName>],
+    tags: &[&str],
+) -> anyhow::Result<String> {
+    match TagList::parse(alloc, tags) {
+        Ok(tags) => Ok(format!(in alloc; "{:?}", choose(wheels, &tags))?),
+        Err(_) => Err(anyhow::anyhow!("the tags are refused")),
+    }
+}
