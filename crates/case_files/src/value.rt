@@ -54,7 +54,12 @@ fn push_times(alloc: Global, bytes: &mut Vec<u8>, text: &str, times: i64) -> any
     Ok(())
 }
 
-fn push_numbered(alloc: Global, bytes: &mut Vec<u8>, text: &str, number: i64) -> anyhow::Result<()> {
+fn push_numbered(
+    alloc: Global,
+    bytes: &mut Vec<u8>,
+    text: &str,
+    number: i64,
+) -> anyhow::Result<()> {
     let number = number.to_string(alloc)?;
     let text = text.replace(alloc, "#", number.as_str())?;
     Ok(bytes.extend_from_slice(text.as_bytes())?)

@@ -42,5 +42,8 @@ pub(crate) fn push_conditions(told: &mut String, entry: &Entry) -> Result<(), Al
     let marker = entry.marker().map(Marker::text);
     let set = entry.requires_python().map(SpecifierSet::text);
     let (name, version) = (entry.name(), entry.version());
-    writeln!(told, "name {name:?}, version {version:?}, marker {marker:?}, requires-python {set:?}")
+    writeln!(
+        told,
+        "name {name:?}, version {version:?}, marker {marker:?}, requires-python {set:?}"
+    )
 }

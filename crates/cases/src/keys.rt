@@ -34,7 +34,11 @@ fn push_key<'a>(
         return Ok(());
     };
     let whole = answer(alloc, case, &[before, here])?;
-    let other = answer(alloc, case, &[before, wrong.get(..1).unwrap_or(&[]), behind])?;
+    let other = answer(
+        alloc,
+        case,
+        &[before, wrong.get(..1).unwrap_or(&[]), behind],
+    )?;
     let absent = answer(alloc, case, &[before, behind])?;
     let others = answer(alloc, case, &[before, wrong])?;
     Ok(writeln!(told, "{key}: {whole}, {other}, {absent}, {others}")?)

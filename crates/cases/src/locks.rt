@@ -42,7 +42,10 @@ fn push_head(told: &mut String, lock: &Lock) -> Result<(), AllocError> {
     let set = lock.requires_python().map(SpecifierSet::text);
     let (extras, groups, default) = (lock.extras(), lock.groups(), lock.default_groups());
     writeln!(told, "requires-python {set:?}, extras {extras:?}")?;
-    writeln!(told, "dependency-groups {groups:?}, default-groups {default:?}")
+    writeln!(
+        told,
+        "dependency-groups {groups:?}, default-groups {default:?}"
+    )
 }
 
 fn push_environments(told: &mut String, environments: &[Marker]) -> Result<(), AllocError> {

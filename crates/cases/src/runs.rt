@@ -35,7 +35,13 @@ fn report(alloc: Global, inputs: &Inputs, input: &[u8]) -> anyhow::Result<String
     let mut text = Vec::new(alloc);
     let mut reader = Pieces::new(input, PIECE, None);
     let mut writer = ToWrite::new(&mut text);
-    let end = run(alloc, &inputs.lock, &inputs.environment, &mut reader, &mut writer);
+    let end = run(
+        alloc,
+        &inputs.lock,
+        &inputs.environment,
+        &mut reader,
+        &mut writer,
+    );
     ended(text, end)
 }
 
@@ -61,7 +67,13 @@ fn left_report(alloc: Global, inputs: &Inputs, input: &[u8]) -> anyhow::Result<S
     let mut text = Vec::new(alloc);
     let mut reader = Pieces::new(input, PIECE, None);
     let mut writer = ToWrite::new(&mut text);
-    let end = run_leaving(alloc, &inputs.lock, &inputs.environment, &mut reader, &mut writer);
+    let end = run_leaving(
+        alloc,
+        &inputs.lock,
+        &inputs.environment,
+        &mut reader,
+        &mut writer,
+    );
     ended(text, end)
 }
 

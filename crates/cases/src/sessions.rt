@@ -2,8 +2,8 @@
 
 use crate::edits::read_edit;
 use crate::files;
-use pylock_core::{Answer, Edit, Entry, Lock, Plan, Session, read_environment};
 use case_files::text;
+use pylock_core::{Answer, Edit, Entry, Lock, Plan, Session, read_environment};
 use std::alloc::{AllocError, Global};
 use toml::Table;
 

@@ -28,21 +28,30 @@ fn push_vcs(told: &mut String, vcs: &Vcs) -> Result<(), AllocError> {
     let (kind, commit_id) = (vcs.kind(), vcs.commit_id());
     let (url, path, place) = (vcs.url(), vcs.path(), vcs.place());
     let subdirectory = vcs.subdirectory();
-    write!(told, "vcs {kind:?}, commit-id {commit_id:?}, url {url:?}, path {path:?}, ")?;
+    write!(
+        told,
+        "vcs {kind:?}, commit-id {commit_id:?}, url {url:?}, path {path:?}, "
+    )?;
     writeln!(told, "place {place:?}, subdirectory {subdirectory:?}")
 }
 
 fn push_directory(told: &mut String, directory: &Directory) -> Result<(), AllocError> {
     let (path, place) = (directory.path(), directory.place());
     let (editable, subdirectory) = (directory.editable(), directory.subdirectory());
-    write!(told, "directory {path:?}, place {place:?}, editable {editable}, ")?;
+    write!(
+        told,
+        "directory {path:?}, place {place:?}, editable {editable}, "
+    )?;
     writeln!(told, "subdirectory {subdirectory:?}")
 }
 
 fn push_archive(told: &mut String, archive: &Archive) -> Result<(), AllocError> {
     let (url, path, place) = (archive.url(), archive.path(), archive.place());
     let (hashes, subdirectory) = (archive.hashes(), archive.subdirectory());
-    write!(told, "archive: url {url:?}, path {path:?}, place {place:?}, hashes {hashes:?}, ")?;
+    write!(
+        told,
+        "archive: url {url:?}, path {path:?}, place {place:?}, hashes {hashes:?}, "
+    )?;
     writeln!(told, "subdirectory {subdirectory:?}")
 }
 
@@ -50,7 +59,10 @@ fn push_archive(told: &mut String, archive: &Archive) -> Result<(), AllocError> 
 fn push_file(told: &mut String, kind: &str, file: &DistributionFile) -> Result<(), AllocError> {
     let (name, url, path) = (file.name(), file.url(), file.path());
     let (place, file_name, hashes) = (file.place(), file.file_name(), file.hashes());
-    write!(told, "{kind}: name {name:?}, url {url:?}, path {path:?}, place {place:?}, ")?;
+    write!(
+        told,
+        "{kind}: name {name:?}, url {url:?}, path {path:?}, place {place:?}, "
+    )?;
     writeln!(told, "file name {file_name:?}, hashes {hashes:?}")
 }
 

@@ -44,11 +44,7 @@ fn judged(alloc: Global, environment: &Environment, text: &str) -> Result<String
 }
 
 /// The value or the fault of a marker, with that of its copy where it is another.
-fn value(
-    alloc: Global,
-    environment: &Environment,
-    marker: &Marker,
-) -> Result<String, AllocError> {
+fn value(alloc: Global, environment: &Environment, marker: &Marker) -> Result<String, AllocError> {
     let copy = marker.clone()?;
     let value = marker.evaluate(alloc, environment);
     let copied = copy.evaluate(alloc, environment);

@@ -17,7 +17,12 @@ pub(crate) fn tell(alloc: Global, case: &Table) -> anyhow::Result<String> {
 
 fn parts(alloc: Global, tag: &Tag) -> Result<String, AllocError> {
     let text = printed(alloc, tag)?;
-    format!(in alloc; "{text}: {}, {}, {}", tag.python(), tag.abi(), tag.platform())
+    format!(in alloc;
+        "{text}: {}, {}, {}",
+        tag.python(),
+        tag.abi(),
+        tag.platform()
+    )
 }
 
 /// How many tags the list of `tags` has, or why it is refused; and the rank of each of `ranks`, or

@@ -27,10 +27,7 @@ pub(crate) fn printed<T: Display + Clone + Drop>(
     format!(in alloc; "{text}, but its copy {copied}")
 }
 
-fn printed_copy<T: Display + Clone + Drop>(
-    alloc: Global,
-    value: &T,
-) -> Result<String, AllocError> {
+fn printed_copy<T: Display + Clone + Drop>(alloc: Global, value: &T) -> Result<String, AllocError> {
     let copy = value.clone()?;
     copy.to_string(alloc)
 }

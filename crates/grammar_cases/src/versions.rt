@@ -23,10 +23,16 @@ fn parts(alloc: Global, version: &Version) -> Result<String, AllocError> {
     let (epoch, release, pre) = (version.epoch(), version.release(), version.pre());
     let (post, dev, local) = (version.post(), version.dev(), version.local());
     let mut parts = String::new(alloc);
-    writeln!(parts, "epoch {epoch}, release {release:?}, pre {pre:?}, post {post:?}, dev {dev:?}")?;
+    writeln!(
+        parts,
+        "epoch {epoch}, release {release:?}, pre {pre:?}, post {post:?}, dev {dev:?}"
+    )?;
     writeln!(parts, "local {local:?}")?;
     let (is_prerelease, is_postrelease) = (version.is_prerelease(), version.is_postrelease());
-    writeln!(parts, "pre-release {is_prerelease}, post-release {is_postrelease}")?;
+    writeln!(
+        parts,
+        "pre-release {is_prerelease}, post-release {is_postrelease}"
+    )?;
     writeln!(parts, "text {}", version.text())?;
     Ok(parts)
 }

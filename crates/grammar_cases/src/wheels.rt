@@ -67,11 +67,7 @@ fn wheels(alloc: Global, names: &[&str]) -> anyhow::Result<Vec<Option<WheelName>
     Ok(wheels)
 }
 
-fn picked(
-    alloc: Global,
-    wheels: &[Option<WheelName>],
-    tags: &[&str],
-) -> anyhow::Result<String> {
+fn picked(alloc: Global, wheels: &[Option<WheelName>], tags: &[&str]) -> anyhow::Result<String> {
     match TagList::parse(alloc, tags) {
         Ok(tags) => Ok(format!(in alloc; "{:?}", choose(wheels, &tags))?),
         Err(_) => Err(anyhow::anyhow!("the tags are refused")),
