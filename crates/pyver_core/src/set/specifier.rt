@@ -47,6 +47,7 @@ impl Model for ReleasePrefix {
 }
 
 /// An operator with its operand.
+#[derive(Drop)]
 pub enum Specifier {
     /// `==V`: the version itself, with any local part where V has none.
     Equal(Version),
@@ -170,22 +171,6 @@ impl Drop for ReleasePrefix {
             epoch: _,
             release: _,
         } = self;
-    }
-}
-
-impl Drop for Specifier {
-    fn drop(self) {
-        match self {
-            Specifier::EqualPrefix(_) | Specifier::NotEqualPrefix(_) => {}
-            Specifier::Equal(_)
-            | Specifier::NotEqual(_)
-            | Specifier::AtMost(_)
-            | Specifier::AtLeast(_)
-            | Specifier::Before(_)
-            | Specifier::After(_)
-            | Specifier::Compatible(_) => {}
-            Specifier::Arbitrary(_) => {}
-        }
     }
 }
 

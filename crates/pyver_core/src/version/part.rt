@@ -27,20 +27,12 @@ pub enum PreKind {
 }
 
 /// A segment of a local part, lowest first (PEP 440, "Local version identifiers").
-#[derive(PartialEq, Eq, PartialOrd, Ord, Hash, Debug)]
+#[derive(PartialEq, Eq, PartialOrd, Ord, Hash, Debug, Drop)]
 pub enum LocalPart {
     /// A segment with a letter in it, in lower case.
     Text(Label),
     /// A segment of digits alone.
     Number(u128),
-}
-
-impl Drop for LocalPart {
-    fn drop(self) {
-        match self {
-            LocalPart::Text(_) | LocalPart::Number(_) => {}
-        }
-    }
 }
 
 /// A copy takes memory for a text.
