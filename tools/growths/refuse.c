@@ -1,29 +1,47 @@
-/* Preloaded below a test: refuses the Nth growth (a call of malloc or realloc) of the
-   process, N standing in REFUSE_GROWTH. Where it refused one, it creates the file that
-   REFUSE_MARK names, so that a caller knows that the Nth growth was reached. */
+/* Preloaded below a test: counts the growths (the calls of malloc and realloc) of the process,
+   and refuses the Nth, N standing in REFUSE_GROWTH; none where that is 0 or absent. Where it
+   refused one, it creates the file that REFUSE_MARK names, so that a caller knows that the Nth
+   growth was reached. At the end it writes their number into the file that COUNT_GROWTHS names. */
 #define _GNU_SOURCE
 #include <dlfcn.h>
 #include <errno.h>
 #include <fcntl.h>
 #include <stddef.h>
+#include <stdio.h>
 #include <stdlib.h>
 #include <unistd.h>
 
 static unsigned long growths;
 static unsigned long refused_one;
 static const char *mark;
+static const char *count;
 
 __attribute__((constructor)) static void start(void)
 {
     const char *number = getenv("REFUSE_GROWTH");
     mark = getenv("REFUSE_MARK");
+    count = getenv("COUNT_GROWTHS");
     growths = 0;
     refused_one = number ? strtoul(number, NULL, 10) : 0;
 }
 
+__attribute__((destructor)) static void end(void)
+{
+    char text[32];
+    int length = snprintf(text, sizeof text, "%lu\n", growths);
+    if (count) {
+        int file = open(count, O_CREAT | O_WRONLY | O_TRUNC, 0600);
+        if (file >= 0) {
+            ssize_t written = write(file, text, (size_t)length);
+            (void)written;
+            close(file);
+        }
+    }
+}
+
 static int refuses(void)
 {
-    if (refused_one == 0 || ++growths != refused_one)
+    if (++growths != refused_one)
         return 0;
     if (mark) {
         int file = open(mark, O_CREAT | O_WRONLY, 0600);

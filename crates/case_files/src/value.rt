@@ -49,7 +49,11 @@ fn push_repeated(alloc: Global, bytes: &mut Vec<u8>, table: &Table) -> anyhow::R
 
 fn push_times(alloc: Global, bytes: &mut Vec<u8>, text: &str, times: i64) -> anyhow::Result<()> {
     for number in 0..times {
-        push_numbered(alloc, bytes, text, number)?;
+        if text.contains('#') {
+            push_numbered(alloc, bytes, text, number)?;
+        } else {
+            bytes.extend_from_slice(text.as_bytes())?;
+        }
     }
     Ok(())
 }

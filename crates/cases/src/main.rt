@@ -1,5 +1,5 @@
-//! Cases of locks, of entries, of environments, of sessions, of runs and of replies: what each
-//! reader, session and command gives for the texts in `data/`.
+//! Cases of locks, of entries, of environments, of sessions, of runs, of replies and of command
+//! lines: what each reader, session and command gives for the texts in `data/`.
 #![tactic(auto)]
 
 mod edits;
@@ -12,6 +12,7 @@ mod replies;
 mod runs;
 mod sessions;
 mod sources;
+mod words;
 
 use case_files::{Answers, print_files};
 use std::alloc::Global;
@@ -23,6 +24,7 @@ struct Cases;
 impl Answers for Cases {
     fn answer(&self, alloc: Global, kind: &str, case: &Table) -> anyhow::Result<String> {
         match kind {
+            "command" => words::tell(alloc, case),
             "entry" => entries::judge(alloc, case),
             "entry_keys" => entries::tell(alloc, case),
             "environment" => environments::judge(alloc, case),

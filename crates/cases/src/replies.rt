@@ -1,16 +1,40 @@
 //! The replies of the one-shot commands.
 
-use crate::runs::ended;
-use case_files::texts;
+use crate::runs::{brief, ended};
+use case_files::{text, texts};
 use pylock_program::{Query, ToWrite, query};
-use std::alloc::Global;
+use std::alloc::{AllocError, Global};
 use toml::Table;
 
-/// What the command of `words` prints, and its status. In place of the name of an environment's
-/// file stands its text.
+/// What the command of `words` prints, and its status; of it no more than `brief` says where the
+/// case has that key. In place of the name of an environment's file stands its text, and in place
+/// of `#` the text `long`.
 pub(crate) fn tell(alloc: Global, case: &Table) -> anyhow::Result<String> {
+    let long = text(alloc, case, "long")?;
     let words = texts(alloc, case, "words")?;
-    match asked(&words) {
+    let words = spelled(alloc, &words, long.as_str())?;
+    let reply = reply(alloc, &words)?;
+    if case.contains_key("brief") {
+        return Ok(brief(alloc, reply.as_str())?);
+    }
+    Ok(reply)
+}
+
+/// The words, with the long text in place of `#`.
+fn spelled<'a>(
+    alloc: Global,
+    words: &[&'a str],
+    long: &'a str,
+) -> Result<Vec<&'a str>, AllocError> {
+    let mut spelled = Vec::new(alloc);
+    for word in words {
+        spelled.push(if *word == "#" { long } else { *word })?;
+    }
+    Ok(spelled)
+}
+
+fn reply(alloc: Global, words: &[&str]) -> anyhow::Result<String> {
+    match asked(words) {
         Some(asked) => replied(alloc, asked),
         None => Err(anyhow::anyhow!("the words are no command")),
     }

@@ -3,7 +3,7 @@
 use crate::files;
 use case_files::bytes;
 use pylock_program::{Inputs, Pieces, Room, RunFault, ToWrite, run, run_leaving};
-use std::alloc::Global;
+use std::alloc::{AllocError, Global};
 use toml::Table;
 
 /// The most bytes that a run asks for at once.
@@ -12,8 +12,9 @@ const PIECE: usize = 65_536;
 /// The lengths of the pieces that the input of a case with the key `cut` is given in too.
 const PIECES: [usize; 5] = [1, 2, 3, 65_535, 65_536];
 
-/// What the run prints, and its status. A run that leaves its session as it is has to end alike;
-/// and where the case has the key `cut`, one with its input in pieces and its text byte by byte.
+/// What the run prints, and its status; no more than `brief` says where the case has that key. A run
+/// that leaves its session as it is has to end alike; and where the case has the key `cut`, one
+/// with its input in pieces and its text byte by byte.
 pub(crate) fn tell(alloc: Global, case: &Table) -> anyhow::Result<String> {
     let inputs = inputs(alloc, case)?;
     let input = bytes(alloc, case, "input")?;
@@ -22,7 +23,29 @@ pub(crate) fn tell(alloc: Global, case: &Table) -> anyhow::Result<String> {
     if case.contains_key("cut") {
         compare_cuts(alloc, &inputs, &input, report.as_str())?;
     }
+    if case.contains_key("brief") {
+        return Ok(brief(alloc, report.as_str())?);
+    }
     Ok(report)
+}
+
+/// How many lines and bytes stand before the last line of a report, the fronts of the first and of
+/// the last of those lines, and the last of all.
+pub(crate) fn brief(alloc: Global, report: &str) -> Result<String, AllocError> {
+    let lines = report.strip_suffix('\n').unwrap_or(report);
+    let Some((text, end)) = lines.rsplit_once('\n') else {
+        return String::from_str(alloc, report);
+    };
+    let count = text.lines().count();
+    let first = front(text.lines().next().unwrap_or(""));
+    let last = front(text.lines().last().unwrap_or(""));
+    let length = text.len();
+    format!(in alloc; "{count} lines, {length} bytes and LF\n{first}\n..\n{last}\n{end}\n")
+}
+
+/// At most 60 bytes of a line.
+fn front(line: &str) -> &str {
+    line.get(..60).unwrap_or(line)
 }
 
 fn inputs(alloc: Global, case: &Table) -> anyhow::Result<Inputs> {

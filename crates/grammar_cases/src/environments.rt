@@ -20,14 +20,15 @@ pub(crate) const VARIABLES: [Var; 11] = [
     Var::ImplementationVersion,
 ];
 
-/// Gives the environment the `variables`, the `extras` and the `groups` of a case.
+/// Gives the environment the `variables`, the `extras` and the `groups` of a case; and each line of
+/// `names` as an extra and as a group.
 pub(crate) fn set_all(
     environment: &mut Environment,
     alloc: Global,
     case: &Table,
 ) -> anyhow::Result<()> {
     if let Some(Value::Table(variables)) = case.get("variables") {
-        set_variables(environment, variables)?;
+        set_variables(environment, alloc, variables)?;
     }
     for extra in texts(alloc, case, "extras")? {
         environment.add_extra(extra)?;
@@ -35,15 +36,28 @@ pub(crate) fn set_all(
     for group in texts(alloc, case, "groups")? {
         environment.add_group(group)?;
     }
+    let names = text(alloc, case, "names")?;
+    Ok(add_names(environment, names.as_str())?)
+}
+
+/// Asks for the extra and for the group of each line.
+fn add_names(environment: &mut Environment, names: &str) -> Result<(), AllocError> {
+    for name in names.lines() {
+        environment.add_extra(name)?;
+        environment.add_group(name)?;
+    }
     Ok(())
 }
 
-fn set_variables(environment: &mut Environment, variables: &Table) -> anyhow::Result<()> {
-    for (name, text) in variables {
-        match (Var::of(name.as_str()), text) {
-            (Some(variable), Value::String(text)) => environment.set(variable, text.as_str())?,
-            _ => return Err(anyhow::anyhow!("no variable, or no text")),
-        }
+fn set_variables(
+    environment: &mut Environment,
+    alloc: Global,
+    variables: &Table,
+) -> anyhow::Result<()> {
+    for name in variables.keys() {
+        let variable = variable(name.as_str())?;
+        let text = text(alloc, variables, name.as_str())?;
+        environment.set(variable, text.as_str())?;
     }
     Ok(())
 }

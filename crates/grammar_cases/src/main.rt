@@ -22,10 +22,15 @@ struct Cases;
 impl Answers for Cases {
     fn answer(&self, alloc: Global, kind: &str, case: &Table) -> anyhow::Result<String> {
         match kind {
+            "admission" => sets::admit_alone(alloc, case),
             "choice" => wheels::pick(alloc, case),
             "environment" => environments::tell(alloc, case),
             "equality" => sets::compare(alloc, case),
             "items" => sets::tell_items(alloc, case),
+            "long_name" => names::measure(alloc, case),
+            "long_set" => sets::measure(alloc, case),
+            "long_version" => versions::measure(alloc, case),
+            "long_wheel" => wheels::measure(alloc, case),
             "marker" => markers::judge(alloc, case),
             "markers" => markers::judge_all(alloc, case),
             "match" => sets::admit(alloc, case),

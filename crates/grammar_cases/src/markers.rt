@@ -3,7 +3,7 @@
 use crate::environments::{VARIABLES, set_all};
 use crate::told::printed;
 use case_files::{text, texts};
-use pymark_core::{Environment, Key, Marker, Reads};
+use pymark_core::{Environment, EvalFault, Key, Marker, Reads};
 use std::alloc::{AllocError, Global};
 use toml::Table;
 
@@ -43,15 +43,25 @@ fn judged(alloc: Global, environment: &Environment, text: &str) -> Result<String
     }
 }
 
-/// The value or the fault of a marker, with that of its copy where it is another.
+/// The value or the fault of a marker, with that of its copy in a copy of the environment where it
+/// is another.
 fn value(alloc: Global, environment: &Environment, marker: &Marker) -> Result<String, AllocError> {
-    let copy = marker.clone()?;
     let value = marker.evaluate(alloc, environment);
-    let copied = copy.evaluate(alloc, environment);
+    let copied = copied_value(alloc, environment, marker)?;
     if copied == value {
         return format!(in alloc; "{value:?}");
     }
     format!(in alloc; "{value:?}, but its copy {copied:?}")
+}
+
+fn copied_value(
+    alloc: Global,
+    environment: &Environment,
+    marker: &Marker,
+) -> Result<Result<bool, EvalFault>, AllocError> {
+    let environment = environment.copy()?;
+    let copy = marker.clone()?;
+    Ok(copy.evaluate(alloc, &environment))
 }
 
 /// The text of `marker`, and the keys that it reads.
@@ -63,16 +73,20 @@ pub(crate) fn tell_reads(alloc: Global, case: &Table) -> anyhow::Result<String> 
 
 fn reads(alloc: Global, marker: &Marker) -> Result<String, AllocError> {
     let mut told = printed(alloc, marker)?;
+    if told.as_str() != marker.text() {
+        told.push_str("\nbut its text is another")?;
+    }
     push_keys(&mut told, marker.reads())?;
-    if copied_reads(marker)? != marker.reads() {
+    if !is_copied(marker)? {
         told.push_str("\nbut not its copy")?;
     }
     Ok(told)
 }
 
-fn copied_reads(marker: &Marker) -> Result<Reads, AllocError> {
+/// Whether a copy has the same text and reads the same keys.
+fn is_copied(marker: &Marker) -> Result<bool, AllocError> {
     let copy = marker.clone()?;
-    Ok(copy.reads())
+    Ok(copy.text() == marker.text() && copy.reads() == marker.reads())
 }
 
 fn push_keys(told: &mut String, reads: Reads) -> Result<(), AllocError> {

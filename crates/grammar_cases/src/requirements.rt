@@ -31,11 +31,26 @@ fn copied_parts(alloc: Global, requirement: &Requirement) -> Result<String, Allo
 fn parts(alloc: Global, requirement: &Requirement) -> Result<String, AllocError> {
     let mut parts = String::new(alloc);
     writeln!(parts, "name {}", requirement.name())?;
-    for extra in requirement.extras() {
-        writeln!(parts, "extra {extra}")?;
-    }
+    push_extras(&mut parts, requirement.extras())?;
     let (set, url) = (requirement.set().text(), requirement.url());
     let marker = requirement.marker().map(Marker::text);
     writeln!(parts, "set {set:?}, url {url:?}, marker {marker:?}")?;
     Ok(parts)
+}
+
+/// The extras, or where they are many their count and the last of them.
+fn push_extras(parts: &mut String, extras: &[String]) -> Result<(), AllocError> {
+    match extras.split_last() {
+        Some((last, before)) if before.len() >= 100 => {
+            writeln!(parts, "{} extras, the last {last}", extras.len())
+        }
+        _ => push_each(parts, extras),
+    }
+}
+
+fn push_each(parts: &mut String, extras: &[String]) -> Result<(), AllocError> {
+    for extra in extras {
+        writeln!(parts, "extra {extra}")?;
+    }
+    Ok(())
 }

@@ -1,6 +1,6 @@
 //! Specifiers and sets of them: their texts, and what they admit.
 
-use crate::told::{printed, told};
+use crate::told::{measured, printed, told};
 use case_files::text;
 use pyver_core::{Operator, Specifier, SpecifierSet, Version};
 use std::alloc::{AllocError, Global};
@@ -26,6 +26,40 @@ fn items(alloc: Global, specifiers: &[Specifier]) -> Result<String, AllocError> 
         writeln!(items, "{}  {printed}", specifier.operator())?;
     }
     Ok(items)
+}
+
+/// How many specifiers the long `set` has, and what is to be seen of its text; or why it is refused.
+pub(crate) fn measure(alloc: Global, case: &Table) -> anyhow::Result<String> {
+    let text = text(alloc, case, "set")?;
+    match SpecifierSet::parse(alloc, text.as_str()) {
+        Ok(set) => measured_set(alloc, case, &set, text.as_str()),
+        Err(refusal) => Ok(format!(in alloc; "{refusal:?}")?),
+    }
+}
+
+fn measured_set(
+    alloc: Global,
+    case: &Table,
+    set: &SpecifierSet,
+    given: &str,
+) -> anyhow::Result<String> {
+    let printed = printed(alloc, set)?;
+    let measured = measured(alloc, case, printed.as_str(), given)?;
+    let joined = joined(alloc, set.items())?;
+    let (count, is_joined) = (set.items().len(), joined.as_str() == printed.as_str());
+    Ok(format!(in alloc; "{count} specifiers, joined {is_joined}, {measured}")?)
+}
+
+/// The texts of the specifiers, with a comma between two of them.
+fn joined(alloc: Global, specifiers: &[Specifier]) -> Result<String, AllocError> {
+    let mut joined = String::new(alloc);
+    for specifier in specifiers {
+        if !joined.is_empty() {
+            joined.push_str(",")?;
+        }
+        write!(joined, "{specifier}")?;
+    }
+    Ok(joined)
 }
 
 /// Whether `set` admits `version`.
@@ -55,8 +89,7 @@ fn are_equal(alloc: Global, left: &str, right: &str) -> anyhow::Result<bool> {
     Ok(left == right)
 }
 
-/// The specifier of `operator` and `operand`, or why it is refused; and whether it admits
-/// `version`, where there is one.
+/// The specifier of `operator` and `operand`, or why it is refused.
 pub(crate) fn make(alloc: Global, case: &Table) -> anyhow::Result<String> {
     let operator = text(alloc, case, "operator")?;
     let operand = text(alloc, case, "operand")?;
@@ -68,6 +101,28 @@ pub(crate) fn make(alloc: Global, case: &Table) -> anyhow::Result<String> {
 
 fn made(alloc: Global, operator: Operator, operand: &str) -> anyhow::Result<String> {
     Ok(told(alloc, Specifier::new(alloc, operator, operand))?)
+}
+
+/// Whether the specifier of `operator` and `operand` admits `version`.
+pub(crate) fn admit_alone(alloc: Global, case: &Table) -> anyhow::Result<String> {
+    let operator = text(alloc, case, "operator")?;
+    let operand = text(alloc, case, "operand")?;
+    let version = text(alloc, case, "version")?;
+    let version = Version::parse(alloc, version.as_str())?;
+    match operator_of(operator.as_str()) {
+        Some(operator) => admits_alone(alloc, operator, operand.as_str(), &version),
+        None => Err(anyhow::anyhow!("no operator")),
+    }
+}
+
+fn admits_alone(
+    alloc: Global,
+    operator: Operator,
+    operand: &str,
+    version: &Version,
+) -> anyhow::Result<String> {
+    let specifier = Specifier::new(alloc, operator, operand)?;
+    Ok(specifier.admits(version).to_string(alloc)?)
 }
 
 /// The operator of a sign.

@@ -1,6 +1,6 @@
 //! Versions: their texts, their parts and their order.
 
-use crate::told::told;
+use crate::told::{measured, printed, told};
 use case_files::{text, texts};
 use pyver_core::Version;
 use std::alloc::{AllocError, Global};
@@ -35,6 +35,28 @@ fn parts(alloc: Global, version: &Version) -> Result<String, AllocError> {
     )?;
     writeln!(parts, "text {}", version.text())?;
     Ok(parts)
+}
+
+/// How many numbers and segments the long `version` has, and what is to be seen of its text; or why
+/// it is refused.
+pub(crate) fn measure(alloc: Global, case: &Table) -> anyhow::Result<String> {
+    let text = text(alloc, case, "version")?;
+    match Version::parse(alloc, text.as_str()) {
+        Ok(version) => measured_version(alloc, case, &version, text.as_str()),
+        Err(refusal) => Ok(format!(in alloc; "{refusal:?}")?),
+    }
+}
+
+fn measured_version(
+    alloc: Global,
+    case: &Table,
+    version: &Version,
+    given: &str,
+) -> anyhow::Result<String> {
+    let printed = printed(alloc, version)?;
+    let measured = measured(alloc, case, printed.as_str(), given)?;
+    let (numbers, segments) = (version.release().len(), version.local().len());
+    Ok(format!(in alloc; "{numbers} numbers, {segments} segments, {measured}")?)
 }
 
 /// How each of `versions` compares with the next.

@@ -1,7 +1,7 @@
 //! The names of wheels, and the choice of a wheel.
 
 use crate::tags::tag_texts;
-use crate::told::printed;
+use crate::told::{measured, printed};
 use case_files::{text, texts};
 use pywheel_core::{Tag, TagList, WheelName, choose};
 use std::alloc::{AllocError, Global};
@@ -43,6 +43,45 @@ pub(crate) fn print(alloc: Global, case: &Table) -> anyhow::Result<String> {
 fn text_of(alloc: Global, wheel: &WheelName) -> Result<String, AllocError> {
     let text = printed(alloc, wheel)?;
     format!(in alloc; "{text}\n{}\n{}", wheel.tag_set(), wheel.tags().len())
+}
+
+/// The lengths of the parts of the long name `wheel`, those of its copy where they are others, and
+/// what is to be seen of its text; or why it is refused.
+pub(crate) fn measure(alloc: Global, case: &Table) -> anyhow::Result<String> {
+    let text = text(alloc, case, "wheel")?;
+    match WheelName::parse(alloc, text.as_str()) {
+        Ok(wheel) => measured_wheel(alloc, case, &wheel, text.as_str()),
+        Err(refusal) => Ok(refusal.to_string(alloc)?),
+    }
+}
+
+fn measured_wheel(
+    alloc: Global,
+    case: &Table,
+    wheel: &WheelName,
+    given: &str,
+) -> anyhow::Result<String> {
+    let printed = printed(alloc, wheel)?;
+    let measured = measured(alloc, case, printed.as_str(), given)?;
+    let lengths = lengths(alloc, wheel)?;
+    let copied = copied_lengths(alloc, wheel)?;
+    if copied.as_str() == lengths.as_str() {
+        return Ok(format!(in alloc; "{lengths}\n{measured}")?);
+    }
+    Ok(format!(in alloc; "{lengths}, but its copy {copied}\n{measured}")?)
+}
+
+fn copied_lengths(alloc: Global, wheel: &WheelName) -> Result<String, AllocError> {
+    let copy = wheel.clone()?;
+    lengths(alloc, &copy)
+}
+
+/// The lengths of the name, of the build tag and of the tags; and the build's number and rest.
+fn lengths(alloc: Global, wheel: &WheelName) -> Result<String, AllocError> {
+    let (name, build) = (wheel.name().len(), wheel.build());
+    let written = wheel.build_text().map(str::len);
+    let (set, tags) = (wheel.tag_set().len(), wheel.tags().len());
+    format!(in alloc; "name {name}, build {written:?} {build:?}, tag set {set}, {tags} tags")
 }
 
 /// The place of the best of `wheels` by `tags`, which are written with spaces between them. Where a

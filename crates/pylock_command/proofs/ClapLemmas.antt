@@ -2,10 +2,13 @@
 use Rattle.std.proofs.Common.{◌≡◌, ◌||◌, Bool, false, not, List, [], ◌∷◌, Option, None, Some, refl, true, inl, inr, is_some, subst, sym, ap, ap₂, ◌∙◌, Box, option_map}
 use Rattle.std.proofs.lemmas.List.Elements.{All-cons, All-nil}
 use Rattle.std.specs.Box.{box_value}
+use Rattle.std.specs.Prelude.{IfOk, Result}
+use Rattle.std.specs.declared.alloc.AllocError.{AllocError}
 use Rattle.clap.proofs.WalkLemmas.{first_value-rows}
 use Rattle.clap.specs.Words.{Row, Text, first_of, first_value, found_of, rows_of, subcommand_name_of, subcommand_rows, subcommand_rows_of}
 use Rattle.clap.proofs.OnLiterals.{clap_on_literals}
-use Rattle.clap.specs.Words.{App, HasKind, IsAmong, fault_of, is_simple_and_free, kind_of}
+use Rattle.clap.specs.Words.{App, HasKind, IsAmong, app_of, fault_of, is_simple_and_free, kind_of}
+use Rattle.clap.specs.declared.builder.command.Command.{Command}
 use Rattle.clap.specs.declared.error.Error.{Error}
 use Rattle.pylock_command.specs.CommandLine.{HasTexts, IsRefusal, Keeps, is_lacking, lacks, lacks_text, pylock_app}
 use Rattle.pylock_command.specs.declared.command_line.CommandError.{CommandError}
@@ -94,3 +97,8 @@ module _ (app : App) (is : app ≡ pylock_app) (words : List Text) where
       let kind : HasKind (fault_of pylock_app words) error = subst P is (kinds is_free) in
       let among : IsAmong (kind_of error) (fault_of pylock_app words) = elim kind [ inl memory ↦ absurd (kept.1 memory) | inr kinds ↦ kinds ] in
       rw kept.0 (kept.1, inl among)
+
+-- what is added to a command that is this one is added to this one
+pub added-to : (result : Result Command AllocError) (step : App → App) (one other : App) → one ≡ other → IfOk result (λ c. app_of c ≡ step one)
+    → IfOk result (λ c. app_of c ≡ step other)
+added-to result step one other same added = subst (λ app. IfOk result (λ c. app_of c ≡ step app)) same added

@@ -18,39 +18,19 @@ use Rattle.pylock_command.specs.declared.command_line.Task.TheVariants.{Marker, 
 abbrev pub place_rule : Text → Rule
 place_rule id = record (new_rule id) { required = true }
 
--- `select LOCK ENV`
-abbrev pub select_app : App
-select_app =
-    with_rule (with_rule (new_app (codes "select")) (place_rule (codes "LOCK")))
-    (place_rule (codes "ENV"))
+-- a subcommand of this name, which takes one text, or two
+abbrev pub one_text : Text → Text → App
+one_text name id = with_rule (new_app name) (place_rule id)
 
--- `version TEXT`
-abbrev pub version_app : App
-version_app = with_rule (new_app (codes "version")) (place_rule (codes "TEXT"))
+abbrev pub two_texts : Text → Text → Text → App
+two_texts name first second = with_rule (one_text name first) (place_rule second)
 
--- `match SET VERSION`
-abbrev pub match_app : App
-match_app =
-    with_rule (with_rule (new_app (codes "match")) (place_rule (codes "SET")))
-    (place_rule (codes "VERSION"))
+-- what adding a subcommand makes of a command
+abbrev pub with_one : App → Text → Text → App
+with_one app name id = with_subcommand app (one_text name id).top
 
--- `name TEXT`
-abbrev pub name_app : App
-name_app = with_rule (new_app (codes "name")) (place_rule (codes "TEXT"))
-
--- `marker TEXT ENV`
-abbrev pub marker_app : App
-marker_app =
-    with_rule (with_rule (new_app (codes "marker")) (place_rule (codes "TEXT")))
-    (place_rule (codes "ENV"))
-
--- `requirement TEXT`
-abbrev pub requirement_app : App
-requirement_app = with_rule (new_app (codes "requirement")) (place_rule (codes "TEXT"))
-
--- `wheel TEXT`
-abbrev pub wheel_app : App
-wheel_app = with_rule (new_app (codes "wheel")) (place_rule (codes "TEXT"))
+abbrev pub with_two : App → Text → Text → Text → App
+with_two app name first second = with_subcommand app (two_texts name first second).top
 
 -- `pylock`, which tells its version
 abbrev pub top_app : App
@@ -60,13 +40,23 @@ top_app =
 
 -- the run, and the commands on versions and names
 abbrev pub with_first : App → App
-with_first app = with_subcommand (with_subcommand (with_subcommand (with_subcommand app
-    select_app.top) version_app.top) match_app.top) name_app.top
+with_first app =
+    with_one
+    (with_two
+    (with_one
+    (with_two app (codes "select") (codes "LOCK") (codes "ENV"))
+    (codes "version") (codes "TEXT"))
+    (codes "match") (codes "SET") (codes "VERSION"))
+    (codes "name") (codes "TEXT")
 
 -- the commands on markers, requirements and wheels
 abbrev pub with_further : App → App
-with_further app = with_subcommand (with_subcommand (with_subcommand app
-    marker_app.top) requirement_app.top) wheel_app.top
+with_further app =
+    with_one
+    (with_one
+    (with_two app (codes "marker") (codes "TEXT") (codes "ENV"))
+    (codes "requirement") (codes "TEXT"))
+    (codes "wheel") (codes "TEXT")
 
 abbrev pub pylock_app : App
 pylock_app = with_further (with_first top_app)

@@ -1,12 +1,11 @@
 //! The command line.
 ghost use Rattle.std.specs.Prelude.{◌≡◌, [], map, false, true, IfOk, IfErr, OnOk, IfSome, IfNone};
-ghost use Rattle.clap.specs.Words.{app_of, fault_of, subcommand_of, subcommand_rows_of};
-ghost use Rattle.clap.specs.Words.{with_subcommand};
+ghost use Rattle.clap.specs.Words.{app_of, fault_of, new_app, rule_of, subcommand_of};
+ghost use Rattle.clap.specs.Words.{subcommand_rows_of, with_rule};
 ghost use Rattle.clap.specs.declared.builder.command.Command.TheViews.{out-Command as fields_of};
-ghost use Rattle.pylock_command.specs.CommandLine.{IsRefusal, IsTask, is_lacking, pylock_app};
-ghost use Rattle.pylock_command.specs.CommandLine.{match_app, name_app, select_app, version_app};
-ghost use Rattle.pylock_command.specs.CommandLine.{marker_app, requirement_app, wheel_app};
-ghost use Rattle.pylock_command.specs.CommandLine.{with_first, with_further};
+ghost use Rattle.pylock_command.specs.CommandLine.{IsRefusal, IsTask, is_lacking, one_text};
+ghost use Rattle.pylock_command.specs.CommandLine.{place_rule, pylock_app, two_texts, with_one};
+ghost use Rattle.pylock_command.specs.CommandLine.{with_first, with_further, with_two};
 
 use clap::error::ErrorKind;
 use clap::{Arg, ArgMatches, Command};
@@ -71,13 +70,25 @@ const VERSION: &str = "1";
 
 const ABOUT: &str = "Selects from a lock what an installer installs";
 
-const SELECT_ABOUT: &str = "Print what a lock installs, and print it again after each edit";
+/// A text that a subcommand takes: its name in capitals, and what stands behind it in the help.
+#[derive(Clone, Copy)]
+struct Text {
+    id: &'static str,
+    help: &'static str,
+}
 
-const LOCK_HELP: &str = "The path of the lock, a pylock.toml";
+/// A subcommand: its name, what it does, and what stands below its texts in the help.
+#[derive(Clone, Copy)]
+struct Usage {
+    name: &'static str,
+    about: &'static str,
+    reply: &'static str,
+}
 
-const ENV_HELP: &str = "The path of the environment: JSON with marker variables and wheel tags";
-
-const SELECT_LINES: &str = "\
+const SELECT: Usage = Usage {
+    name: "select",
+    about: "Print what a lock installs, and print it again after each edit",
+    reply: "\
 Edits come as lines on standard input:
   show                print the answer again
   set NAME VALUE      give a marker variable a text: set python_version 3.12
@@ -100,245 +111,220 @@ standard error says why it ended early:
   pylock: write   a write to standard output failed
   pylock: input   the input has more than 1,000,000 lines or more than
                   268,435,456 bytes
-  pylock: memory  memory ran out";
+  pylock: memory  memory ran out",
+};
 
-const VERSION_ABOUT: &str = "Print the normal form of a version (PEP 440)";
+const LOCK: Text = Text {
+    id: "LOCK",
+    help: "The path of the lock, a pylock.toml",
+};
 
-const VERSION_HELP: &str = "A version, such as 1.0rc1";
+const ENV: Text = Text {
+    id: "ENV",
+    help: "The path of the environment: JSON with marker variables and wheel tags",
+};
 
-const VERSION_REPLY: &str = "\
+const VERSION_OF: Usage = Usage {
+    name: "version",
+    about: "Print the normal form of a version (PEP 440)",
+    reply: "\
 Prints the normal form, or refused, TAB and one of the words syntax and number.
 Status: 0, it is a version; 1, it is refused; 2, the command line is refused;
-3, the output failed or memory ran out.";
+3, the output failed or memory ran out.",
+};
 
-const MATCH_ABOUT: &str = "Print whether a specifier set admits a version (PEP 440)";
+const VERSION_TEXT: Text = Text {
+    id: "TEXT",
+    help: "A version, such as 1.0rc1",
+};
 
-const SET_HELP: &str = "A specifier set, such as '>=2.8.1, ==2.8.*'";
-
-const MATCH_REPLY: &str = "\
+const MATCH: Usage = Usage {
+    name: "match",
+    about: "Print whether a specifier set admits a version (PEP 440)",
+    reply: "\
 Prints true or false, or refused, TAB and one of the words set-syntax,
 set-number, version-syntax and version-number.
 Status: 0, an answer; 1, a text is refused; 2, the command line is refused;
-3, the output failed or memory ran out.";
+3, the output failed or memory ran out.",
+};
 
-const NAME_ABOUT: &str = "Print the normal form of a name (PEP 503)";
+const SET: Text = Text {
+    id: "SET",
+    help: "A specifier set, such as '>=2.8.1, ==2.8.*'",
+};
 
-const NAME_HELP: &str =
-    "The name of a package, an extra or a group; what begins with - goes after --";
+const SET_VERSION: Text = Text {
+    id: "VERSION",
+    help: "A version, such as 1.0rc1",
+};
 
-const NAME_REPLY: &str = "\
+const NAME: Usage = Usage {
+    name: "name",
+    about: "Print the normal form of a name (PEP 503)",
+    reply: "\
 Prints the normal form, or refused, TAB and the word name.
 Status: 0, it is a name; 1, it is refused; 2, the command line is refused;
-3, the output failed or memory ran out.";
+3, the output failed or memory ran out.",
+};
 
-const MARKER_ABOUT: &str = "Print whether a marker holds in an environment (PEP 508)";
+const NAME_TEXT: Text = Text {
+    id: "TEXT",
+    help: "The name of a package, an extra or a group; what begins with - goes after --",
+};
 
-const MARKER_HELP: &str = "A marker, such as 'python_version >= \"3.8\"'";
-
-const MARKER_REPLY: &str = "\
+const MARKER: Usage = Usage {
+    name: "marker",
+    about: "Print whether a marker holds in an environment (PEP 508)",
+    reply: "\
 Prints true or false; or fault, TAB and one of the codes marker-unset,
 marker-extra, marker-undefined and marker-number; or refused, TAB and one of
 the words too-deep, syntax and set-misuse; or the refusal of the environment,
 as select does.
 Status: 0, an answer; 1, a fault or a refused text; 2, the environment or the
 command line is refused; 3, a file can't be read, the output failed or memory
-ran out.";
+ran out.",
+};
 
-const REQUIREMENT_ABOUT: &str = "Print the parts of a requirement (PEP 508)";
+const MARKER_TEXT: Text = Text {
+    id: "TEXT",
+    help: "A marker, such as 'python_version >= \"3.8\"'",
+};
 
-const REQUIREMENT_HELP: &str = "A requirement, such as 'requests[security] >= 2.8.1'";
-
-const REQUIREMENT_REPLY: &str = "\
+const REQUIREMENT: Usage = Usage {
+    name: "requirement",
+    about: "Print the parts of a requirement (PEP 508)",
+    reply: "\
 Prints name, extras, specifier set, URL and marker, with a TAB between each
 two; or refused, TAB and one of the words name, extras, specifier, url, marker
 and trailing.
 Status: 0, it is a requirement; 1, it is refused; 2, the command line is
-refused; 3, the output failed or memory ran out.";
+refused; 3, the output failed or memory ran out.",
+};
 
-const WHEEL_ABOUT: &str = "Print the parts of a wheel's file name (PEP 427)";
+const REQUIREMENT_TEXT: Text = Text {
+    id: "TEXT",
+    help: "A requirement, such as 'requests[security] >= 2.8.1'",
+};
 
-const WHEEL_HELP: &str = "A file name, such as numpy-2.2.1-cp312-cp312-win_amd64.whl";
-
-const WHEEL_REPLY: &str = "\
+const WHEEL: Usage = Usage {
+    name: "wheel",
+    about: "Print the parts of a wheel's file name (PEP 427)",
+    reply: "\
 Prints name, version, build and tags, with a TAB between each two; or refused,
 TAB and one of the words extension, parts, name, version, build and tags.
 Status: 0, it is the name of a wheel; 1, it is refused; 2, the command line is
-refused; 3, the output failed or memory ran out.";
+refused; 3, the output failed or memory ran out.",
+};
 
-/// `select LOCK ENV`.
-fn select_command<'a>(alloc: Global) -> Result<Command<'a>, AllocError>
-    ensures app { IfOk result (λ c. app_of c ≡ select_app) }
+const WHEEL_TEXT: Text = Text {
+    id: "TEXT",
+    help: "A file name, such as numpy-2.2.1-cp312-cp312-win_amd64.whl",
+};
+
+/// The command `pylock` with one more subcommand, which takes one text.
+fn with_one_text<'a>(
+    alloc: Global,
+    pylock: Command<'a>,
+    usage: Usage,
+    text: Text,
+) -> Result<Command<'a>, AllocError>
+    ensures { IfOk result (λ c. app_of c
+        ≡ with_one (app_of pylock.entry) usage.name.now text.id.now) }
+{
+    pylock.subcommand(one_text(alloc, usage, text)?)
+}
+
+/// The command `pylock` with one more subcommand, which takes two texts.
+fn with_two_texts<'a>(
+    alloc: Global,
+    pylock: Command<'a>,
+    usage: Usage,
+    first: Text,
+    second: Text,
+) -> Result<Command<'a>, AllocError>
+    ensures { IfOk result (λ c. app_of c
+        ≡ with_two (app_of pylock.entry) usage.name.now first.id.now second.id.now) }
+{
+    pylock.subcommand(two_texts(alloc, usage, first, second)?)
+}
+
+/// A subcommand that takes one text.
+fn one_text<'a>(alloc: Global, usage: Usage, text: Text) -> Result<Command<'a>, AllocError>
+    ensures app { IfOk result (λ c. app_of c ≡ one_text usage.name.now text.id.now) }
     ensures local { IfOk result (λ c. (fields_of c).has_globals ≡ false) }
 {
-    let lock = Arg::new(alloc, "LOCK").required(true).help(LOCK_HELP);
-    let env = Arg::new(alloc, "ENV").required(true).help(ENV_HELP);
-    Command::new(alloc, "select")
-        .about(SELECT_ABOUT)
-        .after_help(SELECT_LINES)
-        .arg(lock)?
-        .arg(env)
+    with_text(alloc, without_texts(alloc, usage), text)
 }
 
-/// `version TEXT`.
-fn version_command<'a>(alloc: Global) -> Result<Command<'a>, AllocError>
-    ensures app { IfOk result (λ c. app_of c ≡ version_app) }
+/// A subcommand that takes two texts.
+fn two_texts<'a>(
+    alloc: Global,
+    usage: Usage,
+    first: Text,
+    second: Text,
+) -> Result<Command<'a>, AllocError>
+    ensures app { IfOk result (λ c. app_of c
+        ≡ two_texts usage.name.now first.id.now second.id.now) }
     ensures local { IfOk result (λ c. (fields_of c).has_globals ≡ false) }
 {
-    let text = Arg::new(alloc, "TEXT").required(true).help(VERSION_HELP);
-    Command::new(alloc, "version")
-        .about(VERSION_ABOUT)
-        .after_help(VERSION_REPLY)
-        .arg(text)
+    let command = one_text(alloc, usage, first)?;
+    with_text(alloc, command, second)
 }
 
-/// `match SET VERSION`.
-fn match_command<'a>(alloc: Global) -> Result<Command<'a>, AllocError>
-    ensures app { IfOk result (λ c. app_of c ≡ match_app) }
+/// A subcommand without its texts.
+fn without_texts<'a>(alloc: Global, usage: Usage) -> Command<'a>
+    ensures app { app_of result ≡ new_app usage.name.now }
+    ensures local { (fields_of result).has_globals ≡ false }
+{
+    Command::new(alloc, usage.name)
+        .about(usage.about)
+        .after_help(usage.reply)
+}
+
+/// The command, which takes one more text.
+fn with_text<'a>(alloc: Global, command: Command<'a>, text: Text) -> Result<Command<'a>, AllocError>
+    requires local { (fields_of command).has_globals ≡ false }
+    ensures app { IfOk result (λ c. app_of c
+        ≡ with_rule (app_of command.entry) (place_rule text.id.now)) }
     ensures local { IfOk result (λ c. (fields_of c).has_globals ≡ false) }
 {
-    let set = Arg::new(alloc, "SET").required(true).help(SET_HELP);
-    let version = Arg::new(alloc, "VERSION").required(true).help(VERSION_HELP);
-    Command::new(alloc, "match")
-        .about(MATCH_ABOUT)
-        .after_help(MATCH_REPLY)
-        .arg(set)?
-        .arg(version)
+    command.arg(argument(alloc, text))
 }
 
-/// `name TEXT`.
-fn name_command<'a>(alloc: Global) -> Result<Command<'a>, AllocError>
-    ensures app { IfOk result (λ c. app_of c ≡ name_app) }
-    ensures local { IfOk result (λ c. (fields_of c).has_globals ≡ false) }
+/// The argument that a text is to clap.
+fn argument<'a>(alloc: Global, text: Text) -> Arg<'a>
+    ensures rule { rule_of result ≡ place_rule text.id.now }
+    ensures local { result.global ≡ false }
 {
-    let text = Arg::new(alloc, "TEXT").required(true).help(NAME_HELP);
-    Command::new(alloc, "name")
-        .about(NAME_ABOUT)
-        .after_help(NAME_REPLY)
-        .arg(text)
+    Arg::new(alloc, text.id).required(true).help(text.help)
 }
 
-/// `marker TEXT ENV`.
-fn marker_command<'a>(alloc: Global) -> Result<Command<'a>, AllocError>
-    ensures app { IfOk result (λ c. app_of c ≡ marker_app) }
-    ensures local { IfOk result (λ c. (fields_of c).has_globals ≡ false) }
-{
-    let text = Arg::new(alloc, "TEXT").required(true).help(MARKER_HELP);
-    let env = Arg::new(alloc, "ENV").required(true).help(ENV_HELP);
-    Command::new(alloc, "marker")
-        .about(MARKER_ABOUT)
-        .after_help(MARKER_REPLY)
-        .arg(text)?
-        .arg(env)
-}
-
-/// `requirement TEXT`.
-fn requirement_command<'a>(alloc: Global) -> Result<Command<'a>, AllocError>
-    ensures app { IfOk result (λ c. app_of c ≡ requirement_app) }
-    ensures local { IfOk result (λ c. (fields_of c).has_globals ≡ false) }
-{
-    let text = Arg::new(alloc, "TEXT")
-        .required(true)
-        .help(REQUIREMENT_HELP);
-    Command::new(alloc, "requirement")
-        .about(REQUIREMENT_ABOUT)
-        .after_help(REQUIREMENT_REPLY)
-        .arg(text)
-}
-
-/// `wheel TEXT`.
-fn wheel_command<'a>(alloc: Global) -> Result<Command<'a>, AllocError>
-    ensures app { IfOk result (λ c. app_of c ≡ wheel_app) }
-    ensures local { IfOk result (λ c. (fields_of c).has_globals ≡ false) }
-{
-    let text = Arg::new(alloc, "TEXT").required(true).help(WHEEL_HELP);
-    Command::new(alloc, "wheel")
-        .about(WHEEL_ABOUT)
-        .after_help(WHEEL_REPLY)
-        .arg(text)
-}
-
-/// Adds `select LOCK ENV`.
-fn add_select<'a>(alloc: Global, pylock: Command<'a>) -> Result<Command<'a>, AllocError>
-    ensures { IfOk result (λ c. app_of c ≡ with_subcommand (app_of pylock.entry) select_app.top) }
-{
-    let select = select_command(alloc)?;
-    pylock.subcommand(select)
-}
-
-/// Adds `version TEXT`.
-fn add_version<'a>(alloc: Global, pylock: Command<'a>) -> Result<Command<'a>, AllocError>
-    ensures { IfOk result (λ c. app_of c ≡ with_subcommand (app_of pylock.entry) version_app.top) }
-{
-    let version = version_command(alloc)?;
-    pylock.subcommand(version)
-}
-
-/// Adds `match SET VERSION`.
-fn add_match<'a>(alloc: Global, pylock: Command<'a>) -> Result<Command<'a>, AllocError>
-    ensures { IfOk result (λ c. app_of c ≡ with_subcommand (app_of pylock.entry) match_app.top) }
-{
-    let matching = match_command(alloc)?;
-    pylock.subcommand(matching)
-}
-
-/// Adds `name TEXT`.
-fn add_name<'a>(alloc: Global, pylock: Command<'a>) -> Result<Command<'a>, AllocError>
-    ensures { IfOk result (λ c. app_of c ≡ with_subcommand (app_of pylock.entry) name_app.top) }
-{
-    let name = name_command(alloc)?;
-    pylock.subcommand(name)
-}
-
-/// Adds `marker TEXT ENV`.
-fn add_marker<'a>(alloc: Global, pylock: Command<'a>) -> Result<Command<'a>, AllocError>
-    ensures { IfOk result (λ c. app_of c ≡ with_subcommand (app_of pylock.entry) marker_app.top) }
-{
-    let marker = marker_command(alloc)?;
-    pylock.subcommand(marker)
-}
-
-/// Adds `requirement TEXT`.
-fn add_requirement<'a>(alloc: Global, pylock: Command<'a>) -> Result<Command<'a>, AllocError>
-    ensures { IfOk result
-        (λ c. app_of c ≡ with_subcommand (app_of pylock.entry) requirement_app.top) }
-{
-    let requirement = requirement_command(alloc)?;
-    pylock.subcommand(requirement)
-}
-
-/// Adds `wheel TEXT`.
-fn add_wheel<'a>(alloc: Global, pylock: Command<'a>) -> Result<Command<'a>, AllocError>
-    ensures { IfOk result (λ c. app_of c ≡ with_subcommand (app_of pylock.entry) wheel_app.top) }
-{
-    let wheel = wheel_command(alloc)?;
-    pylock.subcommand(wheel)
-}
-
-/// Adds the run and the commands on versions and names.
-fn add_first<'a>(alloc: Global, pylock: Command<'a>) -> Result<Command<'a>, AllocError>
+/// Adds the run, and the commands on versions and names.
+fn with_first<'a>(alloc: Global, pylock: Command<'a>) -> Result<Command<'a>, AllocError>
     ensures { IfOk result (λ c. app_of c ≡ with_first (app_of pylock.entry)) }
 {
-    let pylock = add_select(alloc, pylock)?;
-    let pylock = add_version(alloc, pylock)?;
-    let pylock = add_match(alloc, pylock)?;
-    add_name(alloc, pylock)
+    let pylock = with_two_texts(alloc, pylock, SELECT, LOCK, ENV)?;
+    let pylock = with_one_text(alloc, pylock, VERSION_OF, VERSION_TEXT)?;
+    let pylock = with_two_texts(alloc, pylock, MATCH, SET, SET_VERSION)?;
+    with_one_text(alloc, pylock, NAME, NAME_TEXT)
 }
 
 /// Adds the commands on markers, requirements and wheels.
-fn add_further<'a>(alloc: Global, pylock: Command<'a>) -> Result<Command<'a>, AllocError>
+fn with_further<'a>(alloc: Global, pylock: Command<'a>) -> Result<Command<'a>, AllocError>
     ensures { IfOk result (λ c. app_of c ≡ with_further (app_of pylock.entry)) }
 {
-    let pylock = add_marker(alloc, pylock)?;
-    let pylock = add_requirement(alloc, pylock)?;
-    add_wheel(alloc, pylock)
+    let pylock = with_two_texts(alloc, pylock, MARKER, MARKER_TEXT, ENV)?;
+    let pylock = with_one_text(alloc, pylock, REQUIREMENT, REQUIREMENT_TEXT)?;
+    with_one_text(alloc, pylock, WHEEL, WHEEL_TEXT)
 }
 
+/// The command `pylock` with its subcommands.
 fn pylock_command<'a>(alloc: Global) -> Result<Command<'a>, AllocError>
     ensures { IfOk result (λ c. app_of c ≡ pylock_app) }
 {
     let pylock = Command::new(alloc, "pylock").about(ABOUT).version(VERSION);
-    let pylock = add_first(alloc, pylock)?;
-    add_further(alloc, pylock)
+    let pylock = with_first(alloc, pylock)?;
+    with_further(alloc, pylock)
 }
 
 /// The task that clap's matches give: none where a subcommand lacks a text.

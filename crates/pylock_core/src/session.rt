@@ -3,6 +3,7 @@
 pub(crate) mod changes;
 pub(crate) mod edits;
 pub(crate) mod index;
+pub(crate) mod judged;
 pub(crate) mod judgement;
 pub(crate) mod names;
 pub(crate) mod parts;
@@ -10,6 +11,7 @@ pub(crate) mod pass;
 pub(crate) mod room;
 pub(crate) mod row;
 pub(crate) mod slated;
+pub(crate) mod start;
 pub(crate) mod verdict;
 
 ghost use Rattle.std.specs.Prelude.{◌≡◌, Ok, Err, IfOk, IfErr, OnOk, IsTrue, length};
@@ -23,7 +25,8 @@ ghost use Rattle.pylock_core.specs.declared.edit.EditError.TheVariants.{Memory};
 
 use crate::answer::Answer;
 use crate::edit::{Edit, EditError};
-use crate::session::edits::{edit_parts, entry_in, start};
+use crate::session::edits::entry_in;
+use crate::session::judged::{edit_parts, start};
 use crate::session::parts::{Parts, answer};
 use pylock_readers::{Entry, Lock};
 use pymark_core::Environment;

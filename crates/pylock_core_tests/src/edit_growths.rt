@@ -1,7 +1,8 @@
 //! Edits of every kind, whose growths are refused in turn: a refused edit leaves the entries, the
 //! answer and the judged numbers as they were, and with memory it then makes what it makes in a
 //! session that met no refusal.
-use crate::sessions::{answer, label, session};
+use crate::edits::label;
+use crate::sessions::{answer, session};
 use pylock_core::{Edit, EditError, Entry, Policy, Session};
 use pymark_core::Var;
 use pywheel_core::TagList;
@@ -21,6 +22,30 @@ const FOUR: [&str; 4] = ["a", "b", "c", "d"];
 
 const LAST_PUT: [&str; 4] = ["a", "b", "c", "e"];
 
+/// A session: the lines of its lock, the members of its environment and its tags, and what it shows
+/// at its start.
+type Start = (&'static str, &'static str, &'static str, Shown);
+
+const SOURCES: Start = (
+    LINES,
+    MEMBERS,
+    "\"py3-none-any\"",
+    (&[0, 1, 2, 3], THREE, "plan 1 Wheel(0)"),
+);
+
+/// Its head reads `python_full_version`.
+const ASKED: Start = (
+    "requires-python = \">=3.9\"\nextras = [\"x\"]\ndependency-groups = [\"g\"]\n\
+    packages = [\
+    {name=\"a\", marker=\"os_name == 'posix'\", directory={path=\"a\"}}, \
+    {name=\"b\", marker=\"'x' in extras\", directory={path=\"b\"}}, \
+    {name=\"c\", marker=\"'g' in dependency_groups\", requires-python=\">=3.9\", \
+    directory={path=\"c\"}}]",
+    MEMBERS,
+    "",
+    (&[0, 1, 2, 3], THREE, "plan 1 Directory"),
+);
+
 const LINES: &str = "extras = [\"x\"]\ndependency-groups = [\"dev\"]\npackages = [\
     {name=\"a\", sdist={path=\"a-1.tar.gz\"}, wheels=[{path=\"a-1-py3-none-any.whl\"}]}, \
     {name=\"b\", marker=\"'x' in extras\", directory={path=\"b\"}}, \
@@ -28,9 +53,6 @@ const LINES: &str = "extras = [\"x\"]\ndependency-groups = [\"dev\"]\npackages =
     directory={path=\"c\"}}]";
 
 const MEMBERS: &str = "\"os_name\":\"posix\",\"python_full_version\":\"3.12.0\"";
-
-/// What the session shows at its start.
-const START: Shown = (&[0, 1, 2, 3], THREE, "plan 1 Wheel(0)");
 
 /// Each kind of edit, each after those before it.
 const STEPS: [Step; 14] = [
@@ -89,6 +111,42 @@ const STEPS: [Step; 14] = [
     ("drop extra", 0, "x", (&[2], LAST_PUT, "plan 1 Sdist 4 Vcs")),
     ("del", 4, "", (&[], THREE, "plan 1 Sdist")),
 ];
+
+/// Edits where an extra and a group are asked for.
+const ASKED_STEPS: [Step; 10] = [
+    (
+        "extra",
+        0,
+        "x",
+        (&[2], THREE, "plan 1 Directory 2 Directory"),
+    ),
+    ("group", 0, "g", (&[3], THREE, ALL)),
+    ("python_full_version", 0, "3.13.0", (&[0, 3], THREE, ALL)),
+    (
+        "python_full_version",
+        0,
+        "3.8.1",
+        (&[0, 3], THREE, "fault 0 PythonNotMet"),
+    ),
+    (
+        "unset python_full_version",
+        0,
+        "",
+        (&[0, 3], THREE, "fault 0 PythonUnknown"),
+    ),
+    ("python_full_version", 0, "3.9", (&[0, 3], THREE, ALL)),
+    (
+        "os_name",
+        0,
+        "nt",
+        (&[1], THREE, "plan 2 Directory 3 Directory"),
+    ),
+    ("drop extra", 0, "X", (&[2], THREE, "plan 3 Directory")),
+    ("drop group", 0, "G", (&[3], THREE, "plan")),
+    ("del", 1, "", (&[], ["-", "b", "c", "-"], "plan")),
+];
+
+const ALL: &str = "plan 1 Directory 2 Directory 3 Directory";
 
 /// Whether the session's answer, where memory allows one, is this.
 fn answers(alloc: Global, session: &Session, wanted: &str) -> bool {
@@ -171,17 +229,43 @@ fn is_whole(alloc: Global, session: &mut Session, step: Step, before: Shown) -> 
     made == Some(step.3.0.len() as u64) && shows(alloc, session, step.3)
 }
 
-fn check_steps<R: Abort + AllocGlobal>(rt: &R, session: &mut Session) {
-    let mut before = START;
-    for step in STEPS {
+fn check_steps<R: Abort + AllocGlobal>(
+    rt: &R,
+    session: &mut Session,
+    start: Shown,
+    steps: &[Step],
+) {
+    let mut before = start;
+    for step in steps.iter().copied() {
         assert!(rt; is_whole(rt.alloc(), session, step, before), "{}", step.0);
         before = step.3;
     }
 }
 
+/// The session, where memory allows it.
+fn started(alloc: Global, start: Start) -> Option<Session> {
+    session(alloc, start.0, start.1, start.2).ok().flatten()
+}
+
+/// Whether both sessions are there and show what they are to show at their start.
+pub(super) fn are_started(alloc: Global) -> bool {
+    is_started(alloc, SOURCES) && is_started(alloc, ASKED)
+}
+
+fn is_started(alloc: Global, start: Start) -> bool {
+    started(alloc, start).is_some_and(|session| shows(alloc, &session, start.3))
+}
+
 #[test]
 fn every_kind_of_edit_is_whole(rt: HostRuntime) {
-    if let Ok(Some(mut session)) = session(rt.alloc(), LINES, MEMBERS, "\"py3-none-any\"") {
-        check_steps(&rt, &mut session);
+    if let Some(mut session) = started(rt.alloc(), SOURCES) {
+        check_steps(&rt, &mut session, SOURCES.3, &STEPS);
+    }
+}
+
+#[test]
+fn edits_are_whole_where_names_are_asked_for(rt: HostRuntime) {
+    if let Some(mut session) = started(rt.alloc(), ASKED) {
+        check_steps(&rt, &mut session, ASKED.3, &ASKED_STEPS);
     }
 }

@@ -145,6 +145,11 @@ fn session(alloc: Global) -> Option<Session> {
     Session::start(alloc, lock, environment, tags).ok()
 }
 
+/// Whether the session is there where no memory is refused.
+pub(super) fn is_started(alloc: Global) -> bool {
+    session(alloc).is_some()
+}
+
 /// Whether the answer, if memory allows it, has so many picks; none where it is a fault.
 fn has_picks(alloc: Global, session: &Session, count: usize) -> bool {
     match session.answer() {

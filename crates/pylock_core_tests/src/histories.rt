@@ -1,13 +1,13 @@
 //! A long list of edits on one session beside a model of its state: how each ends, what it judges
 //! again, and the answer, which is that of a session started afresh on the same state.
-use crate::judgements::{TAG_LISTS, edit};
+use crate::edits::{TAG_LISTS, edit};
 use crate::sessions::{answer, session};
 use pylock_core::{Entry, Session};
 use pymark_core::{Key, Var};
 use std::alloc::{AllocError, Global};
 use std::test::Fail;
 
-/// An edit as a word, a number and a text, as `judgements::edit` takes them. The number is that of
+/// An edit as a word, a number and a text, as `edits::edit` takes them. The number is that of
 /// an entry or a list of tags, or the place of a variable or a name in the model.
 type Step = (&'static str, u32, &'static str);
 

@@ -1,14 +1,13 @@
-//! Worked examples of locks, entries and environments.
+//! Tests of locks and sessions that take more than one text and what it gives: long lists of edits,
+//! and memory that is refused or counted. The worked examples are the cases of `crates/cases`.
 #![tactic(auto)]
 
 #[cfg(test)]
-mod answers;
+mod calls;
 #[cfg(test)]
 mod edit_growths;
 #[cfg(test)]
-mod entries;
-#[cfg(test)]
-mod environments;
+mod edits;
 #[cfg(test)]
 mod growth_counts;
 #[cfg(test)]
@@ -16,12 +15,4 @@ mod growths;
 #[cfg(test)]
 mod histories;
 #[cfg(test)]
-mod judgements;
-#[cfg(test)]
-mod keys;
-#[cfg(test)]
-mod locks;
-#[cfg(test)]
 mod sessions;
-#[cfg(test)]
-mod sources;

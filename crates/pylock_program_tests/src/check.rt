@@ -1,14 +1,23 @@
-//! What the examples share. What makes a room asserts nothing while it has it: it lends what is
+//! What the tests share. What makes a room asserts nothing while it has it: it lends what is
 //! written to what asserts and has nothing to drop.
 
-use pylock_program::{Pieces, Room, RunFault, Source, run};
-use std::alloc::{AllocError, Global};
+use pylock_program::{Room, RunFault, Source, run};
+use std::alloc::AllocError;
 use std::io;
 use std::io::Read;
 use std::process::Abort;
 
 /// The two lines that each lock begins with.
 pub(crate) const HEAD: &str = "lock-version = \"1.0\"\ncreated-by = \"t\"\n";
+
+/// The environment with nothing set.
+pub(crate) const ENVIRONMENT: &str = "{\"environment\":{},\"tags\":[]}";
+
+/// A lock of two entries.
+pub(crate) const LOCK: &str =
+    "lock-version = \"1.0\"\ncreated-by = \"t\"\npackages = [{name=\"B_b\", version=\"1.0\", \
+        directory={path=\"./b\"}}, {name=\"a\", version=\"2\", \
+        sdist={url=\"https://h/a-2.tar.gz\", hashes={sha256=\"00\"}}}]\n";
 
 /// How much a run writes at most, and is given at once.
 pub(crate) const ROOM: usize = 65_536;
@@ -32,9 +41,9 @@ impl<'a> Read for Narrow<'a> {
 pub(crate) type End<'a> = (Result<u8, RunFault>, &'a [u8]);
 
 /// The call ended as it should.
-pub(crate) fn check_end<R: Abort>(rt: &R, end: End<'_>, wanted: End<'_>, name: &str) {
-    assert_eq!(rt; end.0, wanted.0, "{name}");
-    assert_eq!(rt; end.1, wanted.1, "{name}");
+pub(crate) fn check_end<R: Abort>(rt: &R, end: End<'_>, wanted: End<'_>) {
+    assert_eq!(rt; end.0, wanted.0);
+    assert_eq!(rt; end.1, wanted.1);
 }
 
 /// The fault is that, and what is written is a front of the text.
@@ -46,66 +55,21 @@ pub(crate) fn check_front<R: Abort>(rt: &R, end: End<'_>, fault: RunFault, text:
 /// Where a growth was refused, a front of the text is written; else the call ended as it should.
 pub(crate) fn check_growth<R: Abort>(rt: &R, end: End<'_>, wanted: End<'_>) {
     match end.0 {
-        Ok(_) => check_end(rt, end, wanted, ""),
+        Ok(_) => check_end(rt, end, wanted),
         Err(_) => check_front(rt, end, RunFault::Memory, wanted.1, 0),
     }
 }
 
 /// A run over what the reader gives ends so.
-pub(crate) fn check_run_by<R: Abort + AllocGlobal, S: Source>(
+pub(crate) fn check_run<R: Abort + AllocGlobal, S: Source>(
     rt: &R,
     files: (&[u8], &[u8]),
     reader: &mut S,
     wanted: End<'_>,
-    name: &str,
 ) -> Result<(), AllocError> {
     let (lock, environment) = files;
     let mut room = Room::new(rt.alloc(), ROOM, ROOM, None)?;
     let answer = run(rt.alloc(), lock, environment, reader, &mut room);
-    check_end(rt, (answer, room.bytes()), wanted, name);
-    Ok(())
-}
-
-/// A run over this input ends so.
-pub(crate) fn check_run<R: Abort + AllocGlobal>(
-    rt: &R,
-    files: (&[u8], &[u8]),
-    input: &[u8],
-    wanted: End<'_>,
-    name: &str,
-) -> Result<(), AllocError> {
-    check_run_by(rt, files, &mut Pieces::new(input, ROOM, None), wanted, name)
-}
-
-/// What a run over no input answers.
-fn answer_on(alloc: Global, files: (&[u8], &[u8])) -> Result<Result<u8, RunFault>, AllocError> {
-    let mut room = Room::new(alloc, ROOM, ROOM, None)?;
-    let mut reader = Pieces::new(b"", 1, None);
-    Ok(run(alloc, files.0, files.1, &mut reader, &mut room))
-}
-
-/// Every front of the lock is read or refused.
-pub(crate) fn check_lock_fronts<R: Abort + AllocGlobal>(
-    rt: &R,
-    lock: &[u8],
-    environment: &[u8],
-) -> Result<(), AllocError> {
-    for end in 0..lock.len() {
-        let answer = answer_on(rt.alloc(), (&lock[..end], environment))?;
-        assert!(rt; answer.is_ok(), "{end}");
-    }
-    Ok(())
-}
-
-/// Every front of the environment is refused.
-pub(crate) fn check_environment_fronts<R: Abort + AllocGlobal>(
-    rt: &R,
-    lock: &[u8],
-    environment: &[u8],
-) -> Result<(), AllocError> {
-    for end in 0..environment.len() {
-        let answer = answer_on(rt.alloc(), (lock, &environment[..end]))?;
-        assert_eq!(rt; answer, Ok(2), "{end}");
-    }
+    check_end(rt, (answer, room.bytes()), wanted);
     Ok(())
 }

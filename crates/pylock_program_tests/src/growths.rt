@@ -3,7 +3,7 @@
 //! leaves what it should, or answers just what it answers with ample memory.
 
 use crate::check::{End, check_growth};
-use crate::command::told;
+use pylock_command::{CommandError, Task, command};
 use pylock_core::{
     Answer, Edit, EditError, Entry, EnvError, Lock, LockError, Session, read_environment,
 };
@@ -184,73 +184,111 @@ fn refused_files(rt: HostRuntime) {
     }
 }
 
-/// The reply is that, with any status, or memory is refused.
-fn check_query<R: Abort + AllocGlobal>(rt: &R, asked: Query<'_>, reply: &[u8]) {
+/// The reply and its status are these, or memory is refused.
+fn check_query<R: Abort + AllocGlobal>(rt: &R, asked: Query<'_>, reply: &[u8], status: u8) {
     let Ok(mut room) = Room::new(rt.alloc(), 100, 7, None) else {
         return;
     };
     let answer = query(rt.alloc(), asked, &mut room);
-    check_growth(rt, (answer, room.bytes()), (answer, reply));
+    check_growth(rt, (answer, room.bytes()), (Ok(status), reply));
 }
 
 #[test]
 fn version_query(rt: HostRuntime) {
     let asked = Query::Version(" V1.0-RC.1_r2.DEV+Ubuntu-01 ");
-    check_query(&rt, asked, b"1.0rc1.post2.dev0+ubuntu.1\n");
+    check_query(&rt, asked, b"1.0rc1.post2.dev0+ubuntu.1\n", 0);
 }
 
 #[test]
 fn match_queries(rt: HostRuntime) {
     let asked = Query::Match("~=2.2.post3, ==2.*", "2.9");
-    check_query(&rt, asked, b"true\n");
-    check_query(&rt, Query::Match("~=1", "1"), b"refused\tset-syntax\n");
+    check_query(&rt, asked, b"true\n", 0);
+    let refused = Query::Match("~=1", "1");
+    check_query(&rt, refused, b"refused\tset-syntax\n", 1);
 }
 
 #[test]
 fn name_query(rt: HostRuntime) {
-    check_query(&rt, Query::Name("A.-_B"), b"a-b\n");
+    check_query(&rt, Query::Name("A.-_B"), b"a-b\n", 0);
 }
 
 #[test]
 fn marker_queries(rt: HostRuntime) {
-    for (marker, environment, reply) in [
-        ("os_name == 'posix' and '1.0' == '1'", ENVIRONMENT, "true\n"),
+    for (marker, environment, reply, status) in [
+        (
+            "os_name == 'posix' and '1.0' == '1'",
+            ENVIRONMENT,
+            "true\n",
+            0,
+        ),
         (
             "platform_machine == 'x'",
             ENVIRONMENT,
             "fault\tmarker-unset\n",
+            1,
         ),
-        ("'a' == 'a'", "{\"environment\":{}}", "environment\tshape\n"),
+        (
+            "'a' == 'a'",
+            "{\"environment\":{}}",
+            "environment\tshape\n",
+            2,
+        ),
     ] {
         let asked = Query::Marker(marker, environment.as_bytes());
-        check_query(&rt, asked, reply.as_bytes());
+        check_query(&rt, asked, reply.as_bytes(), status);
     }
 }
 
 #[test]
 fn requirement_queries(rt: HostRuntime) {
-    for (requirement, reply) in [
+    for (requirement, reply, status) in [
         (
             "A.b[B_b, c] >=1.0 ; os_name == 'nt'",
             "a-b\tb-b,c\t>=1.0\t-\tos_name == 'nt'\n",
+            0,
         ),
-        ("a @ u v", "refused\ttrailing\n"),
-        ("a (>=1", "refused\tspecifier\n"),
+        ("a @ u v", "refused\ttrailing\n", 1),
+        ("a (>=1", "refused\tspecifier\n", 1),
     ] {
-        check_query(&rt, Query::Requirement(requirement), reply.as_bytes());
+        let asked = Query::Requirement(requirement);
+        check_query(&rt, asked, reply.as_bytes(), status);
     }
 }
 
 #[test]
 fn wheel_queries(rt: HostRuntime) {
-    for (wheel, reply) in [
+    for (wheel, reply, status) in [
         (
             "Foo_Bar-1.0-1b-py2.py3-none-any.whl",
             "foo-bar\t1.0\t1b\tpy2-none-any py3-none-any\n",
+            0,
         ),
-        ("a-1-b-py3-none-any.whl", "refused\tbuild\n"),
+        ("a-1-b-py3-none-any.whl", "refused\tbuild\n", 1),
     ] {
-        check_query(&rt, Query::Wheel(wheel), reply.as_bytes());
+        check_query(&rt, Query::Wheel(wheel), reply.as_bytes(), status);
+    }
+}
+
+/// The word of a task, and its texts.
+fn texts_of(task: Task<'_>) -> (&str, &str, &str) {
+    match task {
+        Task::Bare => ("", "", ""),
+        Task::Select(lock, environment) => ("select", lock, environment),
+        Task::Version(version) => ("version", version, ""),
+        Task::Match(set, version) => ("match", set, version),
+        Task::Name(name) => ("name", name, ""),
+        Task::Marker(marker, environment) => ("marker", marker, environment),
+        Task::Requirement(requirement) => ("requirement", requirement, ""),
+        Task::Wheel(wheel) => ("wheel", wheel, ""),
+    }
+}
+
+/// The word of the task that the words come to, and its texts; else `refused` or `memory`.
+fn told<'a>(alloc: Global, words: &'a [&'a str]) -> (&'a str, &'a str, &'a str) {
+    match command(alloc, words) {
+        Ok(task) => texts_of(task),
+        Err(CommandError::Refused(_)) => ("refused", "", ""),
+        Err(CommandError::Memory) => ("memory", "", ""),
     }
 }
 

@@ -1,20 +1,23 @@
-//! Worked examples of runs, of the one-shot commands, of the command line, of the program and of
-//! streams.
+//! Runs, replies and the program over readers and writers that fail or have no end; sources and
+//! sinks; and what happens where memory is refused. The worked examples stand in the data of
+//! `cases`.
 #![tactic(auto)]
 
 #[cfg(test)]
 mod check;
 #[cfg(test)]
-mod command;
+mod failures;
+#[cfg(test)]
+mod fronts;
 #[cfg(test)]
 mod growths;
 #[cfg(test)]
-mod lines;
+mod memory;
+#[cfg(test)]
+mod pieces;
 #[cfg(test)]
 mod program;
 #[cfg(test)]
-mod reply;
-#[cfg(test)]
-mod run;
+mod replies;
 #[cfg(test)]
 mod stream;

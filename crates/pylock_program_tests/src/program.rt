@@ -1,9 +1,8 @@
 //! What the program does with its task, over files in memory.
 
-use pylock_command::Task;
 use pylock_program::{
-    Failure, FileFault, Files, Inputs, Pieces, Query, Room, RunFault, Work, greet, read_file,
-    read_inputs, words_failure, work_of,
+    Failure, FileFault, Files, Inputs, Pieces, Room, RunFault, greet, read_file, read_inputs,
+    words_failure,
 };
 use std::alloc::{AllocError, Global};
 use std::io::ErrorKind;
@@ -106,18 +105,6 @@ fn greets(rt: HostRuntime) -> Result<(), Fail> {
     check_greeting(&rt, None, Ok(0), b"pylock 1\n")?;
     check_greeting(&rt, Some(2), Err(Failure::Write), b"pylo")?;
     Ok(())
-}
-
-#[test]
-fn says_what_a_task_comes_to(rt: HostRuntime) {
-    assert!(rt; matches!(work_of(Task::Bare), Work::Greet));
-    assert!(rt; matches!(work_of(Task::Select("l", "e")), Work::Select("l", "e")));
-    let matched = work_of(Task::Match("<2", "1"));
-    assert!(rt; matches!(matched, Work::Ask(Query::Match("<2", "1"))));
-    assert!(rt; matches!(work_of(Task::Marker("m", "e")), Work::Judge("m", "e")));
-    let required = work_of(Task::Requirement("r"));
-    assert!(rt; matches!(required, Work::Ask(Query::Requirement("r"))));
-    assert!(rt; matches!(work_of(Task::Wheel("w")), Work::Ask(Query::Wheel("w"))));
 }
 
 #[test]

@@ -2,9 +2,8 @@
 //! each of its growths, that one refused. A test passes where the call answers want of memory and
 //! leaves what was there, or answers just what it answers with ample memory.
 
-use crate::check::value_of;
 use pymark_core::{
-    Environment, EvalFault, Marker, MarkerError, Requirement, RequirementError, Var,
+    Environment, EvalFault, Key, Marker, MarkerError, Requirement, RequirementError, Var,
 };
 use std::alloc::Global;
 use std::process::Abort;
@@ -175,6 +174,16 @@ fn marker_copy(rt: HostRuntime) {
     }
 }
 
+/// The value of the marker that the text spells.
+fn value_of(
+    alloc: Global,
+    environment: &Environment,
+    text: &str,
+) -> Result<Result<bool, EvalFault>, MarkerError> {
+    let marker = Marker::parse(alloc, text)?;
+    Ok(marker.evaluate(alloc, environment))
+}
+
 /// What a marker is judged in, as far as there was memory for it.
 fn environment(alloc: Global) -> Environment {
     let mut environment = Environment::new(alloc);
@@ -200,21 +209,90 @@ fn marker_evaluate(rt: HostRuntime) {
     check_value(&rt, &environment);
 }
 
-fn check_value_without_memory<R: Abort + AllocGlobal>(rt: &R, environment: &Environment) {
+/// A marker that is judged without memory.
+const JUDGED: &str = "(python_version >= '3.8' or python_version > 'x' or 'y' in python_version) \
+        and 'A_b' in extras and 'a' not in dependency_groups and '1.0' == '1'";
+
+fn check_judged<R: Abort + AllocGlobal>(rt: &R, environment: &Environment, marker: &Marker) {
     let is_set = environment.get(Var::PythonVersion).is_some();
     let is_in = environment.has_extra("a-b");
-    let text = "(python_version >= '3.8' or python_version > 'x' or 'y' in python_version) \
-        and 'A_b' in extras and 'a' not in dependency_groups and '1.0' == '1'";
-    let Ok(value) = value_of(rt.alloc(), environment, text) else {
-        return;
-    };
+    let value = marker.evaluate(rt.alloc(), environment);
     let unset = Err(EvalFault::Unset(Var::PythonVersion));
     assert_eq!(rt; value, if is_set { Ok(is_in) } else { unset });
+}
+
+/// The text and the keys of the marker `JUDGED`.
+fn check_readers<R: Abort>(rt: &R, marker: &Marker) {
+    let reads = marker.reads();
+    assert_eq!(rt; marker.text(), JUDGED);
+    assert!(rt; reads.has(Key::Of(Var::PythonVersion)) && !reads.has(Key::Of(Var::OsName)));
+    assert!(rt; reads.has(Key::Extras) && reads.has(Key::Groups));
+}
+
+/// A copy of a marker takes no memory, nor does what is asked of it.
+fn check_copied_marker<R: Abort + AllocGlobal>(rt: &R, environment: &Environment, marker: &Marker) {
+    match marker.clone() {
+        Ok(copy) => {
+            check_judged(rt, environment, &copy);
+            check_readers(rt, &copy);
+        }
+        Err(_) => assert!(rt; false),
+    }
+}
+
+fn check_without_memory<R: Abort + AllocGlobal>(
+    rt: &R,
+    environment: &Environment,
+    marker: &Marker,
+) {
+    check_judged(rt, environment, marker);
+    check_readers(rt, marker);
+    check_copied_marker(rt, environment, marker);
+    if let Ok(copy) = environment.copy() {
+        check_judged(rt, &copy, marker);
+    }
 }
 
 /// Where the marker and the environment were made, no growth is left that could be refused.
 #[test]
 fn marker_evaluate_without_memory(rt: HostRuntime) {
     let environment = environment(rt.alloc());
-    check_value_without_memory(&rt, &environment);
+    if let Ok(marker) = Marker::parse(rt.alloc(), JUDGED) {
+        check_without_memory(&rt, &environment, &marker);
+    }
+}
+
+/// The text of the version that the variable spells.
+fn version_text(environment: &Environment, variable: Var) -> Option<&str> {
+    match environment.version(variable) {
+        Some(Ok(version)) => Some(version.text()),
+        _ => None,
+    }
+}
+
+/// The calls of an environment that take no memory.
+fn check_calls<R: Abort>(rt: &R, environment: &mut Environment, text: Option<&str>, is_in: bool) {
+    assert_eq!(rt; environment.get(Var::PythonVersion), text);
+    assert_eq!(rt; version_text(environment, Var::PythonVersion), text);
+    assert!(rt; environment.has_extra("a-b") == is_in && !environment.has_group("a-b"));
+    environment.unset(Var::PythonVersion);
+    environment.ask_nothing();
+    assert_eq!(rt; environment.get(Var::PythonVersion), None);
+    assert!(rt; !environment.has_extra("a-b"));
+}
+
+fn check_copied_calls<R: Abort>(rt: &R, environment: &mut Environment) {
+    let is_set = environment.get(Var::PythonVersion).is_some();
+    let text = if is_set { Some("3.12") } else { None };
+    let is_in = environment.has_extra("a-b");
+    if let Ok(mut copy) = environment.copy() {
+        check_calls(rt, &mut copy, text, is_in);
+    }
+    check_calls(rt, environment, text, is_in);
+}
+
+#[test]
+fn environment_calls_without_memory(rt: HostRuntime) {
+    let mut environment = environment(rt.alloc());
+    check_copied_calls(&rt, &mut environment);
 }

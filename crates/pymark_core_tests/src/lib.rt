@@ -1,17 +1,8 @@
-//! Worked examples of environments, of markers and their values, and of requirements.
+//! Environments, markers and requirements where memory is refused, and the words of refusals. The
+//! worked examples stand in the data of `grammar_cases`.
 #![tactic(auto)]
 
 #[cfg(test)]
-mod check;
-#[cfg(test)]
-mod environments;
-#[cfg(test)]
 mod growths;
 #[cfg(test)]
-mod markers;
-#[cfg(test)]
 mod messages;
-#[cfg(test)]
-mod requirements;
-#[cfg(test)]
-mod values;

@@ -1,6 +1,9 @@
-//! The messages of refusals.
+//! What is printed of markers, of variables and of refusals.
 
-use pymark_core::{MarkerError, RequirementError, Var};
+use pymark_core::{Marker, MarkerError, RequirementError, Var};
+use std::alloc::AllocError;
+use std::fmt::Display;
+use std::process::Abort;
 use std::test::Fail;
 
 #[test]
@@ -32,8 +35,76 @@ fn refusals_of_markers_print_their_words(rt: HostRuntime) -> Result<(), Fail> {
     Ok(())
 }
 
-#[test]
-fn variables_print_their_names(rt: HostRuntime) -> Result<(), Fail> {
-    assert_eq!(rt; Var::OsName.to_string(rt.alloc())?.as_str(), "os_name");
+fn check_text<R: Abort>(rt: &R, text: &str, wanted: &str) {
+    assert_eq!(rt; text, wanted);
+}
+
+/// A width, a precision and the long form of what prints a text of that kind.
+fn check_filled<R: Abort + AllocGlobal, D: Display>(
+    rt: &R,
+    printed: &D,
+    wanted: [&str; 4],
+) -> Result<(), AllocError> {
+    let [right, short, long, plain] = wanted;
+    check_text(rt, &format!(in rt.alloc(); "{printed:>20}")?, right);
+    check_text(rt, &format!(in rt.alloc(); "{printed:20.9}")?, short);
+    check_text(rt, &format!(in rt.alloc(); "{printed:#}")?, long);
+    check_text(rt, &format!(in rt.alloc(); "{printed}")?, plain);
     Ok(())
+}
+
+#[test]
+fn markers_and_variables_are_filled_up(rt: HostRuntime) -> Result<(), Fail> {
+    let marker = Marker::parse(rt.alloc(), " os_name == 'nt'")?;
+    let text = "os_name == 'nt'";
+    check_filled(
+        &rt,
+        &marker,
+        ["     os_name == 'nt'", "os_name =           ", text, text],
+    )?;
+    check_filled(
+        &rt,
+        &Var::PythonVersion,
+        [
+            "      python_version",
+            "python_ve           ",
+            "python_version",
+            "python_version",
+        ],
+    )?;
+    Ok(())
+}
+
+/// With options too an error prints its word; white space may stand round it.
+fn check_word<R: Abort + AllocGlobal, D: Display>(
+    rt: &R,
+    error: &D,
+    word: &str,
+) -> Result<(), AllocError> {
+    check_text(rt, format!(in rt.alloc(); "{error:>20}")?.trim(), word);
+    check_text(rt, format!(in rt.alloc(); "{error:20.12}")?.trim(), word);
+    check_text(rt, &format!(in rt.alloc(); "{error:#}")?, word);
+    Ok(())
+}
+
+#[test]
+fn errors_print_with_options(rt: HostRuntime) -> Result<(), Fail> {
+    check_word(&rt, &MarkerError::SetMisuse, "set-misuse")?;
+    check_word(&rt, &RequirementError::Specifier, "specifier")?;
+    Ok(())
+}
+
+fn check_quoted<R: Abort + AllocGlobal>(rt: &R, marker: &Marker) -> Result<(), AllocError> {
+    check_text(
+        rt,
+        &format!(in rt.alloc(); "{marker:?}")?,
+        "\"os_name == 'nt'\"",
+    );
+    Ok(())
+}
+
+#[test]
+fn a_marker_is_quoted(rt: HostRuntime) -> Result<(), Fail> {
+    let marker = Marker::parse(rt.alloc(), "os_name == 'nt'")?;
+    check_quoted(&rt, &marker).map_err(Fail::from)
 }

@@ -1,4 +1,6 @@
-//! Worked examples of versions, their order, specifiers and sets of them, and names.
+//! What texts can't show of versions, their order, specifiers and sets of them, and names: values made
+//! from parts, hashing, the words of errors, and growths. The cases of texts stand in the data of
+//! `grammar_cases`.
 #![tactic(auto)]
 
 #[cfg(test)]
@@ -6,16 +8,10 @@ mod growths;
 #[cfg(test)]
 mod messages;
 #[cfg(test)]
-mod names;
-#[cfg(test)]
 mod order;
 #[cfg(test)]
 mod parts;
 #[cfg(test)]
-mod sets;
-#[cfg(test)]
 mod specifiers;
 #[cfg(test)]
 mod texts;
-#[cfg(test)]
-mod versions;

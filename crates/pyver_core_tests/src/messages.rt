@@ -1,10 +1,9 @@
-//! The messages of refusals, and how values print.
+//! The messages of refusals.
 
 use crate::texts::prints;
-use pyver_core::{Operator, PartsError, SpecifierError, SpecifierSet, Version, VersionError};
+use pyver_core::{PartsError, SpecifierError, VersionError};
 use std::fmt;
 use std::process::Abort;
-use std::test::Fail;
 
 fn check_prints<R: Abort + AllocGlobal, D: fmt::Display>(rt: &R, value: &D, text: &str) {
     assert!(rt; prints(rt.alloc(), value, text), "{text}");
@@ -21,23 +20,4 @@ fn refusals_print_their_words(rt: HostRuntime) {
     check_prints(&rt, &PartsError::EmptyRelease, "release");
     check_prints(&rt, &PartsError::LocalSegment, "local");
     check_prints(&rt, &PartsError::Memory, "memory");
-}
-
-#[test]
-fn versions_print_as_their_normal_text(rt: HostRuntime) -> Result<(), Fail> {
-    let version = Version::parse(rt.alloc(), "V1.0-RC.1")?;
-    check_prints(&rt, &version, "1.0rc1");
-    Ok(())
-}
-
-#[test]
-fn sets_print_as_their_normal_text(rt: HostRuntime) -> Result<(), Fail> {
-    let set = SpecifierSet::parse(rt.alloc(), " >= 1.0 , ==1.* ")?;
-    check_prints(&rt, &set, ">=1.0,==1.*");
-    Ok(())
-}
-
-#[test]
-fn operators_print_as_their_signs(rt: HostRuntime) {
-    check_prints(&rt, &Operator::Compatible, "~=");
 }

@@ -1,4 +1,4 @@
-//! Long texts, and whether a value prints as a text or equals its copy.
+//! Long texts, and whether a value prints as a text.
 //!
 //! They are generic, so that what a type is made of is no matter to their proofs.
 
@@ -31,25 +31,5 @@ pub(crate) fn answers<T: fmt::Display + Drop, E: fmt::Display + Drop>(
     match made {
         Ok(value) => prints(alloc, &value, text),
         Err(refusal) => prints(alloc, &refusal, text),
-    }
-}
-
-/// Whether both are values, and equal or not as said.
-pub(crate) fn are_equal<T: PartialEq + Drop, E: Drop>(
-    left: Result<T, E>,
-    right: Result<T, E>,
-    equal: bool,
-) -> bool {
-    match (left, right) {
-        (Ok(left), Ok(right)) => (left == right) == equal,
-        _ => false,
-    }
-}
-
-/// Whether a copy of the value equals it.
-pub(crate) fn is_copied<T: Clone + PartialEq + Drop>(value: &T) -> bool {
-    match value.clone() {
-        Ok(copy) => copy == *value,
-        Err(_) => false,
     }
 }

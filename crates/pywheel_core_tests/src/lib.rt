@@ -1,13 +1,8 @@
-//! Tests of what no contract says, and each call once.
+//! What texts can't show of tags and wheels: the words of errors, and growths. The cases of texts
+//! stand in the data of `grammar_cases`.
 #![tactic(auto)]
 
-#[cfg(test)]
-mod choice;
 #[cfg(test)]
 mod growths;
 #[cfg(test)]
 mod messages;
-#[cfg(test)]
-mod tags;
-#[cfg(test)]
-mod wheels;

@@ -12,6 +12,8 @@ use Rattle.pylock_readers.specs.Entry.{EntryValue}
 use Rattle.pylock_core.specs.Inner.Names.{policy_at}
 use Rattle.pylock_core.specs.Inner.Rows.{in_rows}
 use Rattle.pylock_core.specs.Session.Judgement.{numbers_where, verdict_of}
+use Rattle.pylock_core.specs.declared.edit.Edit.{Edit}
+use Rattle.pylock_core.specs.declared.edit.Edit.TheVariants as edit
 use Rattle.pylock_core.specs.declared.edit.Policy.{Policy}
 use Rattle.pylock_core.specs.declared.session.changes.Change.{Change}
 use Rattle.pylock_core.specs.declared.session.changes.Change.TheVariants as change
@@ -86,12 +88,12 @@ DifferAt key e f = (other : Key) → (other ≡ key → ⊥) → AgreeAt other e
 
 -- what a change makes of an environment
 abbrev pub changed : Change → EnvironmentValue → EnvironmentValue
-changed (change.Set variable text) e = with_variable variable text.now e
+changed (change.Set variable text) e = with_variable variable text e
 changed (change.Unset variable) e = without_variable variable e
-changed (change.AddExtra name) e = with_extra name.now e
-changed (change.DropExtra name) e = without_extra name.now e
-changed (change.AddGroup name) e = with_group name.now e
-changed (change.DropGroup name) e = without_group name.now e
+changed (change.AddExtra name) e = with_extra name e
+changed (change.DropExtra name) e = without_extra name e
+changed (change.AddGroup name) e = with_group name e
+changed (change.DropGroup name) e = without_group name e
 
 -- the key that it changes
 abbrev pub key_of : Change → Key
@@ -101,3 +103,12 @@ key_of (change.AddExtra name) = Extras
 key_of (change.DropExtra name) = Extras
 key_of (change.AddGroup name) = Groups
 key_of (change.DropGroup name) = Groups
+
+-- the edit that makes it
+abbrev pub edit_of : Change → Edit
+edit_of (change.Set variable text) = edit.Set variable text
+edit_of (change.Unset variable) = edit.Unset variable
+edit_of (change.AddExtra name) = edit.AddExtra name
+edit_of (change.DropExtra name) = edit.DropExtra name
+edit_of (change.AddGroup name) = edit.AddGroup name
+edit_of (change.DropGroup name) = edit.DropGroup name

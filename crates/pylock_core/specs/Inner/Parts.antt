@@ -45,7 +45,7 @@ shown parts = record {
     entries = in_rows 1 (map verdict_in parts.rows.items);
   };
   index = map (λ list. list.items) parts.index;
-  judged = parts.judged.items;
+  judged = parts.judged;
 }
 
 -- ---- what a row keeps of its entry

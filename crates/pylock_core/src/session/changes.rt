@@ -1,17 +1,20 @@
 //! The edits of what entries are judged by: variables, extras, groups, tags, policies.
 
 ghost use Rattle.std.specs.Prelude.{◌≡◌, ◌++◌, Ok, Err, IfOk, IfErr, None, OnErr, OnOk, ◌||◌};
+ghost use Rattle.std.specs.Prelude.{true, false};
 ghost use Rattle.std.specs.Prelude.{string_bytes, map};
 ghost use Rattle.std.specs.List.{list_any};
 ghost use Rattle.std.specs.Str.{bytes_eq};
-ghost use Rattle.pylock_core.specs.Inner.Again.{changed, key_of};
+ghost use Rattle.pylock_core.specs.Inner.Again.{changed, edit_of, key_of};
 ghost use Rattle.pylock_core.specs.Inner.Parts.{IsSession, shown, state_of};
 ghost use Rattle.pylock_core.specs.Session.Judgement.{Marked, readers, touched};
 ghost use Rattle.pylock_core.specs.Session.State.{apply, in_environment, is_known};
 ghost use Rattle.pylock_core.specs.declared.edit.Edit.TheVariants as edit;
-ghost use Rattle.pylock_core.specs.declared.edit.EditError.TheVariants.{Memory};
+ghost use Rattle.pylock_core.specs.declared.edit.EditError.TheVariants.{Memory, UnknownExtra};
+ghost use Rattle.pylock_core.specs.declared.edit.EditError.TheVariants.{UnknownGroup};
 
 use crate::edit::{EditError, Policy};
+use crate::session::judged::Judged;
 use crate::session::judgement::{change_environment, change_policy, change_tags};
 use crate::session::parts::Parts;
 use pylock_readers::HeadNames;
@@ -21,49 +24,63 @@ use pywheel_core::TagList;
 use std::alloc::{AllocError, Global};
 
 /// A change of an environment.
-#[derive(Clone, Copy)]
-enum Change<'a> {
-    Set(Var, &'a str),
+#[derive(Drop)]
+pub(crate) enum Change {
+    Set(Var, Label),
     Unset(Var),
-    AddExtra(&'a str),
-    DropExtra(&'a str),
-    AddGroup(&'a str),
-    DropGroup(&'a str),
+    AddExtra(Label),
+    DropExtra(Label),
+    AddGroup(Label),
+    DropGroup(Label),
 }
 
-impl Change<'_> {
+impl Change {
     /// The key at which the environment changes.
-    fn key(self) -> Key
-        ensures { result ≡ key_of self.entry }
+    fn key(&self) -> Key
+        ensures { result ≡ key_of self.now }
     {
         match self {
-            Change::Set(variable, _) | Change::Unset(variable) => Key::Of(variable),
+            Change::Set(variable, _) | Change::Unset(variable) => Key::Of(*variable),
             Change::AddExtra(_) | Change::DropExtra(_) => Key::Extras,
             Change::AddGroup(_) | Change::DropGroup(_) => Key::Groups,
         }
     }
 
     /// Makes it.
-    fn make(self, environment: &mut Environment) -> Result<(), AllocError>
-        ensures { OnOk result (environment.new ≡ changed self.entry environment.old) }
+    fn make(&self, environment: &mut Environment) -> Result<(), AllocError>
+        ensures { OnOk result (environment.new ≡ changed self.now environment.old) }
     {
         match self {
-            Change::Set(variable, text) => environment.set(variable, text)?,
-            Change::Unset(variable) => environment.unset(variable),
+            Change::Set(variable, text) => environment.set(*variable, text.as_str())?,
+            Change::Unset(variable) => environment.unset(*variable),
             Change::AddExtra(name) => {
-                environment.add_extra(name)?;
+                environment.add_extra(name.as_str())?;
             }
             Change::DropExtra(name) => {
-                environment.drop_extra(name)?;
+                environment.drop_extra(name.as_str())?;
             }
             Change::AddGroup(name) => {
-                environment.add_group(name)?;
+                environment.add_group(name.as_str())?;
             }
             Change::DropGroup(name) => {
-                environment.drop_group(name)?;
+                environment.drop_group(name.as_str())?;
             }
         }
         Ok(())
+    }
+
+    /// Whether the lock lets it be made: it names the extra or the group.
+    fn is_known(&self, parts: &Parts) -> Result<(), EditError>
+        ensures ok { OnOk result (apply (edit_of self.now) (state_of parts.now)
+            ≡ Ok (in_environment (changed self.now parts.now.environment) (state_of parts.now))) }
+        ensures refused { IfErr result (λ error. (error ≡ Memory → ⊥)
+            → apply (edit_of self.now) (state_of parts.now) ≡ Err error) }
+    {
+        match self {
+            Change::Set(_, _) | Change::Unset(_) => Ok(()),
+            Change::AddExtra(name) | Change::DropExtra(name) => has_extra(parts, name.as_str()),
+            Change::AddGroup(name) | Change::DropGroup(name) => has_group(parts, name.as_str()),
+        }
     }
 }
 
@@ -91,13 +108,13 @@ fn keep_spare(parts: &mut Parts, spare: Environment)
 
 /// Makes the change, on the spare environment first, which takes the place of the other. Where
 /// there is no memory for it, all that is shown stays.
-fn make_change(parts: &mut Parts, change: Change, judged: &mut Vec<u32>) -> Result<(), AllocError>
+fn make_change(parts: &mut Parts, change: &Change, judged: &mut Judged) -> Result<(), AllocError>
     requires { IsSession parts.old }
     ensures session { IsSession parts.new }
     ensures ok { OnOk result (state_of parts.new
-        ≡ in_environment (changed change.entry parts.old.environment) (state_of parts.old)) }
-    ensures judged { OnOk result (judged.new.items
-        ≡ judged.old.items ++ readers (Marked (key_of change.entry)) (state_of parts.old)) }
+        ≡ in_environment (changed change.now parts.old.environment) (state_of parts.old)) }
+    ensures judged { OnOk result (judged.new
+        ≡ judged.old ++ readers (Marked (key_of change.now)) (state_of parts.old)) }
     ensures err { OnErr result (shown parts.new ≡ shown parts.old) }
 {
     let mut next = take_spare(parts)?;
@@ -109,15 +126,32 @@ fn make_change(parts: &mut Parts, change: Change, judged: &mut Vec<u32>) -> Resu
     Ok(())
 }
 
-/// Whether the normal form of the name is that of a group of the lock, a default one or not.
-fn is_group(parts: &Parts, name: &str) -> Result<bool, AllocError>
-    ensures { IfOk result (λ known. known
-        ≡ (is_known parts.now.head.groups name.now
-        || is_known parts.now.head.default_groups name.now)) }
+/// Refuses a name whose normal form isn't that of an extra of the lock.
+fn has_extra(parts: &Parts, name: &str) -> Result<(), EditError>
+    ensures known { OnOk result (is_known parts.now.head.extras name.now ≡ true) }
+    ensures refused { IfErr result (λ error. (error ≡ Memory → ⊥)
+        → (error ≡ UnknownExtra) × (is_known parts.now.head.extras name.now ≡ false)) }
+{
+    if is_known(parts.alloc, parts.head.extras(), name)? {
+        return Ok(());
+    }
+    Err(EditError::UnknownExtra)
+}
+
+/// Refuses a name whose normal form isn't that of a group of the lock, a default one or not.
+fn has_group(parts: &Parts, name: &str) -> Result<(), EditError>
+    ensures known { OnOk result ((is_known parts.now.head.groups name.now
+        || is_known parts.now.head.default_groups name.now) ≡ true) }
+    ensures refused { IfErr result (λ error. (error ≡ Memory → ⊥)
+        → (error ≡ UnknownGroup) × ((is_known parts.now.head.groups name.now
+        || is_known parts.now.head.default_groups name.now) ≡ false)) }
 {
     let named = is_known(parts.alloc, parts.head.groups(), name)?;
     let default = is_known(parts.alloc, parts.head.default_groups(), name)?;
-    Ok(named || default)
+    if named || default {
+        return Ok(());
+    }
+    Err(EditError::UnknownGroup)
 }
 
 /// Whether the normal form of the name is one of these.
@@ -128,136 +162,24 @@ fn is_known(alloc: Global, names: &HeadNames, name: &str) -> Result<bool, AllocE
     Ok(names.has(name.as_str()))
 }
 
-/// Gives the variable the text.
-pub(crate) fn set_variable(
+/// Changes the environment, where the lock lets it be changed so.
+pub(crate) fn edit_environment(
     parts: &mut Parts,
-    variable: Var,
-    text: Label,
-    judged: &mut Vec<u32>,
+    change: Change,
+    judged: &mut Judged,
 ) -> Result<(), EditError>
     requires { IsSession parts.old }
     ensures session { IsSession parts.new }
-    ensures ok { OnOk result (apply (edit.Set variable text) (state_of parts.old)
+    ensures ok { OnOk result (apply (edit_of change) (state_of parts.old)
         ≡ Ok (state_of parts.new)) }
-    ensures judged { OnOk result (judged.new.items
-        ≡ judged.old.items ++ touched (edit.Set variable text) (state_of parts.old)) }
+    ensures judged { OnOk result (judged.new
+        ≡ judged.old ++ touched (edit_of change) (state_of parts.old)) }
     ensures refused { IfErr result (λ error. (error ≡ Memory → ⊥)
-        → apply (edit.Set variable text) (state_of parts.old) ≡ Err error) }
+        → apply (edit_of change) (state_of parts.old) ≡ Err error) }
     ensures err { OnErr result (shown parts.new ≡ shown parts.old) }
 {
-    make_change(parts, Change::Set(variable, text.as_str()), judged)?;
-    Ok(())
-}
-
-/// Leaves the variable without a text.
-pub(crate) fn unset_variable(
-    parts: &mut Parts,
-    variable: Var,
-    judged: &mut Vec<u32>,
-) -> Result<(), EditError>
-    requires { IsSession parts.old }
-    ensures session { IsSession parts.new }
-    ensures ok { OnOk result (apply (edit.Unset variable) (state_of parts.old)
-        ≡ Ok (state_of parts.new)) }
-    ensures judged { OnOk result (judged.new.items
-        ≡ judged.old.items ++ touched (edit.Unset variable) (state_of parts.old)) }
-    ensures refused { IfErr result (λ error. (error ≡ Memory → ⊥)
-        → apply (edit.Unset variable) (state_of parts.old) ≡ Err error) }
-    ensures err { OnErr result (shown parts.new ≡ shown parts.old) }
-{
-    make_change(parts, Change::Unset(variable), judged)?;
-    Ok(())
-}
-
-/// Asks for the extra.
-pub(crate) fn add_extra(
-    parts: &mut Parts,
-    name: Label,
-    judged: &mut Vec<u32>,
-) -> Result<(), EditError>
-    requires { IsSession parts.old }
-    ensures session { IsSession parts.new }
-    ensures ok { OnOk result (apply (edit.AddExtra name) (state_of parts.old)
-        ≡ Ok (state_of parts.new)) }
-    ensures judged { OnOk result (judged.new.items
-        ≡ judged.old.items ++ touched (edit.AddExtra name) (state_of parts.old)) }
-    ensures refused { IfErr result (λ error. (error ≡ Memory → ⊥)
-        → apply (edit.AddExtra name) (state_of parts.old) ≡ Err error) }
-    ensures err { OnErr result (shown parts.new ≡ shown parts.old) }
-{
-    if !is_known(parts.alloc, parts.head.extras(), name.as_str())? {
-        return Err(EditError::UnknownExtra);
-    }
-    make_change(parts, Change::AddExtra(name.as_str()), judged)?;
-    Ok(())
-}
-
-/// Asks for the extra no more.
-pub(crate) fn drop_extra(
-    parts: &mut Parts,
-    name: Label,
-    judged: &mut Vec<u32>,
-) -> Result<(), EditError>
-    requires { IsSession parts.old }
-    ensures session { IsSession parts.new }
-    ensures ok { OnOk result (apply (edit.DropExtra name) (state_of parts.old)
-        ≡ Ok (state_of parts.new)) }
-    ensures judged { OnOk result (judged.new.items
-        ≡ judged.old.items ++ touched (edit.DropExtra name) (state_of parts.old)) }
-    ensures refused { IfErr result (λ error. (error ≡ Memory → ⊥)
-        → apply (edit.DropExtra name) (state_of parts.old) ≡ Err error) }
-    ensures err { OnErr result (shown parts.new ≡ shown parts.old) }
-{
-    if !is_known(parts.alloc, parts.head.extras(), name.as_str())? {
-        return Err(EditError::UnknownExtra);
-    }
-    make_change(parts, Change::DropExtra(name.as_str()), judged)?;
-    Ok(())
-}
-
-/// Asks for the group.
-pub(crate) fn add_group(
-    parts: &mut Parts,
-    name: Label,
-    judged: &mut Vec<u32>,
-) -> Result<(), EditError>
-    requires { IsSession parts.old }
-    ensures session { IsSession parts.new }
-    ensures ok { OnOk result (apply (edit.AddGroup name) (state_of parts.old)
-        ≡ Ok (state_of parts.new)) }
-    ensures judged { OnOk result (judged.new.items
-        ≡ judged.old.items ++ touched (edit.AddGroup name) (state_of parts.old)) }
-    ensures refused { IfErr result (λ error. (error ≡ Memory → ⊥)
-        → apply (edit.AddGroup name) (state_of parts.old) ≡ Err error) }
-    ensures err { OnErr result (shown parts.new ≡ shown parts.old) }
-{
-    if !is_group(parts, name.as_str())? {
-        return Err(EditError::UnknownGroup);
-    }
-    make_change(parts, Change::AddGroup(name.as_str()), judged)?;
-    Ok(())
-}
-
-/// Asks for the group no more.
-pub(crate) fn drop_group(
-    parts: &mut Parts,
-    name: Label,
-    judged: &mut Vec<u32>,
-) -> Result<(), EditError>
-    requires { IsSession parts.old }
-    ensures session { IsSession parts.new }
-    ensures ok { OnOk result (apply (edit.DropGroup name) (state_of parts.old)
-        ≡ Ok (state_of parts.new)) }
-    ensures judged { OnOk result (judged.new.items
-        ≡ judged.old.items ++ touched (edit.DropGroup name) (state_of parts.old)) }
-    ensures refused { IfErr result (λ error. (error ≡ Memory → ⊥)
-        → apply (edit.DropGroup name) (state_of parts.old) ≡ Err error) }
-    ensures err { OnErr result (shown parts.new ≡ shown parts.old) }
-{
-    if !is_group(parts, name.as_str())? {
-        return Err(EditError::UnknownGroup);
-    }
-    make_change(parts, Change::DropGroup(name.as_str()), judged)?;
+    change.is_known(parts)?;
+    make_change(parts, &change, judged)?;
     Ok(())
 }
 
@@ -265,14 +187,14 @@ pub(crate) fn drop_group(
 pub(crate) fn set_tags(
     parts: &mut Parts,
     tags: TagList,
-    judged: &mut Vec<u32>,
+    judged: &mut Judged,
 ) -> Result<(), EditError>
     requires { IsSession parts.old }
     ensures session { IsSession parts.new }
     ensures ok { OnOk result (apply (edit.Tags tags) (state_of parts.old)
         ≡ Ok (state_of parts.new)) }
-    ensures judged { OnOk result (judged.new.items
-        ≡ judged.old.items ++ touched (edit.Tags tags) (state_of parts.old)) }
+    ensures judged { OnOk result (judged.new
+        ≡ judged.old ++ touched (edit.Tags tags) (state_of parts.old)) }
     ensures refused { IfErr result (λ error. (error ≡ Memory → ⊥)
         → apply (edit.Tags tags) (state_of parts.old) ≡ Err error) }
     ensures err { OnErr result (shown parts.new ≡ shown parts.old) }
@@ -286,14 +208,14 @@ pub(crate) fn give_policy(
     parts: &mut Parts,
     name: Label,
     policy: Policy,
-    judged: &mut Vec<u32>,
+    judged: &mut Judged,
 ) -> Result<(), EditError>
     requires { IsSession parts.old }
     ensures session { IsSession parts.new }
     ensures ok { OnOk result (apply (edit.Policy name policy) (state_of parts.old)
         ≡ Ok (state_of parts.new)) }
-    ensures judged { OnOk result (judged.new.items
-        ≡ judged.old.items ++ touched (edit.Policy name policy) (state_of parts.old)) }
+    ensures judged { OnOk result (judged.new
+        ≡ judged.old ++ touched (edit.Policy name policy) (state_of parts.old)) }
     ensures refused { IfErr result (λ error. (error ≡ Memory → ⊥)
         → apply (edit.Policy name policy) (state_of parts.old) ≡ Err error) }
     ensures err { OnErr result (shown parts.new ≡ shown parts.old) }

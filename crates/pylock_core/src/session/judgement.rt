@@ -17,6 +17,7 @@ ghost use Rattle.pylock_core.specs.Session.Steps.{head_fault};
 
 use crate::edit::Policy;
 use crate::laws::{entry_reads, head_reads};
+use crate::session::judged::Judged;
 use crate::session::names::{number_of, set_policy};
 use crate::session::parts::Parts;
 use crate::session::room::put_at;
@@ -65,14 +66,14 @@ fn judged_row(
     row: &Option<Row>,
     policies: &[Policy],
     given: Option<Policy>,
-    judged: &mut Vec<u32>,
+    judged: &mut Judged,
 ) -> Result<Option<Row>, AllocError>
     requires entry { IsSome entry.now }
     requires row { IsSome row.now }
     requires below { IfSome row.now (λ row. row.name < length policies.now) }
     ensures row { IfOk result (λ new. new ≡ row_anew judge.now.environment.now judge.now.tags.now
         (policy_for given policies.now) entry.now row.now) }
-    ensures judged { OnOk result (judged.new.items ≡ judged.old.items ++ number ∷ []) }
+    ensures judged { OnOk result (judged.new ≡ judged.old ++ number ∷ []) }
 {
     match (entry, row) {
         (Some(entry), Some(row)) => {
@@ -95,7 +96,7 @@ fn again(
     parts: &Parts,
     numbers: &[u32],
     given: Option<Policy>,
-    judged: &mut Vec<u32>,
+    judged: &mut Judged,
 ) -> Result<Vec<Fresh>, AllocError>
     requires session { IsSession parts.now }
     requires stand { AllStand parts.now.entries.items numbers.now }
@@ -103,7 +104,7 @@ fn again(
         ≡ map (fresh_row judge.now.environment.now judge.now.tags.now
         (policy_for given parts.now.names.policies.items)
         parts.now.entries.items parts.now.rows.items) numbers.now) }
-    ensures judged { OnOk result (judged.new.items ≡ judged.old.items ++ numbers.now) }
+    ensures judged { OnOk result (judged.new ≡ judged.old ++ numbers.now) }
 {
     let mut fresh = Vec::with_capacity(judge.alloc, numbers.len())?;
     for number in numbers {
@@ -157,12 +158,12 @@ fn head_again(
     judge: &Judge,
     head: &Head,
     reads: bool,
-    judged: &mut Vec<u32>,
+    judged: &mut Judged,
 ) -> Result<Option<HeadVerdict>, AllocError>
     ensures verdict { IfOk result (λ verdict. verdict
         ≡ (if reads then Some (head_fault head.now judge.now.environment.now) else None)) }
-    ensures judged { OnOk result (judged.new.items
-        ≡ judged.old.items ++ (if reads then 0 ∷ [] else [])) }
+    ensures judged { OnOk result (judged.new
+        ≡ judged.old ++ (if reads then 0 ∷ [] else [])) }
 {
     if reads {
         return Ok(Some(judge.head(head, judged)?));
@@ -184,7 +185,7 @@ fn judge_key(
     parts: &Parts,
     environment: &Environment,
     key: Key,
-    judged: &mut Vec<u32>,
+    judged: &mut Judged,
 ) -> Result<(Option<HeadVerdict>, Vec<Fresh>), AllocError>
     requires { IsSession parts.now }
     ensures head { IfOk result (λ fresh. fresh.0
@@ -193,8 +194,8 @@ fn judge_key(
     ensures rows { IfOk result (λ fresh. fresh.1.items
         ≡ rows_anew parts.now (entry_reads (Marked key)) environment.now parts.now.tags
         (policy_at parts.now.names.policies.items)) }
-    ensures judged { OnOk result (judged.new.items
-        ≡ judged.old.items ++ readers (Marked key) (state_of parts.now)) }
+    ensures judged { OnOk result (judged.new
+        ≡ judged.old ++ readers (Marked key) (state_of parts.now)) }
 {
     let judge = Judge {
         alloc: parts.alloc,
@@ -211,13 +212,13 @@ fn judge_key(
 fn judge_tags(
     parts: &Parts,
     tags: &TagList,
-    judged: &mut Vec<u32>,
+    judged: &mut Judged,
 ) -> Result<Vec<Fresh>, AllocError>
     requires { IsSession parts.now }
     ensures rows { IfOk result (λ fresh. fresh.items ≡ rows_anew parts.now (entry_reads OfTags)
         parts.now.environment tags.now (policy_at parts.now.names.policies.items)) }
-    ensures judged { OnOk result (judged.new.items
-        ≡ judged.old.items ++ readers OfTags (state_of parts.now)) }
+    ensures judged { OnOk result (judged.new
+        ≡ judged.old ++ readers OfTags (state_of parts.now)) }
 {
     let judge = Judge {
         alloc: parts.alloc,
@@ -232,7 +233,7 @@ fn judge_name(
     parts: &Parts,
     number: usize,
     policy: Policy,
-    judged: &mut Vec<u32>,
+    judged: &mut Judged,
 ) -> Result<Vec<Fresh>, AllocError>
     requires session { IsSession parts.now }
     requires within { number < length parts.now.names.policies.items }
@@ -242,8 +243,8 @@ fn judge_name(
         ≡ map (fresh_row parts.now.environment parts.now.tags (λ name. policy)
         parts.now.entries.items parts.now.rows.items)
         (list_at parts.now.names.members.items number)) }
-    ensures judged { OnOk result (judged.new.items
-        ≡ judged.old.items ++ list_at parts.now.names.members.items number) }
+    ensures judged { OnOk result (judged.new
+        ≡ judged.old ++ list_at parts.now.names.members.items number) }
 {
     let judge = Judge {
         alloc: parts.alloc,
@@ -260,7 +261,7 @@ pub(crate) fn change_environment(
     parts: &mut Parts,
     environment: Environment,
     key: Key,
-    judged: &mut Vec<u32>,
+    judged: &mut Judged,
 ) -> Result<Environment, AllocError>
     requires session { IsSession parts.old }
     requires spare { parts.old.spare ≡ None }
@@ -269,8 +270,8 @@ pub(crate) fn change_environment(
     ensures ok { OnOk result (state_of parts.new
         ≡ in_environment environment (state_of parts.old)) }
     ensures back { IfOk result (λ back. back ≡ parts.old.environment) }
-    ensures judged { OnOk result (judged.new.items
-        ≡ judged.old.items ++ readers (Marked key) (state_of parts.old)) }
+    ensures judged { OnOk result (judged.new
+        ≡ judged.old ++ readers (Marked key) (state_of parts.old)) }
     ensures err { OnErr result (shown parts.new ≡ shown parts.old) }
 {
     entry_reads();
@@ -286,13 +287,13 @@ pub(crate) fn change_environment(
 pub(crate) fn change_tags(
     parts: &mut Parts,
     tags: TagList,
-    judged: &mut Vec<u32>,
+    judged: &mut Judged,
 ) -> Result<(), AllocError>
     requires { IsSession parts.old }
     ensures session { IsSession parts.new }
     ensures ok { OnOk result (state_of parts.new ≡ record (state_of parts.old) { tags = tags }) }
-    ensures judged { OnOk result (judged.new.items
-        ≡ judged.old.items ++ readers OfTags (state_of parts.old)) }
+    ensures judged { OnOk result (judged.new
+        ≡ judged.old ++ readers OfTags (state_of parts.old)) }
     ensures err { OnErr result (shown parts.new ≡ shown parts.old) }
 {
     entry_reads();
@@ -308,14 +309,14 @@ pub(crate) fn change_policy(
     parts: &mut Parts,
     name: &str,
     policy: Policy,
-    judged: &mut Vec<u32>,
+    judged: &mut Judged,
 ) -> Result<(), AllocError>
     requires { IsSession parts.old }
     ensures session { IsSession parts.new }
     ensures ok { OnOk result (state_of parts.new
         ≡ record (state_of parts.old)
         { policies = with_policy (policies_in parts.old.names) name.now policy }) }
-    ensures judged { OnOk result (judged.new.items ≡ judged.old.items
+    ensures judged { OnOk result (judged.new ≡ judged.old
         ++ numbers_where (λ entry. bytes_eq name.now entry.name) (state_of parts.old).entries) }
     ensures err { OnErr result (shown parts.new ≡ shown parts.old) }
 {

@@ -1,6 +1,6 @@
 //! The names of a session: each has a number, and by the number its policy and its entries.
 
-ghost use Rattle.std.specs.Prelude.{◌≡◌, ℕ, ◌<◌, nat_eq, not, List, Some, None, IfOk, IfSome};
+ghost use Rattle.std.specs.Prelude.{◌≡◌, ℕ, ◌<◌, nat_eq, not, List, [], Some, None, IfOk, IfSome};
 ghost use Rattle.std.specs.Prelude.{OnOk, OnErr, IsSome, IsTrue, length, slice_set, string_bytes};
 ghost use Rattle.std.specs.Prelude.{if◌then◌else◌};
 ghost use Rattle.std.specs.BTreeMap.{Updates, get_by_text};
@@ -17,7 +17,6 @@ use crate::session::index::{change, reserve_one};
 use crate::session::room::push_within;
 use std::alloc::{AllocError, Global};
 use std::collections::BTreeMap;
-use std::collections::btree_map::Entry;
 
 /// The names that an entry or a policy ever had. Equal names have one number.
 pub(crate) struct Names {
@@ -38,29 +37,36 @@ impl Drop for Names {
     }
 }
 
-/// Gives the name this number where it has none, and answers the number that it had.
+impl Names {
+    /// None yet, with room for so many.
+    pub(crate) fn with_capacity(alloc: Global, room: usize) -> Result<Names, AllocError>
+        ensures numbers { IfOk result (λ names. names.numbers.entries ≡ []) }
+        ensures policies { IfOk result (λ names. names.policies.items ≡ []) }
+        ensures members { IfOk result (λ names. names.members.items ≡ []) }
+    {
+        Ok(Names {
+            numbers: BTreeMap::new(alloc),
+            policies: Vec::with_capacity(alloc, room)?,
+            members: Vec::with_capacity(alloc, room)?,
+        })
+    }
+}
+
+/// Gives the name this number.
 fn give_number(
     numbers: &mut BTreeMap<String, usize>,
     name: String,
     number: usize,
-) -> Result<Option<usize>, AllocError>
-    ensures had { IfOk result (λ had. had ≡ get_by_text numbers.old (string_bytes name)) }
-    ensures given { IfOk result (λ had. had ≡ None
-        → Updates string_cmp numbers.old numbers.new name (Some number)) }
-    ensures known { IfOk result (λ had. IsSome had → numbers.new.entries ≡ numbers.old.entries) }
+) -> Result<(), AllocError>
+    ensures given { OnOk result (Updates string_cmp numbers.old numbers.new name (Some number)) }
     ensures err { OnErr result (numbers.new.entries ≡ numbers.old.entries) }
 {
-    match numbers.entry(name)? {
-        Entry::Occupied(entry) => Ok(Some(*entry.get())),
-        Entry::Vacant(entry) => {
-            entry.insert(number);
-            Ok(None)
-        }
-    }
+    numbers.insert(name, number)?;
+    Ok(())
 }
 
 /// The number of the name, which gets one here where it has none. Where there is no memory for it,
-/// all stays but for room.
+/// all stays but for room. A name that has one takes no memory.
 pub(crate) fn number_of(alloc: Global, names: &mut Names, name: &str) -> Result<usize, AllocError>
     requires { IsNames names.old }
     ensures found { IfOk result (λ number. number_named names.new name.now ≡ Some number) }
@@ -70,13 +76,14 @@ pub(crate) fn number_of(alloc: Global, names: &mut Names, name: &str) -> Result<
     ensures policies { policies_in names.new ≡ policies_in names.old }
     ensures is { IsNames names.new }
 {
+    if let Some(known) = names.numbers.get(name) {
+        return Ok(*known);
+    }
     let number = names.policies.len();
     names.policies.reserve(1)?;
     names.members.reserve(1)?;
     let key = String::from_str(alloc, name)?;
-    if let Some(known) = give_number(&mut names.numbers, key, number)? {
-        return Ok(known);
-    }
+    give_number(&mut names.numbers, key, number)?;
     push_within(&mut names.policies, Policy::Any);
     push_within(&mut names.members, Vec::new(alloc));
     Ok(number)

@@ -14,6 +14,7 @@ ghost use Rattle.pylock_core.specs.Session.Steps.{answer};
 
 use crate::answer::Answer;
 use crate::session::index::{Lists, change_each, entry_keys, keys_at, reserve_each};
+use crate::session::judged::Judged;
 use crate::session::names::{Names, move_member, number_of, reserve_member};
 use crate::session::pass::answer_of;
 use crate::session::room::{push_within, put_at};
@@ -28,7 +29,7 @@ use std::alloc::{AllocError, Global};
 pub(crate) struct Parts {
     pub(crate) alloc: Global,
     /// The numbers that the last accepted edit judged.
-    pub(crate) judged: Vec<u32>,
+    pub(crate) judged: Judged,
     /// The numbers of what reads each key, 0 for the head.
     pub(crate) index: Lists,
     /// The row of the entry of number k stands at place k - 1.
@@ -97,13 +98,13 @@ fn make_row(
     parts: &mut Parts,
     number: u32,
     entry: &Entry,
-    judged: &mut Vec<u32>,
+    judged: &mut Judged,
 ) -> Result<Row, AllocError>
     requires { IsSession parts.old }
     ensures named { IfOk result (λ row. IsNamed parts.new.names entry.now row) }
     ensures judged { IfOk result (λ row. IsJudged
         parts.new.environment parts.new.tags parts.new.names.policies.items entry.now row) }
-    ensures count { OnOk result (judged.new.items ≡ judged.old.items ++ number ∷ []) }
+    ensures count { OnOk result (judged.new ≡ judged.old ++ number ∷ []) }
     ensures session { IsSession parts.new }
     ensures shown { shown parts.new ≡ shown parts.old }
     ensures entries { parts.new.entries.items ≡ parts.old.entries.items }
@@ -128,7 +129,7 @@ fn prepare(
     parts: &mut Parts,
     number: u32,
     entry: &Entry,
-    judged: &mut Vec<u32>,
+    judged: &mut Judged,
 ) -> Result<Row, AllocError>
     requires { IsSession parts.old }
     ensures named { IfOk result (λ row. IsNamed parts.new.names entry.now row) }
@@ -137,7 +138,7 @@ fn prepare(
     ensures index { OnOk result
         (HaveRoom parts.new.index (map (λ key. entry_reads key entry.now) keys) 0) }
     ensures name { IfOk result (λ row. HasRoom parts.new.names row.name) }
-    ensures count { OnOk result (judged.new.items ≡ judged.old.items ++ number ∷ []) }
+    ensures count { OnOk result (judged.new ≡ judged.old ++ number ∷ []) }
     ensures session { IsSession parts.new }
     ensures shown { shown parts.new ≡ shown parts.old }
     ensures entries { parts.new.entries.items ≡ parts.old.entries.items }
@@ -185,13 +186,13 @@ fn write_at(parts: &mut Parts, place: usize, row: Option<Row>, entry: Option<Ent
 
 /// Adds the entry after all others, with the next number. Where there is no memory for it, all that
 /// is shown stays.
-pub(crate) fn add(parts: &mut Parts, entry: Entry, judged: &mut Vec<u32>) -> Result<(), AllocError>
+pub(crate) fn add(parts: &mut Parts, entry: Entry, judged: &mut Judged) -> Result<(), AllocError>
     requires session { IsSession parts.old }
     requires room { length parts.old.entries.items < 100000 }
     ensures session { IsSession parts.new }
     ensures ok { OnOk result (with_next entry (state_of parts.old) ≡ Ok (state_of parts.new)) }
-    ensures judged { OnOk result (judged.new.items
-        ≡ judged.old.items ++ (length parts.old.entries.items + 1) ∷ []) }
+    ensures judged { OnOk result (judged.new
+        ≡ judged.old ++ (length parts.old.entries.items + 1) ∷ []) }
     ensures err { OnErr result (shown parts.new ≡ shown parts.old) }
 {
     let place = parts.entries.len();
@@ -210,7 +211,7 @@ pub(crate) fn put(
     parts: &mut Parts,
     place: usize,
     entry: Entry,
-    judged: &mut Vec<u32>,
+    judged: &mut Judged,
 ) -> Result<(), AllocError>
     requires session { IsSession parts.old }
     requires there { IsSome (slice_index_or parts.old.entries.items place None) }
@@ -219,7 +220,7 @@ pub(crate) fn put(
         ≡ record (state_of parts.old) {
           entries = with_entry (place + 1) entry (state_of parts.old).entries;
         }) }
-    ensures judged { OnOk result (judged.new.items ≡ judged.old.items ++ (place + 1) ∷ []) }
+    ensures judged { OnOk result (judged.new ≡ judged.old ++ (place + 1) ∷ []) }
     ensures err { OnErr result (shown parts.new ≡ shown parts.old) }
 {
     let row = prepare(parts, place as u32 + 1, &entry, judged)?;

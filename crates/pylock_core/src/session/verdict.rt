@@ -11,6 +11,7 @@ ghost use Rattle.pylock_core.specs.declared.answer.Standing.TheVariants.{Skipped
 
 use crate::answer::{FaultCode, Standing};
 use crate::edit::Policy;
+use crate::session::judged::Judged;
 use pylock_readers::{Entry, Head};
 use pymark_core::{Environment, EvalFault, Marker, Var};
 use pyver_core::SpecifierSet;
@@ -89,11 +90,11 @@ impl<'a> Judge<'a> {
         number: u32,
         entry: &Entry,
         policy: Policy,
-        judged: &mut Vec<u32>,
+        judged: &mut Judged,
     ) -> Result<Verdict, AllocError>
         ensures verdict { IfOk result (λ verdict. verdict
             ≡ verdict_of entry.now self.now.environment.now self.now.tags.now policy) }
-        ensures judged { OnOk result (judged.new.items ≡ judged.old.items ++ number ∷ []) }
+        ensures judged { OnOk result (judged.new ≡ judged.old ++ number ∷ []) }
     {
         judged.push(number)?;
         let standing = standing(self.alloc, entry, self.environment)?;
@@ -102,10 +103,10 @@ impl<'a> Judge<'a> {
     }
 
     /// Judges the head, whose number is 0.
-    pub(crate) fn head(&self, head: &Head, judged: &mut Vec<u32>) -> Result<HeadVerdict, AllocError>
+    pub(crate) fn head(&self, head: &Head, judged: &mut Judged) -> Result<HeadVerdict, AllocError>
         ensures verdict { IfOk result (λ verdict. verdict
             ≡ head_fault head.now self.now.environment.now) }
-        ensures judged { OnOk result (judged.new.items ≡ judged.old.items ++ 0 ∷ []) }
+        ensures judged { OnOk result (judged.new ≡ judged.old ++ 0 ∷ []) }
     {
         judged.push(0)?;
         let fault = head_fault(self.alloc, head, self.environment)?;

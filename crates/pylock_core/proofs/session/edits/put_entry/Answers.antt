@@ -11,4 +11,4 @@ returns-clause-ok c =
     (c.in_ok-put.ensures.ok ∙ ap (λ n. record state { entries = with_entry n c.args.entry state.entries }) (sym c.in-Some.ensures.place))
 
 pub returns-clause-judged : goal.returns-clause-judged
-returns-clause-judged c = c.in_ok-put.ensures.judged ∙ ap (λ n. c.args.judged.now.items ++ n ∷ []) (sym c.in-Some.ensures.place)
+returns-clause-judged c = c.in_ok-put.ensures.judged ∙ ap (λ n. c.args.judged.now ++ n ∷ []) (sym c.in-Some.ensures.place)

@@ -8,5 +8,5 @@ invariant-loop-number l =
     let anew = fresh_row l.judge.environment.now l.judge.tags.now (policy_for l.given l.parts.names.policies.items) l.parts.entries.items l.parts.rows.items in
     record {
       fresh : l.fresh.items ++ map anew (drop l.number-index l.numbers) ≡ map anew l.numbers;
-      judged : l.judged.items ++ drop l.number-index l.numbers ≡ l.fn.judged.items ++ l.numbers;
+      judged : l.judged ++ drop l.number-index l.numbers ≡ l.fn.judged ++ l.numbers;
     }

@@ -28,5 +28,5 @@ returns-clause-judged c =
     let both = readers_both c.args.parts.now (Marked c.args.key) c.key_number.result _ c.as_slice-numbers.result.now c.requires c.key_number.ensures.value c.key_number.ensures.bound c.as_slice-numbers.ensures.value in
     let head = c.has_head.ensures ∙ both.0 in
     let entries = c.after_head.ensures ∙ both.1 in
-    judged_both c.args.judged.now.items _ _ _ c.has_head.result c.in_ok-verdict.ensures.judged c.in_ok-fresh.ensures.judged
-    ∙ (λ i. c.args.judged.now.items ++ and_head (head i) (entries i))
+    judged_both c.args.judged.now _ _ _ c.has_head.result c.in_ok-verdict.ensures.judged c.in_ok-fresh.ensures.judged
+    ∙ (λ i. c.args.judged.now ++ and_head (head i) (entries i))

@@ -1,4 +1,4 @@
-use Rattle.std.proofs.Common.{rules, ◌≡◌, Some, None, ◌∙◌, ◌++◌, ◌∷◌, [], ap, cond, string_bytes, length}
+use Rattle.std.proofs.Common.{rules, ◌≡◌, Some, ◌∙◌, ◌++◌, ◌∷◌, [], ap, cond, string_bytes, length}
 use Rattle.std.specs.Str.{bytes_eq}
 use Rattle.std.proofs.lemmas.Map.Text.{btree_map_updates_text}
 use Rattle.pylock_core.specs.Inner.Names.{number_named}
@@ -12,8 +12,7 @@ grown c =
     let old = c.args.names.now in
     let name = c.args.name.now in
     let number : c.len-number.result ≡ length old.policies.items = c.len-number.ensures ∙ old.policies.ok.0 in
-    let had : c.in_ok-known.field-0 ≡ None = search rules in
-    let updated = btree_map_updates_text (string_bytes c.in_ok-key.key) old.numbers c.give_number.new.numbers _ (c.in_ok-known.ensures.given had) in
+    let updated = btree_map_updates_text (string_bytes c.in_ok-key.key) old.numbers c.give_number.new.numbers _ c.in_ok-give_number.ensures.given in
     record {
       numbers = gains (number_named old) _ name (length old.policies.items) (λ q. updated q ∙ ap (λ key. cond (bytes_eq key q) (Some c.len-number.result) (number_named old q)) c.in_ok-key.ensures.ok ∙ ap (λ n. cond (bytes_eq name q) (Some n) (number_named old q)) number);
       absent = search rules;

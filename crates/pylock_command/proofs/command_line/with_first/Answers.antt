@@ -1,0 +1,10 @@
+use Rattle.std.proofs.Common.{ap, codes, ◌∙◌}
+use Rattle.pylock_command.specs.CommandLine.{with_one, with_two}
+use Rattle.pylock_command.proofs.ClapLemmas.{added-to}
+use Rattle.pylock_command.proofs.command_line.with_first.Goals as goal
+
+pub returns : goal.returns
+returns c =
+    let version = c.in_ok-pylock-2.ensures ∙ ap (λ app. with_one app (codes "version") (codes "TEXT")) c.in_ok-pylock.ensures in
+    let matches = c.in_ok-pylock-3.ensures ∙ ap (λ app. with_two app (codes "match") (codes "SET") (codes "VERSION")) version in
+    added-to _ (λ app. with_one app (codes "name") (codes "TEXT")) _ _ matches c.with_one_text-2.ensures

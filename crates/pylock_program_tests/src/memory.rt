@@ -1,0 +1,61 @@
+//! Runs one after another, whose memory `tools/program` measures: a run gives that of its session
+//! back, and a run that leaves its session doesn't.
+
+use crate::check::{ENVIRONMENT, HEAD};
+use pylock_program::{Pieces, Room, RunFault, run, run_leaving};
+use std::alloc::{AllocError, Global};
+use std::process::Abort;
+use std::test::Fail;
+
+/// A lock of 1,000 entries.
+fn lock(alloc: Global) -> Result<String, AllocError> {
+    let mut lock = String::from_str(alloc, HEAD)?;
+    lock.push_str("packages = [")?;
+    for _ in 0..1_000 {
+        lock.push_str("{name=\"a\", marker=\"'a' == 'b'\"},")?;
+    }
+    lock.push_str("]\n")?;
+    Ok(lock)
+}
+
+/// What a run over no input answers.
+fn answer(alloc: Global, lock: &[u8], leaves: bool) -> Result<Result<u8, RunFault>, AllocError> {
+    let mut room = Room::new(alloc, 100, 100, None)?;
+    let mut reader = Pieces::new(b"", 1, None);
+    let environment = ENVIRONMENT.as_bytes();
+    if leaves {
+        Ok(run_leaving(alloc, lock, environment, &mut reader, &mut room))
+    } else {
+        Ok(run(alloc, lock, environment, &mut reader, &mut room))
+    }
+}
+
+fn check_runs<R: Abort + AllocGlobal>(
+    rt: &R,
+    lock: &[u8],
+    times: usize,
+    leaves: bool,
+) -> Result<(), AllocError> {
+    for _ in 0..times {
+        assert_eq!(rt; answer(rt.alloc(), lock, leaves)?, Ok(0));
+    }
+    Ok(())
+}
+
+#[test]
+fn one_run(rt: HostRuntime) -> Result<(), Fail> {
+    let lock = lock(rt.alloc())?;
+    check_runs(&rt, lock.as_bytes(), 1, false).map_err(Fail::from)
+}
+
+#[test]
+fn a_hundred_runs(rt: HostRuntime) -> Result<(), Fail> {
+    let lock = lock(rt.alloc())?;
+    check_runs(&rt, lock.as_bytes(), 100, false).map_err(Fail::from)
+}
+
+#[test]
+fn a_hundred_runs_that_leave_their_sessions(rt: HostRuntime) -> Result<(), Fail> {
+    let lock = lock(rt.alloc())?;
+    check_runs(&rt, lock.as_bytes(), 100, true).map_err(Fail::from)
+}
