@@ -12,8 +12,8 @@ const PIECE: usize = 65_536;
 /// The lengths of the pieces that the input of a case with the key `cut` is given in too.
 const PIECES: [usize; 5] = [1, 2, 3, 65_535, 65_536];
 
-/// What the run prints, and its status; no more than `brief` says where the case has that key. A run
-/// that leaves its session as it is has to end alike; and where the case has the key `cut`, one
+/// What the run prints, and its status; no more than `brief` says where the case has that key. A
+/// run that leaves its session as it is has to end alike; and where the case has the key `cut`, one
 /// with its input in pieces and its text byte by byte.
 pub(crate) fn tell(alloc: Global, case: &Table) -> anyhow::Result<String> {
     let inputs = inputs(alloc, case)?;

@@ -28,7 +28,8 @@ fn items(alloc: Global, specifiers: &[Specifier]) -> Result<String, AllocError> 
     Ok(items)
 }
 
-/// How many specifiers the long `set` has, and what is to be seen of its text; or why it is refused.
+/// How many specifiers the long `set` has, and what is to be seen of its text; or why it is
+/// refused.
 pub(crate) fn measure(alloc: Global, case: &Table) -> anyhow::Result<String> {
     let text = text(alloc, case, "set")?;
     match SpecifierSet::parse(alloc, text.as_str()) {

@@ -1,6 +1,6 @@
-//! What texts can't show of versions, their order, specifiers and sets of them, and names: values made
-//! from parts, hashing, the words of errors, and growths. The cases of texts stand in the data of
-//! `grammar_cases`.
+//! What texts can't show of versions, their order, specifiers and sets of them, and names: values
+//! made from parts, hashing, the words of errors, and growths. The cases of texts stand in the data
+//! of `grammar_cases`.
 #![tactic(auto)]
 
 #[cfg(test)]

@@ -209,11 +209,7 @@ fn judge_key(
 }
 
 /// Judges again the entries that have wheels, by these tags.
-fn judge_tags(
-    parts: &Parts,
-    tags: &TagList,
-    judged: &mut Judged,
-) -> Result<Vec<Fresh>, AllocError>
+fn judge_tags(parts: &Parts, tags: &TagList, judged: &mut Judged) -> Result<Vec<Fresh>, AllocError>
     requires { IsSession parts.now }
     ensures rows { IfOk result (λ fresh. fresh.items ≡ rows_anew parts.now (entry_reads OfTags)
         parts.now.environment tags.now (policy_at parts.now.names.policies.items)) }
