@@ -2,6 +2,7 @@ pub mod Best
 pub mod Choosing
 pub mod Counting
 pub mod Cuts
+pub mod Firsts
 pub mod Listing
 pub mod Lowering
 pub mod Memory
@@ -10,3 +11,4 @@ pub mod Naming
 pub mod NamingParts
 pub mod Pieces
 pub mod Versions
+pub mod WheelTags

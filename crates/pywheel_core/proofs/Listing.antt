@@ -40,7 +40,7 @@ tag_made text t x =
 
 -- ---- lists
 
-with_tag_distinct : (tags : List TagValue) (t : TagValue) → IsDistinct tag_eq tags → IsDistinct tag_eq (with_tag tags t)
+pub with_tag_distinct : (tags : List TagValue) (t : TagValue) → IsDistinct tag_eq tags → IsDistinct tag_eq (with_tag tags t)
 with_tag_distinct tags t d = elim (sight (list_any (tag_eq t) tags)) [
   | inl e ↦ rw e d
   | inr e ↦ rw e (IsDistinct-push tag_equiv tags t d e)

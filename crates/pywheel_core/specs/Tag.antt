@@ -1,10 +1,10 @@
 -- Tags of wheels (PEP 425, "Details"), and lists of tags in the order of preference ("Use").
-use Rattle.std.specs.Prelude.{◌≡◌, ℕ, ◌*◌, suc, Bool, true, ◌==◌, ◌&&◌, ◌||◌, nat_le, nat_lt}
+use Rattle.std.specs.Prelude.{◌≡◌, ℕ, ◌*◌, suc, ◌<◌, Bool, true, ◌==◌, ◌&&◌, ◌||◌, nat_le, nat_lt}
 use Rattle.std.specs.Prelude.{nat_eq, if◌then◌else◌, List, [], ◌∷◌, ◌++◌, length, map, Option}
 use Rattle.std.specs.Prelude.{ok_or, position, Result, Ok, Err}
 use Rattle.std.specs.Char.{is_ascii_alphanumeric}
 use Rattle.std.specs.Cmp.Lexicographic.{pointwise}
-use Rattle.std.specs.List.{flat_map, list_all, list_any}
+use Rattle.std.specs.List.{IsDistinct, flat_map, list_all, list_any, position_or_len}
 use Rattle.std.specs.Str.{str_to_ascii_lowercase}
 use Rattle.pyver_core.specs.Results.{◌>>=◌}
 use Rattle.pywheel_core.specs.Texts.{pieces_at, three_parts}
@@ -87,6 +87,36 @@ tags_after tags place (text ∷ texts) =
 -- that is no tag, counted from 1
 unfoldable pub tags_of : List (List ℕ) → Result (List TagValue) TagListError
 tags_of texts = tags_after [] 1 texts
+
+-- ---- what determines that answer: the law `tags_of_is_the_answer`
+
+-- whether a tag is among some tags, and the place where it stands first
+abbrev pub is_among : TagValue → List TagValue → Bool
+is_among t tags = list_any (tag_eq t) tags
+
+abbrev pub first_place : TagValue → List TagValue → ℕ
+first_place t tags = position_or_len (tag_eq t) tags
+
+-- the tags that are given, each once, in the order of their first places
+pub record AreFirsts (given tags : List TagValue) : Type 0 where
+  pub distinct : IsDistinct tag_eq tags
+  pub same : (t : TagValue) → is_among t tags ≡ is_among t given
+  pub ordered : (a b : TagValue) → is_among a tags ≡ true → is_among b tags ≡ true
+      → first_place a tags < first_place b tags → first_place a given < first_place b given
+
+-- each text is the tag that stands at its place
+abbrev pub AreTags : List (List ℕ) → List TagValue → Type 0
+AreTags texts given = map tag_of texts ≡ map (λ t. Ok t) given
+
+-- the text at this place, counted from 1, is the first that is no tag
+pub record IsNoTag (texts : List (List ℕ)) (place : ℕ) : Type 0 where
+  pub before : List (List ℕ)
+  pub text : List ℕ
+  pub after : List (List ℕ)
+  pub whole : texts ≡ before ++ text ∷ after
+  pub counted : place ≡ suc (length before)
+  pub tags : (given : List TagValue) × AreTags before given
+  pub none : tag_of text ≡ Err tag.Shape
 
 -- ---- compressed tag sets (PEP 425, "Compressed Tag Sets")
 

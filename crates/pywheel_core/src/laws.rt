@@ -4,9 +4,10 @@ ghost use Rattle.std.specs.Prelude.{◌≡◌, ◌∷◌, ℕ, List, Option, Som
 ghost use Rattle.std.specs.List.{IsDistinct};
 ghost use Rattle.pyver_core.specs.Version.Parts.{Parts};
 ghost use Rattle.pywheel_core.specs.Choice.{IsBest, best};
-ghost use Rattle.pywheel_core.specs.Tag.{TagText, TagValue, rank_of, tag_eq, tag_of, tags_of};
+ghost use Rattle.pywheel_core.specs.Tag.{AreFirsts, AreTags, IsNoTag, TagText, TagValue, rank_of};
+ghost use Rattle.pywheel_core.specs.Tag.{tag_eq, tag_of, tags_of};
 ghost use Rattle.pywheel_core.specs.Wheel.Grammar.{Wheel};
-ghost use Rattle.pywheel_core.specs.Wheel.Reading.{wheel_of};
+ghost use Rattle.pywheel_core.specs.Wheel.Reading.{set_tags_in, wheel_of};
 ghost use Rattle.pywheel_core.specs.Wheel.Value.{WheelValue};
 
 use crate::{TagError, TagListError, WheelError};
@@ -21,6 +22,15 @@ pub fn tag_of_is_the_answer()
 pub fn tags_are_distinct()
     ensures { (texts : List (List ℕ)) (tags : List TagValue)
         → tags_of texts ≡ Ok tags → IsDistinct tag_eq tags }
+{}
+
+/// What [`TagList::parse`](crate::TagList::parse) answers: the tags of the texts, each once, in the
+/// order of their first places; or the place of the first text that is no tag.
+pub fn tags_of_is_the_answer()
+    ensures tags { (texts : List (List ℕ)) (tags : List TagValue) → tags_of texts ≡ Ok tags
+        → (given : List TagValue) × AreTags texts given × AreFirsts given tags }
+    ensures refused { (texts : List (List ℕ)) (place : ℕ)
+        → tags_of texts ≡ Err (TagListError.Tag place) → IsNoTag texts place }
 {}
 
 /// The tag of the first text has the rank 0.
@@ -55,6 +65,12 @@ pub fn wheel_of_is_complete()
           tag_set = set;
           tags = tags;
         })) }
+{}
+
+/// The tags of a wheel are those for which its compressed tag set stands.
+pub fn tag_set_has_the_tags()
+    ensures { (text : List ℕ) (w : WheelValue)
+        → wheel_of text ≡ Ok w → set_tags_in w.tag_set ≡ Ok w.tags }
 {}
 
 /// The reading of a tag, of a list of tags or of the name of a wheel is never want of memory: only
