@@ -4,7 +4,8 @@ ghost use Rattle.std.specs.Prelude.{◌≡◌, IfOk, Result, string_bytes};
 ghost use Rattle.pyver_core.specs.Agreement.{Gives};
 ghost use Rattle.pyver_core.specs.Name.{norm};
 ghost use Rattle.pymark_core.specs.Environment.{has_extra, has_group};
-ghost use Rattle.pymark_core.specs.Inner.Compared.{IsRead, left_operand, right_operand};
+ghost use Rattle.pymark_core.specs.Inner.Compared.{IsRead, ReadsAs, comparator_of, left_operand};
+ghost use Rattle.pymark_core.specs.Inner.Compared.{right_of, right_operand};
 ghost use Rattle.pymark_core.specs.Marker.Value.{comparison_value, is_in, is_substring};
 ghost use Rattle.pymark_core.specs.Marker.Value.{operand_text, operator_value, text_value};
 ghost use Rattle.pymark_core.specs.Marker.Value.{texts_value};
@@ -25,8 +26,7 @@ use std::marker::Model;
 /// Contracts see the operands and the operator, since what the texts read as follows from them.
 pub(crate) struct Comparison {
     left: Left,
-    comparator: Comparator,
-    right: Right,
+    test: Test,
 }
 
 /// What stands left of an operator.
@@ -40,13 +40,19 @@ enum Left {
     Groups,
 }
 
-/// What stands right of an operator.
+/// An operator, and what stands right of it.
+#[derive(Drop)]
+enum Test {
+    By(Operator, Right),
+    In(Operand),
+    NotIn(Operand),
+}
+
+/// What stands right of an operator of specifiers.
 #[derive(Drop)]
 enum Right {
-    /// A quoted text behind `in` or `not in`.
-    Text(Label),
-    /// A quoted text behind an operator of specifiers, with what it reads as there.
-    Operand(Label, Result<Specifier, SpecifierError>),
+    /// A quoted text, with what it reads as there.
+    Text(Label, Result<Specifier, SpecifierError>),
     Variable(Var),
     Extra,
     Extras,
@@ -55,17 +61,18 @@ enum Right {
 
 impl Model for Comparison {
     ghost use Rattle.pymark_core.specs.Marker.Comparison.{ComparisonValue};
-    ghost use Rattle.pymark_core.specs.Inner.Compared.{IsRead, left_operand, right_operand};
+    ghost use Rattle.pymark_core.specs.Inner.Compared.{IsRead, comparator_of, left_operand};
+    ghost use Rattle.pymark_core.specs.Inner.Compared.{right_of};
 
     ghost Value = { ComparisonValue };
 
     ghost view = { λ a. record {
       left = left_operand a.left;
-      comparator = a.comparator;
-      right = right_operand a.right;
+      comparator = comparator_of a.test;
+      right = right_of a.test;
     } };
 
-    ghost invariant = { λ a. IsRead a.comparator a.right };
+    ghost invariant = { λ a. IsRead a.test };
 }
 
 impl Comparison {
@@ -84,8 +91,7 @@ impl Comparison {
     {
         Ok(Comparison {
             left: read_left(alloc, left, &right)?,
-            comparator,
-            right: read_right(alloc, comparator, right)?,
+            test: read_test(alloc, comparator, right)?,
         })
     }
 
@@ -100,23 +106,17 @@ impl Comparison {
             (comparison_value environment.now self.now) }
     {
         let left = candidate_in(&self.left, environment)?;
-        match self.comparator {
-            Comparator::By(operator) => {
-                value_by(alloc, environment, left, operator, &self.right)
-            }
-            Comparator::In => has_in(alloc, environment, left, &self.right),
-            Comparator::NotIn => Ok(!has_in(alloc, environment, left, &self.right)?),
+        match &self.test {
+            Test::By(operator, right) => value_by(alloc, environment, left, *operator, right),
+            Test::In(right) => has_in(alloc, environment, left, right),
+            Test::NotIn(right) => Ok(!has_in(alloc, environment, left, right)?),
         }
     }
 }
 
 impl Drop for Comparison {
     fn drop(self) {
-        let Comparison {
-            left: _,
-            comparator: _,
-            right: _,
-        } = self;
+        let Comparison { left: _, test: _ } = self;
     }
 }
 
@@ -143,19 +143,29 @@ fn read_text(alloc: Global, text: String, right: &Operand) -> Result<Candidate, 
     }
 }
 
+/// The operator with the operand right of it.
+fn read_test(alloc: Global, comparator: Comparator, right: Operand) -> Result<Test, AllocError>
+    ensures comparator { IfOk result (λ test. comparator_of test ≡ comparator) }
+    ensures right { IfOk result (λ test. right_of test ≡ right) }
+    ensures read { IfOk result (λ test. IsRead test) }
+{
+    Ok(match comparator {
+        Comparator::By(operator) => Test::By(operator, read_right(alloc, operator, right)?),
+        Comparator::In => Test::In(right),
+        Comparator::NotIn => Test::NotIn(right),
+    })
+}
+
 /// The operand as this operator reads it.
-fn read_right(alloc: Global, comparator: Comparator, operand: Operand) -> Result<Right, AllocError>
+fn read_right(alloc: Global, operator: Operator, operand: Operand) -> Result<Right, AllocError>
     ensures operand { IfOk result (λ right. right_operand right ≡ operand) }
-    ensures read { IfOk result (λ right. IsRead comparator right) }
+    ensures read { IfOk result (λ right. ReadsAs operator right) }
 {
     Ok(match operand {
-        Operand::Text(text) => match comparator {
-            Comparator::By(operator) => {
-                let specifier = read_operand(alloc, operator, text.as_str())?;
-                Right::Operand(text, specifier)
-            }
-            Comparator::In | Comparator::NotIn => Right::Text(text),
-        },
+        Operand::Text(text) => {
+            let specifier = read_operand(alloc, operator, text.as_str())?;
+            Right::Text(text, specifier)
+        }
         Operand::Variable(variable) => Right::Variable(variable),
         Operand::Extra => Right::Extra,
         Operand::Extras => Right::Extras,
@@ -208,22 +218,19 @@ fn has_in(
     alloc: Global,
     environment: &Environment,
     left: &Candidate,
-    right: &Right,
+    right: &Operand,
 ) -> Result<bool, EvalFault>
-    ensures { Gives EvalFault.Memory (λ b. b) result
-        (is_in environment.now left.now (right_operand right.now)) }
+    ensures { Gives EvalFault.Memory (λ b. b) result (is_in environment.now left.now right.now) }
 {
     match right {
-        Right::Text(whole) | Right::Operand(whole, _) => {
-            Ok(is_substring(left.text(), whole.as_str()))
-        }
-        Right::Variable(variable) => {
+        Operand::Text(whole) => Ok(is_substring(left.text(), whole.as_str())),
+        Operand::Variable(variable) => {
             let whole = variable_candidate(environment, *variable)?;
             Ok(is_substring(left.text(), whole.text()))
         }
-        Right::Extra => Err(EvalFault::Extra),
-        Right::Extras => Ok(is_extra(alloc, environment, left)?),
-        Right::Groups => Ok(is_group(alloc, environment, left)?),
+        Operand::Extra => Err(EvalFault::Extra),
+        Operand::Extras => Ok(is_extra(alloc, environment, left)?),
+        Operand::Groups => Ok(is_group(alloc, environment, left)?),
     }
 }
 
@@ -262,13 +269,12 @@ fn value_by(
     operator: Operator,
     right: &Right,
 ) -> Result<bool, EvalFault>
-    requires { IsRead (Comparator.By operator) right.now }
+    requires { ReadsAs operator right.now }
     ensures { Gives EvalFault.Memory (λ b. b) result
         (text_value environment.now left.now (Comparator.By operator) (right_operand right.now)) }
 {
     match right {
-        Right::Operand(text, specifier) => judge(left, operator, text.as_str(), specifier),
-        Right::Text(_) => unreachable!(),
+        Right::Text(text, specifier) => judge(left, operator, text.as_str(), specifier),
         Right::Variable(variable) => {
             let text = variable_candidate(environment, *variable)?.text();
             let specifier = read_operand(alloc, operator, text)?;
