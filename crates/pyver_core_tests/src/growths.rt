@@ -4,7 +4,7 @@
 
 use pyver_core::{
     Label, LocalPart, Operator, PartsError, Specifier, SpecifierError, SpecifierSet, Version,
-    VersionError, VersionParts, normal_name,
+    VersionError, VersionParts, is_name, normal_name,
 };
 use std::alloc::{AllocError, Global};
 use std::process::Abort;
@@ -126,4 +126,56 @@ fn name_in_normal_form(rt: HostRuntime) -> Result<(), Fail> {
         assert_eq!(rt; name.as_str(), "a-b");
     }
     Ok(())
+}
+
+/// The calls of the version `1!2.0rc1.post3.dev4+ubuntu.1` that take no memory.
+fn check_readers<R: Abort>(rt: &R, version: &Version) {
+    assert_eq!(rt; version.text(), "1!2.0rc1.post3.dev4+ubuntu.1");
+    assert!(rt; version.epoch() == 1 && version.release() == [2, 0].as_slice());
+    assert!(rt; version.post() == Some(3) && version.dev() == Some(4));
+    assert!(rt; version.pre().is_some() && version.local().len() == 2);
+    assert!(rt; version.is_prerelease() && version.is_postrelease());
+}
+
+/// The order of versions and what a set admits take no memory.
+fn check_order<R: Abort>(rt: &R, set: &SpecifierSet, older: &Version, newer: &Version) {
+    assert!(rt; older < newer && older != newer && newer == newer);
+    assert!(rt; !set.admits(older) && set.admits(newer));
+    assert!(rt; set.items().len() == 3 && set == set);
+}
+
+fn check_copied_order<R: Abort>(rt: &R, set: &SpecifierSet, older: &Version, newer: &Version) {
+    check_order(rt, set, older, newer);
+    if let Ok(copy) = set.clone() {
+        check_order(rt, &copy, older, newer);
+    }
+    if let Ok(copy) = newer.clone() {
+        check_order(rt, set, older, &copy);
+    }
+}
+
+/// Where the values were made, no growth is left that could be refused.
+#[test]
+fn order_without_memory(rt: HostRuntime) {
+    let set = SpecifierSet::parse(rt.alloc(), ">=1.0, !=1.5.*, ~=1.2");
+    let older = Version::parse(rt.alloc(), "1.0.0.0a1+x.1");
+    let newer = Version::parse(rt.alloc(), "1.10.0.0.0.0.0+x.2");
+    if let (Ok(set), Ok(older), Ok(newer)) = (set, older, newer) {
+        check_copied_order(&rt, &set, &older, &newer);
+    }
+}
+
+#[test]
+fn readers_without_memory(rt: HostRuntime) {
+    if let Ok(version) = Version::parse(rt.alloc(), "1!2.0RC1.post3.dev4+Ubuntu.01") {
+        check_readers(&rt, &version);
+        if let Ok(copy) = version.clone() {
+            check_readers(&rt, &copy);
+        }
+    }
+}
+
+#[test]
+fn names_are_judged_without_memory(rt: HostRuntime) {
+    assert!(rt; is_name("A.-_b") && !is_name("-a") && !is_name(""));
 }

@@ -2,8 +2,9 @@
 //! each of its growths, that one refused. A test passes where the call answers want of memory, or
 //! just what it answers with ample memory.
 
-use pywheel_core::{Tag, TagError, TagList, TagListError, WheelError, WheelName};
+use pywheel_core::{Tag, TagError, TagList, TagListError, WheelError, WheelName, choose};
 use std::alloc::Global;
+use std::process::Abort;
 
 /// Whether the Python part is `py3`.
 fn is_python_3(tag: &Tag) -> bool {
@@ -127,5 +128,74 @@ fn wheel_name_clone(rt: HostRuntime) {
         let seen = seen_twice(&wheel);
         let alike = matches!(seen, (None | Some((2, true)), (2, true)));
         assert!(rt; alike, "{seen:?}");
+    }
+}
+
+/// The calls of a wheel's name that take no memory.
+fn check_readers<R: Abort>(rt: &R, wheel: &WheelName) {
+    assert_eq!(rt; wheel.name(), "Foo_Bar");
+    assert_eq!(rt; wheel.version().text(), "1!1.0");
+    assert_eq!(rt; wheel.tag_set(), "py2.py3-none-any");
+    assert!(rt; seen(wheel) == (2, true));
+}
+
+/// The calls of a list of tags that take no memory.
+fn check_ranks<R: Abort>(rt: &R, tags: &TagList, wheel: &WheelName) {
+    let ranks: (Option<usize>, Option<usize>) = match wheel.tags() {
+        [first, second] => (tags.rank(first), tags.rank(second)),
+        _ => (None, None),
+    };
+    assert!(rt; ranks == (Some(1), Some(0)));
+    assert!(rt; tags.len() == 2 && !tags.is_empty() && tags.tags().len() == 2);
+}
+
+fn check_without_memory<R: Abort>(rt: &R, tags: &TagList, wheel: &WheelName) {
+    check_readers(rt, wheel);
+    check_ranks(rt, tags, wheel);
+}
+
+/// Two of a list of tags and of a wheel's name: what was parsed, and copies.
+fn check_copies<R: Abort>(rt: &R, tags: &TagList, wheel: &WheelName) {
+    check_without_memory(rt, tags, wheel);
+    if let Ok(copy) = tags.clone() {
+        check_without_memory(rt, &copy, wheel);
+    }
+    if let Ok(copy) = wheel.clone() {
+        check_without_memory(rt, tags, &copy);
+    }
+}
+
+/// Where the values were made, no growth is left that could be refused.
+#[test]
+fn readers_without_memory(rt: HostRuntime) {
+    let tags = TagList::parse(rt.alloc(), &["py3-none-any", "py2-none-any"]);
+    let wheel = WheelName::parse(rt.alloc(), "Foo_Bar-1!1.0-1b-py2.py3-none-any.whl");
+    if let (Ok(tags), Ok(wheel)) = (tags, wheel) {
+        check_copies(&rt, &tags, &wheel);
+    }
+}
+
+/// The wheels of the texts, as far as there is memory for them.
+fn wheels(alloc: Global, texts: &[&str]) -> Vec<Option<WheelName>> {
+    let mut wheels = Vec::new(alloc);
+    for text in texts {
+        let _ = wheels.push(WheelName::parse(alloc, text).ok());
+    }
+    wheels
+}
+
+/// A choice takes no memory: of all three wheels it is the last.
+#[test]
+fn choose_without_memory(rt: HostRuntime) {
+    let texts = [
+        "a-1-py2-none-any.whl",
+        "a-1-py3-none-any.whl",
+        "a-1-2-py3-none-any.whl",
+    ];
+    let wheels = wheels(rt.alloc(), &texts);
+    let all = wheels.iter().filter(|wheel| wheel.is_some()).count() == 3;
+    if let Ok(tags) = TagList::parse(rt.alloc(), &["py3-none-any", "py2-none-any"]) {
+        let chosen = choose(&wheels, &tags);
+        assert!(rt; !all || chosen == Some(2), "{chosen:?}");
     }
 }
