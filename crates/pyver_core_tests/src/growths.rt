@@ -125,6 +125,7 @@ fn name_in_normal_form(rt: HostRuntime) -> Result<(), Fail> {
     if let Ok(name) = normal_name(rt.alloc(), "A.-_B") {
         assert_eq!(rt; name.as_str(), "a-b");
     }
+    assert!(rt; is_name("A.-_B") && !is_name("-a") && !is_name(""));
     Ok(())
 }
 
@@ -173,9 +174,4 @@ fn readers_without_memory(rt: HostRuntime) {
             check_readers(&rt, &copy);
         }
     }
-}
-
-#[test]
-fn names_are_judged_without_memory(rt: HostRuntime) {
-    assert!(rt; is_name("A.-_b") && !is_name("-a") && !is_name(""));
 }
