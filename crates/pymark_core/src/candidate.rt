@@ -7,6 +7,7 @@ ghost use Rattle.pyver_core.specs.Parsed.{parsed_version};
 use pyver_core::{Label, Version, VersionError, normal_name};
 use std::alloc::{AllocError, Global};
 use std::marker::Model;
+use std::sync::Arc;
 
 /// A text with what it reads as by PEP 440, so that no comparison reads it again.
 ///
@@ -92,20 +93,53 @@ impl Drop for Candidate {
     }
 }
 
-impl Clone for Candidate {
-    ghost is_clone = { λ candidate copy. copy ≡ candidate };
+/// A text that environments share, read once.
+///
+/// Contracts see the text.
+pub(crate) struct SharedText {
+    candidate: Arc<Candidate>,
+}
 
-    fn clone(&self) -> Result<Candidate, AllocError> {
-        let version = match &self.version {
-            Ok(version) => Ok(version.clone()?),
-            Err(VersionError::Syntax) => Err(VersionError::Syntax),
-            Err(VersionError::NumberTooLarge) => Err(VersionError::NumberTooLarge),
-            Err(VersionError::Memory) => Err(VersionError::Memory),
-        };
-        Ok(Candidate {
-            text: self.text.clone()?,
-            version,
-            name: self.name.clone()?,
+impl Model for SharedText {
+    ghost use Rattle.std.specs.Prelude.{List, ℕ};
+
+    ghost Value = { List ℕ };
+
+    ghost view = { λ s. s.candidate.value };
+}
+
+impl Drop for SharedText {
+    fn drop(self) {
+        let SharedText { candidate: _ } = self;
+    }
+}
+
+impl SharedText {
+    /// The text, read.
+    pub(crate) fn new(alloc: Global, text: &str) -> Result<SharedText, AllocError>
+        ensures { IfOk result (λ shared. shared ≡ text.now) }
+    {
+        let text = String::from_str(alloc, text)?;
+        let candidate = Arc::new(alloc, Candidate::new(alloc, text)?)?;
+        Ok(SharedText { candidate })
+    }
+
+    /// The text with what it reads as.
+    pub(crate) fn candidate(&self) -> &Candidate
+        ensures { result.now ≡ self.now }
+    {
+        &self.candidate
+    }
+}
+
+/// A copy shares the text, also with other threads. It takes no memory; it is refused only where
+/// 2^63 copies stand.
+impl Clone for SharedText {
+    ghost is_clone = { λ shared copy. copy ≡ shared };
+
+    fn clone(&self) -> Result<SharedText, AllocError> {
+        Ok(SharedText {
+            candidate: self.candidate.clone()?,
         })
     }
 }

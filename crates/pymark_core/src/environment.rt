@@ -10,7 +10,7 @@ ghost use Rattle.pymark_core.specs.Environment.{empty, has_extra, has_group, var
 ghost use Rattle.pymark_core.specs.Environment.{with_extra, with_group, with_variable};
 ghost use Rattle.pymark_core.specs.Environment.{without_extra, without_group, without_variable};
 
-use crate::candidate::Candidate;
+use crate::candidate::{Candidate, SharedText};
 use crate::names::NameSet;
 use crate::variable::Var;
 use pyver_core::{Version, VersionError};
@@ -24,7 +24,7 @@ use std::marker::Model;
 /// Contracts see the texts and the sets.
 pub struct Environment {
     alloc: Global,
-    variables: [Option<Candidate>; 11],
+    variables: [Option<SharedText>; 11],
     extras: NameSet,
     groups: NameSet,
 }
@@ -77,7 +77,10 @@ impl Environment {
     pub(crate) fn candidate(&self, variable: Var) -> Option<&Candidate>
         ensures { option_map (λ candidate. candidate.now) result ≡ variable_in variable self.now }
     {
-        self.variables[variable.place()].as_ref()
+        match &self.variables[variable.place()] {
+            Some(shared) => Some(shared.candidate()),
+            None => None,
+        }
     }
 
     /// The version that the text of the variable spells, or why it spells none; nothing where the
@@ -100,8 +103,8 @@ impl Environment {
         ensures given { OnOk result (variable_in variable self.new ≡ Some text.now) }
         ensures err { OnErr result (self.new ≡ self.old) }
     {
-        let candidate = Candidate::new(self.alloc, String::from_str(self.alloc, text)?)?;
-        self.variables[variable.place()] = Some(candidate);
+        let shared = SharedText::new(self.alloc, text)?;
+        self.variables[variable.place()] = Some(shared);
         Ok(())
     }
 
@@ -181,8 +184,8 @@ impl Environment {
         self.groups.has(name)
     }
 
-    /// An environment with the same variables and sets. It takes memory for each text, for the
-    /// version that it spells, and for each name. Nothing is read again.
+    /// An environment with the same variables and sets. The two share the texts of the variables
+    /// and what they read as, and a change of one moves no other. It takes memory for each name.
     pub fn copy(&self) -> Result<Environment, AllocError>
         ensures { IfOk result (λ copy. copy ≡ self.now) }
     {
@@ -205,7 +208,7 @@ impl Clone for Environment {
 }
 
 /// A text at no place.
-fn no_variables() -> [Option<Candidate>; 11]
+fn no_variables() -> [Option<SharedText>; 11]
     ensures { result ≡ replicate 11 None }
 {
     [
@@ -215,8 +218,8 @@ fn no_variables() -> [Option<Candidate>; 11]
 
 /// The same texts at the same places.
 fn copy_variables(
-    variables: &[Option<Candidate>; 11],
-) -> Result<[Option<Candidate>; 11], AllocError>
+    variables: &[Option<SharedText>; 11],
+) -> Result<[Option<SharedText>; 11], AllocError>
     ensures { IfOk result (λ copy. copy ≡ variables.now) }
 {
     let mut copy = no_variables();
