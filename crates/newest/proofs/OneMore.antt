@@ -5,7 +5,7 @@ use Rattle.std.specs.Ordering.{is_lt}
 use Rattle.std.specs.declared.cmp.Ordering.{Ordering}
 use Rattle.std.specs.declared.cmp.Ordering.TheVariants.{Less, Equal, Greater}
 use Rattle.std.proofs.lemmas.List.Elements.{All-append, All-cons, All-nil, All-weaker, Contains-append_left, Contains-push}
-use Rattle.pyver_core.proofs.Lemmas.Sight.{sight}
+use Rattle.std.proofs.lemmas.Bool.{cases_Bool}
 use Rattle.pyver_core.specs.Inner.OrderLaws.{version_total}
 use Rattle.pyver_core.specs.Set.Admission.{admits_all}
 use Rattle.pyver_core.specs.Version.Order.{before, is_before, version_cmp}
@@ -77,12 +77,12 @@ later set versions x v admitted less p = record {
 
 pub step : (set : List Specifier) (versions : List Parts) (x : Parts) (o : Option Parts)
     → PicksNewest set versions o → PicksNewest set (versions ++ x ∷ []) (newer set o x)
-step set versions x None p = elim (sight (admits_all set x)) [
+step set versions x None p = elim (cases_Bool (admits_all set x)) [
   | inl admitted ↦ rw admitted (first set versions x admitted p)
   | inr refused ↦ rw refused (passed set versions x None refused p)
 ]
-step set versions x (Some v) p = elim (sight (admits_all set x)) [
-  | inl admitted ↦ elim (sight (is_before v x)) [
+step set versions x (Some v) p = elim (cases_Bool (admits_all set x)) [
+  | inl admitted ↦ elim (cases_Bool (is_before v x)) [
     | inl less ↦ rw (admitted, less) (later set versions x v admitted (is_less (version_cmp v x) less) p)
     | inr older ↦ rw (admitted, older) (kept set versions x v older p)
   ]

@@ -4,7 +4,7 @@ use Rattle.std.specs.List.{enumerate_from}
 use Rattle.std.specs.Str.{bytes_eq}
 use Rattle.std.proofs.lemmas.Bool.{ne_eqb, lt-ltb}
 use Rattle.std.proofs.lemmas.List.{get_or_default, map-append}
-use Rattle.pyver_core.specs.Options.{either}
+use Rattle.pytext.specs.Options.{either}
 use Rattle.pymark_core.specs.Environment.{EnvironmentValue}
 use Rattle.pywheel_core.specs.Tag.{TagValue}
 use Rattle.pylock_readers.specs.Entry.{EntryValue, FileValue, VcsValue, DirectoryValue, ArchiveValue}

@@ -2,7 +2,7 @@
 use Rattle.std.proofs.Common.{◌≡◌, ℕ, ◌+◌, ◌<◌, length, drop, get_or, arith, Bool, true, false, ◌||◌, ◌&&◌, List, [], ◌∷◌, map, Option, Some, None, is_some, Result, Ok, Err, ◌∙◌, ap, refl, sym}
 use Rattle.std.proofs.lemmas.List.{drop_more}
 use Rattle.std.specs.List.{list_any}
-use Rattle.pyver_core.specs.Options.{either}
+use Rattle.pytext.specs.Options.{either}
 use Rattle.pyver_core.specs.declared.set.specifier.Specifier.{Specifier}
 use Rattle.pymark_core.specs.Environment.{EnvironmentValue, variable_in}
 use Rattle.pymark_core.specs.Marker.Keys.{reads}

@@ -7,7 +7,7 @@ use Rattle.std.proofs.lemmas.Bool.{cases_lt, lt-ltb, le-ltb, eqb-true, false≢t
 use Rattle.std.proofs.lemmas.List.Sums.{prefix_len_passes}
 use Rattle.std.specs.Result.{is_err, result_unwrap_or}
 use Rattle.pylock_core.specs.Session.State.{State}
-use Rattle.pyver_core.specs.Results.{◌>>=◌}
+use Rattle.pytext.specs.Results.{◌>>=◌}
 use Rattle.pylock_program.specs.Line.{is_lf, input_lines, ended_lines, onto_first, onto_ended, command_of, line_limit}
 use Rattle.pylock_program.specs.Report.{is_plan, after_line, after_command, outcome_text, lines_text, state_after_all, any_refused}
 use Rattle.pylock_program.specs.Inner.Editing.{At, start, lines_begun, plan_after, kept, end_line, end_text, keep_byte, bytes_done, bytes_text, finish, finish_text, finished, finished_text}

@@ -5,7 +5,7 @@ use Rattle.std.specs.List.{join_by}
 use Rattle.std.specs.Result.{result_map_both}
 use Rattle.pyver_core.specs.Name.{is_name, norm}
 use Rattle.pyver_core.specs.Parsed.{parsed_version, parsed_set}
-use Rattle.pyver_core.specs.Results.{◌>>=◌}
+use Rattle.pytext.specs.Results.{◌>>=◌}
 use Rattle.pyver_core.specs.Set.Admission.{admits_all}
 use Rattle.pyver_core.specs.Set.Normal.{set_text}
 use Rattle.pyver_core.specs.Version.Normal.{normal}

@@ -1,7 +1,7 @@
 //! One line of the input: a command, or the reason why it is refused.
 
 ghost use Rattle.std.specs.Prelude.{◌≡◌};
-ghost use Rattle.pyver_core.specs.Agreement.{Gives};
+ghost use Rattle.pytext.specs.Agreement.{Gives};
 ghost use Rattle.pylock_program.specs.Line.{command_of, text_command, without_cr};
 
 mod argument;

@@ -1,7 +1,7 @@
 -- What was read already, put before what is left to read.
 use Rattle.std.proofs.Common.{◌≡◌, ◌∙◌, ℕ, List, [], ◌∷◌, ◌++◌, length, map, drop, get_or, ◌<◌, ◌+◌, Result, Ok, Err, refl, ap, sym, append_assoc}
 use Rattle.std.proofs.lemmas.List.{drop_more}
-use Rattle.pyver_core.specs.Results.{◌>>=◌}
+use Rattle.pytext.specs.Results.{◌>>=◌}
 
 abbrev pub after_front : {A E : Type 0} → List A → Result (List A) E → Result (List A) E
 after_front front (Ok xs) = Ok (front ++ xs)

@@ -3,8 +3,8 @@ use Rattle.std.proofs.Common.{◌≡◌, ℕ, Bool, true, false, cond, ◌==◌,
 use Rattle.std.specs.Char.{to_ascii_lowercase}
 use Rattle.std.proofs.lemmas.Bool.Decides.{nat_tests}
 use Rattle.pyver_core.specs.Name.{norm}
-use Rattle.pyver_core.specs.Version.Grammar.{is_separator, starts}
-use Rattle.pyver_core.proofs.Lemmas.Sight.{sight}
+use Rattle.pytext.specs.Bytes.{is_separator, starts}
+use Rattle.std.proofs.lemmas.Bool.{cases_Bool}
 use Rattle.pylock_readers.specs.Inner.Names.{is_normal_behind, is_normal_byte}
 
 plain : (b : ℕ) → is_normal_byte b ≡ true → (b == 45) ≡ false → is_separator b ≡ false
@@ -35,7 +35,7 @@ behind after [] e = (refl, λ _. refl)
 behind after (b ∷ bs) e =
     let p = passed after (b == 45) (is_normal_byte b) (is_normal_behind (b == 45) bs) e in
     let rest = behind (b == 45) bs p.2 in
-    elim (sight (b == 45)) [
+    elim (cases_Bool (b == 45)) [
       | inl is ↦
           let same = dash b is in
           (rw (same, rest.1 is, rest.0) refl, λ f. let no : false ≡ true = sym (not_both after (b == 45) p.0 f) ∙ is in absurd cc)

@@ -4,7 +4,7 @@ use Rattle.std.specs.Prelude.{option_map, ok_or, Result, Ok, Err}
 use Rattle.serde_json.specs.Data.{Data, Items, no_items, item, Members}
 use Rattle.serde_json.specs.Find.{get, get_member, as_str, as_array, as_object}
 use Rattle.serde_json.specs.Read.{read}
-use Rattle.pyver_core.specs.Results.{◌>>=◌}
+use Rattle.pytext.specs.Results.{◌>>=◌}
 use Rattle.pymark_core.specs.Environment.{EnvironmentValue, empty, with_variable}
 use Rattle.pymark_core.specs.Variables.{variable_name, variables}
 use Rattle.pymark_core.specs.declared.variable.Var.{Var}

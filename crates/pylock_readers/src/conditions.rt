@@ -2,7 +2,7 @@
 //! texts, so each text is read once, and entries share what was read.
 ghost use Rattle.std.specs.Prelude.{◌≡◌, IfSome, Ok, string_bytes};
 ghost use Rattle.toml.specs.View.{view};
-ghost use Rattle.pyver_core.specs.Agreement.{Gives};
+ghost use Rattle.pytext.specs.Agreement.{Gives};
 ghost use Rattle.pyver_core.specs.Parsed.{parsed_set};
 ghost use Rattle.pymark_core.specs.Marker.Reading.{marker_of};
 ghost use Rattle.pylock_readers.specs.Entry.Fields.{formed, marker_field, set_field};

@@ -3,7 +3,7 @@
 ghost use Rattle.std.specs.Prelude.{◌≡◌, ℕ, List, false, option_map, string_bytes};
 ghost use Rattle.toml.specs.Data.{get_member, same_key};
 ghost use Rattle.toml.specs.View.{view, items_view, table_view};
-ghost use Rattle.pyver_core.specs.Agreement.{Gives};
+ghost use Rattle.pytext.specs.Agreement.{Gives};
 ghost use Rattle.pylock_readers.specs.declared.field.FieldError.TheVariants as field;
 ghost use Rattle.pylock_readers.specs.Entry.Fields.{required, text_of, members_of, name_of};
 ghost use Rattle.pylock_readers.specs.Entry.Fields.{text_in};

@@ -1,11 +1,10 @@
 -- Two environments that have the same at the keys of a tree give it the same value.
 use Rattle.std.proofs.Common.{◌≡◌, ℕ, Bool, true, false, not, ◌||◌, ◌&&◌, List, ◌++◌, ok_or, Result, Ok, Err, ◌∙◌, ap, refl}
-use Rattle.std.proofs.Math.Bool.{or-true}
-use Rattle.std.proofs.lemmas.Bool.{eq-eqb}
+use Rattle.std.proofs.lemmas.Bool.{eq-eqb, or_left, or_right}
 use Rattle.std.proofs.lemmas.List.Folds.{list_any-append}
 use Rattle.std.specs.List.{list_any}
 use Rattle.pyver_core.specs.Name.{norm}
-use Rattle.pyver_core.specs.Results.{◌>>=◌}
+use Rattle.pytext.specs.Results.{◌>>=◌}
 use Rattle.pymark_core.specs.Environment.{EnvironmentValue}
 use Rattle.pymark_core.specs.Marker.Comparison.{ComparisonValue}
 use Rattle.pymark_core.specs.Marker.Grammar.{atom_comparisons, comparisons, conjunction_comparisons}
@@ -23,12 +22,6 @@ use Rattle.pymark_core.specs.declared.operand.Operand.{Operand}
 use Rattle.pymark_core.specs.declared.operand.Operand.TheVariants.{Text, Variable, Extra, Extras, Groups}
 use Rattle.std.specs.FinSet.{contains}
 
-left_true : (a b : Bool) → a ≡ true → (a || b) ≡ true
-left_true a b is = ap (λ t. t || b) is
-
-right_true : (a b : Bool) → b ≡ true → (a || b) ≡ true
-right_true a b is = ap (λ t. a || t) is ∙ or-true a
-
 module _ (e f : EnvironmentValue) where
   abbrev Agree : (Key → Bool) → Type 0
   Agree read = (k : Key) → read k ≡ true → AgreeAt k e f
@@ -36,7 +29,7 @@ module _ (e f : EnvironmentValue) where
   operand_agrees : (o : Operand) → Agree (λ k. has_key k (operand_keys o)) → operand_text e o ≡ operand_text f o
   operand_agrees (Text text) agree = refl
   operand_agrees (Variable v) agree =
-      ap (λ x. ok_or x (Unset v)) (agree (key.Of v) (left_true _ _ (eq-eqb (place v) (place v) refl)))
+      ap (λ x. ok_or x (Unset v)) (agree (key.Of v) (or_left _ _ (eq-eqb (place v) (place v) refl)))
   operand_agrees Extra agree = refl
   operand_agrees Extras agree = refl
   operand_agrees Groups agree = refl
@@ -55,10 +48,10 @@ module _ (e f : EnvironmentValue) where
 
   -- the keys of two lists
   of_first : (k : Key) (xs ys : List Key) → has_key k xs ≡ true → has_key k (xs ++ ys) ≡ true
-  of_first k xs ys is = list_any-append (is_key k) xs ys ∙ left_true _ _ is
+  of_first k xs ys is = list_any-append (is_key k) xs ys ∙ or_left _ _ is
 
   of_second : (k : Key) (xs ys : List Key) → has_key k ys ≡ true → has_key k (xs ++ ys) ≡ true
-  of_second k xs ys is = list_any-append (is_key k) xs ys ∙ right_true _ _ is
+  of_second k xs ys is = list_any-append (is_key k) xs ys ∙ or_right _ _ is
 
   comparison_agrees : (c : ComparisonValue) → Agree (λ k. comparison_reads k c) → comparison_value e c ≡ comparison_value f c
   comparison_agrees c agree =
@@ -74,10 +67,10 @@ module _ (e f : EnvironmentValue) where
   Reads cs = Agree (λ k. list_any (comparison_reads k) cs)
 
   first_of_two : (xs ys : List ComparisonValue) → Reads (xs ++ ys) → Reads xs
-  first_of_two xs ys agree k is = agree k (list_any-append (comparison_reads k) xs ys ∙ left_true _ _ is)
+  first_of_two xs ys agree k is = agree k (list_any-append (comparison_reads k) xs ys ∙ or_left _ _ is)
 
   second_of_two : (xs ys : List ComparisonValue) → Reads (xs ++ ys) → Reads ys
-  second_of_two xs ys agree k is = agree k (list_any-append (comparison_reads k) xs ys ∙ right_true _ _ is)
+  second_of_two xs ys agree k is = agree k (list_any-append (comparison_reads k) xs ys ∙ or_right _ _ is)
 
   mutual
     pub tree_agrees : (t : Tree) → Reads (comparisons t) → marker_value e t ≡ marker_value f t
@@ -93,5 +86,5 @@ module _ (e f : EnvironmentValue) where
         (conjunction_agrees rest (second_of_two (atom_comparisons a) (conjunction_comparisons rest) agree) i)
 
     pub atom_agrees : (a : Atom) → Reads (atom_comparisons a) → atom_value e a ≡ atom_value f a
-    atom_agrees (leaf c) agree = comparison_agrees c (λ k is. agree k (left_true _ false is))
+    atom_agrees (leaf c) agree = comparison_agrees c (λ k is. agree k (or_left _ false is))
     atom_agrees (group t) agree = tree_agrees t agree

@@ -6,7 +6,7 @@ use Rattle.std.specs.Global.{Box}
 use Rattle.std.proofs.lemmas.List.{length-map, length-reverse, map-append, reverse-append}
 use Rattle.std.proofs.lemmas.Bool.Decides.{nat_tests}
 use Rattle.std.proofs.lemmas.Slice.Eq.{bytes_eq-Decides}
-use Rattle.pymark_core.proofs.Choices.{cases_bool}
+use Rattle.std.proofs.lemmas.Bool.{cases_Bool}
 use Rattle.pymark_core.proofs.TreeView.{view_group}
 use Rattle.pymark_core.specs.Inner.Building.{frame_view, noted, rest_atom}
 use Rattle.pymark_core.specs.Marker.Reading as reading
@@ -24,7 +24,7 @@ use Rattle.pymark_core.specs.declared.operand.Operand.{Operand}
 use Rattle.pymark_core.specs.declared.operand.Operand.TheVariants.{Variable}
 
 pub other_way : (a b : List ℕ) → bytes_eq a b ≡ false → bytes_eq b a ≡ false
-other_way a b differ = elim (cases_bool (bytes_eq b a)) [
+other_way a b differ = elim (cases_Bool (bytes_eq b a)) [
   | inl same ↦
       let turned : bytes_eq a b ≡ true = (bytes_eq-Decides a b).1 (sym ((bytes_eq-Decides b a).0 same)) in
       absurd cc

@@ -1,7 +1,7 @@
 -- A version and a specifier within the limit are compared.
 use Rattle.std.proofs.Common.{◌≡◌, ℕ, Bool, true, false, cond, ◌||◌, List, Option, Some, None, ok_or, Result, Ok, Err, refl}
 use Rattle.pyver_core.specs.Parsed.{parsed_operand, parsed_version, within_limit}
-use Rattle.pyver_core.specs.Results.{◌>>=◌}
+use Rattle.pytext.specs.Results.{◌>>=◌}
 use Rattle.pyver_core.specs.Set.Admission.{admits}
 use Rattle.pyver_core.specs.Set.Grammar.{specifier_numbers}
 use Rattle.pyver_core.specs.Set.Reading.{operand_of}

@@ -1,10 +1,11 @@
 -- What the answer of parsing says of the text.
 use Rattle.std.proofs.Common.{◌≡◌, ℕ, true, false, List, Option, Some, None, Result, Ok, Err, ok_or, refl, ap, sym, subst, ◌∙◌, inl, inr}
 use Rattle.std.specs.Prelude.{IfOk, IsErrOf}
-use Rattle.pyver_core.specs.Agreement.{Gives}
-use Rattle.pyver_core.specs.Options.{◌>>=◌}
+use Rattle.pytext.specs.Agreement.{Gives}
+use Rattle.pytext.specs.Options.{◌>>=◌}
 use Rattle.pymark_core.proofs.BuilderLemmas.{some_from_ok}
-use Rattle.pymark_core.proofs.Choices.{bind_some, chosen}
+use Rattle.pytext.proofs.Options.{bind_some}
+use Rattle.pymark_core.proofs.Choices.{chosen}
 use Rattle.pymark_core.proofs.ReadingSound.{read_sound}
 use Rattle.pymark_core.proofs.TokensLemmas.{from_err}
 use Rattle.pymark_core.specs.Inner.ReadingComplete.{read_again}
@@ -13,7 +14,7 @@ use Rattle.pymark_core.specs.Marker.Grammar.{MarkerText, has_misuse}
 use Rattle.pymark_core.specs.Marker.Reading.{MarkerValue, marker_from, marker_of, read, start, tree_text}
 use Rattle.pymark_core.specs.Marker.Token.{tokens}
 use Rattle.pymark_core.specs.Marker.Tree.{Tree}
-use Rattle.pymark_core.specs.White.{trimmed}
+use Rattle.pytext.specs.White.{trimmed}
 use Rattle.pymark_core.specs.declared.marker.error.MarkerError.{MarkerError}
 use Rattle.pymark_core.specs.declared.marker.error.MarkerError.TheVariants.{TooDeep, Syntax, SetMisuse, Memory}
 

@@ -2,16 +2,18 @@
 use Rattle.std.proofs.Common.{◌≡◌, ℕ, Bool, not, ◌||◌, ◌&&◌, List, [], ◌∷◌, take, drop, Option, Some, None, ok_or, Result, Ok, Err}
 use Rattle.std.specs.Prelude.{◌==◌}
 use Rattle.std.specs.List.{list_all, prefix_len, slice_split}
-use Rattle.pyver_core.proofs.Lemmas.Never.{Never, never_cond, never_err, never_or, never_then}
-use Rattle.pyver_core.specs.Name.{is_name, is_name_byte}
+use Rattle.pytext.proofs.Never.{Never, never_cond, never_err, never_or, never_then}
+use Rattle.pytext.specs.Bytes.{is_name_byte, is_white}
+use Rattle.pyver_core.specs.Name.{is_name}
 use Rattle.pyver_core.specs.Parsed.{parsed_set}
-use Rattle.pyver_core.specs.Results.{◌>>=◌}
+use Rattle.pytext.specs.Results.{◌>>=◌}
 use Rattle.pyver_core.specs.Set.Admission.{admits}
 use Rattle.pyver_core.specs.Set.Grammar.{specifier_numbers}
 use Rattle.pyver_core.specs.Set.Reading.{operand_of}
-use Rattle.pyver_core.specs.Version.Grammar.{has_large, is_white, numbers}
+use Rattle.pyver_core.specs.Version.Grammar.{has_large, numbers}
 use Rattle.pyver_core.specs.Version.Parts.{Parts}
-use Rattle.pyver_core.specs.Version.Reading.{after_white, version_of}
+use Rattle.pytext.specs.White.{after_white, trimmed}
+use Rattle.pyver_core.specs.Version.Reading.{version_of}
 use Rattle.pyver_core.specs.declared.set.specifier.Operator.{Operator}
 use Rattle.pyver_core.specs.declared.set.specifier.Operator.TheVariants as operator
 use Rattle.pyver_core.specs.declared.set.specifier.Specifier.{Specifier}
@@ -23,7 +25,6 @@ use Rattle.pymark_core.specs.Marker.Reading.{marker_from, marker_of, tree_text}
 use Rattle.pymark_core.specs.Marker.Tree.{Tree, last, or, Conjunction, only, and, Atom, leaf, group}
 use Rattle.pymark_core.specs.Marker.Value.{atom_value, both, comparison_value, conjunction_value, is_in, is_substring, marker_value, operand_text, operator_value, text_value, texts_value, version_value}
 use Rattle.pymark_core.specs.Requirement.Reading.{around, behind, cut_at, cut_source, extra_in, extras_at, extras_behind, extras_from, extras_in, marker_in, marker_text_at, name_at, names_in, refused_as, requirement_of, set_source, source_at, source_from, url_len, url_source, within_parentheses}
-use Rattle.pymark_core.specs.White.{trimmed}
 use Rattle.pymark_core.specs.declared.fault.EvalFault.{EvalFault}
 use Rattle.pymark_core.specs.declared.fault.EvalFault.TheVariants as fault
 use Rattle.pymark_core.specs.declared.marker.error.MarkerError.TheVariants as marker

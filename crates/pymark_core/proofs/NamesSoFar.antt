@@ -1,23 +1,8 @@
 -- Reading the names of extras one after the other.
-use Rattle.std.proofs.Common.{◌≡◌, ℕ, List, [], ◌∷◌, ◌++◌, Option, Some, None, Result, Ok, Err, refl, sym, ap, ◌∙◌, append_assoc, append-nil}
-use Rattle.std.proofs.lemmas.Iterator.{YieldsList}
-use Rattle.pyver_core.specs.Results.{◌>>=◌}
+use Rattle.std.proofs.Common.{◌≡◌, ℕ, List, [], ◌∷◌, ◌++◌, Result, Ok, Err, refl, sym, ap, ◌∙◌, append_assoc, append-nil}
+use Rattle.pytext.specs.Results.{◌>>=◌}
 use Rattle.pymark_core.specs.Requirement.Reading.{extra_in, names_in}
 use Rattle.pymark_core.specs.declared.requirement.error.RequirementError.{RequirementError}
-
--- ---- the pieces that are left
-
-pub next_piece : {S A B : Type 0} (steps : S → Option A → S → Type 0) (v : A → B) (s : S) (left : List B) → YieldsList steps v s left
-    → (x : A) (t : S) → steps s (Some x) t → (rest : List B) × (left ≡ v x ∷ rest) × YieldsList steps v t rest
-next_piece steps v s [] yields x t step = absurd (yields.runs x t step)
-next_piece steps v s (y ∷ rest) yields x t step =
-    let on = yields.runs.1 x t step in
-    (rest, ap (λ z. z ∷ rest) (sym on.0), record { runs = on.1 })
-
-pub no_piece : {S A B : Type 0} (steps : S → Option A → S → Type 0) (v : A → B) (s : S) (left : List B) → YieldsList steps v s left
-    → (t : S) → steps s None t → left ≡ []
-no_piece steps v s [] yields t step = refl
-no_piece steps v s (y ∷ rest) yields t step = absurd (yields.runs.0 t step)
 
 -- ---- the names so far
 

@@ -4,7 +4,7 @@ use Rattle.std.proofs.lemmas.Bool.{cases_Bool}
 use Rattle.std.proofs.lemmas.Bool.Decides.{nat_tests}
 use Rattle.std.proofs.lemmas.Str.Ascii.{lowercase-lowercase}
 use Rattle.std.specs.Char.{to_ascii_lowercase}
-use Rattle.pyver_core.specs.Version.Grammar.{is_separator}
+use Rattle.pytext.specs.Bytes.{is_separator}
 use Rattle.pyver_core.specs.Name.{norm}
 use Rattle.pyver_core.proofs.Lemmas.Name.Collapse.{collapse, norm-collapse}
 

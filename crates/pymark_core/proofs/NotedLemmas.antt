@@ -4,11 +4,12 @@ use Rattle.std.specs.Prelude.{ℕ, codes, option_map}
 use Rattle.std.specs.Option.{option_to_list}
 use Rattle.std.specs.List.{list_any}
 use Rattle.std.specs.Str.{IsUtf8, bytes_eq}
-use Rattle.pyver_core.specs.Options.{◌>>=◌}
+use Rattle.pytext.specs.Options.{◌>>=◌}
 use Rattle.std.proofs.Math.Bool.{or_assoc}
 use Rattle.std.proofs.lemmas.List.Folds.{list_any-append}
 use Rattle.pymark_core.proofs.BuilderLemmas.{some_from_ok}
-use Rattle.pymark_core.proofs.Choices.{chosen, map_some}
+use Rattle.pytext.proofs.Options.{map_some}
+use Rattle.pymark_core.proofs.Choices.{chosen}
 use Rattle.pymark_core.specs.Inner.Building.{NotesMore, NotesOf, noted}
 use Rattle.pymark_core.specs.Marker.Comparison.{ComparisonValue}
 use Rattle.pymark_core.specs.Marker.Grammar.{atom_comparisons, comparisons, conjunction_comparisons, is_misuse}

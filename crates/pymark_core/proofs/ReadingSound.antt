@@ -3,7 +3,8 @@ use Rattle.std.proofs.Common.{◌≡◌, ℕ, true, List, [], ◌∷◌, ◌++�
 use Rattle.std.specs.Prelude.{codes, option_map}
 use Rattle.std.specs.Str.{bytes_eq}
 use Rattle.std.proofs.lemmas.Slice.Eq.{bytes_eq-Decides}
-use Rattle.pymark_core.proofs.Choices.{bind_some, chosen, found_passes, map_some}
+use Rattle.pytext.proofs.Options.{bind_some, map_some}
+use Rattle.pymark_core.proofs.Choices.{chosen, found_passes}
 use Rattle.pymark_core.specs.Marker.Grammar.{tree_tokens, conjunction_tokens, atom_tokens, comparator_tokens, operand_token}
 use Rattle.pymark_core.specs.Marker.Reading.{Frame, Place, Stage, at_atom, at_operator, at_in, at_right, at_rest, behind_atom, behind_atom_start, behind_closing, behind_left, behind_not, behind_right, empty_frame, end_at, finish, frame_conjunction, frame_tree, operand_of, place_behind, read, staged, start, step, word_operand}
 use Rattle.pymark_core.specs.Marker.Token.{Token, opening, closing, sign, word, quoted}

@@ -4,33 +4,24 @@ use Rattle.std.specs.Prelude.{◌==◌, IfErr, nat_lt, option_map, slice_get, un
 use Rattle.std.specs.List.{after_first, before_first, list_all, list_any, position_or_len, prefix_len, slice_split}
 use Rattle.std.proofs.Math.Dec.{eqb-suc-zero}
 use Rattle.std.proofs.Math.Seq.{drop-append-add, take-append_seam}
-use Rattle.std.proofs.lemmas.Bool.{le-ltb}
+use Rattle.std.proofs.lemmas.Bool.{and_parts, le-ltb}
 use Rattle.std.proofs.lemmas.List.{get_or_push}
 use Rattle.std.proofs.lemmas.Option.{slice_get-get_or}
 use Rattle.std.proofs.lemmas.Bool.Decides.{Decides-ltb}
-use Rattle.pyver_core.specs.Agreement.{Gives}
-use Rattle.pyver_core.specs.Name.{is_name, is_name_byte}
+use Rattle.pytext.specs.Agreement.{Gives}
+use Rattle.pytext.specs.Bytes.{is_name_byte, is_white, starts}
+use Rattle.pyver_core.specs.Name.{is_name}
 use Rattle.pyver_core.specs.Parsed.{parsed_set}
-use Rattle.pyver_core.specs.Results.{◌>>=◌}
-use Rattle.pyver_core.specs.Version.Grammar.{is_white, starts}
-use Rattle.pyver_core.specs.Version.Reading.{after_white}
+use Rattle.pytext.specs.Results.{◌>>=◌}
+use Rattle.pytext.specs.White.{after_white, trimmed}
 use Rattle.pyver_core.specs.declared.set.specifier.Specifier.{Specifier}
-use Rattle.pyver_core.proofs.Lemmas.Version.Complete.Pieces.{dropped_exact, prefix_len_exact, taken_exact, white_again}
+use Rattle.pytext.proofs.Fronts.{dropped_exact, prefix_len_exact, taken_exact, white_again}
 use Rattle.pymark_core.specs.Marker.Reading.{MarkerValue}
 use Rattle.pymark_core.specs.Requirement.Grammar.{ExtrasText, IsExtras, IsWithin, Lacks, MarkerPart, Req, SetPart, SourceText, UrlText}
 use Rattle.pymark_core.specs.Requirement.Reading.{Source, around, behind, cut_at, cut_source, extras_at, extras_behind, extras_from, extras_in, marker_in, marker_text_at, name_at, names_in, refused_as, requirement_of, set_source, source_at, source_from, url_len, url_source, within_from, within_parentheses, before_end}
 use Rattle.pymark_core.specs.Requirement.Value.{RequirementValue}
-use Rattle.pymark_core.specs.White.{trimmed}
 use Rattle.pymark_core.specs.declared.requirement.error.RequirementError.{RequirementError}
 use Rattle.pymark_core.specs.declared.requirement.error.RequirementError.TheVariants as refusal
-
-and_first : (a b : Bool) → (a && b) ≡ true → a ≡ true
-and_first true b e = refl
-and_first false b e = e
-
-and_second : (a b : Bool) → (a && b) ≡ true → b ≡ true
-and_second true b e = e
-and_second false b e = absurd cc
 
 -- ---- the name
 
@@ -43,7 +34,7 @@ name_cut text name next n front back is =
 pub name_again : (name next : List ℕ) → is_name name ≡ true → starts is_name_byte next ≡ false → name_at (name ++ next) ≡ Ok (name, next)
 unfolding name_at
 name_again name next is longest =
-    let all = and_first (list_all is_name_byte name) _ is in
+    let all = (and_parts (list_all is_name_byte name) _ is).0 in
     name_cut (name ++ next) name next (prefix_len is_name_byte (name ++ next))
     (taken_exact is_name_byte name next all longest) (dropped_exact is_name_byte name next all longest) is
 
@@ -80,8 +71,8 @@ names_again : (pieces : List (List ℕ)) → list_all is_name (map trimmed piece
 unfolding names_in
 names_again [] all = refl
 names_again (piece ∷ rest) all =
-    (λ i. cond (and_first (is_name (trimmed piece)) _ all i) (Ok (trimmed piece)) (Err refusal.Extras) >>= λ name. names_in rest >>= λ others. Ok (name ∷ others))
-    ∙ ap (λ r. r >>= λ others. Ok (trimmed piece ∷ others)) (names_again rest (and_second (is_name (trimmed piece)) _ all))
+    (λ i. cond ((and_parts (is_name (trimmed piece)) _ all).0 i) (Ok (trimmed piece)) (Err refusal.Extras) >>= λ name. names_in rest >>= λ others. Ok (name ∷ others))
+    ∙ ap (λ r. r >>= λ others. Ok (trimmed piece ∷ others)) (names_again rest (and_parts (is_name (trimmed piece)) _ all).1)
 
 extras_in_again : (inner : List ℕ) (extras : List (List ℕ)) → IsExtras inner extras → extras_in inner ≡ Ok extras
 extras_in_again inner extras (inl blank) = (λ i. cond (blank.0 i) (Ok []) (names_in (slice_split (λ b. b == 44) inner))) ∙ ap Ok (sym blank.1)

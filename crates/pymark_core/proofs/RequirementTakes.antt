@@ -1,65 +1,39 @@
 -- What is read of a requirement, the text is.
-use Rattle.std.proofs.Common.{◌≡◌, ℕ, ◌+◌, ◌-◌, ◌<◌, ◌≤◌, Bool, true, false, cond, not, ◌&&◌, ◌||◌, List, [], ◌∷◌, ◌++◌, length, take, drop, map, get_or, Option, Some, None, ok_or, Result, Ok, Err, ◌∙◌, ap, refl, sym, subst, inl, inr, append_assoc, append-nil, arith}
+use Rattle.std.proofs.Common.{◌≡◌, ℕ, ◌+◌, ◌-◌, ◌<◌, ◌≤◌, Bool, true, false, not, ◌&&◌, ◌||◌, List, [], ◌∷◌, ◌++◌, length, take, drop, map, get_or, Option, Some, None, ok_or, Result, Ok, Err, ◌∙◌, ap, refl, sym, subst, inl, inr, append_assoc, append-nil, arith}
 use Rattle.std.specs.Prelude.{IfOk, ◌==◌, nat_lt, option_map, slice_get, unwrap_or}
 use Rattle.std.specs.List.{list_all, list_any, prefix_len, slice_split}
-use Rattle.std.proofs.lemmas.Bool.{cases_lt, ltb-false}
+use Rattle.std.proofs.lemmas.Bool.{ltb-false, cases_Bool}
 use Rattle.std.proofs.lemmas.Bool.Decides.{Decides-eqb, Decides-ltb}
 use Rattle.std.proofs.lemmas.List.{drop_all, drop_more, take-append-drop, take_all}
 use Rattle.std.proofs.lemmas.List.Sums.{prefix_len_stops}
 use Rattle.std.proofs.lemmas.List.Folds.{length-prefix_len}
 use Rattle.std.proofs.lemmas.Option.{slice_get-get_or}
-use Rattle.pyver_core.specs.Agreement.{Gives}
-use Rattle.pyver_core.specs.Name.{is_name, is_name_byte}
+use Rattle.pytext.specs.Agreement.{Gives}
+use Rattle.pytext.specs.Bytes.{is_name_byte, is_white, starts}
+use Rattle.pyver_core.specs.Name.{is_name}
 use Rattle.pyver_core.specs.Parsed.{parsed_set}
-use Rattle.pyver_core.specs.Results.{◌>>=◌}
+use Rattle.pytext.specs.Results.{◌>>=◌}
 use Rattle.pyver_core.specs.Set.Reading.{set_of, specifiers_of}
-use Rattle.pyver_core.specs.Version.Grammar.{is_white, starts}
-use Rattle.pyver_core.specs.Version.Reading.{after_white}
+use Rattle.pytext.specs.White.{after_white, trimmed}
 use Rattle.pyver_core.specs.declared.set.specifier.Specifier.{Specifier}
-use Rattle.pyver_core.proofs.Lemmas.Version.Fronts.{list_all_front}
+use Rattle.pytext.proofs.Fronts.{list_all_front, starts_dropped, white_takes}
+use Rattle.pytext.proofs.Results.{bind_ok, if_ok, ok_or_some}
 use Rattle.pymark_core.specs.Marker.Reading.{MarkerValue, marker_of}
 use Rattle.pymark_core.specs.Requirement.Grammar.{ExtrasText, IsExtras, IsGap, IsWithin, Lacks, MarkerPart, Req, SourceText}
 use Rattle.pymark_core.specs.Requirement.Reading.{Source, around, before_end, behind, cut_at, extra_in, extras_at, extras_behind, extras_from, extras_in, marker_in, marker_text_at, name_at, names_in, refused_as, requirement_of, set_source, source_at, source_from, url_len, url_source, within_from, within_parentheses}
 use Rattle.pymark_core.specs.Requirement.Value.{RequirementValue}
-use Rattle.pymark_core.specs.White.{trimmed}
 use Rattle.pymark_core.specs.declared.requirement.error.RequirementError.{RequirementError}
 use Rattle.pymark_core.specs.declared.requirement.error.RequirementError.TheVariants as refusal
-use Rattle.pymark_core.proofs.Choices.{cases_bool, chosen}
+use Rattle.pymark_core.proofs.Choices.{chosen}
 
 -- ---- steps
-
-bind_ok : {A B E : Type 0} (r : Result A E) (f : A → Result B E) (y : B) → (r >>= f) ≡ Ok y → (x : A) × (r ≡ Ok x) × (f x ≡ Ok y)
-bind_ok (Ok x) f y e = (x, refl, e)
-bind_ok (Err r) f y e = absurd cc
-
-there : {A E : Type 0} (o : Option A) (r : E) (x : A) → ok_or o r ≡ Ok x → o ≡ Some x
-there None r x e = absurd cc
-there (Some z) r x e = let same : z ≡ x = cc in ap Some same
 
 unrefused : {A E : Type 0} (refusal : RequirementError) (r : Result A E) (x : A) → refused_as refusal r ≡ Ok x → r ≡ Ok x
 unrefused refusal (Ok z) x e = let same : z ≡ x = cc in ap Ok same
 unrefused refusal (Err r) x e = absurd cc
 
--- where a test chooses between a value and a refusal
-passed : {A E : Type 0} (b : Bool) (x y : A) (r : E) → cond b (Ok x) (Err r) ≡ Ok y → (b ≡ true) × (x ≡ y)
-passed true x y r e = (refl, cc)
-passed false x y r e = absurd cc
-
--- ---- runs
-
-starts_dropped : (p : ℕ → Bool) (text : List ℕ) → starts p (drop (prefix_len p text) text) ≡ false
-starts_dropped p text =
-    elim (cases_lt (prefix_len p text) (length text)) [
-      | inl inside ↦ ap (starts p) (drop_more text (prefix_len p text) 0 inside) ∙ prefix_len_stops p text 0 inside
-      | inr past ↦ ap (starts p) (drop_all (prefix_len p text) text past)
-    ]
-
 gap_takes : (text : List ℕ) → (white : List ℕ) × (text ≡ white ++ after_white text) × IsGap white (after_white text)
-gap_takes text = (
-  take (prefix_len is_white text) text,
-  sym (take-append-drop (prefix_len is_white text) text),
-  record { all = list_all_front is_white text; ends = starts_dropped is_white text },
-)
+gap_takes text = let white = white_takes text in (white.0, white.1, record { all = white.2; ends = starts_dropped is_white text })
 
 -- ---- the name
 
@@ -67,7 +41,7 @@ name_takes : (text name next : List ℕ) → name_at text ≡ Ok (name, next) �
 unfolding name_at
 name_takes text name next e =
     let n = prefix_len is_name_byte text in
-    let c = passed (is_name (take n text)) (take n text, drop n text) (name, next) refusal.Name e in
+    let c = if_ok (is_name (take n text)) (take n text, drop n text) (name, next) refusal.Name e in
     let front : take n text ≡ name = ap (λ x. x.0) c.1 in
     let back : drop n text ≡ next = ap (λ x. x.1) c.1 in
     (sym (take-append-drop n text) ∙ (λ i. front i ++ back i), ap is_name (sym front) ∙ c.0, ap (starts is_name_byte) (sym back) ∙ starts_dropped is_name_byte text)
@@ -96,7 +70,7 @@ lacks_front byte (b ∷ rest) all =
     ] all
 
 is_it : (b byte : ℕ) → not (b == byte) ≡ false → b ≡ byte
-is_it b byte e = elim (cases_bool (b == byte)) [
+is_it b byte e = elim (cases_Bool (b == byte)) [
   | inl w ↦ (Decides-eqb b byte).0 w
   | inr w ↦ absurd (let n : not false ≡ false = ap not (sym w) ∙ e in cc)
 ]
@@ -136,7 +110,7 @@ unfolding names_in
 names_takes [] names e = let none : names ≡ [] = cc in (none, ap (list_all is_name) none)
 names_takes (piece ∷ rest) names e =
     let first = bind_ok (extra_in piece) (λ name. names_in rest >>= λ others. Ok (name ∷ others)) names e in
-    let is = passed (is_name (trimmed piece)) (trimmed piece) first.0 refusal.Extras first.1 in
+    let is = if_ok (is_name (trimmed piece)) (trimmed piece) first.0 refusal.Extras first.1 in
     let second = bind_ok (names_in rest) (λ others. Ok (first.0 ∷ others)) names first.2 in
     let others = names_takes rest second.0 second.1 in
     let whole : first.0 ∷ second.0 ≡ names = cc in (
@@ -166,7 +140,7 @@ extras_takes text extras next e = by (behind 91 text) refl e
         let first = bind_ok (ok_or (around 93 rest) refusal.Extras) (λ cut. extras_in cut.0 >>= λ found. Ok (found, cut.1)) (extras, next) e in
         let second = bind_ok (extras_in first.0.0) (λ found. Ok (found, first.0.1)) (extras, next) first.2 in
         let pair : ◌≡◌ {A = List (List ℕ) × List ℕ} (second.0, first.0.1) (extras, next) = cc in
-        let cut = around_takes 93 rest first.0.0 first.0.1 (there (around 93 rest) refusal.Extras first.0 first.1) in (
+        let cut = around_takes 93 rest first.0.0 first.0.1 (ok_or_some (around 93 rest) refusal.Extras first.0 first.1) in (
           91 ∷ (first.0.0 ++ 93 ∷ []),
           behind_takes 91 text rest is ∙ ap (λ t. 91 ∷ t) cut.0 ∙ ap (λ t. 91 ∷ (first.0.0 ++ 93 ∷ t)) (ap (λ x. x.1) pair)
               ∙ ap (λ t. 91 ∷ t) (sym (append_assoc first.0.0 (93 ∷ []) next)),
@@ -193,7 +167,7 @@ marker_text_takes : (text : List ℕ) (part : Option (List ℕ)) → marker_text
 unfolding part_of
 marker_text_takes [] part e = let is : None ≡ part = cc in ap part_of is
 marker_text_takes (b ∷ rest) part e =
-    let c = passed (b == 59) (Some rest) part refusal.Trailing e in
+    let c = if_ok (b == 59) (Some rest) part refusal.Trailing e in
     (λ i. (Decides-eqb b 59).0 c.0 i ∷ rest) ∙ ap part_of c.1
 
 -- ---- the URL
@@ -293,7 +267,7 @@ set_takes text s marker no_url e m =
       whole = cuts.0;
       no_url = no_url;
       is_declared = cuts.1;
-      is_inner = within_takes (trimmed cut.0) inner.0 (there (within_parentheses (trimmed cut.0)) refusal.Specifier inner.0 inner.1);
+      is_inner = within_takes (trimmed cut.0) inner.0 (ok_or_some (within_parentheses (trimmed cut.0)) refusal.Specifier inner.0 inner.1);
       is_set = unrefused refusal.Specifier (parsed_set inner.0) set.0 set.1;
       is_last = marker_takes cut.1 marker m;
     })

@@ -3,20 +3,22 @@ use Rattle.std.proofs.Common.{length-drop, ◌≡◌, ℕ, zero, suc, ◌+◌, �
 use Rattle.std.specs.Prelude.{option_map, ◌==◌}
 use Rattle.std.specs.List.{prefix_len}
 use Rattle.std.proofs.lemmas.Bool.Decides.{nat_tests}
-use Rattle.pyver_core.specs.Version.Grammar.{is_white}
-use Rattle.pyver_core.specs.Options.{◌>>=◌}
-use Rattle.pyver_core.specs.Version.Reading.{after_white}
+use Rattle.pytext.specs.Bytes.{is_white, is_word_byte}
+use Rattle.pytext.specs.Options.{◌>>=◌}
+use Rattle.pytext.specs.White.{after_white}
 use Rattle.pyver_core.specs.Set.Normal.{operator_text}
 use Rattle.pyver_core.specs.declared.set.specifier.Operator.{Operator}
 use Rattle.pyver_core.specs.declared.set.specifier.Operator.TheVariants as operator
-use Rattle.pymark_core.proofs.Choices.{cases_bool, chosen, map_some}
+use Rattle.pytext.proofs.Options.{map_some}
+use Rattle.std.proofs.lemmas.Bool.{cases_Bool}
+use Rattle.pymark_core.proofs.Choices.{chosen}
 use Rattle.pymark_core.specs.Inner.Next.{next_front}
 use Rattle.pymark_core.specs.Inner.Front.{token_front}
 use Rattle.pymark_core.specs.Marker.Reading.{Place, finish, read, step}
 use Rattle.pymark_core.specs.Marker.Tree.{Tree}
 use Rattle.pymark_core.specs.declared.marker.error.MarkerError.{MarkerError}
 use Rattle.pymark_core.specs.declared.marker.error.MarkerError.TheVariants.{Syntax}
-use Rattle.pymark_core.specs.Marker.Token.{Token, opening, closing, sign, word, quoted, is_quote, is_word_byte, operator_in, quoted_at, token_at, token_by, token_len, tokens, tokens_behind, word_in}
+use Rattle.pymark_core.specs.Marker.Token.{Token, opening, closing, sign, word, quoted, is_quote, operator_in, quoted_at, token_at, token_by, token_len, tokens, tokens_behind, word_in}
 
 skip : (n : ℕ) (text : List ℕ) → tokens_behind n text ≡ tokens (drop n text)
 unfolding tokens_behind
@@ -33,7 +35,7 @@ drop_suc n b rest = let e : 1 + n ≡ suc n = omega arith in rw e refl
 
 pub past_white_tokens : (text : List ℕ) → tokens text ≡ tokens (after_white text)
 past_white_tokens [] = refl
-past_white_tokens (b ∷ rest) = elim (cases_bool (is_white b)) [
+past_white_tokens (b ∷ rest) = elim (cases_Bool (is_white b)) [
   | inl e ↦ white_first b rest e ∙ past_white_tokens rest ∙ rw e (ap tokens (sym (drop_suc (prefix_len is_white rest) b rest)))
   | inr e ↦ rw e refl
 ]
@@ -41,7 +43,7 @@ past_white_tokens (b ∷ rest) = elim (cases_bool (is_white b)) [
 -- what follows the white space isn't white
 not_white : (text : List ℕ) (b : ℕ) (rest : List ℕ) → after_white text ≡ b ∷ rest → is_white b ≡ false
 not_white [] b rest e = absurd cc
-not_white (c ∷ text) b rest e = elim (cases_bool (is_white c)) [
+not_white (c ∷ text) b rest e = elim (cases_Bool (is_white c)) [
   | inl w ↦ let behind : drop (1 + prefix_len is_white text) (c ∷ text) ≡ b ∷ rest = rw w at e in not_white text b rest (sym (drop_suc (prefix_len is_white text) c text) ∙ behind)
   | inr w ↦ let whole : c ∷ text ≡ b ∷ rest = rw w at e in let same : c ≡ b = cc in rw (← same) w
 ]

@@ -3,4 +3,3 @@ pub mod Inner
 pub mod Marker
 pub mod Requirement
 pub mod Variables
-pub mod White

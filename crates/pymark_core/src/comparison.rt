@@ -1,7 +1,7 @@
 //! Comparisons of markers (PEP 508, "Environment Markers").
 
 ghost use Rattle.std.specs.Prelude.{◌≡◌, IfOk, Result, string_bytes};
-ghost use Rattle.pyver_core.specs.Agreement.{Gives};
+ghost use Rattle.pytext.specs.Agreement.{Gives};
 ghost use Rattle.pyver_core.specs.Name.{norm};
 ghost use Rattle.pymark_core.specs.Environment.{has_extra, has_group};
 ghost use Rattle.pymark_core.specs.Inner.Compared.{IsRead, ReadsAs, comparator_of, left_operand};

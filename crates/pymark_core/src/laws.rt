@@ -11,7 +11,7 @@ ghost use Rattle.pymark_core.specs.Requirement.Grammar.{Req};
 ghost use Rattle.pymark_core.specs.Requirement.Reading.{requirement_of};
 ghost use Rattle.pymark_core.specs.Requirement.Value.{RequirementValue};
 ghost use Rattle.pymark_core.specs.Marker.Value.{AgreeAt, marker_value};
-ghost use Rattle.pymark_core.specs.White.{trimmed};
+ghost use Rattle.pytext.specs.White.{trimmed};
 ghost use Rattle.pymark_core.specs.declared.marker.keys.Key.{Key};
 
 use crate::{EvalFault, MarkerError, RequirementError};

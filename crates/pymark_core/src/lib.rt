@@ -12,7 +12,6 @@ mod names;
 mod operand;
 mod requirement;
 mod variable;
-mod white;
 
 pub use environment::Environment;
 pub use fault::EvalFault;

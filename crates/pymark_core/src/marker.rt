@@ -12,7 +12,7 @@ mod value;
 
 ghost use Rattle.std.specs.Fmt.{padded};
 ghost use Rattle.std.specs.Prelude.{◌≡◌, IfOk, IsErrOf, Some, false, string_bytes, true};
-ghost use Rattle.pyver_core.specs.Agreement.{Gives};
+ghost use Rattle.pytext.specs.Agreement.{Gives};
 ghost use Rattle.pymark_core.specs.Inner.View.{tree_view};
 ghost use Rattle.pymark_core.specs.Marker.Depth.{is_deep};
 ghost use Rattle.pymark_core.specs.Marker.Grammar.{MarkerText, has_misuse};
@@ -20,16 +20,16 @@ ghost use Rattle.pymark_core.specs.Marker.Keys.{is_flagged, reads};
 ghost use Rattle.pymark_core.specs.Marker.Reading.{marker_of};
 ghost use Rattle.pymark_core.specs.Marker.Tree.{Tree};
 ghost use Rattle.pymark_core.specs.Marker.Value.{marker_value};
-ghost use Rattle.pymark_core.specs.White.{trimmed};
+ghost use Rattle.pytext.specs.White.{trimmed};
 ghost use Rattle.pymark_core.specs.declared.marker.keys.Key.{Key};
 
 use crate::environment::Environment;
 use crate::fault::EvalFault;
-use crate::white::trimmed;
 use depth::is_deep;
 pub use error::MarkerError;
 pub use keys::{Key, Reads};
 use parse::read_tree;
+use pytext::trimmed;
 use std::alloc::{AllocError, Global};
 use std::fmt;
 use std::marker::Model;

@@ -4,15 +4,15 @@ mod error;
 mod parts;
 
 ghost use Rattle.std.specs.Prelude.{◌≡◌, ◌≢◌, IfErr, IfOk, map, option_map, string_bytes};
-ghost use Rattle.pyver_core.specs.Agreement.{Gives};
+ghost use Rattle.pytext.specs.Agreement.{Gives};
 ghost use Rattle.pymark_core.specs.Requirement.Grammar.{Req};
 ghost use Rattle.pymark_core.specs.Requirement.Reading.{marker_in, requirement_of};
 ghost use Rattle.pymark_core.specs.Requirement.Value.{RequirementValue};
 
 use crate::marker::{Marker, MarkerError};
-use crate::white::past_white;
 pub use error::RequirementError;
 use parts::{read_extras, read_name, read_source};
+use pytext::past_white;
 use pyver_core::SpecifierSet;
 use std::alloc::{AllocError, Global};
 use std::marker::Model;

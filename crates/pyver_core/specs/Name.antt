@@ -1,13 +1,9 @@
 -- Names (PEP 508, "Names") and their normal form (PEP 503, "Normalized Names").
-use Rattle.std.specs.Prelude.{ℕ, ◌-◌, ◌&&◌, ◌||◌, Bool, false, if◌then◌else◌, List, [], ◌∷◌, length}
+use Rattle.std.specs.Prelude.{ℕ, ◌-◌, ◌&&◌, Bool, false, if◌then◌else◌, List, [], ◌∷◌, length}
 use Rattle.std.specs.Prelude.{slice_get, Option, option_map, unwrap_or}
 use Rattle.std.specs.Char.{is_ascii_alphanumeric, to_ascii_lowercase}
 use Rattle.std.specs.List.{list_all}
-use Rattle.pyver_core.specs.Version.Grammar.{is_separator, starts}
-
--- an ASCII letter or digit, or a separator
-abbrev pub is_name_byte : ℕ → Bool
-is_name_byte b = is_ascii_alphanumeric b || is_separator b
+use Rattle.pytext.specs.Bytes.{is_name_byte, is_separator, starts}
 
 -- an ASCII letter or digit stands there
 abbrev pub is_name_end : Option ℕ → Bool

@@ -3,9 +3,10 @@
 ghost use Rattle.std.specs.Prelude.{◌≡◌, IfOk, string_bytes};
 ghost use Rattle.std.specs.List.{list_all};
 ghost use Rattle.std.specs.Option.{option_copied};
-ghost use Rattle.pyver_core.specs.Version.Grammar.{is_separator};
-ghost use Rattle.pyver_core.specs.Name.{is_name, is_name_byte, is_name_end, norm};
+ghost use Rattle.pytext.specs.Bytes.{is_separator, is_name_byte};
+ghost use Rattle.pyver_core.specs.Name.{is_name, is_name_end, norm};
 
+use pytext::is_name_byte;
 use std::alloc::{AllocError, Global};
 
 /// Whether the text is a name: one or more ASCII letters, digits, `.`, `_` and `-`, first and last
@@ -21,12 +22,6 @@ fn has_name_bytes(bytes: &[u8]) -> bool
     ensures { result ≡ list_all is_name_byte bytes.now }
 {
     bytes.iter().all(|byte| is_name_byte(*byte))
-}
-
-fn is_name_byte(byte: u8) -> bool
-    ensures { result ≡ is_name_byte byte }
-{
-    byte.is_ascii_alphanumeric() || matches!(byte, b'.' | b'_' | b'-')
 }
 
 fn is_name_end(byte: Option<&u8>) -> bool

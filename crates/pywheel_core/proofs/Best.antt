@@ -10,7 +10,7 @@ use Rattle.std.specs.List.{Contains}
 use Rattle.std.specs.Ordering.{is_lt, ordering_reverse}
 use Rattle.std.specs.declared.cmp.Ordering.{Ordering}
 use Rattle.std.specs.declared.cmp.Ordering.TheVariants.{Less, Equal, Greater}
-use Rattle.pyver_core.proofs.Lemmas.Sight.{sight}
+use Rattle.std.proofs.lemmas.Bool.{cases_Bool}
 use Rattle.pywheel_core.specs.Choice.{ComesBehind, IsBest, IsCompatible, IsRank, Ranked, best, best_from, better, is_better, least_rank, rank_from, ranked}
 use Rattle.pywheel_core.specs.Tag.{TagValue, rank_of}
 use Rattle.pywheel_core.specs.Wheel.Build.{build_number, build_rest, builds_cmp}
@@ -37,12 +37,12 @@ contains_there x xs t h = (suc h.0, omega (arith, h.1), h.2)
 least_none : (a m : Option ℕ) → least_rank a m ≡ None → (a ≡ None) × (m ≡ None)
 least_none None m e = (refl, e)
 least_none (Some a) None e = absurd cc
-least_none (Some a) (Some b) e = elim (sight (nat_lt b a)) [ inl t ↦ absurd (let z : Some b ≡ None = rw t at e in cc) | inr t ↦ absurd (let z : Some a ≡ None = rw t at e in cc) ]
+least_none (Some a) (Some b) e = elim (cases_Bool (nat_lt b a)) [ inl t ↦ absurd (let z : Some b ≡ None = rw t at e in cc) | inr t ↦ absurd (let z : Some a ≡ None = rw t at e in cc) ]
 
 least_is : (a m : Option ℕ) (r : ℕ) → least_rank a m ≡ Some r → (a ≡ Some r) ⊎ (m ≡ Some r)
 least_is None m r e = inr e
 least_is (Some a) None r e = inl e
-least_is (Some a) (Some b) r e = elim (sight (nat_lt b a)) [ inl t ↦ inr (rw t at e) | inr t ↦ inl (rw t at e) ]
+least_is (Some a) (Some b) r e = elim (cases_Bool (nat_lt b a)) [ inl t ↦ inr (rw t at e) | inr t ↦ inl (rw t at e) ]
 
 least_below : (a m : Option ℕ) (s : ℕ) → (a ≡ Some s) ⊎ (m ≡ Some s) → (u : ℕ) × (least_rank a m ≡ Some u) × (u ≤ s)
 least_below None m s (inl e) = absurd cc
@@ -51,13 +51,13 @@ least_below (Some a) None s (inl e) = (s, e, omega arith)
 least_below (Some a) None s (inr e) = absurd cc
 least_below (Some a) (Some b) s (inl e) =
     let same : a ≡ s = same_Some a s e in
-    elim (sight (nat_lt b a)) [
+    elim (cases_Bool (nat_lt b a)) [
       | inl t ↦ (b, rw t refl, grind (arith, nat_tests, t, same))
       | inr t ↦ (a, rw t refl, omega (arith, same))
     ]
 least_below (Some a) (Some b) s (inr e) =
     let same : b ≡ s = same_Some b s e in
-    elim (sight (nat_lt b a)) [
+    elim (cases_Bool (nat_lt b a)) [
       | inl t ↦ (b, rw t refl, omega (arith, same))
       | inr t ↦ (a, rw t refl, grind (arith, nat_tests, t, same))
     ]
@@ -146,7 +146,7 @@ IsBestBelow wheels tags n (Some b) = (b.place < n) × Says wheels tags b.place (
 
 -- a place is below another or is it
 below_or_at : (place n : ℕ) → place < suc n → (place < n) ⊎ (place ≡ n)
-below_or_at place n l = elim (sight (nat_lt place n)) [ inl t ↦ inl (grind (arith, nat_tests, t)) | inr t ↦ inr (grind (arith, nat_tests, t, l)) ]
+below_or_at place n l = elim (cases_Bool (nat_lt place n)) [ inl t ↦ inl (grind (arith, nat_tests, t)) | inr t ↦ inr (grind (arith, nat_tests, t, l)) ]
 
 reversed : (x y : Option (List ℕ)) (o : Ordering) → builds_cmp x y ≡ o → builds_cmp y x ≡ ordering_reverse o
 reversed x y o e = builds_total.antisymm y x ∙ ap ordering_reverse e
@@ -201,7 +201,7 @@ later_behind : (first later : Ranked) → first.place < later.place → is_bette
 later_behind first later l t =
     let p = neither_holds (nat_lt later.rank first.rank) ((later.rank == first.rank) && is_lt (builds_cmp first.build later.build)) t in
     let low = p.0 in
-    elim (sight (later.rank == first.rank)) [
+    elim (cases_Bool (later.rank == first.rank)) [
       | inl e ↦
           let same : first.rank ≡ later.rank = sym ((Decides-eqb later.rank first.rank).0 e) in
           let rest : is_lt (builds_cmp first.build later.build) ≡ false = rw e at p.1 in
@@ -238,12 +238,12 @@ step wheels tags n (Some a) None h s =
     )
 step wheels tags n (Some a) (Some b) h s =
     let l0 = h.0 in let e = s.0 in
-    elim (sight (is_better b a)) [
+    elim (cases_Bool (is_better b a)) [
       | inl t ↦ rw t (
         omega (arith, e),
         subst (λ p. Says wheels tags p (Some b)) (sym s.0) s,
         λ place v rank l x other. elim (below_or_at place n l) [
-          | inl k ↦ elim (sight (place == a.place)) [
+          | inl k ↦ elim (cases_Bool (place == a.place)) [
             | inl q ↦
                 let there : place ≡ a.place = (Decides-eqb place a.place).0 q in
                 let same = h.1.2 v rank (subst (λ p. IsCompatible wheels tags p v rank) there x) in
@@ -329,7 +329,7 @@ one_best : (wheels : List (Option WheelValue)) (tags : List TagValue) (p q : Opt
 one_best wheels tags None None x y = refl
 one_best wheels tags None (Some q) x y = absurd (x q y.0 y.1 y.2)
 one_best wheels tags (Some p) None x y = absurd (y p x.0 x.1 x.2)
-one_best wheels tags (Some p) (Some q) x y = elim (sight (p == q)) [
+one_best wheels tags (Some p) (Some q) x y = elim (cases_Bool (p == q)) [
   | inl e ↦ ap Some ((Decides-eqb p q).0 e)
   | inr e ↦
       let other : p ≡ q → ⊥ = λ z. true≢false (sym ((Decides-eqb p q).1 z) ∙ e) in

@@ -2,7 +2,7 @@
 use Rattle.std.proofs.Common.{◌≡◌, ℕ, suc, ◌+◌, ◌<◌, ◌≤◌, List, length, drop, map, slice_index_or, Option, Ok, Bor, ap, ◌∙◌, arith}
 use Rattle.std.proofs.lemmas.List.{drop_more}
 use Rattle.std.proofs.lemmas.List.{drop_all}
-use Rattle.pyver_core.specs.Results.{◌>>=◌}
+use Rattle.pytext.specs.Results.{◌>>=◌}
 use Rattle.pywheel_core.specs.Choice.{Ranked, best_from, better, least_rank, rank_from, ranked}
 use Rattle.pywheel_core.specs.Tag.{TagValue, at_place, rank_of, tag_of, tags_after, with_tag}
 use Rattle.pywheel_core.specs.Wheel.Value.{WheelValue}

@@ -10,7 +10,8 @@ use Rattle.std.proofs.lemmas.List.{length-append}
 use Rattle.std.specs.Cmp.Lexicographic.{bytes_decides}
 use Rattle.std.specs.Str.Pattern.{FindsTextSuffix, StripsSuffix}
 use Rattle.std.specs.List.{All, after_first, before_first, list_any, position_or_len}
-use Rattle.pyver_core.proofs.Lemmas.Sight.{option_sight, sight}
+use Rattle.pytext.proofs.Options.{option_sight}
+use Rattle.std.proofs.lemmas.Bool.{cases_Bool}
 use Rattle.pywheel_core.specs.Texts.{before_cut, cut_at, pieces_at}
 use Rattle.pywheel_core.specs.Inner.Places.{places_from}
 use Rattle.pywheel_core.specs.Tag.{pieces}
@@ -24,14 +25,14 @@ cut-first c (b ∷ s) h =
     let n = position_or_len (λ x. x == c) s in
     let one : suc n ≡ 1 + n = omega arith in
     let two : suc (n + 1) ≡ 1 + n + 1 = omega arith in
-    elim (sight (b == c)) [
+    elim (cases_Bool (b == c)) [
       | inl e ↦ rw e refl
       | inr e ↦ let h2 = rw e at h in rw e (ap (option_map (before_cut b)) (cut-first c s (omega (arith, h2))) ∙ (λ i. Some (take (one i) (b ∷ s), drop (two i) (b ∷ s))))
     ]
 
 pub cut-none : (c : ℕ) (s : List ℕ) → position_or_len (λ b. b == c) s ≡ length s → cut_at c s ≡ None
 cut-none c [] h = refl
-cut-none c (b ∷ s) h = elim (sight (b == c)) [
+cut-none c (b ∷ s) h = elim (cases_Bool (b == c)) [
   | inl e ↦ let h2 = rw e at h in absurd (omega (arith, h2))
   | inr e ↦ let h2 = rw e at h in rw e (ap (option_map (before_cut b)) (cut-none c s (omega (arith, h2))))
 ]
@@ -51,7 +52,7 @@ pub stem_is : (s : List ℕ) (r : Option (Bor (List ℕ)))
 unfolding stem_of
 stem_is s None h =
     let m = length s - 4 in
-    elim (sight (bytes_eq (drop m s) (codes ".whl"))) [
+    elim (cases_Bool (bytes_eq (drop m s) (codes ".whl"))) [
       | inl e ↦ absurd (h (take m s) (sym (take-append-drop m s) ∙ ap (λ l. take m s ++ l) ((bytes_decides (drop m s) (codes ".whl")).0 e)))
       | inr e ↦ rw e refl
     ]
@@ -84,7 +85,7 @@ lacks_more c b s e h = rw e h
 
 pub cut_says : (c : ℕ) (s x y : List ℕ) → cut_at c s ≡ Some (x, y) → (s ≡ x ++ (c ∷ y)) × Lacks c x
 cut_says c [] x y h = absurd cc
-cut_says c (b ∷ s) x y h = elim (sight (b == c)) [
+cut_says c (b ∷ s) x y h = elim (cases_Bool (b == c)) [
   | inl e ↦ let q : Some ([], s) ≡ Some (x, y) = rw e at h in
       let p : ([], s) ≡ (x, y) = same_Some ([], s) (x, y) q in
       let front : [] ≡ x = ap (λ r. r.0) p in let back : s ≡ y = ap (λ r. r.1) p in
@@ -101,7 +102,7 @@ cut_says c (b ∷ s) x y h = elim (sight (b == c)) [
 
 pub no_cut_says : (c : ℕ) (s : List ℕ) → cut_at c s ≡ None → Lacks c s
 no_cut_says c [] h = refl
-no_cut_says c (b ∷ s) h = elim (sight (b == c)) [
+no_cut_says c (b ∷ s) h = elim (cases_Bool (b == c)) [
   | inl e ↦ absurd (let q : Some ([], s) ≡ None = rw e at h in cc)
   | inr e ↦ let q : option_map (before_cut b) (cut_at c s) ≡ None = rw e at h in
       elim (option_sight (cut_at c s)) [

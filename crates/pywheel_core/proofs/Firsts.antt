@@ -4,7 +4,7 @@ use Rattle.std.proofs.lemmas.List.{append-nil, append_assoc}
 use Rattle.std.proofs.lemmas.List.Folds.{list_any-append}
 use Rattle.std.proofs.lemmas.Map.Steps.{list_any_congr}
 use Rattle.std.specs.List.{IsDistinct, list_any, position_or_len}
-use Rattle.pyver_core.proofs.Lemmas.Sight.{sight}
+use Rattle.std.proofs.lemmas.Bool.{cases_Bool}
 use Rattle.pywheel_core.specs.Tag.{AreFirsts, AreTags, IsNoTag, TagValue, at_place, first_place, is_among, tag_eq, tag_of, tags_after, tags_of, with_tag}
 use Rattle.pywheel_core.specs.TagLaws.{tag_equiv}
 use Rattle.pywheel_core.specs.declared.error.TagError.{TagError}
@@ -12,20 +12,20 @@ use Rattle.pywheel_core.specs.declared.error.TagError.TheVariants as tag
 use Rattle.pywheel_core.specs.declared.error.TagListError.TheVariants as list
 use Rattle.pywheel_core.proofs.Listing.{with_tag_distinct}
 use Rattle.pywheel_core.proofs.Memory.{tag_wants_none}
-use Rattle.pywheel_core.proofs.Naming.{bind_ok}
+use Rattle.pytext.proofs.Results.{bind_ok}
 
 -- ---- the place of what is there, and of what isn't
 
 found_before : {X : Type 0} (p : X → Bool) (xs : List X) → list_any p xs ≡ true → position_or_len p xs < length xs
 found_before p [] e = absurd cc
-found_before p (x ∷ xs) e = elim (sight (p x)) [
+found_before p (x ∷ xs) e = elim (cases_Bool (p x)) [
   | inl holds ↦ rw holds (omega arith)
   | inr fails ↦ let rest : list_any p xs ≡ true = rw fails at e in let l = found_before p xs rest in rw fails (omega (arith, l))
 ]
 
 lacking_after : {X : Type 0} (p : X → Bool) (xs : List X) → list_any p xs ≡ false → position_or_len p xs ≡ length xs
 lacking_after p [] e = refl
-lacking_after p (x ∷ xs) e = elim (sight (p x)) [
+lacking_after p (x ∷ xs) e = elim (cases_Bool (p x)) [
   | inl holds ↦ let bad = rw holds at e in absurd cc
   | inr fails ↦ let rest : list_any p xs ≡ false = rw fails at e in let more = lacking_after p xs rest in rw fails (omega (arith, more))
 ]
@@ -33,14 +33,14 @@ lacking_after p (x ∷ xs) e = elim (sight (p x)) [
 -- one more behind the others: what is among them stays at its place, and what isn't comes behind
 kept_place : {X : Type 0} (p : X → Bool) (xs : List X) (y : X) → list_any p xs ≡ true → position_or_len p (xs ++ y ∷ []) ≡ position_or_len p xs
 kept_place p [] y e = absurd cc
-kept_place p (x ∷ xs) y e = elim (sight (p x)) [
+kept_place p (x ∷ xs) y e = elim (cases_Bool (p x)) [
   | inl holds ↦ rw holds refl
   | inr fails ↦ let rest : list_any p xs ≡ true = rw fails at e in rw fails (ap (λ n. 1 + n) (kept_place p xs y rest))
 ]
 
 last_place : {X : Type 0} (p : X → Bool) (xs : List X) (y : X) → list_any p xs ≡ false → p y ≡ true → position_or_len p (xs ++ y ∷ []) ≡ length xs
 last_place p [] y e holds = rw holds refl
-last_place p (x ∷ xs) y e holds = elim (sight (p x)) [
+last_place p (x ∷ xs) y e holds = elim (cases_Bool (p x)) [
   | inl is ↦ let bad = rw is at e in absurd cc
   | inr fails ↦ let rest : list_any p xs ≡ false = rw fails at e in let more = last_place p xs y rest holds in rw fails (omega (arith, more))
 ]
@@ -50,7 +50,7 @@ last_place p (x ∷ xs) y e holds = elim (sight (p x)) [
 own_last : (tags : List TagValue) (t a : TagValue) → is_among a (tags ++ t ∷ []) ≡ true → is_among a tags ≡ false → tag_eq a t ≡ true
 own_last tags t a among new =
     let x : (list_any (tag_eq a) tags || (tag_eq a t || false)) ≡ true = sym (list_any-append (tag_eq a) tags (t ∷ [])) ∙ among in
-    elim (sight (tag_eq a t)) [
+    elim (cases_Bool (tag_eq a t)) [
       | inl holds ↦ holds
       | inr fails ↦ let bad = rw (new, fails) at x in absurd cc
     ]
@@ -58,25 +58,25 @@ own_last tags t a among new =
 same_with : (given tags : List TagValue) (t : TagValue) → ((u : TagValue) → is_among u tags ≡ is_among u given) → (u : TagValue) → is_among u (with_tag tags t) ≡ is_among u (given ++ t ∷ [])
 same_with given tags t same u =
     let whole = list_any-append (tag_eq u) given (t ∷ []) in
-    elim (sight (list_any (tag_eq t) tags)) [
-      | inl old ↦ elim (sight (tag_eq u t)) [
+    elim (cases_Bool (list_any (tag_eq t) tags)) [
+      | inl old ↦ elim (cases_Bool (tag_eq u t)) [
         | inl is ↦
             let there : is_among u tags ≡ true = list_any_congr tag_equiv u t tags is ∙ old in
             let given_too : is_among u given ≡ true = sym (same u) ∙ there in
             rw (old, whole, there, given_too) refl
-        | inr fails ↦ rw (old, whole, fails, same u) (elim (sight (is_among u given)) [ inl e ↦ rw e refl | inr e ↦ rw e refl ])
+        | inr fails ↦ rw (old, whole, fails, same u) (elim (cases_Bool (is_among u given)) [ inl e ↦ rw e refl | inr e ↦ rw e refl ])
       ]
       | inr new ↦ rw new (list_any-append (tag_eq u) tags (t ∷ []) ∙ (λ i. same u i || (tag_eq u t || false)) ∙ sym whole)
     ]
 
 ordered_push : (given tags : List TagValue) (t : TagValue) → AreFirsts given tags → (a b : TagValue) → is_among a (tags ++ t ∷ []) ≡ true → is_among b (tags ++ t ∷ []) ≡ true
     → first_place a (tags ++ t ∷ []) < first_place b (tags ++ t ∷ []) → first_place a (given ++ t ∷ []) < first_place b (given ++ t ∷ [])
-ordered_push given tags t f a b has_a has_b less = elim (sight (is_among a tags)) [
+ordered_push given tags t f a b has_a has_b less = elim (cases_Bool (is_among a tags)) [
   | inl old ↦
       let given_a : is_among a given ≡ true = sym (f.same a) ∙ old in
       let x = kept_place (tag_eq a) given t given_a in
       let y = kept_place (tag_eq a) tags t old in
-      elim (sight (is_among b tags)) [
+      elim (cases_Bool (is_among b tags)) [
         | inl too ↦
             let z = kept_place (tag_eq b) given t (sym (f.same b) ∙ too) in
             let w = kept_place (tag_eq b) tags t too in
@@ -90,7 +90,7 @@ ordered_push given tags t f a b has_a has_b less = elim (sight (is_among a tags)
       ]
   | inr last ↦
       let y = last_place (tag_eq a) tags t last (own_last tags t a has_a last) in
-      elim (sight (is_among b tags)) [
+      elim (cases_Bool (is_among b tags)) [
         | inl old ↦
             let w = kept_place (tag_eq b) tags t old in
             let within = found_before (tag_eq b) tags old in
@@ -108,7 +108,7 @@ ordered_same given tags t f a b has_a has_b less =
     omega (arith, x, z, after)
 
 firsts_with : (given tags : List TagValue) (t : TagValue) → AreFirsts given tags → AreFirsts (given ++ t ∷ []) (with_tag tags t)
-firsts_with given tags t f = elim (sight (list_any (tag_eq t) tags)) [
+firsts_with given tags t f = elim (cases_Bool (list_any (tag_eq t) tags)) [
   | inl old ↦ record {
     distinct = with_tag_distinct tags t f.distinct;
     same = same_with given tags t f.same;

@@ -6,15 +6,16 @@ use Rattle.std.specs.List.{IsDistinct, list_any}
 use Rattle.std.specs.Option.{ok_or}
 use Rattle.std.specs.Result.{IfOk, IsErrOf}
 use Rattle.std.specs.Str.{str_to_ascii_lowercase}
-use Rattle.pyver_core.proofs.Lemmas.Sight.{chosen, sight}
-use Rattle.pyver_core.specs.Agreement.{Gives}
+use Rattle.std.proofs.lemmas.Bool.{cases_Bool, cond-true}
+use Rattle.pytext.specs.Agreement.{Gives}
 use Rattle.pywheel_core.specs.Tag.{TagText, TagValue, at_place, is_tag, is_tag_part, rank_of, tag_eq, tag_of, tag_text, tag_with, tags_after, tags_of, with_tag}
 use Rattle.pywheel_core.specs.TagLaws.{tag_equiv}
 use Rattle.pywheel_core.specs.Texts.{three_parts}
 use Rattle.pywheel_core.specs.declared.error.TagError.{TagError}
 use Rattle.pywheel_core.specs.declared.error.TagError.TheVariants as tag
 use Rattle.pywheel_core.proofs.Cuts.{and_both}
-use Rattle.pywheel_core.proofs.Naming.{bind_ok, if_ok, ok_or_some, part_lacks, three_joined}
+use Rattle.pytext.proofs.Results.{bind_ok, if_ok, ok_or_some}
+use Rattle.pywheel_core.proofs.Naming.{part_lacks, three_joined}
 use Rattle.pywheel_core.proofs.Pieces.{tag_taken, three_say}
 
 -- ---- one tag
@@ -41,7 +42,7 @@ tag_made text t x =
 -- ---- lists
 
 pub with_tag_distinct : (tags : List TagValue) (t : TagValue) → IsDistinct tag_eq tags → IsDistinct tag_eq (with_tag tags t)
-with_tag_distinct tags t d = elim (sight (list_any (tag_eq t) tags)) [
+with_tag_distinct tags t d = elim (cases_Bool (list_any (tag_eq t) tags)) [
   | inl e ↦ rw e d
   | inr e ↦ rw e (IsDistinct-push tag_equiv tags t d e)
 ]
@@ -57,7 +58,7 @@ unfolding tags_of IsDistinct
 distinct texts tags h = after_distinct [] 1 texts tags tt h
 
 front_kept : (t : TagValue) (tags : List TagValue) (u : TagValue) → (more : List TagValue) × (with_tag (t ∷ tags) u ≡ t ∷ more)
-front_kept t tags u = elim (sight (list_any (tag_eq u) (t ∷ tags))) [
+front_kept t tags u = elim (cases_Bool (list_any (tag_eq u) (t ∷ tags))) [
   | inl e ↦ (tags, rw e refl)
   | inr e ↦ (tags ++ u ∷ [], rw e refl)
 ]
@@ -77,7 +78,7 @@ ranks_first : (t : TagValue) (more : List TagValue) → rank_of t (t ∷ more) �
 ranks_first t more =
     let own = tag_equiv.refl t in
     let some : nat_lt 0 (length (t ∷ more)) ≡ true = grind (arith, nat_tests) in
-    rw own (chosen (nat_lt 0 (length (t ∷ more))) (Some 0) None some)
+    rw own (cond-true (nat_lt 0 (length (t ∷ more))) (Some 0) None some)
 
 pub first : (text : List ℕ) (texts : List (List ℕ)) (t : TagValue) (tags : List TagValue) → tag_of text ≡ Ok t → tags_of (text ∷ texts) ≡ Ok tags → rank_of t tags ≡ Some 0
 unfolding tags_of

@@ -5,10 +5,12 @@ use Rattle.std.proofs.lemmas.List.{length-map}
 use Rattle.std.specs.Char.{to_ascii_lowercase}
 use Rattle.std.specs.List.{list_all, onto_first}
 use Rattle.std.specs.Str.{str_to_ascii_lowercase}
-use Rattle.pyver_core.proofs.Lemmas.Sight.{option_sight, sight}
+use Rattle.pytext.proofs.Options.{option_sight}
+use Rattle.std.proofs.lemmas.Bool.{cases_Bool}
 use Rattle.pywheel_core.specs.Inner.Lent.{lower_set}
 use Rattle.pywheel_core.specs.Inner.Places.{places_from, places_of}
-use Rattle.pywheel_core.specs.Tag.{TAGS_LIMIT, TagParts, TagValue, are_tag_parts, is_tag, is_tag_byte, is_tag_part, is_tag_set, pieces, tag_of, tag_with, tags_in}
+use Rattle.pytext.specs.Bytes.{is_word_byte}
+use Rattle.pywheel_core.specs.Tag.{TAGS_LIMIT, TagParts, TagValue, are_tag_parts, is_tag, is_tag_part, is_tag_set, pieces, tag_of, tag_with, tags_in}
 use Rattle.pywheel_core.specs.Texts.{before_cut, cut_at, three_parts}
 use Rattle.pywheel_core.specs.Wheel.Reading.{set_tags_in, tag_set_in}
 use Rattle.pywheel_core.specs.declared.error.TagError.TheVariants as tag
@@ -21,11 +23,11 @@ use Rattle.pywheel_core.proofs.Pieces.{SetStands, TagStands, made_of, set_places
 -- ---- one byte
 
 pub lower_eq : (c b : ℕ) → c < 65 → (to_ascii_lowercase b == c) ≡ (b == c)
-lower_eq c b small = elim (sight (nat_lt b 65)) [
+lower_eq c b small = elim (cases_Bool (nat_lt b 65)) [
   | inl e ↦ rw e refl
   | inr e ↦
       let low : 65 ≤ b = grind (arith, nat_tests, e) in
-      elim (sight (nat_lt b 91)) [
+      elim (cases_Bool (nat_lt b 91)) [
         | inl f ↦ rw (e, f) (same_test (b + 32 == c) (b == c)
             (λ t. absurd (let z = (Decides-eqb (b + 32) c).0 t in omega (arith, z, low, small)))
             (λ t. absurd (let z = (Decides-eqb b c).0 t in omega (arith, z, low, small))))
@@ -33,13 +35,13 @@ lower_eq c b small = elim (sight (nat_lt b 65)) [
       ]
 ]
 
-lower_tag_byte : (b : ℕ) → is_tag_byte (to_ascii_lowercase b) ≡ is_tag_byte b
-lower_tag_byte b = elim (sight (nat_lt b 65)) [
+lower_tag_byte : (b : ℕ) → is_word_byte (to_ascii_lowercase b) ≡ is_word_byte b
+lower_tag_byte b = elim (cases_Bool (nat_lt b 65)) [
   | inl e ↦ rw e refl
-  | inr e ↦ elim (sight (nat_lt b 91)) [
+  | inr e ↦ elim (cases_Bool (nat_lt b 91)) [
     | inl f ↦
-        let x : is_tag_byte (b + 32) ≡ true = grind (arith, nat_tests, e, f) in
-        let y : is_tag_byte b ≡ true = grind (arith, nat_tests, e, f) in
+        let x : is_word_byte (b + 32) ≡ true = grind (arith, nat_tests, e, f) in
+        let y : is_word_byte b ≡ true = grind (arith, nat_tests, e, f) in
         rw (e, f) (x ∙ sym y)
     | inr f ↦ rw (e, f) refl
   ]
@@ -47,7 +49,7 @@ lower_tag_byte b = elim (sight (nat_lt b 65)) [
 
 -- ---- parts
 
-lower_bytes : (s : List ℕ) → list_all is_tag_byte (str_to_ascii_lowercase s) ≡ list_all is_tag_byte s
+lower_bytes : (s : List ℕ) → list_all is_word_byte (str_to_ascii_lowercase s) ≡ list_all is_word_byte s
 lower_bytes [] = refl
 lower_bytes (b ∷ s) = λ i. lower_tag_byte b i && lower_bytes s i
 
@@ -70,7 +72,7 @@ before_map b (Some x) = refl
 
 lower_cut : (s : List ℕ) → cut_at 45 (str_to_ascii_lowercase s) ≡ option_map (λ x. (str_to_ascii_lowercase x.0, str_to_ascii_lowercase x.1)) (cut_at 45 s)
 lower_cut [] = refl
-lower_cut (b ∷ s) = elim (sight (b == 45)) [
+lower_cut (b ∷ s) = elim (cases_Bool (b == 45)) [
   | inl e ↦ let q = lower_eq 45 b (omega arith) ∙ e in rw (q, e) refl
   | inr e ↦ let q = lower_eq 45 b (omega arith) ∙ e in rw (q, e) (ap (option_map (before_cut (to_ascii_lowercase b))) (lower_cut s) ∙ before_map b (cut_at 45 s))
 ]
@@ -140,7 +142,7 @@ onto_lower b (p ∷ ps) = refl
 
 lower_pieces : (s : List ℕ) → pieces (str_to_ascii_lowercase s) ≡ map str_to_ascii_lowercase (pieces s)
 lower_pieces [] = refl
-lower_pieces (b ∷ s) = elim (sight (b == 46)) [
+lower_pieces (b ∷ s) = elim (cases_Bool (b == 46)) [
   | inl e ↦ let q = lower_eq 46 b (omega arith) ∙ e in rw (q, e) (ap (λ l. [] ∷ l) (lower_pieces s))
   | inr e ↦ let q = lower_eq 46 b (omega arith) ∙ e in rw (q, e) (ap (onto_first (to_ascii_lowercase b)) (lower_pieces s) ∙ onto_lower b (pieces s))
 ]
@@ -187,7 +189,7 @@ set_read text lower s tags is h ok made =
 
 pub set_refused : (text : List ℕ) (s : TagParts) → three_parts 45 text ≡ Some s → (is_tag_set s ≡ true → ⊥) → tag_set_in text ≡ Err wheel.Tags
 unfolding tag_set_in set_tags_in
-set_refused text s h bad = elim (sight (is_tag_set s)) [
+set_refused text s h bad = elim (cases_Bool (is_tag_set s)) [
   | inl e ↦ absurd (bad e)
   | inr fails ↦ let e = lower_cut_set text s h in let f = lower_is_set s ∙ fails in rw (e, f) refl
 ]

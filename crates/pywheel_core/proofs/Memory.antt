@@ -1,7 +1,7 @@
 -- No definition answers want of memory.
 use Rattle.std.proofs.Common.{ℕ, suc, List, [], ◌∷◌, Option, Some, None, ok_or, Result, Ok, Err}
 use Rattle.std.specs.Str.{str_to_ascii_lowercase}
-use Rattle.pyver_core.proofs.Lemmas.Never.{Never, never_cond, never_or, never_then}
+use Rattle.pytext.proofs.Never.{Never, never_cond, never_or, never_then}
 use Rattle.pyver_core.specs.Parsed.{parsed_version}
 use Rattle.pyver_core.specs.Version.Parts.{Parts}
 use Rattle.pyver_core.specs.declared.version.error.VersionError.{VersionError}

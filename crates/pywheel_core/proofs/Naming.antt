@@ -12,15 +12,18 @@ use Rattle.std.specs.Option.{IfSome, ok_or, option_to_list}
 use Rattle.std.specs.Result.{IfErr, IfOk}
 use Rattle.std.specs.Str.{str_to_ascii_lowercase}
 use Rattle.pyver_core.proofs.Lemmas.Version.Complete.Whole.{version_again}
-use Rattle.pyver_core.proofs.Lemmas.Sight.{option_sight, sight}
+use Rattle.pytext.proofs.Options.{option_sight}
+use Rattle.std.proofs.lemmas.Bool.{cases_Bool}
 use Rattle.pyver_core.proofs.Lemmas.Version.Sound.Parts.{version_takes}
 use Rattle.pyver_core.specs.Version.Grammar.{IsLarge, Spells, has_large, numbers}
 use Rattle.pyver_core.specs.Version.Parts.{Parts}
 use Rattle.pyver_core.specs.Version.Reading.{version_of}
-use Rattle.pyver_core.specs.Agreement.{Gives}
-use Rattle.pyver_core.specs.Results.{◌>>=◌}
+use Rattle.pytext.specs.Agreement.{Gives}
+use Rattle.pytext.proofs.Results.{bind_ok, if_ok, ok_or_some}
+use Rattle.pytext.specs.Results.{◌>>=◌}
 use Rattle.pyver_core.specs.Parsed.{parsed_version}
-use Rattle.pywheel_core.specs.Tag.{TAGS_LIMIT, TagParts, TagValue, are_tag_parts, has_tag_parts, is_tag_byte, is_tag_part, is_tag_set, pieces, tag_count, tags_in}
+use Rattle.pytext.specs.Bytes.{is_word_byte}
+use Rattle.pywheel_core.specs.Tag.{TAGS_LIMIT, TagParts, TagValue, are_tag_parts, has_tag_parts, is_tag_part, is_tag_set, pieces, tag_count, tags_in}
 use Rattle.std.proofs.lemmas.List.Splits.{join_with_byte-slice_split}
 use Rattle.pywheel_core.specs.Texts.{has_pair, three_parts}
 use Rattle.pywheel_core.specs.Wheel.Build.{is_build}
@@ -36,20 +39,6 @@ use Rattle.pywheel_core.proofs.Lowering.{lower_cut_set, lower_eq}
 use Rattle.pywheel_core.proofs.NamingParts.{parts_made, parts_say}
 use Rattle.pywheel_core.proofs.Pieces.{three_say}
 use Rattle.pywheel_core.proofs.Versions.{version_taken}
-
--- ---- steps that are taken
-
-pub bind_ok : {A B E : Type 0} (r : Result A E) (f : A → Result B E) (y : B) → (r >>= f) ≡ Ok y → (x : A) × (r ≡ Ok x) × (f x ≡ Ok y)
-bind_ok (Ok x) f y h = (x, refl, h)
-bind_ok (Err e) f y h = absurd cc
-
-pub ok_or_some : {A E : Type 0} (o : Option A) (e : E) (x : A) → ok_or o e ≡ Ok x → o ≡ Some x
-ok_or_some None e x h = absurd cc
-ok_or_some (Some y) e x h = cc
-
-pub if_ok : {A E : Type 0} (b : Bool) (x y : A) (e : E) → (if b then Ok x else Err e) ≡ Ok y → (b ≡ true) × (x ≡ y)
-if_ok true x y e h = (refl, cc)
-if_ok false x y e h = absurd cc
 
 -- ---- lower case keeps `-`
 
@@ -84,7 +73,7 @@ pub stem_says : (text stem : List ℕ) → stem_of text ≡ Some stem → text �
 unfolding stem_of
 stem_says text stem h =
     let m = length text - 4 in
-    elim (sight (bytes_eq (drop m text) (codes ".whl"))) [
+    elim (cases_Bool (bytes_eq (drop m text) (codes ".whl"))) [
       | inl e ↦
           let front : take m text ≡ stem = same_Some (take m text) stem (rw e at h) in
           sym (take-append-drop m text) ∙ (λ i. front i ++ (bytes_decides (drop m text) (codes ".whl")).0 e i)
@@ -111,7 +100,7 @@ version_says : (text : List ℕ) (v : Parts) → version_in text ≡ Ok v → Sp
 unfolding version_in parsed_version
 version_says text v h = elim (option_sight (version_of text)) [
   | inl none ↦ absurd (let z : refused wheel.Version ≡ taken v = rw none at h in cc)
-  | inr u ↦ let h2 = rw u.1 at h in elim (sight (has_large (numbers u.0))) [
+  | inr u ↦ let h2 = rw u.1 at h in elim (cases_Bool (has_large (numbers u.0))) [
     | inl large ↦ absurd (let z : refused wheel.Version ≡ taken v = rw large at h2 in cc)
     | inr small ↦
         let q : taken u.0 ≡ taken v = rw small at h2 in
@@ -213,14 +202,14 @@ bytes_lack : (test : ℕ → Bool) → ((b : ℕ) → test b ≡ true → (b == 
 bytes_lack test no_dash [] h = refl
 bytes_lack test no_dash (b ∷ s) h = let p = and_both (test b) (list_all test s) h in let e = no_dash b p.0 in rw e (bytes_lack test no_dash s p.1)
 
-tag_byte_no_dash : (b : ℕ) → is_tag_byte b ≡ true → (b == 45) ≡ false
+tag_byte_no_dash : (b : ℕ) → is_word_byte b ≡ true → (b == 45) ≡ false
 tag_byte_no_dash b h = grind (arith, nat_tests, h)
 
 name_byte_no_dash : (b : ℕ) → is_wheel_name_byte b ≡ true → (b == 45) ≡ false
 name_byte_no_dash b h = grind (arith, nat_tests, h)
 
 pub part_lacks : (s : List ℕ) → is_tag_part s ≡ true → Lacks 45 s
-part_lacks s h = bytes_lack is_tag_byte tag_byte_no_dash s (and_both (nat_lt 0 (length s)) (list_all is_tag_byte s) h).1
+part_lacks s h = bytes_lack is_word_byte tag_byte_no_dash s (and_both (nat_lt 0 (length s)) (list_all is_word_byte s) h).1
 
 joined_lack : (ps : List (List ℕ)) → are_tag_parts ps ≡ true → Lacks 45 (join_with_byte 46 ps)
 joined_lack [] h = refl

@@ -1,22 +1,14 @@
 -- What the five or six parts of a wheel's name say of it.
-use Rattle.std.proofs.Common.{◌≡◌, ◌⊎◌, ℕ, List, ◌∷◌, ◌++◌, Option, Some, None, is_some, if◌then◌else◌, refl, subst, ap, ◌∙◌, inl, inr}
+use Rattle.std.proofs.Common.{◌≡◌, ℕ, List, ◌∷◌, ◌++◌, Option, Some, None, is_some, if◌then◌else◌, refl, subst, ap, ◌∙◌, inl, inr}
 use Rattle.std.proofs.lemmas.Option.{same_Some}
 use Rattle.std.specs.Option.{IfSome}
-use Rattle.pyver_core.proofs.Lemmas.Sight.{option_sight}
-use Rattle.pyver_core.specs.Options.{◌>>=◌, either}
+use Rattle.pytext.proofs.Options.{bind_some, either_some, option_sight}
+use Rattle.pytext.specs.Options.{◌>>=◌, either}
 use Rattle.pywheel_core.specs.Tag.{TagParts}
 use Rattle.pywheel_core.specs.Texts.{cut_at, three_parts}
 use Rattle.pywheel_core.specs.Wheel.Cut.{WheelParts, built, parts_of, unbuilt}
 use Rattle.pywheel_core.specs.Wheel.Value.{with_build}
 use Rattle.pywheel_core.proofs.Cuts.{Lacks, cut_joined, cut_says}
-
-bind_some : {A B : Type 0} (o : Option A) (f : A → Option B) (y : B) → (o >>= f) ≡ Some y → (x : A) × (o ≡ Some x) × (f x ≡ Some y)
-bind_some (Some x) f y h = (x, refl, h)
-bind_some None f y h = absurd cc
-
-either_some : {A : Type 0} (o other : Option A) (y : A) → either o other ≡ Some y → (o ≡ Some y) ⊎ (other ≡ Some y)
-either_some None other y h = inr h
-either_some (Some x) other y h = inl h
 
 -- what stands behind the version
 abbrev pub EndSays : List ℕ → Option (List ℕ) × List ℕ → Type 0

@@ -12,9 +12,10 @@ use Rattle.std.proofs.lemmas.Simd.{map-map}
 use Rattle.std.proofs.lemmas.List.Elements.{All-cons}
 use Rattle.std.proofs.lemmas.List.Folds.{flat_map-map, list_all-append}
 use Rattle.std.proofs.lemmas.List.Splits.{join_with_byte-slice_split, length-slice_split}
-use Rattle.pyver_core.proofs.Lemmas.Sight.{option_sight}
+use Rattle.pytext.proofs.Options.{option_sight}
 use Rattle.pywheel_core.specs.Inner.Places.{AreWithin, IsAsciiText, IsWithin, at, places_from, places_of, tag_at}
-use Rattle.pywheel_core.specs.Tag.{TagParts, are_tag_parts, has_tag_parts, is_tag, is_tag_byte, is_tag_part, is_tag_set, pieces, tag_of, tag_with, tags_in, triples}
+use Rattle.pytext.specs.Bytes.{is_word_byte}
+use Rattle.pywheel_core.specs.Tag.{TagParts, are_tag_parts, has_tag_parts, is_tag, is_tag_part, is_tag_set, pieces, tag_of, tag_with, tags_in, triples}
 use Rattle.pywheel_core.specs.Texts.{cut_at, three_parts}
 use Rattle.pywheel_core.specs.declared.error.WheelError.{WheelError}
 use Rattle.pywheel_core.specs.declared.place.Place.{Place}
@@ -88,17 +89,17 @@ three_say c text s h = elim (option_sight (cut_at c text)) [
 
 -- ---- ASCII
 
-tag_byte_ascii : (b : ℕ) → is_tag_byte b ≡ true → is_ascii b ≡ true
+tag_byte_ascii : (b : ℕ) → is_word_byte b ≡ true → is_ascii b ≡ true
 tag_byte_ascii b h = grind (arith, nat_tests)
 
-bytes_ascii : (s : List ℕ) → list_all is_tag_byte s ≡ true → IsAsciiText s
+bytes_ascii : (s : List ℕ) → list_all is_word_byte s ≡ true → IsAsciiText s
 bytes_ascii [] h = refl
 bytes_ascii (b ∷ s) h =
-    let p = and_both (is_tag_byte b) (list_all is_tag_byte s) h in
+    let p = and_both (is_word_byte b) (list_all is_word_byte s) h in
     let e = tag_byte_ascii b p.0 in rw e (bytes_ascii s p.1)
 
 pub part_ascii : (s : List ℕ) → is_tag_part s ≡ true → IsAsciiText s
-part_ascii s h = bytes_ascii s (and_both _ (list_all is_tag_byte s) h).1
+part_ascii s h = bytes_ascii s (and_both _ (list_all is_word_byte s) h).1
 
 both_ascii : (s t : List ℕ) → IsAsciiText s → IsAsciiText t → IsAsciiText (s ++ t)
 both_ascii s t h g = list_all-append is_ascii s t ∙ rw (h, g) refl

@@ -1,12 +1,12 @@
 -- Tags of wheels (PEP 425, "Details"), and lists of tags in the order of preference ("Use").
-use Rattle.std.specs.Prelude.{◌≡◌, ℕ, ◌*◌, suc, ◌<◌, Bool, true, ◌==◌, ◌&&◌, ◌||◌, nat_le, nat_lt}
+use Rattle.std.specs.Prelude.{◌≡◌, ℕ, ◌*◌, suc, ◌<◌, Bool, true, ◌&&◌, nat_le, nat_lt}
 use Rattle.std.specs.Prelude.{nat_eq, if◌then◌else◌, List, [], ◌∷◌, ◌++◌, length, map, Option}
 use Rattle.std.specs.Prelude.{ok_or, position, Result, Ok, Err}
-use Rattle.std.specs.Char.{is_ascii_alphanumeric}
 use Rattle.std.specs.Cmp.Lexicographic.{pointwise}
 use Rattle.std.specs.List.{IsDistinct, flat_map, list_all, list_any, position_or_len}
 use Rattle.std.specs.Str.{str_to_ascii_lowercase}
-use Rattle.pyver_core.specs.Results.{◌>>=◌}
+use Rattle.pytext.specs.Bytes.{is_word_byte}
+use Rattle.pytext.specs.Results.{◌>>=◌}
 use Rattle.pywheel_core.specs.Texts.{pieces_at, three_parts}
 use Rattle.pywheel_core.specs.declared.error.TagError.{TagError}
 use Rattle.pywheel_core.specs.declared.error.TagError.TheVariants as tag
@@ -20,13 +20,9 @@ pub record TagValue : Type 0 where
   pub abi : List ℕ
   pub platform : List ℕ
 
--- an ASCII letter, a digit or `_`
-abbrev pub is_tag_byte : ℕ → Bool
-is_tag_byte b = is_ascii_alphanumeric b || (b == 95)
-
--- one or more of these
+-- one or more ASCII letters, digits and `_`
 abbrev pub is_tag_part : List ℕ → Bool
-is_tag_part part = nat_lt 0 (length part) && list_all is_tag_byte part
+is_tag_part part = nat_lt 0 (length part) && list_all is_word_byte part
 
 -- the parts of a tag, or of a compressed tag set
 abbrev pub TagParts : Type 0

@@ -1,13 +1,13 @@
 //! Build tags (PEP 427, "File name convention").
 
-ghost use Rattle.std.specs.Prelude.{◌≡◌, ◌+◌, ◌*◌, ◌<◌, ◌^◌, true, if◌then◌else◌, Ok, Err, SomeIff};
-ghost use Rattle.std.specs.Char.{digit_value, is_ascii, is_ascii_digit};
-ghost use Rattle.std.specs.List.{list_all, prefix_len};
-ghost use Rattle.std.specs.Str.Parse.{digits_value};
-ghost use Rattle.pyver_core.specs.Agreement.{Gives};
+ghost use Rattle.std.specs.Prelude.{◌≡◌, if◌then◌else◌, Ok, Err};
+ghost use Rattle.std.specs.Char.{is_ascii};
+ghost use Rattle.std.specs.List.{list_all};
+ghost use Rattle.pytext.specs.Agreement.{Gives};
 ghost use Rattle.pywheel_core.specs.Wheel.Build.{build_cmp, build_number, build_rest, is_build};
 
 use crate::error::WheelError;
+use pytext::{digits_len, digits_value};
 use std::alloc::{AllocError, Global};
 use std::cmp::Ordering;
 use std::marker::Model;
@@ -50,8 +50,8 @@ impl BuildTag {
         ensures { Gives WheelError.Memory (λ b. b) result
             (if is_build text.now then Ok text.now else Err WheelError.Build) }
     {
-        let digits = count_digits(text.as_bytes());
-        let Some(number) = number(&text.as_bytes()[..digits]) else {
+        let digits = digits_len(text.as_bytes());
+        let Some(number) = digits_value(&text.as_bytes()[..digits]) else {
             return Err(WheelError::Build);
         };
         if digits == 0 || !is_ascii(text.as_bytes()) {
@@ -109,39 +109,8 @@ impl Clone for BuildTag {
     }
 }
 
-/// How many digits stand in front.
-fn count_digits(bytes: &[u8]) -> usize
-    ensures { result ≡ prefix_len is_ascii_digit bytes.now }
-{
-    bytes
-        .iter()
-        .take_while(|byte| byte.is_ascii_digit())
-        .count()
-}
-
 fn is_ascii(bytes: &[u8]) -> bool
     ensures { result ≡ list_all is_ascii bytes.now }
 {
     bytes.iter().all(|byte| byte.is_ascii())
-}
-
-/// The number of these digits, where it isn't past [`u128::MAX`].
-fn number(digits: &[u8]) -> Option<u128>
-    requires { list_all is_ascii_digit digits.now ≡ true }
-    ensures { SomeIff result (digits_value 10 digits.now < 2 ^ 128) (digits_value 10 digits.now) }
-{
-    let mut value = 0u128;
-    for digit in digits {
-        value = with_digit(value, *digit)?;
-    }
-    Some(value)
-}
-
-/// The number with one more digit, where it isn't past the limit.
-fn with_digit(value: u128, digit: u8) -> Option<u128>
-    requires { is_ascii_digit digit ≡ true }
-    ensures { SomeIff result (value * 10 + digit_value digit < 2 ^ 128)
-        (value * 10 + digit_value digit) }
-{
-    value.checked_mul(10)?.checked_add(u128::from(digit - b'0'))
 }

@@ -7,11 +7,13 @@ ghost use Rattle.std.specs.Rc.{rc_str_bytes};
 ghost use Rattle.std.specs.Str.{str_to_ascii_lowercase};
 ghost use Rattle.pywheel_core.specs.Inner.Lent.{IsCut, set_of, wheel_parts};
 ghost use Rattle.pywheel_core.specs.Inner.Places.{places_of};
-ghost use Rattle.pywheel_core.specs.Tag.{is_tag, is_tag_byte, is_tag_part};
+ghost use Rattle.pytext.specs.Bytes.{is_word_byte};
+ghost use Rattle.pywheel_core.specs.Tag.{is_tag, is_tag_part};
 ghost use Rattle.pywheel_core.specs.Texts.{cut_at, three_parts};
 ghost use Rattle.pywheel_core.specs.Wheel.Cut.{built, parts_of, stem_of, unbuilt};
 
 use crate::place::Place;
+use pytext::is_word_byte;
 use std::alloc::{AllocError, Global};
 use std::rc::RcStr;
 
@@ -129,16 +131,9 @@ pub(crate) fn is_tag_part(part: &str) -> bool
 }
 
 fn has_tag_bytes(bytes: &[u8]) -> bool
-    ensures { result ≡ list_all is_tag_byte bytes.now }
+    ensures { result ≡ list_all is_word_byte bytes.now }
 {
-    bytes.iter().all(|byte| is_tag_byte(*byte))
-}
-
-/// Whether this is an ASCII letter, a digit or `_`.
-pub(crate) fn is_tag_byte(byte: u8) -> bool
-    ensures { result ≡ is_tag_byte byte }
-{
-    byte.is_ascii_alphanumeric() || byte == b'_'
+    bytes.iter().all(|byte| is_word_byte(*byte))
 }
 
 impl TagSet<'_> {

@@ -3,7 +3,7 @@
 ghost use Rattle.std.specs.Prelude.{◌≡◌, IfOk, IsErrOf};
 ghost use Rattle.std.specs.Cmp.{partial_equiv_from_equiv};
 ghost use Rattle.std.specs.Rc.{rc_str_bytes};
-ghost use Rattle.pyver_core.specs.Agreement.{Gives};
+ghost use Rattle.pytext.specs.Agreement.{Gives};
 ghost use Rattle.pywheel_core.specs.Inner.Places.{IsAsciiText, IsWithin, tag_at};
 ghost use Rattle.pywheel_core.specs.Tag.{TagText, TagValue, tag_eq, tag_of};
 ghost use Rattle.pywheel_core.specs.TagLaws.{alike, fed_tag, tag_equiv};

@@ -1,7 +1,7 @@
 //! Lists of tags in the order of preference (PEP 425, "Use").
 
 ghost use Rattle.std.specs.Prelude.{◌≡◌, ◌==◌, length, map};
-ghost use Rattle.pyver_core.specs.Agreement.{Gives};
+ghost use Rattle.pytext.specs.Agreement.{Gives};
 ghost use Rattle.pywheel_core.specs.Tag.{at_place, rank_of, tag_of, tags_of};
 
 use crate::error::{TagError, TagListError};

@@ -5,7 +5,7 @@ ghost use Rattle.std.specs.Prelude.{SomeIff, length, map, option_map};
 ghost use Rattle.std.specs.List.{flat_map};
 ghost use Rattle.std.specs.Rc.{rc_str_bytes};
 ghost use Rattle.std.specs.Str.{str_to_ascii_lowercase};
-ghost use Rattle.pyver_core.specs.Agreement.{Gives};
+ghost use Rattle.pytext.specs.Agreement.{Gives};
 ghost use Rattle.pywheel_core.specs.Inner.Lent.{lower_set, set_of};
 ghost use Rattle.pywheel_core.specs.Inner.Places.{AreWithin, IsAsciiText, IsWithin, places_from};
 ghost use Rattle.pywheel_core.specs.Inner.Places.{tag_at};
@@ -14,10 +14,11 @@ ghost use Rattle.pywheel_core.specs.Tag.{are_tag_parts, is_tag_set, pieces, tags
 ghost use Rattle.pywheel_core.specs.Texts.{cut_at, three_parts};
 ghost use Rattle.pywheel_core.specs.Wheel.Reading.{tag_set_in};
 
-use crate::cut::{TagSet, is_tag_byte, lowercase};
+use crate::cut::{TagSet, lowercase};
 use crate::error::WheelError;
 use crate::place::Place;
 use crate::tag::Tag;
+use pytext::is_word_byte;
 use std::alloc::Global;
 use std::rc::RcStr;
 use std::slice;
@@ -195,7 +196,7 @@ fn count_tag_parts(part: &[u8]) -> Option<usize>
     let mut count = 1;
     let mut is_empty = true;
     for byte in part {
-        if is_tag_byte(*byte) {
+        if is_word_byte(*byte) {
             is_empty = false;
         } else if *byte == b'.' && !is_empty {
             count += 1;

@@ -3,7 +3,7 @@
 ghost use Rattle.std.specs.Prelude.{◌≡◌, ◌≢◌, ℕ, List, Option, option_map, IfErr, IfOk};
 ghost use Rattle.std.specs.Prelude.{◌&&◌, not, string_bytes};
 ghost use Rattle.std.specs.List.{list_all};
-ghost use Rattle.pyver_core.specs.Agreement.{Gives};
+ghost use Rattle.pytext.specs.Agreement.{Gives};
 ghost use Rattle.pyver_core.specs.Version.Parts.{Parts};
 ghost use Rattle.pywheel_core.specs.Inner.Lent.{IsCut, wheel_parts};
 ghost use Rattle.pywheel_core.specs.Tag.{TagValue};

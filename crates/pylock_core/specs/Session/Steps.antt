@@ -4,7 +4,7 @@ use Rattle.std.specs.Prelude.{count_by, Option, Some, None, is_some, option_map,
 use Rattle.std.specs.Prelude.{Err, if◌then◌else◌}
 use Rattle.std.specs.List.{list_any}
 use Rattle.std.specs.Str.{bytes_eq}
-use Rattle.pyver_core.specs.Options.{either}
+use Rattle.pytext.specs.Options.{either}
 use Rattle.pyver_core.specs.Version.Parts.{Parts}
 use Rattle.pyver_core.specs.Set.Admission.{admits_all}
 use Rattle.pyver_core.specs.declared.set.specifier.Specifier.{Specifier}

@@ -4,7 +4,7 @@ use Rattle.std.specs.Option.{ok_or}
 use Rattle.std.specs.Result.{result_map_both}
 use Rattle.std.specs.Str.{bytes_eq}
 use Rattle.pyver_core.specs.Name.{is_name}
-use Rattle.pyver_core.specs.Results.{◌>>=◌}
+use Rattle.pytext.specs.Results.{◌>>=◌}
 use Rattle.pymark_core.specs.Variables.{variable_of}
 use Rattle.pymark_core.specs.declared.variable.Var.{Var}
 use Rattle.pywheel_core.specs.Tag.{TagValue, tags_of}

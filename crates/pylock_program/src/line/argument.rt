@@ -4,7 +4,7 @@ ghost use Rattle.std.specs.Prelude.{◌≡◌, ◌++◌, ◌∷◌, [], Ok, OnOk
 ghost use Rattle.std.specs.Char.{is_ascii_digit};
 ghost use Rattle.std.specs.List.{list_all};
 ghost use Rattle.std.specs.Option.{option_copied};
-ghost use Rattle.pyver_core.specs.Agreement.{Gives};
+ghost use Rattle.pytext.specs.Agreement.{Gives};
 ghost use Rattle.pylock_program.specs.Line.Argument.{given, filled, around_space, number_argument};
 ghost use Rattle.pylock_program.specs.Line.Argument.{entry_number};
 ghost use Rattle.pylock_program.specs.Line.Argument.{is_entry_number, is_filled, pieces, pieces_of};

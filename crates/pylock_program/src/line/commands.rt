@@ -2,7 +2,7 @@
 
 ghost use Rattle.std.specs.Prelude.{◌≡◌, IfOk};
 ghost use Rattle.std.specs.Option.{option_copied};
-ghost use Rattle.pyver_core.specs.Agreement.{Gives};
+ghost use Rattle.pytext.specs.Agreement.{Gives};
 ghost use Rattle.pylock_program.specs.Line.Commands.{variable_argument, entry_argument};
 ghost use Rattle.pylock_program.specs.Line.Commands.{policy_argument, name_after};
 ghost use Rattle.pylock_program.specs.Line.Commands.{show_after, set_after, unset_after};

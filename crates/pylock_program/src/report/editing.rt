@@ -5,7 +5,7 @@ ghost use Rattle.std.specs.Prelude.{take};
 ghost use Rattle.std.specs.Prelude.{Ok, Err, OnOk, IfOk, IfErr, OnErr};
 ghost use Rattle.pylock_core.specs.Session.Steps.{answer};
 ghost use Rattle.std.specs.List.{position};
-ghost use Rattle.pyver_core.specs.Agreement.{Gives};
+ghost use Rattle.pytext.specs.Agreement.{Gives};
 ghost use Rattle.pylock_program.specs.Line.{is_lf};
 ghost use Rattle.pylock_program.specs.Report.{is_plan, after_line, standing_text};
 ghost use Rattle.pylock_program.specs.Report.Run.{most_lines};

@@ -1,6 +1,6 @@
 //! A lock and an environment, opened.
 ghost use Rattle.std.specs.Prelude.{◌≡◌};
-ghost use Rattle.pyver_core.specs.Agreement.{Gives};
+ghost use Rattle.pytext.specs.Agreement.{Gives};
 ghost use Rattle.pylock_program.specs.Report.{opened};
 ghost use Rattle.pylock_program.specs.declared.report.opening.OpenError.TheVariants as refusal;
 

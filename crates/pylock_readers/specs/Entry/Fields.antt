@@ -3,7 +3,7 @@ use Rattle.std.specs.Prelude.{ℕ, Bool, false, List, [], ◌∷◌, Option, Som
 use Rattle.std.specs.Prelude.{Result, Ok, Err, if◌then◌else◌, ⊤}
 use Rattle.toml.specs.Data.{Data, Items, no_items, item, Members, as_str, as_bool, as_array}
 use Rattle.toml.specs.Data.{as_table}
-use Rattle.pyver_core.specs.Results.{◌>>=◌}
+use Rattle.pytext.specs.Results.{◌>>=◌}
 use Rattle.pyver_core.specs.declared.set.specifier.Specifier.{Specifier}
 use Rattle.pyver_core.specs.Parsed.{parsed_set}
 use Rattle.pymark_core.specs.Marker.Reading.{MarkerValue, marker_of}

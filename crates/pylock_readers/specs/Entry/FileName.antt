@@ -4,7 +4,7 @@ use Rattle.std.specs.Prelude.{ℕ, Bool, ◌||◌, ◌==◌, List, [], ◌∷◌
 use Rattle.std.specs.Prelude.{option_and_then, if◌then◌else◌}
 use Rattle.std.specs.List.{before_first, after_last}
 use Rattle.std.specs.Str.{is_utf8}
-use Rattle.pyver_core.specs.Options.{either}
+use Rattle.pytext.specs.Options.{either}
 use Rattle.percent_encoding.specs.Percent.{percent_decode}
 
 -- whether the byte is `/`

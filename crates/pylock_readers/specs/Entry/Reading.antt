@@ -3,7 +3,7 @@
 use Rattle.std.specs.Prelude.{ℕ, codes, List, Option, ok_or, Result, Ok, Err}
 use Rattle.toml.specs.Data.{Data, Members, get_member, as_table}
 use Rattle.toml.specs.Parse.{parse_value}
-use Rattle.pyver_core.specs.Results.{◌>>=◌}
+use Rattle.pytext.specs.Results.{◌>>=◌}
 use Rattle.pyver_core.specs.declared.set.specifier.Specifier.{Specifier}
 use Rattle.pymark_core.specs.Marker.Reading.{MarkerValue}
 use Rattle.pylock_readers.specs.Entry.{VcsValue, DirectoryValue, ArchiveValue, FileValue}

@@ -1,7 +1,7 @@
 -- The sources of an entry (PEP 751, `packages.vcs` to `packages.wheels`).
 use Rattle.std.specs.Prelude.{ℕ, ◌||◌, codes, List, [], ◌∷◌, Option, is_some, unwrap_or, Result, Ok}
 use Rattle.toml.specs.Data.{Data, Members, no_members, member, get_member}
-use Rattle.pyver_core.specs.Results.{◌>>=◌}
+use Rattle.pytext.specs.Results.{◌>>=◌}
 use Rattle.pylock_readers.specs.Entry.{LocationValue, VcsValue, DirectoryValue, ArchiveValue}
 use Rattle.pylock_readers.specs.Entry.{FileValue}
 use Rattle.pylock_readers.specs.Entry.Fields.{required, optional, each, text_of, members_of}

@@ -4,8 +4,8 @@ use Rattle.std.specs.Prelude.{Option, Result, Ok, Err, ⊤}
 use Rattle.std.specs.List.{starts_with}
 use Rattle.std.specs.Str.{bytes_eq}
 use Rattle.toml.specs.Data.{Data}
-use Rattle.pyver_core.specs.Digits.{is_number}
-use Rattle.pyver_core.specs.Results.{◌>>=◌}
+use Rattle.pytext.specs.Digits.{is_number}
+use Rattle.pytext.specs.Results.{◌>>=◌}
 use Rattle.pyver_core.specs.declared.set.specifier.Specifier.{Specifier}
 use Rattle.pymark_core.specs.Marker.Reading.{MarkerValue}
 use Rattle.pylock_readers.specs.Lock.{HeadValue}

@@ -4,7 +4,7 @@ use Rattle.std.specs.Prelude.{ℕ, codes, nat_lt, List, [], ◌∷◌, suc, Opti
 use Rattle.std.specs.Prelude.{if◌then◌else◌, ⊤}
 use Rattle.toml.specs.Data.{Data, Items, no_items, item, Members, get_member}
 use Rattle.toml.specs.Parse.{parse_document}
-use Rattle.pyver_core.specs.Results.{◌>>=◌}
+use Rattle.pytext.specs.Results.{◌>>=◌}
 use Rattle.pylock_readers.specs.Entry.{EntryValue}
 use Rattle.pylock_readers.specs.Entry.Fields.{items_in}
 use Rattle.pylock_readers.specs.Entry.Reading.{entry_in}

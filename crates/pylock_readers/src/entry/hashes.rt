@@ -1,7 +1,7 @@
 //! Hashes of sources.
 ghost use Rattle.std.specs.Prelude.{◌≡◌, option_map};
 ghost use Rattle.toml.specs.View.{view, table_view};
-ghost use Rattle.pyver_core.specs.Agreement.{Gives};
+ghost use Rattle.pytext.specs.Agreement.{Gives};
 ghost use Rattle.pylock_readers.specs.Entry.Sources.{hashes_in, pairs_of};
 ghost use Rattle.pylock_readers.specs.Inner.Strings.{text_pairs};
 

@@ -2,7 +2,7 @@
 ghost use Rattle.std.specs.Prelude.{◌≡◌, codes, option_map, string_bytes};
 ghost use Rattle.toml.specs.Data.{get_member};
 ghost use Rattle.toml.specs.View.{view, table_view};
-ghost use Rattle.pyver_core.specs.Agreement.{Gives};
+ghost use Rattle.pytext.specs.Agreement.{Gives};
 ghost use Rattle.pylock_readers.specs.Entry.Reading.{table_in, name_in, version_in, marker_in};
 ghost use Rattle.pylock_readers.specs.Entry.Reading.{requires_python_in, entry_in, entry_of};
 ghost use Rattle.pylock_readers.specs.Entry.Reading.{toml_value};

@@ -1,7 +1,7 @@
 //! All sources of an entry.
 ghost use Rattle.std.specs.Prelude.{◌≡◌, option_map};
 ghost use Rattle.toml.specs.View.{view};
-ghost use Rattle.pyver_core.specs.Agreement.{Gives};
+ghost use Rattle.pytext.specs.Agreement.{Gives};
 ghost use Rattle.pylock_readers.specs.Entry.Reading.{refusal_for, vcs_in, directory_in, archive_in};
 ghost use Rattle.pylock_readers.specs.Entry.Reading.{sdist_in, wheels_in, sources_in};
 

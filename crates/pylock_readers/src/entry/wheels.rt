@@ -1,7 +1,7 @@
 //! The wheels of an entry.
 ghost use Rattle.std.specs.Prelude.{◌≡◌, IfOk, map, option_map};
 ghost use Rattle.toml.specs.View.{view, items_view};
-ghost use Rattle.pyver_core.specs.Agreement.{Gives};
+ghost use Rattle.pytext.specs.Agreement.{Gives};
 ghost use Rattle.pylock_readers.specs.Entry.{wheel_name};
 ghost use Rattle.pylock_readers.specs.Entry.Fields.{each};
 ghost use Rattle.pylock_readers.specs.Entry.Sources.{file_of, files_in};

@@ -2,7 +2,7 @@
 ghost use Rattle.std.specs.Prelude.{◌≡◌, map, option_map, string_bytes};
 ghost use Rattle.std.specs.Option.{option_copied};
 ghost use Rattle.toml.specs.View.{view, items_view};
-ghost use Rattle.pyver_core.specs.Agreement.{Gives};
+ghost use Rattle.pytext.specs.Agreement.{Gives};
 ghost use Rattle.pylock_readers.specs.Entry.Fields.{each, marker_field, name_of, set_field};
 ghost use Rattle.pylock_readers.specs.Lock.Head.{lock_refusal, names_in, markers_in};
 ghost use Rattle.pylock_readers.specs.Lock.Head.{environments_in};

@@ -1,7 +1,7 @@
 //! The entries of a lock, one after the other (PEP 751, `packages`).
 ghost use Rattle.std.specs.Prelude.{◌≡◌, ◌≤◌, IfOk, OnOk, length, option_map, vec_len};
 ghost use Rattle.toml.specs.View.{view, items_view};
-ghost use Rattle.pyver_core.specs.Agreement.{Gives};
+ghost use Rattle.pytext.specs.Agreement.{Gives};
 ghost use Rattle.pylock_readers.specs.Entry.Reading.{entry_in};
 ghost use Rattle.pylock_readers.specs.Lock.Reading.{at_place, entries_in, entries_of, packages_in};
 ghost use Rattle.pylock_readers.specs.Lock.Reading.{room_for};

@@ -2,7 +2,7 @@
 use Rattle.std.specs.Prelude.{ℕ, ◌==◌, if◌then◌else◌, List, length, Option, Some, None}
 use Rattle.std.specs.Prelude.{option_map}
 use denote.Ref.{Bor}
-use Rattle.pyver_core.specs.Version.Reading.{after_white}
+use Rattle.pytext.specs.White.{after_white}
 use Rattle.pymark_core.specs.Inner.Front.{lent_front, token_front}
 use Rattle.pymark_core.specs.Marker.Token as token
 use Rattle.pymark_core.specs.declared.marker.token.Token.{Token}

@@ -4,14 +4,14 @@
 use Rattle.std.specs.Prelude.{ℕ, if◌then◌else◌, List, [], ◌∷◌, ◌++◌, codes, Option, Some}
 use Rattle.std.specs.Prelude.{None, option_map, Result, Ok, Err}
 use Rattle.std.specs.Str.{bytes_eq}
-use Rattle.pyver_core.specs.Options.{◌>>=◌}
+use Rattle.pytext.specs.Options.{◌>>=◌}
 use Rattle.pymark_core.specs.Marker.Depth.{is_deep}
 use Rattle.pymark_core.specs.Marker.Grammar.{has_misuse}
 use Rattle.pymark_core.specs.Marker.Token.{Token, tokens, opening, closing, sign, word, quoted}
 use Rattle.pymark_core.specs.Marker.Tree.{Tree, Conjunction, Atom, leaf, group, conjunction_of}
 use Rattle.pymark_core.specs.Marker.Tree.{tree_of}
 use Rattle.pymark_core.specs.Variables.{variable_of}
-use Rattle.pymark_core.specs.White.{trimmed}
+use Rattle.pytext.specs.White.{trimmed}
 use Rattle.pymark_core.specs.declared.marker.error.MarkerError.{MarkerError}
 use Rattle.pymark_core.specs.declared.marker.error.MarkerError.TheVariants.{TooDeep, Syntax}
 use Rattle.pymark_core.specs.declared.marker.error.MarkerError.TheVariants.{SetMisuse}

@@ -3,10 +3,9 @@
 use Rattle.std.specs.Prelude.{ℕ, zero, suc, ◌+◌, ◌-◌, Bool, ◌==◌, ◌&&◌, ◌||◌, not, nat_eq, nat_le}
 use Rattle.std.specs.Prelude.{if◌then◌else◌, List, [], ◌∷◌, length, take, drop, Option, Some, None}
 use Rattle.std.specs.Prelude.{option_map, find}
-use Rattle.std.specs.Char.{is_ascii_alphanumeric}
 use Rattle.std.specs.List.{prefix_len, starts_with}
-use Rattle.pyver_core.specs.Version.Grammar.{is_white, starts}
-use Rattle.pyver_core.specs.Options.{◌>>=◌}
+use Rattle.pytext.specs.Bytes.{is_white, is_word_byte, starts}
+use Rattle.pytext.specs.Options.{◌>>=◌}
 use Rattle.pyver_core.specs.Set.Reading.{operators}
 use Rattle.pyver_core.specs.Set.Normal.{operator_text}
 use Rattle.pyver_core.specs.declared.set.specifier.Operator.{Operator}
@@ -36,10 +35,6 @@ token_len (quoted text) = length text + 2
 -- `"` and `'`
 abbrev pub is_quote : ℕ → Bool
 is_quote b = (b == 34) || (b == 39)
-
--- an ASCII letter or digit, or `_`
-abbrev pub is_word_byte : ℕ → Bool
-is_word_byte b = is_ascii_alphanumeric b || (b == 95)
 
 -- a byte that may stand between two of these quotes: any but the quote, a backslash, and the
 -- control characters other than TAB

@@ -10,7 +10,7 @@ use Rattle.pyver_core.specs.Version.Grammar.{has_large, numbers}
 use Rattle.pyver_core.specs.Name.{norm}
 use Rattle.pyver_core.specs.Version.Parts.{Parts}
 use Rattle.pyver_core.specs.Version.Reading.{version_of}
-use Rattle.pyver_core.specs.Results.{◌>>=◌}
+use Rattle.pytext.specs.Results.{◌>>=◌}
 use Rattle.pyver_core.specs.Set.Grammar.{specifier_numbers}
 use Rattle.pyver_core.specs.Set.Reading.{operand_of}
 use Rattle.pyver_core.specs.Set.Admission.{admits}

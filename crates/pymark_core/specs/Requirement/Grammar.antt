@@ -3,13 +3,13 @@
 use Rattle.std.specs.Prelude.{◌≡◌, ◌⊎◌, ℕ, true, false, not, ◌==◌, List, [], ◌++◌, codes, map}
 use Rattle.std.specs.Prelude.{Option, Some, None, Ok}
 use Rattle.std.specs.List.{list_all, list_any, slice_split}
-use Rattle.pyver_core.specs.Name.{is_name, is_name_byte}
+use Rattle.pytext.specs.Bytes.{is_name_byte, is_white, starts}
+use Rattle.pyver_core.specs.Name.{is_name}
 use Rattle.pyver_core.specs.Parsed.{parsed_set}
-use Rattle.pyver_core.specs.Version.Grammar.{is_white, starts}
 use Rattle.pyver_core.specs.declared.set.specifier.Specifier.{Specifier}
 use Rattle.pymark_core.specs.Marker.Reading.{MarkerValue, marker_of}
 use Rattle.pymark_core.specs.Requirement.Value.{RequirementValue}
-use Rattle.pymark_core.specs.White.{trimmed}
+use Rattle.pytext.specs.White.{trimmed}
 
 -- white space between two parts: all that stands there
 pub record IsGap (white next : List ℕ) : Type 0 where

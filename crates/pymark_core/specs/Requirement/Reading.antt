@@ -5,15 +5,14 @@ use Rattle.std.specs.Prelude.{length, take, drop, slice_get, Option, Some, None,
 use Rattle.std.specs.Prelude.{unwrap_or, Result, Ok, Err}
 use Rattle.std.specs.List.{after_first, before_first, list_all, position_or_len, prefix_len}
 use Rattle.std.specs.List.{slice_split}
-use Rattle.pyver_core.specs.Name.{is_name, is_name_byte}
+use Rattle.pytext.specs.Bytes.{is_name_byte, is_white, starts}
+use Rattle.pyver_core.specs.Name.{is_name}
 use Rattle.pyver_core.specs.Parsed.{parsed_set}
-use Rattle.pyver_core.specs.Results.{◌>>=◌}
-use Rattle.pyver_core.specs.Version.Grammar.{is_white, starts}
-use Rattle.pyver_core.specs.Version.Reading.{after_white}
+use Rattle.pytext.specs.Results.{◌>>=◌}
+use Rattle.pytext.specs.White.{after_white, trimmed}
 use Rattle.pyver_core.specs.declared.set.specifier.Specifier.{Specifier}
 use Rattle.pymark_core.specs.Marker.Reading.{MarkerValue, marker_of}
 use Rattle.pymark_core.specs.Requirement.Value.{RequirementValue}
-use Rattle.pymark_core.specs.White.{trimmed}
 use Rattle.pymark_core.specs.declared.requirement.error.RequirementError.{RequirementError}
 use Rattle.pymark_core.specs.declared.requirement.error.RequirementError.TheVariants as refusal
 

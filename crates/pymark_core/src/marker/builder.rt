@@ -1,7 +1,7 @@
 //! The tree of a marker, built from its tokens.
 
 ghost use Rattle.std.specs.Prelude.{◌≡◌, [], ◌∷◌, ◌++◌, Ok, OnOk, ok_or, option_map};
-ghost use Rattle.pyver_core.specs.Agreement.{Gives};
+ghost use Rattle.pytext.specs.Agreement.{Gives};
 ghost use Rattle.pymark_core.specs.Inner.Building.{NotesMore, frame_view, noted, outer_view};
 ghost use Rattle.pymark_core.specs.Inner.Building.{place_view, rest_atom, stage_view};
 ghost use Rattle.pymark_core.specs.Inner.Front.{token_view};

@@ -1,7 +1,7 @@
 //! Markers from their texts.
 
 ghost use Rattle.std.specs.Prelude.{◌≡◌, IfOk, ok_or};
-ghost use Rattle.pyver_core.specs.Agreement.{Gives};
+ghost use Rattle.pytext.specs.Agreement.{Gives};
 ghost use Rattle.pymark_core.specs.Inner.Building.{NotesOf};
 ghost use Rattle.pymark_core.specs.Marker.Grammar.{comparisons};
 ghost use Rattle.pymark_core.specs.Marker.Reading.{tree_text};

@@ -3,16 +3,17 @@
 ghost use Rattle.std.specs.Prelude.{◌≡◌, ◌<◌, IsTrue, drop, length, ok_or, option_map, slice_index};
 ghost use Rattle.std.specs.List.{prefix_len};
 ghost use Rattle.pyver_core.specs.Set.Reading.{behind_operator};
-ghost use Rattle.pyver_core.specs.Agreement.{Gives};
+ghost use Rattle.pytext.specs.Agreement.{Gives};
 ghost use Rattle.pymark_core.specs.Inner.Next.{next_front, next_view};
 ghost use Rattle.pymark_core.specs.Inner.Front.{lent_cut, lent_front, quotation_front};
 ghost use Rattle.pymark_core.specs.Inner.Front.{quoted_front, token_front, with_rest};
 ghost use Rattle.pymark_core.specs.Marker.Token as token;
-ghost use Rattle.pymark_core.specs.Marker.Token.{is_inside, is_quote, is_word_byte, operator_in};
+ghost use Rattle.pytext.specs.Bytes.{is_word_byte};
+ghost use Rattle.pymark_core.specs.Marker.Token.{is_inside, is_quote, operator_in};
 ghost use Rattle.pymark_core.specs.Marker.Token.{token_by, word_in};
 
 use super::error::MarkerError;
-use crate::white::past_white;
+use pytext::{is_word_byte, past_white};
 use pyver_core::Operator;
 
 /// A token, lent from the text.
@@ -42,12 +43,6 @@ fn is_quote(byte: u8) -> bool
     ensures ascii { IsTrue result → byte < 128 }
 {
     byte == b'"' || byte == b'\''
-}
-
-fn is_word_byte(byte: u8) -> bool
-    ensures { result ≡ is_word_byte byte }
-{
-    byte.is_ascii_alphanumeric() || byte == b'_'
 }
 
 fn inside_len(quote: u8, text: &str) -> usize
@@ -100,7 +95,7 @@ fn operator(text: &str) -> Option<Operator>
 }
 
 /// The text behind the operator.
-#[tactic(auto, using(crate::proofs::Boundaries::stripped_prefix))]
+#[tactic(auto, using(pytext::proofs::Boundaries::stripped_prefix))]
 fn past_operator(text: &str, operator: Operator) -> Option<&str>
     ensures { option_map (λ rest. rest.now) result ≡ behind_operator operator text.now }
 {

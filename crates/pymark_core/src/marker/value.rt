@@ -1,7 +1,7 @@
 //! The value of a marker's tree (PEP 508, "Environment Markers").
 
 ghost use Rattle.std.specs.Prelude.{◌≡◌};
-ghost use Rattle.pyver_core.specs.Agreement.{Gives};
+ghost use Rattle.pytext.specs.Agreement.{Gives};
 ghost use Rattle.pymark_core.specs.Marker.Value.{atom_value, conjunction_value, marker_value};
 ghost use Rattle.pymark_core.specs.Inner.View.{atom_view, conjunction_view, tree_view};
 

@@ -2,10 +2,9 @@
 
 ghost use Rattle.std.specs.Prelude.{◌≡◌, ◌==◌, ◌<◌, [], option_map, map, string_bytes, IfOk};
 ghost use Rattle.std.specs.List.{list_all, prefix_len, slice_split};
-ghost use Rattle.pyver_core.specs.Agreement.{Gives};
-ghost use Rattle.pyver_core.specs.Name.{is_name_byte};
+ghost use Rattle.pytext.specs.Agreement.{Gives};
+ghost use Rattle.pytext.specs.Bytes.{is_name_byte, is_white};
 ghost use Rattle.pyver_core.specs.Parsed.{parsed_set};
-ghost use Rattle.pyver_core.specs.Version.Grammar.{is_white};
 ghost use Rattle.pymark_core.specs.Inner.Source.{source_view};
 ghost use Rattle.pymark_core.specs.Requirement.Reading.{around, before_end, behind, cut_at};
 ghost use Rattle.pymark_core.specs.Requirement.Reading.{extra_in, extras_at, extras_behind};
@@ -15,7 +14,7 @@ ghost use Rattle.pymark_core.specs.Requirement.Reading.{source_at, url_len, url_
 ghost use Rattle.pymark_core.specs.Requirement.Reading.{within_parentheses};
 
 use super::error::RequirementError;
-use crate::white::{is_white, past_white, trimmed};
+use pytext::{is_blank, is_name_byte, is_white, past_white, trimmed};
 use pyver_core::{SpecifierError, SpecifierSet, is_name};
 use std::alloc::{AllocError, Global};
 
@@ -53,12 +52,6 @@ fn around_semicolon(text: &str) -> Option<(&str, &str)>
     ensures { option_map (λ cut. (cut.0.now, cut.1.now)) result ≡ around 59 text.now }
 {
     text.split_once(';')
-}
-
-fn is_name_byte(byte: u8) -> bool
-    ensures { result ≡ is_name_byte byte }
-{
-    byte.is_ascii_alphanumeric() || matches!(byte, b'.' | b'_' | b'-')
 }
 
 fn name_len(text: &str) -> usize
@@ -113,17 +106,11 @@ fn extras_in(alloc: Global, inner: &str) -> Result<Vec<String>, RequirementError
     ensures { Gives RequirementError.Memory (λ names. map string_bytes names.items) result
         (extras_in inner.now) }
 {
-    if is_blank(inner) {
+    if is_blank(inner.as_bytes()) {
         Ok(Vec::new(alloc))
     } else {
         names_in(alloc, inner)
     }
-}
-
-fn is_blank(text: &str) -> bool
-    ensures { result ≡ list_all is_white text.now }
-{
-    text.as_bytes().iter().all(|b| is_white(*b))
 }
 
 /// The names between the commas.

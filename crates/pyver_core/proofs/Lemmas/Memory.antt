@@ -12,7 +12,7 @@ use Rattle.pyver_core.specs.declared.set.error.SpecifierError.TheVariants as spe
 use Rattle.pyver_core.specs.declared.set.specifier.Operator.{Operator}
 use Rattle.pyver_core.specs.declared.version.error.VersionError.TheVariants as version
 use Rattle.pyver_core.specs.declared.version.from_parts.PartsError.TheVariants as made
-use Rattle.pyver_core.proofs.Lemmas.Never.{Never, never_cond, never_err, never_ok, never_or, never_then}
+use Rattle.pytext.proofs.Never.{Never, never_cond, never_err, never_ok, never_or, never_then}
 use Rattle.pyver_core.proofs.Lemmas.Outcomes.{outcome}
 
 never_outcome : {V E : Type 0} (refusal syntax large : E) (ns : V → List ℕ) (read : Option V) → (syntax ≡ refusal → ⊥) → (large ≡ refusal → ⊥)

@@ -3,8 +3,8 @@ use Rattle.std.proofs.Common.{◌≡◌, ℕ, Bool, true, false, List, Option, S
 use Rattle.std.specs.Prelude.{IsTrue, ok_or}
 use Rattle.pyver_core.specs.Version.Grammar.{has_large}
 use Rattle.pyver_core.specs.Parsed.{within_limit}
-use Rattle.pyver_core.specs.Results.{◌>>=◌}
-use Rattle.pyver_core.proofs.Lemmas.Sight.{sight}
+use Rattle.pytext.specs.Results.{◌>>=◌}
+use Rattle.std.proofs.lemmas.Bool.{cases_Bool}
 
 -- what is read, within the limit
 abbrev pub outcome : {V E : Type 0} → E → E → (V → List ℕ) → Option V → Result V E
@@ -17,13 +17,13 @@ pub within-true : {V E : Type 0} (large : E) (ns : List ℕ) (v : V) → has_lar
 within-true large ns v e = rw e refl
 
 within-Ok : {V E : Type 0} (large : E) (ns : List ℕ) (v w : V) → within_limit large ns v ≡ Ok w → (v ≡ w) × (has_large ns ≡ false)
-within-Ok large ns v w e = elim (sight (has_large ns)) [
+within-Ok large ns v w e = elim (cases_Bool (has_large ns)) [
   | inl past ↦ absurd (let no : Err large ≡ Ok w = sym (within-true large ns v past) ∙ e in cc)
   | inr small ↦ (let same : Ok v ≡ Ok w = sym (within-false large ns v small) ∙ e in cc, small)
 ]
 
 within-Err : {V E : Type 0} (large f : E) (ns : List ℕ) (v : V) → within_limit large ns v ≡ Err f → (f ≡ large) × (has_large ns ≡ true)
-within-Err large f ns v e = elim (sight (has_large ns)) [
+within-Err large f ns v e = elim (cases_Bool (has_large ns)) [
   | inl past ↦ (let same : Err large ≡ Err f = sym (within-true large ns v past) ∙ e in cc, past)
   | inr small ↦ absurd (let no : Ok v ≡ Err f = sym (within-false large ns v small) ∙ e in cc)
 ]

@@ -3,7 +3,6 @@ pub mod Complete
 pub mod Decimal
 pub mod FirstBytes
 pub mod FromParts
-pub mod Fronts
 pub mod Hashes
 pub mod InTurn
 pub mod Limits

@@ -4,7 +4,8 @@ use Rattle.std.specs.Prelude.{◌≡◌, ℕ, ◌≤◌, Bool, true, ◌==◌, �
 use Rattle.std.specs.Prelude.{◌∷◌, ◌++◌, length, codes}
 use Rattle.std.specs.List.{list_all, flat_map, slice_split, starts_with}
 use Rattle.pyver_core.specs.Version.Grammar.{IsEpoch, IsPrefix, IsRelease, Spells, has_large}
-use Rattle.pyver_core.specs.Version.Grammar.{is_white, numbers}
+use Rattle.pytext.specs.Bytes.{is_white}
+use Rattle.pyver_core.specs.Version.Grammar.{numbers}
 use Rattle.pyver_core.specs.Set.Prefix.{Prefix}
 use Rattle.pyver_core.specs.Set.Normal.{operator_of, operator_text}
 use Rattle.pyver_core.specs.declared.set.specifier.Operator.{Operator}

@@ -3,11 +3,12 @@
 use Rattle.std.specs.Prelude.{ℕ, ◌==◌, ◌&&◌, nat_eq, nat_le, nat_lt, if◌then◌else◌, List, [], ◌∷◌}
 use Rattle.std.specs.Prelude.{length, take, drop, codes, Option, Some, None, option_map, Bool}
 use Rattle.std.specs.List.{list_all, prefix_len, slice_split, starts_with}
-use Rattle.pyver_core.specs.Version.Grammar.{is_white}
+use Rattle.pytext.specs.Bytes.{is_white}
 use Rattle.pyver_core.specs.Version.Parts.{Parts}
 use Rattle.pyver_core.specs.Set.Prefix.{Prefix}
-use Rattle.pyver_core.specs.Options.{◌>>=◌, either}
-use Rattle.pyver_core.specs.Version.Reading.{after_white, base_at, version_of}
+use Rattle.pytext.specs.Options.{◌>>=◌, either}
+use Rattle.pytext.specs.White.{after_white}
+use Rattle.pyver_core.specs.Version.Reading.{base_at, version_of}
 use Rattle.pyver_core.specs.Set.Grammar.{is_arbitrary}
 use Rattle.pyver_core.specs.Set.Normal.{operator_text}
 use Rattle.pyver_core.specs.declared.set.specifier.Operator.{Operator}

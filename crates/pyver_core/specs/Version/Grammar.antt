@@ -2,12 +2,13 @@
 -- and "Normalization", with the pattern of its appendix "Parsing version strings with regular
 -- expressions"). A relation over the ways to cut the whole text: each part is a piece of the text
 -- in one of its forms. Numbers are whole numbers of any size.
-use Rattle.std.specs.Prelude.{◌≡◌, ◌⊎◌, ℕ, ◌≤◌, ◌^◌, Bool, true, false, ◌==◌, ◌||◌, ◌&&◌, nat_le}
+use Rattle.std.specs.Prelude.{◌≡◌, ◌⊎◌, ℕ, ◌≤◌, ◌^◌, Bool, true, false, ◌==◌, nat_le}
 use Rattle.std.specs.Prelude.{IsTrue, List, [], ◌∷◌, ◌++◌, length, codes, Option, Some, None}
 use Rattle.std.specs.Char.{is_ascii_digit, is_ascii_alphanumeric}
 use Rattle.std.specs.List.{list_all, list_any, flat_map}
 use Rattle.std.specs.Str.{str_to_ascii_lowercase}
 use Rattle.std.specs.Str.Parse.{digits_value}
+use Rattle.pytext.specs.Bytes.{is_separator, is_white, starts}
 use Rattle.pyver_core.specs.Version.Parts.{Parts}
 use Rattle.pyver_core.specs.declared.version.part.PreKind.{PreKind}
 use Rattle.pyver_core.specs.declared.version.part.PreKind.TheVariants.{A, B, Rc}
@@ -16,21 +17,8 @@ use Rattle.pyver_core.specs.declared.version.part.LocalPart.TheVariants.{Number,
 
 -- ---- bytes
 
--- TAB, LF, VT, FF, CR and space
-abbrev pub is_white : ℕ → Bool
-is_white b = (b == 32) || (nat_le 9 b && nat_le b 13)
-
--- `-`, `_` and `.`
-abbrev pub is_separator : ℕ → Bool
-is_separator b = (b == 45) || ((b == 95) || (b == 46))
-
 abbrev pub is_dot : ℕ → Bool
 is_dot b = b == 46
-
--- whether the first byte passes a test
-abbrev pub starts : (ℕ → Bool) → List ℕ → Bool
-starts test [] = false
-starts test (b ∷ rest) = test b
 
 -- at most one separator
 abbrev pub IsOptionalSeparator : List ℕ → Type 0

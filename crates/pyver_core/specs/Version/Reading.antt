@@ -8,9 +8,11 @@ use Rattle.std.specs.Char.{is_ascii_digit, is_ascii_alphanumeric}
 use Rattle.std.specs.List.{list_all, prefix_len}
 use Rattle.std.specs.Str.{str_to_ascii_lowercase}
 use Rattle.std.specs.Str.Parse.{digits_value}
-use Rattle.pyver_core.specs.Options.{◌>>=◌, either}
+use Rattle.pytext.specs.White.{after_white}
+use Rattle.pytext.specs.Options.{◌>>=◌, either}
 use Rattle.pyver_core.specs.Version.Parts.{Parts}
-use Rattle.pyver_core.specs.Version.Grammar.{is_white, is_separator, is_dot, starts}
+use Rattle.pytext.specs.Bytes.{is_separator, is_white, starts}
+use Rattle.pyver_core.specs.Version.Grammar.{is_dot}
 use Rattle.pyver_core.specs.declared.version.part.PreKind.{PreKind}
 use Rattle.pyver_core.specs.declared.version.part.PreKind.TheVariants.{A, B, Rc}
 use Rattle.pyver_core.specs.declared.version.part.LocalPart.{LocalPart}
@@ -43,9 +45,6 @@ unfoldable pub many_at : {X : Type 0} → (List ℕ → Option (X × List ℕ)) 
 many_at read text = many read (length text) text
 
 -- ---- white space, separators, numbers and words
-
-abbrev pub after_white : List ℕ → List ℕ
-after_white text = drop (prefix_len is_white text) text
 
 abbrev pub after_separator : List ℕ → List ℕ
 after_separator [] = []

@@ -1,7 +1,7 @@
 //! Specifiers from an operator and the text of an operand.
 
 ghost use Rattle.std.specs.Prelude.{◌≡◌, IfOk, IsErrOf, IsTrue};
-ghost use Rattle.pyver_core.specs.Agreement.{Gives};
+ghost use Rattle.pytext.specs.Agreement.{Gives};
 ghost use Rattle.pyver_core.specs.Version.Grammar.{has_large};
 ghost use Rattle.pyver_core.specs.Parsed.{parsed_operand};
 ghost use Rattle.pyver_core.specs.Set.Grammar.{IsOperand, specifier_numbers};

@@ -2,7 +2,7 @@
 
 ghost use Rattle.std.specs.Prelude.{◌≡◌, List, ◌∷◌, ◌++◌, [], IfOk, IsErrOf, MatchBool, true};
 ghost use Rattle.std.specs.Prelude.{false};
-ghost use Rattle.pyver_core.specs.Agreement.{Gives};
+ghost use Rattle.pytext.specs.Agreement.{Gives};
 ghost use Rattle.pyver_core.specs.Version.Grammar.{has_large};
 ghost use Rattle.pyver_core.specs.Parsed.{parsed_set};
 ghost use Rattle.pyver_core.specs.Set.Grammar.{IsLargeSet, SetText, specifier_numbers};
@@ -12,7 +12,7 @@ ghost use Rattle.pyver_core.specs.declared.set.specifier.Specifier.{Specifier};
 use super::reading::{SpecifierDraft, read_specifier};
 use crate::set::{Specifier, SpecifierError, SpecifierSet};
 use crate::version::VersionError;
-use crate::version::reading::is_blank;
+use pytext::is_blank;
 use std::alloc::{AllocError, Global};
 
 impl SpecifierSet {

@@ -3,14 +3,14 @@
 ghost use Rattle.std.specs.Prelude.{◌≡◌, IfErr, IfOk, List, ℕ};
 ghost use Rattle.std.specs.Char.{is_ascii_digit};
 ghost use Rattle.std.specs.List.{list_all};
-ghost use Rattle.pyver_core.specs.Agreement.{Gives};
+ghost use Rattle.pytext.specs.Agreement.{Gives};
 ghost use Rattle.pyver_core.specs.Version.FromParts.{is_segment, is_segment_byte, version_from};
 ghost use Rattle.pyver_core.specs.Version.Grammar.{Spells};
 ghost use Rattle.pyver_core.specs.Version.Normal.{normal};
 ghost use Rattle.pyver_core.specs.declared.version.from_parts.PartsError.TheVariants as parts;
 
-use crate::version::reading::is_all_digits;
 use crate::version::{LocalPart, PreKind, Version};
+use pytext::are_digits;
 use std::alloc::{AllocError, Global};
 use std::marker::Model;
 use thiserror::Error;
@@ -112,7 +112,7 @@ fn is_segment(part: &LocalPart) -> bool
         LocalPart::Number(_) => true,
         LocalPart::Text(label) => {
             let bytes = label.as_str().as_bytes();
-            has_segment_bytes(bytes) && !is_all_digits(bytes)
+            has_segment_bytes(bytes) && !are_digits(bytes)
         }
     }
 }

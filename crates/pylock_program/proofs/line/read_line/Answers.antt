@@ -1,6 +1,6 @@
 use Rattle.std.proofs.Common.{◌≡◌, ◌∙◌, sym, ap, subst}
 use Rattle.std.specs.Str.{IsUtf8}
-use Rattle.pyver_core.specs.Agreement.{Gives}
+use Rattle.pytext.specs.Agreement.{Gives}
 use Rattle.pylock_program.specs.Line.{text_command, without_cr}
 use Rattle.pylock_program.specs.declared.line.refusal.LineRefusal.TheVariants.{Memory}
 use Rattle.pylock_program.proofs.LineLemmas.{command_of_text, command_of_not_text}

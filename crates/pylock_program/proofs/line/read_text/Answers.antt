@@ -1,7 +1,7 @@
 use Rattle.std.proofs.Common.{◌≡◌, false, cond, ap, sym, subst, lit<, None, Some}
 use Rattle.std.specs.List.{list_any, before_first, after_first}
 use Rattle.std.proofs.lemmas.Str.Pattern.{split_once_first}
-use Rattle.pyver_core.specs.Agreement.{Gives}
+use Rattle.pytext.specs.Agreement.{Gives}
 use Rattle.pylock_program.specs.Line.{text_command}
 use Rattle.pylock_program.specs.Line.Argument.{is_space}
 use Rattle.pylock_program.specs.Line.Commands.{command_after}

@@ -1,6 +1,6 @@
 use Rattle.std.proofs.Common.{◌≡◌, true, false, rules, refl, sym, ◌∙◌}
 use Rattle.std.specs.Prelude.{string_bytes}
-use Rattle.pymark_core.specs.White.{trimmed}
+use Rattle.pytext.specs.White.{trimmed}
 use Rattle.std.proofs.lemmas.Result.{err_from_is_err_and}
 use Rattle.pymark_core.proofs.MarkerLemmas.{marker_deep, marker_misused, marker_refused, marker_taken}
 use Rattle.pymark_core.specs.Marker.Grammar.{has_misuse}

@@ -6,7 +6,7 @@ use Rattle.std.proofs.lemmas.Str.{encode_ascii}
 use Rattle.std.specs.Char.{to_ascii_lowercase}
 use Rattle.std.specs.Prelude.{if◌then◌else◌, nat_lt}
 use lib.Utf8.{encode}
-use Rattle.pyver_core.specs.Version.Grammar.{is_separator}
+use Rattle.pytext.specs.Bytes.{is_separator}
 use Rattle.pyver_core.specs.Name.{norm}
 
 -- the normal form of what follows, by whether the character before is a separator

@@ -2,9 +2,9 @@
 use Rattle.std.proofs.Common.{◌≡◌, ℕ, true, false, List, [], ◌∷◌, ◌++◌, refl}
 use Rattle.std.specs.Char.{to_ascii_lowercase}
 use Rattle.std.specs.List.{list_all}
-use Rattle.pyver_core.specs.Version.Grammar.{is_separator, starts}
+use Rattle.pytext.specs.Bytes.{is_separator, starts}
 use Rattle.pyver_core.specs.Name.{norm}
-use Rattle.pyver_core.proofs.Lemmas.Version.Complete.Pieces.{all_cons}
+use Rattle.pytext.proofs.Fronts.{all_cons}
 
 pub norm-run : (b : ℕ) (run rest : List ℕ) → list_all is_separator (b ∷ run) ≡ true → starts is_separator rest ≡ false
     → norm ((b ∷ run) ++ rest) ≡ 45 ∷ norm rest

@@ -1,7 +1,7 @@
 -- What parsing a specifier set answers, over the grammar.
 use Rattle.std.proofs.Common.{◌≡◌, true, false, List, ℕ, Some, None, Result, Ok, Err, refl, sym, ◌∙◌}
 use Rattle.std.specs.Prelude.{flat_map, IfOk, IsErrOf}
-use Rattle.pyver_core.specs.Agreement.{Gives}
+use Rattle.pytext.specs.Agreement.{Gives}
 use Rattle.pyver_core.specs.Version.Grammar.{has_large}
 use Rattle.pyver_core.specs.Parsed.{parsed_set}
 use Rattle.pyver_core.specs.Set.Grammar.{IsLargeSet, SetText, specifier_numbers}

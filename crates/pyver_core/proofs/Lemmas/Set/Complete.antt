@@ -6,10 +6,12 @@ use Rattle.std.specs.List.{list_all, prefix_len, starts_with}
 use Rattle.std.proofs.lemmas.Bool.Decides.{nat_tests}
 use Rattle.std.proofs.lemmas.List.Folds.{list_all-append}
 use Rattle.std.proofs.lemmas.Option.{same_Some}
-use Rattle.pyver_core.specs.Version.Grammar.{Spells, is_white, starts}
+use Rattle.pytext.specs.Bytes.{is_white, starts}
+use Rattle.pyver_core.specs.Version.Grammar.{Spells}
 use Rattle.pyver_core.specs.Version.Parts.{Parts}
 use Rattle.pyver_core.specs.Set.Prefix.{Prefix}
-use Rattle.pyver_core.specs.Version.Reading.{added_segment_at, after_white, base_at, dashed_number_at, dashed_or_tagged_post_at, dotted_number_at, local_at, parts_at, post_word_at, pre_word_at, tagged_dev_at, tagged_post_at, tagged_pre_at, version_of}
+use Rattle.pytext.specs.White.{after_white}
+use Rattle.pyver_core.specs.Version.Reading.{added_segment_at, base_at, dashed_number_at, dashed_or_tagged_post_at, dotted_number_at, local_at, parts_at, post_word_at, pre_word_at, tagged_dev_at, tagged_post_at, tagged_pre_at, version_of}
 use Rattle.pyver_core.specs.Set.Grammar.{ArePieces, IsOperand, IsSpecifier, SetText, SpellsArbitrary, SpellsPrefix, blank_piece, is_arbitrary, no_piece, specifier_piece}
 use Rattle.pyver_core.specs.Set.Reading.{arbitrary_of, compatible_of, is_star, operand_of, operator_at, prefix_of, public_of, set_of, specifier_of, specifiers_of}
 use Rattle.pyver_core.specs.Set.Normal.{operator_of, operator_text}
@@ -17,10 +19,11 @@ use Rattle.pyver_core.specs.declared.set.specifier.Operator.{Operator}
 use Rattle.pyver_core.specs.declared.set.specifier.Operator.TheVariants as operator
 use Rattle.pyver_core.specs.declared.set.specifier.Specifier.{Specifier}
 use Rattle.pyver_core.specs.declared.set.specifier.Specifier.TheVariants.{Equal, EqualPrefix, NotEqual, NotEqualPrefix, AtMost, AtLeast, Before, After, Compatible, Arbitrary}
-use Rattle.pyver_core.proofs.Lemmas.Version.Complete.Pieces.{dropped_exact, prefix_len_exact, starts_all, taken_exact, white_again}
+use Rattle.pytext.proofs.Fronts.{dropped_exact, prefix_len_exact, starts_all, taken_exact, white_again}
 use Rattle.pyver_core.proofs.Lemmas.Version.Complete.Whole.{base_again, body_digit, prefix_not_white, version_again}
 use Rattle.pyver_core.proofs.Lemmas.Set.Sound.{prefix_of_takes}
-use Rattle.pyver_core.proofs.Lemmas.Sight.{option_sight, sight}
+use Rattle.pytext.proofs.Options.{option_sight}
+use Rattle.std.proofs.lemmas.Bool.{cases_Bool}
 
 -- ---- operators
 
@@ -31,7 +34,7 @@ IsLongest o rest = (other : Operator) → starts_with nat_eq (operator_text o ++
 
 lacks_longer : (o other : Operator) (rest : List ℕ) → IsLongest o rest → length (operator_text o) < length (operator_text other)
     → starts_with nat_eq (operator_text o ++ rest) (operator_text other) ≡ false
-lacks_longer o other rest longest longer = elim (sight (starts_with nat_eq (operator_text o ++ rest) (operator_text other))) [
+lacks_longer o other rest longest longer = elim (cases_Bool (starts_with nat_eq (operator_text o ++ rest) (operator_text other))) [
   | inl begins ↦ let short = longest other begins in absurd (omega arith)
   | inr lacking ↦ lacking
 ]
@@ -131,7 +134,7 @@ starts_other (b ∷ rest) e = arbitrary_not_white b e
 
 white_stops : (text : List ℕ) → list_all is_white text ≡ true → starts is_arbitrary text ≡ false
 white_stops [] e = refl
-white_stops (b ∷ rest) e = elim (sight (is_white b)) [
+white_stops (b ∷ rest) e = elim (cases_Bool (is_white b)) [
   | inl white ↦ white_not_arbitrary b white
   | inr other ↦ absurd (let n : false ≡ true = rw other at e in cc)
 ]

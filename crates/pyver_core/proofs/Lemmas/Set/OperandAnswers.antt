@@ -1,7 +1,7 @@
 -- What making a specifier of an operator and an operand answers, over the grammar.
 use Rattle.std.proofs.Common.{◌≡◌, true, false, List, ℕ, Some, None, Result, Ok, Err, refl, ap, sym, ◌∙◌}
 use Rattle.std.specs.Prelude.{IfOk, IsErrOf, IsTrue}
-use Rattle.pyver_core.specs.Agreement.{Gives}
+use Rattle.pytext.specs.Agreement.{Gives}
 use Rattle.pyver_core.specs.Version.Grammar.{has_large}
 use Rattle.pyver_core.specs.Parsed.{parsed_operand}
 use Rattle.pyver_core.specs.Set.Grammar.{IsOperand, specifier_numbers}

@@ -3,26 +3,13 @@ use Rattle.std.proofs.Common.{◌≡◌, ℕ, Bool, true, false, List, [], ◌�
 use Rattle.std.specs.Prelude.{◌||◌, flat_map, option_map}
 use Rattle.std.specs.List.{list_all}
 use Rattle.std.proofs.lemmas.Grind.{flat_map-append}
-use Rattle.std.proofs.lemmas.Iterator.{YieldsList}
-use Rattle.pyver_core.specs.Version.Grammar.{has_large, is_white}
+use Rattle.pytext.specs.Bytes.{is_white}
+use Rattle.std.proofs.lemmas.Bool.{or_left, or_right}
+use Rattle.pyver_core.specs.Version.Grammar.{has_large}
 use Rattle.pyver_core.specs.Set.Grammar.{specifier_numbers}
 use Rattle.pyver_core.specs.Set.Reading.{specifier_of, specifiers_of}
 use Rattle.pyver_core.specs.declared.set.specifier.Specifier.{Specifier}
-use Rattle.pyver_core.proofs.Lemmas.Version.Limits.{has_large-append, or_false, or_true, or_true_right}
-
--- ---- the pieces that are left
-
-pub next_piece : {S A B : Type 0} (steps : S → Option A → S → Type 0) (v : A → B) (s : S) (left : List B) → YieldsList steps v s left
-    → (x : A) (t : S) → steps s (Some x) t → (rest : List B) × (left ≡ v x ∷ rest) × YieldsList steps v t rest
-next_piece steps v s [] yields x t step = absurd (yields.runs x t step)
-next_piece steps v s (y ∷ rest) yields x t step =
-    let on = yields.runs.1 x t step in
-    (rest, ap (λ z. z ∷ rest) (sym on.0), record { runs = on.1 })
-
-pub no_piece : {S A B : Type 0} (steps : S → Option A → S → Type 0) (v : A → B) (s : S) (left : List B) → YieldsList steps v s left
-    → (t : S) → steps s None t → left ≡ []
-no_piece steps v s [] yields t step = refl
-no_piece steps v s (y ∷ rest) yields t step = absurd (yields.runs.0 t step)
+use Rattle.pyver_core.proofs.Lemmas.Version.Limits.{has_large-append, or_false}
 
 -- ---- the specifiers so far
 
@@ -87,7 +74,7 @@ read_within piece left all items is_large s other some within r = record {
   so_far = r.so_far ++ s ∷ [];
   whole = more-whole piece left all r.so_far s other some r.whole;
   small = λ e. (ap (λ xs. xs ++ s ∷ []) (r.small e).0, more-numbers r.so_far s ∙ or_false _ _ (r.small e).1 ∙ within);
-  large = λ e. more-numbers r.so_far s ∙ or_true _ _ (r.large e);
+  large = λ e. more-numbers r.so_far s ∙ or_left _ _ (r.large e);
 }
 
 -- one with a number past the limit
@@ -98,7 +85,7 @@ read_large piece left all items more is_large s other some past r = record {
   so_far = r.so_far ++ s ∷ [];
   whole = more-whole piece left all r.so_far s other some r.whole;
   small = λ e. absurd (let n : true ≡ false = e in cc);
-  large = λ _. more-numbers r.so_far s ∙ or_true_right _ _ past;
+  large = λ _. more-numbers r.so_far s ∙ or_right _ _ past;
 }
 
 pub read_end : (all : List (List ℕ)) (items : List Specifier) → ReadSoFar [] all items false

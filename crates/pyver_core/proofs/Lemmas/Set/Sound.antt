@@ -3,17 +3,19 @@ use Rattle.std.proofs.Common.{◌≡◌, ◌⊎◌, ℕ, ◌≤◌, Bool, true, 
 use Rattle.std.specs.Prelude.{◌==◌, ◌&&◌, codes, nat_eq, nat_le, nat_lt, option_map}
 use Rattle.std.specs.Cmp.{unsigned_Decides}
 use Rattle.std.specs.List.{list_all, prefix_len, starts_with}
-use Rattle.std.proofs.lemmas.Bool.{eqb-true}
+use Rattle.std.proofs.lemmas.Bool.{eqb-true, cases_Bool}
 use Rattle.std.proofs.lemmas.Bool.Decides.{nat_tests}
 use Rattle.std.proofs.lemmas.List.{nil_from_length, take-append-drop}
 use Rattle.std.proofs.lemmas.List.Folds.{length-prefix_len}
 use Rattle.std.proofs.lemmas.Option.{cond_some}
 use Rattle.std.proofs.lemmas.Slice.Eq.{starts_is}
-use Rattle.pyver_core.specs.Version.Grammar.{Spells, is_white}
+use Rattle.pytext.specs.Bytes.{is_white}
+use Rattle.pyver_core.specs.Version.Grammar.{Spells}
 use Rattle.pyver_core.specs.Version.Parts.{Parts}
 use Rattle.pyver_core.specs.Set.Prefix.{Prefix}
-use Rattle.pyver_core.specs.Options.{either}
-use Rattle.pyver_core.specs.Version.Reading.{after_white, base_at, version_of}
+use Rattle.pytext.specs.Options.{either}
+use Rattle.pytext.specs.White.{after_white}
+use Rattle.pyver_core.specs.Version.Reading.{base_at, version_of}
 use Rattle.pyver_core.specs.Set.Grammar.{ArePieces, IsOperand, IsSpecifier, SetText, SpellsArbitrary, SpellsPrefix, blank_piece, is_arbitrary, no_piece, specifier_piece}
 use Rattle.pyver_core.specs.Set.Reading.{arbitrary_of, behind_operator, compatible_of, is_star, operand_of, operator_among, operator_at, operators, prefix_of, public_of, set_of, specifier_of, specifiers_of}
 use Rattle.pyver_core.specs.Set.Normal.{operator_of, operator_text}
@@ -21,9 +23,8 @@ use Rattle.pyver_core.specs.declared.set.specifier.Operator.{Operator}
 use Rattle.pyver_core.specs.declared.set.specifier.Operator.TheVariants as operator
 use Rattle.pyver_core.specs.declared.set.specifier.Specifier.{Specifier}
 use Rattle.pyver_core.specs.declared.set.specifier.Specifier.TheVariants.{Equal, EqualPrefix, NotEqual, NotEqualPrefix, AtMost, AtLeast, Before, After, Compatible, Arbitrary}
-use Rattle.pyver_core.proofs.Lemmas.Version.Fronts.{list_all_front}
-use Rattle.pyver_core.proofs.Lemmas.Sight.{option_sight, sight}
-use Rattle.pyver_core.proofs.Lemmas.Version.Sound.Pieces.{bind_some, either_some, white_takes}
+use Rattle.pytext.proofs.Fronts.{list_all_front, white_takes}
+use Rattle.pytext.proofs.Options.{option_sight, bind_some, either_some}
 use Rattle.pyver_core.proofs.Lemmas.Version.Sound.Parts.{base_takes, version_takes}
 
 pub mapped : {X Y : Type 0} (f : X → Y) (o : Option X) (y : Y) → option_map f o ≡ Some y → (x : X) × (o ≡ Some x) × (f x ≡ y)
@@ -45,7 +46,7 @@ operator_takes o text rest e =
     begins_takes text (operator_text o) c.0 ∙ ap (λ (t : List ℕ). operator_text o ++ t) c.1
 
 no_operator : (o : Operator) (text : List ℕ) → behind_operator o text ≡ None → starts_with nat_eq text (operator_text o) ≡ false
-no_operator o text e = elim (sight (starts_with nat_eq text (operator_text o))) [
+no_operator o text e = elim (cases_Bool (starts_with nat_eq text (operator_text o))) [
   | inl begins ↦ absurd (let n : Some (drop (length (operator_text o)) text) ≡ None = rw begins at e in cc)
   | inr other ↦ other
 ]
@@ -274,7 +275,7 @@ specifier_takes piece s e =
 pieces_take : (pieces : List (List ℕ)) (specifiers : List Specifier) → specifiers_of pieces ≡ Some specifiers → ArePieces pieces specifiers
 unfolding specifiers_of
 pieces_take [] specifiers e = let same : [] ≡ specifiers = cc in subst (ArePieces []) same no_piece
-pieces_take (piece ∷ rest) specifiers e = elim (sight (list_all is_white piece)) [
+pieces_take (piece ∷ rest) specifiers e = elim (cases_Bool (list_all is_white piece)) [
   | inl blank ↦
       let later : specifiers_of rest ≡ Some specifiers = rw blank at e in
       blank_piece piece rest specifiers blank (pieces_take rest specifiers later)

@@ -3,10 +3,9 @@ use Rattle.std.proofs.Common.{◌≡◌, ◌⊎◌, ℕ, ◌+◌, ◌≤◌, Boo
 use Rattle.std.specs.Prelude.{◌==◌}
 use Rattle.std.specs.Char.{is_ascii_digit, is_ascii_alphanumeric, to_ascii_lowercase}
 use Rattle.std.specs.List.{list_all, list_any}
-use Rattle.std.proofs.lemmas.Bool.{eqb-true}
+use Rattle.std.proofs.lemmas.Bool.{cases_Bool, eqb-true, not-true}
 use Rattle.std.proofs.lemmas.Bool.Decides.{nat_tests}
-use Rattle.pyver_core.specs.Version.Grammar.{is_white, is_separator, starts}
-use Rattle.pyver_core.proofs.Lemmas.Sight.{sight}
+use Rattle.pytext.specs.Bytes.{is_separator, is_white, starts}
 
 -- one of the listed bytes
 abbrev pub is_in : List ℕ → ℕ → Bool
@@ -23,25 +22,21 @@ is_letter c b = to_ascii_lowercase b == c
 
 member_passes : (test : ℕ → Bool) (set : List ℕ) (b : ℕ) → list_all test set ≡ true → is_in set b ≡ true → test b ≡ true
 member_passes test [] b all m = absurd (let n : false ≡ true = m in cc)
-member_passes test (c ∷ set) b all m = elim (sight (b == c)) [
-  | inl same ↦ elim (sight (test c)) [
+member_passes test (c ∷ set) b all m = elim (cases_Bool (b == c)) [
+  | inl same ↦ elim (cases_Bool (test c)) [
     | inl passes ↦ rw (eqb-true b c same) passes
     | inr fails ↦ absurd (let n : false ≡ true = rw fails at all in cc)
   ]
-  | inr other ↦ elim (sight (test c)) [
+  | inr other ↦ elim (cases_Bool (test c)) [
     | inl passes ↦ member_passes test set b (rw passes at all) (rw other at m)
     | inr fails ↦ absurd (let n : false ≡ true = rw fails at all in cc)
   ]
 ]
 
-not_true : (b : Bool) → not b ≡ true → b ≡ false
-not_true true e = absurd cc
-not_true false e = refl
-
 -- a test that each listed byte fails
 pub begins_not : (test : ℕ → Bool) (set : List ℕ) → list_all (λ b. not (test b)) set ≡ true → (text : List ℕ) → begins_in set text ≡ true → starts test text ≡ false
 begins_not test set all [] m = refl
-begins_not test set all (b ∷ rest) m = not_true (test b) (member_passes (λ c. not (test c)) set b all m)
+begins_not test set all (b ∷ rest) m = not-true (test b) (member_passes (λ c. not (test c)) set b all m)
 
 -- a longer list
 pub begins_wider : (set wider : List ℕ) → list_all (is_in wider) set ≡ true → (text : List ℕ) → begins_in set text ≡ true → begins_in wider text ≡ true
@@ -58,7 +53,7 @@ white_in b e = grind (arith, nat_tests)
 
 pub all_white_begins : (text : List ℕ) → list_all is_white text ≡ true → begins_in whites text ≡ true
 all_white_begins [] e = refl
-all_white_begins (b ∷ rest) e = elim (sight (is_white b)) [
+all_white_begins (b ∷ rest) e = elim (cases_Bool (is_white b)) [
   | inl white ↦ white_in b white
   | inr other ↦ absurd (let n : false ≡ true = rw other at e in cc)
 ]

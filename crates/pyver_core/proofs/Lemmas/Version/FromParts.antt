@@ -1,21 +1,22 @@
 -- The parts that make a version are those that a text spells.
-use Rattle.std.proofs.Common.{◌≡◌, ℕ, suc, Bool, true, false, not, ◌&&◌, List, [], ◌∷◌, length, Result, Ok, Err, refl, sym, ap, ◌∙◌, arith, inl, inr}
+use Rattle.std.proofs.Common.{◌≡◌, ℕ, suc, true, false, List, [], ◌∷◌, length, Result, Ok, Err, refl, sym, ap, ◌∙◌, arith, inl, inr}
 use Rattle.std.specs.Prelude.{◌==◌, if◌then◌else◌, IfErr, IfOk, flat_map}
 use Rattle.std.specs.Char.{is_ascii_digit, is_ascii_alphanumeric, to_ascii_lowercase}
 use Rattle.std.specs.List.{list_all}
 use Rattle.std.specs.Str.{str_to_ascii_lowercase}
 use Rattle.std.proofs.lemmas.Bool.Decides.{nat_tests}
-use Rattle.pyver_core.specs.Agreement.{Gives}
+use Rattle.pytext.specs.Agreement.{Gives}
 use Rattle.pyver_core.specs.Version.FromParts.{is_segment, is_segment_byte, version_from}
-use Rattle.pyver_core.specs.Version.Grammar.{AreBehind, IsLocal, IsRelease, IsSegment, Spells, is_separator}
+use Rattle.pytext.specs.Bytes.{is_separator}
+use Rattle.pyver_core.specs.Version.Grammar.{AreBehind, IsLocal, IsRelease, IsSegment, Spells}
 use Rattle.pyver_core.specs.Version.Normal.{dotted_number, dotted_segment, decimal_text, local_text, normal, release_text, segment_text}
 use Rattle.pyver_core.specs.Version.Parts.{Parts}
 use Rattle.pyver_core.specs.declared.version.from_parts.PartsError.{PartsError}
 use Rattle.pyver_core.specs.declared.version.from_parts.PartsError.TheVariants.{EmptyRelease, LocalSegment, Memory}
 use Rattle.pyver_core.specs.declared.version.part.LocalPart.{LocalPart}
 use Rattle.pyver_core.specs.declared.version.part.LocalPart.TheVariants.{Number, Text}
-use Rattle.pyver_core.proofs.Lemmas.Sight.{sight}
-use Rattle.pyver_core.proofs.Lemmas.Version.Complete.Pieces.{all_cons}
+use Rattle.std.proofs.lemmas.Bool.{and_parts, cases_Bool, not-true}
+use Rattle.pytext.proofs.Fronts.{all_cons}
 use Rattle.pyver_core.proofs.Lemmas.Version.NormalForm.{all_lower_digits, dotted_spelt, normal_spells_parts, number_spelt}
 
 -- ---- segments
@@ -41,32 +42,20 @@ all_bytes : (run : List ℕ) → list_all is_ascii_alphanumeric run ≡ true →
 all_bytes [] e = refl
 all_bytes (b ∷ rest) e = let c = all_cons is_ascii_alphanumeric b rest e in rw (byte_of_lower b c.0) (all_bytes rest c.1)
 
-and_first : (a b : Bool) → (a && b) ≡ true → a ≡ true
-and_first true b e = refl
-and_first false b e = e
-
-and_second : (a b : Bool) → (a && b) ≡ true → b ≡ true
-and_second true b e = e
-and_second false b e = absurd (let n : false ≡ true = e in cc)
-
-not_true : (b : Bool) → not b ≡ true → b ≡ false
-not_true true e = absurd (let n : false ≡ true = e in cc)
-not_true false e = refl
-
 segment_spells : (s : LocalPart) → is_segment s ≡ true → IsSegment (segment_text s) s
 segment_spells (Number n) e = number_spelt n
 segment_spells (Text label) e =
-    let bytes = and_first _ _ e in
-    (all_alphanumeric label bytes, not_true _ (and_second _ _ e), all_lower label bytes)
+    let bytes = (and_parts _ _ e).0 in
+    (all_alphanumeric label bytes, not-true _ (and_parts _ _ e).1, all_lower label bytes)
 
 segments_spell : (ss : List LocalPart) → list_all is_segment ss ≡ true → AreBehind is_separator IsSegment (flat_map dotted_segment ss) ss
 segments_spell [] e = refl
 segments_spell (s ∷ ss) e =
-    (46, segment_text s, flat_map dotted_segment ss, refl, refl, segment_spells s (and_first _ _ e), segments_spell ss (and_second _ _ e))
+    (46, segment_text s, flat_map dotted_segment ss, refl, refl, segment_spells s (and_parts _ _ e).0, segments_spell ss (and_parts _ _ e).1)
 
 local_spells : (ss : List LocalPart) → list_all is_segment ss ≡ true → IsLocal (local_text ss) ss
 local_spells [] e = refl
-local_spells (s ∷ ss) e = (segment_text s, flat_map dotted_segment ss, refl, segment_spells s (and_first _ _ e), segments_spell ss (and_second _ _ e))
+local_spells (s ∷ ss) e = (segment_text s, flat_map dotted_segment ss, refl, segment_spells s (and_parts _ _ e).0, segments_spell ss (and_parts _ _ e).1)
 
 release_spells : (n : ℕ) (ns : List ℕ) → IsRelease (release_text (n ∷ ns)) (n ∷ ns)
 release_spells n ns = (decimal_text n, flat_map dotted_number ns, refl, number_spelt n, dotted_spelt ns)
@@ -104,7 +93,7 @@ spelt_from text p s = spelt_judged s.release p.release p.local p s.is_release (s
 judged_Ok : (ns : List ℕ) (local : List LocalPart) (p v : Parts) → judged ns local p ≡ Ok v
     → (p ≡ v) × IsRelease (release_text ns) ns × (list_all is_segment local ≡ true)
 judged_Ok [] local p v e = absurd cc
-judged_Ok (n ∷ ns) local p v e = elim (sight (list_all is_segment local)) [
+judged_Ok (n ∷ ns) local p v e = elim (cases_Bool (list_all is_segment local)) [
   | inl all ↦ (let same : Ok p ≡ Ok v = rw (not_zero (length ns), all) at e in cc, release_spells n ns, all)
   | inr other ↦ absurd (let no : Err LocalSegment ≡ Ok v = rw (not_zero (length ns), other) at e in cc)
 ]

@@ -15,14 +15,6 @@ pub or_false : (a b : Bool) → a ≡ false → (a || b) ≡ b
 or_false true b e = absurd cc
 or_false false b e = refl
 
-pub or_true : (a b : Bool) → a ≡ true → (a || b) ≡ true
-or_true true b e = refl
-or_true false b e = absurd cc
-
-pub or_true_right : (a b : Bool) → b ≡ true → (a || b) ≡ true
-or_true_right true b e = refl
-or_true_right false b e = e
-
 pub has_large-append : (a b : List ℕ) → has_large (a ++ b) ≡ (has_large a || has_large b)
 has_large-append a b = list_any-append (leb (2 ^ 128)) a b
 

@@ -4,9 +4,11 @@ use Rattle.std.specs.Char.{is_ascii_digit, is_ascii_alphanumeric}
 use Rattle.std.specs.List.{prefix_len}
 use Rattle.std.proofs.lemmas.List.{length-drop}
 use Rattle.std.proofs.lemmas.Option.{cond_some}
-use Rattle.pyver_core.specs.Version.Grammar.{is_separator, is_dot, starts}
+use Rattle.pytext.specs.Bytes.{is_separator, starts}
+use Rattle.pyver_core.specs.Version.Grammar.{is_dot}
 use Rattle.pyver_core.specs.Version.Reading.{onto, behind_at, many, many_at, count_at, number_at, dotted_number_at, segment_at, separated_segment_at}
-use Rattle.pyver_core.proofs.Lemmas.Sight.{sight, option_sight}
+use Rattle.pytext.proofs.Options.{option_sight}
+use Rattle.std.proofs.lemmas.Bool.{cases_Bool}
 
 -- a reader leaves no more than it was given, or less
 abbrev pub Keeps : {X : Type 0} → (List ℕ → Option (X × List ℕ)) → Type 0
@@ -17,7 +19,7 @@ Shrinks {X} read = (text : List ℕ) (x : X × List ℕ) → read text ≡ Some 
 
 pub behind_shrinks : {X : Type 0} (opens : ℕ → Bool) (read : List ℕ → Option (X × List ℕ)) → Keeps read → Shrinks (behind_at opens read)
 behind_shrinks opens read keeps [] x e = absurd cc
-behind_shrinks opens read keeps (b ∷ rest) x e = elim (sight (opens b)) [
+behind_shrinks opens read keeps (b ∷ rest) x e = elim (cases_Bool (opens b)) [
   | inl opened ↦ let kept : length x.1 ≤ length rest = keeps rest x (rw opened at e) in omega arith
   | inr closed ↦ absurd (let n : None ≡ Some x = rw closed at e in cc)
 ]

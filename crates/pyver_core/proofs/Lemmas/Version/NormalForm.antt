@@ -10,8 +10,9 @@ use Rattle.std.proofs.lemmas.Int.Digits.{digits_value_is, all_below_base_digits_
 use Rattle.std.proofs.lemmas.List.{append-nil, length-map}
 use Rattle.pyver_core.specs.Version.Parts.{Parts}
 use Rattle.pyver_core.specs.Version.Normal.{decimal_text, epoch_text, release_text, pre_text, post_text, dev_text, local_text, dotted_number, dotted_segment, segment_text, letters, normal}
-use Rattle.pyver_core.specs.Version.Grammar.{is_separator, is_dot, IsOptionalSeparator, IsNumber, AreBehind, IsEpoch, IsRelease, IsTagged, IsPreWord, word_a, word_b, word_rc, IsPre, word_post, IsPost, IsDev, IsSegment, IsLocal, Spells}
-use Rattle.pyver_core.proofs.Lemmas.Version.Complete.Pieces.{all_cons}
+use Rattle.pytext.specs.Bytes.{is_separator}
+use Rattle.pyver_core.specs.Version.Grammar.{is_dot, IsOptionalSeparator, IsNumber, AreBehind, IsEpoch, IsRelease, IsTagged, IsPreWord, word_a, word_b, word_rc, IsPre, word_post, IsPost, IsDev, IsSegment, IsLocal, Spells}
+use Rattle.pytext.proofs.Fronts.{all_cons}
 use Rattle.pyver_core.specs.declared.version.part.PreKind.{PreKind}
 use Rattle.pyver_core.specs.declared.version.part.PreKind.TheVariants.{A, B, Rc}
 use Rattle.pyver_core.specs.declared.version.part.LocalPart.{LocalPart}

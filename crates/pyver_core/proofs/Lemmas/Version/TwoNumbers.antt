@@ -4,7 +4,7 @@ use Rattle.std.specs.Prelude.{is_some, nat_le, option_map}
 use Rattle.std.proofs.lemmas.Bool.Decides.{nat_tests}
 use Rattle.pyver_core.specs.Version.Reading.{dotted_number_at, many_at}
 use Rattle.pyver_core.proofs.Lemmas.Version.Many.{dotted_shrinks, many_at-none, many_at-some}
-use Rattle.pyver_core.proofs.Lemmas.Sight.{option_sight}
+use Rattle.pytext.proofs.Options.{option_sight}
 
 two-more : (a b : ℕ) (ns : List ℕ) → true ≡ nat_le 2 (length (a ∷ b ∷ ns))
 two-more a b ns = grind (arith, nat_tests)

@@ -1,7 +1,7 @@
 use Rattle.std.proofs.Common.{◌≡◌, ◌∙◌, ap, sym, true, false, string_bytes}
 use Rattle.std.proofs.lemmas.List.{nil_from_length}
 use Rattle.std.specs.declared.str.Chars.{Chars}
-use Rattle.pyver_core.specs.Version.Grammar.{is_separator}
+use Rattle.pytext.specs.Bytes.{is_separator}
 use Rattle.pyver_core.specs.Name.{norm}
 use Rattle.pyver_core.proofs.Lemmas.Name.Collapse.{last-step, norm-collapse, step-first, step-further, step-other}
 use Rattle.pyver_core.proofs.name.normal_name.Goals as goal

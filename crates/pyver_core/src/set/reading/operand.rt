@@ -8,10 +8,8 @@ ghost use Rattle.pyver_core.specs.Set.Reading.{arbitrary_of, compatible_of, is_s
 ghost use Rattle.pyver_core.specs.Set.Reading.{public_of};
 ghost use Rattle.pyver_core.specs.Inner.SpecifierDraft.{base_prefix};
 
-use super::operator::past_white_text;
-use crate::version::reading::{
-    Base, Draft, is_blank, is_white_byte, past_white, read_base, read_version,
-};
+use crate::version::reading::{Base, Draft, read_base, read_version};
+use pytext::{is_blank, is_white, past_white, past_white_bytes};
 
 /// Whether `.*` is all that stands there, but for white space.
 fn is_star(bytes: &[u8]) -> bool
@@ -28,7 +26,7 @@ fn is_star(bytes: &[u8]) -> bool
 pub(super) fn read_prefix(bytes: &[u8]) -> Option<Base<'_>>
     ensures { option_map base_prefix result ≡ prefix_of bytes.now }
 {
-    let (base, rest) = read_base(past_white(bytes))?;
+    let (base, rest) = read_base(past_white_bytes(bytes))?;
     is_star(rest).then_some(base)
 }
 
@@ -53,7 +51,7 @@ pub(super) fn read_compatible(bytes: &[u8]) -> Option<Draft<'_>>
 fn is_arbitrary_byte(byte: u8) -> bool
     ensures { result ≡ is_arbitrary byte }
 {
-    !(is_white_byte(byte) || matches!(byte, b';' | b')' | b','))
+    !(is_white(byte) || matches!(byte, b';' | b')' | b','))
 }
 
 fn arbitrary_len(bytes: &[u8]) -> usize
@@ -67,7 +65,7 @@ fn arbitrary_len(bytes: &[u8]) -> usize
 pub(super) fn read_arbitrary(text: &str) -> Option<&str>
     ensures { option_map (λ t. t.now) result ≡ arbitrary_of text.now }
 {
-    let text = past_white_text(text);
+    let text = past_white(text);
     let (run, rest) = text.split_at(arbitrary_len(text.as_bytes()));
     (!run.is_empty() && is_blank(rest.as_bytes())).then_some(run)
 }

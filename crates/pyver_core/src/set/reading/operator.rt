@@ -1,11 +1,11 @@
 //! The operator at the front of a specifier.
 
 ghost use Rattle.std.specs.Prelude.{◌≡◌, option_map};
-ghost use Rattle.pyver_core.specs.Version.Reading.{after_white};
+ghost use Rattle.pytext.specs.White.{after_white};
 ghost use Rattle.pyver_core.specs.Set.Reading.{behind_operator, operator_among, operator_at};
 
 use crate::set::Operator;
-use crate::version::reading::white_len;
+use pytext::past_white;
 
 /// The operators, the longer ones first, so that the first that stands in a text is the longest.
 const OPERATORS: [Operator; 8] = [
@@ -18,14 +18,6 @@ const OPERATORS: [Operator; 8] = [
     Operator::Before,
     Operator::After,
 ];
-
-/// The text behind the white space at its front.
-#[tactic(auto, using(crate::proofs::Lemmas::Set::Boundaries::boundary_behind_white))]
-pub(super) fn past_white_text(text: &str) -> &str
-    ensures { result.now ≡ after_white text.now }
-{
-    text.split_at(white_len(text.as_bytes())).1
-}
 
 /// The text behind the operator.
 fn past_operator(text: &str, operator: Operator) -> Option<&str>
@@ -52,5 +44,5 @@ fn first_of<'a>(operators: &[Operator], text: &'a str) -> Option<(Operator, &'a 
 pub(super) fn read_operator(text: &str) -> Option<(Operator, &str)>
     ensures { option_map (λ cut. (cut.0, cut.1.now)) result ≡ operator_at (after_white text.now) }
 {
-    first_of(&OPERATORS, past_white_text(text))
+    first_of(&OPERATORS, past_white(text))
 }

@@ -1,9 +1,7 @@
 //! Numbers as they stand in a text.
 
-ghost use Rattle.std.specs.Prelude.{◌≡◌, ◌+◌, ◌*◌, ◌<◌, ◌^◌, true, SomeIff};
-ghost use Rattle.std.specs.Char.{is_ascii_digit, digit_value};
-
 use crate::version::VersionError;
+use pytext::digits_value;
 use std::marker::Model;
 
 /// The digits of a number, of which there may be none for 0. Contracts see the number, of any size.
@@ -51,31 +49,7 @@ impl<'a> Digits<'a> {
     pub(crate) fn value(&self) -> Option<u128>
         ensures { SomeIff result (self.now < 2 ^ 128) self.now }
     {
-        match self.short_value() {
-            Some(value) => Some(u128::from(value)),
-            None => self.long_value(),
-        }
-    }
-
-    /// The number, where 64 bits hold it, as they hold nearly each: the short way.
-    fn short_value(&self) -> Option<u64>
-        ensures { SomeIff result (self.now < 2 ^ 64) self.now }
-    {
-        let mut value = 0u64;
-        for digit in self.digits {
-            value = with_short_digit(value, *digit)?;
-        }
-        Some(value)
-    }
-
-    fn long_value(&self) -> Option<u128>
-        ensures { SomeIff result (self.now < 2 ^ 128) self.now }
-    {
-        let mut value = 0u128;
-        for digit in self.digits {
-            value = with_digit(value, *digit)?;
-        }
-        Some(value)
+        digits_value(self.digits)
     }
 
     /// The number, or the refusal of one past the limit.
@@ -84,22 +58,4 @@ impl<'a> Digits<'a> {
     {
         self.value().ok_or(VersionError::NumberTooLarge)
     }
-}
-
-/// The number with one more digit, where 64 bits hold it.
-fn with_short_digit(value: u64, digit: u8) -> Option<u64>
-    requires { is_ascii_digit digit ≡ true }
-    ensures { SomeIff result (value * 10 + digit_value digit < 2 ^ 64)
-        (value * 10 + digit_value digit) }
-{
-    value.checked_mul(10)?.checked_add(u64::from(digit - b'0'))
-}
-
-/// The number with one more digit, where it isn't past the limit.
-fn with_digit(value: u128, digit: u8) -> Option<u128>
-    requires { is_ascii_digit digit ≡ true }
-    ensures { SomeIff result (value * 10 + digit_value digit < 2 ^ 128)
-        (value * 10 + digit_value digit) }
-{
-    value.checked_mul(10)?.checked_add(u128::from(digit - b'0'))
 }

@@ -9,9 +9,9 @@ ghost use Rattle.pyver_core.specs.Version.Grammar.{number_in, number_in_pre, num
 use super::base::{Base, read_base};
 use super::digits::Digits;
 use super::local::{Local, read_local};
-use super::scan;
 use super::tagged::{read_dev, read_post, read_pre};
 use crate::version::{PreKind, Version, VersionError, VersionParts};
+use pytext::{is_blank, past_white_bytes};
 use std::alloc::Global;
 
 /// The parts of a version as they stand in its text. It holds no memory.
@@ -48,9 +48,9 @@ fn read_parts<'a>(base: Base<'a>, bytes: &'a [u8]) -> (Draft<'a>, &'a [u8])
 pub(crate) fn read_version(bytes: &[u8]) -> Option<Draft<'_>>
     ensures { option_map draft_parts result ≡ version_of bytes.now }
 {
-    let (base, rest) = read_base(scan::past_white(bytes))?;
+    let (base, rest) = read_base(past_white_bytes(bytes))?;
     let (draft, rest) = read_parts(base, rest);
-    scan::is_blank(rest).then_some(draft)
+    is_blank(rest).then_some(draft)
 }
 
 /// The number of a part that may be absent.

@@ -1,11 +1,10 @@
-//! The front of a text: white space, separators, numbers and words.
+//! The front of a text: separators, numbers and words.
 
 ghost use Rattle.std.specs.Prelude.{◌≡◌, option_map};
-ghost use Rattle.std.specs.Char.{is_ascii_digit, is_ascii_alphanumeric};
-ghost use Rattle.std.specs.List.{prefix_len, list_all};
+ghost use Rattle.std.specs.Char.{is_ascii_alphanumeric};
+ghost use Rattle.std.specs.List.{prefix_len};
 ghost use Rattle.std.specs.Str.{str_to_ascii_lowercase};
-ghost use Rattle.pyver_core.specs.Version.Grammar.{is_white, is_separator};
-ghost use Rattle.pyver_core.specs.Version.Reading.{after_separator, after_white, count_at};
+ghost use Rattle.pyver_core.specs.Version.Reading.{after_separator, count_at};
 ghost use Rattle.pyver_core.specs.Version.Reading.{number_at, tail_at, word_at, either_at};
 ghost use Rattle.pyver_core.specs.Version.Reading.{pre_word_at, post_word_at, dotted_number_at};
 ghost use Rattle.pyver_core.specs.Version.Reading.{segment_at, separated_segment_at};
@@ -14,41 +13,7 @@ ghost use Rattle.pyver_core.specs.Version.Reading.{added_segment_at};
 use super::digits::Digits;
 use super::segment::Segment;
 use crate::version::PreKind;
-
-/// Whether the byte is TAB, LF, VT, FF, CR or space.
-pub(crate) fn is_white_byte(byte: u8) -> bool
-    ensures { result ≡ is_white byte }
-{
-    matches!(byte, b' ' | b'\t'..=b'\r')
-}
-
-/// The length of the white space at the front.
-pub(crate) fn white_len(bytes: &[u8]) -> usize
-    ensures { result ≡ prefix_len is_white bytes.now }
-{
-    bytes.iter().take_while(|b| is_white_byte(**b)).count()
-}
-
-/// The text behind the white space at the front.
-#[tactic(auto, using(crate::proofs::Lemmas::Version::Fronts::fronts))]
-pub(crate) fn past_white(bytes: &[u8]) -> &[u8]
-    ensures { result.now ≡ after_white bytes.now }
-{
-    bytes.split_at(white_len(bytes)).1
-}
-
-/// Whether the text is white space alone.
-pub(crate) fn is_blank(bytes: &[u8]) -> bool
-    ensures { result ≡ list_all is_white bytes.now }
-{
-    bytes.iter().all(|b| is_white_byte(*b))
-}
-
-fn digits_len(bytes: &[u8]) -> usize
-    ensures { result ≡ prefix_len is_ascii_digit bytes.now }
-{
-    bytes.iter().take_while(|b| b.is_ascii_digit()).count()
-}
+use pytext::digits_len;
 
 pub(super) fn run_len(bytes: &[u8]) -> usize
     ensures { result ≡ prefix_len is_ascii_alphanumeric bytes.now }
@@ -70,7 +35,7 @@ pub(super) fn past_separator(bytes: &[u8]) -> &[u8]
 }
 
 /// Digits or none, and the text behind them.
-#[tactic(auto, using(crate::proofs::Lemmas::Version::Fronts::fronts))]
+#[tactic(auto, using(pytext::proofs::Fronts::fronts))]
 pub(super) fn count(bytes: &[u8]) -> (Digits<'_>, &[u8])
     ensures { (result.0, result.1.now) ≡ count_at bytes.now }
 {

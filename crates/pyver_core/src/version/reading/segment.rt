@@ -1,12 +1,13 @@
 //! Segments of a local part as they stand in a text.
 
 ghost use Rattle.std.specs.Prelude.{◌≡◌, true, IfOk, string_bytes};
-ghost use Rattle.std.specs.Char.{is_ascii_alphanumeric, is_ascii_digit};
+ghost use Rattle.std.specs.Char.{is_ascii_alphanumeric};
 ghost use Rattle.std.specs.List.{list_all};
 ghost use Rattle.std.specs.Str.{str_to_ascii_lowercase};
 
 use super::digits::Digits;
 use crate::version::{Label, LocalPart, VersionError};
+use pytext::are_digits;
 use std::alloc::{AllocError, Global};
 use std::marker::Model;
 
@@ -50,20 +51,13 @@ impl<'a> Segment<'a> {
     pub(crate) fn segment(&self, alloc: Global) -> Result<LocalPart, VersionError>
         ensures { Makes (λ s. s) result self.now (number_in_segment self.now) }
     {
-        if is_all_digits(self.run) {
+        if are_digits(self.run) {
             let number = Digits::new(self.run).number()?;
             return Ok(LocalPart::Number(number));
         }
         let text = lowercase(alloc, self.run)?;
         Ok(LocalPart::Text(Label::new(text)))
     }
-}
-
-/// Whether the text has no byte but digits.
-pub(crate) fn is_all_digits(bytes: &[u8]) -> bool
-    ensures { result ≡ list_all is_ascii_digit bytes.now }
-{
-    bytes.iter().all(|b| b.is_ascii_digit())
 }
 
 /// The letters and digits in lower case.

@@ -9,7 +9,8 @@ use Rattle.std.proofs.lemmas.Iterator.Splits.{YieldsList-from_str_split}
 use Rattle.std.proofs.lemmas.List.{map_push}
 use Rattle.std.proofs.lemmas.Result.{err_from_is_err_and}
 use Rattle.pymark_core.specs.Requirement.Reading.{names_in}
-use Rattle.pymark_core.proofs.NamesSoFar.{next_piece, no_piece, onto, onto_end, onto_fault, onto_more, onto_nothing}
+use Rattle.pytext.proofs.Pieces.{next_piece, no_piece}
+use Rattle.pymark_core.proofs.NamesSoFar.{onto, onto_end, onto_fault, onto_more, onto_nothing}
 use Rattle.pymark_core.proofs.requirement.parts.names_in.Goals as goal
 
 abbrev pieces : List ℕ → List (List ℕ)

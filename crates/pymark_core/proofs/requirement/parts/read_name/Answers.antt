@@ -1,4 +1,4 @@
-use Rattle.pymark_core.proofs.Cuts.{boundary_behind_name}
+use Rattle.pymark_core.proofs.Boundaries.{boundary_behind_name}
 use Rattle.pymark_core.proofs.requirement.parts.read_name.Goals as goal
 
 pub split_at-requires : goal.split_at-requires

@@ -2,13 +2,15 @@
 use Rattle.std.proofs.Common.{◌≡◌, ℕ, ◌≤◌, true, false, List, [], ◌∷◌, ◌++◌, Option, Some, None, refl, sym, ap, subst, ◌∙◌, append_assoc, inl, inr, lit≤}
 use Rattle.std.specs.Prelude.{codes, ◌==◌}
 use Rattle.std.specs.Char.{is_ascii_digit, is_ascii_alphanumeric}
-use Rattle.pyver_core.specs.Version.Grammar.{is_separator, is_dot, starts, IsNumber, IsTagged, IsPreWord, word_a, word_alpha, word_b, word_beta, word_c, word_rc, word_pre, word_preview, IsPre, IsPostWord, word_post, word_rev, word_r, IsPost, IsDev, IsLocal}
-use Rattle.pyver_core.specs.Options.{◌>>=◌, either}
+use Rattle.pytext.specs.Bytes.{is_separator, starts}
+use Rattle.pyver_core.specs.Version.Grammar.{is_dot, IsNumber, IsTagged, IsPreWord, word_a, word_alpha, word_b, word_beta, word_c, word_rc, word_pre, word_preview, IsPre, IsPostWord, word_post, word_rev, word_r, IsPost, IsDev, IsLocal}
+use Rattle.pytext.specs.Options.{◌>>=◌, either}
 use Rattle.pyver_core.specs.Version.Reading.{onto, optional_at, many_at, after_separator, number_at, word_at, dotted_number_at, tail_at, pre_word_at, post_word_at, tagged_pre_at, dashed_number_at, tagged_post_at, dashed_or_tagged_post_at, tagged_dev_at, added_segment_at, separated_segment_at, local_at}
 use Rattle.pyver_core.specs.declared.version.part.PreKind.{PreKind}
 use Rattle.pyver_core.specs.declared.version.part.LocalPart.{LocalPart}
 use Rattle.pyver_core.proofs.Lemmas.Version.FirstBytes.{begins_in, is_letter, begins_not, begins_wider, whites, digit_not_letter}
-use Rattle.pyver_core.proofs.Lemmas.Version.Complete.Pieces.{starts_none, no_separator, number_again, no_dotted, separated_again, separated_starts, no_separated, added_again, no_added, word_again, no_word, not_behind_byte}
+use Rattle.pytext.proofs.Fronts.{starts_none}
+use Rattle.pyver_core.proofs.Lemmas.Version.Complete.Pieces.{no_separator, number_again, no_dotted, separated_again, separated_starts, no_separated, added_again, no_added, word_again, no_word, not_behind_byte}
 use Rattle.pyver_core.proofs.Lemmas.Version.Complete.Words.{IsLettered, tagged_word, tagged_tail, tagged_letter, tagged_begins, tagged_not_dotted, tagged_not_dashed, pre_word_again, post_word_again, no_pre_letter, no_post_letter, dev_no_pre, post_no_pre, rev_no_pre, r_no_pre, dev_no_post}
 
 -- ---- which bytes may follow a part

@@ -1,5 +1,5 @@
 -- A piece in the form that the grammar asks for is taken from the front of a text, and no more.
-use Rattle.std.proofs.Common.{◌≡◌, ℕ, ◌≤◌, Bool, true, false, List, [], ◌∷◌, ◌++◌, length, take, drop, Option, Some, None, refl, sym, ap, subst, ◌∙◌, append_assoc, arith, inl, inr}
+use Rattle.std.proofs.Common.{◌≡◌, ℕ, ◌≤◌, Bool, true, false, List, [], ◌∷◌, ◌++◌, length, take, drop, Option, Some, None, refl, sym, ap, subst, ◌∙◌, append_assoc, arith}
 use Rattle.std.specs.Prelude.{codes, bytes_eq, ◌==◌}
 use Rattle.std.specs.Char.{is_ascii_digit, is_ascii_alphanumeric, to_ascii_lowercase}
 use Rattle.std.specs.Cmp.Lexicographic.{bytes_decides}
@@ -7,60 +7,25 @@ use Rattle.std.specs.List.{list_all, prefix_len}
 use Rattle.std.specs.Str.{str_to_ascii_lowercase}
 use Rattle.std.specs.Str.Parse.{digits_value}
 use Rattle.std.proofs.lemmas.List.{take_at, drop_at, take-map, map-append, length-map}
-use Rattle.std.proofs.lemmas.Bool.{eqb-true}
-use Rattle.pyver_core.specs.Version.Grammar.{is_white, is_separator, is_dot, starts, IsOptionalSeparator, IsCount, IsNumber, IsWord, AreBehind, IsSegment}
-use Rattle.pyver_core.specs.Version.Reading.{onto, behind_at, many_at, after_white, after_separator, count_at, number_at, word_at, tail_at, dotted_number_at, segment_of, segment_at, separated_segment_at, added_segment_at}
+use Rattle.std.proofs.lemmas.Bool.{eqb-true, cond-false, cond-true}
+use Rattle.pytext.specs.Bytes.{is_separator, starts}
+use Rattle.pyver_core.specs.Version.Grammar.{is_dot, IsOptionalSeparator, IsCount, IsNumber, IsWord, AreBehind, IsSegment}
+use Rattle.pyver_core.specs.Version.Reading.{onto, behind_at, many_at, after_separator, count_at, number_at, word_at, tail_at, dotted_number_at, segment_of, segment_at, separated_segment_at, added_segment_at}
 use Rattle.pyver_core.specs.declared.version.part.LocalPart.{LocalPart}
 use Rattle.pyver_core.specs.declared.version.part.LocalPart.TheVariants.{Number, Text}
 use Rattle.pyver_core.proofs.Lemmas.Version.FirstBytes.{is_letter, digit_not_separator, separator_not_alphanumeric}
-use Rattle.pyver_core.proofs.Lemmas.Version.Fronts.{one_more}
+use Rattle.pytext.proofs.Fronts.{all_cons, dropped_exact, starts_all, taken_exact}
 use Rattle.pyver_core.proofs.Lemmas.Version.Many.{Shrinks, dotted_shrinks, separated_shrinks, many_at-none, many_at-some}
-use Rattle.pyver_core.proofs.Lemmas.Sight.{sight, chosen, refused}
-
--- ---- fronts
-
-pub all_cons : (test : ℕ → Bool) (b : ℕ) (rest : List ℕ) → list_all test (b ∷ rest) ≡ true → (test b ≡ true) × (list_all test rest ≡ true)
-all_cons test b rest e = elim (sight (test b)) [
-  | inl passes ↦ (passes, rw passes at e)
-  | inr fails ↦ absurd (let n : false ≡ true = rw fails at e in cc)
-]
-
-pub prefix_len_exact : (test : ℕ → Bool) (front next : List ℕ) → list_all test front ≡ true → starts test next ≡ false → prefix_len test (front ++ next) ≡ length front
-prefix_len_exact test [] [] all stops = refl
-prefix_len_exact test [] (b ∷ next) all stops = rw stops refl
-prefix_len_exact test (b ∷ front) next all stops =
-    let c = all_cons test b front all in
-    let passes : test b ≡ true = c.0 in
-    rw (passes, prefix_len_exact test front next c.1 stops) (one_more (length front))
-
-pub taken_exact : (test : ℕ → Bool) (front next : List ℕ) → list_all test front ≡ true → starts test next ≡ false → take (prefix_len test (front ++ next)) (front ++ next) ≡ front
-taken_exact test front next all stops = take_at front next (prefix_len test (front ++ next)) (sym (prefix_len_exact test front next all stops))
-
-pub dropped_exact : (test : ℕ → Bool) (front next : List ℕ) → list_all test front ≡ true → starts test next ≡ false → drop (prefix_len test (front ++ next)) (front ++ next) ≡ next
-dropped_exact test front next all stops = drop_at front next (prefix_len test (front ++ next)) (sym (prefix_len_exact test front next all stops))
-
--- what all bytes pass, the first one passes
-pub starts_all : (test : ℕ → Bool) (front next : List ℕ) → 1 ≤ length front → list_all test front ≡ true → starts test (front ++ next) ≡ true
-starts_all test [] next has all = absurd (omega arith)
-starts_all test (b ∷ front) next has all = (all_cons test b front all).0
-
--- where each byte passes one test, the first byte fails another
-pub starts_none : (test fails : ℕ → Bool) → ((b : ℕ) → test b ≡ true → fails b ≡ false) → (front next : List ℕ) → list_all test front ≡ true → starts fails next ≡ false → starts fails (front ++ next) ≡ false
-starts_none test fails apart [] next all stops = stops
-starts_none test fails apart (b ∷ front) next all stops = apart b (all_cons test b front all).0
-
-pub white_again : (before body : List ℕ) → list_all is_white before ≡ true → starts is_white body ≡ false → after_white (before ++ body) ≡ body
-white_again before body all stops = dropped_exact is_white before body all stops
 
 -- ---- separators
 
 pub no_separator : (text : List ℕ) → starts is_separator text ≡ false → after_separator text ≡ text
 no_separator [] e = refl
-no_separator (b ∷ rest) e = refused (is_separator b) rest (b ∷ rest) e
+no_separator (b ∷ rest) e = cond-false (is_separator b) rest (b ∷ rest) e
 
 pub separator_again : (before rest : List ℕ) → IsOptionalSeparator before → (before ≡ [] → starts is_separator rest ≡ false) → after_separator (before ++ rest) ≡ rest
 separator_again [] rest is stops = no_separator rest (stops refl)
-separator_again (b ∷ []) rest is stops = chosen (is_separator b) rest (b ∷ rest) (all_cons is_separator b [] is.0).0
+separator_again (b ∷ []) rest is stops = cond-true (is_separator b) rest (b ∷ rest) (all_cons is_separator b [] is.0).0
 separator_again (b ∷ c ∷ before) rest is stops = absurd (omega (arith, is.1))
 
 -- ---- numbers
@@ -72,10 +37,10 @@ count_again digits n next is stops =
 pub number_again : (digits : List ℕ) (n : ℕ) (next : List ℕ) → IsNumber digits n → starts is_ascii_digit next ≡ false → number_at (digits ++ next) ≡ Some (n, next)
 number_again digits n next is stops =
     let starts_so : starts is_ascii_digit (digits ++ next) ≡ true = starts_all is_ascii_digit digits next is.0 is.1.digits in
-    chosen (starts is_ascii_digit (digits ++ next)) (Some (count_at (digits ++ next))) None starts_so ∙ ap (λ (x : ℕ × List ℕ). Some x) (count_again digits n next is.1 stops)
+    cond-true (starts is_ascii_digit (digits ++ next)) (Some (count_at (digits ++ next))) None starts_so ∙ ap (λ (x : ℕ × List ℕ). Some x) (count_again digits n next is.1 stops)
 
 pub no_number : (text : List ℕ) → starts is_ascii_digit text ≡ false → number_at text ≡ None
-no_number text e = refused (starts is_ascii_digit text) (Some (count_at text)) None e
+no_number text e = cond-false (starts is_ascii_digit text) (Some (count_at text)) None e
 
 not_behind : (digits next : List ℕ) → list_all is_ascii_digit digits ≡ true → (digits ≡ [] → starts is_separator next ≡ false) → starts is_separator (digits ++ next) ≡ false
 not_behind [] next all stops = stops refl
@@ -102,12 +67,12 @@ word_again word written rest is =
     let len = length_word word written is in
     let front : take (length word) (written ++ rest) ≡ written = take_at written rest (length word) len in
     let test : bytes_eq (str_to_ascii_lowercase (take (length word) (written ++ rest))) word ≡ true = (bytes_decides (str_to_ascii_lowercase (take (length word) (written ++ rest))) word).1 (ap (λ (t : List ℕ). str_to_ascii_lowercase t) front ∙ is) in
-    chosen (bytes_eq (str_to_ascii_lowercase (take (length word) (written ++ rest))) word) (Some (drop (length word) (written ++ rest))) None test ∙ ap (λ (t : List ℕ). Some t) (drop_at written rest (length word) len)
+    cond-true (bytes_eq (str_to_ascii_lowercase (take (length word) (written ++ rest))) word) (Some (drop (length word) (written ++ rest))) None test ∙ ap (λ (t : List ℕ). Some t) (drop_at written rest (length word) len)
 
 -- a text that begins with one word doesn't begin with another
 pub other_word : (other word written rest : List ℕ) → IsWord word written → bytes_eq (take (length other) (word ++ str_to_ascii_lowercase rest)) other ≡ false → word_at other (written ++ rest) ≡ None
 other_word other word written rest is e =
-    refused (bytes_eq (str_to_ascii_lowercase (take (length other) (written ++ rest))) other) (Some (drop (length other) (written ++ rest))) None
+    cond-false (bytes_eq (str_to_ascii_lowercase (take (length other) (written ++ rest))) other) (Some (drop (length other) (written ++ rest))) None
     (ap (λ (t : List ℕ). bytes_eq t other) (lowered (length other) word written rest is) ∙ e)
 
 pub no_word : (c : ℕ) (word text : List ℕ) → starts (is_letter c) text ≡ false → word_at (c ∷ word) text ≡ None
@@ -121,11 +86,11 @@ abbrev pub ItemAgain : {X : Type 0} → (ℕ → Bool) → (List ℕ → X → T
 ItemAgain {X} stop IsItem read = (item : List ℕ) (x : X) (next : List ℕ) → IsItem item x → starts stop next ≡ false → read (item ++ next) ≡ Some (x, next)
 
 pub behind_again : {X : Type 0} (opens stop : ℕ → Bool) (IsItem : List ℕ → X → Type 0) (read : List ℕ → Option (X × List ℕ)) → ItemAgain stop IsItem read → (b : ℕ) (item : List ℕ) (x : X) (next : List ℕ) → opens b ≡ true → IsItem item x → starts stop next ≡ false → behind_at opens read (b ∷ (item ++ next)) ≡ Some (x, next)
-behind_again opens stop IsItem read again b item x next opened is stops = chosen (opens b) (read (item ++ next)) None opened ∙ again item x next is stops
+behind_again opens stop IsItem read again b item x next opened is stops = cond-true (opens b) (read (item ++ next)) None opened ∙ again item x next is stops
 
 pub not_behind_byte : {X : Type 0} (opens : ℕ → Bool) (read : List ℕ → Option (X × List ℕ)) (text : List ℕ) → starts opens text ≡ false → behind_at opens read text ≡ None
 not_behind_byte opens read [] e = refl
-not_behind_byte opens read (b ∷ rest) e = refused (opens b) (read rest) None e
+not_behind_byte opens read (b ∷ rest) e = cond-false (opens b) (read rest) None e
 
 abbrev pub BehindAgain : {X : Type 0} → (ℕ → Bool) → (ℕ → Bool) → (List ℕ → X → Type 0) → (List ℕ → Option (X × List ℕ)) → Type 0
 BehindAgain {X} opens stop IsItem read = (b : ℕ) (item : List ℕ) (x : X) (next : List ℕ) → opens b ≡ true → IsItem item x → starts stop next ≡ false → read (b ∷ (item ++ next)) ≡ Some (x, next)
@@ -168,9 +133,9 @@ all_alphanumeric (b ∷ run) all =
     rw (digit_alphanumeric b c.0, all_alphanumeric run c.1) refl
 
 segment_is : (run : List ℕ) (s : LocalPart) → IsSegment run s → (1 ≤ length run) × (list_all is_ascii_alphanumeric run ≡ true) × (segment_of run ≡ s)
-segment_is run (Number n) is = (is.0, all_alphanumeric run is.1.digits, chosen (list_all is_ascii_digit run) (Number (digits_value 10 run)) (Text (str_to_ascii_lowercase run)) is.1.digits ∙ ap (λ (v : ℕ). Number v) is.1.value)
+segment_is run (Number n) is = (is.0, all_alphanumeric run is.1.digits, cond-true (list_all is_ascii_digit run) (Number (digits_value 10 run)) (Text (str_to_ascii_lowercase run)) is.1.digits ∙ ap (λ (v : ℕ). Number v) is.1.value)
 segment_is [] (Text label) is = absurd (let n : true ≡ false = is.1 in cc)
-segment_is (b ∷ run) (Text label) is = (omega arith, is.0, refused (list_all is_ascii_digit (b ∷ run)) (Number (digits_value 10 (b ∷ run))) (Text (str_to_ascii_lowercase (b ∷ run))) is.1 ∙ ap (λ (v : List ℕ). Text v) is.2)
+segment_is (b ∷ run) (Text label) is = (omega arith, is.0, cond-false (list_all is_ascii_digit (b ∷ run)) (Number (digits_value 10 (b ∷ run))) (Text (str_to_ascii_lowercase (b ∷ run))) is.1 ∙ ap (λ (v : List ℕ). Text v) is.2)
 
 segment_again : ItemAgain is_ascii_alphanumeric IsSegment segment_at
 unfolding segment_at
@@ -178,7 +143,7 @@ segment_again run s next is stops =
     let i = segment_is run s is in
     let starts_so : starts is_ascii_alphanumeric (run ++ next) ≡ true = starts_all is_ascii_alphanumeric run next i.0 i.1 in
     let n = prefix_len is_ascii_alphanumeric (run ++ next) in
-    chosen (starts is_ascii_alphanumeric (run ++ next)) (Some (segment_of (take n (run ++ next)), drop n (run ++ next))) None starts_so
+    cond-true (starts is_ascii_alphanumeric (run ++ next)) (Some (segment_of (take n (run ++ next)), drop n (run ++ next))) None starts_so
     ∙ (ap (λ (t : List ℕ). Some (segment_of t, drop n (run ++ next))) (taken_exact is_ascii_alphanumeric run next i.1 stops)
     ∙ (ap (λ (t : List ℕ). Some (segment_of run, t)) (dropped_exact is_ascii_alphanumeric run next i.1 stops) ∙ ap (λ (v : LocalPart). Some (v, next)) i.2))
 

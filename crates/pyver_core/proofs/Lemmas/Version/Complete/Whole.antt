@@ -6,12 +6,15 @@ use Rattle.std.specs.List.{list_all}
 use Rattle.std.proofs.lemmas.Bool.Decides.{nat_tests}
 use Rattle.std.proofs.lemmas.Option.{same_Some}
 use Rattle.pyver_core.specs.Version.Parts.{Parts}
-use Rattle.pyver_core.specs.Version.Grammar.{is_white, starts, IsNumber, IsPrefix, IsEpoch, IsRelease, Spells}
-use Rattle.pyver_core.specs.Version.Reading.{optional_at, many_at, after_white, number_at, word_at, after_prefix, head_at, dotted_number_at, base_at, tagged_pre_at, dashed_or_tagged_post_at, tagged_dev_at, local_at, parts_at, version_of}
+use Rattle.pytext.specs.Bytes.{is_white, starts}
+use Rattle.pyver_core.specs.Version.Grammar.{IsNumber, IsPrefix, IsEpoch, IsRelease, Spells}
+use Rattle.pytext.specs.White.{after_white}
+use Rattle.pyver_core.specs.Version.Reading.{optional_at, many_at, number_at, word_at, after_prefix, head_at, dotted_number_at, base_at, tagged_pre_at, dashed_or_tagged_post_at, tagged_dev_at, local_at, parts_at, version_of}
 use Rattle.pyver_core.specs.declared.version.part.PreKind.{PreKind}
 use Rattle.pyver_core.specs.declared.version.part.LocalPart.{LocalPart}
 use Rattle.pyver_core.proofs.Lemmas.Version.FirstBytes.{is_letter, begins_not, all_white_begins, digit_not_letter}
-use Rattle.pyver_core.proofs.Lemmas.Version.Complete.Pieces.{starts_all, white_again, number_again, dotted_again, dotted_starts, word_again, no_word}
+use Rattle.pytext.proofs.Fronts.{starts_all, white_again}
+use Rattle.pyver_core.proofs.Lemmas.Version.Complete.Pieces.{number_again, dotted_again, dotted_starts, word_again, no_word}
 use Rattle.pyver_core.proofs.Lemmas.Version.Complete.Words.{word_starts}
 use Rattle.pyver_core.proofs.Lemmas.Version.Complete.Parts.{follow_release, local_again, local_begins, dev_again, dev_begins, dev_apart, post_again, post_begins, post_apart, pre_again, pre_begins, pre_not_dotted}
 

@@ -3,14 +3,15 @@ use Rattle.std.proofs.Common.{◌≡◌, ℕ, suc, ◌-◌, ◌≤◌, Bool, tru
 use Rattle.std.specs.Prelude.{codes, bytes_eq, ◌==◌}
 use Rattle.std.specs.Char.{is_ascii_digit, to_ascii_lowercase}
 use Rattle.std.specs.Str.{str_to_ascii_lowercase}
-use Rattle.std.proofs.lemmas.Bool.{leb-true}
+use Rattle.std.proofs.lemmas.Bool.{leb-true, cases_Bool, cond-false, cond-true}
 use Rattle.std.proofs.lemmas.Bool.Decides.{nat_tests}
-use Rattle.pyver_core.specs.Version.Grammar.{is_separator, is_dot, starts, IsOptionalSeparator, IsWord, IsTagged, IsPreWord, word_a, word_alpha, word_b, word_beta, word_c, word_rc, word_pre, word_preview, IsPostWord, word_post, word_rev, word_r}
+use Rattle.pytext.specs.Bytes.{is_separator, starts}
+use Rattle.pyver_core.specs.Version.Grammar.{is_dot, IsOptionalSeparator, IsWord, IsTagged, IsPreWord, word_a, word_alpha, word_b, word_beta, word_c, word_rc, word_pre, word_preview, IsPostWord, word_post, word_rev, word_r}
 use Rattle.pyver_core.specs.Version.Reading.{behind_at, after_separator, number_at, word_at, tail_at, pre_word_at, post_word_at, dotted_number_at, dashed_number_at}
 use Rattle.pyver_core.specs.declared.version.part.PreKind.{PreKind}
 use Rattle.pyver_core.proofs.Lemmas.Version.FirstBytes.{is_in, begins_in, is_letter, separator_passes, separator_fails, letter_cases, letter_not_separator, letter_not_digit, digit_not_letter}
-use Rattle.pyver_core.proofs.Lemmas.Version.Complete.Pieces.{starts_none, separator_again, no_number, tail_again, word_again, other_word, no_word, not_behind_byte}
-use Rattle.pyver_core.proofs.Lemmas.Sight.{sight, chosen, refused}
+use Rattle.pytext.proofs.Fronts.{starts_none}
+use Rattle.pyver_core.proofs.Lemmas.Version.Complete.Pieces.{separator_again, no_number, tail_again, word_again, other_word, no_word, not_behind_byte}
 
 -- ---- what a word begins with
 
@@ -71,7 +72,7 @@ tagged_letter c low h45 h95 h46 word piece n next t stops =
 -- the part begins with a separator or its letter
 before_begins : (before rest set : List ℕ) → IsOptionalSeparator before → is_in set 45 ≡ true → is_in set 95 ≡ true → is_in set 46 ≡ true → begins_in set rest ≡ true → begins_in set (before ++ rest) ≡ true
 before_begins [] rest set is h45 h95 h46 begins = begins
-before_begins (b ∷ before) rest set is h45 h95 h46 begins = elim (sight (is_separator b)) [
+before_begins (b ∷ before) rest set is h45 h95 h46 begins = elim (cases_Bool (is_separator b)) [
   | inl sep ↦ separator_passes (is_in set) h45 h95 h46 b sep
   | inr other ↦ absurd (let n : false ≡ true = rw other at is.0 in cc)
 ]
@@ -85,9 +86,9 @@ tagged_begins c word piece n next t low high set at_c at_capital h45 h95 h46 =
 -- no digits stand behind a separator there
 no_number_behind : (opens : ℕ → Bool) → FailsLetters opens → (word before written rest : List ℕ) → IsLettered word → IsWord word written → IsOptionalSeparator before → behind_at opens number_at (before ++ (written ++ rest)) ≡ None
 no_number_behind opens fails word [] written rest lettered is is_before = not_behind_byte opens number_at (written ++ rest) (word_starts word written rest lettered is opens fails)
-no_number_behind opens fails word (b ∷ []) written rest lettered is is_before = elim (sight (opens b)) [
-  | inl opened ↦ chosen (opens b) (number_at (written ++ rest)) None opened ∙ no_number (written ++ rest) (word_starts word written rest lettered is is_ascii_digit letter_not_digit)
-  | inr closed ↦ refused (opens b) (number_at (written ++ rest)) None closed
+no_number_behind opens fails word (b ∷ []) written rest lettered is is_before = elim (cases_Bool (opens b)) [
+  | inl opened ↦ cond-true (opens b) (number_at (written ++ rest)) None opened ∙ no_number (written ++ rest) (word_starts word written rest lettered is is_ascii_digit letter_not_digit)
+  | inr closed ↦ cond-false (opens b) (number_at (written ++ rest)) None closed
 ]
 no_number_behind opens fails word (b ∷ c ∷ before) written rest lettered is is_before = absurd (omega (arith, is_before.1))
 

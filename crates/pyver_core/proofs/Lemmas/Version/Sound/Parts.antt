@@ -2,17 +2,20 @@
 use Rattle.std.proofs.Common.{◌≡◌, ℕ, true, false, List, [], ◌∷◌, ◌++◌, drop, Option, Some, None, refl, sym, ap, subst, ◌∙◌, append_assoc, inl, inr}
 use Rattle.std.specs.Prelude.{option_map, codes, ◌==◌}
 use Rattle.std.specs.List.{list_all}
-use Rattle.std.proofs.lemmas.Bool.{eqb-true}
+use Rattle.std.proofs.lemmas.Bool.{eqb-true, cases_Bool}
 use Rattle.std.proofs.lemmas.Option.{cond_some}
 use Rattle.pyver_core.specs.Version.Parts.{Parts}
-use Rattle.pyver_core.specs.Version.Grammar.{is_white, is_separator, is_dot, starts, IsNumber, IsWord, IsPrefix, IsEpoch, IsRelease, IsTagged, IsPreWord, word_a, word_alpha, word_b, word_beta, word_c, word_rc, word_pre, word_preview, IsPre, IsPostWord, word_post, word_rev, word_r, IsPost, IsDev, IsSegment, IsLocal, Spells}
-use Rattle.pyver_core.specs.Options.{◌>>=◌}
-use Rattle.pyver_core.specs.Version.Reading.{onto, optional_at, many_at, after_white, after_separator, number_at, word_at, either_at, after_prefix, head_at, dotted_number_at, base_at, tail_at, pre_word_at, post_word_at, tagged_pre_at, dashed_number_at, tagged_post_at, dashed_or_tagged_post_at, tagged_dev_at, separated_segment_at, added_segment_at, local_at, parts_at, version_of}
+use Rattle.pytext.specs.Bytes.{is_separator, is_white, starts}
+use Rattle.pyver_core.specs.Version.Grammar.{is_dot, IsNumber, IsWord, IsPrefix, IsEpoch, IsRelease, IsTagged, IsPreWord, word_a, word_alpha, word_b, word_beta, word_c, word_rc, word_pre, word_preview, IsPre, IsPostWord, word_post, word_rev, word_r, IsPost, IsDev, IsSegment, IsLocal, Spells}
+use Rattle.pytext.specs.Options.{◌>>=◌}
+use Rattle.pytext.specs.White.{after_white}
+use Rattle.pyver_core.specs.Version.Reading.{onto, optional_at, many_at, after_separator, number_at, word_at, either_at, after_prefix, head_at, dotted_number_at, base_at, tail_at, pre_word_at, post_word_at, tagged_pre_at, dashed_number_at, tagged_post_at, dashed_or_tagged_post_at, tagged_dev_at, separated_segment_at, added_segment_at, local_at, parts_at, version_of}
 use Rattle.pyver_core.specs.declared.version.part.PreKind.{PreKind}
 use Rattle.pyver_core.specs.declared.version.part.PreKind.TheVariants.{A, B, Rc}
 use Rattle.pyver_core.specs.declared.version.part.LocalPart.{LocalPart}
-use Rattle.pyver_core.proofs.Lemmas.Sight.{sight, option_sight}
-use Rattle.pyver_core.proofs.Lemmas.Version.Sound.Pieces.{bind_some, either_some, white_takes, separator_takes, count_takes, number_takes, word_takes, many_at_takes, dotted_takes, dashed_takes, separated_takes, added_takes}
+use Rattle.pytext.proofs.Options.{option_sight, bind_some, either_some}
+use Rattle.pytext.proofs.Fronts.{white_takes}
+use Rattle.pyver_core.proofs.Lemmas.Version.Sound.Pieces.{separator_takes, count_takes, number_takes, word_takes, many_at_takes, dotted_takes, dashed_takes, separated_takes, added_takes}
 
 -- ---- the epoch and the release
 
@@ -37,7 +40,7 @@ head_takes text x e =
     let a = bind_some (number_at text) _ x e in
     let first = a.0 in
     let t = number_takes text first a.1 in
-    elim (sight (starts (λ b. b == 33) first.1)) [
+    elim (cases_Bool (starts (λ b. b == 33) first.1)) [
       | inl bang ↦
           let step : (number_at (drop 1 first.1) >>= λ second. Some ((first.0, second.0), second.1)) ≡ Some x = rw bang at a.2 in
           let b = bind_some (number_at (drop 1 first.1)) (λ second. Some ((first.0, second.0), second.1)) x step in

@@ -1,5 +1,5 @@
 -- What a reader takes from the front of a text is a piece in the form that the grammar asks for.
-use Rattle.std.proofs.Common.{◌≡◌, ◌⊎◌, ℕ, zero, suc, ◌≤◌, Bool, true, false, List, [], ◌∷◌, ◌++◌, length, take, drop, Option, Some, None, refl, sym, ap, subst, ◌∙◌, append_assoc, arith, inl, inr}
+use Rattle.std.proofs.Common.{◌≡◌, ℕ, zero, suc, ◌≤◌, Bool, true, false, List, [], ◌∷◌, ◌++◌, length, take, drop, Option, Some, None, refl, sym, ap, subst, ◌∙◌, append_assoc, arith, inl, inr}
 use Rattle.std.specs.Prelude.{bytes_eq, ◌==◌}
 use Rattle.std.specs.Char.{is_ascii_digit, is_ascii_alphanumeric}
 use Rattle.std.specs.Cmp.Lexicographic.{bytes_decides}
@@ -8,32 +8,20 @@ use Rattle.std.specs.Str.{str_to_ascii_lowercase}
 use Rattle.std.proofs.lemmas.List.{take-append-drop}
 use Rattle.std.proofs.lemmas.List.Folds.{length-prefix_len}
 use Rattle.std.proofs.lemmas.Option.{cond_some}
-use Rattle.pyver_core.specs.Version.Grammar.{is_white, is_separator, is_dot, starts, IsOptionalSeparator, IsCount, IsNumber, IsWord, AreBehind, IsSegment}
-use Rattle.pyver_core.specs.Options.{◌>>=◌, either}
-use Rattle.pyver_core.specs.Version.Reading.{onto, behind_at, many, many_at, after_white, after_separator, count_at, number_at, word_at, dotted_number_at, segment_of, segment_at, separated_segment_at, added_segment_at, dashed_number_at}
+use Rattle.pytext.specs.Bytes.{is_separator, starts}
+use Rattle.pyver_core.specs.Version.Grammar.{is_dot, IsOptionalSeparator, IsCount, IsNumber, IsWord, AreBehind, IsSegment}
+use Rattle.pyver_core.specs.Version.Reading.{onto, behind_at, many, many_at, after_separator, count_at, number_at, word_at, dotted_number_at, segment_of, segment_at, separated_segment_at, added_segment_at, dashed_number_at}
 use Rattle.pyver_core.specs.declared.version.part.LocalPart.{LocalPart}
-use Rattle.pyver_core.proofs.Lemmas.Version.Fronts.{list_all_front}
-use Rattle.pyver_core.proofs.Lemmas.Sight.{sight, option_sight}
-
--- the value of a step that went on
-pub bind_some : {X Y : Type 0} (o : Option X) (f : X → Option Y) (y : Y) → (o >>= f) ≡ Some y → (x : X) × (o ≡ Some x) × (f x ≡ Some y)
-bind_some None f y e = absurd cc
-bind_some (Some x) f y e = (x, refl, e)
-
--- the choice that gave a value
-pub either_some : {X : Type 0} (o p : Option X) (y : X) → either o p ≡ Some y → (o ≡ Some y) ⊎ (p ≡ Some y)
-either_some None p y e = inr e
-either_some (Some x) p y e = inl e
+use Rattle.pytext.proofs.Fronts.{list_all_front}
+use Rattle.pytext.proofs.Options.{option_sight}
+use Rattle.std.proofs.lemmas.Bool.{cases_Bool}
 
 -- ---- white space and separators
-
-pub white_takes : (text : List ℕ) → (before : List ℕ) × (text ≡ before ++ after_white text) × (list_all is_white before ≡ true)
-white_takes text = (take (prefix_len is_white text) text, sym (take-append-drop (prefix_len is_white text) text), list_all_front is_white text)
 
 -- the separator, and that none stands there where none was taken
 pub separator_takes : (text : List ℕ) → (before : List ℕ) × (text ≡ before ++ after_separator text) × IsOptionalSeparator before × (before ≡ [] → starts is_separator text ≡ false)
 separator_takes [] = ([], refl, (refl, omega arith), λ _. refl)
-separator_takes (b ∷ rest) = elim (sight (is_separator b)) [
+separator_takes (b ∷ rest) = elim (cases_Bool (is_separator b)) [
   | inl is ↦ (b ∷ [], rw is refl, (rw is refl, omega arith), λ e. absurd (let n : b ∷ [] ≡ [] = e in cc))
   | inr other ↦ ([], rw other refl, (refl, omega arith), λ _. other)
 ]
@@ -67,7 +55,7 @@ word_takes word text rest e =
 
 pub behind_takes : {X : Type 0} (opens : ℕ → Bool) (read : List ℕ → Option (X × List ℕ)) (text : List ℕ) (x : X × List ℕ) → behind_at opens read text ≡ Some x → (b : ℕ) × (rest : List ℕ) × (text ≡ b ∷ rest) × (opens b ≡ true) × (read rest ≡ Some x)
 behind_takes opens read [] x e = absurd cc
-behind_takes opens read (b ∷ rest) x e = elim (sight (opens b)) [
+behind_takes opens read (b ∷ rest) x e = elim (cases_Bool (opens b)) [
   | inl opened ↦ (b, rest, refl, opened, rw opened at e)
   | inr closed ↦ absurd (let n : None ≡ Some x = rw closed at e in cc)
 ]
@@ -120,7 +108,7 @@ dashed_takes = behind_takes_item (λ b. b == 45) IsNumber number_at number_takes
 -- ---- segments
 
 segment_of_is : (run : List ℕ) → 1 ≤ length run → list_all is_ascii_alphanumeric run ≡ true → IsSegment run (segment_of run)
-segment_of_is run has all = elim (sight (list_all is_ascii_digit run)) [
+segment_of_is run has all = elim (cases_Bool (list_all is_ascii_digit run)) [
   | inl digits ↦ rw digits (has, record { digits = digits; value = refl })
   | inr other ↦ rw other (all, other, refl)
 ]

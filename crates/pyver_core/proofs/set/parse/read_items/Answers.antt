@@ -6,11 +6,12 @@ use Rattle.std.specs.Str.Pattern.{FindsChar}
 use Rattle.std.specs.declared.str.Split.{Split}
 use Rattle.std.proofs.lemmas.Iterator.{YieldsList}
 use Rattle.std.proofs.lemmas.Iterator.Splits.{YieldsList-from_str_split}
-use Rattle.pyver_core.specs.Version.Grammar.{is_white}
+use Rattle.pytext.specs.Bytes.{is_white}
 use Rattle.pyver_core.specs.Set.Reading.{set_of, specifier_of}
 use Rattle.pyver_core.specs.Inner.SpecifierDraft.{draft_specifier}
 use Rattle.pyver_core.specs.declared.set.specifier.Specifier.{Specifier}
-use Rattle.pyver_core.proofs.Lemmas.Set.ReadSoFar.{ReadSoFar, next_piece, no_piece, read_blank, read_end, read_end_large, read_large, read_refused, read_start, read_within}
+use Rattle.pytext.proofs.Pieces.{next_piece, no_piece}
+use Rattle.pyver_core.proofs.Lemmas.Set.ReadSoFar.{ReadSoFar, read_blank, read_end, read_end_large, read_large, read_refused, read_start, read_within}
 use Rattle.pyver_core.proofs.Lemmas.Set.Answers.{set_past, set_refused, set_within}
 use Rattle.pyver_core.proofs.set.parse.read_items.Goals as goal
 

@@ -1,4 +1,4 @@
-use Rattle.pyver_core.proofs.Lemmas.Set.Boundaries.{stripped_prefix}
+use Rattle.pytext.proofs.Boundaries.{stripped_prefix}
 use Rattle.pyver_core.proofs.set.reading.operator.past_operator.Goals as goal
 
 pub returns : goal.returns

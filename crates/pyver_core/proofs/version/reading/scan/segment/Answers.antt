@@ -1,5 +1,5 @@
 use Rattle.std.proofs.Common.{arith}
-use Rattle.pyver_core.proofs.Lemmas.Version.Fronts.{fronts}
+use Rattle.pytext.proofs.Fronts.{fronts}
 use Rattle.pyver_core.proofs.version.reading.scan.segment.Goals as goal
 
 pub split_at-requires : goal.split_at-requires

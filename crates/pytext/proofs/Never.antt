@@ -1,6 +1,6 @@
 -- What never answers a refusal.
 use Rattle.std.proofs.Common.{◌≡◌, Bool, true, false, cond, Option, Some, None, ok_or, Result, Ok, Err, ap}
-use Rattle.pyver_core.specs.Results.{◌>>=◌}
+use Rattle.pytext.specs.Results.{◌>>=◌}
 
 -- the refusal is never answered
 abbrev pub Never : {A E : Type 0} → E → Result A E → Type 0

@@ -3,7 +3,7 @@ use Rattle.std.specs.Char.{is_ascii_digit}
 use Rattle.std.proofs.lemmas.Int.Digits.{digits_value_more}
 use Rattle.std.proofs.lemmas.List.Sums.{AllPass-from_list_all}
 use Rattle.std.proofs.lemmas.Str.Parse.{digits_value-take-le}
-use Rattle.pywheel_core.proofs.build.number.Goals as goal
+use Rattle.pytext.proofs.digits.long_value.Goals as goal
 
 pub with_digit-requires : goal.with_digit-requires
 with_digit-requires c =

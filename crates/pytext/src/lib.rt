@@ -1,0 +1,19 @@
+//! What the readers of Python's packaging formats look for in texts: classes of bytes, white space,
+//! and digits with their number. It stands on `std` alone.
+//!
+//! Begin with [`trimmed`] and [`past_white`], which take white space away, and [`is_white`], which
+//! tells it; [`digits_value`] is the number of some digits, where 128 bits hold it.
+//!
+//! Its `specs/` has the forms of contracts that the crates above share: `Agreement` (a call gives
+//! what a definition gives), and `Results` and `Options` (one step after another); its `proofs/`
+//! the lemmas on them.
+#![tactic(auto)]
+
+mod bytes;
+mod digits;
+pub mod laws;
+mod white;
+
+pub use bytes::{is_name_byte, is_white, is_word_byte};
+pub use digits::{are_digits, digits_len, digits_value, is_number};
+pub use white::{is_blank, past_white, past_white_bytes, trimmed};
