@@ -3,7 +3,6 @@
 ghost use Rattle.std.specs.Prelude.{◌≡◌, ◌<◌, ◌++◌, ◌∷◌, [], Option, Some, None, IfOk, IfSome};
 ghost use Rattle.std.specs.Prelude.{IsSome, OnErr, OnOk, length, map, unwrap_or, if◌then◌else◌};
 ghost use Rattle.std.specs.Str.{bytes_eq};
-ghost use Rattle.pymark_core.specs.Marker.Keys.{key_number};
 ghost use Rattle.pylock_core.specs.Inner.Again.{AllStand, AllWithin, DifferAt, after_head};
 ghost use Rattle.pylock_core.specs.Inner.Again.{fresh_row, has_head, policy_for, row_anew};
 ghost use Rattle.pylock_core.specs.Inner.Again.{rows_anew, stored};
@@ -24,7 +23,7 @@ use crate::session::room::put_at;
 use crate::session::row::Row;
 use crate::session::verdict::{HeadVerdict, Judge};
 use pylock_readers::{Entry, Head};
-use pymark_core::{Environment, Key, Var};
+use pymark_core::{Environment, Key};
 use pywheel_core::TagList;
 use std::alloc::AllocError;
 use std::mem;
@@ -34,28 +33,6 @@ const TAGS: usize = 13;
 
 /// A row that was judged again, with its place.
 type Fresh = (usize, Option<Row>);
-
-/// The number of the key.
-fn key_number(key: Key) -> usize
-    ensures value { result ≡ key_number key }
-    ensures bound { result < 14 }
-{
-    match key {
-        Key::Of(Var::OsName) => 0,
-        Key::Of(Var::SysPlatform) => 1,
-        Key::Of(Var::PlatformMachine) => 2,
-        Key::Of(Var::PlatformPythonImplementation) => 3,
-        Key::Of(Var::PlatformRelease) => 4,
-        Key::Of(Var::PlatformSystem) => 5,
-        Key::Of(Var::PlatformVersion) => 6,
-        Key::Of(Var::PythonVersion) => 7,
-        Key::Of(Var::PythonFullVersion) => 8,
-        Key::Of(Var::ImplementationName) => 9,
-        Key::Of(Var::ImplementationVersion) => 10,
-        Key::Extras => 11,
-        Key::Groups => 12,
-    }
-}
 
 /// The row of the entry of this number, judged again under the policy that is given, or that of its
 /// name.
@@ -202,7 +179,7 @@ fn judge_key(
         environment,
         tags: &parts.tags,
     };
-    let numbers = parts.index[key_number(key)].as_slice();
+    let numbers = parts.index[key.number()].as_slice();
     let verdict = head_again(&judge, &parts.head, has_head(numbers), judged)?;
     let fresh = again(&judge, parts, after_head(numbers), None, judged)?;
     Ok((verdict, fresh))
