@@ -3,7 +3,7 @@ use Rattle.pylock_core.specs.Inner.Again.{stored}
 use Rattle.pylock_core.specs.Inner.Names.{policy_at}
 use Rattle.pylock_core.specs.Session.Judgement.{Marked, entry_reads}
 use Rattle.pylock_core.proofs.AgainLemmas.{anew_judged, anew_named, anew_within, environment_suffices, head_suffices}
-use Rattle.pylock_core.proofs.session.judgement.change_environment.Goals as goal
+use Rattle.pylock_core.proofs.session.changes.change_environment.Goals as goal
 
 pub store-requires : goal.store-requires
 store-requires c =
@@ -21,9 +21,9 @@ returns-clause-session c =
       few = s.few;
       named = anew_named p test c.args.environment p.tags (policy_at policies) c.store.new.rows.items s is;
       judged = anew_judged p test c.args.environment p.tags policies (policy_at policies) c.store.new.rows.items s
-          (environment_suffices c.entry_reads.ensures p c.args.environment c.args.key c.requires.differ) is;
+          (environment_suffices c.marker_reads.ensures p c.args.environment c.args.key c.requires.differ) is;
       head = c.put_head.ensures ∙ ap (λ v. unwrap_or v p.head_verdict) c.in_ok-verdict.ensures.head
-          ∙ head_suffices c.head_reads.ensures p c.args.environment c.args.key s c.requires.differ;
+          ∙ head_suffices c.marker_reads.ensures p c.args.environment c.args.key s c.requires.differ;
       names = s.names;
       members = s.members;
       index = s.index;

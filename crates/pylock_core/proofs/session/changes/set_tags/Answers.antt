@@ -3,7 +3,7 @@ use Rattle.pylock_core.specs.Inner.Again.{stored}
 use Rattle.pylock_core.specs.Inner.Names.{policy_at}
 use Rattle.pylock_core.specs.Session.Judgement.{OfTags, entry_reads}
 use Rattle.pylock_core.proofs.AgainLemmas.{anew_judged, anew_named, anew_within, tags_suffice}
-use Rattle.pylock_core.proofs.session.judgement.change_tags.Goals as goal
+use Rattle.pylock_core.proofs.session.changes.set_tags.Goals as goal
 
 pub store-requires : goal.store-requires
 store-requires c =
@@ -20,7 +20,7 @@ returns-clause-session c =
     record {
       few = s.few;
       named = anew_named p test p.environment c.args.tags (policy_at policies) c.store.new.rows.items s is;
-      judged = anew_judged p test p.environment c.args.tags policies (policy_at policies) c.store.new.rows.items s (tags_suffice c.entry_reads.ensures p c.args.tags) is;
+      judged = anew_judged p test p.environment c.args.tags policies (policy_at policies) c.store.new.rows.items s (tags_suffice p c.args.tags) is;
       head = s.head;
       names = s.names;
       members = s.members;

@@ -7,7 +7,7 @@ use Rattle.pylock_core.specs.Inner.Parts.{AreMembers, IsIndex, IsJudged, IsNamed
 use Rattle.pylock_core.specs.Inner.Rows.{in_rows}
 use Rattle.pylock_core.proofs.SessionLemmas.{of_rows_set, session_even}
 use Rattle.pylock_core.proofs.WriteLemmas.{both_at, both_named_as, index_rises, index_written, members_written, old_at, row_below, row_name, row_rises, row_room, rows_named_as}
-use Rattle.pylock_core.proofs.session.parts.write_at.Goals as goal
+use Rattle.pylock_core.proofs.session.entries.write_at.Goals as goal
 
 pub change_each-requires-clause-room : goal.change_each-requires-clause-room
 change_each-requires-clause-room c = subst (λ is. HaveRoom c.args.parts.now.index is 0) (sym c.keys_at-is.ensures) c.requires.index

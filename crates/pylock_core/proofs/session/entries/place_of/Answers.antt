@@ -2,7 +2,7 @@ use Rattle.std.proofs.Common.{is_some, IsSome, ap, sym, arith}
 use Rattle.pylock_core.specs.Inner.Rows.{in_rows}
 use Rattle.pylock_core.specs.Session.State.{entry_at}
 use Rattle.pylock_core.proofs.SessionLemmas.{place_there}
-use Rattle.pylock_core.proofs.session.edits.place_of.Goals as goal
+use Rattle.pylock_core.proofs.session.entries.place_of.Goals as goal
 
 pub overflow_sub-result : goal.overflow_sub-result
 overflow_sub-result c =

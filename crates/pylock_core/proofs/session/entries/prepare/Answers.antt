@@ -3,7 +3,7 @@ use Rattle.pylock_core.specs.Inner.Index.{HaveRoom}
 use Rattle.pylock_core.specs.Inner.Parts.{IsJudged}
 use Rattle.pylock_core.proofs.SessionLemmas.{session_kept, shown_kept}
 use Rattle.pylock_core.proofs.WriteLemmas.{kept_numbers, named_as, session_index, shown_index}
-use Rattle.pylock_core.proofs.session.parts.prepare.Goals as goal
+use Rattle.pylock_core.proofs.session.entries.prepare.Goals as goal
 
 pub returns-in_err-reserve_each-clause-session : goal.returns-in_err-reserve_each-clause-session
 returns-in_err-reserve_each-clause-session c = session_index c.make_row.new.parts c.reserve_each.new.lists c.in_err-reserve_each.ensures.kept c.in_ok-row.ensures.session

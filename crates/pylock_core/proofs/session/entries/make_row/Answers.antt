@@ -1,5 +1,5 @@
 use Rattle.pylock_core.proofs.SessionLemmas.{session_kept}
-use Rattle.pylock_core.proofs.session.parts.make_row.Goals as goal
+use Rattle.pylock_core.proofs.session.entries.make_row.Goals as goal
 
 pub returns-in_err-name-clause-session : goal.returns-in_err-name-clause-session
 returns-in_err-name-clause-session c = session_kept c.args.parts.now c.number_of.new.names (record { numbers = c.in_err-name.ensures.kept; policies = c.in_err-name.ensures.policies; members = c.in_err-name.ensures.members }) c.in_err-name.ensures.is c.requires

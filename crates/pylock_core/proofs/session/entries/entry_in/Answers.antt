@@ -1,6 +1,6 @@
 use Rattle.std.proofs.Common.{◌∙◌, sym, None, arith}
 use Rattle.pylock_core.proofs.SessionLemmas.{entry_at_row}
-use Rattle.pylock_core.proofs.session.edits.entry_in.Goals as goal
+use Rattle.pylock_core.proofs.session.entries.entry_in.Goals as goal
 
 pub returns : goal.returns
 returns c =

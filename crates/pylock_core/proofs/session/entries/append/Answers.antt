@@ -1,4 +1,4 @@
-use Rattle.std.proofs.Common.{◌≡◌, ◌∙◌, ◌<◌, ◌++◌, ◌∷◌, [], Some, None, Ok, length, set, refl, ap, sym, subst, arith}
+use Rattle.std.proofs.Common.{◌≡◌, ◌+◌, ◌∙◌, ◌<◌, ◌++◌, ◌∷◌, [], Some, None, Ok, length, set, refl, ap, sym, subst, arith}
 use Rattle.std.proofs.lemmas.List.{length-set}
 use Rattle.pylock_core.specs.Inner.Parts.{AreMembers, IsIndex, IsJudged, IsNamed, state_of}
 use Rattle.pylock_core.specs.Inner.Rows.{in_rows}
@@ -6,7 +6,7 @@ use Rattle.pylock_core.specs.Session.State.{State, with_next}
 use Rattle.pylock_core.proofs.NameLemmas.{length_more}
 use Rattle.pylock_core.proofs.SessionLemmas.{next_state}
 use Rattle.pylock_core.proofs.WriteLemmas.{index_wider, members_wider, of_rows_wider, on_err, set_last, shown_room}
-use Rattle.pylock_core.proofs.session.parts.add.Goals as goal
+use Rattle.pylock_core.proofs.session.entries.append.Goals as goal
 
 pub write_at-requires-clause-session : goal.write_at-requires-clause-session
 write_at-requires-clause-session c =
@@ -35,13 +35,13 @@ write_at-requires-clause-within c =
     let same = ap length c.in_ok-row.ensures.entries in
     omega (arith, long, same, c.len-place.ensures)
 
-pub returns-in_err-reserve-2-clause-err : goal.returns-in_err-reserve-2-clause-err
-returns-in_err-reserve-2-clause-err c =
+pub returns-in_err-reserve-2-clause-kept : goal.returns-in_err-reserve-2-clause-kept
+returns-in_err-reserve-2-clause-kept c =
     on_err _
     (shown_room c.prepare.new.parts c.reserve.new.self c.reserve-2.new.self c.in_ok-reserve.ensures.items c.in_err-reserve-2.ensures.items ∙ c.in_ok-row.ensures.shown)
 
-pub returns-clause-ok : goal.returns-clause-ok
-returns-clause-ok c =
+pub returns-clause-made : goal.returns-clause-made
+returns-clause-made c =
     let p = c.prepare.new.parts in
     let made = c.in_ok-row.ensures in
     let place = c.len-place.result in
@@ -53,6 +53,9 @@ returns-clause-ok c =
     let long = sym (length-set wider place (Some c.args.entry)) in
     let last : ◌≡◌ {A = State} (record (state_of p) { entries = in_rows 1 (set wider place (Some c.args.entry)); last = length wider }) (record (state_of p) { entries = in_rows 1 (set wider place (Some c.args.entry)); last = length (set wider place (Some c.args.entry)) }) =
     (λ i. record (state_of p) { entries = in_rows 1 (set wider place (Some c.args.entry)); last = long i }) in
-    ap (λ v. with_next c.args.entry v.state) (sym made.shown)
-    ∙ next_state (state_of p) c.args.entry p.entries.items (set wider place (Some c.args.entry)) refl refl before more
-    ∙ ap Ok (sym (c.write_at.ensures.state ∙ last))
+    record {
+      applied = ap (λ v. with_next c.args.entry v.state) (sym made.shown)
+          ∙ next_state (state_of p) c.args.entry p.entries.items (set wider place (Some c.args.entry)) refl refl before more
+          ∙ ap Ok (sym (c.write_at.ensures.state ∙ last));
+      judged = made.count ∙ ap (λ n. c.args.judged.now ++ (n + 1) ∷ []) (at ∙ ap length made.entries);
+    }

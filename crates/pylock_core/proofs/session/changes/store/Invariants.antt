@@ -1,6 +1,6 @@
 use Rattle.std.proofs.Common.{◌≡◌, length}
 use Rattle.pylock_core.specs.Inner.Again.{AllWithin, stored}
-use Rattle.pylock_core.proofs.session.judgement.store.Given as goal
+use Rattle.pylock_core.proofs.session.changes.store.Given as goal
 
 -- the rows that are left are to be put at their places
 abbrev pub invariant-loop-place : goal.invariant-loop-place
