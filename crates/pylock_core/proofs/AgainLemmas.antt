@@ -6,15 +6,19 @@ use Rattle.std.specs.Str.{bytes_eq}
 use Rattle.std.proofs.lemmas.Slice.Eq.{bytes_eq-Decides}
 use Rattle.std.proofs.lemmas.Bool.{ne_eqb, eqb-true, eqb-false}
 use Rattle.std.proofs.lemmas.List.{get_or-map, get_or-set_same, get_or-set_other, length-map, length-set}
-use Rattle.pymark_core.specs.Environment.{EnvironmentValue}
+use Rattle.std.specs.FinSet as set_of
+use Rattle.pyver_core.specs.Name.{norm}
+use Rattle.pymark_core.specs.Environment.{EnvironmentValue, Texts}
 use Rattle.pymark_core.specs.Marker.Keys.{key_number}
 use Rattle.pymark_core.specs.declared.marker.keys.Key.{Key}
 use Rattle.pymark_core.specs.declared.marker.keys.Key.TheVariants.{Of, Extras, Groups}
+use Rattle.pymark_core.specs.Marker.Value.{AgreeAt}
+use Rattle.pymark_core.specs.Variables.{place}
+use Rattle.pymark_core.specs.declared.variable.Var.{Var}
 use Rattle.pymark_core.specs.declared.variable.Var.TheVariants as var
 use Rattle.pywheel_core.specs.Tag.{TagValue}
 use Rattle.pylock_readers.specs.Entry.{EntryValue}
-use Rattle.pylock_readers.specs.Lock.{HeadValue}
-use Rattle.pylock_core.specs.Inner.Again.{AllStand, AllWithin, DifferAt, after_head, fresh_row, has_head, row_anew, rows_anew, stored}
+use Rattle.pylock_core.specs.Inner.Again.{AllStand, AllWithin, DifferAt, after_head, changed, fresh_row, has_head, key_of, row_anew, rows_anew, stored}
 use Rattle.pylock_core.specs.Inner.Index.{list_at}
 use Rattle.pylock_core.specs.Session.State.{Rises}
 use Rattle.pylock_core.specs.Inner.Names.{members_under, number_named, policy_at}
@@ -22,14 +26,17 @@ use Rattle.pylock_core.specs.Inner.Parts.{IsJudged, IsNamed, IsSession, OfBoth, 
 use Rattle.pylock_core.specs.Inner.Pass.{has_number}
 use Rattle.pylock_core.specs.Inner.Rows.{passes}
 use Rattle.pylock_core.specs.Session.Judgement.{AgreeAtKey, IndexKey, Marked, OfTags, and_head, entry_reads, head_reads, keys, readers, verdict_of}
-use Rattle.pylock_core.specs.Session.Steps.{head_fault}
+use Rattle.pylock_core.specs.Session.Steps.{head_fault, standing}
 use Rattle.pylock_core.specs.declared.edit.Policy.{Policy}
+use Rattle.pylock_core.specs.declared.session.changes.Change.{Change}
+use Rattle.pylock_core.specs.declared.session.changes.Change.TheVariants as change
 use Rattle.pylock_core.specs.declared.edit.Policy.TheVariants.{Any}
 use Rattle.pylock_core.specs.declared.session.names.Names.{Names}
 use Rattle.pylock_core.specs.declared.session.parts.Parts.{Parts}
 use Rattle.pylock_core.specs.declared.session.row.Row.{Row}
 use Rattle.pylock_core.proofs.ReaderLemmas.{passing, passing_rises, passing_row, with_row}
 use Rattle.pylock_core.proofs.SessionLemmas.{of_rows_and, of_rows_weaker, session_even, some_within}
+use Rattle.pylock_core.proofs.VerdictLemmas.{MarkersRead, best_same, entry_same, head_same}
 
 -- ---- the numbers of the rows that pass
 
@@ -239,27 +246,27 @@ abbrev pub place_of : IndexKey → ℕ
 place_of (Marked key) = key_number key
 place_of OfTags = 13
 
-at_place : (f : IndexKey → List ℕ) (key : IndexKey) → get_or (map f keys) (place_of key) [] ≡ f key
-at_place f (Marked (Of var.OsName)) = refl
-at_place f (Marked (Of var.SysPlatform)) = refl
-at_place f (Marked (Of var.PlatformMachine)) = refl
-at_place f (Marked (Of var.PlatformPythonImplementation)) = refl
-at_place f (Marked (Of var.PlatformRelease)) = refl
-at_place f (Marked (Of var.PlatformSystem)) = refl
-at_place f (Marked (Of var.PlatformVersion)) = refl
-at_place f (Marked (Of var.PythonVersion)) = refl
-at_place f (Marked (Of var.PythonFullVersion)) = refl
-at_place f (Marked (Of var.ImplementationName)) = refl
-at_place f (Marked (Of var.ImplementationVersion)) = refl
-at_place f (Marked Extras) = refl
-at_place f (Marked Groups) = refl
-at_place f OfTags = refl
+at_place : {A : Type 0} (f : IndexKey → A) (d : A) (key : IndexKey) → get_or (map f keys) (place_of key) d ≡ f key
+at_place f d (Marked (Of var.OsName)) = refl
+at_place f d (Marked (Of var.SysPlatform)) = refl
+at_place f d (Marked (Of var.PlatformMachine)) = refl
+at_place f d (Marked (Of var.PlatformPythonImplementation)) = refl
+at_place f d (Marked (Of var.PlatformRelease)) = refl
+at_place f d (Marked (Of var.PlatformSystem)) = refl
+at_place f d (Marked (Of var.PlatformVersion)) = refl
+at_place f d (Marked (Of var.PythonVersion)) = refl
+at_place f d (Marked (Of var.PythonFullVersion)) = refl
+at_place f d (Marked (Of var.ImplementationName)) = refl
+at_place f d (Marked (Of var.ImplementationVersion)) = refl
+at_place f d (Marked Extras) = refl
+at_place f d (Marked Groups) = refl
+at_place f d OfTags = refl
 
 -- the list under a key has what reads it
 pub index_at : (parts : Parts) → IsSession parts → (key : IndexKey) → list_at parts.index (place_of key) ≡ readers key (state_of parts)
 index_at parts s key =
     ap (λ lists. get_or lists (place_of key) []) s.index
-    ∙ at_place (λ key. and_head (head_reads key parts.head) (passing (entry_reads key) 1 parts.entries.items)) key
+    ∙ at_place (λ key. and_head (head_reads key parts.head) (passing (entry_reads key) 1 parts.entries.items)) [] key
 
 -- the head's number, and the others
 pub head_first : (b : Bool) (ns : List ℕ) → Rises 1 ns → (has_head (and_head b ns) ≡ b) × (after_head (and_head b ns) ≡ ns)
@@ -297,17 +304,6 @@ judged_both front more ns made b first then_rest = then_rest ∙ ap (λ xs. xs +
 
 -- ---- what suffices
 
--- entries and the head read nothing but their keys
-abbrev pub EntriesRead : Type 0
-EntriesRead = (entry : EntryValue) (policy : Policy) (e f : EnvironmentValue) (tags others : List TagValue)
-    → ((key : IndexKey) → entry_reads key entry ≡ true → AgreeAtKey key e f tags others)
-    → verdict_of entry e tags policy ≡ verdict_of entry f others policy
-
-abbrev pub HeadsRead : Type 0
-HeadsRead = (head : HeadValue) (e f : EnvironmentValue) (tags others : List TagValue)
-    → ((key : IndexKey) → head_reads key head ≡ true → AgreeAtKey key e f tags others)
-    → head_fault head e ≡ head_fault head f
-
 no_and_yes : {P : Type 0} (b : Bool) → b ≡ false → b ≡ true → P
 no_and_yes b never is = let e : false ≡ true = sym never ∙ is in cc
 
@@ -317,38 +313,67 @@ agree_apart : (reads : IndexKey → Bool) (key : Key) (e f : EnvironmentValue) (
 agree_apart reads key e f tags differ never (Marked k) is = differ k (λ same. no_and_yes (reads (Marked k)) (ap (λ j. reads (Marked j)) same ∙ never) is)
 agree_apart reads key e f tags differ never OfTags is = refl
 
--- the same of two lists of tags
-agree_tags : (reads : IndexKey → Bool) (e : EnvironmentValue) (tags others : List TagValue) → reads OfTags ≡ false → (k : IndexKey) → reads k ≡ true → AgreeAtKey k e e tags others
-agree_tags reads e tags others never (Marked (Of v)) is = refl
-agree_tags reads e tags others never (Marked Extras) is = refl
-agree_tags reads e tags others never (Marked Groups) is = refl
-agree_tags reads e tags others never OfTags is = no_and_yes (reads OfTags) never is
-
-pub environment_suffices : EntriesRead → (parts : Parts) (environment : EnvironmentValue) (key : Key) → DifferAt key parts.environment environment
+pub environment_suffices : MarkersRead → (parts : Parts) (environment : EnvironmentValue) (key : Key) → DifferAt key parts.environment environment
     → Suffices parts (entry_reads (Marked key)) environment parts.tags parts.names.policies.items (policy_at parts.names.policies.items)
 environment_suffices reading parts environment key differ = record {
   hit = λ e r named is. refl;
-  miss = λ e r named is. reading e (policy_at parts.names.policies.items r.name) parts.environment environment parts.tags parts.tags
+  miss = λ e r named is. entry_same reading e (policy_at parts.names.policies.items r.name) parts.environment environment parts.tags parts.tags
       (agree_apart (λ k. entry_reads k e) key parts.environment environment parts.tags differ is);
 }
 
-pub tags_suffice : EntriesRead → (parts : Parts) (tags : List TagValue)
+pub tags_suffice : (parts : Parts) (tags : List TagValue)
     → Suffices parts (entry_reads OfTags) parts.environment tags parts.names.policies.items (policy_at parts.names.policies.items)
-tags_suffice reading parts tags = record {
+tags_suffice parts tags = record {
   hit = λ e r named is. refl;
-  miss = λ e r named is. reading e (policy_at parts.names.policies.items r.name) parts.environment parts.environment parts.tags tags
-      (agree_tags (λ k. entry_reads k e) parts.environment parts.tags tags is);
+  miss = λ e r named never.
+      let best = best_same e (policy_at parts.names.policies.items r.name) parts.tags tags (no_and_yes (entry_reads OfTags e) never) in
+      λ i. record { standing = standing e parts.environment; best = best i };
 }
 
 -- the head's verdict, judged again where it reads the key
-pub head_suffices : HeadsRead → (parts : Parts) (environment : EnvironmentValue) (key : Key) → IsSession parts → DifferAt key parts.environment environment
+pub head_suffices : MarkersRead → (parts : Parts) (environment : EnvironmentValue) (key : Key) → IsSession parts → DifferAt key parts.environment environment
     → unwrap_or (cond (head_reads (Marked key) parts.head) (Some (head_fault parts.head environment)) None) parts.head_verdict ≡ head_fault parts.head environment
 head_suffices reading parts environment key s differ = by (head_reads (Marked key) parts.head) refl
   where
     by : (b : Bool) → head_reads (Marked key) parts.head ≡ b → unwrap_or (cond b (Some (head_fault parts.head environment)) None) parts.head_verdict ≡ head_fault parts.head environment
     by true is = refl
-    by false is = s.head ∙ reading parts.head parts.environment environment parts.tags parts.tags
+    by false is = s.head ∙ head_same reading parts.head parts.environment environment parts.tags parts.tags
         (agree_apart (λ k. head_reads k parts.head) key parts.environment environment parts.tags differ is)
+
+-- ---- a changed environment
+
+-- the key of a marker, the tags apart
+abbrev marked_key : IndexKey → Key
+marked_key (Marked key) = key
+marked_key OfTags = Extras
+
+one_place : (v w : Var) → place v ≡ place w → Of v ≡ Of w
+one_place v w same =
+    sym (at_place marked_key Extras (Marked (Of v))) ∙ ap (λ n. get_or (map marked_key keys) n Extras) same ∙ at_place marked_key Extras (Marked (Of w))
+
+text_apart : (e : EnvironmentValue) (variable : Var) (text : Option (List ℕ)) (other : Key) → (other ≡ Of variable → ⊥)
+    → AgreeAt other e (record e { variables = set e.variables (place variable) text })
+text_apart e variable text (Of v) apart = sym (get_or-set_other e.variables (place variable) (place v) text None (λ same. apart (one_place v variable same)))
+text_apart e variable text Extras apart = refl
+text_apart e variable text Groups apart = refl
+
+extras_apart : (e : EnvironmentValue) (names : Texts) (other : Key) → (other ≡ Extras → ⊥) → AgreeAt other e (record e { extras = names })
+extras_apart e names (Of v) apart = refl
+extras_apart e names Extras apart = absurd (apart refl)
+extras_apart e names Groups apart = refl
+
+groups_apart : (e : EnvironmentValue) (names : Texts) (other : Key) → (other ≡ Groups → ⊥) → AgreeAt other e (record e { groups = names })
+groups_apart e names (Of v) apart = refl
+groups_apart e names Extras apart = refl
+groups_apart e names Groups apart = absurd (apart refl)
+
+pub changed_differs : (change : Change) (e : EnvironmentValue) (other : Key) → (other ≡ key_of change → ⊥) → AgreeAt other e (changed change e)
+changed_differs (change.Set variable text) e other apart = text_apart e variable (Some text) other apart
+changed_differs (change.Unset variable) e other apart = text_apart e variable None other apart
+changed_differs (change.AddExtra name) e other apart = extras_apart e (set_of.insert e.extras (norm name)) other apart
+changed_differs (change.DropExtra name) e other apart = extras_apart e (set_of.remove e.extras (norm name)) other apart
+changed_differs (change.AddGroup name) e other apart = groups_apart e (set_of.insert e.groups (norm name)) other apart
+changed_differs (change.DropGroup name) e other apart = groups_apart e (set_of.remove e.groups (norm name)) other apart
 
 -- ---- a policy
 

@@ -51,7 +51,7 @@ unfolding best best_from
 no_wheels [] tags others agree = refl
 no_wheels (file ∷ files) tags others agree = ap (best (map wheel_name (file ∷ files))) (agree refl)
 
-best_same : (entry : EntryValue) (policy : Policy) (tags others : List TagValue) → (is_any entry.wheels ≡ true → tags ≡ others) → best_wheel entry tags policy ≡ best_wheel entry others policy
+pub best_same : (entry : EntryValue) (policy : Policy) (tags others : List TagValue) → (is_any entry.wheels ≡ true → tags ≡ others) → best_wheel entry tags policy ≡ best_wheel entry others policy
 best_same entry Any tags others agree = no_wheels entry.wheels tags others agree
 best_same entry Wheel tags others agree = no_wheels entry.wheels tags others agree
 best_same entry Source tags others agree = refl

@@ -1,5 +1,6 @@
 -- What serves the contracts of private functions alone.
 pub mod Again
+pub mod Edits
 pub mod Index
 pub mod Names
 pub mod Parts

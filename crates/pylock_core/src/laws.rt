@@ -1,6 +1,6 @@
 //! Laws of the definitions alone: each function's contract is a law, and its body is empty.
 
-ghost use Rattle.std.specs.Prelude.{◌≡◌, ℕ, List, Option, true};
+ghost use Rattle.std.specs.Prelude.{◌≡◌, ℕ, List, Option, Err, true};
 ghost use Rattle.std.specs.List.{All};
 ghost use Rattle.pyver_core.specs.declared.set.specifier.Specifier.{Specifier};
 ghost use Rattle.pymark_core.specs.Environment.{EnvironmentValue, variable_in};
@@ -11,12 +11,13 @@ ghost use Rattle.pylock_readers.specs.Lock.{HeadValue};
 ghost use Rattle.pylock_core.specs.Session.Judgement.{AgreeAtKey, IndexKey, entry_reads};
 ghost use Rattle.pylock_core.specs.Session.Judgement.{head_reads, readers, touched, verdict_of};
 ghost use Rattle.pylock_core.specs.Session.Picks.{IsFaultIn, IsPickAmong};
-ghost use Rattle.pylock_core.specs.Session.State.{NumbersRise, Rises, State};
+ghost use Rattle.pylock_core.specs.Session.State.{NumbersRise, Rises, State, apply};
 ghost use Rattle.pylock_core.specs.Session.Steps.{answer, head_fault, python_check};
 ghost use Rattle.pylock_core.specs.declared.answer.Answer.TheVariants.{Plan, Fault};
 ghost use Rattle.pylock_core.specs.declared.answer.FaultCode.{FaultCode};
 ghost use Rattle.pylock_core.specs.declared.answer.Pick.{Pick};
 ghost use Rattle.pylock_core.specs.declared.edit.Edit.{Edit};
+ghost use Rattle.pylock_core.specs.declared.edit.EditError.TheVariants.{Memory};
 ghost use Rattle.pylock_core.specs.declared.edit.Policy.{Policy};
 
 use pymark_core::laws::marker_reads;
@@ -76,3 +77,8 @@ pub fn fault_stands()
 {
     one_best_wheel();
 }
+
+/// What an edit makes of a state is never want of memory: only a call may answer it.
+pub fn answers_want_no_memory()
+    ensures { (edit : Edit) (state : State) → apply edit state ≡ Err Memory → ⊥ }
+{}

@@ -2,6 +2,7 @@
 
 pub(crate) mod changes;
 pub(crate) mod edits;
+pub(crate) mod entries;
 pub(crate) mod index;
 pub(crate) mod judged;
 pub(crate) mod judgement;
@@ -25,7 +26,7 @@ ghost use Rattle.pylock_core.specs.declared.edit.EditError.TheVariants.{Memory};
 
 use crate::answer::Answer;
 use crate::edit::{Edit, EditError};
-use crate::session::edits::entry_in;
+use crate::session::entries::entry_in;
 use crate::session::judged::{edit_parts, start};
 use crate::session::parts::{Parts, answer};
 use pylock_readers::{Entry, Lock};
@@ -114,7 +115,7 @@ impl Session {
         ensures memory { IfErr result (λ error. error ≡ Memory → IsTrue (takes_memory edit)) }
         ensures rising { NumbersRise self.new.state }
     {
-        edit_parts(&mut self.parts, edit)
+        Ok(edit_parts(&mut self.parts, edit)?)
     }
 
     /// The answer of the installation steps (PEP 751) on the state as it stands. Changes nothing;

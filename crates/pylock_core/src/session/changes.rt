@@ -1,13 +1,12 @@
 //! The edits of what entries are judged by: variables, extras, groups, tags, policies.
 
 ghost use Rattle.std.specs.Prelude.{◌≡◌, ◌++◌, Ok, Err, IfOk, IfErr, None, OnErr, OnOk, ◌||◌};
-ghost use Rattle.std.specs.Prelude.{true, false};
-ghost use Rattle.std.specs.Prelude.{string_bytes, map};
-ghost use Rattle.std.specs.List.{list_any};
-ghost use Rattle.std.specs.Str.{bytes_eq};
-ghost use Rattle.pylock_core.specs.Inner.Again.{changed, edit_of, key_of};
+ghost use Rattle.std.specs.Prelude.{true, false, length, unwrap_or};
+ghost use Rattle.pylock_core.specs.Inner.Again.{AllWithin, DifferAt, changed, edit_of, key_of};
+ghost use Rattle.pylock_core.specs.Inner.Again.{stored};
+ghost use Rattle.pylock_core.specs.Inner.Edits.{Leaves};
 ghost use Rattle.pylock_core.specs.Inner.Parts.{IsSession, shown, state_of};
-ghost use Rattle.pylock_core.specs.Session.Judgement.{Marked, readers, touched};
+ghost use Rattle.pylock_core.specs.Session.Judgement.{Marked, readers};
 ghost use Rattle.pylock_core.specs.Session.State.{apply, in_environment, is_known};
 ghost use Rattle.pylock_core.specs.declared.edit.Edit.TheVariants as edit;
 ghost use Rattle.pylock_core.specs.declared.edit.EditError.TheVariants.{Memory, UnknownExtra};
@@ -15,13 +14,19 @@ ghost use Rattle.pylock_core.specs.declared.edit.EditError.TheVariants.{UnknownG
 
 use crate::edit::{EditError, Policy};
 use crate::session::judged::Judged;
-use crate::session::judgement::{change_environment, change_policy, change_tags};
+use crate::session::judgement::{Fresh, judge_key, judge_name, judge_tags};
+use crate::session::names::{number_of, set_policy};
 use crate::session::parts::Parts;
+use crate::session::room::put_at;
+use crate::session::row::Row;
+use crate::session::verdict::HeadVerdict;
 use pylock_readers::HeadNames;
+use pymark_core::laws::marker_reads;
 use pymark_core::{Environment, Key, Var};
 use pyver_core::{Label, normal_name};
 use pywheel_core::TagList;
 use std::alloc::{AllocError, Global};
+use std::mem;
 
 /// A change of an environment.
 #[derive(Drop)]
@@ -96,36 +101,6 @@ fn take_spare(parts: &mut Parts) -> Result<Environment, AllocError>
     }
 }
 
-/// Keeps the environment, which is like that of the session, as the spare one.
-fn keep_spare(parts: &mut Parts, spare: Environment)
-    requires session { IsSession parts.old }
-    requires same { spare ≡ parts.old.environment }
-    ensures session { IsSession parts.new }
-    ensures shown { shown parts.new ≡ shown parts.old }
-{
-    parts.spare = Some(spare);
-}
-
-/// Makes the change, on the spare environment first, which takes the place of the other. Where
-/// there is no memory for it, all that is shown stays.
-fn make_change(parts: &mut Parts, change: &Change, judged: &mut Judged) -> Result<(), AllocError>
-    requires { IsSession parts.old }
-    ensures session { IsSession parts.new }
-    ensures ok { OnOk result (state_of parts.new
-        ≡ in_environment (changed change.now parts.old.environment) (state_of parts.old)) }
-    ensures judged { OnOk result (judged.new
-        ≡ judged.old ++ readers (Marked (key_of change.now)) (state_of parts.old)) }
-    ensures err { OnErr result (shown parts.new ≡ shown parts.old) }
-{
-    let mut next = take_spare(parts)?;
-    change.make(&mut next)?;
-    let mut old = change_environment(parts, next, change.key(), judged)?;
-    if change.make(&mut old).is_ok() {
-        keep_spare(parts, old);
-    }
-    Ok(())
-}
-
 /// Refuses a name whose normal form isn't that of an extra of the lock.
 fn has_extra(parts: &Parts, name: &str) -> Result<(), EditError>
     ensures known { OnOk result (is_known parts.now.head.extras name.now ≡ true) }
@@ -162,7 +137,53 @@ fn is_known(alloc: Global, names: &HeadNames, name: &str) -> Result<bool, AllocE
     Ok(names.has(name.as_str()))
 }
 
-/// Changes the environment, where the lock lets it be changed so.
+/// Puts each of the rows at its place. Takes no memory.
+fn store(rows: &mut Vec<Option<Row>>, fresh: Vec<Fresh>)
+    requires { AllWithin (length rows.old.items) fresh.items }
+    ensures { rows.new.items ≡ stored fresh.items rows.old.items }
+{
+    for (place, row) in fresh {
+        put_at(rows, place, row);
+    }
+}
+
+/// Puts the verdict, if there is one, in place of the one that was there.
+fn put_head(kept: &mut HeadVerdict, fresh: Option<HeadVerdict>)
+    ensures { kept.new ≡ unwrap_or fresh kept.old }
+{
+    if let Some(verdict) = fresh {
+        *kept = verdict;
+    }
+}
+
+/// Puts the environment, which differs at the key alone, in place of the one that was there, and
+/// gives that back. What reads the key is judged again. Where there is no memory for it, all stays.
+fn change_environment(
+    parts: &mut Parts,
+    environment: Environment,
+    key: Key,
+    judged: &mut Judged,
+) -> Result<Environment, AllocError>
+    requires session { IsSession parts.old }
+    requires spare { parts.old.spare ≡ None }
+    requires differ { DifferAt key parts.old.environment environment }
+    ensures session { IsSession parts.new }
+    ensures ok { OnOk result (state_of parts.new
+        ≡ in_environment environment (state_of parts.old)) }
+    ensures back { IfOk result (λ back. back ≡ parts.old.environment) }
+    ensures judged { OnOk result (judged.new
+        ≡ judged.old ++ readers (Marked key) (state_of parts.old)) }
+    ensures err { OnErr result (shown parts.new ≡ shown parts.old) }
+{
+    marker_reads();
+    let (verdict, fresh) = judge_key(parts, &environment, key, judged)?;
+    put_head(&mut parts.head_verdict, verdict);
+    store(&mut parts.rows, fresh);
+    Ok(mem::replace(&mut parts.environment, environment))
+}
+
+/// Changes the environment, where the lock lets it be changed so: on the spare environment first,
+/// which takes the place of the other.
 pub(crate) fn edit_environment(
     parts: &mut Parts,
     change: Change,
@@ -170,16 +191,15 @@ pub(crate) fn edit_environment(
 ) -> Result<(), EditError>
     requires { IsSession parts.old }
     ensures session { IsSession parts.new }
-    ensures ok { OnOk result (apply (edit_of change) (state_of parts.old)
-        ≡ Ok (state_of parts.new)) }
-    ensures judged { OnOk result (judged.new
-        ≡ judged.old ++ touched (edit_of change) (state_of parts.old)) }
-    ensures refused { IfErr result (λ error. (error ≡ Memory → ⊥)
-        → apply (edit_of change) (state_of parts.old) ≡ Err error) }
-    ensures err { OnErr result (shown parts.new ≡ shown parts.old) }
+    ensures left { Leaves (edit_of change) parts.old parts.new judged.old judged.new result }
 {
     change.is_known(parts)?;
-    make_change(parts, &change, judged)?;
+    let mut next = take_spare(parts)?;
+    change.make(&mut next)?;
+    let mut old = change_environment(parts, next, change.key(), judged)?;
+    if change.make(&mut old).is_ok() {
+        parts.spare = Some(old);
+    }
     Ok(())
 }
 
@@ -191,15 +211,11 @@ pub(crate) fn set_tags(
 ) -> Result<(), EditError>
     requires { IsSession parts.old }
     ensures session { IsSession parts.new }
-    ensures ok { OnOk result (apply (edit.Tags tags) (state_of parts.old)
-        ≡ Ok (state_of parts.new)) }
-    ensures judged { OnOk result (judged.new
-        ≡ judged.old ++ touched (edit.Tags tags) (state_of parts.old)) }
-    ensures refused { IfErr result (λ error. (error ≡ Memory → ⊥)
-        → apply (edit.Tags tags) (state_of parts.old) ≡ Err error) }
-    ensures err { OnErr result (shown parts.new ≡ shown parts.old) }
+    ensures left { Leaves (edit.Tags tags) parts.old parts.new judged.old judged.new result }
 {
-    change_tags(parts, tags, judged)?;
+    let fresh = judge_tags(parts, &tags, judged)?;
+    store(&mut parts.rows, fresh);
+    parts.tags = tags;
     Ok(())
 }
 
@@ -212,15 +228,13 @@ pub(crate) fn give_policy(
 ) -> Result<(), EditError>
     requires { IsSession parts.old }
     ensures session { IsSession parts.new }
-    ensures ok { OnOk result (apply (edit.Policy name policy) (state_of parts.old)
-        ≡ Ok (state_of parts.new)) }
-    ensures judged { OnOk result (judged.new
-        ≡ judged.old ++ touched (edit.Policy name policy) (state_of parts.old)) }
-    ensures refused { IfErr result (λ error. (error ≡ Memory → ⊥)
-        → apply (edit.Policy name policy) (state_of parts.old) ≡ Err error) }
-    ensures err { OnErr result (shown parts.new ≡ shown parts.old) }
+    ensures left { Leaves (edit.Policy name policy) parts.old parts.new
+        judged.old judged.new result }
 {
     let name = normal_name(parts.alloc, name.as_str())?;
-    change_policy(parts, name.as_str(), policy, judged)?;
+    let number = number_of(parts.alloc, &mut parts.names, name.as_str())?;
+    let fresh = judge_name(parts, number, policy, judged)?;
+    store(&mut parts.rows, fresh);
+    set_policy(&mut parts.names, number, policy);
     Ok(())
 }

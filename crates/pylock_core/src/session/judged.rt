@@ -1,16 +1,16 @@
 //! What a start and an edit judge. They alone make such a list, and nothing takes from one, so no
 //! judgement goes untold.
 
-ghost use Rattle.std.specs.Prelude.{◌≡◌, ◌++◌, ◌∷◌, [], Ok, IfOk, IfErr, IsTrue, OnErr, OnOk};
-ghost use Rattle.std.specs.Prelude.{length};
-ghost use Rattle.pylock_core.specs.Inner.Parts.{IsSession, shown, state_of};
-ghost use Rattle.pylock_core.specs.Session.Judgement.{all_numbers, index_of, touched, verdicts_of};
-ghost use Rattle.pylock_core.specs.Session.State.{apply, first, takes_memory};
-ghost use Rattle.pylock_core.specs.declared.edit.EditError.TheVariants.{Memory};
+ghost use Rattle.std.specs.Prelude.{◌≡◌, ◌++◌, ◌∷◌, [], IfOk, OnOk, length};
+ghost use Rattle.pylock_core.specs.Inner.Edits.{Leaves};
+ghost use Rattle.pylock_core.specs.Inner.Parts.{IsSession, state_of};
+ghost use Rattle.pylock_core.specs.Session.Judgement.{all_numbers};
+ghost use Rattle.pylock_core.specs.Session.State.{first};
 
 use crate::edit::{Edit, EditError};
 use crate::session::edits::make;
-use crate::session::parts::{Parts, add};
+use crate::session::entries::append;
+use crate::session::parts::Parts;
 use crate::session::start::without_entries;
 use pylock_readers::Lock;
 use pymark_core::Environment;
@@ -73,9 +73,6 @@ pub(crate) fn start(
 ) -> Result<Parts, AllocError>
     ensures session { IfOk result (λ parts. IsSession parts) }
     ensures state { IfOk result (λ parts. state_of parts ≡ first lock environment tags) }
-    ensures verdicts { IfOk result (λ parts.
-        (shown parts).verdicts ≡ verdicts_of (state_of parts)) }
-    ensures index { IfOk result (λ parts. (shown parts).index ≡ index_of (state_of parts)) }
     ensures judged { IfOk result (λ parts. parts.judged ≡ all_numbers (state_of parts)) }
 {
     let (head, entries) = lock.into_parts();
@@ -83,7 +80,7 @@ pub(crate) fn start(
     let mut parts = without_entries(alloc, head, environment, tags, entries.len(), judged)?;
     let mut judged = mem::replace(&mut parts.judged, Judged::nothing(alloc));
     for entry in entries {
-        add(&mut parts, entry, &mut judged)?;
+        append(&mut parts, entry, &mut judged)?;
     }
     parts.judged = judged;
     Ok(parts)
@@ -93,15 +90,8 @@ pub(crate) fn start(
 pub(crate) fn edit_parts(parts: &mut Parts, edit: Edit) -> Result<u64, EditError>
     requires { IsSession parts.old }
     ensures session { IsSession parts.new }
-    ensures verdicts { (shown parts.new).verdicts ≡ verdicts_of (state_of parts.new) }
-    ensures index { (shown parts.new).index ≡ index_of (state_of parts.new) }
-    ensures judged { OnOk result (parts.new.judged ≡ touched edit (state_of parts.old)) }
+    ensures left { Leaves edit parts.old parts.new [] parts.new.judged result }
     ensures count { IfOk result (λ judgements. judgements ≡ length parts.new.judged) }
-    ensures ok { OnOk result (apply edit (state_of parts.old) ≡ Ok (state_of parts.new)) }
-    ensures refused { IfErr result (λ error. (error ≡ Memory → ⊥)
-        → apply edit (state_of parts.old) ≡ Err error) }
-    ensures memory { IfErr result (λ error. error ≡ Memory → IsTrue (takes_memory edit)) }
-    ensures err { OnErr result (shown parts.new ≡ shown parts.old) }
 {
     let mut judged = Judged::nothing(parts.alloc);
     make(parts, edit, &mut judged)?;

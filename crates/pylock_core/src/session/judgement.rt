@@ -1,61 +1,31 @@
 //! Judgements made again, of what reads a thing that changes and of nothing else.
 
 ghost use Rattle.std.specs.Prelude.{◌≡◌, ◌<◌, ◌++◌, ◌∷◌, [], Option, Some, None, IfOk, IfSome};
-ghost use Rattle.std.specs.Prelude.{IsSome, OnErr, OnOk, length, map, unwrap_or, if◌then◌else◌};
-ghost use Rattle.std.specs.Str.{bytes_eq};
-ghost use Rattle.pymark_core.specs.Marker.Keys.{key_number};
-ghost use Rattle.pylock_core.specs.Inner.Again.{AllStand, AllWithin, DifferAt, after_head};
-ghost use Rattle.pylock_core.specs.Inner.Again.{fresh_row, has_head, policy_for, row_anew};
-ghost use Rattle.pylock_core.specs.Inner.Again.{rows_anew, stored};
+ghost use Rattle.std.specs.Prelude.{IsSome, OnOk, length, map, if◌then◌else◌};
+ghost use Rattle.pylock_core.specs.Inner.Again.{AllStand, after_head, fresh_row, has_head};
+ghost use Rattle.pylock_core.specs.Inner.Again.{policy_for, row_anew, rows_anew};
 ghost use Rattle.pylock_core.specs.Inner.Index.{list_at};
-ghost use Rattle.pylock_core.specs.Inner.Names.{policies_in, policy_at};
-ghost use Rattle.pylock_core.specs.Inner.Parts.{IsSession, shown, state_of};
+ghost use Rattle.pylock_core.specs.Inner.Names.{policy_at};
+ghost use Rattle.pylock_core.specs.Inner.Parts.{IsSession, state_of};
 ghost use Rattle.pylock_core.specs.Session.Judgement.{Marked, OfTags, entry_reads, head_reads};
-ghost use Rattle.pylock_core.specs.Session.Judgement.{numbers_where, readers};
-ghost use Rattle.pylock_core.specs.Session.State.{in_environment, with_policy};
+ghost use Rattle.pylock_core.specs.Session.Judgement.{readers};
 ghost use Rattle.pylock_core.specs.Session.Steps.{head_fault};
 
 use crate::edit::Policy;
-use crate::laws::{entry_reads, head_reads};
 use crate::session::judged::Judged;
-use crate::session::names::{number_of, set_policy};
 use crate::session::parts::Parts;
-use crate::session::room::put_at;
 use crate::session::row::Row;
 use crate::session::verdict::{HeadVerdict, Judge};
 use pylock_readers::{Entry, Head};
-use pymark_core::{Environment, Key, Var};
+use pymark_core::{Environment, Key};
 use pywheel_core::TagList;
 use std::alloc::AllocError;
-use std::mem;
 
 /// The number of the tags among the keys.
 const TAGS: usize = 13;
 
 /// A row that was judged again, with its place.
-type Fresh = (usize, Option<Row>);
-
-/// The number of the key.
-fn key_number(key: Key) -> usize
-    ensures value { result ≡ key_number key }
-    ensures bound { result < 14 }
-{
-    match key {
-        Key::Of(Var::OsName) => 0,
-        Key::Of(Var::SysPlatform) => 1,
-        Key::Of(Var::PlatformMachine) => 2,
-        Key::Of(Var::PlatformPythonImplementation) => 3,
-        Key::Of(Var::PlatformRelease) => 4,
-        Key::Of(Var::PlatformSystem) => 5,
-        Key::Of(Var::PlatformVersion) => 6,
-        Key::Of(Var::PythonVersion) => 7,
-        Key::Of(Var::PythonFullVersion) => 8,
-        Key::Of(Var::ImplementationName) => 9,
-        Key::Of(Var::ImplementationVersion) => 10,
-        Key::Extras => 11,
-        Key::Groups => 12,
-    }
-}
+pub(crate) type Fresh = (usize, Option<Row>);
 
 /// The row of the entry of this number, judged again under the policy that is given, or that of its
 /// name.
@@ -123,16 +93,6 @@ fn again(
     Ok(fresh)
 }
 
-/// Puts each of the rows at its place. Takes no memory.
-fn store(rows: &mut Vec<Option<Row>>, fresh: Vec<Fresh>)
-    requires { AllWithin (length rows.old.items) fresh.items }
-    ensures { rows.new.items ≡ stored fresh.items rows.old.items }
-{
-    for (place, row) in fresh {
-        put_at(rows, place, row);
-    }
-}
-
 /// Whether the number of the head stands before these.
 fn has_head(numbers: &[u32]) -> bool
     ensures { result ≡ has_head numbers.now }
@@ -171,17 +131,8 @@ fn head_again(
     Ok(None)
 }
 
-/// Puts the verdict, if there is one, in place of the one that was there.
-fn put_head(kept: &mut HeadVerdict, fresh: Option<HeadVerdict>)
-    ensures { kept.new ≡ unwrap_or fresh kept.old }
-{
-    if let Some(verdict) = fresh {
-        *kept = verdict;
-    }
-}
-
 /// Judges again what reads the key, in this environment.
-fn judge_key(
+pub(crate) fn judge_key(
     parts: &Parts,
     environment: &Environment,
     key: Key,
@@ -202,14 +153,18 @@ fn judge_key(
         environment,
         tags: &parts.tags,
     };
-    let numbers = parts.index[key_number(key)].as_slice();
+    let numbers = parts.index[key.number()].as_slice();
     let verdict = head_again(&judge, &parts.head, has_head(numbers), judged)?;
     let fresh = again(&judge, parts, after_head(numbers), None, judged)?;
     Ok((verdict, fresh))
 }
 
 /// Judges again the entries that have wheels, by these tags.
-fn judge_tags(parts: &Parts, tags: &TagList, judged: &mut Judged) -> Result<Vec<Fresh>, AllocError>
+pub(crate) fn judge_tags(
+    parts: &Parts,
+    tags: &TagList,
+    judged: &mut Judged,
+) -> Result<Vec<Fresh>, AllocError>
     requires { IsSession parts.now }
     ensures rows { IfOk result (λ fresh. fresh.items ≡ rows_anew parts.now (entry_reads OfTags)
         parts.now.environment tags.now (policy_at parts.now.names.policies.items)) }
@@ -225,7 +180,7 @@ fn judge_tags(parts: &Parts, tags: &TagList, judged: &mut Judged) -> Result<Vec<
 }
 
 /// Judges again the entries of the name of this number, under this policy.
-fn judge_name(
+pub(crate) fn judge_name(
     parts: &Parts,
     number: usize,
     policy: Policy,
@@ -249,76 +204,4 @@ fn judge_name(
     };
     let members = parts.names.members[number].as_slice();
     again(&judge, parts, members, Some(policy), judged)
-}
-
-/// Puts the environment, which differs at the key alone, in place of the one that was there, and
-/// gives that back. What reads the key is judged again. Where there is no memory for it, all stays.
-pub(crate) fn change_environment(
-    parts: &mut Parts,
-    environment: Environment,
-    key: Key,
-    judged: &mut Judged,
-) -> Result<Environment, AllocError>
-    requires session { IsSession parts.old }
-    requires spare { parts.old.spare ≡ None }
-    requires differ { DifferAt key parts.old.environment environment }
-    ensures session { IsSession parts.new }
-    ensures ok { OnOk result (state_of parts.new
-        ≡ in_environment environment (state_of parts.old)) }
-    ensures back { IfOk result (λ back. back ≡ parts.old.environment) }
-    ensures judged { OnOk result (judged.new
-        ≡ judged.old ++ readers (Marked key) (state_of parts.old)) }
-    ensures err { OnErr result (shown parts.new ≡ shown parts.old) }
-{
-    entry_reads();
-    head_reads();
-    let (verdict, fresh) = judge_key(parts, &environment, key, judged)?;
-    put_head(&mut parts.head_verdict, verdict);
-    store(&mut parts.rows, fresh);
-    Ok(mem::replace(&mut parts.environment, environment))
-}
-
-/// Puts the tags in place of those that were there. The entries that have wheels are judged again.
-/// Where there is no memory for it, all stays.
-pub(crate) fn change_tags(
-    parts: &mut Parts,
-    tags: TagList,
-    judged: &mut Judged,
-) -> Result<(), AllocError>
-    requires { IsSession parts.old }
-    ensures session { IsSession parts.new }
-    ensures ok { OnOk result (state_of parts.new ≡ record (state_of parts.old) { tags = tags }) }
-    ensures judged { OnOk result (judged.new
-        ≡ judged.old ++ readers OfTags (state_of parts.old)) }
-    ensures err { OnErr result (shown parts.new ≡ shown parts.old) }
-{
-    entry_reads();
-    let fresh = judge_tags(parts, &tags, judged)?;
-    store(&mut parts.rows, fresh);
-    parts.tags = tags;
-    Ok(())
-}
-
-/// Gives the name, in normal form, the policy. The entries of the name are judged again. Where
-/// there is no memory for it, all that is shown stays.
-pub(crate) fn change_policy(
-    parts: &mut Parts,
-    name: &str,
-    policy: Policy,
-    judged: &mut Judged,
-) -> Result<(), AllocError>
-    requires { IsSession parts.old }
-    ensures session { IsSession parts.new }
-    ensures ok { OnOk result (state_of parts.new
-        ≡ record (state_of parts.old)
-        { policies = with_policy (policies_in parts.old.names) name.now policy }) }
-    ensures judged { OnOk result (judged.new ≡ judged.old
-        ++ numbers_where (λ entry. bytes_eq name.now entry.name) (state_of parts.old).entries) }
-    ensures err { OnErr result (shown parts.new ≡ shown parts.old) }
-{
-    let number = number_of(parts.alloc, &mut parts.names, name)?;
-    let fresh = judge_name(parts, number, policy, judged)?;
-    store(&mut parts.rows, fresh);
-    set_policy(&mut parts.names, number, policy);
-    Ok(())
 }

@@ -24,7 +24,9 @@ pub enum Key {
 const KEYS: usize = 13;
 
 impl Key {
-    fn number(self) -> usize
+    /// The number of the key: a variable's is its place among the variables, from 0, and those of
+    /// the two sets come after. It takes no memory.
+    pub fn number(self) -> usize
         ensures value { result ≡ key_number self }
         ensures bound { result < 13 }
     {

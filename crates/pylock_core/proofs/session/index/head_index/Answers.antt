@@ -1,8 +1,8 @@
-use Rattle.std.proofs.Common.{◌≡◌, ◌∙◌, List, ℕ, false, length, replicate, get_or, subst, sym, ap, []}
+use Rattle.std.proofs.Common.{◌≡◌, ◌∙◌, false, length, replicate, get_or, subst, sym, ap, []}
 use Rattle.std.proofs.lemmas.List.{get_or-replicate, length-map}
 use Rattle.pylock_core.specs.Session.State.{Rises}
 use Rattle.pylock_core.specs.Inner.Index.{numbers_in}
-use Rattle.pylock_core.proofs.IndexLemmas.{head_lists, none_listed, same_length}
+use Rattle.pylock_core.proofs.IndexLemmas.{head_lists, none_listed}
 use Rattle.pylock_core.proofs.session.index.head_index.Goals as goal
 
 pub change_each-requires-clause-rise : goal.change_each-requires-clause-rise

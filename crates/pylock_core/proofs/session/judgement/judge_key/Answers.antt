@@ -1,32 +1,35 @@
-use Rattle.std.proofs.Common.{◌∙◌, ◌++◌, Some, None, cond, map, ap}
-use Rattle.pylock_core.specs.Inner.Again.{fresh_row}
+use Rattle.std.proofs.Common.{◌≡◌, ◌∙◌, ◌++◌, Some, None, cond, map, ap, arith}
+use Rattle.pylock_core.specs.Inner.Again.{after_head, fresh_row, has_head}
 use Rattle.pylock_core.specs.Inner.Names.{policy_at}
-use Rattle.pylock_core.specs.Session.Judgement.{Marked, and_head, entry_reads}
+use Rattle.pylock_core.specs.Session.Judgement.{Marked, and_head, entry_reads, head_reads}
 use Rattle.pylock_core.specs.Session.Steps.{head_fault}
 use Rattle.pylock_core.proofs.AgainLemmas.{all_stand, judged_both, readers_both}
+use Rattle.pylock_core.proofs.ReaderLemmas.{passing}
 use Rattle.pylock_core.proofs.session.judgement.judge_key.Goals as goal
+use Rattle.pylock_core.proofs.session.judgement.judge_key.Goals.{After-as_slice-numbers}
+
+-- the head and the entries among the numbers of the key
+both : (c : After-as_slice-numbers) → (has_head c.as_slice-numbers.result.now ≡ head_reads (Marked c.args.key) c.args.parts.now.head)
+    × (after_head c.as_slice-numbers.result.now ≡ passing (entry_reads (Marked c.args.key)) 1 c.args.parts.now.entries.items)
+both c = readers_both c.args.parts.now (Marked c.args.key) c.number.result _ c.as_slice-numbers.result.now c.requires c.number.ensures.value (omega (arith, c.number.ensures.bound)) c.as_slice-numbers.ensures.value
 
 pub again-requires-clause-stand : goal.again-requires-clause-stand
 again-requires-clause-stand c =
-    let both = readers_both c.args.parts.now (Marked c.args.key) c.key_number.result _ c.as_slice-numbers.result.now c.requires c.key_number.ensures.value c.key_number.ensures.bound c.as_slice-numbers.ensures.value in
-    all_stand (entry_reads (Marked c.args.key)) c.args.parts.now.entries.items c.after_head.result.now (c.after_head.ensures ∙ both.1)
+    all_stand (entry_reads (Marked c.args.key)) c.args.parts.now.entries.items c.after_head.result.now (c.after_head.ensures ∙ (both (goal.at.again-requires-clause-stand c).After-as_slice-numbers).1)
 
 pub returns-clause-head : goal.returns-clause-head
 returns-clause-head c =
-    let both = readers_both c.args.parts.now (Marked c.args.key) c.key_number.result _ c.as_slice-numbers.result.now c.requires c.key_number.ensures.value c.key_number.ensures.bound c.as_slice-numbers.ensures.value in
-    c.in_ok-verdict.ensures.verdict ∙ ap (λ b. cond b (Some (head_fault c.args.parts.now.head c.args.environment.now)) None) (c.has_head.ensures ∙ both.0)
+    c.in_ok-verdict.ensures.verdict ∙ ap (λ b. cond b (Some (head_fault c.args.parts.now.head c.args.environment.now)) None) (c.has_head.ensures ∙ (both (goal.at.returns-clause-head c).After-as_slice-numbers).0)
 
 pub returns-clause-rows : goal.returns-clause-rows
 returns-clause-rows c =
     let p = c.args.parts.now in
-    let both = readers_both c.args.parts.now (Marked c.args.key) c.key_number.result _ c.as_slice-numbers.result.now c.requires c.key_number.ensures.value c.key_number.ensures.bound c.as_slice-numbers.ensures.value in
     c.in_ok-fresh.ensures.fresh
-    ∙ ap (map (fresh_row c.args.environment.now p.tags (policy_at p.names.policies.items) p.entries.items p.rows.items)) (c.after_head.ensures ∙ both.1)
+    ∙ ap (map (fresh_row c.args.environment.now p.tags (policy_at p.names.policies.items) p.entries.items p.rows.items)) (c.after_head.ensures ∙ (both (goal.at.returns-clause-rows c).After-as_slice-numbers).1)
 
 pub returns-clause-judged : goal.returns-clause-judged
 returns-clause-judged c =
-    let both = readers_both c.args.parts.now (Marked c.args.key) c.key_number.result _ c.as_slice-numbers.result.now c.requires c.key_number.ensures.value c.key_number.ensures.bound c.as_slice-numbers.ensures.value in
-    let head = c.has_head.ensures ∙ both.0 in
-    let entries = c.after_head.ensures ∙ both.1 in
+    let head = c.has_head.ensures ∙ (both (goal.at.returns-clause-judged c).After-as_slice-numbers).0 in
+    let entries = c.after_head.ensures ∙ (both (goal.at.returns-clause-judged c).After-as_slice-numbers).1 in
     judged_both c.args.judged.now _ _ _ c.has_head.result c.in_ok-verdict.ensures.judged c.in_ok-fresh.ensures.judged
     ∙ (λ i. c.args.judged.now ++ and_head (head i) (entries i))

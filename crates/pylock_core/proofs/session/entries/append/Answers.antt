@@ -1,0 +1,61 @@
+use Rattle.std.proofs.Common.{◌≡◌, ◌+◌, ◌∙◌, ◌<◌, ◌++◌, ◌∷◌, [], Some, None, Ok, length, set, refl, ap, sym, subst, arith}
+use Rattle.std.proofs.lemmas.List.{length-set}
+use Rattle.pylock_core.specs.Inner.Parts.{AreMembers, IsIndex, IsJudged, IsNamed, state_of}
+use Rattle.pylock_core.specs.Inner.Rows.{in_rows}
+use Rattle.pylock_core.specs.Session.State.{State, with_next}
+use Rattle.pylock_core.proofs.NameLemmas.{length_more}
+use Rattle.pylock_core.proofs.SessionLemmas.{next_state}
+use Rattle.pylock_core.proofs.WriteLemmas.{index_wider, members_wider, of_rows_wider, on_err, set_last, shown_room}
+use Rattle.pylock_core.proofs.session.entries.append.Goals as goal
+
+pub write_at-requires-clause-session : goal.write_at-requires-clause-session
+write_at-requires-clause-session c =
+    let p = c.prepare.new.parts in
+    let s = c.in_ok-row.ensures.session in
+    let entries = c.push_within-2.ensures.items ∙ ap (λ es. es ++ None ∷ []) c.in_ok-reserve.ensures.items in
+    let rows = c.push_within.ensures.items ∙ ap (λ rs. rs ++ None ∷ []) c.in_ok-reserve-2.ensures.items in
+    let before : length p.entries.items < 100000 = rw c.in_ok-row.ensures.entries c.requires.room in
+    let long = ap length entries ∙ length_more p.entries.items None in
+    record {
+      few = omega (arith, before, long);
+      named = rw (entries, rows) (of_rows_wider (IsNamed p.names) p.entries.items p.rows.items s.named);
+      judged = rw (entries, rows) (of_rows_wider (IsJudged p.environment p.tags p.names.policies.items) p.entries.items p.rows.items s.judged);
+      head = s.head;
+      names = s.names;
+      members = subst (AreMembers p.names) (sym entries) (members_wider p.names p.entries.items s.members);
+      index = subst (IsIndex p.index p.head) (sym entries) (index_wider p.index p.head p.entries.items s.index);
+      spare = s.spare;
+    }
+
+pub write_at-requires-clause-within : goal.write_at-requires-clause-within
+write_at-requires-clause-within c =
+    let p = c.prepare.new.parts in
+    let entries = c.push_within-2.ensures.items ∙ ap (λ es. es ++ None ∷ []) c.in_ok-reserve.ensures.items in
+    let long = ap length entries ∙ length_more p.entries.items None in
+    let same = ap length c.in_ok-row.ensures.entries in
+    omega (arith, long, same, c.len-place.ensures)
+
+pub returns-in_err-reserve-2-clause-kept : goal.returns-in_err-reserve-2-clause-kept
+returns-in_err-reserve-2-clause-kept c =
+    on_err _
+    (shown_room c.prepare.new.parts c.reserve.new.self c.reserve-2.new.self c.in_ok-reserve.ensures.items c.in_err-reserve-2.ensures.items ∙ c.in_ok-row.ensures.shown)
+
+pub returns-clause-made : goal.returns-clause-made
+returns-clause-made c =
+    let p = c.prepare.new.parts in
+    let made = c.in_ok-row.ensures in
+    let place = c.len-place.result in
+    let wider = c.push_within-2.new.items.items in
+    let entries = c.push_within-2.ensures.items ∙ ap (λ es. es ++ None ∷ []) c.in_ok-reserve.ensures.items in
+    let before : length p.entries.items < 100000 = rw made.entries c.requires.room in
+    let at : place ≡ length p.entries.items = c.len-place.ensures ∙ c.args.parts.now.entries.ok.0 ∙ ap length (sym made.entries) in
+    let more = ap (λ xs. set xs place (Some c.args.entry)) entries ∙ ap (λ k. set (p.entries.items ++ None ∷ []) k (Some c.args.entry)) at ∙ set_last p.entries.items None (Some c.args.entry) in
+    let long = sym (length-set wider place (Some c.args.entry)) in
+    let last : ◌≡◌ {A = State} (record (state_of p) { entries = in_rows 1 (set wider place (Some c.args.entry)); last = length wider }) (record (state_of p) { entries = in_rows 1 (set wider place (Some c.args.entry)); last = length (set wider place (Some c.args.entry)) }) =
+    (λ i. record (state_of p) { entries = in_rows 1 (set wider place (Some c.args.entry)); last = long i }) in
+    record {
+      applied = ap (λ v. with_next c.args.entry v.state) (sym made.shown)
+          ∙ next_state (state_of p) c.args.entry p.entries.items (set wider place (Some c.args.entry)) refl refl before more
+          ∙ ap Ok (sym (c.write_at.ensures.state ∙ last));
+      judged = made.count ∙ ap (λ n. c.args.judged.now ++ (n + 1) ∷ []) (at ∙ ap length made.entries);
+    }

@@ -1,0 +1,23 @@
+use Rattle.std.proofs.Common.{◌∙◌, None, IsSome, get_or, ap, arith}
+use Rattle.pylock_core.specs.Inner.Parts.{state_of}
+use Rattle.pylock_core.specs.Session.State.{State, with_entry}
+use Rattle.pylock_core.proofs.SessionLemmas.{accepted_there, some_within, with_entry_row}
+use Rattle.pylock_core.proofs.session.entries.put.Goals as goal
+
+pub write_at-requires-clause-within : goal.write_at-requires-clause-within
+write_at-requires-clause-within c = some_within c.prepare.new.parts.entries.items c.in_ok-place.place (rw c.in_ok-row.ensures.entries c.in_ok-place.ensures.there)
+
+pub returns-clause-left : goal.returns-clause-left
+returns-clause-left c =
+    let p = c.prepare.new.parts in
+    let n = c.args.number in
+    let place = c.in_ok-place.place in
+    let there : IsSome (get_or p.entries.items place None) = rw c.in_ok-row.ensures.entries c.in_ok-place.ensures.there in
+    let written : State → State = λ state. record state { entries = with_entry n c.args.entry state.entries } in
+    record {
+      applied = accepted_there n (state_of c.args.parts.now) _ (state_of c.write_at.new.parts) c.in_ok-place.ensures.known
+          (c.write_at.ensures.state
+          ∙ ap (λ entries. record (state_of p) { entries = entries }) (with_entry_row n 1 place c.args.entry p.entries.items (omega (arith, c.in_ok-place.ensures.place)) there)
+          ∙ ap (λ v. written v.state) c.in_ok-row.ensures.shown);
+      judged = c.in_ok-row.ensures.count;
+    }
