@@ -1,11 +1,8 @@
 //! Locks from their texts.
 ghost use Rattle.std.specs.Prelude.{◌≡◌, codes, option_map};
-ghost use Rattle.std.specs.Char.{is_ascii_digit};
-ghost use Rattle.std.specs.List.{list_all};
 ghost use Rattle.toml.specs.Data.{get_member};
 ghost use Rattle.toml.specs.View.{view, table_view};
 ghost use Rattle.pytext.specs.Agreement.{Gives};
-ghost use Rattle.pytext.specs.Digits.{is_number};
 ghost use Rattle.pylock_readers.specs.Lock.Head.{created_by_in, is_lock_version};
 ghost use Rattle.pylock_readers.specs.Lock.Head.{lock_version_in};
 ghost use Rattle.pylock_readers.specs.Lock.Reading.{document_of, lock_in, lock_of};
@@ -16,6 +13,7 @@ use crate::lock::Lock;
 use crate::lock::head::{Head, HeadFields, refusal};
 use crate::lock::packages::read_packages;
 use crate::text::as_text;
+use pytext::is_number;
 use std::alloc::Global;
 use toml::{Table, Value};
 
@@ -77,18 +75,6 @@ fn is_lock_version(version: &str) -> bool
         [b'1', b'.', minor @ ..] => is_number(minor),
         _ => false,
     }
-}
-
-fn is_number(digits: &[u8]) -> bool
-    ensures { result ≡ is_number digits.now }
-{
-    !digits.is_empty() && are_digits(digits)
-}
-
-fn are_digits(digits: &[u8]) -> bool
-    ensures { result ≡ list_all is_ascii_digit digits.now }
-{
-    digits.iter().all(|byte| byte.is_ascii_digit())
 }
 
 fn require_creator(field: Option<Value>) -> Result<(), LockError>
