@@ -8,7 +8,7 @@ use Rattle.pytext.specs.Options.{either}
 use Rattle.pymark_core.specs.Environment.{EnvironmentValue}
 use Rattle.pywheel_core.specs.Tag.{TagValue}
 use Rattle.pylock_readers.specs.Entry.{EntryValue, FileValue, VcsValue, DirectoryValue, ArchiveValue}
-use Rattle.pylock_core.specs.Inner.Names.{IsNames, members_named, number_named, policies_in, policy_at}
+use Rattle.pylock_core.specs.Inner.Names.{IsNames, Kept, members_named, number_named, policies_in, policy_at}
 use Rattle.pylock_core.specs.Inner.Parts.{IsJudged, IsNamed, IsSession, OfBoth, OfRows, shown, sources_of, state_of}
 use Rattle.pylock_core.specs.Inner.Pass.{NamesBelow, checked_standing, conflict_among, file_source, has_number, pick_rows, picks_after_rows, put_row, row_source, slate_rows, source_among}
 use Rattle.pylock_core.specs.Inner.Rows.{in_rows}
@@ -102,12 +102,6 @@ names_below names is (e ∷ es) (r ∷ rs) h (suc k) row stands = names_below na
 pub policy_here : (names : Names) (q : List ℕ) (n : ℕ) → number_named names q ≡ Some n → policy_of (policies_in names) q ≡ policy_at names.policies.items n
 policy_here names q n is = policy_of_in names q ∙ ap (policy_under names.policies.items) is
 
--- names that keep their numbers, policies and entries
-pub record Kept (old new : Names) : Type 0 where
-  pub numbers : (q : List ℕ) (n : ℕ) → number_named old q ≡ Some n → number_named new q ≡ Some n
-  pub policies : policies_in new ≡ policies_in old
-  pub members : (q : List ℕ) → members_named new q ≡ members_named old q
-
 pub named_kept : (old new : Names) → Kept old new → (es : List (Option EntryValue)) (rs : List (Option Row)) → OfRows (IsNamed old) es rs → OfRows (IsNamed new) es rs
 named_kept old new kept es rs h = of_rows_weaker (IsNamed old) (IsNamed new) (λ e r is. record { name = kept.numbers e.name r.name is.name; sources = is.sources }) es rs h
 
@@ -120,13 +114,13 @@ judged_kept old new kept environment tags es rs named judged =
     ∙ policy_here new e.name r.name (kept.numbers e.name r.name is.0.name)))
     es rs (of_rows_and (IsNamed old) (IsJudged environment tags old.policies.items) es rs named judged)
 
-pub session_kept : (parts : Parts) (names : Names) → Kept parts.names names → IsNames names → IsSession parts → IsSession (record parts { names = names })
-session_kept parts names kept is s = record {
+pub session_kept : (parts : Parts) (names : Names) → Kept parts.names names → IsSession parts → IsSession (record parts { names = names })
+session_kept parts names kept s = record {
   few = s.few;
   named = named_kept parts.names names kept parts.entries.items parts.rows.items s.named;
   judged = judged_kept parts.names names kept parts.environment parts.tags parts.entries.items parts.rows.items s.named s.judged;
   head = s.head;
-  names = is;
+  names = kept.is;
   members = λ q. kept.members q ∙ s.members q;
   index = s.index;
   spare = s.spare;

@@ -7,7 +7,7 @@ use Rattle.std.proofs.lemmas.List.{get_or-map, get_or_default, length-map}
 use Rattle.pylock_readers.specs.Entry.{EntryValue}
 use Rattle.pylock_core.specs.Inner.Index.{AllRise, HaveRoom, list_at, moved, numbers_in}
 use Rattle.pylock_core.specs.Session.State.{Rises}
-use Rattle.pylock_core.specs.Inner.Names.{HasRoom, IsNames, is_at, members_under, number_named}
+use Rattle.pylock_core.specs.Inner.Names.{HasRoom, IsNames, Kept, Same, is_at, members_named, members_under, number_named}
 use Rattle.pylock_core.specs.Inner.Parts.{AreMembers, IsIndex, IsNamed, IsSession, OfBoth, OfRows, shown, state_of, verdict_in}
 use Rattle.pylock_core.specs.Inner.Rows.{in_rows, passes}
 use Rattle.pylock_readers.specs.Lock.{HeadValue}
@@ -169,9 +169,14 @@ session_index p lists kept s = record {
 pub shown_index : (p : Parts) (lists : _) → numbers_in lists ≡ numbers_in p.index → shown (record p { index = lists }) ≡ shown p
 shown_index p lists kept = ap (λ all. record (shown p) { index = all }) kept
 
--- names that keep all but room
-pub kept_numbers : (old new : Names) → ((q : List ℕ) → number_named new q ≡ number_named old q) → (q : List ℕ) (n : ℕ) → number_named old q ≡ Some n → number_named new q ≡ Some n
-kept_numbers old new numbers q n has = numbers q ∙ has
+-- names that are the same and keep the entries too
+pub same_kept : (old new : Names) → Same old new → ((q : List ℕ) → members_named new q ≡ members_named old q) → Kept old new
+same_kept old new same members = record {
+  numbers = λ q n has. same.numbers q ∙ has;
+  policies = same.policies;
+  members = members;
+  is = same.is;
+}
 
 pub named_as : (old new : Names) → ((q : List ℕ) → number_named new q ≡ number_named old q) → (e : EntryValue) (r : Row) → IsNamed old e r → IsNamed new e r
 named_as old new numbers e r h = record { name = numbers e.name ∙ h.name; sources = h.sources }

@@ -60,3 +60,18 @@ HasRoom names n =
     (d : Vec ℕ Global)
     → vec_len (slice_index_or names.members.items n d)
     < vec_capacity (slice_index_or names.members.items n d)
+
+-- names where each that had a number keeps it, with its policy and its entries
+pub record Kept (old new : Names) : Type 0 where
+  pub numbers : (name : List ℕ) (n : ℕ)
+      → number_named old name ≡ Some n → number_named new name ≡ Some n
+  pub policies : policies_in new ≡ policies_in old
+  pub members : (name : List ℕ) → members_named new name ≡ members_named old name
+  pub is : IsNames new
+
+-- names that are the same but for their entries
+pub record Same (old new : Names) : Type 0 where
+  pub numbers : (name : List ℕ) → number_named new name ≡ number_named old name
+  pub items : new.policies.items ≡ old.policies.items
+  pub policies : policies_in new ≡ policies_in old
+  pub is : IsNames new

@@ -26,12 +26,7 @@ pub(crate) type KeySet = [bool; KEYS];
 fn any_reads(markers: &[Marker], key: Key) -> bool
     ensures { result ≡ any_reads key markers.now }
 {
-    for marker in markers {
-        if marker.reads().has(key) {
-            return true;
-        }
-    }
-    false
+    markers.iter().any(|marker| marker.reads().has(key))
 }
 
 /// The keys that are read by what has these markers, a Python check or not, and wheels or not.

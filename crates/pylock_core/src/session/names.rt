@@ -7,7 +7,7 @@ ghost use Rattle.std.specs.BTreeMap.{Updates, get_by_text};
 ghost use Rattle.std.specs.String.{string_cmp};
 ghost use Rattle.pylock_core.specs.Inner.Index.{list_at, moved};
 ghost use Rattle.pylock_core.specs.Session.State.{Rises};
-ghost use Rattle.pylock_core.specs.Inner.Names.{HasRoom, IsNames, is_at, members_named};
+ghost use Rattle.pylock_core.specs.Inner.Names.{HasRoom, IsNames, Kept, Same, is_at, members_named};
 ghost use Rattle.pylock_core.specs.Inner.Names.{number_named};
 ghost use Rattle.pylock_core.specs.Inner.Names.{policies_in};
 ghost use Rattle.pylock_core.specs.Session.State.{with_policy};
@@ -70,11 +70,7 @@ fn give_number(
 pub(crate) fn number_of(alloc: Global, names: &mut Names, name: &str) -> Result<usize, AllocError>
     requires { IsNames names.old }
     ensures found { IfOk result (λ number. number_named names.new name.now ≡ Some number) }
-    ensures kept { (q : List ℕ) (n : ℕ)
-        → number_named names.old q ≡ Some n → number_named names.new q ≡ Some n }
-    ensures members { (q : List ℕ) → members_named names.new q ≡ members_named names.old q }
-    ensures policies { policies_in names.new ≡ policies_in names.old }
-    ensures is { IsNames names.new }
+    ensures kept { Kept names.old names.new }
 {
     if let Some(known) = names.numbers.get(name) {
         return Ok(*known);
@@ -109,10 +105,7 @@ pub(crate) fn reserve_member(names: &mut Names, number: usize) -> Result<(), All
     requires within { number < length names.old.policies.items }
     ensures room { OnOk result (HasRoom names.new number) }
     ensures members { (q : List ℕ) → members_named names.new q ≡ members_named names.old q }
-    ensures numbers { (q : List ℕ) → number_named names.new q ≡ number_named names.old q }
-    ensures items { names.new.policies.items ≡ names.old.policies.items }
-    ensures policies { policies_in names.new ≡ policies_in names.old }
-    ensures is { IsNames names.new }
+    ensures same { Same names.old names.new }
 {
     reserve_one(&mut names.members[number], true)
 }
@@ -126,10 +119,7 @@ fn change_member(names: &mut Names, number: usize, entry: u32, is: bool)
     ensures members { (n : ℕ) → list_at names.new.members.items n ≡ (if nat_eq n number
         then moved entry (not is) is (list_at names.old.members.items n)
         else list_at names.old.members.items n) }
-    ensures numbers { (q : List ℕ) → number_named names.new q ≡ number_named names.old q }
-    ensures items { names.new.policies.items ≡ names.old.policies.items }
-    ensures policies { policies_in names.new ≡ policies_in names.old }
-    ensures is { IsNames names.new }
+    ensures same { Same names.old names.new }
 {
     change(&mut names.members[number], entry, !is, is);
 }
@@ -145,10 +135,7 @@ fn move_between(names: &mut Names, entry: u32, was: usize, is: usize)
     requires is_rises { Rises 0 (list_at names.old.members.items is) }
     ensures members { (n : ℕ) → list_at names.new.members.items n
         ≡ moved entry (nat_eq n was) (nat_eq n is) (list_at names.old.members.items n) }
-    ensures numbers { (q : List ℕ) → number_named names.new q ≡ number_named names.old q }
-    ensures items { names.new.policies.items ≡ names.old.policies.items }
-    ensures policies { policies_in names.new ≡ policies_in names.old }
-    ensures is { IsNames names.new }
+    ensures same { Same names.old names.new }
 {
     if was == is {
         return;
@@ -167,10 +154,7 @@ pub(crate) fn move_member(names: &mut Names, entry: u32, was: Option<usize>, is:
     requires is_rises { IfSome is (λ n. Rises 0 (list_at names.old.members.items n)) }
     ensures members { (n : ℕ) → list_at names.new.members.items n
         ≡ moved entry (is_at n was) (is_at n is) (list_at names.old.members.items n) }
-    ensures numbers { (q : List ℕ) → number_named names.new q ≡ number_named names.old q }
-    ensures items { names.new.policies.items ≡ names.old.policies.items }
-    ensures policies { policies_in names.new ≡ policies_in names.old }
-    ensures is { IsNames names.new }
+    ensures same { Same names.old names.new }
 {
     match (was, is) {
         (Some(was), Some(is)) => move_between(names, entry, was, is),

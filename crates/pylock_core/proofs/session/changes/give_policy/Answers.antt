@@ -14,12 +14,10 @@ use Rattle.pylock_core.proofs.session.changes.give_policy.Goals.{In_ok-number}
 
 -- the session where the name has a number
 numbered : (c : In_ok-number) → IsSession (record c.args.parts.now { names = c.number_of.new.names })
-numbered c =
-    session_kept c.args.parts.now c.number_of.new.names (record { numbers = c.in_ok-number.ensures.kept; policies = c.in_ok-number.ensures.policies; members = c.in_ok-number.ensures.members }) c.in_ok-number.ensures.is c.requires
+numbered c = session_kept c.args.parts.now c.number_of.new.names c.in_ok-number.ensures.kept c.requires
 
 pub returns-in_err-number-clause-session : goal.returns-in_err-number-clause-session
-returns-in_err-number-clause-session c =
-    session_kept c.args.parts.now c.number_of.new.names (record { numbers = c.in_err-number.ensures.kept; policies = c.in_err-number.ensures.policies; members = c.in_err-number.ensures.members }) c.in_err-number.ensures.is c.requires
+returns-in_err-number-clause-session c = session_kept c.args.parts.now c.number_of.new.names c.in_err-number.ensures.kept c.requires
 
 pub judge_name-requires-clause-session : goal.judge_name-requires-clause-session
 judge_name-requires-clause-session c = numbered (goal.at.judge_name-requires-clause-session c).In_ok-number
@@ -62,7 +60,7 @@ returns-clause-left c =
     let p = c.args.parts.now in
     let normal : c.as_str-2.result.now ≡ norm c.args.name = c.as_str-2.ensures.value ∙ c.in_ok-name.ensures ∙ ap norm c.as_str.ensures in
     let policies = c.set_policy.ensures.policies c.as_str-2.result.now c.in_ok-number.ensures.found
-    ∙ (λ i. with_policy (c.in_ok-number.ensures.policies i) (normal i) c.args.policy) in
+    ∙ (λ i. with_policy (c.in_ok-number.ensures.kept.policies i) (normal i) c.args.policy) in
     record {
       applied = λ i. Ok (record (state_of p) { policies = sym policies i });
       judged = c.in_ok-fresh.ensures.judged ∙ ap (λ ns. c.args.judged.now ++ ns)

@@ -1,22 +1,16 @@
-use Rattle.std.proofs.Common.{is_some, IsSome, ap, sym, arith}
-use Rattle.pylock_core.specs.Inner.Rows.{in_rows}
-use Rattle.pylock_core.specs.Session.State.{entry_at}
+use Rattle.std.proofs.Common.{ℕ, ◌<◌, ◌-◌, None, is_some, IsSome, get_or, ap, sym, arith}
 use Rattle.pylock_core.proofs.SessionLemmas.{place_there}
 use Rattle.pylock_core.proofs.session.entries.place_of.Goals as goal
+use Rattle.pylock_core.proofs.session.entries.place_of.Goals.{In-Some}
+
+there : (c : In-Some) → (0 < c.args.number) × IsSome (get_or c.args.parts.now.entries.items (c.args.number - 1) None)
+there c = place_there c.args.number c.args.parts.now.entries.items (sym (ap is_some (rw c.as_slice.ensures.value at c.in-Some.ensures)))
 
 pub overflow_sub-result : goal.overflow_sub-result
-overflow_sub-result c =
-    let there : IsSome (entry_at c.args.number (in_rows 1 c.args.parts.now.entries.items)) = sym (ap is_some (rw c.as_slice.ensures.value at c.in-Some.ensures)) in
-    let least = (place_there c.args.number c.args.parts.now.entries.items there).0 in
-    omega (arith, least)
+overflow_sub-result c = let least = (there (goal.at.overflow_sub-result c).In-Some).0 in omega (arith, least)
 
 pub returns-in-Some-clause-place : goal.returns-in-Some-clause-place
-returns-in-Some-clause-place c =
-    let there : IsSome (entry_at c.args.number (in_rows 1 c.args.parts.now.entries.items)) = sym (ap is_some (rw c.as_slice.ensures.value at c.in-Some.ensures)) in
-    let least = (place_there c.args.number c.args.parts.now.entries.items there).0 in
-    omega (arith, least)
+returns-in-Some-clause-place c = let least = (there (goal.at.returns-in-Some-clause-place c).In-Some).0 in omega (arith, least)
 
 pub returns-in-Some-clause-there : goal.returns-in-Some-clause-there
-returns-in-Some-clause-there c =
-    let there : IsSome (entry_at c.args.number (in_rows 1 c.args.parts.now.entries.items)) = sym (ap is_some (rw c.as_slice.ensures.value at c.in-Some.ensures)) in
-    (place_there c.args.number c.args.parts.now.entries.items there).1
+returns-in-Some-clause-there c = (there (goal.at.returns-in-Some-clause-there c).In-Some).1

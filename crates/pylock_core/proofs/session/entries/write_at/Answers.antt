@@ -47,16 +47,16 @@ returns-clause-session c =
     let gone = c.index-2.result.now in
     let there = old_at p.entries.items place old c.requires.within c.index.ensures in
     let before = both_at p.names p.entries.items p.rows.items place old gone s.named c.requires.within c.index.ensures c.index-2.ensures in
-    let named = both_named_as p.names two c.move_member.ensures.numbers c.args.entry c.args.row c.requires.named in
+    let named = both_named_as p.names two c.move_member.ensures.same.numbers c.args.entry c.args.row c.requires.named in
     record {
       few = omega (arith, few, long);
       named = rw (c.put_at-2.ensures, c.put_at.ensures) (of_rows_set (IsNamed two) p.entries.items p.rows.items place c.args.entry c.args.row
-          (rows_named_as p.names two c.move_member.ensures.numbers p.entries.items p.rows.items s.named) named);
-      judged = rw (c.put_at-2.ensures, c.put_at.ensures, c.move_member.ensures.items) (of_rows_set (IsJudged p.environment p.tags p.names.policies.items) p.entries.items p.rows.items place c.args.entry c.args.row s.judged c.requires.judged);
+          (rows_named_as p.names two c.move_member.ensures.same.numbers p.entries.items p.rows.items s.named) named);
+      judged = rw (c.put_at-2.ensures, c.put_at.ensures, c.move_member.ensures.same.items) (of_rows_set (IsJudged p.environment p.tags p.names.policies.items) p.entries.items p.rows.items place c.args.entry c.args.row s.judged c.requires.judged);
       head = s.head;
-      names = c.move_member.ensures.is;
+      names = c.move_member.ensures.same.is;
       members = subst (AreMembers two) (sym c.put_at-2.ensures) (members_written p.names two p.entries.items place (place + 1) old c.args.entry gone c.args.row s.names there before c.requires.named s.members
-          (omega arith) c.requires.within c.move_member.ensures.numbers
+          (omega arith) c.requires.within c.move_member.ensures.same.numbers
           (λ n. c.move_member.ensures.members n ∙ ap (λ was. moved (place + 1) (is_at n was) (is_at n c.name_of.result) (list_at p.names.members.items n)) c.name_of-was.ensures
           ∙ ap (λ is. moved (place + 1) (is_at n (row_name gone)) (is_at n is) (list_at p.names.members.items n)) c.name_of.ensures));
       index = subst (IsIndex c.change_each.new.lists p.head) (sym c.put_at-2.ensures) (index_written p.index c.change_each.new.lists c.keys_at-was.result c.keys_at-is.result p.head p.entries.items place (place + 1) old c.args.entry
@@ -69,5 +69,5 @@ returns-clause-state c =
     let p = c.args.parts.now in
     let rows = ap (in_rows 1) c.put_at-2.ensures in
     let long = ap length c.put_at-2.ensures ∙ length-set p.entries.items c.args.place c.args.entry in
-    let policies = c.move_member.ensures.policies in
+    let policies = c.move_member.ensures.same.policies in
     λ i. record (state_of p) { entries = rows i; last = long i; policies = policies i }

@@ -22,13 +22,11 @@ grown c =
     }
 
 pub returns-clause-kept : goal.returns-clause-kept
-returns-clause-kept c = let g = grown c in gains_keeps (number_named c.args.names.now) _ c.args.name.now _ g.numbers g.absent
-
-pub returns-clause-members : goal.returns-clause-members
-returns-clause-members c = grown_members _ _ _ _ c.requires (grown c)
-
-pub returns-clause-policies : goal.returns-clause-policies
-returns-clause-policies c = grown_policies _ _ _ _ c.requires (grown c)
-
-pub returns-clause-is : goal.returns-clause-is
-returns-clause-is c = grown_is _ _ _ _ c.requires (grown c)
+returns-clause-kept c =
+    let g = grown c in
+    record {
+      numbers = gains_keeps (number_named c.args.names.now) _ c.args.name.now _ g.numbers g.absent;
+      policies = grown_policies _ _ _ _ c.requires g;
+      members = grown_members _ _ _ _ c.requires g;
+      is = grown_is _ _ _ _ c.requires g;
+    }
