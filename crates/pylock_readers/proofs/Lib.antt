@@ -1,3 +1,4 @@
+pub use Rattle.pylock_readers.proofs.TableLemmas.{kept}
 mod FileNameLemmas
 pub mod NameLemmas
 mod TableLemmas

@@ -1,13 +1,14 @@
 //! The fields of a TOML table, taken by value, so that a string of the document moves into the
 //! lock.
-ghost use Rattle.std.specs.Prelude.{◌≡◌, ℕ, List, false, option_map, string_bytes};
-ghost use Rattle.toml.specs.Data.{get_member, same_key};
+ghost use Rattle.std.specs.Prelude.{◌≡◌, option_map, string_bytes};
+ghost use Rattle.toml.specs.Data.{get_member};
 ghost use Rattle.toml.specs.View.{view, items_view, table_view};
 ghost use Rattle.pyver_core.specs.Agreement.{Gives};
 ghost use Rattle.pylock_readers.specs.declared.field.FieldError.TheVariants as field;
 ghost use Rattle.pylock_readers.specs.Entry.Fields.{required, text_of, members_of, name_of};
 ghost use Rattle.pylock_readers.specs.Entry.Fields.{text_in};
 ghost use Rattle.pylock_readers.specs.Entry.Fields.{optional_text_in, flag_in, items_in};
+ghost use Rattle.pylock_readers.specs.Inner.Taken.{without};
 
 use crate::name::into_normal;
 use pyver_core::is_name;
@@ -36,8 +37,7 @@ impl<E: Into<AllocError> + Drop> From<E> for FieldError {
 /// table that is soon let go would cost more.
 pub(crate) fn take(table: &mut Table, key: &str) -> Option<Value>
     ensures taken { option_map view result ≡ get_member key.now (table_view table.old) }
-    ensures others { (other : List ℕ) → same_key other key.now ≡ false
-        → get_member other (table_view table.new) ≡ get_member other (table_view table.old) }
+    ensures left { table_view table.new ≡ without key.now (table_view table.old) }
 {
     match table.get_mut(key) {
         Some(value) => Some(mem::replace(value, Value::Boolean(false))),

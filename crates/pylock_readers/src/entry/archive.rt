@@ -1,8 +1,7 @@
 //! Archives.
-ghost use Rattle.std.specs.Prelude.{◌≡◌, codes, option_map};
+ghost use Rattle.std.specs.Prelude.{◌≡◌};
 ghost use Rattle.std.specs.Option.{option_copied};
-ghost use Rattle.toml.specs.Data.{get_member};
-ghost use Rattle.toml.specs.View.{view, table_view};
+ghost use Rattle.toml.specs.View.{view};
 ghost use Rattle.pyver_core.specs.Agreement.{Gives};
 ghost use Rattle.pylock_readers.specs.Entry.{place_of};
 ghost use Rattle.pylock_readers.specs.Entry.Sources.{archive_of};
@@ -13,7 +12,7 @@ use crate::entry::location::Location;
 use crate::field::{FieldError, into_table, optional_text, take};
 use std::alloc::Global;
 use std::marker::Model;
-use toml::{Table, Value};
+use toml::Value;
 
 /// An archive to install from (PEP 751, `packages.archive`).
 pub struct Archive {
@@ -46,6 +45,7 @@ impl Drop for Archive {
     }
 }
 
+#[tactic(auto, using(crate::proofs::kept), unfolding(crate::specs::Entry::Sources::archive_of))]
 impl Archive {
     /// The key `url`.
     pub fn url(&self) -> Option<&str>
@@ -82,43 +82,17 @@ impl Archive {
         self.subdirectory.as_deref()
     }
 
-    #[tactic(auto, unfolding(crate::specs::Entry::Sources::archive_of))]
     pub(crate) fn read(alloc: Global, value: Value) -> Result<Archive, FieldError>
         ensures { Gives FieldError.Memory (λ a. a) result (archive_of (view value)) }
     {
-        let fields = take_fields(into_table(value)?);
-        let location = Location::read(fields.url, fields.path)?;
-        let hashes = hashes(alloc, fields.hashes)?;
-        let subdirectory = optional_text(fields.subdirectory)?;
+        let mut table = into_table(value)?;
+        let location = Location::read(take(&mut table, "url"), take(&mut table, "path"))?;
+        let hashes = hashes(alloc, take(&mut table, "hashes"))?;
+        let subdirectory = optional_text(take(&mut table, "subdirectory"))?;
         Ok(Archive {
             location,
             hashes,
             subdirectory,
         })
-    }
-}
-
-/// The values of the keys, out of the table that is let go.
-#[derive(Drop)]
-struct Fields {
-    url: Option<Value>,
-    path: Option<Value>,
-    hashes: Option<Value>,
-    subdirectory: Option<Value>,
-}
-
-fn take_fields(mut table: Table) -> Fields
-    ensures url { option_map view result.url ≡ get_member (codes "url") (table_view table) }
-    ensures path { option_map view result.path ≡ get_member (codes "path") (table_view table) }
-    ensures hashes { option_map view result.hashes
-        ≡ get_member (codes "hashes") (table_view table) }
-    ensures subdirectory { option_map view result.subdirectory
-        ≡ get_member (codes "subdirectory") (table_view table) }
-{
-    Fields {
-        url: take(&mut table, "url"),
-        path: take(&mut table, "path"),
-        hashes: take(&mut table, "hashes"),
-        subdirectory: take(&mut table, "subdirectory"),
     }
 }

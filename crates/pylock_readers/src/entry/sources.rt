@@ -1,6 +1,7 @@
 //! All sources of an entry.
-ghost use Rattle.std.specs.Prelude.{◌≡◌, option_map};
-ghost use Rattle.toml.specs.View.{view};
+ghost use Rattle.std.specs.Prelude.{◌≡◌, codes, option_map};
+ghost use Rattle.toml.specs.Data.{get_member};
+ghost use Rattle.toml.specs.View.{view, table_view};
 ghost use Rattle.pyver_core.specs.Agreement.{Gives};
 ghost use Rattle.pylock_readers.specs.Entry.Reading.{refusal_for, vcs_in, directory_in, archive_in};
 ghost use Rattle.pylock_readers.specs.Entry.Reading.{sdist_in, wheels_in, sources_in};
@@ -11,10 +12,10 @@ use crate::entry::file::{DistributionFile, Sdist};
 use crate::entry::vcs::Vcs;
 use crate::entry::wheels::Wheels;
 use crate::error::{EntryError, EntryKey};
-use crate::field::FieldError;
+use crate::field::{FieldError, take};
 use std::alloc::Global;
 use std::marker::Model;
-use toml::Value;
+use toml::{Table, Value};
 
 /// The sources of an entry. Nearly every entry has one or two, and the others take no room.
 pub(crate) struct Sources {
@@ -40,16 +41,6 @@ impl Model for Sources {
     } };
 }
 
-/// The values of the keys of sources.
-#[derive(Drop)]
-pub(crate) struct SourceFields {
-    pub(crate) vcs: Option<Value>,
-    pub(crate) directory: Option<Value>,
-    pub(crate) archive: Option<Value>,
-    pub(crate) sdist: Option<Value>,
-    pub(crate) wheels: Option<Value>,
-}
-
 impl Drop for Sources {
     fn drop(self) {
         let Sources {
@@ -62,19 +53,22 @@ impl Drop for Sources {
     }
 }
 
+#[tactic(auto, using(crate::proofs::kept), unfolding(crate::specs::Entry::Reading::sources_in))]
 impl Sources {
-    #[tactic(auto, unfolding(crate::specs::Entry::Reading::sources_in))]
-    pub(crate) fn read(alloc: Global, fields: SourceFields) -> Result<Sources, EntryError>
-        ensures { Gives EntryError.Memory (λ s. s) result
-            (sources_in (option_map view fields.vcs) (option_map view fields.directory)
-            (option_map view fields.archive) (option_map view fields.sdist)
-            (option_map view fields.wheels)) }
+    /// The sources of the table of an entry.
+    pub(crate) fn read(alloc: Global, mut table: Table) -> Result<Sources, EntryError>
+        ensures { Gives EntryError.Memory (λ s. s) result (sources_in
+            (get_member (codes "vcs") (table_view table))
+            (get_member (codes "directory") (table_view table))
+            (get_member (codes "archive") (table_view table))
+            (get_member (codes "sdist") (table_view table))
+            (get_member (codes "wheels") (table_view table))) }
     {
-        let vcs = read_vcs(alloc, fields.vcs)?;
-        let directory = read_directory(alloc, fields.directory)?;
-        let archive = read_archive(alloc, fields.archive)?;
-        let sdist = read_sdist(alloc, fields.sdist)?;
-        let wheels = read_wheels(alloc, fields.wheels)?;
+        let vcs = read_vcs(alloc, take(&mut table, "vcs"))?;
+        let directory = read_directory(alloc, take(&mut table, "directory"))?;
+        let archive = read_archive(alloc, take(&mut table, "archive"))?;
+        let sdist = read_sdist(alloc, take(&mut table, "sdist"))?;
+        let wheels = read_wheels(alloc, take(&mut table, "wheels"))?;
         Ok(Sources {
             vcs,
             directory,
