@@ -1,6 +1,8 @@
 //! The fields of a TOML table, taken by value, so that a string of the document moves into the
 //! lock.
-ghost use Rattle.std.specs.Prelude.{◌≡◌, option_map, string_bytes};
+ghost use Rattle.std.specs.Prelude.{◌≡◌, ◌⊎◌, Err, IfErr, IfOk, MatchOption};
+ghost use Rattle.std.specs.Prelude.{None, Ok, Some, option_map, string_bytes};
+ghost use Rattle.std.specs.Option.{ForSome, option_transpose};
 ghost use Rattle.toml.specs.Data.{get_member};
 ghost use Rattle.toml.specs.View.{view, items_view, table_view};
 ghost use Rattle.pyver_core.specs.Agreement.{Gives};
@@ -42,6 +44,37 @@ pub(crate) fn take(table: &mut Table, key: &str) -> Option<Value>
     match table.get_mut(key) {
         Some(value) => Some(mem::replace(value, Value::Boolean(false))),
         None => None,
+    }
+}
+
+/// What was read, where this is the refusal of what is not of its form.
+pub(crate) fn or_refused<T, E: From<AllocError> + Drop>(
+    wrong: E,
+    read: Result<T, FieldError>,
+) -> Result<T, E>
+    ensures ok { IfOk result (λ x. read ≡ Ok x) }
+    ensures err { IfErr result (λ e. ((read ≡ Err field.Wrong) × (e ≡ wrong))
+        ⊎ ((a : _) × E.from_gives a e)) }
+{
+    match read {
+        Ok(value) => Ok(value),
+        Err(FieldError::Wrong) => Err(wrong),
+        Err(FieldError::Memory) => Err(E::from(AllocError)),
+    }
+}
+
+/// A field that may be absent.
+pub(crate) fn optional<T, F: FnOnce(Value) -> Result<T, FieldError>>(
+    field: Option<Value>,
+    read: F,
+) -> Result<Option<T>, FieldError>
+    requires { ForSome field (F.pre read) }
+    ensures { MatchOption field (result ≡ Ok None)
+        (λ value. (given : _) × F.post read value given × (result ≡ option_transpose (Some given))) }
+{
+    match field {
+        None => Ok(None),
+        Some(value) => Ok(Some(read(value)?)),
     }
 }
 
@@ -95,10 +128,7 @@ pub(crate) fn optional_text(field: Option<Value>) -> Result<Option<String>, Fiel
     ensures { Gives FieldError.Memory (option_map string_bytes) result
         (optional_text_in (option_map view field)) }
 {
-    match field {
-        None => Ok(None),
-        Some(value) => Ok(Some(into_text(value)?)),
-    }
+    optional(field, into_text)
 }
 
 /// A boolean, which is false where it is absent.

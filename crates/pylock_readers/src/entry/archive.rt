@@ -1,14 +1,13 @@
 //! Archives.
 ghost use Rattle.std.specs.Prelude.{◌≡◌};
 ghost use Rattle.std.specs.Option.{option_copied};
-ghost use Rattle.toml.specs.View.{view};
-ghost use Rattle.pyver_core.specs.Agreement.{Gives};
 ghost use Rattle.pylock_readers.specs.Entry.{place_of};
 ghost use Rattle.pylock_readers.specs.Entry.Sources.{archive_of};
 ghost use Rattle.pylock_readers.specs.Inner.Strings.{text_pairs};
 
 use crate::entry::hashes::hashes;
 use crate::entry::location::Location;
+use crate::entry::sources::Source;
 use crate::field::{FieldError, into_table, optional_text, take};
 use std::alloc::Global;
 use std::marker::Model;
@@ -45,7 +44,6 @@ impl Drop for Archive {
     }
 }
 
-#[tactic(auto, using(crate::proofs::kept), unfolding(crate::specs::Entry::Sources::archive_of))]
 impl Archive {
     /// The key `url`.
     pub fn url(&self) -> Option<&str>
@@ -81,10 +79,13 @@ impl Archive {
     {
         self.subdirectory.as_deref()
     }
+}
 
-    pub(crate) fn read(alloc: Global, value: Value) -> Result<Archive, FieldError>
-        ensures { Gives FieldError.Memory (λ a. a) result (archive_of (view value)) }
-    {
+#[tactic(auto, using(crate::proofs::kept), unfolding(crate::specs::Entry::Sources::archive_of))]
+impl Source for Archive {
+    ghost form = { archive_of };
+
+    fn read(alloc: Global, value: Value) -> Result<Archive, FieldError> {
         let mut table = into_table(value)?;
         let location = Location::read(take(&mut table, "url"), take(&mut table, "path"))?;
         let hashes = hashes(alloc, take(&mut table, "hashes"))?;

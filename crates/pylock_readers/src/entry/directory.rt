@@ -1,11 +1,11 @@
 //! Local directories.
 ghost use Rattle.std.specs.Prelude.{◌≡◌};
 ghost use Rattle.std.specs.Option.{option_copied};
-ghost use Rattle.toml.specs.View.{view};
-ghost use Rattle.pyver_core.specs.Agreement.{Gives};
 ghost use Rattle.pylock_readers.specs.Entry.Sources.{directory_of};
 
+use crate::entry::sources::Source;
 use crate::field::{FieldError, flag, into_table, optional_text, take, text};
+use std::alloc::Global;
 use std::marker::Model;
 use toml::Value;
 
@@ -39,7 +39,6 @@ impl Drop for Directory {
     }
 }
 
-#[tactic(auto, using(crate::proofs::kept), unfolding(crate::specs::Entry::Sources::directory_of))]
 impl Directory {
     /// The key `path`.
     pub fn path(&self) -> &str
@@ -68,10 +67,13 @@ impl Directory {
     {
         self.subdirectory.as_deref()
     }
+}
 
-    pub(crate) fn read(value: Value) -> Result<Directory, FieldError>
-        ensures { Gives FieldError.Memory (λ d. d) result (directory_of (view value)) }
-    {
+#[tactic(auto, using(crate::proofs::kept), unfolding(crate::specs::Entry::Sources::directory_of))]
+impl Source for Directory {
+    ghost form = { directory_of };
+
+    fn read(_alloc: Global, value: Value) -> Result<Directory, FieldError> {
         let mut table = into_table(value)?;
         let path = text(take(&mut table, "path"))?;
         let editable = flag(take(&mut table, "editable"))?;

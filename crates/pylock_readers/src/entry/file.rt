@@ -1,8 +1,6 @@
 //! Sdists and wheels.
 ghost use Rattle.std.specs.Prelude.{◌≡◌, option_map, string_bytes, IfOk};
 ghost use Rattle.std.specs.Option.{option_copied};
-ghost use Rattle.toml.specs.View.{view};
-ghost use Rattle.pyver_core.specs.Agreement.{Gives};
 ghost use Rattle.pylock_readers.specs.Entry.{file_name, place_of};
 ghost use Rattle.pylock_readers.specs.Entry.Sources.{file_of};
 ghost use Rattle.pylock_readers.specs.Inner.Strings.{text_pairs};
@@ -10,6 +8,7 @@ ghost use Rattle.pylock_readers.specs.Inner.Strings.{text_pairs};
 use crate::entry::file_name::file_name;
 use crate::entry::hashes::hashes;
 use crate::entry::location::Location;
+use crate::entry::sources::Source;
 use crate::field::{FieldError, into_table, optional_text, take};
 use std::alloc::{AllocError, Global};
 use std::marker::Model;
@@ -102,17 +101,6 @@ impl DistributionFile {
         self.hashes.as_slice()
     }
 
-    #[tactic(auto, using(crate::proofs::kept), unfolding(crate::specs::Entry::Sources::file_of))]
-    pub(crate) fn read(alloc: Global, value: Value) -> Result<DistributionFile, FieldError>
-        ensures { Gives FieldError.Memory (λ f. f) result (file_of (view value)) }
-    {
-        let mut table = into_table(value)?;
-        let name = optional_text(take(&mut table, "name"))?;
-        let location = Location::read(take(&mut table, "url"), take(&mut table, "path"))?;
-        let hashes = hashes(alloc, take(&mut table, "hashes"))?;
-        Ok(DistributionFile::new(alloc, name, location, hashes)?)
-    }
-
     /// Takes memory for the file name alone.
     fn new(
         alloc: Global,
@@ -133,5 +121,18 @@ impl DistributionFile {
             hashes,
             file_name,
         })
+    }
+}
+
+#[tactic(auto, using(crate::proofs::kept), unfolding(crate::specs::Entry::Sources::file_of))]
+impl Source for DistributionFile {
+    ghost form = { file_of };
+
+    fn read(alloc: Global, value: Value) -> Result<DistributionFile, FieldError> {
+        let mut table = into_table(value)?;
+        let name = optional_text(take(&mut table, "name"))?;
+        let location = Location::read(take(&mut table, "url"), take(&mut table, "path"))?;
+        let hashes = hashes(alloc, take(&mut table, "hashes"))?;
+        Ok(DistributionFile::new(alloc, name, location, hashes)?)
     }
 }

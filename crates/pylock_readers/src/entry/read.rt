@@ -8,9 +8,9 @@ ghost use Rattle.pylock_readers.specs.Entry.Reading.{toml_value};
 
 use crate::conditions::Conditions;
 use crate::entry::Entry;
-use crate::entry::sources::{Sources, refusal};
+use crate::entry::sources::Sources;
 use crate::error::{EntryError, EntryKey};
-use crate::field::{into_name, optional_text, take};
+use crate::field::{into_name, optional, optional_text, or_refused, take};
 use pymark_core::Marker;
 use pyver_core::SpecifierSet;
 use std::alloc::Global;
@@ -81,20 +81,14 @@ fn read_name(alloc: Global, field: Option<Value>) -> Result<String, EntryError>
     ensures { Gives EntryError.Memory string_bytes result (name_in (option_map view field)) }
 {
     let value = field.ok_or(EntryError::Name)?;
-    match into_name(alloc, value) {
-        Ok(name) => Ok(name),
-        Err(fault) => Err(refusal(fault, EntryError::Name)),
-    }
+    or_refused(EntryError::Name, into_name(alloc, value))
 }
 
 fn read_version(field: Option<Value>) -> Result<Option<String>, EntryError>
     ensures { Gives EntryError.Memory (option_map string_bytes) result
         (version_in (option_map view field)) }
 {
-    match optional_text(field) {
-        Ok(version) => Ok(version),
-        Err(fault) => Err(refusal(fault, EntryError::Key(EntryKey::Version))),
-    }
+    or_refused(EntryError::Key(EntryKey::Version), optional_text(field))
 }
 
 fn read_marker(
@@ -105,13 +99,8 @@ fn read_marker(
     ensures { Gives EntryError.Memory (λ m. m) result
         (marker_in (option_map view field)) }
 {
-    match field {
-        None => Ok(None),
-        Some(value) => match conditions.markers.read(alloc, value) {
-            Ok(marker) => Ok(Some(marker)),
-            Err(fault) => Err(refusal(fault, EntryError::Marker)),
-        },
-    }
+    let read = |value| conditions.markers.read(alloc, value);
+    or_refused(EntryError::Marker, optional(field, read))
 }
 
 fn read_requires_python(
@@ -122,11 +111,6 @@ fn read_requires_python(
     ensures { Gives EntryError.Memory (option_map (λ s. s.value)) result
         (requires_python_in (option_map view field)) }
 {
-    match field {
-        None => Ok(None),
-        Some(value) => match conditions.sets.read(alloc, value) {
-            Ok(set) => Ok(Some(set)),
-            Err(fault) => Err(refusal(fault, EntryError::RequiresPython)),
-        },
-    }
+    let read = |value| conditions.sets.read(alloc, value);
+    or_refused(EntryError::RequiresPython, optional(field, read))
 }

@@ -1,13 +1,13 @@
 //! Sources under version control.
 ghost use Rattle.std.specs.Prelude.{◌≡◌};
 ghost use Rattle.std.specs.Option.{option_copied};
-ghost use Rattle.toml.specs.View.{view};
-ghost use Rattle.pyver_core.specs.Agreement.{Gives};
 ghost use Rattle.pylock_readers.specs.Entry.{place_of};
 ghost use Rattle.pylock_readers.specs.Entry.Sources.{vcs_of};
 
 use crate::entry::location::Location;
+use crate::entry::sources::Source;
 use crate::field::{FieldError, into_table, optional_text, take, text};
+use std::alloc::Global;
 use std::marker::Model;
 use toml::Value;
 
@@ -86,11 +86,13 @@ impl Vcs {
     {
         self.subdirectory.as_deref()
     }
+}
 
-    #[tactic(auto, using(crate::proofs::kept), unfolding(crate::specs::Entry::Sources::vcs_of))]
-    pub(crate) fn read(value: Value) -> Result<Vcs, FieldError>
-        ensures { Gives FieldError.Memory (λ v. v) result (vcs_of (view value)) }
-    {
+#[tactic(auto, using(crate::proofs::kept), unfolding(crate::specs::Entry::Sources::vcs_of))]
+impl Source for Vcs {
+    ghost form = { vcs_of };
+
+    fn read(_alloc: Global, value: Value) -> Result<Vcs, FieldError> {
         let mut table = into_table(value)?;
         let kind = text(take(&mut table, "type"))?;
         let commit_id = text(take(&mut table, "commit-id"))?;

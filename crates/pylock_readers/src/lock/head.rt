@@ -5,13 +5,13 @@ ghost use Rattle.toml.specs.Data.{get_member};
 ghost use Rattle.toml.specs.View.{view, items_view, table_view};
 ghost use Rattle.pyver_core.specs.Agreement.{Gives};
 ghost use Rattle.pylock_readers.specs.Entry.Fields.{each, marker_field, name_of, set_field};
-ghost use Rattle.pylock_readers.specs.Lock.Head.{lock_refusal, names_in, markers_in};
+ghost use Rattle.pylock_readers.specs.Lock.Head.{names_in, markers_in};
 ghost use Rattle.pylock_readers.specs.Lock.Head.{environments_in};
 ghost use Rattle.pylock_readers.specs.Lock.Head.{head_requires_python_in, head_names_in, head_in};
 
 use crate::conditions::{read_marker, read_set};
 use crate::error::{HeadKey, LockError};
-use crate::field::{FieldError, into_name, into_text, items, take};
+use crate::field::{FieldError, into_name, into_text, items, optional, or_refused, take};
 use crate::lock::names::HeadNames;
 use pymark_core::Marker;
 use pyver_core::SpecifierSet;
@@ -126,10 +126,8 @@ fn read_environments(alloc: Global, field: Option<Value>) -> Result<Vec<Marker>,
     ensures { Gives LockError.Memory (λ v. v.items) result
         (environments_in (option_map view field)) }
 {
-    match environment_markers(alloc, field) {
-        Ok(markers) => Ok(markers),
-        Err(fault) => Err(refusal(fault, LockError::Head(HeadKey::Environments))),
-    }
+    let markers = environment_markers(alloc, field);
+    or_refused(LockError::Head(HeadKey::Environments), markers)
 }
 
 fn environment_markers(alloc: Global, field: Option<Value>) -> Result<Vec<Marker>, FieldError>
@@ -164,13 +162,8 @@ fn read_requires_python(
     ensures { Gives LockError.Memory (λ s. s) result
         (head_requires_python_in (option_map view field)) }
 {
-    match field {
-        None => Ok(None),
-        Some(value) => match set(alloc, value) {
-            Ok(set) => Ok(Some(set)),
-            Err(fault) => Err(refusal(fault, LockError::Head(HeadKey::RequiresPython))),
-        },
-    }
+    let set = optional(field, |value| set(alloc, value));
+    or_refused(LockError::Head(HeadKey::RequiresPython), set)
 }
 
 fn set(alloc: Global, value: Value) -> Result<SpecifierSet, FieldError>
@@ -189,10 +182,7 @@ fn read_head_names(
     ensures { Gives LockError.Memory (λ names. names) result
         (head_names_in key (option_map view field)) }
 {
-    match names(alloc, field) {
-        Ok(names) => Ok(names),
-        Err(fault) => Err(refusal(fault, LockError::Head(key))),
-    }
+    or_refused(LockError::Head(key), names(alloc, field))
 }
 
 fn names(alloc: Global, field: Option<Value>) -> Result<HeadNames, FieldError>
@@ -212,14 +202,4 @@ fn read_names(alloc: Global, values: Vec<Value>) -> Result<Vec<String>, FieldErr
         names.push(into_name(alloc, value)?)?;
     }
     Ok(names)
-}
-
-/// The refusal of a lock for a field that was not read.
-pub(crate) fn refusal(fault: FieldError, wrong: LockError) -> LockError
-    ensures { result ≡ lock_refusal wrong fault }
-{
-    match fault {
-        FieldError::Wrong => wrong,
-        FieldError::Memory => LockError::Memory,
-    }
 }

@@ -10,9 +10,9 @@ ghost use Rattle.pylock_readers.specs.Lock.Head.{lock_version_in};
 ghost use Rattle.pylock_readers.specs.Lock.Reading.{document_of, lock_in, lock_of};
 
 use crate::error::LockError;
-use crate::field::{take, text};
+use crate::field::{or_refused, take, text};
 use crate::lock::Lock;
-use crate::lock::head::{Head, refusal};
+use crate::lock::head::Head;
 use crate::lock::packages::read_packages;
 use crate::text::as_text;
 use std::alloc::Global;
@@ -61,10 +61,11 @@ fn require_lock_version(field: Option<Value>) -> Result<(), LockError>
     ensures { Gives LockError.Memory (λ u. u) result
         (lock_version_in (option_map view field)) }
 {
-    match text(field) {
-        Ok(version) if is_lock_version(version.as_str()) => Ok(()),
-        Ok(_) => Err(LockError::LockVersion),
-        Err(fault) => Err(refusal(fault, LockError::LockVersion)),
+    let version = or_refused(LockError::LockVersion, text(field))?;
+    if is_lock_version(version.as_str()) {
+        Ok(())
+    } else {
+        Err(LockError::LockVersion)
     }
 }
 
@@ -94,8 +95,6 @@ fn require_creator(field: Option<Value>) -> Result<(), LockError>
     ensures { Gives LockError.Memory (λ u. u) result
         (created_by_in (option_map view field)) }
 {
-    match text(field) {
-        Ok(_) => Ok(()),
-        Err(fault) => Err(refusal(fault, LockError::CreatedBy)),
-    }
+    let _creator = or_refused(LockError::CreatedBy, text(field))?;
+    Ok(())
 }
