@@ -8,3 +8,4 @@ pub mod EntryLemmas
 mod DistinctLemmas
 mod TextLemmas
 mod VariableLemmas
+pub mod Memory
