@@ -3,7 +3,7 @@ ghost use Rattle.std.specs.Prelude.{◌≡◌};
 ghost use Rattle.std.specs.Option.{option_copied};
 ghost use Rattle.pylock_readers.specs.Entry.{place_of};
 ghost use Rattle.pylock_readers.specs.Entry.Sources.{archive_of};
-ghost use Rattle.pylock_readers.specs.Inner.Strings.{text_pairs};
+ghost use Rattle.pylock_readers.specs.Text.{text_pairs};
 
 use crate::entry::hashes::hashes;
 use crate::entry::location::Location;
@@ -23,7 +23,7 @@ pub struct Archive {
 impl Model for Archive {
     ghost use Rattle.std.specs.Prelude.{option_map, string_bytes};
     ghost use Rattle.pylock_readers.specs.Entry.{ArchiveValue};
-    ghost use Rattle.pylock_readers.specs.Inner.Strings.{text_pairs};
+    ghost use Rattle.pylock_readers.specs.Text.{text_pairs};
 
     ghost Value = { ArchiveValue };
 

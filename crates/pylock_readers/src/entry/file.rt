@@ -3,7 +3,7 @@ ghost use Rattle.std.specs.Prelude.{◌≡◌, option_map, string_bytes, IfOk};
 ghost use Rattle.std.specs.Option.{option_copied};
 ghost use Rattle.pylock_readers.specs.Entry.{file_name, place_of};
 ghost use Rattle.pylock_readers.specs.Entry.Sources.{file_of};
-ghost use Rattle.pylock_readers.specs.Inner.Strings.{text_pairs};
+ghost use Rattle.pylock_readers.specs.Text.{text_pairs};
 
 use crate::entry::file_name::file_name;
 use crate::entry::hashes::hashes;
@@ -32,7 +32,7 @@ impl Model for DistributionFile {
     ghost use Rattle.std.specs.Prelude.{◌≡◌, option_map, string_bytes};
     ghost use Rattle.pylock_readers.specs.Entry.{FileValue};
     ghost use Rattle.pylock_readers.specs.Entry.FileName.{file_name_of};
-    ghost use Rattle.pylock_readers.specs.Inner.Strings.{text_pairs};
+    ghost use Rattle.pylock_readers.specs.Text.{text_pairs};
 
     ghost Value = { FileValue };
 
