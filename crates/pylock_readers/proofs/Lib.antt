@@ -1,3 +1,4 @@
+pub use Rattle.pylock_readers.proofs.TableLemmas.{kept}
 mod FileNameLemmas
 pub mod NameLemmas
 mod TableLemmas
@@ -7,3 +8,4 @@ pub mod EntryLemmas
 mod DistinctLemmas
 mod TextLemmas
 mod VariableLemmas
+pub mod Memory

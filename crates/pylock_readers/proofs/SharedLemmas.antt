@@ -9,7 +9,7 @@ use Rattle.std.specs.Map.{lookup}
 use Rattle.std.specs.Ordering.{match_ordering}
 use Rattle.std.specs.Result.{result_ok}
 use Rattle.std.specs.String.{string_cmp}
-use Rattle.pylock_readers.specs.Entry.Fields.{formed}
+use Rattle.pylock_readers.specs.Entry.Fields.{or_refused}
 use Rattle.pylock_readers.specs.declared.field.FieldError.{FieldError}
 use Rattle.pylock_readers.specs.Inner.Shared.{AllRead}
 use Rattle.pylock_readers.proofs.TableLemmas.{same_key_is}
@@ -31,14 +31,14 @@ pub lent_read : {X V E : Type 0} (read : List ℕ → Result V E) (view : X → 
 lent_read read view text None es all is = tt
 lent_read read view text (Some x) es all is = found_read read view text x.now es all (sym is)
 
--- what is read as its form says is what it was read as
-pub formed_ok : {V E : Type 0} (read : Result V E) (x : V) → formed read ≡ Ok x → read ≡ Ok x
-formed_ok {V = V} (Ok y) x is = ap Ok (ap value is)
+-- what isn't refused is what it was read as
+pub not_refused : {V E : Type 0} (refusal : FieldError) (read : Result V E) (x : V) → or_refused refusal read ≡ Ok x → read ≡ Ok x
+not_refused {V = V} refusal (Ok y) x is = ap Ok (ap value is)
   where
     value : Result V FieldError → V
     value (Ok x) = x
     value (Err e) = y
-formed_ok (Err e) x is = absurd (none-some x (ap result_ok is))
+not_refused refusal (Err e) x is = absurd (none-some x (ap result_ok is))
 
 -- a table that gained what its text is read as
 pub gains_read : {X V E : Type 0} (read : List ℕ → Result V E) (view : X → V) (k : String Global) (x : X) (es : List (String Global × X))

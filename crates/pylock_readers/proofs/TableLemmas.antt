@@ -1,17 +1,18 @@
 -- Lemmas on tables of a TOML document, out of which values are taken.
-use Rattle.std.proofs.Common.{◌≡◌, ◌∙◌, ℕ, true, false, List, [], ◌∷◌, Option, Some, Ordering, Less, Equal, Greater, String, Global, string_bytes, nat_cmp, is_eq, option_map, cond, refl, ap, sym}
-use Rattle.std.proofs.Math.Logic.{⊎_elim}
+use Rattle.std.proofs.Common.{◌≡◌, ◌∙◌, ℕ, Bool, true, false, List, [], ◌∷◌, Option, Some, None, Ordering, Less, Equal, Greater, String, Global, string_bytes, nat_cmp, is_eq, option_map, refl, ap, sym, inl, inr}
 use Rattle.std.proofs.lemmas.Bool.{cases_Bool, cond-true, cond-false, false≢true}
 use Rattle.std.proofs.lemmas.Map.Text.{is_eq-slice_cmp}
+use Rattle.std.proofs.lemmas.Option.{none-some}
 use Rattle.std.proofs.lemmas.Slice.Eq.{bytes_eq-Decides}
 use Rattle.std.specs.BTreeMap.{is_at}
 use Rattle.std.specs.Cmp.Lexicographic.{slice_cmp}
 use Rattle.std.specs.Map.{lookup, set_value}
 use Rattle.std.specs.Ordering.{match_ordering}
-use Rattle.toml.proofs.Views.{view-lookup}
-use Rattle.toml.specs.Data.{get_member, same_key}
+use Rattle.toml.proofs.Views.{view-Boolean, view-lookup}
+use Rattle.toml.specs.Data.{Members, no_members, member, boolean, get_member, same_key}
 use Rattle.toml.specs.View.{view, members_view}
-use Rattle.toml.specs.declared.value.Value.{Value}
+use Rattle.toml.specs.declared.value.Value.{Value, Boolean}
+use Rattle.pylock_readers.specs.Inner.Taken.{without}
 
 -- the value that was taken out of a table is the member of the key
 pub taken_member : (taken : Option Value) (key : List ℕ) (es : List (String Global × Value))
@@ -29,40 +30,40 @@ same_both Less x y other = refl
 same_both Equal x y other = absurd (false≢true (sym other))
 same_both Greater x y other = refl
 
--- a table whose first entry may have got another value, seen where the key that is looked up isn't the one written at
-past_written : (other key : List ℕ) (w : Value) (e : String Global × Value) (es left : List (String Global × Value))
-    → same_key other key ≡ false → get_member other (members_view left) ≡ get_member other (members_view es)
-    → get_member other (members_view (cond (same_key key (string_bytes e.0)) ((e.0, w) ∷ es) (e ∷ left)))
-    ≡ get_member other (members_view (e ∷ es))
-past_written other key w e es left differs same =
-    ⊎_elim here there (cases_Bool (same_key key (string_bytes e.0)))
-  where
-    order : Ordering
-    order = slice_cmp nat_cmp other (string_bytes e.0)
+-- a look-up that finds nothing changes nothing
+set_none : {K X : Type 0} (test : K → Bool) (es : List (K × X)) (w : X) → lookup test es ≡ None → set_value test es w ≡ es
+set_none test [] w none = refl
+set_none test (e ∷ es) w none =
+    elim (cases_Bool (test e.0)) [
+      | inl found ↦ absurd (none-some e.1 (sym none ∙ cond-true _ _ _ found))
+      | inr other ↦ rw other (ap (λ rest. e ∷ rest) (set_none test es w (sym (cond-false _ _ _ other) ∙ none)))
+    ]
 
-    apart_from : same_key key (string_bytes e.0) ≡ true → is_eq order ≡ false
-    apart_from tie = ap (λ k. same_key other k) (sym (same_key_is key (string_bytes e.0) tie)) ∙ differs
+-- what is left where a value was taken out
+pub left_behind : (key : List ℕ) (es : List (String Global × Value))
+    → members_view (set_value (is_at (λ k. slice_cmp nat_cmp key (string_bytes k))) es (Boolean false)) ≡ without key (members_view es)
+unfolding without
+left_behind key [] = refl
+left_behind key (e ∷ es) =
+    elim (cases_Bool (same_key key (string_bytes e.0))) [
+      | inl same ↦ rw (same, view-Boolean)
+      | inr other ↦ rw (other, left_behind key es)
+    ]
 
-    here : same_key key (string_bytes e.0) ≡ true
-        → get_member other (members_view (cond (same_key key (string_bytes e.0)) ((e.0, w) ∷ es) (e ∷ left)))
-        ≡ get_member other (members_view (e ∷ es))
-    here tie =
-        ap (λ rest. get_member other (members_view rest)) (cond-true _ ((e.0, w) ∷ es) (e ∷ left) tie)
-        ∙ same_both order (get_member other (members_view es)) (Some (view w)) (apart_from tie)
-        ∙ sym (same_both order (get_member other (members_view es)) (Some (view e.1)) (apart_from tie))
+-- the same where there was none
+pub nothing_left : (key : List ℕ) (es : List (String Global × Value)) → lookup (is_at (λ k. slice_cmp nat_cmp key (string_bytes k))) es ≡ None
+    → members_view es ≡ without key (members_view es)
+nothing_left key es none = ap members_view (sym (set_none (is_at (λ k. slice_cmp nat_cmp key (string_bytes k))) es (Boolean false) none)) ∙ left_behind key es
 
-    there : same_key key (string_bytes e.0) ≡ false
-        → get_member other (members_view (cond (same_key key (string_bytes e.0)) ((e.0, w) ∷ es) (e ∷ left)))
-        ≡ get_member other (members_view (e ∷ es))
-    there apart =
-        ap (λ rest. get_member other (members_view rest)) (cond-false _ ((e.0, w) ∷ es) (e ∷ left) apart)
-        ∙ ap (λ rest. match_ordering order rest (Some (view e.1)) rest) same
-
--- a look-up of a key that isn't the one written at finds what it found
-pub other_member : (other key : List ℕ) (w : Value) (es : List (String Global × Value)) → same_key other key ≡ false
-    → get_member other (members_view (set_value (is_at (λ k. slice_cmp nat_cmp key (string_bytes k))) es w))
-    ≡ get_member other (members_view es)
-other_member other key w [] differs = refl
-other_member other key w (e ∷ es) differs =
-    past_written other key w e es (set_value (is_at (λ k. slice_cmp nat_cmp key (string_bytes k))) es w) differs
-    (other_member other key w es differs)
+-- the other keys have what they had
+pub kept : (other key : List ℕ) (ms : Members) → same_key other key ≡ false → get_member other (without key ms) ≡ get_member other ms
+unfolding without
+kept other key no_members differs = refl
+kept other key (member k d ms) differs =
+    elim (cases_Bool (same_key key k)) [
+      | inl same ↦
+          let apart : is_eq (slice_cmp nat_cmp other k) ≡ false = ap (same_key other) (sym (same_key_is key k same)) ∙ differs in
+          let there = same_both (slice_cmp nat_cmp other k) (get_member other ms) in
+          rw same (there (Some (boolean false)) apart ∙ sym (there (Some d) apart))
+      | inr apart ↦ rw (apart, kept other key ms differs)
+    ]

@@ -57,12 +57,12 @@ abbrev pub tag_refusal : TagListError → EnvError
 tag_refusal (list.Tag place) = error.Tag place
 tag_refusal list.Memory = error.Memory
 
+abbrev pub from_tags : Result (List TagValue) TagListError → Result (List TagValue) EnvError
+from_tags (Ok tags) = Ok tags
+from_tags (Err e) = Err (tag_refusal e)
+
 abbrev pub listed : List (List ℕ) → Result (List TagValue) EnvError
-listed texts = by (tags_of texts)
-  where
-    by : Result (List TagValue) TagListError → Result (List TagValue) EnvError
-    by (Ok tags) = Ok tags
-    by (Err e) = Err (tag_refusal e)
+listed texts = from_tags (tags_of texts)
 
 -- the environment and the tags of a value; its form is judged before any tag
 unfoldable pub env_in : Data → Result (EnvironmentValue × List TagValue) EnvError

@@ -2,3 +2,4 @@
 pub mod Names
 pub mod Strings
 pub mod Shared
+pub mod Taken

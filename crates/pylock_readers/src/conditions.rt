@@ -5,8 +5,9 @@ ghost use Rattle.toml.specs.View.{view};
 ghost use Rattle.pytext.specs.Agreement.{Gives};
 ghost use Rattle.pyver_core.specs.Parsed.{parsed_set};
 ghost use Rattle.pymark_core.specs.Marker.Reading.{marker_of};
-ghost use Rattle.pylock_readers.specs.Entry.Fields.{formed, marker_field, set_field};
+ghost use Rattle.pylock_readers.specs.Entry.Fields.{marker_field, or_refused, set_field};
 ghost use Rattle.pylock_readers.specs.Inner.Shared.{AllRead};
+ghost use Rattle.pylock_readers.specs.declared.field.FieldError.TheVariants as field;
 
 use crate::field::{FieldError, into_text};
 use pymark_core::{Marker, MarkerError};
@@ -88,7 +89,7 @@ fn shared_marker(
 ) -> Result<Marker, FieldError>
     requires { AllRead marker_of (λ m. m) table.old.entries }
     ensures gives { Gives FieldError.Memory (λ m. m) result
-        (formed (marker_of (string_bytes text))) }
+        (or_refused field.Wrong (marker_of (string_bytes text))) }
     ensures keeps { AllRead marker_of (λ m. m) table.new.entries }
 {
     if let Some(marker) = known_marker(table, text.as_str()) {
@@ -108,7 +109,7 @@ fn known_marker<'a>(table: &'a BTreeMap<String, Marker>, text: &str) -> Option<&
 
 /// The marker of the text.
 pub(crate) fn read_marker(alloc: Global, text: &str) -> Result<Marker, FieldError>
-    ensures { Gives FieldError.Memory (λ m. m) result (formed (marker_of text.now)) }
+    ensures { Gives FieldError.Memory (λ m. m) result (or_refused field.Wrong (marker_of text.now)) }
 {
     match Marker::parse(alloc, text) {
         Ok(marker) => Ok(marker),
@@ -167,7 +168,7 @@ fn shared_set(
 ) -> Result<Rc<SpecifierSet>, FieldError>
     requires { AllRead parsed_set (λ s. s.value) table.old.entries }
     ensures gives { Gives FieldError.Memory (λ s. s.value) result
-        (formed (parsed_set (string_bytes text))) }
+        (or_refused field.Wrong (parsed_set (string_bytes text))) }
     ensures keeps { AllRead parsed_set (λ s. s.value) table.new.entries }
 {
     if let Some(set) = known_set(table, text.as_str()) {
@@ -190,7 +191,7 @@ fn known_set<'a>(
 
 /// The set of the text.
 pub(crate) fn read_set(alloc: Global, text: &str) -> Result<SpecifierSet, FieldError>
-    ensures { Gives FieldError.Memory (λ s. s) result (formed (parsed_set text.now)) }
+    ensures { Gives FieldError.Memory (λ s. s) result (or_refused field.Wrong (parsed_set text.now)) }
 {
     match SpecifierSet::parse(alloc, text) {
         Ok(set) => Ok(set),

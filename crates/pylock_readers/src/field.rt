@@ -1,13 +1,16 @@
 //! The fields of a TOML table, taken by value, so that a string of the document moves into the
 //! lock.
-ghost use Rattle.std.specs.Prelude.{◌≡◌, ℕ, List, false, option_map, string_bytes};
-ghost use Rattle.toml.specs.Data.{get_member, same_key};
+ghost use Rattle.std.specs.Prelude.{◌≡◌, ◌⊎◌, Err, IfErr, IfOk, MatchOption};
+ghost use Rattle.std.specs.Prelude.{None, Ok, Some, option_map, string_bytes};
+ghost use Rattle.std.specs.Option.{ForSome, option_transpose};
+ghost use Rattle.toml.specs.Data.{get_member};
 ghost use Rattle.toml.specs.View.{view, items_view, table_view};
 ghost use Rattle.pytext.specs.Agreement.{Gives};
 ghost use Rattle.pylock_readers.specs.declared.field.FieldError.TheVariants as field;
 ghost use Rattle.pylock_readers.specs.Entry.Fields.{required, text_of, members_of, name_of};
 ghost use Rattle.pylock_readers.specs.Entry.Fields.{text_in};
 ghost use Rattle.pylock_readers.specs.Entry.Fields.{optional_text_in, flag_in, items_in};
+ghost use Rattle.pylock_readers.specs.Inner.Taken.{without};
 
 use crate::name::into_normal;
 use pyver_core::is_name;
@@ -36,12 +39,42 @@ impl<E: Into<AllocError> + Drop> From<E> for FieldError {
 /// table that is soon let go would cost more.
 pub(crate) fn take(table: &mut Table, key: &str) -> Option<Value>
     ensures taken { option_map view result ≡ get_member key.now (table_view table.old) }
-    ensures others { (other : List ℕ) → same_key other key.now ≡ false
-        → get_member other (table_view table.new) ≡ get_member other (table_view table.old) }
+    ensures left { table_view table.new ≡ without key.now (table_view table.old) }
 {
     match table.get_mut(key) {
         Some(value) => Some(mem::replace(value, Value::Boolean(false))),
         None => None,
+    }
+}
+
+/// What was read, where this is the refusal of what is not of its form.
+pub(crate) fn or_refused<T, E: From<AllocError> + Drop>(
+    wrong: E,
+    read: Result<T, FieldError>,
+) -> Result<T, E>
+    ensures ok { IfOk result (λ x. read ≡ Ok x) }
+    ensures err { IfErr result (λ e. ((read ≡ Err field.Wrong) × (e ≡ wrong))
+        ⊎ ((a : _) × E.from_gives a e)) }
+{
+    match read {
+        Ok(value) => Ok(value),
+        Err(FieldError::Wrong) => Err(wrong),
+        Err(FieldError::Memory) => Err(E::from(AllocError)),
+    }
+}
+
+/// A field that may be absent.
+pub(crate) fn optional<T, F: FnOnce(Value) -> Result<T, FieldError>>(
+    field: Option<Value>,
+    read: F,
+) -> Result<Option<T>, FieldError>
+    requires { ForSome field (F.pre read) }
+    ensures { MatchOption field (result ≡ Ok None)
+        (λ value. (given : _) × F.post read value given × (result ≡ option_transpose (Some given))) }
+{
+    match field {
+        None => Ok(None),
+        Some(value) => Ok(Some(read(value)?)),
     }
 }
 
@@ -95,10 +128,7 @@ pub(crate) fn optional_text(field: Option<Value>) -> Result<Option<String>, Fiel
     ensures { Gives FieldError.Memory (option_map string_bytes) result
         (optional_text_in (option_map view field)) }
 {
-    match field {
-        None => Ok(None),
-        Some(value) => Ok(Some(into_text(value)?)),
-    }
+    optional(field, into_text)
 }
 
 /// A boolean, which is false where it is absent.

@@ -7,6 +7,7 @@ mod entry;
 mod environment;
 mod error;
 mod field;
+pub mod laws;
 mod lock;
 mod name;
 mod text;

@@ -11,10 +11,10 @@ use Rattle.pyver_core.specs.Name.{is_name, norm}
 use Rattle.pylock_readers.specs.declared.field.FieldError.{FieldError}
 use Rattle.pylock_readers.specs.declared.field.FieldError.TheVariants.{Wrong}
 
--- what another definition gives; all its refusals are one here
-abbrev pub formed : {V E : Type 0} → Result V E → Result V FieldError
-formed (Ok x) = Ok x
-formed (Err e) = Err Wrong
+-- what another definition gives; all its refusals are this one here
+abbrev pub or_refused : {V D E : Type 0} → E → Result V D → Result V E
+or_refused wrong (Ok x) = Ok x
+or_refused wrong (Err e) = Err wrong
 
 -- the test holds
 abbrev pub required : Bool → Result ⊤ FieldError
@@ -54,10 +54,10 @@ abbrev pub name_of : Data → Result (List ℕ) FieldError
 name_of d = text_of d >>= (λ text. if is_name text then Ok (norm text) else Err Wrong)
 
 abbrev pub marker_field : Data → Result MarkerValue FieldError
-marker_field d = text_of d >>= (λ text. formed (marker_of text))
+marker_field d = text_of d >>= (λ text. or_refused Wrong (marker_of text))
 
 abbrev pub set_field : Data → Result (List Specifier) FieldError
-set_field d = text_of d >>= (λ text. formed (parsed_set text))
+set_field d = text_of d >>= (λ text. or_refused Wrong (parsed_set text))
 
 -- ---- fields with a form
 

@@ -1,6 +1,6 @@
 -- The reading of an entry (PEP 751, `packages`): its keys in order; the first that isn't of its
 -- form is the entry's refusal.
-use Rattle.std.specs.Prelude.{ℕ, codes, List, Option, ok_or, Result, Ok, Err}
+use Rattle.std.specs.Prelude.{ℕ, codes, List, Option, ok_or, Result, Ok}
 use Rattle.toml.specs.Data.{Data, Members, get_member, as_table}
 use Rattle.toml.specs.Parse.{parse_value}
 use Rattle.pytext.specs.Results.{◌>>=◌}
@@ -9,23 +9,13 @@ use Rattle.pymark_core.specs.Marker.Reading.{MarkerValue}
 use Rattle.pylock_readers.specs.Entry.{VcsValue, DirectoryValue, ArchiveValue, FileValue}
 use Rattle.pylock_readers.specs.Entry.{EntryValue}
 use Rattle.pylock_readers.specs.Entry.Fields.{present_in, optional, name_of, optional_text_in}
-use Rattle.pylock_readers.specs.Entry.Fields.{marker_field, set_field}
+use Rattle.pylock_readers.specs.Entry.Fields.{marker_field, or_refused, set_field}
 use Rattle.pylock_readers.specs.Entry.Sources.{vcs_of, directory_of, archive_of, file_of, files_in}
 use Rattle.pylock_readers.specs.declared.field.FieldError.{FieldError}
-use Rattle.pylock_readers.specs.declared.field.FieldError.TheVariants as field
 use Rattle.pylock_readers.specs.declared.error.EntryError.{EntryError}
 use Rattle.pylock_readers.specs.declared.error.EntryError.TheVariants as error
+use Rattle.pylock_readers.specs.declared.error.EntryKey.{EntryKey}
 use Rattle.pylock_readers.specs.declared.error.EntryKey.TheVariants as key
-
--- the entry's refusal for a field that has this one
-abbrev pub refusal_for : EntryError → FieldError → EntryError
-refusal_for wrong field.Wrong = wrong
-refusal_for wrong field.Memory = error.Memory
-
--- a field of an entry, where this is the entry's refusal
-abbrev pub or_refused : {V : Type 0} → EntryError → Result V FieldError → Result V EntryError
-or_refused wrong (Ok x) = Ok x
-or_refused wrong (Err e) = Err (refusal_for wrong e)
 
 -- ---- the sources
 
@@ -36,17 +26,10 @@ pub record SourcesValue : Type 0 where
   pub sdist : Option FileValue
   pub wheels : List FileValue
 
-abbrev pub vcs_in : Option Data → Result (Option VcsValue) EntryError
-vcs_in field = or_refused (error.Key key.Vcs) (optional vcs_of field)
-
-abbrev pub directory_in : Option Data → Result (Option DirectoryValue) EntryError
-directory_in field = or_refused (error.Key key.Directory) (optional directory_of field)
-
-abbrev pub archive_in : Option Data → Result (Option ArchiveValue) EntryError
-archive_in field = or_refused (error.Key key.Archive) (optional archive_of field)
-
-abbrev pub sdist_in : Option Data → Result (Option FileValue) EntryError
-sdist_in field = or_refused (error.Key key.Sdist) (optional file_of field)
+-- a key for a source of this form
+abbrev pub source_in : {V : Type 0} → EntryKey → (Data → Result V FieldError) → Option Data
+    → Result (Option V) EntryError
+source_in key form field = or_refused (error.Key key) (optional form field)
 
 abbrev pub wheels_in : Option Data → Result (List FileValue) EntryError
 wheels_in field = or_refused (error.Key key.Wheels) (files_in field)
@@ -54,10 +37,10 @@ wheels_in field = or_refused (error.Key key.Wheels) (files_in field)
 unfoldable pub sources_in : (vcs directory archive sdist wheels : Option Data)
     → Result SourcesValue EntryError
 sources_in vcs directory archive sdist wheels = do
-  vcs ← vcs_in vcs
-  directory ← directory_in directory
-  archive ← archive_in archive
-  sdist ← sdist_in sdist
+  vcs ← source_in key.Vcs vcs_of vcs
+  directory ← source_in key.Directory directory_of directory
+  archive ← source_in key.Archive archive_of archive
+  sdist ← source_in key.Sdist file_of sdist
   wheels ← wheels_in wheels
   Ok (record {
     vcs = vcs;

@@ -1,6 +1,6 @@
 -- The head of a lock (PEP 751): its keys in order; the first that isn't of its form is the refusal.
 use Rattle.std.specs.Prelude.{ℕ, Bool, not, ◌&&◌, codes, nat_eq, List, [], ◌∷◌, drop, filter}
-use Rattle.std.specs.Prelude.{Option, Result, Ok, Err, ⊤}
+use Rattle.std.specs.Prelude.{Option, Result, Ok, ⊤}
 use Rattle.std.specs.List.{starts_with}
 use Rattle.std.specs.Str.{bytes_eq}
 use Rattle.toml.specs.Data.{Data}
@@ -10,25 +10,14 @@ use Rattle.pyver_core.specs.declared.set.specifier.Specifier.{Specifier}
 use Rattle.pymark_core.specs.Marker.Reading.{MarkerValue}
 use Rattle.pylock_readers.specs.Lock.{HeadValue}
 use Rattle.pylock_readers.specs.Entry.Fields.{required, optional, each, text_in, items_in, name_of}
-use Rattle.pylock_readers.specs.Entry.Fields.{marker_field, set_field}
+use Rattle.pylock_readers.specs.Entry.Fields.{marker_field, or_refused, set_field}
 use Rattle.pylock_readers.specs.declared.field.FieldError.{FieldError}
-use Rattle.pylock_readers.specs.declared.field.FieldError.TheVariants as field
 use Rattle.pylock_readers.specs.declared.error.LockError.{LockError}
 use Rattle.pylock_readers.specs.declared.error.LockError.TheVariants as error
 use Rattle.pylock_readers.specs.declared.error.HeadKey.{HeadKey}
 use Rattle.pylock_readers.specs.declared.error.HeadKey.TheVariants.{Environments, RequiresPython}
 use Rattle.pylock_readers.specs.declared.error.HeadKey.TheVariants.{Extras, DependencyGroups}
 use Rattle.pylock_readers.specs.declared.error.HeadKey.TheVariants.{DefaultGroups}
-
--- the lock's refusal for a field that has this one
-abbrev pub lock_refusal : LockError → FieldError → LockError
-lock_refusal wrong field.Wrong = wrong
-lock_refusal wrong field.Memory = error.Memory
-
--- a field of a lock, where this is the lock's refusal
-abbrev pub or_lock_refused : {V : Type 0} → LockError → Result V FieldError → Result V LockError
-or_lock_refused wrong (Ok x) = Ok x
-or_lock_refused wrong (Err e) = Err (lock_refusal wrong e)
 
 -- ---- the version of the lock and its maker
 
@@ -38,10 +27,10 @@ is_lock_version text = starts_with nat_eq text (codes "1.") && is_number (drop 2
 
 abbrev pub lock_version_in : Option Data → Result ⊤ LockError
 lock_version_in field =
-    or_lock_refused error.LockVersion (text_in field >>= (λ text. required (is_lock_version text)))
+    or_refused error.LockVersion (text_in field >>= (λ text. required (is_lock_version text)))
 
 abbrev pub created_by_in : Option Data → Result ⊤ LockError
-created_by_in field = or_lock_refused error.CreatedBy (text_in field >>= (λ text. Ok tt))
+created_by_in field = or_refused error.CreatedBy (text_in field >>= (λ text. Ok tt))
 
 -- ---- the optional keys
 
@@ -59,14 +48,14 @@ abbrev pub markers_in : Option Data → Result (List MarkerValue) FieldError
 markers_in field = items_in field >>= each marker_field
 
 abbrev pub environments_in : Option Data → Result (List MarkerValue) LockError
-environments_in field = or_lock_refused (error.Head Environments) (markers_in field)
+environments_in field = or_refused (error.Head Environments) (markers_in field)
 
 abbrev pub head_requires_python_in : Option Data → Result (Option (List Specifier)) LockError
 head_requires_python_in field =
-    or_lock_refused (error.Head RequiresPython) (optional set_field field)
+    or_refused (error.Head RequiresPython) (optional set_field field)
 
 abbrev pub head_names_in : HeadKey → Option Data → Result (List (List ℕ)) LockError
-head_names_in key field = or_lock_refused (error.Head key) (names_in field)
+head_names_in key field = or_refused (error.Head key) (names_in field)
 
 unfoldable pub head_in : (environments requires_python extras groups default_groups : Option Data)
     → Result HeadValue LockError

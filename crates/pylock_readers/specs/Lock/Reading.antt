@@ -6,10 +6,10 @@ use Rattle.toml.specs.Data.{Data, Items, no_items, item, Members, get_member}
 use Rattle.toml.specs.Parse.{parse_document}
 use Rattle.pytext.specs.Results.{◌>>=◌}
 use Rattle.pylock_readers.specs.Entry.{EntryValue}
-use Rattle.pylock_readers.specs.Entry.Fields.{items_in}
+use Rattle.pylock_readers.specs.Entry.Fields.{items_in, or_refused}
 use Rattle.pylock_readers.specs.Entry.Reading.{entry_in}
 use Rattle.pylock_readers.specs.Lock.{LockValue}
-use Rattle.pylock_readers.specs.Lock.Head.{or_lock_refused, lock_version_in, created_by_in, head_in}
+use Rattle.pylock_readers.specs.Lock.Head.{lock_version_in, created_by_in, head_in}
 use Rattle.pylock_readers.specs.Text.{utf8_text}
 use Rattle.pylock_readers.specs.declared.error.EntryError.{EntryError}
 use Rattle.pylock_readers.specs.declared.error.LockError.{LockError}
@@ -40,7 +40,7 @@ count no_items = 0
 count (item d ds) = suc (count ds)
 
 abbrev pub packages_in : Option Data → Result Items LockError
-packages_in field = or_lock_refused Packages (items_in field)
+packages_in field = or_refused Packages (items_in field)
 
 abbrev pub room_for : Items → Result ⊤ LockError
 room_for items = if nat_lt most_entries (count items) then Err TooMany else Ok tt

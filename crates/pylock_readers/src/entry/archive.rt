@@ -1,19 +1,17 @@
 //! Archives.
-ghost use Rattle.std.specs.Prelude.{◌≡◌, codes, option_map};
+ghost use Rattle.std.specs.Prelude.{◌≡◌};
 ghost use Rattle.std.specs.Option.{option_copied};
-ghost use Rattle.toml.specs.Data.{get_member};
-ghost use Rattle.toml.specs.View.{view, table_view};
-ghost use Rattle.pytext.specs.Agreement.{Gives};
 ghost use Rattle.pylock_readers.specs.Entry.{place_of};
 ghost use Rattle.pylock_readers.specs.Entry.Sources.{archive_of};
-ghost use Rattle.pylock_readers.specs.Inner.Strings.{text_pairs};
+ghost use Rattle.pylock_readers.specs.Text.{text_pairs};
 
 use crate::entry::hashes::hashes;
 use crate::entry::location::Location;
+use crate::entry::sources::Source;
 use crate::field::{FieldError, into_table, optional_text, take};
 use std::alloc::Global;
 use std::marker::Model;
-use toml::{Table, Value};
+use toml::Value;
 
 /// An archive to install from (PEP 751, `packages.archive`).
 pub struct Archive {
@@ -25,7 +23,7 @@ pub struct Archive {
 impl Model for Archive {
     ghost use Rattle.std.specs.Prelude.{option_map, string_bytes};
     ghost use Rattle.pylock_readers.specs.Entry.{ArchiveValue};
-    ghost use Rattle.pylock_readers.specs.Inner.Strings.{text_pairs};
+    ghost use Rattle.pylock_readers.specs.Text.{text_pairs};
 
     ghost Value = { ArchiveValue };
 
@@ -81,44 +79,21 @@ impl Archive {
     {
         self.subdirectory.as_deref()
     }
+}
 
-    #[tactic(auto, unfolding(crate::specs::Entry::Sources::archive_of))]
-    pub(crate) fn read(alloc: Global, value: Value) -> Result<Archive, FieldError>
-        ensures { Gives FieldError.Memory (λ a. a) result (archive_of (view value)) }
-    {
-        let fields = take_fields(into_table(value)?);
-        let location = Location::read(fields.url, fields.path)?;
-        let hashes = hashes(alloc, fields.hashes)?;
-        let subdirectory = optional_text(fields.subdirectory)?;
+#[tactic(auto, using(crate::proofs::kept), unfolding(crate::specs::Entry::Sources::archive_of))]
+impl Source for Archive {
+    ghost form = { archive_of };
+
+    fn read(alloc: Global, value: Value) -> Result<Archive, FieldError> {
+        let mut table = into_table(value)?;
+        let location = Location::read(take(&mut table, "url"), take(&mut table, "path"))?;
+        let hashes = hashes(alloc, take(&mut table, "hashes"))?;
+        let subdirectory = optional_text(take(&mut table, "subdirectory"))?;
         Ok(Archive {
             location,
             hashes,
             subdirectory,
         })
-    }
-}
-
-/// The values of the keys, out of the table that is let go.
-#[derive(Drop)]
-struct Fields {
-    url: Option<Value>,
-    path: Option<Value>,
-    hashes: Option<Value>,
-    subdirectory: Option<Value>,
-}
-
-fn take_fields(mut table: Table) -> Fields
-    ensures url { option_map view result.url ≡ get_member (codes "url") (table_view table) }
-    ensures path { option_map view result.path ≡ get_member (codes "path") (table_view table) }
-    ensures hashes { option_map view result.hashes
-        ≡ get_member (codes "hashes") (table_view table) }
-    ensures subdirectory { option_map view result.subdirectory
-        ≡ get_member (codes "subdirectory") (table_view table) }
-{
-    Fields {
-        url: take(&mut table, "url"),
-        path: take(&mut table, "path"),
-        hashes: take(&mut table, "hashes"),
-        subdirectory: take(&mut table, "subdirectory"),
     }
 }

@@ -1,14 +1,13 @@
 //! Local directories.
-ghost use Rattle.std.specs.Prelude.{◌≡◌, codes, option_map};
+ghost use Rattle.std.specs.Prelude.{◌≡◌};
 ghost use Rattle.std.specs.Option.{option_copied};
-ghost use Rattle.toml.specs.Data.{get_member};
-ghost use Rattle.toml.specs.View.{view, table_view};
-ghost use Rattle.pytext.specs.Agreement.{Gives};
 ghost use Rattle.pylock_readers.specs.Entry.Sources.{directory_of};
 
+use crate::entry::sources::Source;
 use crate::field::{FieldError, flag, into_table, optional_text, take, text};
+use std::alloc::Global;
 use std::marker::Model;
-use toml::{Table, Value};
+use toml::Value;
 
 /// A local directory to install from (PEP 751, `packages.directory`).
 pub struct Directory {
@@ -68,41 +67,21 @@ impl Directory {
     {
         self.subdirectory.as_deref()
     }
+}
 
-    #[tactic(auto, unfolding(crate::specs::Entry::Sources::directory_of))]
-    pub(crate) fn read(value: Value) -> Result<Directory, FieldError>
-        ensures { Gives FieldError.Memory (λ d. d) result (directory_of (view value)) }
-    {
-        let fields = take_fields(into_table(value)?);
-        let path = text(fields.path)?;
-        let editable = flag(fields.editable)?;
-        let subdirectory = optional_text(fields.subdirectory)?;
+#[tactic(auto, using(crate::proofs::kept), unfolding(crate::specs::Entry::Sources::directory_of))]
+impl Source for Directory {
+    ghost form = { directory_of };
+
+    fn read(_alloc: Global, value: Value) -> Result<Directory, FieldError> {
+        let mut table = into_table(value)?;
+        let path = text(take(&mut table, "path"))?;
+        let editable = flag(take(&mut table, "editable"))?;
+        let subdirectory = optional_text(take(&mut table, "subdirectory"))?;
         Ok(Directory {
             path,
             editable,
             subdirectory,
         })
-    }
-}
-
-/// The values of the keys, out of the table that is let go.
-#[derive(Drop)]
-struct Fields {
-    path: Option<Value>,
-    editable: Option<Value>,
-    subdirectory: Option<Value>,
-}
-
-fn take_fields(mut table: Table) -> Fields
-    ensures path { option_map view result.path ≡ get_member (codes "path") (table_view table) }
-    ensures editable { option_map view result.editable
-        ≡ get_member (codes "editable") (table_view table) }
-    ensures subdirectory { option_map view result.subdirectory
-        ≡ get_member (codes "subdirectory") (table_view table) }
-{
-    Fields {
-        path: take(&mut table, "path"),
-        editable: take(&mut table, "editable"),
-        subdirectory: take(&mut table, "subdirectory"),
     }
 }

@@ -1,20 +1,18 @@
 //! Sdists and wheels.
-ghost use Rattle.std.specs.Prelude.{◌≡◌, codes, option_map, string_bytes, IfOk};
+ghost use Rattle.std.specs.Prelude.{◌≡◌, option_map, string_bytes, IfOk};
 ghost use Rattle.std.specs.Option.{option_copied};
-ghost use Rattle.toml.specs.Data.{get_member};
-ghost use Rattle.toml.specs.View.{view, table_view};
-ghost use Rattle.pytext.specs.Agreement.{Gives};
 ghost use Rattle.pylock_readers.specs.Entry.{file_name, place_of};
 ghost use Rattle.pylock_readers.specs.Entry.Sources.{file_of};
-ghost use Rattle.pylock_readers.specs.Inner.Strings.{text_pairs};
+ghost use Rattle.pylock_readers.specs.Text.{text_pairs};
 
 use crate::entry::file_name::file_name;
 use crate::entry::hashes::hashes;
 use crate::entry::location::Location;
+use crate::entry::sources::Source;
 use crate::field::{FieldError, into_table, optional_text, take};
 use std::alloc::{AllocError, Global};
 use std::marker::Model;
-use toml::{Table, Value};
+use toml::Value;
 
 /// An sdist or a wheel to install from (PEP 751, `packages.sdist` and `packages.wheels`).
 pub struct DistributionFile {
@@ -34,7 +32,7 @@ impl Model for DistributionFile {
     ghost use Rattle.std.specs.Prelude.{◌≡◌, option_map, string_bytes};
     ghost use Rattle.pylock_readers.specs.Entry.{FileValue};
     ghost use Rattle.pylock_readers.specs.Entry.FileName.{file_name_of};
-    ghost use Rattle.pylock_readers.specs.Inner.Strings.{text_pairs};
+    ghost use Rattle.pylock_readers.specs.Text.{text_pairs};
 
     ghost Value = { FileValue };
 
@@ -103,17 +101,6 @@ impl DistributionFile {
         self.hashes.as_slice()
     }
 
-    #[tactic(auto, unfolding(crate::specs::Entry::Sources::file_of))]
-    pub(crate) fn read(alloc: Global, value: Value) -> Result<DistributionFile, FieldError>
-        ensures { Gives FieldError.Memory (λ f. f) result (file_of (view value)) }
-    {
-        let fields = take_fields(into_table(value)?);
-        let name = optional_text(fields.name)?;
-        let location = Location::read(fields.url, fields.path)?;
-        let hashes = hashes(alloc, fields.hashes)?;
-        Ok(DistributionFile::new(alloc, name, location, hashes)?)
-    }
-
     /// Takes memory for the file name alone.
     fn new(
         alloc: Global,
@@ -137,26 +124,15 @@ impl DistributionFile {
     }
 }
 
-/// The values of the keys, out of the table that is let go.
-#[derive(Drop)]
-struct Fields {
-    name: Option<Value>,
-    url: Option<Value>,
-    path: Option<Value>,
-    hashes: Option<Value>,
-}
+#[tactic(auto, using(crate::proofs::kept), unfolding(crate::specs::Entry::Sources::file_of))]
+impl Source for DistributionFile {
+    ghost form = { file_of };
 
-fn take_fields(mut table: Table) -> Fields
-    ensures name { option_map view result.name ≡ get_member (codes "name") (table_view table) }
-    ensures url { option_map view result.url ≡ get_member (codes "url") (table_view table) }
-    ensures path { option_map view result.path ≡ get_member (codes "path") (table_view table) }
-    ensures hashes { option_map view result.hashes
-        ≡ get_member (codes "hashes") (table_view table) }
-{
-    Fields {
-        name: take(&mut table, "name"),
-        url: take(&mut table, "url"),
-        path: take(&mut table, "path"),
-        hashes: take(&mut table, "hashes"),
+    fn read(alloc: Global, value: Value) -> Result<DistributionFile, FieldError> {
+        let mut table = into_table(value)?;
+        let name = optional_text(take(&mut table, "name"))?;
+        let location = Location::read(take(&mut table, "url"), take(&mut table, "path"))?;
+        let hashes = hashes(alloc, take(&mut table, "hashes"))?;
+        Ok(DistributionFile::new(alloc, name, location, hashes)?)
     }
 }

@@ -3,7 +3,7 @@ ghost use Rattle.std.specs.Prelude.{◌≡◌, option_map};
 ghost use Rattle.toml.specs.View.{view, table_view};
 ghost use Rattle.pytext.specs.Agreement.{Gives};
 ghost use Rattle.pylock_readers.specs.Entry.Sources.{hashes_in, pairs_of};
-ghost use Rattle.pylock_readers.specs.Inner.Strings.{text_pairs};
+ghost use Rattle.pylock_readers.specs.Text.{text_pairs};
 
 use crate::field::{FieldError, into_table, into_text};
 use std::alloc::Global;

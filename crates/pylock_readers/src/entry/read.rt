@@ -1,6 +1,5 @@
 //! Entries from TOML values.
-ghost use Rattle.std.specs.Prelude.{◌≡◌, codes, option_map, string_bytes};
-ghost use Rattle.toml.specs.Data.{get_member};
+ghost use Rattle.std.specs.Prelude.{◌≡◌, option_map, string_bytes};
 ghost use Rattle.toml.specs.View.{view, table_view};
 ghost use Rattle.pytext.specs.Agreement.{Gives};
 ghost use Rattle.pylock_readers.specs.Entry.Reading.{table_in, name_in, version_in, marker_in};
@@ -9,9 +8,9 @@ ghost use Rattle.pylock_readers.specs.Entry.Reading.{toml_value};
 
 use crate::conditions::Conditions;
 use crate::entry::Entry;
-use crate::entry::sources::{SourceFields, Sources, refusal};
+use crate::entry::sources::Sources;
 use crate::error::{EntryError, EntryKey};
-use crate::field::{into_name, optional_text, take};
+use crate::field::{into_name, optional, optional_text, or_refused, take};
 use pymark_core::Marker;
 use pyver_core::SpecifierSet;
 use std::alloc::Global;
@@ -44,7 +43,7 @@ fn toml_value(alloc: Global, text: &str) -> Result<Value, EntryError>
 }
 
 /// The entry that the value is.
-#[tactic(auto, unfolding(crate::specs::Entry::Reading::entry_in))]
+#[tactic(auto, using(crate::proofs::kept), unfolding(crate::specs::Entry::Reading::entry_in))]
 pub(crate) fn read_entry(
     alloc: Global,
     value: Value,
@@ -52,12 +51,14 @@ pub(crate) fn read_entry(
 ) -> Result<Entry, EntryError>
     ensures { Gives EntryError.Memory (λ e. e) result (entry_in (view value)) }
 {
-    let fields = take_fields(require_table(value)?);
-    let name = read_name(alloc, fields.name)?;
-    let version = read_version(fields.version)?;
-    let sources = Sources::read(alloc, fields.sources)?;
-    let marker = read_marker(alloc, fields.marker, conditions)?;
-    let requires_python = read_requires_python(alloc, fields.requires_python, conditions)?;
+    let mut table = require_table(value)?;
+    let name = read_name(alloc, take(&mut table, "name"))?;
+    let version = read_version(take(&mut table, "version"))?;
+    let marker = take(&mut table, "marker");
+    let requires_python = take(&mut table, "requires-python");
+    let sources = Sources::read(alloc, table)?;
+    let marker = read_marker(alloc, marker, conditions)?;
+    let requires_python = read_requires_python(alloc, requires_python, conditions)?;
     Ok(Entry {
         name,
         version,
@@ -80,20 +81,14 @@ fn read_name(alloc: Global, field: Option<Value>) -> Result<String, EntryError>
     ensures { Gives EntryError.Memory string_bytes result (name_in (option_map view field)) }
 {
     let value = field.ok_or(EntryError::Name)?;
-    match into_name(alloc, value) {
-        Ok(name) => Ok(name),
-        Err(fault) => Err(refusal(fault, EntryError::Name)),
-    }
+    or_refused(EntryError::Name, into_name(alloc, value))
 }
 
 fn read_version(field: Option<Value>) -> Result<Option<String>, EntryError>
     ensures { Gives EntryError.Memory (option_map string_bytes) result
         (version_in (option_map view field)) }
 {
-    match optional_text(field) {
-        Ok(version) => Ok(version),
-        Err(fault) => Err(refusal(fault, EntryError::Key(EntryKey::Version))),
-    }
+    or_refused(EntryError::Key(EntryKey::Version), optional_text(field))
 }
 
 fn read_marker(
@@ -104,13 +99,8 @@ fn read_marker(
     ensures { Gives EntryError.Memory (λ m. m) result
         (marker_in (option_map view field)) }
 {
-    match field {
-        None => Ok(None),
-        Some(value) => match conditions.markers.read(alloc, value) {
-            Ok(marker) => Ok(Some(marker)),
-            Err(fault) => Err(refusal(fault, EntryError::Marker)),
-        },
-    }
+    let read = |value| conditions.markers.read(alloc, value);
+    or_refused(EntryError::Marker, optional(field, read))
 }
 
 fn read_requires_python(
@@ -121,55 +111,6 @@ fn read_requires_python(
     ensures { Gives EntryError.Memory (option_map (λ s. s.value)) result
         (requires_python_in (option_map view field)) }
 {
-    match field {
-        None => Ok(None),
-        Some(value) => match conditions.sets.read(alloc, value) {
-            Ok(set) => Ok(Some(set)),
-            Err(fault) => Err(refusal(fault, EntryError::RequiresPython)),
-        },
-    }
-}
-
-/// The values of the keys of an entry, out of the table that is let go.
-#[derive(Drop)]
-struct Fields {
-    name: Option<Value>,
-    version: Option<Value>,
-    sources: SourceFields,
-    marker: Option<Value>,
-    requires_python: Option<Value>,
-}
-
-fn take_fields(mut table: Table) -> Fields
-    ensures name { option_map view result.name ≡ get_member (codes "name") (table_view table) }
-    ensures version { option_map view result.version
-        ≡ get_member (codes "version") (table_view table) }
-    ensures vcs { option_map view result.sources.vcs
-        ≡ get_member (codes "vcs") (table_view table) }
-    ensures directory { option_map view result.sources.directory
-        ≡ get_member (codes "directory") (table_view table) }
-    ensures archive { option_map view result.sources.archive
-        ≡ get_member (codes "archive") (table_view table) }
-    ensures sdist { option_map view result.sources.sdist
-        ≡ get_member (codes "sdist") (table_view table) }
-    ensures wheels { option_map view result.sources.wheels
-        ≡ get_member (codes "wheels") (table_view table) }
-    ensures marker { option_map view result.marker
-        ≡ get_member (codes "marker") (table_view table) }
-    ensures requires_python { option_map view result.requires_python
-        ≡ get_member (codes "requires-python") (table_view table) }
-{
-    Fields {
-        name: take(&mut table, "name"),
-        version: take(&mut table, "version"),
-        sources: SourceFields {
-            vcs: take(&mut table, "vcs"),
-            directory: take(&mut table, "directory"),
-            archive: take(&mut table, "archive"),
-            sdist: take(&mut table, "sdist"),
-            wheels: take(&mut table, "wheels"),
-        },
-        marker: take(&mut table, "marker"),
-        requires_python: take(&mut table, "requires-python"),
-    }
+    let read = |value| conditions.sets.read(alloc, value);
+    or_refused(EntryError::RequiresPython, optional(field, read))
 }

@@ -1,20 +1,31 @@
 //! All sources of an entry.
-ghost use Rattle.std.specs.Prelude.{◌≡◌, option_map};
-ghost use Rattle.toml.specs.View.{view};
+ghost use Rattle.std.specs.Prelude.{◌≡◌, Result, codes, option_map};
+ghost use Rattle.toml.specs.Data.{Data, get_member};
+ghost use Rattle.toml.specs.View.{view, table_view};
 ghost use Rattle.pytext.specs.Agreement.{Gives};
-ghost use Rattle.pylock_readers.specs.Entry.Reading.{refusal_for, vcs_in, directory_in, archive_in};
-ghost use Rattle.pylock_readers.specs.Entry.Reading.{sdist_in, wheels_in, sources_in};
+ghost use Rattle.pylock_readers.specs.Entry.Reading.{source_in, sources_in, wheels_in};
 
 use crate::entry::archive::Archive;
 use crate::entry::directory::Directory;
-use crate::entry::file::{DistributionFile, Sdist};
+use crate::entry::file::Sdist;
 use crate::entry::vcs::Vcs;
 use crate::entry::wheels::Wheels;
 use crate::error::{EntryError, EntryKey};
-use crate::field::FieldError;
+use crate::field::{FieldError, optional, or_refused, take};
 use std::alloc::Global;
 use std::marker::Model;
-use toml::Value;
+use toml::{Table, Value};
+
+/// A kind of source that one key of an entry has.
+pub(crate) trait Source: Drop {
+    ghost use Rattle.pylock_readers.specs.declared.field.FieldError.{FieldError};
+
+    /// What a value says as such a source.
+    ghost form: { Data → Result Self FieldError };
+
+    fn read(alloc: Global, value: Value) -> Result<Self, FieldError>
+        ensures { Gives FieldError.Memory (λ source. source) result (form (view value)) };
+}
 
 /// The sources of an entry. Nearly every entry has one or two, and the others take no room.
 pub(crate) struct Sources {
@@ -40,16 +51,6 @@ impl Model for Sources {
     } };
 }
 
-/// The values of the keys of sources.
-#[derive(Drop)]
-pub(crate) struct SourceFields {
-    pub(crate) vcs: Option<Value>,
-    pub(crate) directory: Option<Value>,
-    pub(crate) archive: Option<Value>,
-    pub(crate) sdist: Option<Value>,
-    pub(crate) wheels: Option<Value>,
-}
-
 impl Drop for Sources {
     fn drop(self) {
         let Sources {
@@ -62,19 +63,22 @@ impl Drop for Sources {
     }
 }
 
+#[tactic(auto, using(crate::proofs::kept), unfolding(crate::specs::Entry::Reading::sources_in))]
 impl Sources {
-    #[tactic(auto, unfolding(crate::specs::Entry::Reading::sources_in))]
-    pub(crate) fn read(alloc: Global, fields: SourceFields) -> Result<Sources, EntryError>
-        ensures { Gives EntryError.Memory (λ s. s) result
-            (sources_in (option_map view fields.vcs) (option_map view fields.directory)
-            (option_map view fields.archive) (option_map view fields.sdist)
-            (option_map view fields.wheels)) }
+    /// The sources of the table of an entry.
+    pub(crate) fn read(alloc: Global, mut table: Table) -> Result<Sources, EntryError>
+        ensures { Gives EntryError.Memory (λ s. s) result (sources_in
+            (get_member (codes "vcs") (table_view table))
+            (get_member (codes "directory") (table_view table))
+            (get_member (codes "archive") (table_view table))
+            (get_member (codes "sdist") (table_view table))
+            (get_member (codes "wheels") (table_view table))) }
     {
-        let vcs = read_vcs(alloc, fields.vcs)?;
-        let directory = read_directory(alloc, fields.directory)?;
-        let archive = read_archive(alloc, fields.archive)?;
-        let sdist = read_sdist(alloc, fields.sdist)?;
-        let wheels = read_wheels(alloc, fields.wheels)?;
+        let vcs = read_source(alloc, EntryKey::Vcs, take(&mut table, "vcs"))?;
+        let directory = read_source(alloc, EntryKey::Directory, take(&mut table, "directory"))?;
+        let archive = read_source(alloc, EntryKey::Archive, take(&mut table, "archive"))?;
+        let sdist = read_source(alloc, EntryKey::Sdist, take(&mut table, "sdist"))?;
+        let wheels = read_wheels(alloc, take(&mut table, "wheels"))?;
         Ok(Sources {
             vcs,
             directory,
@@ -85,73 +89,22 @@ impl Sources {
     }
 }
 
-fn read_vcs(alloc: Global, field: Option<Value>) -> Result<Option<Box<Vcs>>, EntryError>
+/// The source of a key, in memory of its own.
+fn read_source<S: Source>(
+    alloc: Global,
+    key: EntryKey,
+    field: Option<Value>,
+) -> Result<Option<Box<S>>, EntryError>
     ensures { Gives EntryError.Memory (option_map (λ b. b.value)) result
-        (vcs_in (option_map view field)) }
+        (source_in key S.form (option_map view field)) }
 {
-    match field {
-        None => Ok(None),
-        Some(value) => match Vcs::read(value) {
-            Ok(vcs) => Ok(Some(Box::new(alloc, vcs)?)),
-            Err(fault) => Err(refusal(fault, EntryError::Key(EntryKey::Vcs))),
-        },
-    }
-}
-
-fn read_directory(alloc: Global, field: Option<Value>) -> Result<Option<Box<Directory>>, EntryError>
-    ensures { Gives EntryError.Memory (option_map (λ b. b.value)) result
-        (directory_in (option_map view field)) }
-{
-    match field {
-        None => Ok(None),
-        Some(value) => match Directory::read(value) {
-            Ok(directory) => Ok(Some(Box::new(alloc, directory)?)),
-            Err(fault) => Err(refusal(fault, EntryError::Key(EntryKey::Directory))),
-        },
-    }
-}
-
-fn read_archive(alloc: Global, field: Option<Value>) -> Result<Option<Box<Archive>>, EntryError>
-    ensures { Gives EntryError.Memory (option_map (λ b. b.value)) result
-        (archive_in (option_map view field)) }
-{
-    match field {
-        None => Ok(None),
-        Some(value) => match Archive::read(alloc, value) {
-            Ok(archive) => Ok(Some(Box::new(alloc, archive)?)),
-            Err(fault) => Err(refusal(fault, EntryError::Key(EntryKey::Archive))),
-        },
-    }
-}
-
-fn read_sdist(alloc: Global, field: Option<Value>) -> Result<Option<Box<Sdist>>, EntryError>
-    ensures { Gives EntryError.Memory (option_map (λ b. b.value)) result
-        (sdist_in (option_map view field)) }
-{
-    match field {
-        None => Ok(None),
-        Some(value) => match DistributionFile::read(alloc, value) {
-            Ok(sdist) => Ok(Some(Box::new(alloc, sdist)?)),
-            Err(fault) => Err(refusal(fault, EntryError::Key(EntryKey::Sdist))),
-        },
-    }
+    let read = |value| Ok(Box::new(alloc, S::read(alloc, value)?)?);
+    or_refused(EntryError::Key(key), optional(field, read))
 }
 
 fn read_wheels(alloc: Global, field: Option<Value>) -> Result<Wheels, EntryError>
     ensures { Gives EntryError.Memory (λ w. w) result (wheels_in (option_map view field)) }
 {
-    match Wheels::read(alloc, field) {
-        Ok(wheels) => Ok(wheels),
-        Err(fault) => Err(refusal(fault, EntryError::Key(EntryKey::Wheels))),
-    }
-}
-
-/// The refusal of an entry for a field that was not read.
-pub(crate) fn refusal(fault: FieldError, wrong: EntryError) -> EntryError
-    ensures { result ≡ refusal_for wrong fault }
-{
-    match fault {
-        FieldError::Wrong => wrong,
-        FieldError::Memory => EntryError::Memory,
-    }
+    let wheels = Wheels::read(alloc, field);
+    or_refused(EntryError::Key(EntryKey::Wheels), wheels)
 }

@@ -1,16 +1,15 @@
 //! Sources under version control.
-ghost use Rattle.std.specs.Prelude.{◌≡◌, codes, option_map};
+ghost use Rattle.std.specs.Prelude.{◌≡◌};
 ghost use Rattle.std.specs.Option.{option_copied};
-ghost use Rattle.toml.specs.Data.{get_member};
-ghost use Rattle.toml.specs.View.{view, table_view};
-ghost use Rattle.pytext.specs.Agreement.{Gives};
 ghost use Rattle.pylock_readers.specs.Entry.{place_of};
 ghost use Rattle.pylock_readers.specs.Entry.Sources.{vcs_of};
 
 use crate::entry::location::Location;
+use crate::entry::sources::Source;
 use crate::field::{FieldError, into_table, optional_text, take, text};
+use std::alloc::Global;
 use std::marker::Model;
-use toml::{Table, Value};
+use toml::Value;
 
 /// A checkout of a version control system to install from (PEP 751, `packages.vcs`).
 pub struct Vcs {
@@ -87,49 +86,23 @@ impl Vcs {
     {
         self.subdirectory.as_deref()
     }
+}
 
-    #[tactic(auto, unfolding(crate::specs::Entry::Sources::vcs_of))]
-    pub(crate) fn read(value: Value) -> Result<Vcs, FieldError>
-        ensures { Gives FieldError.Memory (λ v. v) result (vcs_of (view value)) }
-    {
-        let fields = take_fields(into_table(value)?);
-        let kind = text(fields.kind)?;
-        let commit_id = text(fields.commit_id)?;
-        let location = Location::read(fields.url, fields.path)?;
-        let subdirectory = optional_text(fields.subdirectory)?;
+#[tactic(auto, using(crate::proofs::kept), unfolding(crate::specs::Entry::Sources::vcs_of))]
+impl Source for Vcs {
+    ghost form = { vcs_of };
+
+    fn read(_alloc: Global, value: Value) -> Result<Vcs, FieldError> {
+        let mut table = into_table(value)?;
+        let kind = text(take(&mut table, "type"))?;
+        let commit_id = text(take(&mut table, "commit-id"))?;
+        let location = Location::read(take(&mut table, "url"), take(&mut table, "path"))?;
+        let subdirectory = optional_text(take(&mut table, "subdirectory"))?;
         Ok(Vcs {
             kind,
             commit_id,
             location,
             subdirectory,
         })
-    }
-}
-
-/// The values of the keys, out of the table that is let go.
-#[derive(Drop)]
-struct Fields {
-    kind: Option<Value>,
-    commit_id: Option<Value>,
-    url: Option<Value>,
-    path: Option<Value>,
-    subdirectory: Option<Value>,
-}
-
-fn take_fields(mut table: Table) -> Fields
-    ensures kind { option_map view result.kind ≡ get_member (codes "type") (table_view table) }
-    ensures commit_id { option_map view result.commit_id
-        ≡ get_member (codes "commit-id") (table_view table) }
-    ensures url { option_map view result.url ≡ get_member (codes "url") (table_view table) }
-    ensures path { option_map view result.path ≡ get_member (codes "path") (table_view table) }
-    ensures subdirectory { option_map view result.subdirectory
-        ≡ get_member (codes "subdirectory") (table_view table) }
-{
-    Fields {
-        kind: take(&mut table, "type"),
-        commit_id: take(&mut table, "commit-id"),
-        url: take(&mut table, "url"),
-        path: take(&mut table, "path"),
-        subdirectory: take(&mut table, "subdirectory"),
     }
 }

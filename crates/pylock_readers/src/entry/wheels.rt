@@ -7,6 +7,7 @@ ghost use Rattle.pylock_readers.specs.Entry.Fields.{each};
 ghost use Rattle.pylock_readers.specs.Entry.Sources.{file_of, files_in};
 
 use crate::entry::file::{DistributionFile, WheelFile};
+use crate::entry::sources::Source;
 use crate::field::{FieldError, items};
 use pywheel_core::{WheelError, WheelName};
 use std::alloc::{AllocError, Global};

@@ -1,22 +1,23 @@
 //! The head of a lock (PEP 751).
-ghost use Rattle.std.specs.Prelude.{◌≡◌, map, option_map, string_bytes};
+ghost use Rattle.std.specs.Prelude.{◌≡◌, codes, map, option_map, string_bytes};
 ghost use Rattle.std.specs.Option.{option_copied};
-ghost use Rattle.toml.specs.View.{view, items_view};
+ghost use Rattle.toml.specs.Data.{get_member};
+ghost use Rattle.toml.specs.View.{view, items_view, table_view};
 ghost use Rattle.pytext.specs.Agreement.{Gives};
 ghost use Rattle.pylock_readers.specs.Entry.Fields.{each, marker_field, name_of, set_field};
-ghost use Rattle.pylock_readers.specs.Lock.Head.{lock_refusal, names_in, markers_in};
+ghost use Rattle.pylock_readers.specs.Lock.Head.{names_in, markers_in};
 ghost use Rattle.pylock_readers.specs.Lock.Head.{environments_in};
 ghost use Rattle.pylock_readers.specs.Lock.Head.{head_requires_python_in, head_names_in, head_in};
 
 use crate::conditions::{read_marker, read_set};
 use crate::error::{HeadKey, LockError};
-use crate::field::{FieldError, into_name, into_text, items};
+use crate::field::{FieldError, into_name, into_text, items, optional, or_refused, take};
 use crate::lock::names::HeadNames;
 use pymark_core::Marker;
 use pyver_core::SpecifierSet;
 use std::alloc::Global;
 use std::marker::Model;
-use toml::Value;
+use toml::{Table, Value};
 
 /// The head of a lock (PEP 751): what it says of itself, which is the environments and the Pythons
 /// that it is for, its extras and its groups.
@@ -46,16 +47,6 @@ impl Model for Head {
     } };
 }
 
-/// The values of the keys of a head.
-#[derive(Drop)]
-pub(crate) struct HeadFields {
-    pub(crate) environments: Option<Value>,
-    pub(crate) requires_python: Option<Value>,
-    pub(crate) extras: Option<Value>,
-    pub(crate) groups: Option<Value>,
-    pub(crate) default_groups: Option<Value>,
-}
-
 impl Drop for Head {
     fn drop(self) {
         let Head {
@@ -69,19 +60,23 @@ impl Drop for Head {
 }
 
 impl Head {
-    /// The head of these keys, which are judged in their order.
-    #[tactic(auto, unfolding(crate::specs::Lock::Head::head_in))]
-    pub(crate) fn read(alloc: Global, fields: HeadFields) -> Result<Head, LockError>
-        ensures { Gives LockError.Memory (λ h. h) result
-            (head_in (option_map view fields.environments) (option_map view fields.requires_python)
-            (option_map view fields.extras) (option_map view fields.groups)
-            (option_map view fields.default_groups)) }
+    /// The head of the document, whose keys are judged in their order.
+    #[tactic(auto, using(crate::proofs::kept), unfolding(crate::specs::Lock::Head::head_in))]
+    pub(crate) fn read(alloc: Global, mut document: Table) -> Result<Head, LockError>
+        ensures { Gives LockError.Memory (λ h. h) result (head_in
+            (get_member (codes "environments") (table_view document))
+            (get_member (codes "requires-python") (table_view document))
+            (get_member (codes "extras") (table_view document))
+            (get_member (codes "dependency-groups") (table_view document))
+            (get_member (codes "default-groups") (table_view document))) }
     {
-        let environments = read_environments(alloc, fields.environments)?;
-        let requires_python = read_requires_python(alloc, fields.requires_python)?;
-        let extras = read_head_names(alloc, HeadKey::Extras, fields.extras)?;
-        let groups = read_head_names(alloc, HeadKey::DependencyGroups, fields.groups)?;
-        let default_groups = read_head_names(alloc, HeadKey::DefaultGroups, fields.default_groups)?;
+        let environments = read_environments(alloc, take(&mut document, "environments"))?;
+        let requires_python = read_requires_python(alloc, take(&mut document, "requires-python"))?;
+        let extras = read_head_names(alloc, HeadKey::Extras, take(&mut document, "extras"))?;
+        let groups = take(&mut document, "dependency-groups");
+        let groups = read_head_names(alloc, HeadKey::DependencyGroups, groups)?;
+        let default_groups = take(&mut document, "default-groups");
+        let default_groups = read_head_names(alloc, HeadKey::DefaultGroups, default_groups)?;
         Ok(Head {
             environments,
             requires_python,
@@ -131,10 +126,8 @@ fn read_environments(alloc: Global, field: Option<Value>) -> Result<Vec<Marker>,
     ensures { Gives LockError.Memory (λ v. v.items) result
         (environments_in (option_map view field)) }
 {
-    match environment_markers(alloc, field) {
-        Ok(markers) => Ok(markers),
-        Err(fault) => Err(refusal(fault, LockError::Head(HeadKey::Environments))),
-    }
+    let markers = environment_markers(alloc, field);
+    or_refused(LockError::Head(HeadKey::Environments), markers)
 }
 
 fn environment_markers(alloc: Global, field: Option<Value>) -> Result<Vec<Marker>, FieldError>
@@ -169,13 +162,8 @@ fn read_requires_python(
     ensures { Gives LockError.Memory (λ s. s) result
         (head_requires_python_in (option_map view field)) }
 {
-    match field {
-        None => Ok(None),
-        Some(value) => match set(alloc, value) {
-            Ok(set) => Ok(Some(set)),
-            Err(fault) => Err(refusal(fault, LockError::Head(HeadKey::RequiresPython))),
-        },
-    }
+    let set = optional(field, |value| set(alloc, value));
+    or_refused(LockError::Head(HeadKey::RequiresPython), set)
 }
 
 fn set(alloc: Global, value: Value) -> Result<SpecifierSet, FieldError>
@@ -194,10 +182,7 @@ fn read_head_names(
     ensures { Gives LockError.Memory (λ names. names) result
         (head_names_in key (option_map view field)) }
 {
-    match names(alloc, field) {
-        Ok(names) => Ok(names),
-        Err(fault) => Err(refusal(fault, LockError::Head(key))),
-    }
+    or_refused(LockError::Head(key), names(alloc, field))
 }
 
 fn names(alloc: Global, field: Option<Value>) -> Result<HeadNames, FieldError>
@@ -217,14 +202,4 @@ fn read_names(alloc: Global, values: Vec<Value>) -> Result<Vec<String>, FieldErr
         names.push(into_name(alloc, value)?)?;
     }
     Ok(names)
-}
-
-/// The refusal of a lock for a field that was not read.
-pub(crate) fn refusal(fault: FieldError, wrong: LockError) -> LockError
-    ensures { result ≡ lock_refusal wrong fault }
-{
-    match fault {
-        FieldError::Wrong => wrong,
-        FieldError::Memory => LockError::Memory,
-    }
 }

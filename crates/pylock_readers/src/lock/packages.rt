@@ -9,9 +9,8 @@ ghost use Rattle.pylock_readers.specs.Lock.Reading.{room_for};
 use crate::conditions::Conditions;
 use crate::entry::{Entry, read_entry};
 use crate::error::{EntryError, LockError};
-use crate::field::items;
+use crate::field::{items, or_refused};
 use crate::lock::MOST_ENTRIES;
-use crate::lock::head::refusal;
 use std::alloc::Global;
 use toml::Value;
 
@@ -31,10 +30,7 @@ fn packages(alloc: Global, field: Option<Value>) -> Result<Vec<Value>, LockError
     ensures { Gives LockError.Memory (λ values. items_view values.items) result
         (packages_in (option_map view field)) }
 {
-    match items(alloc, field) {
-        Ok(values) => Ok(values),
-        Err(fault) => Err(refusal(fault, LockError::Packages)),
-    }
+    or_refused(LockError::Packages, items(alloc, field))
 }
 
 #[tactic(auto, using(crate::proofs::EntryLemmas::count_of_items))]

@@ -1,6 +1,5 @@
 //! Locks from their texts.
-ghost use Rattle.std.specs.Prelude.{◌≡◌, codes, option_map};
-ghost use Rattle.toml.specs.Data.{get_member};
+ghost use Rattle.std.specs.Prelude.{◌≡◌, option_map};
 ghost use Rattle.toml.specs.View.{view, table_view};
 ghost use Rattle.pytext.specs.Agreement.{Gives};
 ghost use Rattle.pylock_readers.specs.Lock.Head.{created_by_in, is_lock_version};
@@ -8,9 +7,9 @@ ghost use Rattle.pylock_readers.specs.Lock.Head.{lock_version_in};
 ghost use Rattle.pylock_readers.specs.Lock.Reading.{document_of, lock_in, lock_of};
 
 use crate::error::LockError;
-use crate::field::{take, text};
+use crate::field::{or_refused, take, text};
 use crate::lock::Lock;
-use crate::lock::head::{Head, HeadFields, refusal};
+use crate::lock::head::Head;
 use crate::lock::packages::read_packages;
 use crate::text::as_text;
 use pytext::is_number;
@@ -44,15 +43,15 @@ fn document(alloc: Global, text: &str) -> Result<Table, LockError>
     }
 }
 
-#[tactic(auto, unfolding(crate::specs::Lock::Reading::lock_in))]
-fn read_document(alloc: Global, document: Table) -> Result<Lock, LockError>
+#[tactic(auto, using(crate::proofs::kept), unfolding(crate::specs::Lock::Reading::lock_in))]
+fn read_document(alloc: Global, mut document: Table) -> Result<Lock, LockError>
     ensures { Gives LockError.Memory (λ l. l) result (lock_in (table_view document)) }
 {
-    let fields = take_fields(document);
-    require_lock_version(fields.lock_version)?;
-    require_creator(fields.created_by)?;
-    let head = Head::read(alloc, fields.head)?;
-    let entries = read_packages(alloc, fields.packages)?;
+    require_lock_version(take(&mut document, "lock-version"))?;
+    require_creator(take(&mut document, "created-by"))?;
+    let packages = take(&mut document, "packages");
+    let head = Head::read(alloc, document)?;
+    let entries = read_packages(alloc, packages)?;
     Ok(Lock::new(head, entries))
 }
 
@@ -60,10 +59,11 @@ fn require_lock_version(field: Option<Value>) -> Result<(), LockError>
     ensures { Gives LockError.Memory (λ u. u) result
         (lock_version_in (option_map view field)) }
 {
-    match text(field) {
-        Ok(version) if is_lock_version(version.as_str()) => Ok(()),
-        Ok(_) => Err(LockError::LockVersion),
-        Err(fault) => Err(refusal(fault, LockError::LockVersion)),
+    let version = or_refused(LockError::LockVersion, text(field))?;
+    if is_lock_version(version.as_str()) {
+        Ok(())
+    } else {
+        Err(LockError::LockVersion)
     }
 }
 
@@ -81,49 +81,6 @@ fn require_creator(field: Option<Value>) -> Result<(), LockError>
     ensures { Gives LockError.Memory (λ u. u) result
         (created_by_in (option_map view field)) }
 {
-    match text(field) {
-        Ok(_) => Ok(()),
-        Err(fault) => Err(refusal(fault, LockError::CreatedBy)),
-    }
-}
-
-/// The values of the keys of a lock, out of the document that is let go.
-#[derive(Drop)]
-struct Fields {
-    lock_version: Option<Value>,
-    created_by: Option<Value>,
-    head: HeadFields,
-    packages: Option<Value>,
-}
-
-fn take_fields(mut table: Table) -> Fields
-    ensures lock_version { option_map view result.lock_version
-        ≡ get_member (codes "lock-version") (table_view table) }
-    ensures created_by { option_map view result.created_by
-        ≡ get_member (codes "created-by") (table_view table) }
-    ensures environments { option_map view result.head.environments
-        ≡ get_member (codes "environments") (table_view table) }
-    ensures requires_python { option_map view result.head.requires_python
-        ≡ get_member (codes "requires-python") (table_view table) }
-    ensures extras { option_map view result.head.extras
-        ≡ get_member (codes "extras") (table_view table) }
-    ensures groups { option_map view result.head.groups
-        ≡ get_member (codes "dependency-groups") (table_view table) }
-    ensures default_groups { option_map view result.head.default_groups
-        ≡ get_member (codes "default-groups") (table_view table) }
-    ensures packages { option_map view result.packages
-        ≡ get_member (codes "packages") (table_view table) }
-{
-    Fields {
-        lock_version: take(&mut table, "lock-version"),
-        created_by: take(&mut table, "created-by"),
-        head: HeadFields {
-            environments: take(&mut table, "environments"),
-            requires_python: take(&mut table, "requires-python"),
-            extras: take(&mut table, "extras"),
-            groups: take(&mut table, "dependency-groups"),
-            default_groups: take(&mut table, "default-groups"),
-        },
-        packages: take(&mut table, "packages"),
-    }
+    let _creator = or_refused(LockError::CreatedBy, text(field))?;
+    Ok(())
 }

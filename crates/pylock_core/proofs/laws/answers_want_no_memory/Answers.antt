@@ -1,5 +1,5 @@
 use Rattle.std.proofs.Common.{◌≡◌, Bool, true, false, cond, Ok, Err}
-use Rattle.pyver_core.proofs.Lemmas.Never.{Never}
+use Rattle.pytext.proofs.Never.{Never}
 use Rattle.pylock_core.specs.Session.State.{State, apply}
 use Rattle.pylock_core.specs.declared.edit.Edit.{Edit}
 use Rattle.pylock_core.specs.declared.edit.Edit.TheVariants as edit

@@ -1,7 +1,6 @@
-use Rattle.std.proofs.Common.{◌∙◌, Some, None, ap}
-use Rattle.toml.specs.Data.{get_member}
-use Rattle.toml.specs.View.{view, members_view}
-use Rattle.pylock_readers.proofs.TableLemmas.{taken_member, other_member}
+use Rattle.std.proofs.Common.{◌≡◌, ◌∙◌, Some, None, ap, sym, rules}
+use Rattle.toml.specs.View.{view, members_view, table_view}
+use Rattle.pylock_readers.proofs.TableLemmas.{left_behind, nothing_left, taken_member}
 use Rattle.pylock_readers.proofs.field.take.Goals as goal
 
 pub returns-in-Some-clause-taken : goal.returns-in-Some-clause-taken
@@ -10,12 +9,16 @@ returns-in-Some-clause-taken c =
     ∙ taken_member (Some c.in-Some.value.now) c.args.key.now c.args.table.now.entries
     (rw c.in-Some.is at c.get_mut.ensures.value)
 
-pub returns-in-Some-clause-others : goal.returns-in-Some-clause-others
-returns-in-Some-clause-others c = λ other differs.
-    let w = c.replace.new.dest in
-    ap (λ es. get_member other (members_view es)) (c.get_mut.follows.holds w).0
-    ∙ other_member other c.args.key.now w c.args.table.now.entries differs
+pub returns-in-Some-clause-left : goal.returns-in-Some-clause-left
+returns-in-Some-clause-left c =
+    ap members_view (c.get_mut.follows.holds c.replace.new.dest).0
+    ∙ rw c.replace.ensures.after (left_behind c.args.key.now c.args.table.now.entries)
 
 pub returns-in-None-clause-taken : goal.returns-in-None-clause-taken
 returns-in-None-clause-taken c =
     taken_member None c.args.key.now c.args.table.now.entries (rw c.in-None.is at c.get_mut.ensures.value)
+
+pub returns-in-None-clause-left : goal.returns-in-None-clause-left
+returns-in-None-clause-left c =
+    let same : c.get_mut.follows.lender-at-none ≡ c.args.table.now = search rules in
+    ap table_view same ∙ nothing_left c.args.key.now c.args.table.now.entries (sym (rw c.in-None.is at c.get_mut.ensures.value))

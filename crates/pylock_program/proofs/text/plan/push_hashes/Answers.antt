@@ -1,6 +1,6 @@
 use Rattle.std.proofs.Common.{◌≡◌, ◌∷◌, ◌++◌, ap, sym, ◌∙◌, rules}
 use Rattle.std.proofs.lemmas.Result.{on_ok_weaker}
-use Rattle.pylock_readers.specs.Inner.Strings.{text_pairs}
+use Rattle.pylock_readers.specs.Text.{text_pairs}
 use Rattle.pylock_program.specs.Text.Field.{field}
 use Rattle.pylock_program.specs.Text.Plan.{hashes_text}
 use Rattle.pylock_program.proofs.TextLemmas.{pushed_hashes}

@@ -1,5 +1,5 @@
 use Rattle.std.proofs.Common.{◌≡◌, ◌++◌, take}
-use Rattle.pylock_readers.specs.Inner.Strings.{text_pairs}
+use Rattle.pylock_readers.specs.Text.{text_pairs}
 use Rattle.pylock_program.specs.Inner.Hashes.{more_hashes}
 use Rattle.pylock_program.proofs.text.plan.push_more_hashes.Given as goal
 

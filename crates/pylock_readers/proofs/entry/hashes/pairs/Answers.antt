@@ -3,7 +3,7 @@ use Rattle.std.proofs.lemmas.List.{map-append}
 use Rattle.toml.specs.View.{view, members_view}
 use Rattle.pylock_readers.specs.Entry.Fields.{text_of}
 use Rattle.pylock_readers.specs.Entry.Sources.{pairs_of}
-use Rattle.pylock_readers.specs.Inner.Strings.{text_pair, text_pairs}
+use Rattle.pylock_readers.specs.Text.{text_pair, text_pairs}
 use Rattle.pylock_readers.proofs.FrontLemmas.{after_front, front_more}
 use Rattle.pylock_readers.proofs.entry.hashes.pairs.Goals as goal
 

@@ -1,7 +1,7 @@
 use Rattle.std.proofs.Common.{◌≡◌}
 use Rattle.toml.specs.View.{members_view, table_view}
 use Rattle.pylock_readers.specs.Entry.Sources.{pairs_of}
-use Rattle.pylock_readers.specs.Inner.Strings.{text_pairs}
+use Rattle.pylock_readers.specs.Text.{text_pairs}
 use Rattle.pylock_readers.proofs.FrontLemmas.{after_front}
 use Rattle.pylock_readers.proofs.entry.hashes.pairs.Given as goal
 
