@@ -1,6 +1,6 @@
 //! A run: edits a session by the lines of its input, and writes what they print.
 
-ghost use Rattle.std.specs.Prelude.{◌≡◌, ◌++◌, ◌<◌, ◌≤◌, ◌+◌, [], Ok, IsErr, IsTrue, false, length};
+ghost use Rattle.std.specs.Prelude.{◌≡◌, ◌++◌, ◌<◌, ◌≤◌, ◌+◌, [], Ok, IsTrue, false, length};
 ghost use Rattle.std.specs.Prelude.{take};
 ghost use Rattle.std.specs.Prelude.{OnOk, IfOk, IfErr, OnErr};
 ghost use Rattle.std.specs.Io.KnownBytes.{Consumes, IsAtEnd};
@@ -11,7 +11,7 @@ ghost use Rattle.pylock_program.specs.Inner.Editing.{lines_begun};
 ghost use Rattle.pylock_program.specs.Inner.Faults.{IsWriteFault, IsFeedFault, IsOutputFault};
 ghost use Rattle.pylock_program.specs.Inner.Writes.{Writes, Pours};
 ghost use Rattle.pylock_program.specs.Report.{standing_text, opened};
-ghost use Rattle.pylock_program.specs.Report.Run.{Reports, Stops, most_bytes, most_lines};
+ghost use Rattle.pylock_program.specs.Report.Run.{IsRun, most_bytes, most_lines};
 ghost use Rattle.pylock_program.specs.Stream.{TakesFront};
 ghost use Rattle.pylock_program.specs.Text.Refusal.{refusal_text};
 
@@ -227,10 +227,8 @@ fn edit_all<R: Source, W: Sink>(
     reader: &mut R,
     writer: &mut W,
 ) -> Result<u8, RunFault>
-    ensures reports { IfOk result (Reports (Ok session.state)
-        (R.value reader.old) (R.value reader.new) (W.value writer.old) (W.value writer.new)) }
-    ensures stops { IfErr result (Stops (Ok session.state)
-        (R.value reader.old) (R.value reader.new) (W.value writer.old) (W.value writer.new)) }
+    ensures { IsRun (Ok session.state) (R.value reader.old) (R.value reader.new)
+        (W.value writer.old) (W.value writer.new) result }
 {
     let mut buffer = piece_buffer(alloc)?;
     let mut out = Vec::new(alloc);
@@ -273,12 +271,8 @@ pub fn run<R: Source, W: Sink>(
     reader: &mut R,
     writer: &mut W,
 ) -> Result<u8, RunFault>
-    ensures reports { IfOk result (Reports (opened lock.now env.now)
-        (R.value reader.old) (R.value reader.new) (W.value writer.old) (W.value writer.new)) }
-    ensures stops { IfErr result (Stops (opened lock.now env.now)
-        (R.value reader.old) (R.value reader.new) (W.value writer.old) (W.value writer.new)) }
-    ensures unasked { IsErr (opened lock.now env.now)
-        → R.value reader.new ≡ R.value reader.old }
+    ensures { IsRun (opened lock.now env.now) (R.value reader.old) (R.value reader.new)
+        (W.value writer.old) (W.value writer.new) result }
 {
     run_whole(alloc, lock, env, false, reader, writer)
 }
@@ -292,12 +286,8 @@ pub fn run_leaving<R: Source, W: Sink>(
     reader: &mut R,
     writer: &mut W,
 ) -> Result<u8, RunFault>
-    ensures reports { IfOk result (Reports (opened lock.now env.now)
-        (R.value reader.old) (R.value reader.new) (W.value writer.old) (W.value writer.new)) }
-    ensures stops { IfErr result (Stops (opened lock.now env.now)
-        (R.value reader.old) (R.value reader.new) (W.value writer.old) (W.value writer.new)) }
-    ensures unasked { IsErr (opened lock.now env.now)
-        → R.value reader.new ≡ R.value reader.old }
+    ensures { IsRun (opened lock.now env.now) (R.value reader.old) (R.value reader.new)
+        (W.value writer.old) (W.value writer.new) result }
 {
     run_whole(alloc, lock, env, true, reader, writer)
 }
@@ -311,12 +301,8 @@ fn run_whole<R: Source, W: Sink>(
     reader: &mut R,
     writer: &mut W,
 ) -> Result<u8, RunFault>
-    ensures reports { IfOk result (Reports (opened lock.now env.now)
-        (R.value reader.old) (R.value reader.new) (W.value writer.old) (W.value writer.new)) }
-    ensures stops { IfErr result (Stops (opened lock.now env.now)
-        (R.value reader.old) (R.value reader.new) (W.value writer.old) (W.value writer.new)) }
-    ensures unasked { IsErr (opened lock.now env.now)
-        → R.value reader.new ≡ R.value reader.old }
+    ensures { IsRun (opened lock.now env.now) (R.value reader.old) (R.value reader.new)
+        (W.value writer.old) (W.value writer.new) result }
 {
     match open(alloc, lock, env) {
         Ok(session) => edit_all(alloc, session, leaves, reader, writer),
