@@ -1,18 +1,17 @@
 -- From the editing by an input to the report on its lines.
-use Rattle.std.proofs.Common.{◌≡◌, ℕ, ◌+◌, ◌<◌, ◌≤◌, List, [], ◌++◌, length, cond, ◌&&◌, not, Result, Ok, Err, IfOk, OnOk, IfErr, OnErr, refl, sym, ap, ◌∙◌, arith, append_assoc, subst, inl, inr, ⊎_elim}
+use Rattle.std.proofs.Common.{◌≡◌, ℕ, ◌+◌, ◌<◌, ◌≤◌, List, [], ◌++◌, length, cond, ◌&&◌, not, Result, Ok, Err, refl, sym, ap, ◌∙◌, arith, append_assoc, subst, inl, inr, ⊎_elim}
 use Rattle.std.proofs.KnownBytes.{Appends-trans, Consumes-nil}
 use Rattle.std.specs.Io.KnownBytes.{Appends, IsAtEnd}
 use Rattle.pylock_core.specs.Session.State.{State}
 use Rattle.pylock_core.specs.Session.Steps.{answer}
 use Rattle.pylock_program.specs.Inner.Edited.{EditsAll, EditFault}
 use Rattle.pylock_program.specs.Inner.Editing.{At, start, bytes_done, bytes_text, finished, finished_text, lines_begun}
-use Rattle.pylock_program.specs.Inner.Faults.{IsOutputFault}
 use Rattle.pylock_program.specs.Inner.Writes.{Writes}
 use Rattle.pylock_program.specs.Line.{input_lines}
 use Rattle.pylock_program.specs.Report.{standing_text, is_plan, state_after_all, report_on}
-use Rattle.pylock_program.specs.Report.Run.{Reports, Stops, most_bytes, most_lines}
+use Rattle.pylock_program.specs.Report.Print.{Prints, IsOutputFault}
+use Rattle.pylock_program.specs.Report.Run.{Reports, Stops, IsRun, most_bytes, most_lines}
 use Rattle.pylock_program.specs.Stream.{SourceValue, SinkValue, TakesFront, one_more}
-use Rattle.pylock_program.specs.Text.Refusal.{refusal_text}
 use Rattle.pylock_program.specs.declared.report.fault.RunFault.{RunFault}
 use Rattle.pylock_program.specs.declared.report.fault.RunFault.TheVariants.{Memory}
 use Rattle.pylock_program.specs.declared.report.opening.OpenError.{OpenError}
@@ -47,27 +46,36 @@ lines_of_input state input =
     lines_total (lines_begun at) (finished at).ended (length (input_lines input)) (ended-finished at) (edits state input).ended
 
 -- memory was refused before anything was written
-pub stops_at_once : (begins : Result State OpenError) (source : SourceValue) (sink : SinkValue) → Stops begins source source sink sink Memory
-stops_at_once begins source sink = record { input = []; gave = Consumes-nil source.rest; front = front_none sink _; cause = (refl, refl) }
+pub stops_at_once : (begins : Result State OpenError) (source : SourceValue) (sink : SinkValue) → IsRun begins source source sink sink (Err Memory)
+stops_at_once begins source sink = record {
+  reports = tt;
+  stops = record { input = []; gave = Consumes-nil source.rest; front = front_none sink _; cause = (refl, refl) };
+  unasked = λ refused. refl;
+}
+
+-- a session that was edited by what was read
+stopped : (state : State) (source source' : SourceValue) (sink sink' : SinkValue) (fault : RunFault)
+    → Stops (begun state) source source' sink sink' fault → IsRun (begun state) source source' sink sink' (Err fault)
+stopped state source source' sink sink' fault stops = record { reports = tt; stops = stops; unasked = λ refused. cc }
 
 -- the first answer was not written
 pub stops_at_first : (state : State) (source : SourceValue) (sink sink' : SinkValue) (fault : RunFault)
-    → TakesFront sink sink' (standing_text state) → IsOutputFault sink sink' fault → Stops (begun state) source source sink sink' fault
-stops_at_first state source sink sink' fault front why = record {
+    → TakesFront sink sink' (standing_text state) → IsOutputFault sink sink' fault → IsRun (begun state) source source sink sink' (Err fault)
+stops_at_first state source sink sink' fault front why = stopped state source source sink sink' fault (record {
   input = [];
   gave = Consumes-nil source.rest;
   front = front_more sink sink' (standing_text state) [] front;
   cause = HasCause-map _ _ _ _ _ _ _ _ fault (λ none. absurd none) (λ failed. (refl, failed)) (λ none. absurd none) (λ memory. (refl, memory)) why;
-}
+})
 
 -- a piece was not read, not edited by or not written
 pub stops_between : (state : State) (source source' : SourceValue) (sink mid sink' : SinkValue) (at : At) (fault : RunFault)
     → at ≡ start state → Writes sink mid (standing_text state) → EditFault source source' mid sink' at 0 fault
-    → Stops (begun state) source source' sink sink' fault
+    → IsRun (begun state) source source' sink sink' (Err fault)
 stops_between state source source' sink mid sink' at fault begins first stop =
     let fault_at = subst (λ a. EditFault source source' mid sink' a 0 fault) begins stop in
     let input = fault_at.given in
-    record {
+    stopped state source source' sink sink' fault (record {
       input = input;
       gave = fault_at.gave;
       front = front_same sink sink' _ _ (text_of_input state input)
@@ -92,7 +100,7 @@ stops_between state source source' sink mid sink' at fault begins first stop =
           ))
           (λ memory. (memory.0, memory.1 ∙ first.counted))
           fault_at.cause;
-    }
+    })
 
 -- what was written before the last line
 before_last : (state : State) (sink mid late : SinkValue) (input : List ℕ) → Writes sink mid (standing_text state)
@@ -102,12 +110,12 @@ before_last state sink mid late input first edited = Writes-trans sink mid late 
 -- what the last line prints was not written
 pub stops_at_last : (state : State) (source source' : SourceValue) (sink mid late sink' : SinkValue) (at last : At) (fault : RunFault)
     → at ≡ start state → Writes sink mid (standing_text state) → EditsAll source source' mid late at last
-    → TakesFront late sink' (finished_text last) → IsOutputFault late sink' fault → Stops (begun state) source source' sink sink' fault
+    → TakesFront late sink' (finished_text last) → IsOutputFault late sink' fault → IsRun (begun state) source source' sink sink' (Err fault)
 stops_at_last state source source' sink mid late sink' at last fault begins first all front why =
     let edited = subst (λ a. EditsAll source source' mid late a last) begins all in
     let input = edited.given in
     let here = before_last state sink mid late input first edited.writes in
-    record {
+    stopped state source source' sink sink' fault (record {
       input = input;
       gave = edited.gave;
       front = front_same sink sink' _ _
@@ -119,14 +127,14 @@ stops_at_last state source source' sink mid late sink' at last fault begins firs
           (λ none. absurd none)
           (λ memory. (edited.reads, memory ∙ here.counted))
           why;
-    }
+    })
 
 -- the whole input
 pub session_reports : (state : State) (source source' : SourceValue) (sink mid late sink' : SinkValue) (at last end : At) (status : ℕ)
     → at ≡ start state → Writes sink mid (standing_text state) → EditsAll source source' mid late at last → IsAtEnd source'.rest
     → lines_begun last ≤ most_lines → end ≡ finished last → Writes late sink' (finished_text last)
     → status ≡ cond (end.plan && not end.refused) 0 1
-    → Reports (begun state) source source' sink sink' status
+    → IsRun (begun state) source source' sink sink' (Ok status)
 session_reports state source source' sink mid late sink' at last end status begins first all at_end lines ended written told =
     let edited = subst (λ a. EditsAll source source' mid late a last) begins all in
     let input = edited.given in
@@ -135,7 +143,7 @@ session_reports state source source' sink mid late sink' at last end status begi
     let finish : end ≡ done = ended ∙ ap (λ a. finished a) edited.editing in
     let facts = edits state input in
     let whole = Writes-trans sink late sink' _ (finished_text last) here written in
-    record {
+    let reports : Reports (begun state) source source' sink sink' status = record {
       input = input;
       gave = edited.gave;
       took = subst (Appends sink.held sink'.held)
@@ -150,46 +158,41 @@ session_reports state source source' sink mid late sink' at last end status begi
         at_end,
         (subst (λ n. n ≤ most_lines) (ap (λ a. lines_begun a) edited.editing ∙ lines_of_input state input) lines, edited.within),
       );
-    }
+    } in
+    record { reports = reports; stops = tt; unasked = λ refused. cc }
 
 -- a lock or an environment that is refused
 
 abbrev pub refused_begin : OpenError → Result State OpenError
 refused_begin error = Err error
 
-refusal_reports : (error : OpenError) (source : SourceValue) (sink sink' : SinkValue) (status : ℕ) → status ≡ 2
-    → Writes sink sink' (refusal_text error) → Reports (refused_begin error) source source sink sink' status
-refusal_reports error source sink sink' status two writes = record {
-  input = [];
-  gave = Consumes-nil source.rest;
-  took = writes.held;
-  answers = two;
-  reads = refl;
-  writes = writes.counted;
-  ends = inl refl;
-}
-
-refusal_stops : (error : OpenError) (source : SourceValue) (sink sink' : SinkValue) (fault : RunFault)
-    → TakesFront sink sink' (refusal_text error) → IsOutputFault sink sink' fault → Stops (refused_begin error) source source sink sink' fault
-refusal_stops error source sink sink' fault front why = record {
-  input = [];
-  gave = Consumes-nil source.rest;
-  front = front;
-  cause = HasCause-map _ _ _ _ _ _ _ _ fault (λ none. absurd none) (λ failed. (refl, failed)) (λ none. absurd none) (λ memory. (refl, memory)) why;
-}
-
 refused_runs_at : (error : OpenError) (source : SourceValue) (sink sink' : SinkValue) (r : Result ℕ RunFault)
-    → IfOk r (λ status. status ≡ 2) → OnOk r (Writes sink sink' (refusal_text error)) → OnErr r (TakesFront sink sink' (refusal_text error))
-    → IfErr r (IsOutputFault sink sink')
-    → IfOk r (Reports (refused_begin error) source source sink sink') × IfErr r (Stops (refused_begin error) source source sink sink')
-refused_runs_at error source sink sink' (Ok status) two writes front fault = (refusal_reports error source sink sink' status two writes, tt)
-refused_runs_at error source sink sink' (Err met) two writes front fault = (tt, refusal_stops error source sink sink' met front fault)
+    → Prints (report_on (refused_begin error) []) sink sink' r → IsRun (refused_begin error) source source sink sink' r
+refused_runs_at error source sink sink' (Ok status) prints = record {
+  reports = record {
+    input = [];
+    gave = Consumes-nil source.rest;
+    took = prints.text;
+    answers = prints.status;
+    reads = refl;
+    writes = prints.counted;
+    ends = inl refl;
+  };
+  stops = tt;
+  unasked = λ refused. refl;
+}
+refused_runs_at error source sink sink' (Err met) prints = record {
+  reports = tt;
+  stops = record {
+    input = [];
+    gave = Consumes-nil source.rest;
+    front = prints.front;
+    cause = HasCause-map _ _ _ _ _ _ _ _ met (λ none. absurd none) (λ failed. (refl, failed)) (λ none. absurd none) (λ memory. (refl, memory)) prints.fault;
+  };
+  unasked = λ refused. refl;
+}
 
 pub refused_runs : (begins : Result State OpenError) (error : OpenError) (source : SourceValue) (sink sink' : SinkValue) (r : Result ℕ RunFault)
-    → begins ≡ Err error
-    → IfOk r (λ status. status ≡ 2) → OnOk r (Writes sink sink' (refusal_text error)) → OnErr r (TakesFront sink sink' (refusal_text error))
-    → IfErr r (IsOutputFault sink sink')
-    → IfOk r (Reports begins source source sink sink') × IfErr r (Stops begins source source sink sink')
-refused_runs begins error source sink sink' r same two writes front fault =
-    subst (λ b. IfOk r (Reports b source source sink sink') × IfErr r (Stops b source source sink sink')) (sym same)
-    (refused_runs_at error source sink sink' r two writes front fault)
+    → begins ≡ Err error → Prints (report_on (refused_begin error) []) sink sink' r → IsRun begins source source sink sink' r
+refused_runs begins error source sink sink' r same prints =
+    subst (λ b. IsRun b source source sink sink' r) (sym same) (refused_runs_at error source sink sink' r prints)

@@ -1,5 +1,5 @@
 -- What a run does, in terms of the bytes that its reader gave and of those that its writer took.
-use Rattle.std.specs.Prelude.{◌≡◌, ℕ, ◌<◌, ◌≤◌, ◌⊎◌, List, length, Result, IsErr}
+use Rattle.std.specs.Prelude.{◌≡◌, ℕ, ◌<◌, ◌≤◌, ◌⊎◌, List, length, Result, IsErr, IfOk, IfErr}
 use Rattle.std.specs.Io.KnownBytes.{Appends, Consumes, IsAtEnd}
 use Rattle.pylock_core.specs.Session.State.{State}
 use Rattle.pylock_program.specs.Line.{input_lines, ended_lines}
@@ -53,3 +53,11 @@ pub record Stops (begins : Result State OpenError) (source source' : SourceValue
       × PassesALimit input)
       ((source'.failures ≡ source.failures) × (sink'.failures ≡ sink.failures))
       fault
+
+-- A run from its beginning: it ends with a status and reports, or with a fault and stops. Where the
+-- lock or the environment is refused, the source isn't asked.
+pub record IsRun (begins : Result State OpenError) (source source' : SourceValue)
+    (sink sink' : SinkValue) (result : Result ℕ RunFault) : Type 0 where
+  pub reports : IfOk result (Reports begins source source' sink sink')
+  pub stops : IfErr result (Stops begins source source' sink sink')
+  pub unasked : IsErr begins → source' ≡ source
