@@ -109,7 +109,8 @@ fn known_marker<'a>(table: &'a BTreeMap<String, Marker>, text: &str) -> Option<&
 
 /// The marker of the text.
 pub(crate) fn read_marker(alloc: Global, text: &str) -> Result<Marker, FieldError>
-    ensures { Gives FieldError.Memory (λ m. m) result (or_refused field.Wrong (marker_of text.now)) }
+    ensures { Gives FieldError.Memory (λ m. m) result
+        (or_refused field.Wrong (marker_of text.now)) }
 {
     match Marker::parse(alloc, text) {
         Ok(marker) => Ok(marker),
@@ -191,7 +192,8 @@ fn known_set<'a>(
 
 /// The set of the text.
 pub(crate) fn read_set(alloc: Global, text: &str) -> Result<SpecifierSet, FieldError>
-    ensures { Gives FieldError.Memory (λ s. s) result (or_refused field.Wrong (parsed_set text.now)) }
+    ensures { Gives FieldError.Memory (λ s. s) result
+        (or_refused field.Wrong (parsed_set text.now)) }
 {
     match SpecifierSet::parse(alloc, text) {
         Ok(set) => Ok(set),

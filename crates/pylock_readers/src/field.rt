@@ -70,7 +70,8 @@ pub(crate) fn optional<T, F: FnOnce(Value) -> Result<T, FieldError>>(
 ) -> Result<Option<T>, FieldError>
     requires { ForSome field (F.pre read) }
     ensures { MatchOption field (result ≡ Ok None)
-        (λ value. (given : _) × F.post read value given × (result ≡ option_transpose (Some given))) }
+        (λ value. (given : _) × F.post read value given
+        × (result ≡ option_transpose (Some given))) }
 {
     match field {
         None => Ok(None),
