@@ -1,24 +1,13 @@
 -- The pieces of an argument, taken one after the other.
-use Rattle.std.proofs.Common.{◌≡◌, ℕ, List, [], ◌∷◌, ◌++◌, Bor, Some, None, Option, refl, ap, sym, ◌∙◌, subst, append_assoc, append-nil}
+use Rattle.std.proofs.Common.{◌≡◌, ℕ, List, [], ◌∷◌, ◌++◌, Bor, Some, None, ap, sym, ◌∙◌, subst, append_assoc, append-nil}
 use Rattle.std.specs.Prelude.{filter}
 use Rattle.std.specs.Str.Iter.{split_steps}
 use Rattle.std.specs.Str.Pattern.{FindsChar}
 use Rattle.std.specs.declared.str.Split.{Split}
 use Rattle.std.proofs.lemmas.Iterator.{YieldsList}
 use Rattle.std.proofs.lemmas.List.Elements.{filter-append}
+use Rattle.pytext.proofs.Pieces.{next_piece, no_piece}
 use Rattle.pylock_program.specs.Line.Argument.{is_filled, pieces}
-
-next_piece : {S A B : Type 0} (steps : S → Option A → S → Type 0) (v : A → B) (s : S) (left : List B) → YieldsList steps v s left
-    → (x : A) (t : S) → steps s (Some x) t → (rest : List B) × (left ≡ v x ∷ rest) × YieldsList steps v t rest
-next_piece steps v s [] yields x t step = absurd (yields.runs x t step)
-next_piece steps v s (y ∷ rest) yields x t step =
-    let on = yields.runs.1 x t step in
-    (rest, ap (λ z. z ∷ rest) (sym on.0), record { runs = on.1 })
-
-no_piece : {S A B : Type 0} (steps : S → Option A → S → Type 0) (v : A → B) (s : S) (left : List B) → YieldsList steps v s left
-    → (t : S) → steps s None t → left ≡ []
-no_piece steps v s [] yields t step = refl
-no_piece steps v s (y ∷ rest) yields t step = absurd (yields.runs.0 t step)
 
 -- the pieces so far, and those that are left
 abbrev pub PiecesAt : List ℕ → Split ℕ → List (List ℕ) → Type 0

@@ -1,8 +1,6 @@
 //! What follows the command of a line: its argument.
 
 ghost use Rattle.std.specs.Prelude.{◌≡◌, ◌++◌, ◌∷◌, [], Ok, OnOk, filter, map};
-ghost use Rattle.std.specs.Char.{is_ascii_digit};
-ghost use Rattle.std.specs.List.{list_all};
 ghost use Rattle.std.specs.Option.{option_copied};
 ghost use Rattle.pytext.specs.Agreement.{Gives};
 ghost use Rattle.pylock_program.specs.Line.Argument.{given, filled, around_space, number_argument};
@@ -10,6 +8,7 @@ ghost use Rattle.pylock_program.specs.Line.Argument.{entry_number};
 ghost use Rattle.pylock_program.specs.Line.Argument.{is_entry_number, is_filled, pieces, pieces_of};
 
 use crate::line::refusal::LineRefusal;
+use pytext::are_digits;
 use std::alloc::{AllocError, Global};
 
 /// The argument, which has to be there.
@@ -65,12 +64,6 @@ fn is_entry_number(digits: &[u8]) -> bool
         return false;
     };
     *first != b'0' && digits.len() <= 6 && are_digits(digits)
-}
-
-fn are_digits(bytes: &[u8]) -> bool
-    ensures { result ≡ list_all is_ascii_digit bytes.now }
-{
-    bytes.iter().all(|b| b.is_ascii_digit())
 }
 
 /// The pieces of an argument between its spaces, without the empty ones; none where it is absent.
