@@ -3,7 +3,6 @@ use Rattle.std.proofs.Common.{◌≡◌, ℕ, suc, zero, ◌+◌, ◌<◌, ◌�
 use Rattle.std.specs.Global.{Global}
 use Rattle.std.specs.declared.vec.Vec.{Vec}
 use Rattle.std.specs.List.{insert, remove}
-use Rattle.std.specs.Result.{MatchResult}
 use Rattle.std.proofs.lemmas.Bool.{ne_eqb, lt-ltb, le-ltb, ltb-true, ltb-false, eqb-true, eqb-false}
 use Rattle.std.proofs.lemmas.List.{get_or-map, get_or-set_same, get_or-set_other, length-map, set-get_or}
 use Rattle.pymark_core.specs.Marker.Keys.{reads}
@@ -82,11 +81,6 @@ take_out_absent x (y ∷ ys) (suc i) le below above =
     (take_out_absent x ys i (omega arith) (λ k less. below (suc k) (omega arith)) (λ k le within. above (suc k) (omega arith) (omega arith)))
     ∙ sym (rw (differ x y (λ same. omega arith)))
 
--- what a search found or didn't find in an increasing list
-abbrev pub IsFound : List ℕ → ℕ → Result ℕ ℕ → Type 0
-IsFound xs x r = MatchResult r (λ i. (i < length xs) × (get_or xs i 0 ≡ x))
-    (λ i. (i ≤ length xs) × ((k : ℕ) → k < i → get_or xs k 0 < x) × ((k : ℕ) → i ≤ k → k < length xs → x < get_or xs k 0))
-
 -- where the call can't fail, it made the change
 pub made : {A E : Type 0} {X : Type 0} (r : Result A E) (x y : X) → IsOk r → cond (is_ok r) x y ≡ x
 made (Ok a) x y is = refl
@@ -106,9 +100,6 @@ map_set : (lists : List (Vec ℕ Global)) (i : ℕ) (v : Vec ℕ Global) → map
 map_set [] i v = refl
 map_set (x ∷ xs) zero v = refl
 map_set (x ∷ xs) (suc i) v = ap (λ rest. x.items ∷ rest) (map_set xs i v)
-
-pub list_at_item : (lists : List (Vec ℕ Global)) (key : ℕ) (v : Vec ℕ Global) → key < length lists → v ≡ get_or lists key v → list_at lists key ≡ v.items
-list_at_item lists key v within is = get_or-map (λ (list : Vec ℕ Global). list.items) lists key v [] within ∙ ap (λ list. list.items) (sym is)
 
 pub list_at_same : (lists : List (Vec ℕ Global)) (key : ℕ) (v : Vec ℕ Global) → key < length lists → list_at (set lists key v) key ≡ v.items
 list_at_same lists key v within =
@@ -236,17 +227,3 @@ moved_two n was is entry old mid new differ one two =
     by true false apart = refl
     by false true apart = refl
     by false false apart = refl
-
-pub moved_in : (n is entry : ℕ) (old new : List ℕ) → new ≡ cond (nat_eq n is) (moved entry false true old) old → new ≡ moved entry false (nat_eq n is) old
-moved_in n is entry old new one = one ∙ by (nat_eq n is)
-  where
-    by : (y : Bool) → cond y (moved entry false true old) old ≡ moved entry false y old
-    by true = refl
-    by false = refl
-
-pub moved_out : (n was entry : ℕ) (old new : List ℕ) → new ≡ cond (nat_eq n was) (moved entry true false old) old → new ≡ moved entry (nat_eq n was) false old
-moved_out n was entry old new one = one ∙ by (nat_eq n was)
-  where
-    by : (y : Bool) → cond y (moved entry true false old) old ≡ moved entry y false old
-    by true = refl
-    by false = refl

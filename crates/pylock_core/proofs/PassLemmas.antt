@@ -1,17 +1,15 @@
 -- Lemmas on the installation steps over rows, row by row.
-use Rattle.std.proofs.Common.{◌≡◌, ℕ, ◌+◌, ◌<◌, ◌≤◌, Bool, ◌||◌, nat_eq, List, [], ◌∷◌, ◌++◌, length, drop, get_or, Option, Some, None, Result, Ok, Err, ◌∙◌, ap, refl, sym, append_assoc, append-nil}
-use Rattle.std.proofs.lemmas.List.{drop_all, drop_more}
-use Rattle.pylock_core.specs.Inner.Pass.{AreSlated, has_number, pick_rows, picks_after_rows, put_row, row_source, row_standing, slate_rows}
+use Rattle.std.proofs.Common.{◌≡◌, ℕ, ◌+◌, ◌<◌, Bool, ◌||◌, nat_eq, List, [], ◌∷◌, ◌++◌, length, drop, get_or, Option, Some, None, Result, Ok, Err, ◌∙◌, ap, refl, sym, append_assoc}
+use Rattle.std.proofs.lemmas.List.{drop_more}
+use Rattle.pylock_core.specs.Inner.Pass.{AreSlated, has_number, pick_rows, put_row, row_source, row_standing, slate_rows}
 use Rattle.pylock_core.specs.Inner.Names.{policy_at}
 use Rattle.pylock_core.specs.Inner.Progress.{pick_after}
 use Rattle.pylock_core.specs.Inner.Rows.{in_rows}
 use Rattle.pylock_core.specs.Session.Steps.{FirstFault, answer_by, pick_before}
 use Rattle.pylock_core.specs.declared.answer.Answer.{Answer}
-use Rattle.pylock_core.specs.declared.answer.Answer.TheVariants.{Fault}
-use Rattle.pylock_core.specs.declared.answer.FaultCode.{FaultCode}
 use Rattle.pylock_core.specs.declared.answer.Pick.{Pick}
 use Rattle.pylock_core.specs.declared.answer.PickSource.{PickSource}
-use Rattle.pylock_core.specs.declared.answer.Standing.TheVariants.{Skipped, Faulty, Active}
+use Rattle.pylock_core.specs.declared.answer.Standing.TheVariants.{Skipped, Active}
 use Rattle.pylock_core.specs.declared.edit.Policy.{Policy}
 use Rattle.pylock_core.specs.declared.session.row.Row.{Row}
 
@@ -30,19 +28,6 @@ then_slated policies made (Ok slated) = then_picks made (pick_rows slated polici
 abbrev pub answer_from : List Policy → Result (List Pick) FirstFault → List ℕ → List (ℕ × Row) → Answer
 answer_from policies made names rest = answer_by (then_slated policies made (slate_rows rest names))
 
--- with nothing made, this is the answer
-pub answer_from_start : (policies : List Policy) (rows : List (ℕ × Row))
-    → answer_from policies (Ok []) [] rows ≡ answer_by (picks_after_rows (slate_rows rows []) policies)
-answer_from_start policies rows = ap answer_by (by (slate_rows rows []))
-  where
-    nothing : (r : Result (List Pick) FirstFault) → then_picks (Ok []) r ≡ r
-    nothing (Ok rest) = refl
-    nothing (Err fault) = refl
-
-    by : (r : Result (List (ℕ × Row)) FirstFault) → then_slated policies (Ok []) r ≡ picks_after_rows r policies
-    by (Ok slated) = nothing (pick_rows slated policies)
-    by (Err fault) = refl
-
 -- one more pick, before the rest or after those that were made
 pub pick_moves : (made : Result (List Pick) FirstFault) (n : ℕ) (source : Option PickSource) (rest : Result (List Pick) FirstFault)
     → then_picks made (pick_before n source rest) ≡ then_picks (pick_after made n source) rest
@@ -51,22 +36,10 @@ pick_moves (Ok made) n None rest = refl
 pick_moves (Ok made) n (Some source) (Err fault) = refl
 pick_moves (Ok made) n (Some source) (Ok rest) = simp append_assoc
 
--- where nothing is left, what was made is the answer
-pub answer_from_end : (policies : List Policy) (made : Result (List Pick) FirstFault) (names : List ℕ) → answer_from policies made names [] ≡ answer_by made
-answer_from_end policies made names = ap answer_by (all_made made)
-  where
-    all_made : (made : Result (List Pick) FirstFault) → then_picks made (Ok []) ≡ made
-    all_made (Ok made) = ap Ok (append-nil made)
-    all_made (Err fault) = refl
-
 -- a row that is skipped, one that has a fault, one that is slated
 pub row_skipped : (policies : List Policy) (made : Result (List Pick) FirstFault) (names : List ℕ) (n : ℕ) (row : Row) (rest : List (ℕ × Row))
     → row_standing row (has_number names row.name) ≡ Skipped → answer_from policies made names ((n, row) ∷ rest) ≡ answer_from policies made names rest
 row_skipped policies made names n row rest is = rw is
-
-pub row_faulty : (policies : List Policy) (made : Result (List Pick) FirstFault) (names : List ℕ) (n : ℕ) (row : Row) (rest : List (ℕ × Row)) (code : FaultCode)
-    → row_standing row (has_number names row.name) ≡ Faulty code → answer_from policies made names ((n, row) ∷ rest) ≡ Fault n code
-row_faulty policies made names n row rest code is = rw is
 
 pub row_active : (policies : List Policy) (made : Result (List Pick) FirstFault) (names : List ℕ) (n : ℕ) (row : Row) (rest : List (ℕ × Row))
     → row_standing row (has_number names row.name) ≡ Active
@@ -85,12 +58,6 @@ one_slated slated more names name grows is n = grows n ∙ ap (λ b. nat_eq n na
 
 -- ---- rows
 
--- an empty row, and one that has something
-pub rows_none : {X : Type 0} (rows : List (Option X)) (place : ℕ) → place < length rows → get_or rows place None ≡ None
-    → in_rows (place + 1) (drop place rows) ≡ in_rows (place + 1 + 1) (drop (place + 1) rows)
-rows_none rows place within there =
-    ap (in_rows (place + 1)) (drop_more rows place None within ∙ ap (λ row. row ∷ drop (place + 1) rows) there)
-
 pub rows_some : {X : Type 0} (rows : List (Option X)) (place : ℕ) (x : X) → place < length rows → get_or rows place (Some x) ≡ Some x
     → in_rows (place + 1) (drop place rows) ≡ (place + 1, x) ∷ in_rows (place + 1 + 1) (drop (place + 1) rows)
 rows_some rows place x within there =
@@ -103,12 +70,6 @@ abbrev pub Passed : List Policy → List (Option Row) → ℕ → (ℕ → Bool)
 Passed policies rows place slated made =
     (names : List ℕ) × (AreSlated slated names)
     × (answer_from policies made names (in_rows (place + 1) (drop place rows)) ≡ answer_from policies (Ok []) [] (in_rows 1 rows))
-
--- the row at the place is none, is skipped, is slated, or ends the pass
-pub passed_none : (policies : List Policy) (rows : List (Option Row)) (place : ℕ) (slated : ℕ → Bool) (made : Result (List Pick) FirstFault)
-    → place < length rows → get_or rows place None ≡ None → Passed policies rows place slated made → Passed policies rows (place + 1) slated made
-passed_none policies rows place slated made within there passed =
-    (passed.0, passed.1, ap (answer_from policies made passed.0) (sym (rows_none rows place within there)) ∙ passed.2)
 
 pub passed_skipped : (policies : List Policy) (rows : List (Option Row)) (place : ℕ) (slated : ℕ → Bool) (made : Result (List Pick) FirstFault) (row : Row)
     → place < length rows → get_or rows place (Some row) ≡ Some row → row_standing row (slated row.name) ≡ Skipped
@@ -134,22 +95,6 @@ passed_active policies rows place slated more made row within there is grows pas
       sym (row_active policies made names (place + 1) row (in_rows (place + 1 + 1) (drop (place + 1) rows)) standing)
           ∙ ap (answer_from policies made names) (sym (rows_some rows place row within there)) ∙ passed.2,
     )
-
-pub passed_faulty : (policies : List Policy) (rows : List (Option Row)) (place : ℕ) (slated : ℕ → Bool) (made : Result (List Pick) FirstFault) (row : Row) (code : FaultCode)
-    → place < length rows → get_or rows place (Some row) ≡ Some row → row_standing row (slated row.name) ≡ Faulty code
-    → Passed policies rows place slated made → Fault (place + 1) code ≡ answer_by (picks_after_rows (slate_rows (in_rows 1 rows) []) policies)
-passed_faulty policies rows place slated made row code within there is passed =
-    let names = passed.0 in
-    let standing : row_standing row (has_number names row.name) ≡ Faulty code = ap (row_standing row) (sym (passed.1 row.name)) ∙ is in
-    sym (row_faulty policies made names (place + 1) row (in_rows (place + 1 + 1) (drop (place + 1) rows)) code standing)
-    ∙ ap (answer_from policies made names) (sym (rows_some rows place row within there)) ∙ passed.2 ∙ answer_from_start policies (in_rows 1 rows)
-
-pub passed_all : (policies : List Policy) (rows : List (Option Row)) (place : ℕ) (slated : ℕ → Bool) (made : Result (List Pick) FirstFault)
-    → length rows ≤ place → Passed policies rows place slated made → answer_by made ≡ answer_by (picks_after_rows (slate_rows (in_rows 1 rows) []) policies)
-passed_all policies rows place slated made past passed =
-    sym (answer_from_end policies made passed.0)
-    ∙ ap (λ rest. answer_from policies made passed.0 (in_rows (place + 1) rest)) (sym (drop_all place rows past))
-    ∙ passed.2 ∙ answer_from_start policies (in_rows 1 rows)
 
 pub passed_same : (policies : List Policy) (rows : List (Option Row)) (place : ℕ) (slated others : ℕ → Bool) (made more : Result (List Pick) FirstFault)
     → ((n : ℕ) → others n ≡ slated n) → more ≡ made → Passed policies rows place slated made → Passed policies rows place others more

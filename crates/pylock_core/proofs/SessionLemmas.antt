@@ -8,15 +8,13 @@ use Rattle.pytext.specs.Options.{either}
 use Rattle.pymark_core.specs.Environment.{EnvironmentValue}
 use Rattle.pywheel_core.specs.Tag.{TagValue}
 use Rattle.pylock_readers.specs.Entry.{EntryValue, FileValue, VcsValue, DirectoryValue, ArchiveValue}
-use Rattle.pylock_core.specs.Inner.Names.{IsNames, Kept, members_named, number_named, policies_in, policy_at}
+use Rattle.pylock_core.specs.Inner.Names.{IsNames, Kept, number_named, policies_in, policy_at}
 use Rattle.pylock_core.specs.Inner.Parts.{IsJudged, IsNamed, IsSession, OfBoth, OfRows, shown, sources_of, state_of}
 use Rattle.pylock_core.specs.Inner.Pass.{NamesBelow, checked_standing, conflict_among, file_source, has_number, pick_rows, picks_after_rows, put_row, row_source, slate_rows, source_among}
 use Rattle.pylock_core.specs.Inner.Rows.{in_rows}
 use Rattle.pylock_core.specs.Session.Judgement.{all_numbers, verdict_of}
 use Rattle.pylock_core.specs.Session.State.{State, entry_at, if_entry, policy_of, with_entry, with_next, without}
 use Rattle.pylock_core.specs.Session.Steps.{FirstFault, answer, answer_after, answer_by, best_wheel, by_standing, has_conflict, is_among, pick_before, picks, picks_after, put_before, sdist_source, slate, source_of, standing}
-use Rattle.pylock_core.specs.declared.answer.Answer.TheVariants.{Fault}
-use Rattle.pylock_core.specs.declared.answer.FaultCode.{FaultCode}
 use Rattle.pylock_core.specs.declared.answer.FaultCode.TheVariants.{Ambiguous, Sources as ManySources}
 use Rattle.pylock_core.specs.declared.answer.PickSource.TheVariants as source
 use Rattle.pylock_core.specs.declared.answer.Standing.{Standing}
@@ -45,13 +43,6 @@ of_rows_set P [] (s ∷ rs) k e r h one = absurd h
 of_rows_set P (d ∷ es) [] k e r h one = absurd h
 of_rows_set P (d ∷ es) (s ∷ rs) zero e r h one = (one, h.1)
 of_rows_set P (d ∷ es) (s ∷ rs) (suc k) e r h one = (h.0, of_rows_set P es rs k e r h.1 one)
-
-pub of_rows_push : (P : EntryValue → Row → Type 0) (es : List (Option EntryValue)) (rs : List (Option Row)) (e : EntryValue) (r : Row)
-    → OfRows P es rs → P e r → OfRows P (es ++ Some e ∷ []) (rs ++ Some r ∷ [])
-of_rows_push P [] [] e r h one = (one, tt)
-of_rows_push P [] (s ∷ rs) e r h one = absurd h
-of_rows_push P (d ∷ es) [] e r h one = absurd h
-of_rows_push P (d ∷ es) (s ∷ rs) e r h one = (h.0, of_rows_push P es rs e r h.1 one)
 
 pub of_both_weaker : (P Q : EntryValue → Row → Type 0) → ((e : EntryValue) (r : Row) → P e r → Q e r) → (e : Option EntryValue) (r : Option Row) → OfBoth P e r → OfBoth Q e r
 of_both_weaker P Q weaker None None h = tt
@@ -346,20 +337,6 @@ pub session_answer : (parts : Parts) → IsSession parts → parts.head_verdict 
 session_answer parts s none =
     rows_answer parts.names parts.environment parts.tags s.names parts.entries.items parts.rows.items s.named s.judged
     ∙ ap (λ fault. answer_after fault (answer_by (picks_after (slate (in_rows 1 parts.entries.items) parts.environment []) parts.tags (policies_in parts.names)))) (sym none ∙ s.head)
-
-pub session_fault : (parts : Parts) (code : FaultCode) → IsSession parts → parts.head_verdict ≡ Some code → Fault 0 code ≡ answer (state_of parts)
-session_fault parts code s some =
-    ap (λ fault. answer_after fault (answer_by (picks_after (slate (in_rows 1 parts.entries.items) parts.environment []) parts.tags (policies_in parts.names)))) (sym some ∙ s.head)
-
--- the state in which an entry was written
-pub written_state : (p : Parts) (old : State) (es : List (Option EntryValue)) (f : List (ℕ × EntryValue) → List (ℕ × EntryValue)) → state_of p ≡ old
-    → length es ≡ length p.entries.items → in_rows 1 es ≡ f (in_rows 1 p.entries.items)
-    → ◌≡◌ {A = State} (record (state_of p) { entries = in_rows 1 es; last = length es }) (record old { entries = f old.entries })
-written_state p old es f same long rows =
-    let first : ◌≡◌ {A = State} (record (state_of p) { entries = in_rows 1 es; last = length es }) (record (state_of p) { entries = f (state_of p).entries }) =
-    (λ i. record (state_of p) { entries = rows i; last = long i }) in
-    let next : State → State = λ s. record s { entries = f s.entries } in
-    first ∙ ap next same
 
 -- ---- numbers
 

@@ -1,4 +1,4 @@
-use Rattle.std.proofs.Common.{ℕ, ◌<◌, ◌-◌, None, is_some, IsSome, get_or, ap, sym, arith}
+use Rattle.std.proofs.Common.{◌<◌, ◌-◌, None, is_some, IsSome, get_or, ap, sym, arith}
 use Rattle.pylock_core.proofs.SessionLemmas.{place_there}
 use Rattle.pylock_core.proofs.session.entries.place_of.Goals as goal
 use Rattle.pylock_core.proofs.session.entries.place_of.Goals.{In-Some}
