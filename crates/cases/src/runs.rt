@@ -2,8 +2,10 @@
 
 use crate::files;
 use case_files::bytes;
-use pylock_program::{Inputs, Pieces, Room, RunFault, ToWrite, run, run_leaving};
+use pylock_command::Task;
+use pylock_program::{FileFault, Files, Pieces, Room, ToWrite, perform, run};
 use std::alloc::{AllocError, Global};
+use std::fmt::Debug;
 use toml::Table;
 
 /// The most bytes that a run asks for at once.
@@ -12,14 +14,33 @@ const PIECE: usize = 65_536;
 /// The lengths of the pieces that the input of a case with the key `cut` is given in too.
 const PIECES: [usize; 5] = [1, 2, 3, 65_535, 65_536];
 
-/// What the run prints, and its status; no more than `brief` says where the case has that key. A
-/// run that leaves its session as it is has to end alike; and where the case has the key `cut`, one
-/// with its input in pieces and its text byte by byte.
+/// The bytes of a lock and of an environment, which are files of these names too.
+#[derive(Drop)]
+struct Inputs {
+    lock: Vec<u8>,
+    environment: Vec<u8>,
+}
+
+impl Files for Inputs {
+    ghost read_gives = { λ _ _ _. Unit {0} };
+
+    fn read(&self, path: &str) -> Result<Vec<u8>, FileFault> {
+        match path {
+            "lock" => Ok(self.lock.clone()?),
+            "environment" => Ok(self.environment.clone()?),
+            _ => Err(FileFault::Read),
+        }
+    }
+}
+
+/// What the run prints, and its status; no more than `brief` says where the case has that key. The
+/// program has to end alike; and where the case has the key `cut`, a run with its input in pieces
+/// and its text byte by byte.
 pub(crate) fn tell(alloc: Global, case: &Table) -> anyhow::Result<String> {
-    let inputs = inputs(alloc, case)?;
+    let inputs = read_inputs(alloc, case)?;
     let input = bytes(alloc, case, "input")?;
     let report = report(alloc, &inputs, &input)?;
-    compare_left(alloc, &inputs, &input, report.as_str())?;
+    compare_program(alloc, &inputs, &input, report.as_str())?;
     if case.contains_key("cut") {
         compare_cuts(alloc, &inputs, &input, report.as_str())?;
     }
@@ -48,7 +69,7 @@ fn front(line: &str) -> &str {
     line.get(..60).unwrap_or(line)
 }
 
-fn inputs(alloc: Global, case: &Table) -> anyhow::Result<Inputs> {
+fn read_inputs(alloc: Global, case: &Table) -> anyhow::Result<Inputs> {
     let lock = files::lock(alloc, case)?;
     let environment = files::environment(alloc, case)?;
     Ok(Inputs { lock, environment })
@@ -69,7 +90,7 @@ fn report(alloc: Global, inputs: &Inputs, input: &[u8]) -> anyhow::Result<String
 }
 
 /// The text, and the status in a line of its own.
-pub(crate) fn ended(text: Vec<u8>, end: Result<u8, RunFault>) -> anyhow::Result<String> {
+pub(crate) fn ended<E: Debug + Drop>(text: Vec<u8>, end: Result<u8, E>) -> anyhow::Result<String> {
     let mut text = String::from_utf8(text)?;
     match end {
         Ok(status) => writeln!(text, "status {status}")?,
@@ -78,25 +99,25 @@ pub(crate) fn ended(text: Vec<u8>, end: Result<u8, RunFault>) -> anyhow::Result<
     Ok(text)
 }
 
-fn compare_left(alloc: Global, inputs: &Inputs, input: &[u8], report: &str) -> anyhow::Result<()> {
-    let left = left_report(alloc, inputs, input)?;
-    if left.as_str() != report {
-        return Err(anyhow::anyhow!("another report where the session is left"));
+fn compare_program(
+    alloc: Global,
+    inputs: &Inputs,
+    input: &[u8],
+    report: &str,
+) -> anyhow::Result<()> {
+    let printed = program_report(alloc, inputs, input)?;
+    if printed.as_str() != report {
+        return Err(anyhow::anyhow!("another report of the program"));
     }
     Ok(())
 }
 
-fn left_report(alloc: Global, inputs: &Inputs, input: &[u8]) -> anyhow::Result<String> {
+fn program_report(alloc: Global, inputs: &Inputs, input: &[u8]) -> anyhow::Result<String> {
     let mut text = Vec::new(alloc);
     let mut reader = Pieces::new(input, PIECE, None);
     let mut writer = ToWrite::new(&mut text);
-    let end = run_leaving(
-        alloc,
-        &inputs.lock,
-        &inputs.environment,
-        &mut reader,
-        &mut writer,
-    );
+    let task = Task::Select("lock", "environment");
+    let end = perform(alloc, task, inputs, &mut reader, &mut writer);
     ended(text, end)
 }
 

@@ -4,8 +4,7 @@
 
 use pylock_command::{CommandError, Task, command};
 use pylock_program::{
-    Failure, FileFault, Files, FromRead, Query, Sink, ToWrite, Work, greet, query, read_file,
-    read_inputs, run_leaving, words_failure, work_of,
+    Failure, FileFault, Files, FromRead, ToWrite, perform, read_file, words_failure,
 };
 use std::process::ExitCode;
 use std::{env, fs};
@@ -17,9 +16,7 @@ struct HostFiles<'a> {
 }
 
 impl<'a> Files for HostFiles<'a> {
-    ghost use Rattle.std.specs.Prelude.{None};
-
-    ghost content = { λ _ _. None };
+    ghost read_gives = { λ _ _ _. Unit {0} };
 
     fn read(&self, path: &str) -> Result<Vec<u8>, FileFault> {
         match fs::open(self.rt, path) {
@@ -29,35 +26,17 @@ impl<'a> Files for HostFiles<'a> {
     }
 }
 
-/// Runs `select` on the files of this lock and this environment.
-fn select<W: Sink>(rt: &HostRuntime, lock: &str, env: &str, writer: &mut W) -> Result<u8, Failure> {
-    let inputs = read_inputs(&HostFiles { rt }, lock, env)?;
-    let mut reader = FromRead::new(rt.stdin());
-    let (lock, env) = (inputs.lock.as_slice(), inputs.environment.as_slice());
-    Ok(run_leaving(rt.alloc(), lock, env, &mut reader, writer)?)
-}
-
-/// Answers `marker` in the environment of this file.
-fn judge<W: Sink>(
-    rt: &HostRuntime,
-    marker: &str,
-    env: &str,
-    writer: &mut W,
-) -> Result<u8, Failure> {
-    let environment = HostFiles { rt }.read(env)?;
-    let asked = Query::Marker(marker, environment.as_slice());
-    Ok(query(rt.alloc(), asked, writer)?)
-}
-
 /// Does the task on the files, standard input and standard output of the host.
-fn perform(rt: &HostRuntime, task: Task<'_>) -> Result<u8, Failure> {
+fn perform_here(rt: &HostRuntime, task: Task<'_>) -> Result<u8, Failure> {
+    let mut reader = FromRead::new(rt.stdin());
     let mut writer = ToWrite::new(rt.stdout());
-    match work_of(task) {
-        Work::Greet => greet(&mut writer),
-        Work::Select(lock, env) => select(rt, lock, env, &mut writer),
-        Work::Judge(marker, env) => judge(rt, marker, env, &mut writer),
-        Work::Ask(asked) => Ok(query(rt.alloc(), asked, &mut writer)?),
-    }
+    perform(
+        rt.alloc(),
+        task,
+        &HostFiles { rt },
+        &mut reader,
+        &mut writer,
+    )
 }
 
 /// The words of the command line.
@@ -86,7 +65,7 @@ fn main(rt: HostRuntime) -> ExitCode {
         return fail(&rt, Failure::Memory);
     };
     match command(rt.alloc(), &words) {
-        Ok(task) => match perform(&rt, task) {
+        Ok(task) => match perform_here(&rt, task) {
             Ok(status) => ExitCode::from(status),
             Err(failure) => fail(&rt, failure),
         },

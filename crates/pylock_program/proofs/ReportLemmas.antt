@@ -1,18 +1,17 @@
 -- From the editing by an input to the report on its lines.
-use Rattle.std.proofs.Common.{◌≡◌, ℕ, ◌+◌, ◌<◌, ◌≤◌, List, [], ◌++◌, length, cond, ◌&&◌, not, Result, Ok, Err, IfOk, OnOk, IfErr, OnErr, refl, sym, ap, ◌∙◌, arith, append_assoc, subst, inl, inr, ⊎_elim}
+use Rattle.std.proofs.Common.{◌≡◌, ℕ, ◌+◌, ◌<◌, ◌≤◌, List, [], ◌++◌, length, cond, ◌&&◌, not, Result, Ok, Err, refl, sym, ap, ◌∙◌, arith, append_assoc, subst, inl, inr, ⊎_elim}
 use Rattle.std.proofs.KnownBytes.{Appends-trans, Consumes-nil}
 use Rattle.std.specs.Io.KnownBytes.{Appends, IsAtEnd}
 use Rattle.pylock_core.specs.Session.State.{State}
 use Rattle.pylock_core.specs.Session.Steps.{answer}
 use Rattle.pylock_program.specs.Inner.Edited.{EditsAll, EditFault}
 use Rattle.pylock_program.specs.Inner.Editing.{At, start, bytes_done, bytes_text, finished, finished_text, lines_begun}
-use Rattle.pylock_program.specs.Inner.Faults.{IsOutputFault}
 use Rattle.pylock_program.specs.Inner.Writes.{Writes}
 use Rattle.pylock_program.specs.Line.{input_lines}
 use Rattle.pylock_program.specs.Report.{standing_text, is_plan, state_after_all, report_on}
+use Rattle.pylock_program.specs.Report.Print.{Prints, IsOutputFault}
 use Rattle.pylock_program.specs.Report.Run.{Reports, Stops, IsRun, most_bytes, most_lines}
 use Rattle.pylock_program.specs.Stream.{SourceValue, SinkValue, TakesFront, one_more}
-use Rattle.pylock_program.specs.Text.Refusal.{refusal_text}
 use Rattle.pylock_program.specs.declared.report.fault.RunFault.{RunFault}
 use Rattle.pylock_program.specs.declared.report.fault.RunFault.TheVariants.{Memory}
 use Rattle.pylock_program.specs.declared.report.opening.OpenError.{OpenError}
@@ -168,35 +167,32 @@ abbrev pub refused_begin : OpenError → Result State OpenError
 refused_begin error = Err error
 
 refused_runs_at : (error : OpenError) (source : SourceValue) (sink sink' : SinkValue) (r : Result ℕ RunFault)
-    → IfOk r (λ status. status ≡ 2) → OnOk r (Writes sink sink' (refusal_text error)) → OnErr r (TakesFront sink sink' (refusal_text error))
-    → IfErr r (IsOutputFault sink sink') → IsRun (refused_begin error) source source sink sink' r
-refused_runs_at error source sink sink' (Ok status) two writes front fault = record {
+    → Prints (report_on (refused_begin error) []) sink sink' r → IsRun (refused_begin error) source source sink sink' r
+refused_runs_at error source sink sink' (Ok status) prints = record {
   reports = record {
     input = [];
     gave = Consumes-nil source.rest;
-    took = writes.held;
-    answers = two;
+    took = prints.text;
+    answers = prints.status;
     reads = refl;
-    writes = writes.counted;
+    writes = prints.counted;
     ends = inl refl;
   };
   stops = tt;
   unasked = λ refused. refl;
 }
-refused_runs_at error source sink sink' (Err met) two writes front fault = record {
+refused_runs_at error source sink sink' (Err met) prints = record {
   reports = tt;
   stops = record {
     input = [];
     gave = Consumes-nil source.rest;
-    front = front;
-    cause = HasCause-map _ _ _ _ _ _ _ _ met (λ none. absurd none) (λ failed. (refl, failed)) (λ none. absurd none) (λ memory. (refl, memory)) fault;
+    front = prints.front;
+    cause = HasCause-map _ _ _ _ _ _ _ _ met (λ none. absurd none) (λ failed. (refl, failed)) (λ none. absurd none) (λ memory. (refl, memory)) prints.fault;
   };
   unasked = λ refused. refl;
 }
 
 pub refused_runs : (begins : Result State OpenError) (error : OpenError) (source : SourceValue) (sink sink' : SinkValue) (r : Result ℕ RunFault)
-    → begins ≡ Err error
-    → IfOk r (λ status. status ≡ 2) → OnOk r (Writes sink sink' (refusal_text error)) → OnErr r (TakesFront sink sink' (refusal_text error))
-    → IfErr r (IsOutputFault sink sink') → IsRun begins source source sink sink' r
-refused_runs begins error source sink sink' r same two writes front fault =
-    subst (λ b. IsRun b source source sink sink' r) (sym same) (refused_runs_at error source sink sink' r two writes front fault)
+    → begins ≡ Err error → Prints (report_on (refused_begin error) []) sink sink' r → IsRun begins source source sink sink' r
+refused_runs begins error source sink sink' r same prints =
+    subst (λ b. IsRun b source source sink sink' r) (sym same) (refused_runs_at error source sink sink' r prints)

@@ -1,34 +1,22 @@
 -- What the program does with its task, and how it ends.
-use Rattle.std.specs.Prelude.{ℕ, List, codes}
+use Rattle.std.specs.Prelude.{◌≡◌, ◌≢◌, ℕ, List, codes, Result, Ok, Err}
+use Rattle.std.specs.Result.{result_map_both}
 use Rattle.pylock_command.specs.declared.command_line.Task.{Task}
 use Rattle.pylock_command.specs.declared.command_line.Task.TheVariants as task
+use Rattle.pylock_program.specs.Reply.{reply, reply_of, marker_answer}
+use Rattle.pylock_program.specs.Report.{Report, opened}
+use Rattle.pylock_program.specs.Report.Print.{Prints}
+use Rattle.pylock_program.specs.Report.Run.{IsRun}
+use Rattle.pylock_program.specs.Stream.{SourceValue, SinkValue}
 use Rattle.pylock_program.specs.declared.program.Failure.{Failure}
 use Rattle.pylock_program.specs.declared.program.Failure.TheVariants.{NotText, File, Read, Write}
 use Rattle.pylock_program.specs.declared.program.Failure.TheVariants.{Input}
 use Rattle.pylock_program.specs.declared.program.Failure.TheVariants.{Memory}
-use Rattle.pylock_program.specs.declared.program.Work.{Work}
-use Rattle.pylock_program.specs.declared.program.Work.TheVariants.{Greet, Select, Judge, Ask}
 use Rattle.pylock_program.specs.declared.reply.queries.Query.TheVariants as query
 use Rattle.pylock_program.specs.declared.report.fault.RunFault.{RunFault}
 use Rattle.pylock_program.specs.declared.report.fault.RunFault.TheVariants as run
 use Rattle.pylock_program.specs.declared.stream.whole.FileFault.{FileFault}
 use Rattle.pylock_program.specs.declared.stream.whole.FileFault.TheVariants as file
-
--- what each task comes to; `select` reads its first file as the lock and its second as the
--- environment
-abbrev pub work_of : Task → Work
-work_of task.Bare = Greet
-work_of (task.Select lock environment) = Select lock environment
-work_of (task.Version text) = Ask (query.Version text)
-work_of (task.Match set version) = Ask (query.Match set version)
-work_of (task.Name text) = Ask (query.Name text)
-work_of (task.Marker text environment) = Judge text environment
-work_of (task.Requirement text) = Ask (query.Requirement text)
-work_of (task.Wheel text) = Ask (query.Wheel text)
-
--- what the program prints without words
-abbrev pub greeting : List ℕ
-greeting = codes "pylock 1\n"
 
 -- the most bytes of a file
 abbrev pub most_file_bytes : ℕ
@@ -59,3 +47,69 @@ failure_message Memory = codes "memory"
 abbrev pub failure_status : Failure → ℕ
 failure_status NotText = 2
 failure_status _ = 3
+
+-- ---- what the program does with a task
+
+-- what is said of standard input, of standard output, and of how the program ends
+abbrev pub Outcome : Type 1
+Outcome = SourceValue → SourceValue → SinkValue → SinkValue → Result ℕ Failure → Type 0
+
+-- the end of a run or of a reply, whose fault is told as a failure
+abbrev pub told : Result ℕ RunFault → Result ℕ Failure
+told end = result_map_both (λ status. status) run_failure end
+
+pub record Tells (IsEnd : Result ℕ RunFault → Type 0) (result : Result ℕ Failure) : Type 0 where
+  pub end : Result ℕ RunFault
+  pub is_end : IsEnd end
+  pub tells : result ≡ told end
+
+-- a report is printed, and standard input isn't read
+abbrev pub Replies : Report → Outcome
+Replies report source source' sink sink' result =
+    Tells (Prints report sink sink') result × (source' ≡ source)
+
+-- a run
+abbrev pub Runs : List ℕ → List ℕ → Outcome
+Runs lock environment source source' sink sink' result =
+    Tells (IsRun (opened lock environment) source source' sink sink') result
+
+-- what the bytes of a file lead to; a fault of the file is told, and nothing else is done
+abbrev pub LeadsTo : (List ℕ → Outcome) → Result (List ℕ) FileFault → Outcome
+LeadsTo outcome (Ok bytes) source source' sink sink' result =
+    outcome bytes source source' sink sink' result
+LeadsTo outcome (Err fault) source source' sink sink' result =
+    (result ≡ Err (file_failure fault)) × (source' ≡ source) × (sink' ≡ sink)
+
+-- what a read of the file at a path may give
+abbrev pub Reads : Type 1
+Reads = List ℕ → Result (List ℕ) FileFault → Type 0
+
+-- the file at a path is read first
+pub record Opens (gives : Reads) (path : List ℕ) (outcome : List ℕ → Outcome)
+    (source source' : SourceValue) (sink sink' : SinkValue) (result : Result ℕ Failure)
+    : Type 0 where
+  pub read : Result (List ℕ) FileFault
+  pub given : gives path read
+  pub leads : LeadsTo outcome read source source' sink sink' result
+
+-- what the program prints without words; it takes no memory
+abbrev pub greeting : Report
+greeting = record { text = codes "pylock 1\n"; status = 0 }
+
+abbrev pub Greets : Outcome
+Greets source source' sink sink' result =
+    Replies greeting source source' sink sink' result × (result ≢ Err Memory)
+
+-- What the program does with each task, by what reads of files may give. `select` reads its first
+-- file as the lock, and then its second as the environment.
+abbrev pub Performs : Reads → Task → Outcome
+Performs gives task.Bare = Greets
+Performs gives (task.Select lock environment) =
+    Opens gives lock.now (λ lock. Opens gives environment.now (Runs lock))
+Performs gives (task.Version text) = Replies (reply (query.Version text))
+Performs gives (task.Match set version) = Replies (reply (query.Match set version))
+Performs gives (task.Name text) = Replies (reply (query.Name text))
+Performs gives (task.Marker text environment) =
+    Opens gives environment.now (λ bytes. Replies (reply_of (marker_answer text.now bytes)))
+Performs gives (task.Requirement text) = Replies (reply (query.Requirement text))
+Performs gives (task.Wheel text) = Replies (reply (query.Wheel text))

@@ -1,5 +1,6 @@
 -- The report of a run over a lock, an environment and an input: what it prints, and its status.
 pub mod Fault
+pub mod Print
 pub mod Run
 use Rattle.std.specs.Prelude.{ℕ, ◌+◌, ◌++◌, ◌&&◌, ◌||◌, not, Bool, true, false, if◌then◌else◌}
 use Rattle.std.specs.Prelude.{List, [], ◌∷◌, Result, Ok, Err}

@@ -10,13 +10,11 @@ mod report;
 mod stream;
 mod text;
 
-pub use program::{
-    FILE_BYTES, Failure, Files, Inputs, Work, greet, read_file, read_inputs, words_failure, work_of,
-};
+pub use program::{FILE_BYTES, Failure, Files, perform, read_file, words_failure};
 pub use reply::queries::Query;
 pub use reply::query;
 pub use report::fault::RunFault;
-pub use report::run::{run, run_leaving};
+pub use report::run::run;
 pub use stream::memory::{Pieces, Room};
 pub use stream::whole::{FileFault, read_whole};
 pub use stream::wrapper::{FromRead, ToWrite};

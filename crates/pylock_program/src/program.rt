@@ -1,18 +1,23 @@
 //! What the program does with its task, and how it ends.
 
-ghost use Rattle.std.specs.Prelude.{◌≡◌, ◌≢◌, List, Option, ℕ, IfErr, IfOk, IfSome, OnErr, OnOk};
-ghost use Rattle.std.specs.Io.KnownBytes.{Appends};
-ghost use Rattle.pylock_program.specs.Program.{work_of, greeting, most_file_bytes};
-ghost use Rattle.pylock_program.specs.Program.{failure_message, failure_status};
-ghost use Rattle.pylock_program.specs.Stream.{TakesFront, one_more};
+ghost use Rattle.std.specs.Prelude.{◌≡◌, ◌≢◌, Err, IfErr, IfOk};
+ghost use Rattle.std.specs.Result.{result_map_both};
+ghost use Rattle.pylock_program.specs.Program.{most_file_bytes, failure_message, failure_status};
+ghost use Rattle.pylock_program.specs.Program.{Opens, Performs, Reads, Replies, Runs, Tells};
+ghost use Rattle.pylock_program.specs.Program.{greeting, told};
+ghost use Rattle.pylock_program.specs.Reply.{marker_answer, reply, reply_of};
+ghost use Rattle.pylock_program.specs.Report.Print.{Prints};
+ghost use Rattle.pylock_program.specs.Stream.{SourceValue};
 ghost use Rattle.pylock_program.specs.Stream.Whole.{GivesAll, IsCause};
 ghost use Rattle.pylock_program.specs.declared.program.Failure.TheVariants as failure;
 
 use crate::reply::queries::Query;
+use crate::reply::query;
 use crate::report::fault::RunFault;
+use crate::report::print::print;
+use crate::report::run::run_whole;
 use crate::stream::whole::{FileFault, read_whole};
-use crate::stream::writer::write_all;
-use crate::stream::{IoFault, Sink, Source};
+use crate::stream::{Sink, Source};
 use pylock_command::Task;
 use std::alloc::Global;
 use std::io::ErrorKind;
@@ -21,35 +26,6 @@ use std::io::ErrorKind;
 pub const FILE_BYTES: u64 = 268_435_456;
 
 const GREETING: &[u8] = b"pylock 1\n";
-
-/// What a task comes to.
-#[derive(Clone, Copy, Debug)]
-pub enum Work<'a> {
-    /// The greeting.
-    Greet,
-    /// A run on the lock and the environment that stand in these files.
-    Select(&'a str, &'a str),
-    /// The reply to `marker`: a marker, and the file in which the environment stands.
-    Judge(&'a str, &'a str),
-    /// A reply.
-    Ask(Query<'a>),
-}
-
-/// What the task comes to.
-pub fn work_of(task: Task<'_>) -> Work<'_>
-    ensures { result ≡ work_of task.entry }
-{
-    match task {
-        Task::Bare => Work::Greet,
-        Task::Select(lock, env) => Work::Select(lock, env),
-        Task::Version(text) => Work::Ask(Query::Version(text)),
-        Task::Match(set, version) => Work::Ask(Query::Match(set, version)),
-        Task::Name(text) => Work::Ask(Query::Name(text)),
-        Task::Marker(text, env) => Work::Judge(text, env),
-        Task::Requirement(text) => Work::Ask(Query::Requirement(text)),
-        Task::Wheel(text) => Work::Ask(Query::Wheel(text)),
-    }
-}
 
 /// Why the program ends without an answer.
 #[derive(Clone, Copy, Debug, PartialEq, Eq)]
@@ -135,42 +111,13 @@ pub fn words_failure(kind: ErrorKind) -> Failure
 
 /// Where files are read.
 pub trait Files {
-    // What stands in a file, where it is told.
-    ghost content: { Self → List ℕ → Option (List ℕ) };
+    // What a read of the file at a path may give.
+    ghost read_gives: { Self → Reads };
 
     /// All bytes of the file at this path.
     fn read(&self, path: &str) -> Result<Vec<u8>, FileFault>
-        ensures { IfOk result (λ bytes. IfSome (content self.now path.now)
-            (λ known. bytes.items ≡ known)) };
-}
-
-/// The two files of a run.
-pub struct Inputs {
-    /// The bytes of the lock.
-    pub lock: Vec<u8>,
-    /// The bytes of the environment.
-    pub environment: Vec<u8>,
-}
-
-impl Drop for Inputs {
-    fn drop(self) {
-        let Inputs {
-            lock: _,
-            environment: _,
-        } = self;
-    }
-}
-
-/// Reads the lock and then the environment. Takes memory for both.
-pub fn read_inputs<F: Files>(files: &F, lock: &str, environment: &str) -> Result<Inputs, FileFault>
-    ensures lock { IfOk result (λ inputs. IfSome (F.content files.now lock.now)
-        (λ known. inputs.lock.items ≡ known)) }
-    ensures environment { IfOk result (λ inputs. IfSome (F.content files.now environment.now)
-        (λ known. inputs.environment.items ≡ known)) }
-{
-    let lock = files.read(lock)?;
-    let environment = files.read(environment)?;
-    Ok(Inputs { lock, environment })
+        ensures { read_gives self.now path.now
+            (result_map_both (λ bytes. bytes.items) (λ fault. fault) result) };
 }
 
 /// All bytes of a file, as `read_whole` says, of which there may be 268,435,456.
@@ -182,17 +129,80 @@ pub fn read_file<R: Source>(alloc: Global, file: &mut R) -> Result<Vec<u8>, File
     read_whole(alloc, file, FILE_BYTES)
 }
 
-/// Writes what the program prints without words, and answers its status, 0. It takes no memory.
-pub fn greet<W: Sink>(writer: &mut W) -> Result<u8, Failure>
-    ensures text { OnOk result
-        (Appends (W.value writer.old).held (W.value writer.new).held greeting) }
-    ensures status { IfOk result (λ status. status ≡ 0) }
-    ensures front { OnErr result (TakesFront (W.value writer.old) (W.value writer.new) greeting) }
-    ensures failed { IfErr result (λ met. (met ≡ failure.Write)
-        × ((W.value writer.new).failures ≡ one_more (W.value writer.old).failures)) }
+/// Does the task on the files, standard input and standard output, and answers the status of the
+/// program. Of the files of `select` the lock is read first, and both before either is judged. The
+/// memory of a session isn't given back but left to the system, for the program ends then.
+pub fn perform<F: Files, R: Source, W: Sink>(
+    alloc: Global,
+    task: Task<'_>,
+    files: &F,
+    reader: &mut R,
+    writer: &mut W,
+) -> Result<u8, Failure>
+    ensures { Performs (F.read_gives files.now) task.entry
+        (R.value reader.old) (R.value reader.new) (W.value writer.old) (W.value writer.new) result }
 {
-    match write_all(writer, GREETING) {
-        Ok(()) => Ok(0),
-        Err(IoFault) => Err(Failure::Write),
+    match task {
+        Task::Bare => greet(writer),
+        Task::Select(lock, environment) => select(alloc, files, lock, environment, reader, writer),
+        Task::Version(text) => answer(alloc, Query::Version(text), writer),
+        Task::Match(set, version) => answer(alloc, Query::Match(set, version), writer),
+        Task::Name(text) => answer(alloc, Query::Name(text), writer),
+        Task::Marker(text, environment) => judge(alloc, files, text, environment, writer),
+        Task::Requirement(text) => answer(alloc, Query::Requirement(text), writer),
+        Task::Wheel(text) => answer(alloc, Query::Wheel(text), writer),
     }
+}
+
+fn greet<W: Sink>(writer: &mut W) -> Result<u8, Failure>
+    ensures prints { Tells (Prints greeting (W.value writer.old) (W.value writer.new)) result }
+    ensures ample { result ≢ Err failure.Memory }
+{
+    told(print(GREETING, 0, writer))
+}
+
+fn select<F: Files, R: Source, W: Sink>(
+    alloc: Global,
+    files: &F,
+    lock: &str,
+    environment: &str,
+    reader: &mut R,
+    writer: &mut W,
+) -> Result<u8, Failure>
+    ensures { Opens (F.read_gives files.now) lock.now
+        (λ lock. Opens (F.read_gives files.now) environment.now (Runs lock))
+        (R.value reader.old) (R.value reader.new) (W.value writer.old) (W.value writer.new) result }
+{
+    let lock = files.read(lock)?;
+    let environment = files.read(environment)?;
+    told(run_whole(alloc, &lock, &environment, true, reader, writer))
+}
+
+/// Answers `marker` in the environment of a file.
+fn judge<F: Files, W: Sink>(
+    alloc: Global,
+    files: &F,
+    marker: &str,
+    environment: &str,
+    writer: &mut W,
+) -> Result<u8, Failure>
+    ensures { (source : SourceValue) → Opens (F.read_gives files.now) environment.now
+        (λ bytes. Replies (reply_of (marker_answer marker.now bytes)))
+        source source (W.value writer.old) (W.value writer.new) result }
+{
+    let environment = files.read(environment)?;
+    answer(alloc, Query::Marker(marker, &environment), writer)
+}
+
+fn answer<W: Sink>(alloc: Global, asked: Query<'_>, writer: &mut W) -> Result<u8, Failure>
+    ensures { Tells (Prints (reply asked.entry) (W.value writer.old) (W.value writer.new)) result }
+{
+    told(query(alloc, asked, writer))
+}
+
+/// The end of a run or of a reply, as the program tells it.
+fn told(end: Result<u8, RunFault>) -> Result<u8, Failure>
+    ensures { result ≡ told end }
+{
+    Ok(end?)
 }

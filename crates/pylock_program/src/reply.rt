@@ -1,10 +1,9 @@
 //! The replies of the one-shot commands.
 
-ghost use Rattle.std.specs.Prelude.{◌≡◌, ◌++◌, ◌∷◌, IfOk, OnOk, OnErr, IfErr, Ok, Some, option_map};
+ghost use Rattle.std.specs.Prelude.{◌≡◌, ◌++◌, ◌∷◌, IfOk, OnOk, Ok, Some, option_map};
 ghost use Rattle.std.specs.Prelude.{[], codes, map, string_bytes};
 ghost use Rattle.std.specs.Option.{option_copied};
 ghost use Rattle.std.specs.List.{join_by};
-ghost use Rattle.std.specs.Io.KnownBytes.{Appends};
 ghost use Rattle.pyver_core.specs.Name.{norm};
 ghost use Rattle.pywheel_core.specs.Tag.{tag_text};
 ghost use Rattle.pylock_program.specs.Inner.Reply.{Pushes};
@@ -15,16 +14,15 @@ ghost use Rattle.pylock_program.specs.Reply.{value_answer};
 ghost use Rattle.pylock_program.specs.Reply.{requirement_answer, requirement_line, names_text};
 ghost use Rattle.pylock_program.specs.Reply.{specifiers_text, wheel_answer, wheel_line};
 ghost use Rattle.pylock_program.specs.Reply.{refused, faulty};
-ghost use Rattle.pylock_program.specs.Report.Fault.{HasCause};
-ghost use Rattle.pylock_program.specs.Stream.{TakesFront, one_more};
+ghost use Rattle.pylock_program.specs.Report.Print.{Prints};
 ghost use Rattle.pylock_program.specs.Text.Field.{field, line_of};
 
 pub mod queries;
 
 use crate::reply::queries::Query;
 use crate::report::fault::RunFault;
+use crate::report::print::print;
 use crate::stream::Sink;
-use crate::stream::writer::write_all;
 use crate::text::field::{push_field, push_last_word, push_next};
 use crate::text::plan::fault_word;
 use crate::text::refusal::push_environment_error;
@@ -38,27 +36,11 @@ use std::alloc::{AllocError, Global};
 /// where a text is refused or a marker has a fault, 2 where the environment is refused. After a
 /// fault a front of the reply is written. Takes memory for what it parses and for the reply.
 pub fn query<W: Sink>(alloc: Global, query: Query<'_>, writer: &mut W) -> Result<u8, RunFault>
-    ensures text { OnOk result (Appends (W.value writer.old).held (W.value writer.new).held
-        (reply query.entry).text) }
-    ensures status { IfOk result (λ status. status ≡ (reply query.entry).status) }
-    ensures counted { OnOk result
-        ((W.value writer.new).failures ≡ (W.value writer.old).failures) }
-    ensures front { OnErr result (TakesFront (W.value writer.old) (W.value writer.new)
-        (reply query.entry).text) }
-
-    // A write failed, or a growth was refused and no write failed.
-    ensures fault { IfErr result (HasCause
-        ⊥
-        ((W.value writer.new).failures ≡ one_more (W.value writer.old).failures)
-        ⊥
-        ((W.value writer.new).failures ≡ (W.value writer.old).failures)) }
+    ensures { Prints (reply query.entry) (W.value writer.old) (W.value writer.new) result }
 {
     let mut out = Vec::new(alloc);
     let status = push_reply(alloc, &mut out, query)?;
-    match write_all(writer, &out) {
-        Ok(()) => Ok(status),
-        Err(_) => Err(RunFault::Write),
-    }
+    print(&out, status, writer)
 }
 
 fn push_reply(alloc: Global, out: &mut Vec<u8>, query: Query<'_>) -> Result<u8, AllocError>

@@ -3,4 +3,5 @@
 pub mod editing;
 pub mod fault;
 pub mod opening;
+pub mod print;
 pub mod run;

@@ -1,8 +1,8 @@
 //! What the tests share. What makes a room asserts nothing while it has it: it lends what is
 //! written to what asserts and has nothing to drop.
 
-use pylock_program::{Room, RunFault, Source, run};
-use std::alloc::AllocError;
+use pylock_program::{FileFault, Files, Room, RunFault, Source, run};
+use std::alloc::{AllocError, Global};
 use std::io;
 use std::io::Read;
 use std::process::Abort;
@@ -35,6 +35,42 @@ impl<'a> Read for Narrow<'a> {
         }
         self.rest.read(buf)
     }
+}
+
+/// A lock and an environment, as files of these names.
+#[derive(Drop)]
+pub(crate) struct Shelf<'a> {
+    alloc: Global,
+    lock: &'a [u8],
+    environment: &'a [u8],
+}
+
+impl<'a> Shelf<'a> {
+    pub(crate) fn new(alloc: Global, lock: &'a [u8], environment: &'a [u8]) -> Shelf<'a> {
+        Shelf {
+            alloc,
+            lock,
+            environment,
+        }
+    }
+}
+
+impl<'a> Files for Shelf<'a> {
+    ghost read_gives = { λ _ _ _. Unit {0} };
+
+    fn read(&self, path: &str) -> Result<Vec<u8>, FileFault> {
+        match path {
+            "lock" => Ok(Vec::from_slice(self.alloc, self.lock)?),
+            "environment" => Ok(Vec::from_slice(self.alloc, self.environment)?),
+            "large" => Err(FileFault::Limit),
+            "full" => Err(FileFault::Memory),
+            _ => Err(FileFault::Read),
+        }
+    }
+}
+
+pub(crate) fn check_bytes<R: Abort>(rt: &R, bytes: &[u8], wanted: &[u8]) {
+    assert_eq!(rt; bytes, wanted);
 }
 
 /// What a call answers, and the text that it writes.

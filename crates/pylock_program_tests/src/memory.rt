@@ -1,8 +1,9 @@
 //! Runs one after another, whose memory `tools/program` measures: a run gives that of its session
-//! back, and a run that leaves its session doesn't.
+//! back, and the program, which ends then, doesn't.
 
-use crate::check::{ENVIRONMENT, HEAD};
-use pylock_program::{Pieces, Room, RunFault, run, run_leaving};
+use crate::check::{ENVIRONMENT, HEAD, Shelf};
+use pylock_command::Task;
+use pylock_program::{Pieces, Room, perform, run};
 use std::alloc::{AllocError, Global};
 use std::process::Abort;
 use std::test::Fail;
@@ -18,15 +19,17 @@ fn lock(alloc: Global) -> Result<String, AllocError> {
     Ok(lock)
 }
 
-/// What a run over no input answers.
-fn answer(alloc: Global, lock: &[u8], leaves: bool) -> Result<Result<u8, RunFault>, AllocError> {
+/// What a run over no input answers, or the program.
+fn status(alloc: Global, lock: &[u8], leaves: bool) -> Result<Option<u8>, AllocError> {
     let mut room = Room::new(alloc, 100, 100, None)?;
     let mut reader = Pieces::new(b"", 1, None);
     let environment = ENVIRONMENT.as_bytes();
     if leaves {
-        Ok(run_leaving(alloc, lock, environment, &mut reader, &mut room))
+        let shelf = Shelf::new(alloc, lock, environment);
+        let task = Task::Select("lock", "environment");
+        Ok(perform(alloc, task, &shelf, &mut reader, &mut room).ok())
     } else {
-        Ok(run(alloc, lock, environment, &mut reader, &mut room))
+        Ok(run(alloc, lock, environment, &mut reader, &mut room).ok())
     }
 }
 
@@ -37,7 +40,7 @@ fn check_runs<R: Abort + AllocGlobal>(
     leaves: bool,
 ) -> Result<(), AllocError> {
     for _ in 0..times {
-        assert_eq!(rt; answer(rt.alloc(), lock, leaves)?, Ok(0));
+        assert_eq!(rt; status(rt.alloc(), lock, leaves)?, Some(0));
     }
     Ok(())
 }

@@ -1,69 +1,84 @@
 //! What the program does with its task, over files in memory.
 
+use crate::check::{ENVIRONMENT, HEAD, Shelf, check_bytes};
+use pylock_command::Task;
 use pylock_program::{
-    Failure, FileFault, Files, Inputs, Pieces, Room, RunFault, greet, read_file, read_inputs,
-    words_failure,
+    Failure, FileFault, Pieces, Room, RunFault, perform, read_file, words_failure,
 };
 use std::alloc::{AllocError, Global};
 use std::io::ErrorKind;
 use std::process::Abort;
 use std::test::Fail;
 
-/// A lock and an environment.
-#[derive(Drop)]
-struct Shelf {
-    alloc: Global,
+fn check_answer<R: Abort>(rt: &R, answer: Result<u8, Failure>, wanted: Result<u8, Failure>) {
+    assert_eq!(rt; answer, wanted);
 }
 
-impl Files for Shelf {
-    ghost use Rattle.std.specs.Prelude.{None};
-
-    ghost content = { λ _ _. None };
-
-    fn read(&self, path: &str) -> Result<Vec<u8>, FileFault> {
-        match path {
-            "lock" => Ok(Vec::from_slice(self.alloc, b"l")?),
-            "environment" => Ok(Vec::from_slice(self.alloc, b"e")?),
-            "large" => Err(FileFault::Limit),
-            _ => Err(FileFault::Read),
-        }
-    }
-}
-
-fn check_bytes<R: Abort>(rt: &R, bytes: &[u8], wanted: &[u8]) {
-    assert_eq!(rt; bytes, wanted);
-}
-
-fn check_inputs<R: Abort>(rt: &R, inputs: &Inputs) {
-    let Inputs { lock, environment } = inputs;
-    check_bytes(rt, lock.as_slice(), b"l");
-    check_bytes(rt, environment.as_slice(), b"e");
+/// A task on an empty lock and on no input, with the write of that number failing, ends so.
+fn check_task<R: Abort + AllocGlobal>(
+    rt: &R,
+    task: Task<'_>,
+    fail_at: Option<u64>,
+    wanted: Result<u8, Failure>,
+    text: &str,
+) -> Result<(), AllocError> {
+    let shelf = Shelf::new(rt.alloc(), HEAD.as_bytes(), ENVIRONMENT.as_bytes());
+    let mut reader = Pieces::new(b"", 1, None);
+    let mut room = Room::new(rt.alloc(), 100, 4, fail_at)?;
+    let answer = perform(rt.alloc(), task, &shelf, &mut reader, &mut room);
+    check_answer(rt, answer, wanted);
+    check_bytes(rt, room.bytes(), text.as_bytes());
+    Ok(())
 }
 
 #[test]
-fn reads_both_files(rt: HostRuntime) {
-    let shelf = Shelf { alloc: rt.alloc() };
-    match read_inputs(&shelf, "lock", "environment") {
-        Ok(inputs) => check_inputs(&rt, &inputs),
-        Err(fault) => assert!(rt; false, "{fault:?}"),
-    }
-}
-
-/// Why the two files aren't read.
-fn fault_of(alloc: Global, lock: &str, environment: &str) -> Option<FileFault> {
-    read_inputs(&Shelf { alloc }, lock, environment).err()
+fn greets(rt: HostRuntime) -> Result<(), Fail> {
+    check_task(&rt, Task::Bare, None, Ok(0), "pylock 1\n")?;
+    check_task(&rt, Task::Bare, Some(2), Err(Failure::Write), "pylo")?;
+    Ok(())
 }
 
 #[test]
-fn refuses_either_file(rt: HostRuntime) {
-    for (lock, environment, fault) in [
-        ("absent", "large", FileFault::Read),
-        ("large", "absent", FileFault::Limit),
-        ("lock", "absent", FileFault::Read),
-        ("lock", "large", FileFault::Limit),
+fn reads_both_files(rt: HostRuntime) -> Result<(), Fail> {
+    for (task, status, text) in [
+        (Task::Select("lock", "environment"), 0, "plan 0\n"),
+        (Task::Select("environment", "lock"), 2, "lock\ttoml\n"),
+        (Task::Select("lock", "lock"), 2, "environment\tjson\n"),
+        (Task::Marker("'a' == 'a'", "environment"), 0, "true\n"),
+        (Task::Marker("'a' == 'a'", "lock"), 2, "environment\tjson\n"),
     ] {
-        assert_eq!(rt; fault_of(rt.alloc(), lock, environment), Some(fault));
+        check_task(&rt, task, None, Ok(status), text)?;
     }
+    Ok(())
+}
+
+#[test]
+fn refuses_either_file(rt: HostRuntime) -> Result<(), Fail> {
+    for (task, failure) in [
+        (Task::Select("absent", "full"), Failure::File),
+        (Task::Select("full", "absent"), Failure::Memory),
+        (Task::Select("large", "full"), Failure::File),
+        (Task::Select("lock", "absent"), Failure::File),
+        (Task::Select("lock", "full"), Failure::Memory),
+        (Task::Marker("'a' == 'a'", "large"), Failure::File),
+    ] {
+        check_task(&rt, task, None, Err(failure), "")?;
+    }
+    Ok(())
+}
+
+#[test]
+fn replies(rt: HostRuntime) -> Result<(), Fail> {
+    for (task, status, text) in [
+        (Task::Version("1.0-rc1"), 0, "1.0rc1\n"),
+        (Task::Match("<2", "1"), 0, "true\n"),
+        (Task::Name("A_b"), 0, "a-b\n"),
+        (Task::Requirement("-a"), 1, "refused\tname\n"),
+        (Task::Wheel("a.whl"), 1, "refused\tparts\n"),
+    ] {
+        check_task(&rt, task, None, Ok(status), text)?;
+    }
+    Ok(())
 }
 
 #[test]
@@ -81,30 +96,6 @@ fn failed_read(alloc: Global) -> Option<FileFault> {
 #[test]
 fn tells_a_file_that_fails(rt: HostRuntime) {
     assert_eq!(rt; failed_read(rt.alloc()), Some(FileFault::Read));
-}
-
-fn check_answer<R: Abort>(rt: &R, answer: Result<u8, Failure>, wanted: Result<u8, Failure>) {
-    assert_eq!(rt; answer, wanted);
-}
-
-/// The greeting, with the call of that number failing, ends so.
-fn check_greeting<R: Abort + AllocGlobal>(
-    rt: &R,
-    fail_at: Option<u64>,
-    wanted: Result<u8, Failure>,
-    text: &[u8],
-) -> Result<(), AllocError> {
-    let mut room = Room::new(rt.alloc(), 9, 4, fail_at)?;
-    check_answer(rt, greet(&mut room), wanted);
-    check_bytes(rt, room.bytes(), text);
-    Ok(())
-}
-
-#[test]
-fn greets(rt: HostRuntime) -> Result<(), Fail> {
-    check_greeting(&rt, None, Ok(0), b"pylock 1\n")?;
-    check_greeting(&rt, Some(2), Err(Failure::Write), b"pylo")?;
-    Ok(())
 }
 
 #[test]

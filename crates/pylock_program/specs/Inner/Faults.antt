@@ -13,11 +13,6 @@ IsTakeFault ended fault = HasCause ⊥ ⊥ (ended ≡ most_lines) (Unit {0}) fau
 abbrev pub IsWriteFault : SinkValue → SinkValue → RunFault → Type 0
 IsWriteFault sink sink' fault = HasCause ⊥ (sink'.failures ≡ one_more sink.failures) ⊥ ⊥ fault
 
--- a write failed, or a growth was refused and no write failed
-abbrev pub IsOutputFault : SinkValue → SinkValue → RunFault → Type 0
-IsOutputFault sink sink' fault =
-    HasCause ⊥ (sink'.failures ≡ one_more sink.failures) ⊥ (sink'.failures ≡ sink.failures) fault
-
 -- a write failed; or more lines begin than there may be; or a growth was refused
 abbrev pub IsFeedFault : SinkValue → SinkValue → ℕ → RunFault → Type 0
 IsFeedFault sink sink' begun fault = HasCause

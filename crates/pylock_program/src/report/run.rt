@@ -1,6 +1,6 @@
 //! A run: edits a session by the lines of its input, and writes what they print.
 
-ghost use Rattle.std.specs.Prelude.{◌≡◌, ◌++◌, ◌<◌, ◌≤◌, ◌+◌, [], Ok, IsTrue, false, length};
+ghost use Rattle.std.specs.Prelude.{◌≡◌, ◌++◌, ◌<◌, ◌≤◌, ◌+◌, [], Ok, Err, IsTrue, false, length};
 ghost use Rattle.std.specs.Prelude.{take};
 ghost use Rattle.std.specs.Prelude.{OnOk, IfOk, IfErr, OnErr};
 ghost use Rattle.std.specs.Io.KnownBytes.{Consumes, IsAtEnd};
@@ -8,16 +8,17 @@ ghost use Rattle.pylock_program.specs.Inner.Edited.{Edited, EditsAll, IsReadFaul
 ghost use Rattle.pylock_program.specs.Inner.Editing.{start, bytes_done, bytes_text, finished};
 ghost use Rattle.pylock_program.specs.Inner.Editing.{finished_text};
 ghost use Rattle.pylock_program.specs.Inner.Editing.{lines_begun};
-ghost use Rattle.pylock_program.specs.Inner.Faults.{IsWriteFault, IsFeedFault, IsOutputFault};
+ghost use Rattle.pylock_program.specs.Inner.Faults.{IsWriteFault, IsFeedFault};
 ghost use Rattle.pylock_program.specs.Inner.Writes.{Writes, Pours};
-ghost use Rattle.pylock_program.specs.Report.{standing_text, opened};
+ghost use Rattle.pylock_program.specs.Report.{standing_text, opened, report_on};
+ghost use Rattle.pylock_program.specs.Report.Print.{Prints, IsOutputFault};
 ghost use Rattle.pylock_program.specs.Report.Run.{IsRun, most_bytes, most_lines};
 ghost use Rattle.pylock_program.specs.Stream.{TakesFront};
-ghost use Rattle.pylock_program.specs.Text.Refusal.{refusal_text};
 
 use crate::report::editing::Editing;
 use crate::report::fault::RunFault;
 use crate::report::opening::{OpenError, open};
+use crate::report::print::print;
 use crate::stream::whole::piece_buffer;
 use crate::stream::writer::write_all;
 use crate::stream::{Sink, Source};
@@ -242,17 +243,12 @@ fn edit_all<R: Source, W: Sink>(
 
 /// Writes the refusal of a lock or an environment.
 fn refuse<W: Sink>(alloc: Global, error: &OpenError, writer: &mut W) -> Result<u8, RunFault>
-    ensures status { IfOk result (λ status. status ≡ 2) }
-    ensures written { OnOk result (Writes (W.value writer.old) (W.value writer.new)
-        (refusal_text error.now)) }
-    ensures front { OnErr result (TakesFront (W.value writer.old) (W.value writer.new)
-        (refusal_text error.now)) }
-    ensures fault { IfErr result (IsOutputFault (W.value writer.old) (W.value writer.new)) }
+    ensures { Prints (report_on (Err error.now) [])
+        (W.value writer.old) (W.value writer.new) result }
 {
     let mut out = Vec::new(alloc);
     push_refusal(&mut out, error)?;
-    flush(&mut out, writer)?;
-    Ok(2)
+    print(&out, 2, writer)
 }
 
 /// Runs `select`: edits a session on the lock by the lines of the input, and writes the first
@@ -277,23 +273,9 @@ pub fn run<R: Source, W: Sink>(
     run_whole(alloc, lock, env, false, reader, writer)
 }
 
-/// Runs `select` as `run` does for a program that ends then: the memory of the session isn't given
-/// back but left to the system, which takes all of it at once.
-pub fn run_leaving<R: Source, W: Sink>(
-    alloc: Global,
-    lock: &[u8],
-    env: &[u8],
-    reader: &mut R,
-    writer: &mut W,
-) -> Result<u8, RunFault>
-    ensures { IsRun (opened lock.now env.now) (R.value reader.old) (R.value reader.new)
-        (W.value writer.old) (W.value writer.new) result }
-{
-    run_whole(alloc, lock, env, true, reader, writer)
-}
-
-/// A run that at its end gives the memory of its session back, or leaves it.
-fn run_whole<R: Source, W: Sink>(
+/// A run that at its end gives the memory of its session back; or, for a program that ends then,
+/// leaves it to the system, which takes all of it at once.
+pub fn run_whole<R: Source, W: Sink>(
     alloc: Global,
     lock: &[u8],
     env: &[u8],

@@ -9,4 +9,4 @@ returns-in-Err-Memory g c = stops_at_once _ _ _
 pub returns-in-Err : goal.returns-in-Err
 returns-in-Err g c =
     let begins : opened c.args.lock.now c.args.env.now ≡ Err c.in-Err.refusal = search rules in
-    refused_runs _ _ (g.R.Source.value c.args.reader.now) _ _ _ begins c.refuse.ensures.status c.refuse.ensures.written c.refuse.ensures.front c.refuse.ensures.fault
+    refused_runs _ _ (g.R.Source.value c.args.reader.now) _ _ _ begins c.refuse.ensures

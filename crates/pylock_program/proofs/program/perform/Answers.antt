@@ -1,0 +1,7 @@
+use Rattle.pylock_program.proofs.program.perform.Goals as goal
+
+pub returns-in-Select : goal.returns-in-Select
+returns-in-Select g c = rw c.in-Select.is c.select.ensures
+
+pub returns-in-Marker : goal.returns-in-Marker
+returns-in-Marker g c = rw c.in-Marker.is (c.judge.ensures (g.R.Source.value c.args.reader.now))

@@ -1,0 +1,22 @@
+-- What printing a report does, in terms of the bytes that the writer took.
+use Rattle.std.specs.Prelude.{◌≡◌, ℕ, Result, IfOk, IfErr, OnOk, OnErr}
+use Rattle.std.specs.Io.KnownBytes.{Appends}
+use Rattle.pylock_program.specs.Report.{Report}
+use Rattle.pylock_program.specs.Report.Fault.{HasCause}
+use Rattle.pylock_program.specs.Stream.{SinkValue, TakesFront, one_more}
+use Rattle.pylock_program.specs.declared.report.fault.RunFault.{RunFault}
+
+-- one write failed, or a growth was refused and no write failed
+abbrev pub IsOutputFault : SinkValue → SinkValue → RunFault → Type 0
+IsOutputFault sink sink' fault =
+    HasCause ⊥ (sink'.failures ≡ one_more sink.failures) ⊥ (sink'.failures ≡ sink.failures) fault
+
+-- A report is printed: the writer took exactly its text, the result is its status, and no write
+-- failed; or there is a fault, and the writer took a front of the text.
+pub record Prints (report : Report) (sink sink' : SinkValue) (result : Result ℕ RunFault)
+    : Type 0 where
+  pub text : OnOk result (Appends sink.held sink'.held report.text)
+  pub status : IfOk result (λ status. status ≡ report.status)
+  pub counted : OnOk result (sink'.failures ≡ sink.failures)
+  pub front : OnErr result (TakesFront sink sink' report.text)
+  pub fault : IfErr result (IsOutputFault sink sink')
