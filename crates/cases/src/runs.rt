@@ -37,7 +37,7 @@ impl Files for Inputs {
 /// program has to end alike; and where the case has the key `cut`, a run with its input in pieces
 /// and its text byte by byte.
 pub(crate) fn tell(alloc: Global, case: &Table) -> anyhow::Result<String> {
-    let inputs = inputs(alloc, case)?;
+    let inputs = read_inputs(alloc, case)?;
     let input = bytes(alloc, case, "input")?;
     let report = report(alloc, &inputs, &input)?;
     compare_program(alloc, &inputs, &input, report.as_str())?;
@@ -69,7 +69,7 @@ fn front(line: &str) -> &str {
     line.get(..60).unwrap_or(line)
 }
 
-fn inputs(alloc: Global, case: &Table) -> anyhow::Result<Inputs> {
+fn read_inputs(alloc: Global, case: &Table) -> anyhow::Result<Inputs> {
     let lock = files::lock(alloc, case)?;
     let environment = files::environment(alloc, case)?;
     Ok(Inputs { lock, environment })
