@@ -1,6 +1,7 @@
 //! The answer of the installation steps (PEP 751).
 ghost use Rattle.std.specs.Prelude.{◌≡◌};
 
+use pymark_core::EvalFault;
 use std::marker::Model;
 
 /// The source that an entry is installed from (PEP 751, installation step 6).
@@ -96,6 +97,23 @@ pub enum FaultCode {
     Sources,
     /// The entry has no source to install from (step 6).
     NoFile,
+}
+
+/// The code of a fault of a marker; of `Memory`, which no marker has as its value, it is
+/// `MarkerUnset`.
+impl From<EvalFault> for FaultCode {
+    ghost use Rattle.pylock_core.specs.Session.Steps.{fault_code};
+
+    ghost from_gives = { λ fault code. code ≡ fault_code fault };
+
+    fn from(fault: EvalFault) -> FaultCode {
+        match fault {
+            EvalFault::Unset(_) | EvalFault::Memory => FaultCode::MarkerUnset,
+            EvalFault::Extra => FaultCode::MarkerExtra,
+            EvalFault::Undefined => FaultCode::MarkerUndefined,
+            EvalFault::NumberTooLarge => FaultCode::MarkerNumber,
+        }
+    }
 }
 
 /// How an entry stands in step 5 by its marker and its Python check alone.

@@ -158,11 +158,8 @@ fn push_value(
 {
     match marker.evaluate(alloc, environment) {
         Ok(value) => push_truth(out, value),
-        Err(EvalFault::Unset(_)) => push_fault(out, FaultCode::MarkerUnset),
-        Err(EvalFault::Extra) => push_fault(out, FaultCode::MarkerExtra),
-        Err(EvalFault::Undefined) => push_fault(out, FaultCode::MarkerUndefined),
-        Err(EvalFault::NumberTooLarge) => push_fault(out, FaultCode::MarkerNumber),
         Err(EvalFault::Memory) => Err(AllocError),
+        Err(fault) => push_fault(out, FaultCode::from(fault)),
     }
 }
 

@@ -4,7 +4,7 @@ ghost use Rattle.std.specs.Prelude.{◌≡◌, ◌++◌, ◌∷◌, [], IfOk, On
 ghost use Rattle.std.specs.Option.{option_copied};
 ghost use Rattle.pylock_core.specs.Session.Judgement.{verdict_of};
 ghost use Rattle.pylock_core.specs.Session.Steps.{best_wheel, by_check, by_marker, by_standing};
-ghost use Rattle.pylock_core.specs.Session.Steps.{environments_check, head_fault, fault_code};
+ghost use Rattle.pylock_core.specs.Session.Steps.{environments_check, head_fault};
 ghost use Rattle.pylock_core.specs.Session.Steps.{python_check, standing};
 ghost use Rattle.pymark_core.specs.Marker.Value.{marker_value};
 ghost use Rattle.pylock_core.specs.declared.answer.Standing.TheVariants.{Skipped, Faulty, Active};
@@ -158,20 +158,7 @@ fn marker_standing(
         Ok(true) => Ok(Standing::Active),
         Ok(false) => Ok(Standing::Skipped),
         Err(EvalFault::Memory) => Err(AllocError),
-        Err(fault) => Ok(Standing::Faulty(fault_code(fault))),
-    }
-}
-
-/// The code of a fault of a marker. Want of memory is told apart before, so its arm is never met.
-fn fault_code(fault: EvalFault) -> FaultCode
-    ensures { result ≡ fault_code fault }
-{
-    match fault {
-        EvalFault::Unset(_) => FaultCode::MarkerUnset,
-        EvalFault::Extra => FaultCode::MarkerExtra,
-        EvalFault::Undefined => FaultCode::MarkerUndefined,
-        EvalFault::NumberTooLarge => FaultCode::MarkerNumber,
-        EvalFault::Memory => FaultCode::MarkerUnset,
+        Err(fault) => Ok(Standing::Faulty(FaultCode::from(fault))),
     }
 }
 
