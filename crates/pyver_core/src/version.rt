@@ -29,12 +29,7 @@ use std::marker::Model;
 ///
 /// Contracts see the parts alone, since the normal form follows from them.
 pub struct Version {
-    epoch: u128,
-    release: Vec<u128>,
-    pre: Option<(PreKind, u128)>,
-    post: Option<u128>,
-    dev: Option<u128>,
-    local: Vec<LocalPart>,
+    parts: VersionParts,
     text: String,
 }
 
@@ -45,23 +40,9 @@ impl Model for Version {
 
     ghost Value = { Parts };
 
-    ghost view = { λ v. record {
-      epoch = v.epoch;
-      release = v.release.items;
-      pre = v.pre;
-      post = v.post;
-      dev = v.dev;
-      local = v.local.items;
-    } };
+    ghost view = { λ v. v.parts };
 
-    ghost invariant = { λ v. (v.release.items ≢ []) × (string_bytes v.text ≡ normal (record {
-      epoch = v.epoch;
-      release = v.release.items;
-      pre = v.pre;
-      post = v.post;
-      dev = v.dev;
-      local = v.local.items;
-    })) };
+    ghost invariant = { λ v. (v.parts.release ≢ []) × (string_bytes v.text ≡ normal v.parts) };
 }
 
 impl Version {
@@ -70,53 +51,22 @@ impl Version {
         requires { parts.release ≢ [] }
         ensures { IfOk result (λ v. v ≡ parts) }
     {
-        let VersionParts {
-            epoch,
-            release,
-            pre,
-            post,
-            dev,
-            local,
-        } = parts;
-        let lent = PartsRef {
-            epoch,
-            release: &release,
-            pre,
-            post,
-            dev,
-            local: &local,
-        };
-        let text = normal_text(alloc, &lent)?;
-        Ok(Version {
-            epoch,
-            release,
-            pre,
-            post,
-            dev,
-            local,
-            text,
-        })
+        let text = normal_text(alloc, &parts.lent())?;
+        Ok(Version { parts, text })
     }
 
     /// The parts, lent.
     pub(crate) fn parts(&self) -> PartsRef<'_>
         ensures { parts_of result ≡ self.now }
     {
-        PartsRef {
-            epoch: self.epoch,
-            release: &self.release,
-            pre: self.pre,
-            post: self.post,
-            dev: self.dev,
-            local: &self.local,
-        }
+        self.parts.lent()
     }
 
     /// The epoch, 0 where none is written.
     pub fn epoch(&self) -> u128
         ensures { result ≡ self.now.epoch }
     {
-        self.epoch
+        self.parts.epoch
     }
 
     /// The numbers of the release, of which there is at least one.
@@ -124,35 +74,35 @@ impl Version {
         ensures value { result.now ≡ self.now.release }
         ensures not_empty { result.now ≢ [] }
     {
-        &self.release
+        &self.parts.release
     }
 
     /// The letter and the number of a pre-release.
     pub fn pre(&self) -> Option<(PreKind, u128)>
         ensures { result ≡ self.now.pre }
     {
-        self.pre
+        self.parts.pre
     }
 
     /// The number of a post-release.
     pub fn post(&self) -> Option<u128>
         ensures { result ≡ self.now.post }
     {
-        self.post
+        self.parts.post
     }
 
     /// The number of a developmental release.
     pub fn dev(&self) -> Option<u128>
         ensures { result ≡ self.now.dev }
     {
-        self.dev
+        self.parts.dev
     }
 
     /// The segments of the local part, none where there is no local part.
     pub fn local(&self) -> &[LocalPart]
         ensures { result.now ≡ self.now.local }
     {
-        &self.local
+        &self.parts.local
     }
 
     /// The normal form (PEP 440, "Normalization").
@@ -166,14 +116,14 @@ impl Version {
     pub fn is_prerelease(&self) -> bool
         ensures { result ≡ is_prerelease self.now }
     {
-        self.pre.is_some() || self.dev.is_some()
+        self.parts.pre.is_some() || self.parts.dev.is_some()
     }
 
     /// Whether the version has a post part (PEP 440, "Post-releases").
     pub fn is_postrelease(&self) -> bool
         ensures { result ≡ is_postrelease self.now }
     {
-        self.post.is_some()
+        self.parts.post.is_some()
     }
 }
 
@@ -181,15 +131,7 @@ impl Version {
 /// doesn't open the parts.
 impl Drop for Version {
     fn drop(self) {
-        let Version {
-            epoch: _,
-            release: _,
-            pre: _,
-            post: _,
-            dev: _,
-            local: _,
-            text: _,
-        } = self;
+        let Version { parts: _, text: _ } = self;
     }
 }
 
@@ -199,12 +141,7 @@ impl Clone for Version {
 
     fn clone(&self) -> Result<Version, AllocError> {
         Ok(Version {
-            epoch: self.epoch,
-            release: self.release.clone()?,
-            pre: self.pre,
-            post: self.post,
-            dev: self.dev,
-            local: self.local.clone()?,
+            parts: self.parts.clone()?,
             text: self.text.clone()?,
         })
     }

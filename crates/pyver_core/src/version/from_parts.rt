@@ -38,8 +38,9 @@ impl<E: Into<AllocError> + Drop> From<E> for PartsError {
     }
 }
 
-/// The parts of a version (PEP 440, "Version scheme"), of which a version is made.
-#[derive(Debug, Drop)]
+/// The parts of a version (PEP 440, "Version scheme"), of which a version is made. A copy takes
+/// memory for the release and the local part.
+#[derive(Clone, Debug, Drop)]
 pub struct VersionParts {
     /// The epoch.
     pub epoch: u128,

@@ -3,7 +3,7 @@
 ghost use Rattle.std.specs.Prelude.{◌≡◌};
 ghost use Rattle.pyver_core.specs.Version.Parts.{base_release, public_part};
 
-use crate::version::{LocalPart, PreKind};
+use crate::version::{LocalPart, PreKind, VersionParts};
 
 /// The parts of a version, lent for a comparison or to be written.
 #[derive(Clone, Copy)]
@@ -16,6 +16,24 @@ pub(crate) struct PartsRef<'a> {
     pub(crate) local: &'a [LocalPart],
 }
 
+impl VersionParts {
+    ghost use Rattle.pyver_core.specs.Inner.PartsRef.{parts_of};
+
+    /// The parts, lent.
+    pub(crate) fn lent(&self) -> PartsRef<'_>
+        ensures { parts_of result ≡ self.now }
+    {
+        PartsRef {
+            epoch: self.epoch,
+            release: &self.release,
+            pre: self.pre,
+            post: self.post,
+            dev: self.dev,
+            local: &self.local,
+        }
+    }
+}
+
 impl<'a> PartsRef<'a> {
     ghost use Rattle.pyver_core.specs.Inner.PartsRef.{parts_of};
 
@@ -24,12 +42,8 @@ impl<'a> PartsRef<'a> {
         ensures { parts_of result ≡ public_part (parts_of self.now) }
     {
         PartsRef {
-            epoch: self.epoch,
-            release: self.release,
-            pre: self.pre,
-            post: self.post,
-            dev: self.dev,
             local: &[],
+            ..*self
         }
     }
 
@@ -38,12 +52,10 @@ impl<'a> PartsRef<'a> {
         ensures { parts_of result ≡ base_release (parts_of self.now) }
     {
         PartsRef {
-            epoch: self.epoch,
-            release: self.release,
             pre: None,
             post: None,
             dev: None,
-            local: &[],
+            ..self.public_part()
         }
     }
 }
