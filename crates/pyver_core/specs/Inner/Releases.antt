@@ -4,12 +4,9 @@ use Rattle.std.proofs.Common.{arith}
 use Rattle.std.specs.Ordering.{nat_cmp, ordering_then}
 use Rattle.std.specs.Cmp.{nat_cmp_is}
 use Rattle.std.specs.Cmp.Lexicographic.{slice_cmp}
-use Rattle.std.specs.declared.cmp.Ordering.TheVariants.{Less, Equal, Greater}
+use Rattle.std.specs.declared.cmp.Ordering.TheVariants.{Less, Greater}
 use Rattle.pyver_core.specs.Version.Hashing.{ahead, without_trailing_zeros}
 use Rattle.pyver_core.specs.Version.Order.{release_cmp}
-
-zero-zero : nat_cmp 0 0 ≡ Equal
-zero-zero = refl
 
 zero-suc : (n : ℕ) → nat_cmp 0 (suc n) ≡ Less
 zero-suc n = sym (nat_cmp_is 0 (suc n) Less (omega arith))

@@ -1,17 +1,25 @@
--- The search for an operator, one operator after the other.
-use Rattle.std.proofs.Common.{◌≡◌, ℕ, suc, ◌+◌, ◌<◌, List, ◌∷◌, length, drop, get_or, Some, None, refl, ap, ◌∙◌, drop-cons, add-one}
-use Rattle.pyver_core.specs.Set.Reading.{behind_operator, operator_among}
+-- The longest operator at the front of a text, and what stands behind it.
+use Rattle.std.proofs.Common.{◌≡◌, ℕ, List, [], ◌∷◌, Some, None, refl, inl, inr}
+use Rattle.std.specs.Prelude.{option_map}
+use Rattle.pyver_core.specs.Set.Reading.{behind_operator, operator_among, operator_at, operators}
 use Rattle.pyver_core.specs.declared.set.specifier.Operator.{Operator}
-use Rattle.pyver_core.specs.declared.set.specifier.Operator.TheVariants.{Equal}
+use Rattle.pytext.proofs.Options.{option_sight}
 
-among-here : (os : List Operator) (i : ℕ) (text : List ℕ) → i < length os
-    → operator_among (drop i os) text ≡ operator_among (get_or os i Equal ∷ drop (suc i) os) text
-among-here os i text within = ap (λ (others : List Operator). operator_among others text) (drop-cons os i Equal within)
+among_cut : (os : List Operator) (text : List ℕ) (o : Operator) → option_map (λ cut. cut.0) (operator_among os text) ≡ Some o
+    → operator_among os text ≡ option_map (λ rest. (o, rest)) (behind_operator o text)
+among_cut [] text o e = absurd cc
+among_cut (p ∷ os) text o e = elim (option_sight (behind_operator p text)) [
+  | inl none ↦ let later : option_map (λ cut. cut.0) (operator_among os text) ≡ Some o = rw none at e in rw none (among_cut os text o later)
+  | inr cut ↦ let same : Some p ≡ Some o = rw cut.1 at e in let is : p ≡ o = cc in rw (← is, cut.1) refl
+]
 
-pub among-some : (os : List Operator) (i : ℕ) (text rest : List ℕ) → i < length os
-    → behind_operator (get_or os i Equal) text ≡ Some rest → operator_among (drop i os) text ≡ Some (get_or os i Equal, rest)
-among-some os i text rest within e = among-here os i text within ∙ rw e refl
+pub cut_found : (text : List ℕ) (o : Operator) → option_map (λ cut. cut.0) (operator_at text) ≡ Some o
+    → operator_at text ≡ option_map (λ rest. (o, rest)) (behind_operator o text)
+unfolding operator_at
+cut_found text o e = among_cut operators text o e
 
-pub among-none : (os : List Operator) (i : ℕ) (text : List ℕ) → i < length os
-    → behind_operator (get_or os i Equal) text ≡ None → operator_among (drop (i + 1) os) text ≡ operator_among (drop i os) text
-among-none os i text within e = rw add-one (rw (among-here os i text within, e) refl)
+pub no_cut : (text : List ℕ) → option_map (λ cut. cut.0) (operator_at text) ≡ None → operator_at text ≡ None
+no_cut text e = elim (option_sight (operator_at text)) [
+  | inl none ↦ none
+  | inr cut ↦ absurd (let n : Some cut.0.0 ≡ None = rw cut.1 at e in cc)
+]

@@ -6,10 +6,10 @@ ghost use Rattle.pyver_core.specs.Set.Reading.{operand_of, specifier_of};
 ghost use Rattle.pyver_core.specs.Inner.SpecifierDraft.{base_prefix, draft_specifier};
 
 use super::operand::{read_arbitrary, read_compatible, read_prefix, read_public};
-use super::operator::read_operator;
 use crate::set::{Operator, ReleasePrefix, Specifier};
 use crate::version::reading::{Base, Draft, read_version};
 use crate::version::{Label, VersionError};
+use pytext::past_white;
 use std::alloc::{AllocError, Global};
 
 /// A specifier as it stands in its text. It holds no memory.
@@ -99,6 +99,6 @@ pub(crate) fn read_operand(operator: Operator, text: &str) -> Option<SpecifierDr
 pub(crate) fn read_specifier(piece: &str) -> Option<SpecifierDraft<'_>>
     ensures { option_map draft_specifier result ≡ specifier_of piece.now }
 {
-    let (operator, operand) = read_operator(piece)?;
+    let (operator, operand) = Operator::at_front(past_white(piece))?;
     read_operand(operator, operand)
 }

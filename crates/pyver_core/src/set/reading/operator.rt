@@ -1,23 +1,27 @@
 //! The operator at the front of a specifier.
 
 ghost use Rattle.std.specs.Prelude.{◌≡◌, option_map};
-ghost use Rattle.pytext.specs.White.{after_white};
-ghost use Rattle.pyver_core.specs.Set.Reading.{behind_operator, operator_among, operator_at};
+ghost use Rattle.pyver_core.specs.Set.Reading.{behind_operator, operator_at};
 
 use crate::set::Operator;
-use pytext::past_white;
 
-/// The operators, the longer ones first, so that the first that stands in a text is the longest.
-const OPERATORS: [Operator; 8] = [
-    Operator::Arbitrary,
-    Operator::Compatible,
-    Operator::Equal,
-    Operator::NotEqual,
-    Operator::AtMost,
-    Operator::AtLeast,
-    Operator::Before,
-    Operator::After,
-];
+/// The longest operator at the front of the text.
+#[tactic(auto, unfolding(crate::specs::Set::Reading::operator_at))]
+fn longest_operator(text: &str) -> Option<Operator>
+    ensures { result ≡ option_map (λ cut. cut.0) (operator_at text.now) }
+{
+    match text.as_bytes() {
+        [b'=', b'=', b'=', ..] => Some(Operator::Arbitrary),
+        [b'~', b'=', ..] => Some(Operator::Compatible),
+        [b'=', b'=', ..] => Some(Operator::Equal),
+        [b'!', b'=', ..] => Some(Operator::NotEqual),
+        [b'<', b'=', ..] => Some(Operator::AtMost),
+        [b'>', b'=', ..] => Some(Operator::AtLeast),
+        [b'<', ..] => Some(Operator::Before),
+        [b'>', ..] => Some(Operator::After),
+        _ => None,
+    }
+}
 
 /// The text behind the operator.
 fn past_operator(text: &str, operator: Operator) -> Option<&str>
@@ -26,23 +30,15 @@ fn past_operator(text: &str, operator: Operator) -> Option<&str>
     text.strip_prefix(operator.as_str())
 }
 
-/// The first of the operators that stands at the front of the text, and the text behind it.
-fn first_of<'a>(operators: &[Operator], text: &'a str) -> Option<(Operator, &'a str)>
-    ensures { option_map (λ cut. (cut.0, cut.1.now)) result
-        ≡ operator_among operators.now text.now }
-{
-    for operator in operators {
-        if let Some(rest) = past_operator(text, *operator) {
-            return Some((*operator, rest));
-        }
+impl Operator {
+    /// The longest operator at the front of a text, and the text behind it (PEP 440, "Version
+    /// specifiers"). It takes no memory.
+    #[tactic(auto, using(crate::proofs::Lemmas::Set::Operators::no_cut))]
+    pub fn at_front(text: &str) -> Option<(Operator, &str)>
+        ensures { option_map (λ cut. (cut.0, cut.1.now)) result ≡ operator_at text.now }
+    {
+        let operator = longest_operator(text)?;
+        let rest = past_operator(text, operator)?;
+        Some((operator, rest))
     }
-    None
-}
-
-/// The longest operator behind the white space at the front of the text, and the text behind it.
-#[tactic(auto, unfolding(crate::specs::Set::Reading::operator_at))]
-pub(super) fn read_operator(text: &str) -> Option<(Operator, &str)>
-    ensures { option_map (λ cut. (cut.0, cut.1.now)) result ≡ operator_at (after_white text.now) }
-{
-    first_of(&OPERATORS, past_white(text))
 }

@@ -46,10 +46,6 @@ letter_not_dash b low = grind (arith, nat_tests)
 
 -- ---- a part with a word, and the text behind it
 
--- what stands behind the word
-abbrev pub behind_word : {word piece : List ℕ} {n : ℕ} {next : List ℕ} → IsTagged word piece n next → List ℕ → List ℕ
-behind_word t next = t.after ++ (t.digits ++ next)
-
 pub tagged_whole : (word piece : List ℕ) (n : ℕ) (next : List ℕ) (t : IsTagged word piece n next) → piece ++ next ≡ t.before ++ (t.written ++ (t.after ++ (t.digits ++ next)))
 tagged_whole word piece n next t =
     ap (λ (p : List ℕ). p ++ next) t.whole ∙ (append_assoc t.before (t.written ++ (t.after ++ t.digits)) next

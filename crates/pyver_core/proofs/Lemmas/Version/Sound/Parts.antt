@@ -80,10 +80,6 @@ append_nil_left : (a b : List ℕ) → a ++ b ≡ [] → a ≡ []
 append_nil_left [] b e = refl
 append_nil_left (x ∷ a) b e = absurd cc
 
-append_nil_right : (a b : List ℕ) → a ++ b ≡ [] → b ≡ []
-append_nil_right [] b e = e
-append_nil_right (x ∷ a) b e = absurd cc
-
 -- what stands at the front, where a word stands behind an optional separator
 pub tagged_takes : (word text rest : List ℕ) → ((written : List ℕ) × (after_separator text ≡ written ++ rest) × IsWord word written) → (piece : List ℕ) × (text ≡ piece ++ (tail_at rest).1) × IsTagged word piece (tail_at rest).0 (tail_at rest).1
 tagged_takes word text rest w =
