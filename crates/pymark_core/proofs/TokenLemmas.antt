@@ -1,20 +1,34 @@
 -- The token at the front of a text.
-use Rattle.std.proofs.Common.{◌≡◌, ℕ, ◌<◌, ◌+◌, true, List, [], ◌∷◌, length, get_or, drop, Option, Some, None, refl, ap, arith, drop-drop}
+use Rattle.std.proofs.Common.{◌≡◌, ℕ, ◌<◌, ◌+◌, true, List, [], ◌∷◌, length, get_or, drop, Option, Some, None, refl, sym, ap, arith, inl, inr, drop-drop}
 use Rattle.std.specs.Prelude.{option_map, nat_eq}
 use Rattle.std.specs.List.{starts_with}
 use Rattle.std.proofs.lemmas.Bool.Decides.{nat_tests}
-use Rattle.pyver_core.specs.Set.Reading.{behind_operator, operators}
+use Rattle.pyver_core.specs.Set.Reading.{behind_operator, operator_among, operator_at, operators}
 use Rattle.pyver_core.specs.Set.Normal.{operator_text}
 use Rattle.pyver_core.specs.declared.set.specifier.Operator.{Operator}
-use Rattle.pymark_core.proofs.Choices.{found_passes}
+use Rattle.std.proofs.lemmas.Option.{cond_some}
+use Rattle.pytext.proofs.Options.{option_sight}
 use Rattle.pymark_core.specs.Inner.Front as front
 use Rattle.pymark_core.specs.Inner.Front.{quoted_front}
-use Rattle.pymark_core.specs.Marker.Token.{operator_in, quoted_at, token_at, token_by}
+use Rattle.pymark_core.specs.Marker.Token.{quoted_at, token_at, token_by}
 
-pub operator_stands : (text : List ℕ) (o : Operator) → operator_in text ≡ Some o → behind_operator o text ≡ Some (drop (length (operator_text o)) text)
-operator_stands text o e =
-    let stands : starts_with nat_eq text (operator_text o) ≡ true = found_passes (λ operator. starts_with nat_eq text (operator_text operator)) operators o e in
-    rw stands refl
+among_rest : (os : List Operator) (text rest : List ℕ) (o : Operator) → operator_among os text ≡ Some (o, rest) → rest ≡ drop (length (operator_text o)) text
+among_rest [] text rest o e = absurd cc
+among_rest (p ∷ os) text rest o e = elim (option_sight (behind_operator p text)) [
+  | inl none ↦ let later : operator_among os text ≡ Some (o, rest) = rw none at e in among_rest os text rest o later
+  | inr found ↦
+      let here : Some (p, found.0) ≡ Some (o, rest) = rw found.1 at e in
+      let pair : (p, found.0) ≡ (o, rest) = cc in
+      let same : p ≡ o = ap (λ (cut : Operator × List ℕ). cut.0) pair in
+      let behind : found.0 ≡ rest = ap (λ (cut : Operator × List ℕ). cut.1) pair in
+      let cut = cond_some (starts_with nat_eq text (operator_text p)) (drop (length (operator_text p)) text) found.0 found.1 in
+      rw (← same, ← behind) (sym cut.1)
+]
+
+-- what stands behind the longest operator
+pub behind_cut : (text rest : List ℕ) (o : Operator) → operator_at text ≡ Some (o, rest) → rest ≡ drop (length (operator_text o)) text
+unfolding operator_at
+behind_cut text rest o e = among_rest operators text rest o e
 
 pub token_of_first : (text : List ℕ) → 0 < length text → token_at text ≡ token_by (get_or text 0 0) text
 unfolding token_at

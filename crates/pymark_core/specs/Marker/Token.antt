@@ -1,12 +1,12 @@
 -- The tokens of markers (PEP 508, "Grammar"): parentheses, the operators of specifiers, words and
 -- quoted texts, with white space before, between and behind them.
-use Rattle.std.specs.Prelude.{ℕ, zero, suc, ◌+◌, ◌-◌, Bool, ◌==◌, ◌&&◌, ◌||◌, not, nat_eq, nat_le}
+use Rattle.std.specs.Prelude.{ℕ, zero, suc, ◌+◌, ◌-◌, Bool, ◌==◌, ◌&&◌, ◌||◌, not, nat_le}
 use Rattle.std.specs.Prelude.{if◌then◌else◌, List, [], ◌∷◌, length, take, drop, Option, Some, None}
-use Rattle.std.specs.Prelude.{option_map, find}
-use Rattle.std.specs.List.{prefix_len, starts_with}
+use Rattle.std.specs.Prelude.{option_map}
+use Rattle.std.specs.List.{prefix_len}
 use Rattle.pytext.specs.Bytes.{is_white, is_word_byte, starts}
 use Rattle.pytext.specs.Options.{◌>>=◌}
-use Rattle.pyver_core.specs.Set.Reading.{operators}
+use Rattle.pyver_core.specs.Set.Reading.{operator_at}
 use Rattle.pyver_core.specs.Set.Normal.{operator_text}
 use Rattle.pyver_core.specs.declared.set.specifier.Operator.{Operator}
 
@@ -52,7 +52,7 @@ quoted_at quote text =
 
 -- the longest operator that stands there
 abbrev pub operator_in : List ℕ → Option Operator
-operator_in text = find (λ operator. starts_with nat_eq text (operator_text operator)) operators
+operator_in text = option_map (λ cut. cut.0) (operator_at text)
 
 -- the longest run of letters, digits and `_`
 abbrev pub word_in : List ℕ → List ℕ

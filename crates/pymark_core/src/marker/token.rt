@@ -2,7 +2,6 @@
 
 ghost use Rattle.std.specs.Prelude.{◌≡◌, ◌<◌, IsTrue, drop, length, ok_or, option_map, slice_index};
 ghost use Rattle.std.specs.List.{prefix_len};
-ghost use Rattle.pyver_core.specs.Set.Reading.{behind_operator};
 ghost use Rattle.pytext.specs.Agreement.{Gives};
 ghost use Rattle.pymark_core.specs.Inner.Next.{next_front, next_view};
 ghost use Rattle.pymark_core.specs.Inner.Front.{lent_cut, lent_front, quotation_front};
@@ -77,39 +76,13 @@ fn quoted(quote: u8, text: &str) -> Option<(&str, &str)>
     None
 }
 
-/// The longest operator at the front of the text.
-fn operator(text: &str) -> Option<Operator>
-    ensures { result ≡ operator_in text.now }
-{
-    match text.as_bytes() {
-        [b'=', b'=', b'=', ..] => Some(Operator::Arbitrary),
-        [b'~', b'=', ..] => Some(Operator::Compatible),
-        [b'=', b'=', ..] => Some(Operator::Equal),
-        [b'!', b'=', ..] => Some(Operator::NotEqual),
-        [b'<', b'=', ..] => Some(Operator::AtMost),
-        [b'>', b'=', ..] => Some(Operator::AtLeast),
-        [b'<', ..] => Some(Operator::Before),
-        [b'>', ..] => Some(Operator::After),
-        _ => None,
-    }
-}
-
-/// The text behind the operator.
-#[tactic(auto, using(pytext::proofs::Boundaries::stripped_prefix))]
-fn past_operator(text: &str, operator: Operator) -> Option<&str>
-    ensures { option_map (λ rest. rest.now) result ≡ behind_operator operator text.now }
-{
-    text.strip_prefix(operator.as_str())
-}
-
 /// The longest operator at the front of the text, and the text behind it.
-#[tactic(auto, using(crate::proofs::TokenLemmas::operator_stands))]
+#[tactic(auto, using(crate::proofs::TokenLemmas::behind_cut))]
 fn sign(text: &str) -> Option<(Token<'_>, &str)>
     ensures { option_map lent_front result
         ≡ with_rest text.now (option_map token.sign (operator_in text.now)) }
 {
-    let operator = operator(text)?;
-    let rest = past_operator(text, operator)?;
+    let (operator, rest) = Operator::at_front(text)?;
     Some((Token::Sign(operator), rest))
 }
 
