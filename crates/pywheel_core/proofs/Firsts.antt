@@ -23,13 +23,6 @@ found_before p (x ∷ xs) e = elim (cases_Bool (p x)) [
   | inr fails ↦ let rest : list_any p xs ≡ true = rw fails at e in let l = found_before p xs rest in rw fails (omega (arith, l))
 ]
 
-lacking_after : {X : Type 0} (p : X → Bool) (xs : List X) → list_any p xs ≡ false → position_or_len p xs ≡ length xs
-lacking_after p [] e = refl
-lacking_after p (x ∷ xs) e = elim (cases_Bool (p x)) [
-  | inl holds ↦ let bad = rw holds at e in absurd cc
-  | inr fails ↦ let rest : list_any p xs ≡ false = rw fails at e in let more = lacking_after p xs rest in rw fails (omega (arith, more))
-]
-
 -- one more behind the others: what is among them stays at its place, and what isn't comes behind
 kept_place : {X : Type 0} (p : X → Bool) (xs : List X) (y : X) → list_any p xs ≡ true → position_or_len p (xs ++ y ∷ []) ≡ position_or_len p xs
 kept_place p [] y e = absurd cc
