@@ -1,5 +1,5 @@
 -- Lemmas on tables of what was read already.
-use Rattle.std.proofs.Common.{◌≡◌, ◌∙◌, ℕ, List, [], ◌∷◌, Option, Some, None, Bor, IfSome, unwrap_or, option_copied, Ordering, Less, Equal, Greater, Result, Ok, Err, String, Global, string_bytes, nat_cmp, is_eq, refl, ap, sym}
+use Rattle.std.proofs.Common.{◌≡◌, ◌∙◌, ℕ, List, [], ◌∷◌, Some, unwrap_or, Ordering, Less, Equal, Greater, Result, Ok, String, Global, string_bytes, nat_cmp, is_eq, refl, ap, sym}
 use Rattle.std.proofs.Math.Logic.{⊎_elim}
 use Rattle.std.proofs.lemmas.Option.{none-some}
 use Rattle.std.proofs.lemmas.Bool.{cases_Bool, cond-true, cond-false}
@@ -7,10 +7,7 @@ use Rattle.std.specs.BTreeMap.{is_at, insert_entry}
 use Rattle.std.specs.Cmp.Lexicographic.{slice_cmp}
 use Rattle.std.specs.Map.{lookup}
 use Rattle.std.specs.Ordering.{match_ordering}
-use Rattle.std.specs.Result.{result_ok}
 use Rattle.std.specs.String.{string_cmp}
-use Rattle.pylock_readers.specs.Entry.Fields.{or_refused}
-use Rattle.pylock_readers.specs.declared.field.FieldError.{FieldError}
 use Rattle.pylock_readers.specs.Inner.Shared.{AllRead}
 use Rattle.pylock_readers.proofs.TableLemmas.{same_key_is}
 
@@ -23,22 +20,6 @@ found_read read view text x (e ∷ es) all found =
     (λ tie. ap read (same_key_is text (string_bytes e.0) tie) ∙ all.0 ∙ ap (λ v. Ok (view v)) (ap (λ o. unwrap_or o e.1) (sym (cond-true (is_eq (slice_cmp nat_cmp text (string_bytes e.0))) (Some e.1) (lookup (is_at (λ k. slice_cmp nat_cmp text (string_bytes k))) es) tie) ∙ found)))
     (λ apart. found_read read view text x es all.1 (sym (cond-false (is_eq (slice_cmp nat_cmp text (string_bytes e.0))) (Some e.1) (lookup (is_at (λ k. slice_cmp nat_cmp text (string_bytes k))) es) apart) ∙ found))
     (cases_Bool (is_eq (slice_cmp nat_cmp text (string_bytes e.0))))
-
--- the same of what a table lends
-pub lent_read : {X V E : Type 0} (read : List ℕ → Result V E) (view : X → V) (text : List ℕ) (found : Option (Bor X)) (es : List (String Global × X))
-    → AllRead read view es → option_copied found ≡ lookup (is_at (λ k. slice_cmp nat_cmp text (string_bytes k))) es
-    → IfSome found (λ x. read text ≡ Ok (view x.now))
-lent_read read view text None es all is = tt
-lent_read read view text (Some x) es all is = found_read read view text x.now es all (sym is)
-
--- what isn't refused is what it was read as
-pub not_refused : {V E : Type 0} (refusal : FieldError) (read : Result V E) (x : V) → or_refused refusal read ≡ Ok x → read ≡ Ok x
-not_refused {V = V} refusal (Ok y) x is = ap Ok (ap value is)
-  where
-    value : Result V FieldError → V
-    value (Ok x) = x
-    value (Err e) = y
-not_refused refusal (Err e) x is = absurd (none-some x (ap result_ok is))
 
 -- a table that gained what its text is read as
 pub gains_read : {X V E : Type 0} (read : List ℕ → Result V E) (view : X → V) (k : String Global) (x : X) (es : List (String Global × X))

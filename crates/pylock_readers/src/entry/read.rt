@@ -10,7 +10,7 @@ use crate::conditions::Conditions;
 use crate::entry::Entry;
 use crate::entry::sources::Sources;
 use crate::error::{EntryError, EntryKey};
-use crate::field::{into_name, optional, optional_text, or_refused, take};
+use crate::field::{into_name, into_text, optional, optional_text, or_refused, take};
 use pymark_core::Marker;
 use pyver_core::SpecifierSet;
 use std::alloc::Global;
@@ -99,7 +99,7 @@ fn read_marker(
     ensures { Gives EntryError.Memory (λ m. m) result
         (marker_in (option_map view field)) }
 {
-    let read = |value| conditions.markers.read(alloc, value);
+    let read = |value| conditions.markers.read(alloc, into_text(value)?);
     or_refused(EntryError::Marker, optional(field, read))
 }
 
@@ -111,6 +111,6 @@ fn read_requires_python(
     ensures { Gives EntryError.Memory (option_map (λ s. s.value)) result
         (requires_python_in (option_map view field)) }
 {
-    let read = |value| conditions.sets.read(alloc, value);
+    let read = |value| conditions.sets.read(alloc, into_text(value)?);
     or_refused(EntryError::RequiresPython, optional(field, read))
 }

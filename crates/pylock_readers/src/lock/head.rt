@@ -9,7 +9,7 @@ ghost use Rattle.pylock_readers.specs.Lock.Head.{names_in, markers_in};
 ghost use Rattle.pylock_readers.specs.Lock.Head.{environments_in};
 ghost use Rattle.pylock_readers.specs.Lock.Head.{head_requires_python_in, head_names_in, head_in};
 
-use crate::conditions::{read_marker, read_set};
+use crate::conditions::{Condition, read_set};
 use crate::error::{HeadKey, LockError};
 use crate::field::{FieldError, into_name, into_text, items, optional, or_refused, take};
 use crate::lock::names::HeadNames;
@@ -152,7 +152,7 @@ fn marker(alloc: Global, value: Value) -> Result<Marker, FieldError>
     ensures { Gives FieldError.Memory (λ m. m) result (marker_field (view value)) }
 {
     let text = into_text(value)?;
-    read_marker(alloc, text.as_str())
+    Marker::read(alloc, text.as_str())
 }
 
 fn read_requires_python(
