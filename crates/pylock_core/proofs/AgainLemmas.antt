@@ -91,19 +91,17 @@ among_passing test n m (suc k) (row ∷ rows) is =
     ap (λ ns. has_number ns n) (passing_row test m row rows) ∙ among_later (passes test row) n m (passing test (m + 1) rows) (omega (arith, is))
     ∙ among_passing test n (m + 1) k rows (omega (arith, is))
 
--- where an entry stands, its row stands
-of_rows_there : (P : EntryValue → Row → Type 0) (es : List (Option EntryValue)) (rs : List (Option Row)) (k : ℕ) → OfRows P es rs → IsSome (get_or es k None) → IsSome (get_or rs k None)
-of_rows_there P [] rs k h there = let e : false ≡ true = there in cc
-of_rows_there P (e ∷ es) [] k h there = absurd h
-of_rows_there P (None ∷ es) (r ∷ rs) zero h there = let e : false ≡ true = there in cc
-of_rows_there P (Some e ∷ es) (None ∷ rs) zero h there = absurd h.0
-of_rows_there P (Some e ∷ es) (Some r ∷ rs) zero h there = refl
-of_rows_there P (e ∷ es) (r ∷ rs) (suc k) h there = of_rows_there P es rs k h.1 there
+-- what holds of each entry and its row holds of those at a place
+pub of_rows_at : (P : EntryValue → Row → Type 0) (es : List (Option EntryValue)) (rs : List (Option Row)) (k : ℕ) (e : Option EntryValue) (r : Option Row)
+    → OfRows P es rs → e ≡ get_or es k None → r ≡ get_or rs k None → OfBoth P e r
+of_rows_at P [] [] k e r h entry row = rw (entry, row) tt
+of_rows_at P [] (x ∷ rs) k e r h entry row = absurd h
+of_rows_at P (x ∷ es) [] k e r h entry row = absurd h
+of_rows_at P (x ∷ es) (y ∷ rs) zero e r h entry row = rw (entry, row) h.0
+of_rows_at P (x ∷ es) (y ∷ rs) (suc k) e r h entry row = of_rows_at P es rs k e r h.1 entry row
 
-pub row_within : (parts : Parts) (k : ℕ) → IsSession parts → IsSome (get_or parts.entries.items k None) → (k < length parts.rows.items) × IsSome (get_or parts.rows.items k None)
-row_within parts k s there =
-    let row = of_rows_there (IsNamed parts.names) parts.entries.items parts.rows.items k s.named there in
-    (some_within parts.rows.items k row, row)
+pub row_within : (parts : Parts) (k : ℕ) → IsSession parts → IsSome (get_or parts.entries.items k None) → k < length parts.rows.items
+row_within parts k s there = omega (arith, some_within parts.entries.items k there, session_even parts s)
 
 -- one of what is left goes to the end of what is made
 pub one_more : {X : Type 0} (front more rest all : List X) (x : X) {new : List X} → new ≡ front ++ x ∷ [] → more ≡ x ∷ rest → front ++ more ≡ all → new ++ rest ≡ all

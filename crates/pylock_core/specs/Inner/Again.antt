@@ -17,15 +17,28 @@ use Rattle.pylock_core.specs.declared.edit.Edit.TheVariants as edit
 use Rattle.pylock_core.specs.declared.edit.Policy.{Policy}
 use Rattle.pylock_core.specs.declared.session.changes.Change.{Change}
 use Rattle.pylock_core.specs.declared.session.changes.Change.TheVariants as change
+use Rattle.pylock_core.specs.declared.session.judgement.Cause.{Cause}
+use Rattle.pylock_core.specs.declared.session.judgement.Cause.TheVariants as cause
 use Rattle.pylock_core.specs.declared.session.parts.Parts.{Parts}
 use Rattle.pylock_core.specs.declared.session.row.Row.{Row}
 
 -- ---- the rows
 
--- the policy that is given for all, or that of each name's number
-abbrev pub policy_for : Option Policy → List Policy → ℕ → Policy
-policy_for None policies = policy_at policies
-policy_for (Some policy) policies = λ name. policy
+-- what entries are judged by: what is given, and else what stands
+abbrev pub environment_by : Cause → Parts → EnvironmentValue
+environment_by (cause.Environment environment) parts = environment.now
+environment_by (cause.Tags tags) parts = parts.environment
+environment_by (cause.Policy policy) parts = parts.environment
+
+abbrev pub tags_by : Cause → Parts → List TagValue
+tags_by (cause.Environment environment) parts = parts.tags
+tags_by (cause.Tags tags) parts = tags.now
+tags_by (cause.Policy policy) parts = parts.tags
+
+abbrev pub policy_by : Cause → Parts → ℕ → Policy
+policy_by (cause.Environment environment) parts = policy_at parts.names.policies.items
+policy_by (cause.Tags tags) parts = policy_at parts.names.policies.items
+policy_by (cause.Policy policy) parts = λ name. policy
 
 -- the row of an entry that is judged again
 abbrev pub row_anew : EnvironmentValue → List TagValue → (ℕ → Policy) → Option EntryValue

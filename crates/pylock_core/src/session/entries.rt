@@ -22,7 +22,7 @@ use crate::session::names::{move_member, number_of, reserve_member};
 use crate::session::parts::Parts;
 use crate::session::room::{push_within, put_at};
 use crate::session::row::{Row, SourceKinds};
-use crate::session::verdict::Judge;
+use crate::session::verdict::Verdict;
 use pylock_readers::Entry;
 use std::alloc::AllocError;
 
@@ -83,12 +83,7 @@ fn make_row(
     ensures entries { parts.new.entries.items ≡ parts.old.entries.items }
 {
     let name = number_of(parts.alloc, &mut parts.names, entry.name())?;
-    let judge = Judge {
-        alloc: parts.alloc,
-        environment: &parts.environment,
-        tags: &parts.tags,
-    };
-    let verdict = judge.entry(number, entry, parts.names.policies[name], judged)?;
+    let verdict = Verdict::new(parts, number, entry, parts.names.policies[name], judged)?;
     Ok(Row {
         verdict,
         name,

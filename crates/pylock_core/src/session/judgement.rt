@@ -3,20 +3,20 @@
 ghost use Rattle.std.specs.Prelude.{◌≡◌, ◌<◌, ◌++◌, ◌∷◌, [], Option, Some, None, IfOk, IfSome};
 ghost use Rattle.std.specs.Prelude.{IsSome, OnOk, length, map, if◌then◌else◌};
 ghost use Rattle.pylock_core.specs.Inner.Again.{AllStand, after_head, fresh_row, has_head};
-ghost use Rattle.pylock_core.specs.Inner.Again.{policy_for, row_anew, rows_anew};
+ghost use Rattle.pylock_core.specs.Inner.Again.{environment_by, policy_by, row_anew, rows_anew, tags_by};
 ghost use Rattle.pylock_core.specs.Inner.Index.{list_at};
 ghost use Rattle.pylock_core.specs.Inner.Names.{policy_at};
-ghost use Rattle.pylock_core.specs.Inner.Parts.{IsSession, state_of};
+ghost use Rattle.pylock_core.specs.Inner.Parts.{IsJudged, IsSession, OfBoth, state_of};
 ghost use Rattle.pylock_core.specs.Session.Judgement.{Marked, OfTags, entry_reads, head_reads};
-ghost use Rattle.pylock_core.specs.Session.Judgement.{readers};
+ghost use Rattle.pylock_core.specs.Session.Judgement.{readers, verdict_of};
 ghost use Rattle.pylock_core.specs.Session.Steps.{head_fault};
 
 use crate::edit::Policy;
 use crate::session::judged::Judged;
 use crate::session::parts::Parts;
 use crate::session::row::Row;
-use crate::session::verdict::{HeadVerdict, Judge};
-use pylock_readers::{Entry, Head};
+use crate::session::verdict::{HeadVerdict, Verdict};
+use pylock_readers::Entry;
 use pymark_core::{Environment, Key};
 use pywheel_core::TagList;
 use std::alloc::AllocError;
@@ -27,65 +27,94 @@ const TAGS: usize = 13;
 /// A row that was judged again, with its place.
 pub(crate) type Fresh = (usize, Option<Row>);
 
-/// The row of the entry of this number, judged again under the policy that is given, or that of its
-/// name.
+/// What entries are judged again by. The half of a verdict that reads it is made anew, and the other
+/// half is kept.
+#[derive(Clone, Copy)]
+enum Cause<'a> {
+    Environment(&'a Environment),
+    Tags(&'a TagList),
+    Policy(Policy),
+}
+
+/// The verdict on the entry of this number, of which this row stands, judged again.
+fn verdict_again(
+    parts: &Parts,
+    cause: &Cause,
+    number: u32,
+    entry: &Entry,
+    row: &Row,
+    judged: &mut Judged,
+) -> Result<Verdict, AllocError>
+    requires below { row.now.name < length parts.now.names.policies.items }
+    requires judged { IsJudged parts.now.environment parts.now.tags
+        parts.now.names.policies.items entry.now row.now }
+    ensures verdict { IfOk result (λ verdict. verdict
+        ≡ verdict_of entry.now (environment_by cause.now parts.now) (tags_by cause.now parts.now)
+        (policy_by cause.now parts.now row.now.name)) }
+    ensures judged { OnOk result (judged.new ≡ judged.old ++ number ∷ []) }
+{
+    let kept = &row.verdict;
+    match cause {
+        Cause::Environment(environment) => {
+            kept.standing_anew(parts.alloc, number, entry, environment, judged)
+        }
+        Cause::Tags(tags) => {
+            kept.wheel_anew(number, entry, tags, parts.names.policies[row.name], judged)
+        }
+        Cause::Policy(policy) => kept.wheel_anew(number, entry, &parts.tags, *policy, judged),
+    }
+}
+
+/// The row of the entry of this number, judged again.
 fn judged_row(
-    judge: &Judge,
+    parts: &Parts,
+    cause: &Cause,
     number: u32,
     entry: &Option<Entry>,
     row: &Option<Row>,
-    policies: &[Policy],
-    given: Option<Policy>,
     judged: &mut Judged,
 ) -> Result<Option<Row>, AllocError>
     requires entry { IsSome entry.now }
-    requires row { IsSome row.now }
-    requires below { IfSome row.now (λ row. row.name < length policies.now) }
-    ensures row { IfOk result (λ new. new ≡ row_anew judge.now.environment.now judge.now.tags.now
-        (policy_for given policies.now) entry.now row.now) }
+    requires below { IfSome row.now (λ row. row.name < length parts.now.names.policies.items) }
+    requires judged { OfBoth (IsJudged parts.now.environment parts.now.tags
+        parts.now.names.policies.items) entry.now row.now }
+    ensures row { IfOk result (λ new. new ≡ row_anew (environment_by cause.now parts.now)
+        (tags_by cause.now parts.now) (policy_by cause.now parts.now) entry.now row.now) }
     ensures judged { OnOk result (judged.new ≡ judged.old ++ number ∷ []) }
 {
     match (entry, row) {
-        (Some(entry), Some(row)) => {
-            let policy = given.unwrap_or(policies[row.name]);
-            let verdict = judge.entry(number, entry, policy, judged)?;
-            Ok(Some(Row {
-                verdict,
-                name: row.name,
-                sources: row.sources,
-            }))
-        }
+        (Some(entry), Some(row)) => Ok(Some(Row {
+            verdict: verdict_again(parts, cause, number, entry, row, judged)?,
+            name: row.name,
+            sources: row.sources,
+        })),
         _ => Ok(None),
     }
 }
 
-/// The rows of the entries of these numbers, judged again under the policy that is given, or those
-/// of their names.
+/// The rows of the entries of these numbers, judged again.
 fn again(
-    judge: &Judge,
     parts: &Parts,
+    cause: &Cause,
     numbers: &[u32],
-    given: Option<Policy>,
     judged: &mut Judged,
 ) -> Result<Vec<Fresh>, AllocError>
     requires session { IsSession parts.now }
     requires stand { AllStand parts.now.entries.items numbers.now }
     ensures fresh { IfOk result (λ fresh. fresh.items
-        ≡ map (fresh_row judge.now.environment.now judge.now.tags.now
-        (policy_for given parts.now.names.policies.items)
-        parts.now.entries.items parts.now.rows.items) numbers.now) }
+        ≡ map (fresh_row (environment_by cause.now parts.now) (tags_by cause.now parts.now)
+        (policy_by cause.now parts.now) parts.now.entries.items parts.now.rows.items) numbers.now) }
     ensures judged { OnOk result (judged.new ≡ judged.old ++ numbers.now) }
 {
-    let mut fresh = Vec::with_capacity(judge.alloc, numbers.len())?;
+    let mut fresh = Vec::with_capacity(parts.alloc, numbers.len())?;
     for number in numbers {
         let place = *number as usize - 1;
         let row = judged_row(
-            judge,
+            parts,
+            cause,
             *number,
             &parts.entries[place],
             &parts.rows[place],
-            parts.names.policies.as_slice(),
-            given,
             judged,
         )?;
         fresh.push((place, row))?;
@@ -115,18 +144,18 @@ fn after_head(numbers: &[u32]) -> &[u32]
 
 /// The verdict on the head, judged again if it reads what changes.
 fn head_again(
-    judge: &Judge,
-    head: &Head,
+    parts: &Parts,
+    environment: &Environment,
     reads: bool,
     judged: &mut Judged,
 ) -> Result<Option<HeadVerdict>, AllocError>
     ensures verdict { IfOk result (λ verdict. verdict
-        ≡ (if reads then Some (head_fault head.now judge.now.environment.now) else None)) }
+        ≡ (if reads then Some (head_fault parts.now.head environment.now) else None)) }
     ensures judged { OnOk result (judged.new
         ≡ judged.old ++ (if reads then 0 ∷ [] else [])) }
 {
     if reads {
-        return Ok(Some(judge.head(head, judged)?));
+        return Ok(Some(HeadVerdict::new(parts.alloc, &parts.head, environment, judged)?));
     }
     Ok(None)
 }
@@ -148,14 +177,14 @@ pub(crate) fn judge_key(
     ensures judged { OnOk result (judged.new
         ≡ judged.old ++ readers (Marked key) (state_of parts.now)) }
 {
-    let judge = Judge {
-        alloc: parts.alloc,
-        environment,
-        tags: &parts.tags,
-    };
     let numbers = parts.index[key.number()].as_slice();
-    let verdict = head_again(&judge, &parts.head, has_head(numbers), judged)?;
-    let fresh = again(&judge, parts, after_head(numbers), None, judged)?;
+    let verdict = head_again(parts, environment, has_head(numbers), judged)?;
+    let fresh = again(
+        parts,
+        &Cause::Environment(environment),
+        after_head(numbers),
+        judged,
+    )?;
     Ok((verdict, fresh))
 }
 
@@ -171,12 +200,12 @@ pub(crate) fn judge_tags(
     ensures judged { OnOk result (judged.new
         ≡ judged.old ++ readers OfTags (state_of parts.now)) }
 {
-    let judge = Judge {
-        alloc: parts.alloc,
-        environment: &parts.environment,
-        tags,
-    };
-    again(&judge, parts, parts.index[TAGS].as_slice(), None, judged)
+    again(
+        parts,
+        &Cause::Tags(tags),
+        parts.index[TAGS].as_slice(),
+        judged,
+    )
 }
 
 /// Judges again the entries of the name of this number, under this policy.
@@ -197,11 +226,6 @@ pub(crate) fn judge_name(
     ensures judged { OnOk result (judged.new
         ≡ judged.old ++ list_at parts.now.names.members.items number) }
 {
-    let judge = Judge {
-        alloc: parts.alloc,
-        environment: &parts.environment,
-        tags: &parts.tags,
-    };
     let members = parts.names.members[number].as_slice();
-    again(&judge, parts, members, Some(policy), judged)
+    again(parts, &Cause::Policy(policy), members, judged)
 }

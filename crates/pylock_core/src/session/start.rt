@@ -10,7 +10,7 @@ use crate::session::index::head_index;
 use crate::session::judged::Judged;
 use crate::session::names::Names;
 use crate::session::parts::Parts;
-use crate::session::verdict::Judge;
+use crate::session::verdict::HeadVerdict;
 use pylock_readers::Head;
 use pymark_core::Environment;
 use pywheel_core::TagList;
@@ -38,12 +38,7 @@ pub(crate) fn without_entries(
     ensures judged { IfOk result (λ parts. parts.judged ≡ judged ++ 0 ∷ []) }
 {
     let environment = asking(environment, head.default_groups().as_slice())?;
-    let judge = Judge {
-        alloc,
-        environment: &environment,
-        tags: &tags,
-    };
-    let head_verdict = judge.head(&head, &mut judged)?;
+    let head_verdict = HeadVerdict::new(alloc, &head, &environment, &mut judged)?;
     let spare = environment.copy()?;
     let rows = Vec::with_capacity(alloc, room)?;
     let names = Names::with_capacity(alloc, room)?;

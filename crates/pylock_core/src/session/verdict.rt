@@ -12,6 +12,7 @@ ghost use Rattle.pylock_core.specs.declared.answer.Standing.TheVariants.{Skipped
 use crate::answer::{FaultCode, Standing};
 use crate::edit::Policy;
 use crate::session::judged::Judged;
+use crate::session::parts::Parts;
 use pylock_readers::{Entry, Head};
 use pymark_core::{Environment, EvalFault, Marker, Var};
 use pyver_core::SpecifierSet;
@@ -51,6 +52,69 @@ impl Model for HeadVerdict {
 }
 
 impl Verdict {
+    /// Judges the entry of this number, whose name has this policy. The number goes onto the list.
+    pub(crate) fn new(
+        parts: &Parts,
+        number: u32,
+        entry: &Entry,
+        policy: Policy,
+        judged: &mut Judged,
+    ) -> Result<Verdict, AllocError>
+        ensures verdict { IfOk result (λ verdict. verdict
+            ≡ verdict_of entry.now parts.now.environment parts.now.tags policy) }
+        ensures judged { OnOk result (judged.new ≡ judged.old ++ number ∷ []) }
+    {
+        judged.push(number)?;
+        Ok(Verdict {
+            standing: standing(parts.alloc, entry, &parts.environment)?,
+            best: best_wheel(entry, &parts.tags, policy),
+        })
+    }
+
+    /// Judges again how the entry of this number stands, and keeps its best wheel. The number goes
+    /// onto the list.
+    pub(crate) fn standing_anew(
+        &self,
+        alloc: Global,
+        number: u32,
+        entry: &Entry,
+        environment: &Environment,
+        judged: &mut Judged,
+    ) -> Result<Verdict, AllocError>
+        ensures verdict { IfOk result (λ verdict. verdict
+            ≡ record { standing = standing entry.now environment.now; best = self.now.best }) }
+        ensures judged { OnOk result (judged.new ≡ judged.old ++ number ∷ []) }
+    {
+        judged.push(number)?;
+        Ok(Verdict {
+            standing: standing(alloc, entry, environment)?,
+            best: self.best,
+        })
+    }
+
+    /// Judges again which wheel of the entry of this number is the best, and keeps how the entry
+    /// stands. The number goes onto the list.
+    pub(crate) fn wheel_anew(
+        &self,
+        number: u32,
+        entry: &Entry,
+        tags: &TagList,
+        policy: Policy,
+        judged: &mut Judged,
+    ) -> Result<Verdict, AllocError>
+        ensures verdict { IfOk result (λ verdict. verdict ≡ record {
+          standing = self.now.standing;
+          best = best_wheel entry.now tags.now policy;
+        }) }
+        ensures judged { OnOk result (judged.new ≡ judged.old ++ number ∷ []) }
+    {
+        judged.push(number)?;
+        Ok(Verdict {
+            standing: self.standing,
+            best: best_wheel(entry, tags, policy),
+        })
+    }
+
     /// How the entry stands.
     pub(crate) fn standing(&self) -> Standing
         ensures { result ≡ self.now.standing }
@@ -67,50 +131,26 @@ impl Verdict {
 }
 
 impl HeadVerdict {
+    /// Judges the head, whose number is 0. The number goes onto the list.
+    pub(crate) fn new(
+        alloc: Global,
+        head: &Head,
+        environment: &Environment,
+        judged: &mut Judged,
+    ) -> Result<HeadVerdict, AllocError>
+        ensures verdict { IfOk result (λ verdict. verdict ≡ head_fault head.now environment.now) }
+        ensures judged { OnOk result (judged.new ≡ judged.old ++ 0 ∷ []) }
+    {
+        judged.push(0)?;
+        let fault = head_fault(alloc, head, environment)?;
+        Ok(HeadVerdict { fault })
+    }
+
     /// The fault of the head.
     pub(crate) fn fault(&self) -> Option<FaultCode>
         ensures { result ≡ self.now }
     {
         self.fault
-    }
-}
-
-/// What entries and the head are judged by.
-#[derive(Clone, Copy)]
-pub(crate) struct Judge<'a> {
-    pub(crate) alloc: Global,
-    pub(crate) environment: &'a Environment,
-    pub(crate) tags: &'a TagList,
-}
-
-impl<'a> Judge<'a> {
-    /// Judges the entry of this number, whose name has this policy. The number goes onto the list.
-    pub(crate) fn entry(
-        &self,
-        number: u32,
-        entry: &Entry,
-        policy: Policy,
-        judged: &mut Judged,
-    ) -> Result<Verdict, AllocError>
-        ensures verdict { IfOk result (λ verdict. verdict
-            ≡ verdict_of entry.now self.now.environment.now self.now.tags.now policy) }
-        ensures judged { OnOk result (judged.new ≡ judged.old ++ number ∷ []) }
-    {
-        judged.push(number)?;
-        let standing = standing(self.alloc, entry, self.environment)?;
-        let best = best_wheel(entry, self.tags, policy);
-        Ok(Verdict { standing, best })
-    }
-
-    /// Judges the head, whose number is 0.
-    pub(crate) fn head(&self, head: &Head, judged: &mut Judged) -> Result<HeadVerdict, AllocError>
-        ensures verdict { IfOk result (λ verdict. verdict
-            ≡ head_fault head.now self.now.environment.now) }
-        ensures judged { OnOk result (judged.new ≡ judged.old ++ 0 ∷ []) }
-    {
-        judged.push(0)?;
-        let fault = head_fault(self.alloc, head, self.environment)?;
-        Ok(HeadVerdict { fault })
     }
 }
 
