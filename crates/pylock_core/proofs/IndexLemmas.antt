@@ -203,11 +203,6 @@ head_lists lists empty head read none long nothing is_read is_none changed =
     changed i within ∙ rw (is_none i within, nothing i) (ap (λ b. moved 0 false b []) (ap (λ bs. get_or bs i false) is_read ∙ get_or-map (λ key. head_reads key head) keys i OfTags false within))
     ∙ head_alone (head_reads (get_or keys i OfTags) head))
 
--- lists that keep their numbers are as many
-pub same_length : (one other : List (Vec ℕ Global)) → numbers_in one ≡ numbers_in other → length one ≡ length other
-same_length one other same =
-    sym (length-map one (λ (list : Vec ℕ Global). list.items)) ∙ ap length same ∙ length-map other (λ (list : Vec ℕ Global). list.items)
-
 -- ---- a number that moves
 
 pub moved_same : (n : ℕ) (b : Bool) (ns : List ℕ) → ns ≡ moved n b b ns
