@@ -3,7 +3,8 @@
 ghost use Rattle.std.specs.Prelude.{◌≡◌, ◌<◌, ◌++◌, ◌∷◌, [], Option, Some, None, IfOk, IfSome};
 ghost use Rattle.std.specs.Prelude.{IsSome, OnOk, length, map, if◌then◌else◌};
 ghost use Rattle.pylock_core.specs.Inner.Again.{AllStand, after_head, fresh_row, has_head};
-ghost use Rattle.pylock_core.specs.Inner.Again.{environment_by, policy_by, row_anew, rows_anew, tags_by};
+ghost use Rattle.pylock_core.specs.Inner.Again.{environment_by, policy_by, row_anew, rows_anew};
+ghost use Rattle.pylock_core.specs.Inner.Again.{tags_by};
 ghost use Rattle.pylock_core.specs.Inner.Index.{list_at};
 ghost use Rattle.pylock_core.specs.Inner.Names.{policy_at};
 ghost use Rattle.pylock_core.specs.Inner.Parts.{IsJudged, IsSession, OfBoth, state_of};
@@ -27,8 +28,8 @@ const TAGS: usize = 13;
 /// A row that was judged again, with its place.
 pub(crate) type Fresh = (usize, Option<Row>);
 
-/// What entries are judged again by. The half of a verdict that reads it is made anew, and the other
-/// half is kept.
+/// What entries are judged again by. The half of a verdict that reads it is made anew, the other is
+/// kept.
 #[derive(Clone, Copy)]
 enum Cause<'a> {
     Environment(&'a Environment),
