@@ -6,10 +6,12 @@
 mod answer;
 mod edit;
 pub mod laws;
+mod picked;
 mod session;
 
 pub use answer::{Answer, FaultCode, Pick, PickSource, Plan, Standing};
 pub use edit::{Edit, EditError, Policy};
+pub use picked::PickedSource;
 pub use pylock_readers::{
     Archive, Directory, DistributionFile, Entry, EntryError, EntryKey, EnvError, HeadKey, Lock,
     LockError, Sdist, Vcs, WheelFile, read_environment,

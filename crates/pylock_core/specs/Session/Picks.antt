@@ -1,13 +1,17 @@
 -- What a pick and a fault name: an entry that stands in the state, and of a pick has its source.
-use Rattle.std.specs.Prelude.{◌≡◌, ◌⊎◌, ℕ, ◌<◌, List, length, Some, None, IsSome}
+use Rattle.std.specs.Prelude.{◌≡◌, ◌⊎◌, ℕ, ◌<◌, List, length, Option, Some, None, IsSome}
+use Rattle.std.specs.Prelude.{option_map, slice_get}
 use Rattle.std.specs.List.{Contains}
-use Rattle.pylock_readers.specs.Entry.{EntryValue}
+use Rattle.pylock_readers.specs.Entry.{EntryValue, ArchiveValue, DirectoryValue, FileValue}
+use Rattle.pylock_readers.specs.Entry.{VcsValue}
 use Rattle.pylock_core.specs.Session.State.{State}
 use Rattle.pylock_core.specs.Session.Steps.{head_fault}
 use Rattle.pylock_core.specs.declared.answer.FaultCode.{FaultCode}
 use Rattle.pylock_core.specs.declared.answer.Pick.{Pick}
 use Rattle.pylock_core.specs.declared.answer.PickSource.{PickSource}
 use Rattle.pylock_core.specs.declared.answer.PickSource.TheVariants as source
+use Rattle.pylock_core.specs.declared.picked.PickedSource.{PickedSource}
+use Rattle.pylock_core.specs.declared.picked.PickedSource.TheVariants as picked
 
 -- the entry has the source: its key is there; of its wheels, one stands at the place
 abbrev pub HasSource : PickSource → EntryValue → Type 0
@@ -16,6 +20,30 @@ HasSource source.Directory entry = IsSome entry.directory
 HasSource source.Archive entry = IsSome entry.archive
 HasSource (source.Wheel place) entry = place < length entry.wheels
 HasSource source.Sdist entry = IsSome entry.sdist
+
+-- a source, with what its entry says of it
+pub data SourceValue : Type 0 where
+  OfVcs : VcsValue → SourceValue
+  OfDirectory : DirectoryValue → SourceValue
+  OfArchive : ArchiveValue → SourceValue
+  OfWheel : FileValue → SourceValue
+  OfSdist : FileValue → SourceValue
+
+-- the source that is named in the entry, if the entry has it
+abbrev pub source_in : EntryValue → PickSource → Option SourceValue
+source_in entry source.Vcs = option_map OfVcs entry.vcs
+source_in entry source.Directory = option_map OfDirectory entry.directory
+source_in entry source.Archive = option_map OfArchive entry.archive
+source_in entry (source.Wheel place) = option_map OfWheel (slice_get entry.wheels place)
+source_in entry source.Sdist = option_map OfSdist entry.sdist
+
+-- a source that is lent
+abbrev pub lent_source : PickedSource → SourceValue
+lent_source (picked.Vcs vcs) = OfVcs vcs.now
+lent_source (picked.Directory directory) = OfDirectory directory.now
+lent_source (picked.Archive archive) = OfArchive archive.now
+lent_source (picked.Wheel wheel) = OfWheel wheel.now
+lent_source (picked.Sdist sdist) = OfSdist sdist.now
 
 -- the number is that of an entry among these
 abbrev pub StandsAmong : List (ℕ × EntryValue) → ℕ → Type 0
