@@ -7,3 +7,4 @@ pub mod Hashes
 pub mod Reply
 pub mod Pieces
 pub mod Plain
+pub mod Picked

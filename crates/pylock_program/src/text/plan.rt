@@ -1,20 +1,24 @@
 //! Answers: the lines of a plan, or a fault.
 
-ghost use Rattle.std.specs.Prelude.{◌≡◌, ◌++◌, ◌∷◌, Some, OnOk, string_bytes};
+ghost use Rattle.std.specs.Prelude.{◌≡◌, ◌++◌, ◌∷◌, [], Some, OnOk, option_map, string_bytes};
 ghost use Rattle.std.specs.List.{flat_map};
+ghost use Rattle.std.specs.Option.{option_map_or};
 ghost use Rattle.pylock_readers.specs.Text.{text_pairs};
+ghost use Rattle.pylock_core.specs.Session.Picks.{lent_source};
 ghost use Rattle.pylock_core.specs.declared.answer.Answer.TheVariants.{Plan};
 ghost use Rattle.pylock_program.specs.Inner.Hashes.{escaped_hash, more_hashes};
+ghost use Rattle.pylock_program.specs.Inner.Picked.{picked_fields};
 ghost use Rattle.pylock_program.specs.Text.Field.{field, tabbed};
 ghost use Rattle.pylock_program.specs.Text.Plan.{hashes_text, revision, vcs_fields};
 ghost use Rattle.pylock_program.specs.Text.Plan.{directory_fields};
-ghost use Rattle.pylock_program.specs.Text.Plan.{archive_fields, file_fields, source_fields};
+ghost use Rattle.pylock_program.specs.Text.Plan.{archive_fields, file_fields};
 ghost use Rattle.pylock_program.specs.Text.Plan.{fault_word};
 ghost use Rattle.pylock_program.specs.Text.Plan.{plan_line, pick_text, answer_text, fault_text};
 
 use crate::text::field::{push_decimal, push_escaped, push_last_word, push_next};
 use pylock_core::{
-    Answer, Archive, Directory, DistributionFile, Entry, FaultCode, Pick, PickSource, Session, Vcs,
+    Answer, Archive, Directory, DistributionFile, Entry, FaultCode, Pick, PickedSource, Session,
+    Vcs,
 };
 use std::alloc::AllocError;
 
@@ -111,46 +115,30 @@ fn push_file(out: &mut Vec<u8>, kind: &[u8], file: &DistributionFile) -> Result<
     Ok(())
 }
 
-fn push_source(out: &mut Vec<u8>, entry: &Entry, source: PickSource) -> Result<(), AllocError>
-    ensures { OnOk result (out.new.items
-        ≡ out.old.items ++ tabbed (source_fields entry.now source)) }
+/// Pushes the fields of a source, which stands in its entry and so is never left out.
+fn push_source(out: &mut Vec<u8>, source: Option<PickedSource<'_>>) -> Result<(), AllocError>
+    ensures { OnOk result (out.new.items ≡ out.old.items
+        ++ tabbed (option_map_or picked_fields (option_map lent_source source.entry) [])) }
 {
     match source {
-        PickSource::Vcs => match entry.vcs() {
-            Some(vcs) => push_vcs(out, vcs),
-            None => Ok(()),
-        },
-        PickSource::Directory => match entry.directory() {
-            Some(directory) => push_directory(out, directory),
-            None => Ok(()),
-        },
-        PickSource::Archive => match entry.archive() {
-            Some(archive) => push_archive(out, archive),
-            None => Ok(()),
-        },
-        PickSource::Wheel(place) => match entry.wheels().get(place) {
-            Some(wheel) => push_file(out, b"wheel", wheel),
-            None => Ok(()),
-        },
-        PickSource::Sdist => match entry.sdist() {
-            Some(sdist) => push_file(out, b"sdist", sdist),
-            None => Ok(()),
-        },
+        Some(PickedSource::Vcs(vcs)) => push_vcs(out, vcs),
+        Some(PickedSource::Directory(directory)) => push_directory(out, directory),
+        Some(PickedSource::Archive(archive)) => push_archive(out, archive),
+        Some(PickedSource::Wheel(wheel)) => push_file(out, b"wheel", wheel),
+        Some(PickedSource::Sdist(sdist)) => push_file(out, b"sdist", sdist),
+        None => Ok(()),
     }
 }
 
-fn push_plan_line(
-    out: &mut Vec<u8>,
-    number: u32,
-    source: PickSource,
-    entry: &Entry,
-) -> Result<(), AllocError>
-    ensures { OnOk result (out.new.items ≡ out.old.items ++ plan_line number source entry.now) }
+#[tactic(auto, using(crate::proofs::TextLemmas::picked_source))]
+fn push_plan_line(out: &mut Vec<u8>, pick: &Pick, entry: &Entry) -> Result<(), AllocError>
+    ensures { OnOk result (out.new.items
+        ≡ out.old.items ++ plan_line pick.now.id pick.now.source entry.now) }
 {
-    push_decimal(out, u64::from(number))?;
+    push_decimal(out, u64::from(pick.id))?;
     push_next(out, Some(entry.name()))?;
     push_next(out, entry.version())?;
-    push_source(out, entry, source)?;
+    push_source(out, pick.source.of(entry))?;
     out.push(b'\n')?;
     Ok(())
 }
@@ -159,7 +147,7 @@ fn push_pick(out: &mut Vec<u8>, session: &Session, pick: &Pick) -> Result<(), Al
     ensures { OnOk result (out.new.items ≡ out.old.items ++ pick_text session.now.state pick.now) }
 {
     match session.entry(pick.id) {
-        Some(entry) => push_plan_line(out, pick.id, pick.source, entry),
+        Some(entry) => push_plan_line(out, pick, entry),
         None => Ok(()),
     }
 }
