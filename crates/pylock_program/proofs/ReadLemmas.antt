@@ -1,33 +1,17 @@
 -- How far the reading of a whole source has come.
-use Rattle.std.proofs.Common.{◌≡◌, ℕ, ◌+◌, ◌-◌, ◌<◌, ◌≤◌, List, [], ◌++◌, length, take, refl, sym, ap, ◌∙◌, subst, length-append, arith, Result, Ok, Err, IfOk, OnErr, Some}
-use Rattle.std.proofs.KnownBytes.{Consumes-nil, Consumes-trans, Consumes-kept}
-use Rattle.std.specs.Io.KnownBytes.{Consumes, Keeps, IsAtEnd, ReadConsumes}
-use Rattle.pylock_program.specs.Inner.Pieces.{GivesPiece}
+use Rattle.std.proofs.Common.{◌≡◌, ℕ, ◌+◌, ◌-◌, ◌<◌, ◌≤◌, List, [], ◌++◌, length, take, sym, ap, ◌∙◌, subst, length-append, arith, Result, Ok, Err, IfOk, OnErr, Some}
+use Rattle.std.proofs.KnownBytes.{Consumes-trans}
+use Rattle.std.specs.Io.KnownBytes.{Consumes, ReadConsumes}
 use Rattle.pylock_program.specs.Stream.{SourceValue, one_more}
-use Rattle.pylock_program.specs.Stream.Whole.{GivesWithin, GivesPast, GivesAll, IsCause}
+use Rattle.pylock_program.specs.Stream.Whole.{GivesWithin, GivesPast, IsCause}
 use Rattle.pylock_program.specs.declared.stream.whole.FileFault.{FileFault}
 use Rattle.pylock_program.specs.declared.stream.whole.FileFault.TheVariants.{Read, Limit, Memory}
-
--- a call that kept the bytes to come consumed none
-pub Consumes-keeps : (old new : SourceValue) → Keeps old.rest new.rest → Consumes old.rest new.rest []
-Consumes-keeps old new kept = Consumes-kept old.rest old.rest new.rest [] (Consumes-nil old.rest) kept
 
 -- the bytes read so far, of a source that has failed no more than at first
 pub record HasRead (limit : ℕ) (old new : SourceValue) (bytes : List ℕ) : Type 0 where
   pub gave : Consumes old.rest new.rest bytes
   pub within : length bytes ≤ limit
   pub counted : new.failures ≡ old.failures
-
-pub HasRead-none : (limit : ℕ) (source : SourceValue) → HasRead limit source source []
-HasRead-none limit source = record { gave = Consumes-nil source.rest; within = omega arith; counted = refl }
-
-pub HasRead-more : (limit : ℕ) (old mid new : SourceValue) (before after : List ℕ) → HasRead limit old mid before
-    → GivesPiece mid new before after → length after ≤ limit → HasRead limit old new after
-HasRead-more limit old mid new before after read more within = record {
-  gave = subst (Consumes old.rest new.rest) (sym more.grown) (Consumes-trans old.rest mid.rest new.rest before more.piece read.gave more.gave);
-  within = within;
-  counted = more.counted ∙ read.counted;
-}
 
 within_after : (limit before more : ℕ) → before ≤ limit → more ≤ limit - before → before + more ≤ limit
 within_after limit before more fits rest = omega arith
@@ -62,22 +46,6 @@ pub IsCause-after : (limit size : ℕ) (old mid new : SourceValue) (bytes : List
     → size ≡ length bytes → IsCause (limit - size) mid new fault → IsCause limit old new fault
 IsCause-after limit size old mid new bytes fault read same cause =
     cause_after limit old mid new bytes fault read (subst (λ n. IsCause (limit - n) mid new fault) same cause)
-
-pub GivesAll-from : (limit : ℕ) (old mid new : SourceValue) (before after : List ℕ) → HasRead limit old mid before
-    → GivesPiece mid new before after → length after ≤ limit → IsAtEnd new.rest → GivesAll limit old new after
-GivesAll-from limit old mid new before after read more within end =
-    let all = HasRead-more limit old mid new before after read more within in
-    record { gave = all.gave; end = end; within = within; counted = all.counted }
-
--- a piece past the limit, one within it whose growth was refused, and a read that failed
-pub cause_past : (limit : ℕ) (old new : SourceValue) (piece : List ℕ) → limit < length piece → Consumes old.rest new.rest piece → GivesPast limit old new
-cause_past limit old new piece past gave = record { given = piece; gave = gave; past = past }
-
-pub cause_within : (limit : ℕ) (old new : SourceValue) (piece : List ℕ) → length piece ≤ limit → Consumes old.rest new.rest piece → GivesWithin limit old new
-cause_within limit old new piece within gave = record { given = piece; gave = gave; within = within }
-
-pub cause_none : (limit : ℕ) (old new : SourceValue) → Keeps old.rest new.rest → GivesWithin limit old new
-cause_none limit old new kept = record { given = []; gave = Consumes-keeps old new kept; within = omega arith }
 
 -- a call over known bytes
 pub ReadConsumes-known : {E : Type 0} (r : Result ℕ E) (old new buf : List ℕ) → IfOk r (λ n. old ≡ take n buf ++ new)

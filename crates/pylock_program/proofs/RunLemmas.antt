@@ -1,10 +1,10 @@
 -- What the faults of a run say, and how far a run has come.
-use Rattle.std.proofs.Common.{◌≡◌, ℕ, ◌+◌, ◌<◌, ◌≤◌, ◌-◌, List, [], ◌++◌, length, take, drop, Result, Ok, Err, OnErr, OnOk, refl, sym, ap, ◌∙◌, arith, append_assoc, append-nil, subst, inl, inr, ⊎_elim, length-append, length-drop}
-use Rattle.std.proofs.KnownBytes.{Appends-trans, Consumes-nil, Consumes-trans}
+use Rattle.std.proofs.Common.{◌≡◌, ℕ, ◌+◌, ◌<◌, ◌≤◌, ◌-◌, List, [], ◌++◌, length, take, drop, Result, Ok, Err, OnErr, refl, sym, ap, ◌∙◌, arith, append_assoc, subst, inl, inr, ⊎_elim, length-append, length-drop}
+use Rattle.std.proofs.KnownBytes.{Appends-trans, Consumes-trans}
 use Rattle.std.proofs.Math.Seq.{take-add}
 use Rattle.std.proofs.lemmas.List.{take_all}
-use Rattle.std.specs.Io.KnownBytes.{Appends, Consumes}
-use Rattle.pylock_program.specs.Inner.Edited.{Edited, EditsAll, EditFault, IsReadFault}
+use Rattle.std.specs.Io.KnownBytes.{Appends}
+use Rattle.pylock_program.specs.Inner.Edited.{Edited, EditsAll, EditFault}
 use Rattle.pylock_program.specs.Inner.Editing.{At, bytes_done, bytes_text, lines_begun}
 use Rattle.pylock_program.specs.Inner.Faults.{IsTakeFault, IsFeedFault}
 use Rattle.pylock_program.specs.Inner.Writes.{Writes, Pours}
@@ -14,15 +14,11 @@ use Rattle.pylock_program.specs.Stream.{SourceValue, SinkValue, TakesFront, one_
 use Rattle.pylock_program.specs.declared.report.fault.RunFault.{RunFault}
 use Rattle.pylock_program.specs.declared.report.fault.RunFault.TheVariants.{Read, Write, Input, Memory}
 use Rattle.pylock_program.proofs.EditingLemmas.{begun_past, text_front, done_front, bytes_done-append, bytes_text-append}
-use Rattle.pylock_program.proofs.WriteLemmas.{Writes-nil, Writes-trans, Pours-none, Pours-more, Pours-flush, front_more, front_same, front_after, front_none}
+use Rattle.pylock_program.proofs.WriteLemmas.{within_more, Writes-trans, Pours-more, Pours-flush, front_more, front_same, front_after}
 
 pub on_err : {T E P : Type 0} (r : Result T E) → P → OnErr r P
 on_err (Ok x) p = tt
 on_err (Err e) p = p
-
-pub on_ok : {T E P : Type 0} (r : Result T E) → P → OnOk r P
-on_ok (Ok x) p = p
-on_ok (Err e) p = tt
 
 -- from the causes of a step to those of the whole
 pub HasCause-map : (read write input memory read' write' input' memory' : Type 0) (fault : RunFault)
@@ -56,16 +52,6 @@ pub record Fed (old new : SinkValue) (start at : At) (piece before out : List �
   pub within : done ≤ length piece
   pub editing : at ≡ bytes_done start (take done piece)
   pub poured : Pours old new (before ++ bytes_text start (take done piece)) out
-
-pub Fed-none : (sink : SinkValue) (start : At) (piece out : List ℕ) → Fed sink sink start start piece out out 0
-Fed-none sink start piece out = record {
-  within = omega arith;
-  editing = refl;
-  poured = Pours-none sink (out ++ []) out (append-nil out);
-}
-
-within_more : (done count len size : ℕ) → done ≤ len → size ≡ len - done → count ≤ size → done + count ≤ len
-within_more done count len size within left fits = omega arith
 
 pub Fed-more : (old mid new : SinkValue) (start at next : At) (piece before out last bytes : List ℕ) (done count : ℕ)
     → Fed old mid start at piece before out done → bytes ≡ drop done piece → count ≤ length bytes
@@ -131,63 +117,6 @@ feed_fault_from_flush old mid new text out begun fault poured why = HasCause-map
     (λ none. none) (λ failed. failed ∙ ap one_more poured.writes.counted) (λ none. absurd none) (λ none. absurd none) why
 
 -- pieces one after another
-
-pub Edited-none : (source : SourceValue) (sink : SinkValue) (start : At) (total : ℕ) → Edited source source sink sink start start total total
-Edited-none source sink start total = record {
-  given = [];
-  gave = Consumes-nil source.rest;
-  size = omega arith;
-  editing = refl;
-  writes = Writes-nil sink;
-  reads = refl;
-}
-
--- one piece that was read and fed
-pub Edited-one : (source source' : SourceValue) (sink sink' : SinkValue) (start at : At) (total new_total : ℕ) (given : List ℕ)
-    → Consumes source.rest source'.rest given → source'.failures ≡ source.failures → new_total ≡ total + length given
-    → at ≡ bytes_done start given → Writes sink sink' (bytes_text start given) → Edited source source' sink sink' start at total new_total
-Edited-one source source' sink sink' start at total new_total given gave reads size editing writes = record {
-  given = given;
-  gave = gave;
-  size = size;
-  editing = editing;
-  writes = writes;
-  reads = reads;
-}
-
--- nothing was read
-pub EditFault-read : (source source' : SourceValue) (sink : SinkValue) (start : At) (total : ℕ) (fault : RunFault)
-    → IsReadFault total source source' fault → EditFault source source' sink sink start total fault
-EditFault-read source source' sink start total Read why = record {
-  given = [];
-  gave = why.0;
-  front = front_none sink [];
-  cause = (why.1, refl, (Writes-nil sink).held);
-}
-EditFault-read source source' sink start total Write why = absurd why
-EditFault-read source source' sink start total Input why = record {
-  given = why.0.given;
-  gave = why.0.gave;
-  front = front_none sink _;
-  cause = (why.1, refl, inr why.0.past);
-}
-EditFault-read source source' sink start total Memory why = absurd why
-
--- a piece was read, and not edited by or not written
-pub EditFault-feed : (source source' : SourceValue) (sink sink' : SinkValue) (start : At) (total : ℕ) (given : List ℕ) (fault : RunFault)
-    → Consumes source.rest source'.rest given → source'.failures ≡ source.failures → TakesFront sink sink' (bytes_text start given)
-    → IsFeedFault sink sink' (lines_begun (bytes_done start given)) fault → EditFault source source' sink sink' start total fault
-EditFault-feed source source' sink sink' start total given fault gave reads front why = record {
-  given = given;
-  gave = gave;
-  front = front;
-  cause = HasCause-map _ _ _ _ _ _ _ _ fault
-      (λ none. absurd none)
-      (λ failed. (reads, failed))
-      (λ past. (reads, past.1, inl past.0))
-      (λ memory. (reads, memory))
-      why;
-}
 
 writes-more : (sink mid sink' : SinkValue) (start at : At) (xs ys : List ℕ) → Writes sink mid (bytes_text start xs) → at ≡ bytes_done start xs
     → Writes mid sink' (bytes_text at ys) → Writes sink sink' (bytes_text start (xs ++ ys))

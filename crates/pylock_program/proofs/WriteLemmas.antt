@@ -2,7 +2,6 @@
 use Rattle.std.proofs.Common.{◌≡◌, ℕ, ◌+◌, ◌-◌, ◌≤◌, List, [], ◌++◌, length, take, drop, refl, sym, ap, ◌∙◌, subst, append_assoc, append-nil, take-append-drop, length-drop, arith}
 use Rattle.std.proofs.KnownBytes.{Appends-nil, Appends-trans, Appends-kept}
 use Rattle.std.proofs.Math.Seq.{take-add}
-use Rattle.std.proofs.lemmas.List.{take_all}
 use Rattle.std.specs.Io.KnownBytes.{Appends, Keeps}
 use Rattle.pylock_program.specs.Inner.Writes.{Writes, Pours}
 use Rattle.pylock_program.specs.Stream.{SinkValue, TakesFront}
@@ -12,19 +11,13 @@ pub record Wrote (old new : SinkValue) (text : List ℕ) (done : ℕ) : Type 0 w
   pub within : done ≤ length text
   pub writes : Writes old new (take done text)
 
-pub Writes-nil : (sink : SinkValue) → Writes sink sink []
-Writes-nil sink = record { held = Appends-nil sink.held; counted = refl }
-
 pub Writes-trans : (old mid new : SinkValue) (xs ys : List ℕ) → Writes old mid xs → Writes mid new ys → Writes old new (xs ++ ys)
 Writes-trans old mid new xs ys before after = record {
   held = Appends-trans old.held mid.held new.held xs ys before.held after.held;
   counted = after.counted ∙ before.counted;
 }
 
-pub Wrote-none : (sink : SinkValue) (text : List ℕ) → Wrote sink sink text 0
-Wrote-none sink text = record { within = omega arith; writes = Writes-nil sink }
-
-within_more : (done taken size left : ℕ) → done ≤ size → left ≡ size - done → taken ≤ left → done + taken ≤ size
+pub within_more : (done taken size left : ℕ) → done ≤ size → left ≡ size - done → taken ≤ left → done + taken ≤ size
 within_more done taken size left before rest bound = omega arith
 
 -- what is left of a text has no more bytes than it
@@ -72,14 +65,7 @@ Wrote-front_same old mid new text done before same = record {
   held = Appends-kept old.held mid.held new.held (take done text) before.writes.held same;
 }
 
-pub Wrote-all : (old new : SinkValue) (text : List ℕ) (done : ℕ) → Wrote old new text done → length text ≤ done → Appends old.held new.held text
-Wrote-all old new text done wrote all = subst (Appends old.held new.held) (take_all done text all) wrote.writes.held
-
 -- a text in parts
-
--- nothing was written
-pub Pours-none : (sink : SinkValue) (text out : List ℕ) → text ≡ out → Pours sink sink text out
-Pours-none sink text out whole = record { written = []; whole = whole; writes = Writes-nil sink }
 
 -- what stood in hand was written
 pub Pours-flush : (old new : SinkValue) (text out : List ℕ) → Writes old new text → out ≡ [] → Pours old new text out
@@ -121,9 +107,6 @@ front_after old mid new text out more before after = record {
 
 pub front_none : (sink : SinkValue) (text : List ℕ) → TakesFront sink sink text
 front_none sink text = record { front = []; back = text; whole = refl; held = Appends-nil sink.held }
-
-pub front_all : (old new : SinkValue) (text more : List ℕ) → Appends old.held new.held text → TakesFront old new (text ++ more)
-front_all old new text more held = record { front = text; back = more; whole = refl; held = held }
 
 pub front_same : (old new : SinkValue) (text other : List ℕ) → text ≡ other → TakesFront old new text → TakesFront old new other
 front_same old new text other same written = record { front = written.front; back = written.back; whole = sym same ∙ written.whole; held = written.held }
