@@ -1,8 +1,7 @@
 //! The replies of the one-shot commands.
 
-ghost use Rattle.std.specs.Prelude.{◌≡◌, ◌++◌, ◌∷◌, IfOk, OnOk, Ok, Some, option_map};
+ghost use Rattle.std.specs.Prelude.{◌≡◌, ◌++◌, ◌∷◌, IfOk, OnOk, Ok, Some};
 ghost use Rattle.std.specs.Prelude.{[], codes, map, string_bytes};
-ghost use Rattle.std.specs.Option.{option_copied};
 ghost use Rattle.std.specs.List.{join_by};
 ghost use Rattle.pyver_core.specs.Name.{norm};
 ghost use Rattle.pywheel_core.specs.Tag.{tag_text};
@@ -191,7 +190,7 @@ fn push_requirement_line(
     push_extras(alloc, out, requirement.extras())?;
     push_specifiers(out, requirement.set())?;
     push_next(out, requirement.url())?;
-    push_marker_text(out, requirement.marker())?;
+    push_next(out, requirement.marker().map(|marker| marker.text()))?;
     out.push(b'\n')?;
     Ok(0)
 }
@@ -228,17 +227,6 @@ fn push_specifiers(out: &mut Vec<u8>, set: &SpecifierSet) -> Result<(), AllocErr
         return push_next(out, None);
     }
     push_next(out, Some(set.text()))
-}
-
-/// Pushes a TAB and the field of a marker.
-fn push_marker_text(out: &mut Vec<u8>, marker: Option<&Marker>) -> Result<(), AllocError>
-    ensures { OnOk result (out.new.items
-        ≡ out.old.items ++ 9 ∷ field (option_map (λ m. m.text) (option_copied marker.entry))) }
-{
-    match marker {
-        Some(marker) => push_next(out, Some(marker.text())),
-        None => push_next(out, None),
-    }
 }
 
 fn push_wheel(alloc: Global, out: &mut Vec<u8>, text: &str) -> Result<u8, AllocError>
