@@ -1,4 +1,4 @@
-use Rattle.std.proofs.Common.{◌≡◌, ◌∙◌, ◌++◌, subst, ap}
+use Rattle.std.proofs.Common.{◌≡◌, ℕ, List, ◌∙◌, ◌++◌, subst, ap}
 use Rattle.std.proofs.lemmas.Result.{err_from_is_err_and}
 use Rattle.pylock_program.specs.Report.{standing_text}
 use Rattle.pylock_program.specs.Stream.{TakesFront}
@@ -14,5 +14,5 @@ pub returns-in_err-flush-clause-front : goal.returns-in_err-flush-clause-front
 returns-in_err-flush-clause-front g c =
     let p = err_from_is_err_and c.from_residual-in_err-flush.result c.from_residual-in_err-flush.ensures.1 in
     let text : c.start.new.out.items ≡ standing_text c.args.session.state =
-    c.in_ok-editing.ensures.text ∙ ap (λ before. before ++ standing_text c.args.session.state) c.requires in
+    ◌∙◌ {A = List ℕ} c.in_ok-editing.ensures.text (ap (λ before. before ++ standing_text c.args.session.state) c.requires) in
     rw p.1 (subst (TakesFront (g.W.Sink.value c.args.writer.now) (g.W.Sink.value c.flush.new.writer)) text c.in_err-flush.ensures.front)
