@@ -114,6 +114,7 @@ session_kept parts names kept s = record {
   names = kept.is;
   members = λ q. kept.members q ∙ s.members q;
   index = s.index;
+  living = s.living;
   spare = s.spare;
 }
 

@@ -1,5 +1,5 @@
 -- What a session is after an entry was written at a place, or taken out of it.
-use Rattle.std.proofs.Common.{◌≡◌, ℕ, suc, zero, ◌+◌, ◌<◌, ◌∙◌, Bool, true, false, List, [], ◌∷◌, ◌++◌, map, length, get_or, set, Option, Some, None, IfSome, Result, Ok, Err, OnErr, option_map, subst, ap, sym, refl, arith}
+use Rattle.std.proofs.Common.{◌≡◌, ℕ, suc, zero, ◌+◌, ◌<◌, ◌∙◌, Bool, true, false, List, [], ◌∷◌, ◌++◌, map, length, get_or, set, Option, Some, None, IfSome, is_some, Result, Ok, Err, OnErr, option_map, subst, ap, sym, refl, arith}
 use Rattle.std.specs.Global.{Global}
 use Rattle.std.specs.Str.{bytes_eq}
 use Rattle.std.specs.declared.vec.Vec.{Vec}
@@ -8,7 +8,7 @@ use Rattle.pylock_readers.specs.Entry.{EntryValue}
 use Rattle.pylock_core.specs.Inner.Index.{AllRise, HaveRoom, list_at, moved, numbers_in}
 use Rattle.pylock_core.specs.Session.State.{Rises}
 use Rattle.pylock_core.specs.Inner.Names.{HasRoom, IsNames, Kept, Same, is_at, members_named, members_under, number_named}
-use Rattle.pylock_core.specs.Inner.Parts.{AreMembers, IsIndex, IsNamed, IsSession, OfBoth, OfRows, shown, state_of, verdict_in}
+use Rattle.pylock_core.specs.Inner.Parts.{AreLiving, AreMembers, IsIndex, IsNamed, IsSession, OfBoth, OfRows, shown, state_of, verdict_in}
 use Rattle.pylock_core.specs.Inner.Rows.{in_rows, passes}
 use Rattle.pylock_readers.specs.Lock.{HeadValue}
 use Rattle.pylock_core.specs.Session.Judgement.{IndexKey, OfTags, and_head, entry_reads, head_reads, keys, numbers_where}
@@ -163,6 +163,7 @@ session_index p lists kept s = record {
   names = s.names;
   members = s.members;
   index = kept ∙ s.index;
+  living = s.living;
   spare = s.spare;
 }
 
@@ -213,6 +214,25 @@ members_wider names es members q = members q ∙ ap (numbers_where (λ entry. by
 pub index_wider : (lists : List (Vec ℕ Global)) (head : HeadValue) (es : List (Option EntryValue)) → IsIndex lists head es → IsIndex lists head (es ++ None ∷ [])
 index_wider lists head es index =
     index ∙ ap (λ rows. map (λ key. and_head (head_reads key head) (numbers_where (entry_reads key) rows)) keys) (sym (in_rows_wider 1 es))
+
+pub living_wider : (numbers : List ℕ) (es : List (Option EntryValue)) → AreLiving numbers es → AreLiving numbers (es ++ None ∷ [])
+living_wider numbers es living = living ∙ ap (numbers_where (λ entry. true)) (sym (in_rows_wider 1 es))
+
+-- the numbers of what stands, after one row is written
+pub living_rises : (numbers : List ℕ) (es : List (Option EntryValue)) → AreLiving numbers es → Rises 0 numbers
+living_rises numbers es living = subst (Rises 0) (sym living) (rises_from 1 0 (passing (λ (entry : EntryValue). true) 1 es) (omega arith) (passing_rises (λ entry. true) 1 es))
+
+stands_there : (e : Option EntryValue) → passes (λ entry. true) e ≡ is_some e
+stands_there None = refl
+stands_there (Some e) = refl
+
+pub living_written : (old new : List ℕ) (es : List (Option EntryValue)) (place n : ℕ) (was is : Bool) (e : Option EntryValue) → AreLiving old es
+    → is_some (get_or es place None) ≡ was → is_some e ≡ is → n ≡ 1 + place → place < length es → new ≡ moved n was is old → AreLiving new (set es place e)
+living_written old new es place n was is e living stood stands at within moves =
+    moves ∙ ap (moved n was is) living
+    ∙ ap (λ b. moved n b is (passing (λ entry. true) 1 es)) (sym stood ∙ sym (stands_there (get_or es place None)))
+    ∙ ap (λ b. moved n (passes (λ entry. true) (get_or es place None)) b (passing (λ entry. true) 1 es)) (sym stands ∙ sym (stands_there e))
+    ∙ sym (passing_set (λ entry. true) n 1 place es e at within)
 
 -- what holds in any case holds on Err
 pub on_err : {A E P : Type 0} (r : Result A E) → P → OnErr r P

@@ -5,6 +5,5 @@ pub mod Index
 pub mod Names
 pub mod Parts
 pub mod Pass
-pub mod Progress
 pub mod Rows
 pub mod Slated

@@ -1,5 +1,5 @@
 -- The parts of a session, and how they belong together.
-use Rattle.std.specs.Prelude.{◌≡◌, ℕ, ◌≤◌, List, [], ◌∷◌, map, length, Option, Some, None, is_some}
+use Rattle.std.specs.Prelude.{◌≡◌, ℕ, ◌≤◌, true, List, [], ◌∷◌, map, length, Option, Some, None, is_some}
 use Rattle.std.specs.Prelude.{IfSome}
 use Rattle.std.specs.Global.{Global}
 use Rattle.std.specs.Str.{bytes_eq}
@@ -99,6 +99,10 @@ IsIndex lists head entries =
     ≡ map (λ key. and_head (head_reads key head)
     (numbers_where (entry_reads key) (in_rows 1 entries))) keys
 
+-- the numbers of the entries that stand
+abbrev pub AreLiving : List ℕ → List (Option EntryValue) → Type 0
+AreLiving numbers entries = numbers ≡ numbers_where (λ entry. true) (in_rows 1 entries)
+
 -- ---- the whole
 
 pub record IsSession (parts : Parts) : Type 0 where
@@ -111,3 +115,4 @@ pub record IsSession (parts : Parts) : Type 0 where
   pub members : AreMembers parts.names parts.entries.items
   pub index : IsIndex parts.index parts.head parts.entries.items
   pub spare : IfSome parts.spare (λ spare. spare ≡ parts.environment)
+  pub living : AreLiving parts.living.items parts.entries.items

@@ -1,6 +1,6 @@
 -- The installation steps over the flat rows of a session, where names are numbers.
 use Rattle.std.specs.Prelude.{◌≡◌, ◌<◌, ℕ, Bool, true, false, ◌||◌, nat_eq, nat_lt, List, [], ◌∷◌}
-use Rattle.std.specs.Prelude.{count_by, Option, Some, None, Result, Ok, Err, if◌then◌else◌}
+use Rattle.std.specs.Prelude.{count_by, zero, suc, filter, Option, Some, None, Result, Ok, Err, if◌then◌else◌}
 use Rattle.std.specs.Prelude.{slice_index_or}
 use Rattle.std.specs.List.{list_any}
 use Rattle.pylock_core.specs.Inner.Names.{policy_at}
@@ -14,8 +14,10 @@ use Rattle.pylock_core.specs.declared.answer.Standing.{Standing}
 use Rattle.pylock_core.specs.declared.answer.Standing.TheVariants.{Skipped, Faulty, Active}
 use Rattle.pylock_core.specs.declared.edit.Policy.{Policy}
 use Rattle.pylock_core.specs.declared.edit.Policy.TheVariants.{Any, Wheel, Source}
+use Rattle.pylock_core.specs.Inner.Slated.{HasPlace}
 use Rattle.pylock_core.specs.declared.session.row.SourceKinds.{SourceKinds}
 use Rattle.pylock_core.specs.declared.session.row.Row.{Row}
+use Rattle.pylock_core.specs.declared.session.slated.Slated.{Slated}
 
 -- whether sources of more than one kind stand
 abbrev pub conflict_among : SourceKinds → Bool
@@ -99,3 +101,35 @@ AreSlated slated names = (n : ℕ) → slated n ≡ has_number names n
 abbrev pub NamesBelow : ℕ → List (Option Row) → Type 0
 NamesBelow count rows =
     (k : ℕ) (row : Row) → slice_index_or rows k None ≡ Some row → row.name < count
+
+-- each row's name can be slated
+abbrev pub HavePlaces : Slated → List (Option Row) → Type 0
+HavePlaces slated rows =
+    (k : ℕ) (row : Row) → slice_index_or rows k None ≡ Some row → HasPlace slated row.name
+
+-- the row of a number
+abbrev pub row_at : List (Option Row) → ℕ → Option Row
+row_at rows zero = None
+row_at rows (suc place) = slice_index_or rows place None
+
+-- a row with its number before others, where it stands
+abbrev pub and_row : ℕ → Option Row → List (ℕ × Row) → List (ℕ × Row)
+and_row n None es = es
+and_row n (Some row) es = (n, row) ∷ es
+
+-- the rows of these numbers
+abbrev pub numbered : List (Option Row) → List ℕ → List (ℕ × Row)
+numbered rows [] = []
+numbered rows (n ∷ ns) = and_row n (row_at rows n) (numbered rows ns)
+
+-- whether an entry stands by its marker and its Python check, and the rows of those that do
+abbrev pub is_active : Row → Bool
+is_active row = by_standing row.verdict.standing false (λ code. false) true
+
+abbrev pub active_rows : List (ℕ × Row) → List (ℕ × Row)
+active_rows es = filter (λ e. is_active e.1) es
+
+-- the fault, where there is one
+abbrev pub fault_in : {A : Type 0} → Result A FirstFault → Option FirstFault
+fault_in (Ok value) = None
+fault_in (Err fault) = Some fault

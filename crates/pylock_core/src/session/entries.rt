@@ -1,8 +1,8 @@
 //! The entries of a session: one is added, put in place of another, or taken out.
 
-ghost use Rattle.std.specs.Prelude.{◌≡◌, ℕ, ◌+◌, ◌<◌, ◌++◌, ◌∷◌, List, [], None, IfOk, IfErr};
+ghost use Rattle.std.specs.Prelude.{◌≡◌, ◌⊎◌, ℕ, ◌+◌, ◌<◌, ◌++◌, ◌∷◌, List, [], None, IfOk, IfErr};
 ghost use Rattle.std.specs.Prelude.{IfSome, IsSome, OnErr, OnOk, length, map, option_map};
-ghost use Rattle.std.specs.Prelude.{slice_index_or, slice_set};
+ghost use Rattle.std.specs.Prelude.{slice_index_or, slice_set, vec_capacity, vec_len};
 ghost use Rattle.std.specs.Option.{option_copied};
 ghost use Rattle.pylock_core.specs.Inner.Edits.{Leaves, Made};
 ghost use Rattle.pylock_core.specs.Inner.Index.{HaveRoom};
@@ -16,7 +16,7 @@ ghost use Rattle.pylock_core.specs.declared.edit.Edit.TheVariants as edit;
 ghost use Rattle.pylock_core.specs.declared.edit.EditError.TheVariants.{NoEntry};
 
 use crate::edit::EditError;
-use crate::session::index::{change_each, entry_keys, keys_at, reserve_each};
+use crate::session::index::{change, change_each, entry_keys, keys_at, reserve_each};
 use crate::session::judged::Judged;
 use crate::session::names::{move_member, number_of, reserve_member};
 use crate::session::parts::Parts;
@@ -137,6 +137,8 @@ fn write_at(parts: &mut Parts, place: usize, row: Option<Row>, entry: Option<Ent
         (IsJudged parts.old.environment parts.old.tags parts.old.names.policies.items) entry row }
     requires index { HaveRoom parts.old.index (map (λ key. passes (entry_reads key) entry) keys) 0 }
     requires name { IfSome row (λ row. HasRoom parts.old.names row.name) }
+    requires living { IsSome entry → IsSome (slice_index_or parts.old.entries.items place None)
+        ⊎ (vec_len parts.old.living < vec_capacity parts.old.living) }
     ensures session { IsSession parts.new }
     ensures state { state_of parts.new ≡ record (state_of parts.old) {
       entries = in_rows 1 (slice_set parts.old.entries.items place entry);
@@ -148,6 +150,8 @@ fn write_at(parts: &mut Parts, place: usize, row: Option<Row>, entry: Option<Ent
     change_each(&mut parts.index, number, &was, &is);
     let was = name_of(&parts.rows[place]);
     move_member(&mut parts.names, number, was, name_of(&row));
+    let stood = parts.entries[place].is_some();
+    change(&mut parts.living, number, stood, entry.is_some());
     put_at(&mut parts.rows, place, row);
     put_at(&mut parts.entries, place, entry);
 }
@@ -165,6 +169,7 @@ pub(crate) fn append(parts: &mut Parts, entry: Entry, judged: &mut Judged) -> Re
     let row = prepare(parts, place as u32 + 1, &entry, judged)?;
     parts.entries.reserve(1)?;
     parts.rows.reserve(1)?;
+    parts.living.reserve(1)?;
     push_within(&mut parts.rows, None);
     push_within(&mut parts.entries, None);
     write_at(parts, place, Some(row), Some(entry));

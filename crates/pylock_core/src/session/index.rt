@@ -152,7 +152,7 @@ pub(crate) fn change_each(lists: &mut Lists, number: u32, was: &KeySet, is: &Key
 
 /// Has the number in the list or not.
 pub(crate) fn change(numbers: &mut Vec<u32>, number: u32, was: bool, is: bool)
-    requires room { IsTrue is → vec_len numbers.old < vec_capacity numbers.old }
+    requires room { was ≡ false → IsTrue is → vec_len numbers.old < vec_capacity numbers.old }
     requires rises { Rises 0 numbers.old.items }
     ensures { numbers.new.items ≡ moved number was is numbers.old.items }
 {

@@ -21,6 +21,8 @@ pub(crate) struct Parts {
     pub(crate) alloc: Global,
     /// The numbers that the last accepted edit judged.
     pub(crate) judged: Judged,
+    /// The numbers of the entries that stand, in increasing order.
+    pub(crate) living: Vec<u32>,
     /// The numbers of what reads each key, 0 for the head.
     pub(crate) index: Lists,
     /// The row of the entry of number k stands at place k - 1.
@@ -43,6 +45,7 @@ impl Drop for Parts {
         let Parts {
             alloc: _,
             judged: _,
+            living: _,
             index: _,
             rows: _,
             names: _,
@@ -66,6 +69,7 @@ pub(crate) fn answer(parts: &Parts) -> Result<Answer, AllocError>
     }
     answer_of(
         parts.alloc,
+        parts.living.as_slice(),
         parts.rows.as_slice(),
         parts.names.policies.as_slice(),
     )

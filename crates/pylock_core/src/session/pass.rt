@@ -1,45 +1,70 @@
 //! The installation steps over the rows of a session (PEP 751, "Installation", steps 5 and 6).
 
-ghost use Rattle.std.specs.Prelude.{◌≡◌, ◌<◌, ◌^◌, ℕ, [], length, IfOk, OnOk, Ok};
-ghost use Rattle.pylock_core.specs.Inner.Pass.{NamesBelow, checked_standing, conflict_among};
-ghost use Rattle.pylock_core.specs.Inner.Pass.{picks_after_rows, row_standing, slate_rows};
-ghost use Rattle.pylock_core.specs.Inner.Pass.{slated_after};
-ghost use Rattle.pylock_core.specs.Inner.Rows.{in_rows};
-ghost use Rattle.pylock_core.specs.Inner.Progress.{pick_after, picks_so_far};
+ghost use Rattle.std.specs.Prelude.{◌≡◌, ℕ, [], length, false, IfOk, OnOk};
+ghost use Rattle.std.specs.Option.{option_copied};
+ghost use Rattle.pylock_core.specs.Inner.Pass.{HavePlaces, NamesBelow, active_rows};
+ghost use Rattle.pylock_core.specs.Inner.Pass.{checked_standing, conflict_among, fault_in};
+ghost use Rattle.pylock_core.specs.Inner.Pass.{is_active, numbered, pick_rows, picks_after_rows};
+ghost use Rattle.pylock_core.specs.Inner.Pass.{row_at};
+ghost use Rattle.pylock_core.specs.Inner.Pass.{row_standing, slate_rows, slated_after};
 ghost use Rattle.pylock_core.specs.Inner.Slated.{HasPlace, is_slated};
 ghost use Rattle.pylock_core.specs.Session.Steps.{answer_by};
 
-use crate::answer::{Answer, FaultCode, Pick, PickSource, Plan, Standing};
+use crate::answer::{Answer, FaultCode, Pick, Plan, Standing};
 use crate::edit::Policy;
 use crate::session::row::Row;
 use crate::session::slated::Slated;
 use std::alloc::{AllocError, Global};
 
-/// The answer of the installation steps on the rows, the first of which is that of number 1. The
-/// policies are those of the names, by their numbers. Takes memory for the names that are slated
-/// and for the picks.
+/// The answer of the installation steps on the rows of these numbers. The policies are those of the
+/// names, by their numbers. Takes memory for the names that are slated and, where step 5 has no
+/// fault, for the picks.
 pub(crate) fn answer_of(
     alloc: Global,
+    numbers: &[u32],
     rows: &[Option<Row>],
     policies: &[Policy],
 ) -> Result<Answer, AllocError>
-    requires few { length rows.now < 2 ^ 32 }
-    requires names { NamesBelow (length policies.now) rows.now }
-    ensures { IfOk result (λ found. found
-        ≡ answer_by (picks_after_rows (slate_rows (in_rows 1 rows.now) []) policies.now)) }
+    requires { NamesBelow (length policies.now) rows.now }
+    ensures { IfOk result (λ found. found ≡ answer_by
+        (picks_after_rows (slate_rows (numbered rows.now numbers.now) []) policies.now)) }
 {
-    let mut slated = Slated::none(alloc, policies.len(), rows.len())?;
-    let mut picks = Picks::with_capacity(alloc, rows.len())?;
-    for (place, row) in rows.iter().enumerate() {
-        let Some(row) = row else { continue };
-        let id = place as u32 + 1;
-        match slating(&mut slated, row)? {
-            Standing::Skipped => {}
-            Standing::Faulty(code) => return Ok(Answer::Fault { id, code }),
-            Standing::Active => picks.add(id, row.source(policies[row.name]))?,
+    let mut slated = Slated::none(alloc, policies.len(), numbers.len())?;
+    match slating_fault(numbers, rows, &mut slated)? {
+        Some((id, code)) => Ok(Answer::Fault { id, code }),
+        None => picks(alloc, numbers, rows, policies),
+    }
+}
+
+/// The row of the number.
+fn row_in(rows: &[Option<Row>], number: u32) -> Option<&Row>
+    ensures { option_copied result ≡ row_at rows.now number }
+{
+    let place = (number as usize).checked_sub(1)?;
+    rows.get(place)?.as_ref()
+}
+
+/// The first fault of step 5. The names of the entries before it that are to be installed are
+/// slated.
+fn slating_fault(
+    numbers: &[u32],
+    rows: &[Option<Row>],
+    slated: &mut Slated,
+) -> Result<Option<(u32, FaultCode)>, AllocError>
+    requires none { (n : ℕ) → is_slated slated.old n ≡ false }
+    requires places { HavePlaces slated.old rows.now }
+    ensures { IfOk result (λ fault. fault
+        ≡ fault_in (slate_rows (numbered rows.now numbers.now) [])) }
+{
+    for number in numbers {
+        let Some(row) = row_in(rows, *number) else {
+            continue;
+        };
+        if let Standing::Faulty(code) = slating(slated, row)? {
+            return Ok(Some((*number, code)));
         }
     }
-    Ok(picks.into_answer())
+    Ok(None)
 }
 
 /// How the next entry stands in step 5, after those whose names are slated. Its name is slated
@@ -77,50 +102,42 @@ fn slating_active(slated: &mut Slated, row: &Row) -> Result<Standing, AllocError
     Ok(Standing::Active)
 }
 
-/// The picks of step 6 so far, until an entry has none.
-#[derive(Drop)]
-struct Picks {
-    made: Vec<Pick>,
-    no_file: Option<u32>,
+/// Whether the entry stands by its marker and its Python check.
+fn is_active(row: &Row) -> bool
+    ensures { result ≡ is_active row.now }
+{
+    matches!(row.verdict.standing(), Standing::Active)
 }
 
-impl Picks {
-    /// No picks yet, with room for as many.
-    fn with_capacity(alloc: Global, capacity: usize) -> Result<Picks, AllocError>
-        ensures { IfOk result (λ picks. picks_so_far picks ≡ Ok []) }
-    {
-        let made = Vec::with_capacity(alloc, capacity)?;
-        Ok(Picks {
-            made,
-            no_file: None,
-        })
-    }
-
-    /// Makes the pick of the next entry, which has this source.
-    fn add(&mut self, id: u32, source: Option<PickSource>) -> Result<(), AllocError>
-        ensures { OnOk result
-            (picks_so_far self.new ≡ pick_after (picks_so_far self.old) id source) }
-    {
-        if self.no_file.is_some() {
-            return Ok(());
+/// The answer of step 6, where step 5 has no fault.
+fn picks(
+    alloc: Global,
+    numbers: &[u32],
+    rows: &[Option<Row>],
+    policies: &[Policy],
+) -> Result<Answer, AllocError>
+    requires { NamesBelow (length policies.now) rows.now }
+    ensures { IfOk result (λ found. found
+        ≡ answer_by (pick_rows (active_rows (numbered rows.now numbers.now)) policies.now)) }
+{
+    let mut picks = Vec::with_capacity(alloc, numbers.len())?;
+    for number in numbers {
+        let Some(row) = row_in(rows, *number) else {
+            continue;
+        };
+        if !is_active(row) {
+            continue;
         }
-        match source {
-            Some(source) => self.made.push(Pick { id, source })?,
-            None => self.no_file = Some(id),
-        }
-        Ok(())
-    }
-
-    /// The answer that ends the steps.
-    fn into_answer(self) -> Answer
-        ensures { result ≡ answer_by (picks_so_far self) }
-    {
-        match self.no_file {
-            None => Answer::Plan(Plan::new(self.made)),
-            Some(id) => Answer::Fault {
-                id,
+        let Some(source) = row.source(policies[row.name]) else {
+            return Ok(Answer::Fault {
+                id: *number,
                 code: FaultCode::NoFile,
-            },
-        }
+            });
+        };
+        picks.push(Pick {
+            id: *number,
+            source,
+        })?;
     }
+    Ok(Answer::Plan(Plan::new(picks)))
 }

@@ -40,6 +40,7 @@ pub(crate) fn without_entries(
     let environment = asking(environment, head.default_groups().as_slice())?;
     let head_verdict = HeadVerdict::new(alloc, &head, &environment, &mut judged)?;
     let spare = environment.copy()?;
+    let living = Vec::with_capacity(alloc, room)?;
     let rows = Vec::with_capacity(alloc, room)?;
     let names = Names::with_capacity(alloc, room)?;
     let entries = Vec::with_capacity(alloc, room)?;
@@ -47,6 +48,7 @@ pub(crate) fn without_entries(
     Ok(Parts {
         alloc,
         judged,
+        living,
         index,
         rows,
         names,

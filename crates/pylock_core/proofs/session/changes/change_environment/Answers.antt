@@ -27,5 +27,6 @@ returns-clause-session c =
       names = s.names;
       members = s.members;
       index = s.index;
+      living = s.living;
       spare = rw c.requires.spare tt;
     })

@@ -52,6 +52,7 @@ returns-clause-session c =
       names = c.set_policy.ensures.is;
       members = λ q. c.set_policy.ensures.members q ∙ s.members q;
       index = s.index;
+      living = s.living;
       spare = s.spare;
     }
 

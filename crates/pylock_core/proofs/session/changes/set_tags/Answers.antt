@@ -25,5 +25,6 @@ returns-clause-session c =
       names = s.names;
       members = s.members;
       index = s.index;
+      living = s.living;
       spare = s.spare;
     }

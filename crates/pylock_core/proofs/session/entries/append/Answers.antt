@@ -1,11 +1,11 @@
 use Rattle.std.proofs.Common.{◌≡◌, ◌+◌, ◌∙◌, ◌<◌, ◌++◌, ◌∷◌, [], Some, None, Ok, length, set, refl, ap, sym, subst, arith}
 use Rattle.std.proofs.lemmas.List.{length-set}
-use Rattle.pylock_core.specs.Inner.Parts.{AreMembers, IsIndex, IsJudged, IsNamed, state_of}
+use Rattle.pylock_core.specs.Inner.Parts.{AreLiving, AreMembers, IsIndex, IsJudged, IsNamed, state_of}
 use Rattle.pylock_core.specs.Inner.Rows.{in_rows}
 use Rattle.pylock_core.specs.Session.State.{State, with_next}
 use Rattle.pylock_core.proofs.NameLemmas.{length_more}
 use Rattle.pylock_core.proofs.SessionLemmas.{next_state}
-use Rattle.pylock_core.proofs.WriteLemmas.{index_wider, members_wider, of_rows_wider, on_err, set_last, shown_room}
+use Rattle.pylock_core.proofs.WriteLemmas.{index_wider, living_wider, members_wider, of_rows_wider, on_err, set_last, shown_room}
 use Rattle.pylock_core.proofs.session.entries.append.Goals as goal
 
 pub write_at-requires-clause-session : goal.write_at-requires-clause-session
@@ -24,6 +24,7 @@ write_at-requires-clause-session c =
       names = s.names;
       members = subst (AreMembers p.names) (sym entries) (members_wider p.names p.entries.items s.members);
       index = subst (IsIndex p.index p.head) (sym entries) (index_wider p.index p.head p.entries.items s.index);
+      living = subst (AreLiving c.reserve-3.new.self.items) (sym entries) (living_wider c.reserve-3.new.self.items p.entries.items (c.in_ok-reserve-3.ensures.items ∙ s.living));
       spare = s.spare;
     }
 

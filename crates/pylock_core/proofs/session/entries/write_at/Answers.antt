@@ -1,12 +1,12 @@
-use Rattle.std.proofs.Common.{◌∙◌, ◌+◌, ◌<◌, ◌≤◌, length, IfSome, subst, ap, sym, arith}
+use Rattle.std.proofs.Common.{◌∙◌, is_some, ◌+◌, ◌<◌, ◌≤◌, length, IfSome, subst, ap, sym, arith}
 use Rattle.std.proofs.lemmas.List.{length-set}
 use Rattle.pylock_core.specs.Inner.Index.{HaveRoom, list_at, moved}
 use Rattle.pylock_core.specs.Session.State.{Rises}
 use Rattle.pylock_core.specs.Inner.Names.{HasRoom, is_at}
-use Rattle.pylock_core.specs.Inner.Parts.{AreMembers, IsIndex, IsJudged, IsNamed, state_of}
+use Rattle.pylock_core.specs.Inner.Parts.{AreLiving, AreMembers, IsIndex, IsJudged, IsNamed, state_of}
 use Rattle.pylock_core.specs.Inner.Rows.{in_rows}
 use Rattle.pylock_core.proofs.SessionLemmas.{of_rows_set, session_even}
-use Rattle.pylock_core.proofs.WriteLemmas.{both_at, both_named_as, index_rises, index_written, members_written, old_at, row_below, row_name, row_rises, row_room, rows_named_as}
+use Rattle.pylock_core.proofs.WriteLemmas.{both_at, both_named_as, index_rises, index_written, living_rises, living_written, members_written, old_at, row_below, row_name, row_rises, row_room, rows_named_as}
 use Rattle.pylock_core.proofs.session.entries.write_at.Goals as goal
 
 pub change_each-requires-clause-room : goal.change_each-requires-clause-room
@@ -31,6 +31,9 @@ move_member-requires c =
       was_rises = subst (λ o. IfSome o (λ n. Rises 0 (list_at p.names.members.items n))) (sym c.name_of-was.ensures) (row_rises p.names p.entries.items c.index.result.now c.index-2.result.now s.members before);
       is_rises = subst (λ o. IfSome o (λ n. Rises 0 (list_at p.names.members.items n))) (sym c.name_of.ensures) (row_rises p.names p.entries.items c.args.entry c.args.row s.members c.requires.named);
     }
+
+pub change-requires-clause-rises : goal.change-requires-clause-rises
+change-requires-clause-rises c = living_rises c.args.parts.now.living.items c.args.parts.now.entries.items c.requires.session.living
 
 pub put_at-requires : goal.put_at-requires
 put_at-requires c = let even = session_even c.args.parts.now c.requires.session in omega (arith, c.requires.within, even)
@@ -61,6 +64,8 @@ returns-clause-session c =
           ∙ ap (λ is. moved (place + 1) (is_at n (row_name gone)) (is_at n is) (list_at p.names.members.items n)) c.name_of.ensures));
       index = subst (IsIndex c.change_each.new.lists p.head) (sym c.put_at-2.ensures) (index_written p.index c.change_each.new.lists c.keys_at-was.result c.keys_at-is.result p.head p.entries.items place (place + 1) old c.args.entry
           s.index there c.keys_at-was.ensures c.keys_at-is.ensures (omega arith) c.requires.within c.change_each.ensures.long c.change_each.ensures.changed);
+      living = subst (AreLiving c.change.new.numbers.items) (sym c.put_at-2.ensures) (living_written p.living.items c.change.new.numbers.items p.entries.items place (place + 1) c.is_some-stood.result c.is_some.result c.args.entry
+          s.living (ap is_some (sym (old_at p.entries.items place c.index-3.result.now c.requires.within c.index-3.ensures)) ∙ sym c.is_some-stood.ensures) (sym c.is_some.ensures) (omega arith) c.requires.within c.change.ensures);
       spare = s.spare;
     }
 
