@@ -7,21 +7,6 @@ use pywheel_core::TagList;
 use std::alloc::{AllocError, Global};
 use toml::Table;
 
-/// The variables of markers.
-const VARIABLES: [Var; 11] = [
-    Var::OsName,
-    Var::SysPlatform,
-    Var::PlatformMachine,
-    Var::PlatformPythonImplementation,
-    Var::PlatformRelease,
-    Var::PlatformSystem,
-    Var::PlatformVersion,
-    Var::PythonVersion,
-    Var::PythonFullVersion,
-    Var::ImplementationName,
-    Var::ImplementationVersion,
-];
-
 /// `ok`, or why the environment is refused.
 pub(crate) fn judge(alloc: Global, case: &Table) -> anyhow::Result<String> {
     let environment = files::environment(alloc, case)?;
@@ -54,7 +39,7 @@ fn told(alloc: Global, environment: &Environment, tags: &TagList) -> Result<Stri
 }
 
 fn push_variables(told: &mut String, environment: &Environment) -> Result<(), AllocError> {
-    for variable in VARIABLES {
+    for variable in Var::all() {
         if let Some(text) = environment.get(variable) {
             writeln!(told, "{variable} {text:?}")?;
         }

@@ -5,21 +5,6 @@ use pymark_core::{Environment, Var};
 use std::alloc::{AllocError, Global};
 use toml::{Table, Value};
 
-/// The variables of markers.
-pub(crate) const VARIABLES: [Var; 11] = [
-    Var::OsName,
-    Var::SysPlatform,
-    Var::PlatformMachine,
-    Var::PlatformPythonImplementation,
-    Var::PlatformRelease,
-    Var::PlatformSystem,
-    Var::PlatformVersion,
-    Var::PythonVersion,
-    Var::PythonFullVersion,
-    Var::ImplementationName,
-    Var::ImplementationVersion,
-];
-
 /// Gives the environment the `variables`, the `extras` and the `groups` of a case; and each line of
 /// `names` as an extra and as a group.
 pub(crate) fn set_all(

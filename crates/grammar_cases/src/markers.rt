@@ -1,9 +1,9 @@
 //! Markers: what they are worth, and what they read.
 
-use crate::environments::{VARIABLES, set_all};
+use crate::environments::set_all;
 use crate::told::printed;
 use case_files::{text, texts};
-use pymark_core::{Environment, EvalFault, Key, Marker, Reads};
+use pymark_core::{Environment, EvalFault, Key, Marker, Reads, Var};
 use std::alloc::{AllocError, Global};
 use toml::Table;
 
@@ -90,7 +90,7 @@ fn is_copied(marker: &Marker) -> Result<bool, AllocError> {
 }
 
 fn push_keys(told: &mut String, reads: Reads) -> Result<(), AllocError> {
-    for variable in VARIABLES {
+    for variable in Var::all() {
         push_key(told, Key::Of(variable), reads)?;
     }
     push_key(told, Key::Extras, reads)?;

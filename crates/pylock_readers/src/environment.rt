@@ -18,21 +18,6 @@ use pywheel_core::{TagList, TagListError};
 use serde_json::{Map, Value};
 use std::alloc::{AllocError, Global};
 
-/// The variables of markers (PEP 508, "Environment Markers").
-const VARIABLES: [Var; 11] = [
-    Var::OsName,
-    Var::SysPlatform,
-    Var::PlatformMachine,
-    Var::PlatformPythonImplementation,
-    Var::PlatformRelease,
-    Var::PlatformSystem,
-    Var::PlatformVersion,
-    Var::PythonVersion,
-    Var::PythonFullVersion,
-    Var::ImplementationName,
-    Var::ImplementationVersion,
-];
-
 /// Reads the text of an environment: a JSON object with `environment`, an object whose members
 /// named like a variable of markers are texts, and `tags`, a list of texts, each a tag (PEP 425).
 /// Other members are ignored. The refusals come in the order of `EnvError`.
@@ -98,7 +83,7 @@ fn read_variables(alloc: Global, members: &Map<String, Value>) -> Result<Environ
         (with_members variables (members_view members.now.entries) empty) }
 {
     let mut environment = Environment::new(alloc);
-    set_members(&mut environment, members, &VARIABLES)?;
+    set_members(&mut environment, members, &Var::all())?;
     Ok(environment)
 }
 

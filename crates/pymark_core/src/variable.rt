@@ -2,7 +2,7 @@
 
 ghost use Rattle.std.specs.Fmt.{padded};
 ghost use Rattle.std.specs.Prelude.{◌≡◌, ◌<◌, Some};
-ghost use Rattle.pymark_core.specs.Variables.{place, variable_name, variable_of};
+ghost use Rattle.pymark_core.specs.Variables.{place, variable_name, variable_of, variables};
 
 use std::fmt;
 
@@ -50,6 +50,13 @@ const VARIABLES: [Var; 11] = [
 ];
 
 impl Var {
+    /// The eleven variables (PEP 508, "Environment Markers"). It takes no memory.
+    pub fn all() -> [Var; 11]
+        ensures { result ≡ variables }
+    {
+        VARIABLES
+    }
+
     /// The variable of this name in markers. It takes no memory.
     pub fn of(name: &str) -> Option<Var>
         ensures { result ≡ variable_of name.now }
