@@ -1,6 +1,5 @@
 pub use Rattle.pylock_readers.proofs.TableLemmas.{kept}
 mod FileNameLemmas
-pub mod NameLemmas
 mod TableLemmas
 mod FrontLemmas
 mod SharedLemmas

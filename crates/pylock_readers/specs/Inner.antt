@@ -1,5 +1,4 @@
 -- What serves the contracts of private functions alone.
-pub mod Names
 pub mod Strings
 pub mod Shared
 pub mod Taken

@@ -12,8 +12,7 @@ ghost use Rattle.pylock_readers.specs.Entry.Fields.{text_in};
 ghost use Rattle.pylock_readers.specs.Entry.Fields.{optional_text_in, flag_in, items_in};
 ghost use Rattle.pylock_readers.specs.Inner.Taken.{without};
 
-use crate::name::into_normal;
-use pyver_core::is_name;
+use pyver_core::{NormalName, is_name};
 use std::alloc::{AllocError, Global};
 use std::mem;
 use toml::{Table, Value};
@@ -114,7 +113,7 @@ pub(crate) fn into_name(alloc: Global, value: Value) -> Result<String, FieldErro
     if !is_name(text.as_str()) {
         return Err(FieldError::Wrong);
     }
-    Ok(into_normal(alloc, text)?)
+    Ok(NormalName::from_string(alloc, text)?.into_string())
 }
 
 /// A text that has to be there.

@@ -9,7 +9,6 @@ mod error;
 mod field;
 pub mod laws;
 mod lock;
-mod name;
 mod text;
 
 pub use entry::{Archive, Directory, DistributionFile, Entry, Sdist, Vcs, WheelFile};

@@ -8,7 +8,6 @@ pub mod Judged
 pub mod MarkerLemmas
 pub mod Memory
 pub mod NamesSoFar
-pub mod NormalNames
 pub mod NoteLemmas
 pub mod NotedLemmas
 pub mod ReadingSound

@@ -4,7 +4,7 @@ ghost use Rattle.std.specs.Prelude.{◌≡◌, IfOk, IfSome, string_bytes};
 ghost use Rattle.pyver_core.specs.Name.{norm};
 ghost use Rattle.pyver_core.specs.Parsed.{parsed_version};
 
-use pyver_core::{Label, Version, VersionError, normal_name};
+use pyver_core::{NormalName, Version, VersionError};
 use std::alloc::{AllocError, Global};
 use std::marker::Model;
 use std::sync::Arc;
@@ -16,7 +16,7 @@ pub(crate) struct Candidate {
     text: String,
     version: Result<Version, VersionError>,
     /// The text in normal form (PEP 503), where it was asked for.
-    name: Option<Label>,
+    name: Option<NormalName>,
 }
 
 impl Model for Candidate {
@@ -49,7 +49,7 @@ impl Candidate {
     pub(crate) fn named(alloc: Global, text: String) -> Result<Candidate, AllocError>
         ensures { IfOk result (λ candidate. candidate ≡ string_bytes text) }
     {
-        let name = Label::new(normal_name(alloc, text.as_str())?);
+        let name = NormalName::new(alloc, text.as_str())?;
         let version = read_version(alloc, text.as_str())?;
         Ok(Candidate {
             text,

@@ -4,7 +4,7 @@ ghost use Rattle.std.specs.Prelude.{◌≡◌, not, IfOk, IsTrue, OnErr};
 ghost use Rattle.std.specs.FinSet as set;
 ghost use Rattle.pyver_core.specs.Name.{norm};
 
-use pyver_core::normal_name;
+use pyver_core::NormalName;
 use std::alloc::{AllocError, Global};
 use std::collections::BTreeSet;
 use std::marker::Model;
@@ -59,7 +59,7 @@ impl NameSet {
         ensures added { IfOk result (λ added. added ≡ not (set.contains self.old (norm name.now))) }
         ensures err { OnErr result (self.new ≡ self.old) }
     {
-        let name = normal_name(alloc, name)?;
+        let name = NormalName::new(alloc, name)?.into_string();
         Ok(self.names.insert(name)?)
     }
 
@@ -69,7 +69,7 @@ impl NameSet {
         ensures dropped { IfOk result (λ dropped. dropped ≡ set.contains self.old (norm name.now)) }
         ensures err { OnErr result (self.new ≡ self.old) }
     {
-        let name = normal_name(alloc, name)?;
+        let name = NormalName::new(alloc, name)?;
         Ok(self.names.remove(name.as_str()))
     }
 

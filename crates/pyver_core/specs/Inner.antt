@@ -4,6 +4,7 @@ pub mod Draft
 pub mod EqualityLaws
 pub mod HashLaws
 pub mod Limit
+pub mod Names
 pub mod Operand
 pub mod OrderLaws
 pub mod PartsRef

@@ -6,6 +6,9 @@ ghost use Rattle.std.specs.Option.{option_copied};
 ghost use Rattle.pytext.specs.Bytes.{is_separator, is_name_byte};
 ghost use Rattle.pyver_core.specs.Name.{is_name, is_name_end, norm};
 
+mod normal;
+
+pub use normal::NormalName;
 use pytext::is_name_byte;
 use std::alloc::{AllocError, Global};
 

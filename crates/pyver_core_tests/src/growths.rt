@@ -3,8 +3,8 @@
 //! just what it answers with ample memory.
 
 use pyver_core::{
-    Label, LocalPart, Operator, PartsError, Specifier, SpecifierError, SpecifierSet, Version,
-    VersionError, VersionParts, is_name, normal_name,
+    Label, LocalPart, NormalName, Operator, PartsError, Specifier, SpecifierError, SpecifierSet,
+    Version, VersionError, VersionParts, is_name, normal_name,
 };
 use std::alloc::{AllocError, Global};
 use std::process::Abort;
@@ -127,6 +127,26 @@ fn name_in_normal_form(rt: HostRuntime) -> Result<(), Fail> {
     }
     assert!(rt; is_name("A.-_B") && !is_name("-a") && !is_name(""));
     Ok(())
+}
+
+#[test]
+fn name_made_normal(rt: HostRuntime) {
+    if let Ok(name) = NormalName::new(rt.alloc(), "A.-_B") {
+        assert_eq!(rt; name.as_str(), "a-b");
+    }
+}
+
+/// A text that stands in normal form, and one that doesn't.
+#[test]
+fn name_from_string(rt: HostRuntime) {
+    for text in ["a-b", "a--b"] {
+        let Ok(text) = String::from_str(rt.alloc(), text) else {
+            return;
+        };
+        if let Ok(name) = NormalName::from_string(rt.alloc(), text) {
+            assert_eq!(rt; name.into_string().as_str(), "a-b");
+        }
+    }
 }
 
 /// The calls of the version `1!2.0rc1.post3.dev4+ubuntu.1` that take no memory.

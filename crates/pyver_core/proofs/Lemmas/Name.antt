@@ -1,2 +1,3 @@
 pub mod Collapse
+pub mod Normal
 pub mod Runs

@@ -1,0 +1,97 @@
+//! Names in normal form (PEP 503, "Normalized Names"), which own their text.
+
+ghost use Rattle.std.specs.Prelude.{◌≡◌, false, IfOk, string_bytes};
+ghost use Rattle.pyver_core.specs.Inner.Names.{is_normal_behind, is_normal_byte};
+ghost use Rattle.pyver_core.specs.Name.{norm};
+
+use crate::name::normal_name;
+use std::alloc::{AllocError, Global};
+use std::marker::Model;
+
+/// A name in normal form (PEP 503, "Normalized Names"). Contracts see its text.
+pub struct NormalName {
+    text: String,
+}
+
+impl Model for NormalName {
+    ghost use Rattle.std.specs.Prelude.{◌≡◌, List, ℕ, string_bytes};
+    ghost use Rattle.std.specs.Coded.{coded_list, coded_ℕ};
+    ghost use Rattle.pyver_core.specs.Name.{norm};
+
+    ghost Value = { List ℕ };
+
+    ghost coded = { coded_list coded_ℕ };
+
+    ghost view = { λ a. string_bytes a.text };
+
+    ghost invariant = { λ a. norm (string_bytes a.text) ≡ string_bytes a.text };
+}
+
+impl Drop for NormalName {
+    fn drop(self) {
+        let NormalName { text: _ } = self;
+    }
+}
+
+impl NormalName {
+    /// The normal form of any text, as [`normal_name`] makes it. It takes the memory of one text as
+    /// long as the given one.
+    #[tactic(auto, using(crate::proofs::Lemmas::Name::Normal::normal_made))]
+    pub fn new(alloc: Global, text: &str) -> Result<NormalName, AllocError>
+        ensures { IfOk result (λ name. name ≡ norm text.now) }
+    {
+        let text = normal_name(alloc, text)?;
+        Ok(NormalName { text })
+    }
+
+    /// The normal form of the text, which is the text itself where it stands in it already: then
+    /// it takes no memory.
+    #[tactic(auto, using(crate::proofs::Lemmas::Name::Normal::normal_made, crate::proofs::Lemmas::Name::Normal::normal_stays,))]
+    pub fn from_string(alloc: Global, text: String) -> Result<NormalName, AllocError>
+        ensures { IfOk result (λ name. name ≡ norm (string_bytes text)) }
+    {
+        if is_normal(text.as_bytes()) {
+            Ok(NormalName { text })
+        } else {
+            NormalName::new(alloc, text.as_str())
+        }
+    }
+
+    /// The text. It takes no memory.
+    pub fn as_str(&self) -> &str
+        ensures text { result.now ≡ self.now }
+        ensures normal { norm self.now ≡ self.now }
+    {
+        self.text.as_str()
+    }
+
+    /// The text, moved out. It takes no memory.
+    pub fn into_string(self) -> String
+        ensures text { string_bytes result ≡ self }
+        ensures normal { norm self ≡ self }
+    {
+        let NormalName { text } = self;
+        text
+    }
+}
+
+/// Whether these are lower-case letters, digits and single `-`.
+fn is_normal(bytes: &[u8]) -> bool
+    ensures { result ≡ is_normal_behind false bytes.now }
+{
+    let mut after_dash = false;
+    for byte in bytes {
+        let is_dash = *byte == b'-';
+        if after_dash && is_dash || !is_normal_byte(*byte) {
+            return false;
+        }
+        after_dash = is_dash;
+    }
+    true
+}
+
+fn is_normal_byte(byte: u8) -> bool
+    ensures { result ≡ is_normal_byte byte }
+{
+    byte.is_ascii_lowercase() || byte.is_ascii_digit() || byte == b'-'
+}
