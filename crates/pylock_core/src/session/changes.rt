@@ -20,12 +20,11 @@ use crate::session::parts::Parts;
 use crate::session::room::put_at;
 use crate::session::row::Row;
 use crate::session::verdict::HeadVerdict;
-use pylock_readers::HeadNames;
 use pymark_core::laws::marker_reads;
 use pymark_core::{Environment, Key, Var};
-use pyver_core::{Label, normal_name};
+use pyver_core::{Label, NormalName};
 use pywheel_core::TagList;
-use std::alloc::{AllocError, Global};
+use std::alloc::AllocError;
 use std::mem;
 
 /// A change of an environment.
@@ -107,7 +106,8 @@ fn has_extra(parts: &Parts, name: &str) -> Result<(), EditError>
     ensures refused { IfErr result (λ error. (error ≡ Memory → ⊥)
         → (error ≡ UnknownExtra) × (is_known parts.now.head.extras name.now ≡ false)) }
 {
-    if is_known(parts.alloc, parts.head.extras(), name)? {
+    let name = NormalName::new(parts.alloc, name)?;
+    if parts.head.extras().has(name.as_str()) {
         return Ok(());
     }
     Err(EditError::UnknownExtra)
@@ -121,20 +121,13 @@ fn has_group(parts: &Parts, name: &str) -> Result<(), EditError>
         → (error ≡ UnknownGroup) × ((is_known parts.now.head.groups name.now
         || is_known parts.now.head.default_groups name.now) ≡ false)) }
 {
-    let named = is_known(parts.alloc, parts.head.groups(), name)?;
-    let default = is_known(parts.alloc, parts.head.default_groups(), name)?;
+    let name = NormalName::new(parts.alloc, name)?;
+    let named = parts.head.groups().has(name.as_str());
+    let default = parts.head.default_groups().has(name.as_str());
     if named || default {
         return Ok(());
     }
     Err(EditError::UnknownGroup)
-}
-
-/// Whether the normal form of the name is one of these.
-fn is_known(alloc: Global, names: &HeadNames, name: &str) -> Result<bool, AllocError>
-    ensures { IfOk result (λ known. known ≡ is_known names.now name.now) }
-{
-    let name = normal_name(alloc, name)?;
-    Ok(names.has(name.as_str()))
 }
 
 /// Puts each of the rows at its place. Takes no memory.
@@ -231,7 +224,7 @@ pub(crate) fn give_policy(
     ensures left { Leaves (edit.Policy name policy) parts.old parts.new
         judged.old judged.new result }
 {
-    let name = normal_name(parts.alloc, name.as_str())?;
+    let name = NormalName::from_string(parts.alloc, name.into_string())?;
     let number = number_of(parts.alloc, &mut parts.names, name.as_str())?;
     let fresh = judge_name(parts, number, policy, judged)?;
     store(&mut parts.rows, fresh);

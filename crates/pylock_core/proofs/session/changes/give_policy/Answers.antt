@@ -24,7 +24,7 @@ judge_name-requires-clause-session c = numbered (goal.at.judge_name-requires-cla
 
 pub judge_name-requires-clause-stand : goal.judge_name-requires-clause-stand
 judge_name-requires-clause-stand c =
-    members_stand (record c.args.parts.now { names = c.number_of.new.names }) c.as_str-2.result.now c.in_ok-number.number (numbered (goal.at.judge_name-requires-clause-stand c).In_ok-number) c.in_ok-number.ensures.found
+    members_stand (record c.args.parts.now { names = c.number_of.new.names }) c.as_str.result.now c.in_ok-number.number (numbered (goal.at.judge_name-requires-clause-stand c).In_ok-number) c.in_ok-number.ensures.found
 
 pub returns-in_err-fresh-clause-session : goal.returns-in_err-fresh-clause-session
 returns-in_err-fresh-clause-session c = numbered (goal.at.returns-in_err-fresh-clause-session c).In_ok-number
@@ -35,13 +35,13 @@ store-requires c =
     let members = list_at c.number_of.new.names.members.items c.in_ok-number.number in
     rw c.in_ok-fresh.ensures.rows
     (all_within p.environment p.tags (λ n. c.args.policy) p.entries.items p.rows.items (length p.rows.items) members (session_even p c.requires)
-    (members_stand (record p { names = c.number_of.new.names }) c.as_str-2.result.now c.in_ok-number.number (numbered (goal.at.store-requires c).In_ok-number) c.in_ok-number.ensures.found))
+    (members_stand (record p { names = c.number_of.new.names }) c.as_str.result.now c.in_ok-number.number (numbered (goal.at.store-requires c).In_ok-number) c.in_ok-number.ensures.found))
 
 pub returns-clause-session : goal.returns-clause-session
 returns-clause-session c =
     let p = c.args.parts.now in
     let s = numbered (goal.at.returns-clause-session c).In_ok-number in
-    let both = policy_again (record p { names = c.number_of.new.names }) c.set_policy.new.names c.as_str-2.result.now c.in_ok-number.number c.args.policy c.store.new.rows.items s
+    let both = policy_again (record p { names = c.number_of.new.names }) c.set_policy.new.names c.as_str.result.now c.in_ok-number.number c.args.policy c.store.new.rows.items s
     c.in_ok-number.ensures.found c.set_policy.ensures.numbers c.set_policy.ensures.items
     (c.store.ensures ∙ ap (λ fresh. stored fresh p.rows.items) c.in_ok-fresh.ensures.rows) in
     record {
@@ -59,12 +59,12 @@ returns-clause-session c =
 pub returns-clause-left : goal.returns-clause-left
 returns-clause-left c =
     let p = c.args.parts.now in
-    let normal : c.as_str-2.result.now ≡ norm c.args.name = c.as_str-2.ensures.value ∙ c.in_ok-name.ensures ∙ ap norm c.as_str.ensures in
-    let policies = c.set_policy.ensures.policies c.as_str-2.result.now c.in_ok-number.ensures.found
+    let normal : c.as_str.result.now ≡ norm c.args.name = c.as_str.ensures.text ∙ c.in_ok-name.ensures ∙ ap norm c.into_string.ensures in
+    let policies = c.set_policy.ensures.policies c.as_str.result.now c.in_ok-number.ensures.found
     ∙ (λ i. with_policy (c.in_ok-number.ensures.kept.policies i) (normal i) c.args.policy) in
     record {
       applied = λ i. Ok (record (state_of p) { policies = sym policies i });
       judged = c.in_ok-fresh.ensures.judged ∙ ap (λ ns. c.args.judged.now ++ ns)
-          (members_here (record p { names = c.number_of.new.names }) c.as_str-2.result.now c.in_ok-number.number (numbered (goal.at.returns-clause-left c).In_ok-number) c.in_ok-number.ensures.found
+          (members_here (record p { names = c.number_of.new.names }) c.as_str.result.now c.in_ok-number.number (numbered (goal.at.returns-clause-left c).In_ok-number) c.in_ok-number.ensures.found
           ∙ ap (λ name. numbers_where (λ entry. bytes_eq name entry.name) (in_rows 1 p.entries.items)) normal);
     }
