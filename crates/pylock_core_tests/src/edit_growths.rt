@@ -256,6 +256,13 @@ fn is_started(alloc: Global, start: Start) -> bool {
     started(alloc, start).is_some_and(|session| shows(alloc, &session, start.3))
 }
 
+/// Makes the steps in the session, where memory allows one.
+fn check_session<R: Abort + AllocGlobal>(rt: &R, start: Start, steps: &[Step]) {
+    if let Some(mut session) = started(rt.alloc(), start) {
+        check_steps(rt, &mut session, start.3, steps);
+    }
+}
+
 #[test]
 fn every_kind_of_edit_is_whole(rt: HostRuntime) {
     if let Some(mut session) = started(rt.alloc(), SOURCES) {
@@ -265,7 +272,5 @@ fn every_kind_of_edit_is_whole(rt: HostRuntime) {
 
 #[test]
 fn edits_are_whole_where_names_are_asked_for(rt: HostRuntime) {
-    if let Some(mut session) = started(rt.alloc(), ASKED) {
-        check_steps(&rt, &mut session, ASKED.3, &ASKED_STEPS);
-    }
+    check_session(&rt, ASKED, &ASKED_STEPS);
 }
