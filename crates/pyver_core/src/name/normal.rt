@@ -46,7 +46,7 @@ impl NormalName {
 
     /// The normal form of the text, which is the text itself where it stands in it already: then
     /// it takes no memory.
-    #[tactic(auto, using(crate::proofs::Lemmas::Name::Normal::normal_made, crate::proofs::Lemmas::Name::Normal::normal_stays,))]
+    #[tactic(auto, using(crate::proofs::Lemmas::Name::Normal::normal_stays))]
     pub fn from_string(alloc: Global, text: String) -> Result<NormalName, AllocError>
         ensures { IfOk result (λ name. name ≡ norm (string_bytes text)) }
     {
