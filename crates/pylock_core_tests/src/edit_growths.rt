@@ -265,9 +265,7 @@ fn check_session<R: Abort + AllocGlobal>(rt: &R, start: Start, steps: &[Step]) {
 
 #[test]
 fn every_kind_of_edit_is_whole(rt: HostRuntime) {
-    if let Some(mut session) = started(rt.alloc(), SOURCES) {
-        check_steps(&rt, &mut session, SOURCES.3, &STEPS);
-    }
+    check_session(&rt, SOURCES, &STEPS);
 }
 
 #[test]
