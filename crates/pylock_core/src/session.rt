@@ -119,7 +119,8 @@ impl Session {
     }
 
     /// The answer of the installation steps (PEP 751) on the state as it stands. Changes nothing;
-    /// takes memory for the names that are slated and a pick for each number that was given out.
+    /// takes memory for the names that are slated and, where step 5 has no fault, for a pick of each
+    /// entry that stands. It takes no time for a number whose entry is gone.
     pub fn answer(&self) -> Result<Answer, AllocError>
         ensures { IfOk result (λ found. found ≡ answer self.now.state) }
     {
