@@ -118,9 +118,10 @@ impl Session {
         Ok(edit_parts(&mut self.parts, edit)?)
     }
 
-    /// The answer of the installation steps (PEP 751) on the state as it stands. Changes nothing;
-    /// takes memory for the names that are slated and, where step 5 has no fault, for a pick of each
-    /// entry that stands. It takes no time for a number whose entry is gone.
+    /// The answer of the installation steps (PEP 751) on the state as it stands. Changes nothing.
+    ///
+    /// Takes memory for the names that are slated and, where step 5 has no fault, for a pick of
+    /// each entry that stands; no time for a number whose entry is gone.
     pub fn answer(&self) -> Result<Answer, AllocError>
         ensures { IfOk result (λ found. found ≡ answer self.now.state) }
     {
