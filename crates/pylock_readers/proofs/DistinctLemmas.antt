@@ -93,14 +93,10 @@ pub unseen_none : (texts : List (List ℕ)) → unseen [] texts ≡ texts
 unseen_none [] = refl
 unseen_none (t ∷ ts) = ap (λ rest. t ∷ rest) (unseen_none ts)
 
--- what a set answers to a text that it didn't have, and to one that it had
+-- what a set answers to a text that it didn't have
 pub was_new : (had added : Bool) → added ≡ not had → added ≡ true → had ≡ false
 was_new true added is new = sym (sym is ∙ new)
 was_new false added is new = refl
-
-pub was_there : (had added : Bool) → added ≡ not had → added ≡ false → had ≡ true
-was_there true added is there = refl
-was_there false added is there = sym (sym is ∙ there)
 
 -- ---- what the set has
 
@@ -123,3 +119,6 @@ holds_there keys k texts had holds q = gains keys k q ∙ by (is_text q k) refl 
     by : (b : Bool) → is_text q k ≡ b → (b || has_text keys q) ≡ has_text keys q
     by true is = sym (ap (has_text keys) (same_key_is q (string_bytes k) is) ∙ had)
     by false is = refl
+
+-- texts without repeats, and the set of them
+pub ruleset once_each = (unseen_none, repeated_text, holds_there)

@@ -1,11 +1,8 @@
 -- The part of a list after the last element that passes a test, by its place, and before the first.
-use Rattle.std.proofs.Common.{◌≡◌, ◌∙◌, ◌==◌, ℕ, ◌+◌, ◌-◌, ◌<◌, ◌≤◌, Bool, true, false, not, List, [], ◌∷◌, length, get_or, take, drop, suc, cond, IsUtf8, arith, refl, ap}
-use Rattle.std.proofs.Math.Logic.{⊎_elim}
-use Rattle.std.proofs.lemmas.Bool.{cases_Bool, cond-true, cond-false, or_parts}
-use Rattle.std.proofs.lemmas.Str.{is_utf8-from_IsUtf8, IsUtf8-from_is_utf8}
-use Rattle.std.specs.Str.{is_utf8}
+use Rattle.std.proofs.lemmas.Str.{IsCharBoundary-after_ascii, is_utf8-from_IsUtf8, IsUtf8-from_is_utf8}
+use Rattle.std.proofs.Common.{◌≡◌, ◌∙◌, ◌==◌, ℕ, ◌+◌, ◌-◌, ◌<◌, ◌≤◌, Bool, true, false, not, List, [], ◌∷◌, length, get_or, take, drop, suc, cond, arith, refl, ap}
+use Rattle.std.proofs.lemmas.Bool.{cond-false, or_parts}
 use Rattle.percent_encoding.specs.Percent.{is_escape, percent_decode}
-use Rattle.pylock_readers.specs.Entry.FileName.{decoded}
 use Rattle.std.specs.List.{after_last, before_first, list_any, position_or_len, suffix_len}
 use Rattle.std.proofs.lemmas.List.Sums.{suffix_len_is}
 
@@ -23,6 +20,9 @@ after_last_none p xs none =
     let start : length xs - suffix_len (λ x. not (p x)) xs ≡ 0 = omega (arith, len) in
     ap (λ n. drop n xs) start
 
+-- what stands after the last of some bytes, all ASCII
+pub ruleset after_ascii = (IsCharBoundary-after_ascii, after_last_at, after_last_none)
+
 pub before_none : (p : ℕ → Bool) (xs : List ℕ) → list_any p xs ≡ false → before_first p xs ≡ xs
 before_none p [] none = refl
 before_none p (x ∷ xs) none =
@@ -35,18 +35,8 @@ before_none p (x ∷ xs) none =
 
 -- ---- percent-decoding
 
-pub decoded_text : (text : List ℕ) → IsUtf8 (percent_decode text) → decoded text ≡ percent_decode text
-decoded_text text utf8 = cond-true _ _ _ (is_utf8-from_IsUtf8 _ utf8)
-
-pub decoded_else : (text : List ℕ) → (IsUtf8 (percent_decode text) → ⊥) → decoded text ≡ text
-decoded_else text other =
-    ⊎_elim
-    (λ yes_utf8. absurd (other (IsUtf8-from_is_utf8 _ yes_utf8)))
-    (λ no_utf8. cond-false _ _ _ no_utf8)
-    (cases_Bool (is_utf8 (percent_decode text)))
-
 -- bytes with no `%` have no escape
-no_escape : (text : List ℕ) → list_any (λ b. b == 37) text ≡ false → percent_decode text ≡ text
+pub no_escape : (text : List ℕ) → list_any (λ b. b == 37) text ≡ false → percent_decode text ≡ text
 unfolding percent_decode
 no_escape [] none = refl
 no_escape (b ∷ []) none = refl
@@ -56,9 +46,5 @@ no_escape (b ∷ high ∷ low ∷ rest) none =
     let plain : is_escape b high low ≡ false = rw parts.0 refl in
     cond-false _ _ _ plain ∙ ap (λ bs. b ∷ bs) (no_escape (high ∷ low ∷ rest) parts.1)
 
-pub decoded_plain : (text : List ℕ) → list_any (λ b. b == 37) text ≡ false → decoded text ≡ text
-decoded_plain text none =
-    ⊎_elim
-    (λ yes_utf8. cond-true _ _ _ yes_utf8 ∙ no_escape text none)
-    (λ no_utf8. cond-false _ _ _ no_utf8)
-    (cases_Bool (is_utf8 (percent_decode text)))
+-- what is decoded, and whether it is text
+pub ruleset decoding = (no_escape, is_utf8-from_IsUtf8, IsUtf8-from_is_utf8)

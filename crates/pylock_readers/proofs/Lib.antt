@@ -6,5 +6,4 @@ mod SharedLemmas
 pub mod EntryLemmas
 mod DistinctLemmas
 mod TextLemmas
-mod VariableLemmas
 pub mod Memory

@@ -55,6 +55,9 @@ pub nothing_left : (key : List ℕ) (es : List (String Global × Value)) → loo
     → members_view es ≡ without key (members_view es)
 nothing_left key es none = ap members_view (sym (set_none (is_at (λ k. slice_cmp nat_cmp key (string_bytes k))) es (Boolean false) none)) ∙ left_behind key es
 
+-- what a key has where nothing is taken
+pub ruleset taken = (taken_member, nothing_left)
+
 -- the other keys have what they had
 pub kept : (other key : List ℕ) (ms : Members) → same_key other key ≡ false → get_member other (without key ms) ≡ get_member other ms
 unfolding without

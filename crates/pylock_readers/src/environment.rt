@@ -88,6 +88,7 @@ fn read_variables(alloc: Global, members: &Map<String, Value>) -> Result<Environ
 }
 
 /// Gives each of these variables the text of the member of its name.
+#[tactic(auto, unfolding(crate::specs::Environment::with_members))]
 fn set_members(
     environment: &mut Environment,
     members: &Map<String, Value>,

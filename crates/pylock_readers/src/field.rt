@@ -36,6 +36,7 @@ impl<E: Into<AllocError> + Drop> From<E> for FieldError {
 
 /// Takes the value of the key, once, and leaves a small one in its place: to take a member out of a
 /// table that is soon let go would cost more.
+#[tactic(auto, using(crate::proofs::TableLemmas::taken))]
 pub(crate) fn take(table: &mut Table, key: &str) -> Option<Value>
     ensures taken { option_map view result ≡ get_member key.now (table_view table.old) }
     ensures left { table_view table.new ≡ without key.now (table_view table.old) }

@@ -44,6 +44,7 @@ fn url_file_name(alloc: Global, url: &str) -> Result<Option<String>, AllocError>
     Ok(if name.is_empty() { None } else { Some(name) })
 }
 
+#[tactic(auto, using(crate::proofs::FileNameLemmas::decoding))]
 fn decoded(alloc: Global, text: &str) -> Result<String, AllocError>
     ensures { IfOk result (λ name. string_bytes name ≡ decoded text.now) }
 {
@@ -74,6 +75,7 @@ fn present(text: &str) -> Option<&str>
     if text.is_empty() { None } else { Some(text) }
 }
 
+#[tactic(auto, using(crate::proofs::FileNameLemmas::after_last_none))]
 fn last_of_path(path: &str) -> &str
     ensures { result.now ≡ last_of_path path.now }
 {
@@ -89,6 +91,7 @@ fn last_of_url(url: &str) -> &str
     last_segment(before(before(url, b'#'), b'?'))
 }
 
+#[tactic(auto, using(crate::proofs::FileNameLemmas::after_ascii))]
 fn last_segment(path: &str) -> &str
     ensures { result.now ≡ after_last is_slash path.now }
 {
@@ -99,6 +102,7 @@ fn last_segment(path: &str) -> &str
 }
 
 /// The text before the first such byte, or all of it, as nearly always.
+#[tactic(auto, using(crate::proofs::FileNameLemmas::before_none))]
 fn before(text: &str, end: u8) -> &str
     requires { end < 128 }
     ensures { result.now ≡ before_first (λ b. b == end) text.now }

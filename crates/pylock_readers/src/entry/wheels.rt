@@ -63,6 +63,7 @@ impl Wheels {
     }
 }
 
+#[tactic(auto, using(crate::proofs::FrontLemmas::front_more))]
 fn read_files(alloc: Global, values: Vec<Value>) -> Result<Vec<WheelFile>, FieldError>
     ensures { Gives FieldError.Memory (λ v. v.items) result
         (each file_of (items_view values.items)) }

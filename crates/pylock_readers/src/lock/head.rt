@@ -137,6 +137,7 @@ fn environment_markers(alloc: Global, field: Option<Value>) -> Result<Vec<Marker
     read_markers(alloc, values)
 }
 
+#[tactic(auto, using(crate::proofs::FrontLemmas::front_more))]
 fn read_markers(alloc: Global, values: Vec<Value>) -> Result<Vec<Marker>, FieldError>
     ensures { Gives FieldError.Memory (λ v. v.items) result
         (each marker_field (items_view values.items)) }
@@ -193,6 +194,7 @@ fn names(alloc: Global, field: Option<Value>) -> Result<HeadNames, FieldError>
     Ok(HeadNames::of(alloc, names)?)
 }
 
+#[tactic(auto, using(crate::proofs::FrontLemmas::front_more))]
 fn read_names(alloc: Global, values: Vec<Value>) -> Result<Vec<String>, FieldError>
     ensures { Gives FieldError.Memory (λ v. map string_bytes v.items) result
         (each name_of (items_view values.items)) }

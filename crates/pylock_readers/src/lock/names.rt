@@ -40,6 +40,7 @@ impl Drop for HeadNames {
 
 impl HeadNames {
     /// These texts without repeats. Takes memory for each of them twice.
+    #[tactic(auto, using(crate::proofs::DistinctLemmas::once_each))]
     pub(crate) fn of(alloc: Global, texts: Vec<String>) -> Result<HeadNames, AllocError>
         ensures { IfOk result (λ once. once ≡ distinct (map string_bytes texts.items)) }
     {

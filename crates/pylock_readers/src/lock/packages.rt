@@ -45,6 +45,7 @@ fn require_room(values: &[Value]) -> Result<(), LockError>
     }
 }
 
+#[tactic(auto, using(crate::proofs::EntryLemmas::next_entry))]
 fn read_entries(alloc: Global, values: Vec<Value>) -> Result<Vec<Entry>, LockError>
     requires { vec_len values ≤ 100000 }
     ensures gives { Gives LockError.Memory (λ v. v.items) result

@@ -1,6 +1,6 @@
-use Rattle.std.proofs.Common.{◌≡◌, ◌∙◌, Some, None, ap, sym, rules}
-use Rattle.toml.specs.View.{view, members_view, table_view}
-use Rattle.pylock_readers.proofs.TableLemmas.{left_behind, nothing_left, taken_member}
+use Rattle.std.proofs.Common.{◌∙◌, Some, ap}
+use Rattle.toml.specs.View.{view, members_view}
+use Rattle.pylock_readers.proofs.TableLemmas.{left_behind, taken_member}
 use Rattle.pylock_readers.proofs.field.take.Goals as goal
 
 pub returns-in-Some-clause-taken : goal.returns-in-Some-clause-taken
@@ -13,12 +13,3 @@ pub returns-in-Some-clause-left : goal.returns-in-Some-clause-left
 returns-in-Some-clause-left c =
     ap members_view (c.get_mut.follows.holds c.replace.new.dest).0
     ∙ rw c.replace.ensures.after (left_behind c.args.key.now c.args.table.now.entries)
-
-pub returns-in-None-clause-taken : goal.returns-in-None-clause-taken
-returns-in-None-clause-taken c =
-    taken_member None c.args.key.now c.args.table.now.entries (rw c.in-None.is at c.get_mut.ensures.value)
-
-pub returns-in-None-clause-left : goal.returns-in-None-clause-left
-returns-in-None-clause-left c =
-    let same : c.get_mut.follows.lender-at-none ≡ c.args.table.now = search rules in
-    ap table_view same ∙ nothing_left c.args.key.now c.args.table.now.entries (sym (rw c.in-None.is at c.get_mut.ensures.value))

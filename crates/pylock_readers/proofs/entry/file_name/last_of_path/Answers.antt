@@ -1,7 +1,7 @@
 use Rattle.std.proofs.Common.{◌≡◌, ◌<◌, true, get_or, arith, rules}
 use Rattle.std.proofs.lemmas.Str.{IsCharBoundary-after_ascii}
 use Rattle.pylock_readers.specs.Entry.FileName.{ends_segment}
-use Rattle.pylock_readers.proofs.FileNameLemmas.{after_last_at, after_last_none}
+use Rattle.pylock_readers.proofs.FileNameLemmas.{after_last_at}
 use Rattle.pylock_readers.proofs.entry.file_name.last_of_path.Goals as goal
 
 pub range_from-requires : goal.range_from-requires
@@ -14,6 +14,3 @@ pub returns-in-Some : goal.returns-in-Some
 returns-in-Some c =
     let found = after_last_at ends_segment c.args.path.now c.in-Some.at (search rules) (search rules) (search rules) in
     rw found (search rules)
-
-pub returns-in-None : goal.returns-in-None
-returns-in-None c = rw (after_last_none ends_segment c.args.path.now (search rules))

@@ -1,17 +1,10 @@
-use Rattle.std.proofs.Common.{refl, ◌≡◌, ◌∙◌, ◌++◌, ◌∷◌, [], ap, sym, map, string_bytes, string_cmp, String, Global, rules}
+use Rattle.std.proofs.Common.{◌≡◌, ◌∙◌, ◌++◌, ◌∷◌, [], ap, sym, map, string_bytes, string_cmp, String, Global, rules}
 use Rattle.std.specs.BTreeSet.{insert_key}
 use Rattle.std.proofs.lemmas.List.{map-append}
 use Rattle.pylock_readers.specs.Inner.Strings.{has_text}
 use Rattle.pylock_readers.specs.Lock.Head.{distinct}
-use Rattle.pylock_readers.proofs.DistinctLemmas.{holds_new, holds_there, new_text, repeated_text, unseen, unseen_none, was_new, was_there}
+use Rattle.pylock_readers.proofs.DistinctLemmas.{holds_new, new_text, unseen, was_new}
 use Rattle.pylock_readers.proofs.lock.names.HeadNames.of.Goals as goal
-
-pub loop-text-init : goal.loop-text-init
-loop-text-init c = (
-  rw (c.new-set.ensures.empty, c.new-names.ensures.items)
-      (unseen_none _ ∙ ap (λ texts. distinct (map string_bytes texts)) (search rules)),
-  rw (c.new-set.ensures.empty, c.new-names.ensures.items) (λ q. refl),
-)
 
 pub loop-text-preserved-in_ok-push : goal.loop-text-preserved-in_ok-push
 loop-text-preserved-in_ok-push c =
@@ -31,20 +24,4 @@ loop-text-preserved-in_ok-push c =
           ∙ ap (λ texts. once ++ unseen keys (distinct (map string_bytes texts))) (sym c.in-Some.ensures.steps.0)
           ∙ c.loop-text.invariant.0,
       rw (c.in_ok-insert.ensures.keys, texts) (holds_new keys copy once c.loop-text.invariant.1),
-    )
-
-pub loop-text-preserved : goal.loop-text-preserved
-loop-text-preserved c =
-    let keys = c.loop-text.set.keys in
-    let once = map string_bytes c.loop-text.names.items in
-    let copy = c.in_ok-clone.field-0 in
-    let same : string_bytes copy ≡ string_bytes c.in-Some.text = search rules in
-    let rest = map string_bytes c.next.new.self.rest.items in
-    let seen = was_there (has_text keys (string_bytes copy)) c.in_ok-insert.field-0 c.in_ok-insert.ensures.added c.if-branch.false in (
-      ap (λ keys. once ++ unseen keys (distinct rest)) c.in_ok-insert.ensures.keys
-          ∙ repeated_text once keys copy rest seen
-          ∙ ap (λ text. once ++ unseen keys (distinct (text ∷ rest))) same
-          ∙ ap (λ texts. once ++ unseen keys (distinct (map string_bytes texts))) (sym c.in-Some.ensures.steps.0)
-          ∙ c.loop-text.invariant.0,
-      rw c.in_ok-insert.ensures.keys (holds_there keys copy once seen c.loop-text.invariant.1),
     )
