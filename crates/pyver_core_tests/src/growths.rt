@@ -2,11 +2,11 @@
 //! each of its growths, that one refused. A test passes where the call answers want of memory, or
 //! just what it answers with ample memory.
 
+use crate::parts::parts_with_local;
 use pyver_core::{
-    Label, LocalPart, NormalName, Operator, PartsError, Specifier, SpecifierError, SpecifierSet,
-    Version, VersionError, VersionParts, is_name, normal_name,
+    NormalName, Operator, PartsError, Specifier, SpecifierError, SpecifierSet, Version,
+    VersionError, VersionParts, is_name, normal_name,
 };
-use std::alloc::{AllocError, Global};
 use std::process::Abort;
 use std::test::Fail;
 
@@ -96,27 +96,36 @@ fn version_from_parts(rt: HostRuntime) -> Result<(), Fail> {
     Ok(())
 }
 
-/// The parts of `7+a1.6`.
-fn parts_with_local(alloc: Global) -> Result<VersionParts, AllocError> {
-    let label = Label::new(String::from_str(alloc, "a1")?);
-    Ok(VersionParts {
-        epoch: 0,
-        release: vec![in alloc; 7]?,
-        pre: None,
-        post: None,
-        dev: None,
-        local: vec![in alloc; LocalPart::Text(label), LocalPart::Number(6)]?,
-    })
-}
-
 #[test]
 fn version_from_parts_with_a_local_part(rt: HostRuntime) {
-    let Ok(parts) = parts_with_local(rt.alloc()) else {
+    let Ok(parts) = parts_with_local(&rt, "a1") else {
         return;
     };
     match Version::from_parts(rt.alloc(), parts) {
-        Ok(version) => assert_eq!(rt; version.text(), "7+a1.6"),
+        Ok(version) => assert_eq!(rt; version.text(), "1!2.0rc3.post4.dev5+a1.6"),
         Err(error) => assert!(rt; matches!(error, PartsError::Memory), "{error:?}"),
+    }
+}
+
+fn are_same_parts(left: &VersionParts, right: &VersionParts) -> bool {
+    left.epoch == right.epoch
+        && left.release == right.release
+        && left.pre == right.pre
+        && left.post == right.post
+        && left.dev == right.dev
+        && left.local == right.local
+}
+
+fn check_parts_copy<R: Abort>(rt: &R, parts: &VersionParts) {
+    if let Ok(copy) = parts.clone() {
+        assert!(rt; are_same_parts(&copy, parts));
+    }
+}
+
+#[test]
+fn version_parts_copy(rt: HostRuntime) {
+    if let Ok(parts) = parts_with_local(&rt, "a1") {
+        check_parts_copy(&rt, &parts);
     }
 }
 

@@ -6,7 +6,11 @@ use std::alloc::AllocError;
 use std::process::Abort;
 use std::test::Fail;
 
-fn parts_with_local<R: AllocGlobal>(rt: &R, text: &str) -> Result<VersionParts, AllocError> {
+/// The parts of `1!2.0rc3.post4.dev5+T.6`, where T is the text.
+pub(crate) fn parts_with_local<R: AllocGlobal>(
+    rt: &R,
+    text: &str,
+) -> Result<VersionParts, AllocError> {
     let label = Label::new(String::from_str(rt.alloc(), text)?);
     Ok(VersionParts {
         epoch: 1,
