@@ -30,6 +30,7 @@ pub fn one_spelling()
 {}
 
 /// What [`Version::parse`](crate::Version::parse) reads, the text spells.
+#[tactic(auto, using(crate::proofs::Lemmas::Version::Sound::Parts::version_takes))]
 pub fn version_of_spells()
     ensures { (text : List ℕ) (p : Parts) → version_of text ≡ Some p → Spells text p }
 {}
@@ -47,11 +48,13 @@ pub fn parts_have_a_spelling()
 {}
 
 /// What [`SpecifierSet::parse`](crate::SpecifierSet::parse) reads, the text writes.
+#[tactic(auto, using(crate::proofs::Lemmas::Set::Sound::set_takes))]
 pub fn set_of_is_written()
     ensures { (text : List ℕ) (s : List Specifier) → set_of text ≡ Some s → SetText text s }
 {}
 
 /// What a text writes, [`SpecifierSet::parse`](crate::SpecifierSet::parse) reads.
+#[tactic(auto, using(crate::proofs::Lemmas::Set::Complete::set_again))]
 pub fn set_of_is_complete()
     ensures { (text : List ℕ) (s : List Specifier) → SetText text s → set_of text ≡ Some s }
 {}
@@ -65,11 +68,13 @@ pub fn operand_of_is_complete()
 {}
 
 /// A text writes at most one specifier set.
+#[tactic(auto, using(crate::proofs::Lemmas::Set::Complete::one_set))]
 pub fn one_specifier_set()
     ensures { (text : List ℕ) (s t : List Specifier) → SetText text s → SetText text t → s ≡ t }
 {}
 
 /// Specifiers and sets that are equal as they are written have the same normal form.
+#[tactic(auto, using(crate::proofs::Lemmas::Set::EqualText::equal_texts))]
 pub fn equal_ones_print_alike()
     ensures specifiers { (s t : Specifier) → specifier_eq s t ≡ true
         → specifier_text s ≡ specifier_text t }

@@ -1,8 +1,9 @@
--- What is read and judged by its numbers: which outcome says what of the reader.
+-- What is read and judged by its numbers: what an answer says of the texts.
 use Rattle.std.proofs.Common.{◌≡◌, ℕ, Bool, true, false, List, Option, Some, None, Result, Ok, Err, refl, sym, ap, ◌∙◌, inl, inr}
-use Rattle.std.specs.Prelude.{IsTrue, ok_or}
+use Rattle.std.specs.Prelude.{IfOk, IsErrOf, IsTrue, ok_or}
 use Rattle.pyver_core.specs.Version.Grammar.{has_large}
 use Rattle.pyver_core.specs.Parsed.{within_limit}
+use Rattle.pytext.specs.Agreement.{Gives}
 use Rattle.pytext.specs.Results.{◌>>=◌}
 use Rattle.std.proofs.lemmas.Bool.{cases_Bool}
 
@@ -31,19 +32,40 @@ within-Err large f ns v e = elim (cases_Bool (has_large ns)) [
 not_large : (b : Bool) → b ≡ false → IsTrue b → ⊥
 not_large b e h = let no : false ≡ true = sym e ∙ h in cc
 
-pub outcome-Ok : {V E : Type 0} (syntax large : E) (ns : V → List ℕ) (read : Option V) (v : V) → outcome syntax large ns read ≡ Ok v
-    → (read ≡ Some v) × (IsTrue (has_large (ns v)) → ⊥)
-outcome-Ok syntax large ns None v e = absurd cc
-outcome-Ok syntax large ns (Some w) v e =
-    let both = within-Ok large (ns w) w v e in
-    (ap Some both.0, not_large _ (ap (λ x. has_large (ns x)) (sym both.0) ∙ both.1))
+-- what an answer says, where P is what the text may mean
+pub record Answers {V E : Type 0} (P : V → Type 0) (ns : V → List ℕ) (unread past : E) (r : Result V E) : Type 0 where
+  pub ok : IfOk r P
+  pub fits : IfOk r (λ v. IsTrue (has_large (ns v)) → ⊥)
+  pub syntax : IsErrOf r unread → (v : V) → P v → ⊥
+  pub large : IsErrOf r past → (v : V) × P v × IsTrue (has_large (ns v))
 
-pub outcome-syntax : {V E : Type 0} (syntax large : E) (ns : V → List ℕ) (read : Option V) → (syntax ≡ large → ⊥)
-    → outcome syntax large ns read ≡ Err syntax → read ≡ None
-outcome-syntax syntax large ns None other e = refl
-outcome-syntax syntax large ns (Some w) other e = absurd (other (within-Err large syntax (ns w) w e).0)
-
-pub outcome-large : {V E : Type 0} (syntax large : E) (ns : V → List ℕ) (read : Option V) → (syntax ≡ large → ⊥)
-    → outcome syntax large ns read ≡ Err large → (v : V) × (read ≡ Some v) × IsTrue (has_large (ns v))
-outcome-large syntax large ns None other e = absurd (other (cc))
-outcome-large syntax large ns (Some w) other e = (w, refl, (within-Err large large (ns w) w e).1)
+-- the answer of a reader that reads just what P says
+pub answers : {V E : Type 0} (P : V → Type 0) (ns : V → List ℕ) (memory syntax large : E) (read : Option V) (r : Result V E)
+    → (syntax ≡ large → ⊥) → (syntax ≡ memory → ⊥) → (large ≡ memory → ⊥) → ((v : V) → read ≡ Some v → P v) → ((v : V) → P v → read ≡ Some v)
+    → Gives memory (λ v. v) r (outcome syntax large ns read) → Answers P ns syntax large r
+answers P ns memory syntax large None (Ok v) other kept past sound complete a = absurd cc
+answers P ns memory syntax large (Some w) (Ok v) other kept past sound complete a =
+    let both = within-Ok large (ns w) w v a in record {
+      ok = sound v (ap Some both.0);
+      fits = not_large _ (ap (λ x. has_large (ns x)) (sym both.0) ∙ both.1);
+      syntax = λ is. absurd cc;
+      large = λ is. absurd cc;
+    }
+answers P ns memory syntax large None (Err e) other kept past sound complete a = record {
+  ok = tt;
+  fits = tt;
+  syntax = λ is v p. let no : None ≡ Some v = complete v p in cc;
+  large = λ is.
+      let same : e ≡ large = cc in
+      let no : Err syntax ≡ Err e = a (λ m. past (sym same ∙ m)) in absurd (other (cc));
+}
+answers P ns memory syntax large (Some w) (Err e) other kept past sound complete a = record {
+  ok = tt;
+  fits = tt;
+  syntax = λ is v p.
+      let same : e ≡ syntax = cc in
+      other (sym same ∙ (within-Err large e (ns w) w (a (λ m. kept (sym same ∙ m)))).0);
+  large = λ is.
+      let same : e ≡ large = cc in
+      (w, sound w refl, (within-Err large e (ns w) w (a (λ m. past (sym same ∙ m)))).1);
+}

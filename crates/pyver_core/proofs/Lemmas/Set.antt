@@ -1,8 +1,6 @@
-pub mod Answers
 pub mod Boundaries
 pub mod Complete
 pub mod EqualText
-pub mod OperandAnswers
 pub mod Operators
 pub mod Prefixes
 pub mod ReadSoFar

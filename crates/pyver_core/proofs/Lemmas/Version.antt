@@ -1,4 +1,3 @@
-pub mod Answers
 pub mod Complete
 pub mod Decimal
 pub mod FirstBytes

@@ -41,7 +41,7 @@ impl Specifier {
     }
 }
 
-#[tactic(auto, using(crate::proofs::Lemmas::Set::OperandAnswers::operand_refused))]
+#[tactic(auto, unfolding(crate::specs::Parsed::parsed_operand))]
 fn specifier_from_operand(
     alloc: Global,
     operator: Operator,

@@ -32,7 +32,7 @@ impl Version {
     }
 }
 
-#[tactic(auto, using(crate::proofs::Lemmas::Version::Answers::version_refused))]
+#[tactic(auto, unfolding(crate::specs::Parsed::parsed_version))]
 fn version_from_bytes(alloc: Global, bytes: &[u8]) -> Result<Version, VersionError>
     ensures { Gives VersionError.Memory (λ v. v) result (parsed_version bytes.now) }
 {

@@ -39,20 +39,17 @@ text_is (Arbitrary text) = refl
 pub same_text : (s t : Specifier) → specifier_eq s t ≡ true → specifier_text s ≡ specifier_text t
 same_text s t e = text_is s ∙ ap text_from ((pointwise_decides bytes_decides (pieces s) (pieces t)).0 e) ∙ sym (text_is t)
 
-same_rest : (xs ys : List Specifier) → set_eq xs ys ≡ true → flat_map comma_specifier xs ≡ flat_map comma_specifier ys
-same_rest [] [] e = refl
-same_rest [] (y ∷ ys) e = absurd cc
-same_rest (x ∷ xs) [] e = absurd cc
-same_rest (x ∷ xs) (y ∷ ys) e =
+-- alike from the first on, and behind another
+same_texts : (xs ys : List Specifier) → set_eq xs ys ≡ true → (set_text xs ≡ set_text ys) × (flat_map comma_specifier xs ≡ flat_map comma_specifier ys)
+same_texts [] [] e = (refl, refl)
+same_texts [] (y ∷ ys) e = absurd cc
+same_texts (x ∷ xs) [] e = absurd cc
+same_texts (x ∷ xs) (y ∷ ys) e =
     let first = same_text x y (first_so (specifier_eq x y) (set_eq xs ys) e) in
-    let rest = same_rest xs ys (second_so (specifier_eq x y) (set_eq xs ys) e) in
-    rw (first, rest) refl
+    let rest = (same_texts xs ys (second_so (specifier_eq x y) (set_eq xs ys) e)).1 in
+    (rw (first, rest) refl, rw (first, rest) refl)
 
 pub same_set_text : (xs ys : List Specifier) → set_eq xs ys ≡ true → set_text xs ≡ set_text ys
-same_set_text [] [] e = refl
-same_set_text [] (y ∷ ys) e = absurd cc
-same_set_text (x ∷ xs) [] e = absurd cc
-same_set_text (x ∷ xs) (y ∷ ys) e =
-    let first = same_text x y (first_so (specifier_eq x y) (set_eq xs ys) e) in
-    let rest = same_rest xs ys (second_so (specifier_eq x y) (set_eq xs ys) e) in
-    rw (first, rest) refl
+same_set_text xs ys e = (same_texts xs ys e).0
+
+pub ruleset equal_texts = (same_text, same_set_text)

@@ -103,6 +103,9 @@ from_spells p v e =
     let both = judged_Ok p.release p.local p v e in
     (sym both.0, normal_spells_parts p both.1 (local_spells p.local both.2))
 
+pub normal_spells : (text : List ℕ) (p : Parts) → Spells text p → Spells (normal p) p
+normal_spells text p s = (from_spells p p (spelt_from text p s)).1
+
 pub made_ok : (p : Parts) (r : Result Parts PartsError) → Gives Memory (λ v. v) r (version_from p) → IfOk r (λ v. (v ≡ p) × Spells (normal v) v)
 made_ok p (Ok v) a =
     let both = from_spells p v a in

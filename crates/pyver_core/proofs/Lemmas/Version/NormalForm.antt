@@ -55,10 +55,6 @@ pub dotted_spelt : (ns : List ℕ) → AreBehind is_dot IsNumber (flat_map dotte
 dotted_spelt [] = refl
 dotted_spelt (n ∷ ns) = (46, decimal_text n, flat_map dotted_number ns, refl, refl, number_spelt n, dotted_spelt ns)
 
-release_spelt : (text : List ℕ) (ns : List ℕ) → IsRelease text ns → IsRelease (release_text ns) ns
-release_spelt text [] is = absurd is
-release_spelt text (n ∷ ns) is = (decimal_text n, flat_map dotted_number ns, refl, number_spelt n, dotted_spelt ns)
-
 tagged_spelt : (word before : List ℕ) → str_to_ascii_lowercase word ≡ word → IsOptionalSeparator before → (n : ℕ) (next : List ℕ) → IsTagged word (before ++ (word ++ decimal_text n)) n next
 tagged_spelt word before lower is_before n next = record {
   before = before;
@@ -97,43 +93,12 @@ dev_spelt (Some n) next = tagged_spelt (codes "dev") (codes ".") refl (refl, lit
 
 -- ---- the local part
 
-lower_alphanumeric : (b : ℕ) → is_ascii_alphanumeric b ≡ true → is_ascii_alphanumeric (to_ascii_lowercase b) ≡ true
-lower_alphanumeric b e = grind (arith, nat_tests)
-
 lower_digit : (b : ℕ) → is_ascii_digit (to_ascii_lowercase b) ≡ is_ascii_digit b
 lower_digit b = grind (arith, nat_tests)
-
-lower_lower : (b : ℕ) → to_ascii_lowercase (to_ascii_lowercase b) ≡ to_ascii_lowercase b
-lower_lower b = grind (arith, nat_tests)
-
-all_lower_alphanumeric : (run : List ℕ) → list_all is_ascii_alphanumeric run ≡ true → list_all is_ascii_alphanumeric (str_to_ascii_lowercase run) ≡ true
-all_lower_alphanumeric [] e = refl
-all_lower_alphanumeric (b ∷ run) e =
-    let c = all_cons is_ascii_alphanumeric b run e in
-    rw (lower_alphanumeric b c.0) (all_lower_alphanumeric run c.1)
 
 pub all_lower_digits : (run : List ℕ) → list_all is_ascii_digit (str_to_ascii_lowercase run) ≡ list_all is_ascii_digit run
 all_lower_digits [] = refl
 all_lower_digits (b ∷ run) = rw (lower_digit b, all_lower_digits run) refl
-
-all_lower : (run : List ℕ) → str_to_ascii_lowercase (str_to_ascii_lowercase run) ≡ str_to_ascii_lowercase run
-all_lower [] = refl
-all_lower (b ∷ run) = rw (lower_lower b, all_lower run) refl
-
-abbrev TextIs : List ℕ → Type 0
-TextIs label = (list_all is_ascii_alphanumeric label ≡ true) × (list_all is_ascii_digit label ≡ false) × (str_to_ascii_lowercase label ≡ label)
-
-segment_spelt : (run : List ℕ) (s : LocalPart) → IsSegment run s → IsSegment (segment_text s) s
-segment_spelt run (Number n) is = number_spelt n
-segment_spelt run (Text label) is = subst TextIs is.2 (all_lower_alphanumeric run is.0, all_lower_digits run ∙ is.1, all_lower run)
-
-segments_spelt : (piece : List ℕ) (ss : List LocalPart) → AreBehind is_separator IsSegment piece ss → AreBehind is_separator IsSegment (flat_map dotted_segment ss) ss
-segments_spelt piece [] is = refl
-segments_spelt piece (s ∷ ss) is = (46, segment_text s, flat_map dotted_segment ss, refl, refl, segment_spelt is.1 s is.5, segments_spelt is.2 ss is.6)
-
-local_spelt : (text : List ℕ) (ss : List LocalPart) → IsLocal text ss → IsLocal (local_text ss) ss
-local_spelt text [] is = refl
-local_spelt text (s ∷ ss) is = (segment_text s, flat_map dotted_segment ss, refl, segment_spelt is.0 s is.3, segments_spelt is.1 ss is.4)
 
 -- the normal form of parts that have a spelling spells them
 pub normal_spells_parts : (p : Parts) → IsRelease (release_text p.release) p.release → IsLocal (local_text p.local) p.local → Spells (normal p) p
@@ -158,6 +123,3 @@ normal_spells_parts p release local = record {
   is_local = local;
   is_after = refl;
 }
-
-pub normal_spells : (text : List ℕ) (p : Parts) → Spells text p → Spells (normal p) p
-normal_spells text p s = normal_spells_parts p (release_spelt s.release p.release s.is_release) (local_spelt s.local p.local s.is_local)

@@ -1,5 +1,5 @@
 use Rattle.pyver_core.proofs.Lemmas.Version.Complete.Whole.{one_spelling_at}
-use Rattle.pyver_core.proofs.Lemmas.Version.NormalForm.{normal_spells}
+use Rattle.pyver_core.proofs.Lemmas.Version.FromParts.{normal_spells}
 use Rattle.pyver_core.proofs.laws.one_spelling.Goals as goal
 
 pub returns : goal.returns

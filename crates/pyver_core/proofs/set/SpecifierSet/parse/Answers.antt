@@ -1,14 +1,16 @@
-use Rattle.pyver_core.proofs.Lemmas.Set.Answers.{set_fits, set_large, set_ok, set_syntax}
+use Rattle.pyver_core.specs.Parsed.{parsed_set}
+use Rattle.pyver_core.specs.Set.Grammar.{SetText, set_numbers}
+use Rattle.pyver_core.specs.Set.Reading.{set_of}
+use Rattle.pyver_core.specs.declared.set.error.SpecifierError.TheVariants.{Syntax, NumberTooLarge, Memory}
+use Rattle.pyver_core.proofs.Lemmas.Outcomes.{answers}
+use Rattle.pyver_core.proofs.Lemmas.Set.Complete.{set_again}
+use Rattle.pyver_core.proofs.Lemmas.Set.Sound.{set_takes}
 use Rattle.pyver_core.proofs.set.SpecifierSet.parse.Goals as goal
 
-pub returns-clause-ok : goal.returns-clause-ok
-returns-clause-ok c = set_ok c.args.text.now c.set_from_text.result c.set_from_text.ensures
-
-pub returns-clause-fits : goal.returns-clause-fits
-returns-clause-fits c = set_fits c.args.text.now c.set_from_text.result c.set_from_text.ensures
-
-pub returns-clause-syntax : goal.returns-clause-syntax
-returns-clause-syntax c = set_syntax c.args.text.now c.set_from_text.result c.set_from_text.ensures
-
-pub returns-clause-large : goal.returns-clause-large
-returns-clause-large c = set_large c.args.text.now c.set_from_text.result c.set_from_text.ensures
+pub returns : goal.returns
+unfolding parsed_set
+returns c =
+    let text = c.args.text.now in
+    let x = answers (SetText text) set_numbers Memory Syntax NumberTooLarge (set_of text) c.set_from_text.result (λ e. cc e) (λ e. cc e) (λ e. cc e)
+    (set_takes text) (set_again text) c.set_from_text.ensures in
+    record { ok = x.ok; fits = x.fits; syntax = x.syntax; large = x.large; exact = c.set_from_text.ensures }

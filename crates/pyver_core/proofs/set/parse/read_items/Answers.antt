@@ -1,4 +1,4 @@
-use Rattle.std.proofs.Common.{arith, ◌≡◌, ◌∙◌, ◌∷◌, Bool, Bor, List, ℕ, None, Some, ap, sym, subst, true, false}
+use Rattle.std.proofs.Common.{arith, ◌≡◌, ◌∙◌, ◌∷◌, Bool, Bor, List, ℕ, None, Some, ap, refl, sym, subst, true, false}
 use Rattle.std.specs.List.{list_all, slice_split}
 use Rattle.std.specs.Prelude.{◌==◌}
 use Rattle.std.specs.Str.Iter.{split_steps}
@@ -8,11 +8,14 @@ use Rattle.std.proofs.lemmas.Iterator.{YieldsList}
 use Rattle.std.proofs.lemmas.Iterator.Splits.{YieldsList-from_str_split}
 use Rattle.pytext.specs.Bytes.{is_white}
 use Rattle.pyver_core.specs.Set.Reading.{set_of, specifier_of}
+use Rattle.pyver_core.specs.Parsed.{parsed_set}
+use Rattle.pyver_core.specs.Set.Grammar.{set_numbers}
+use Rattle.pyver_core.specs.declared.set.error.SpecifierError.TheVariants.{NumberTooLarge}
 use Rattle.pyver_core.specs.Inner.SpecifierDraft.{draft_specifier}
 use Rattle.pyver_core.specs.declared.set.specifier.Specifier.{Specifier}
 use Rattle.pytext.proofs.Pieces.{next_piece, no_piece}
 use Rattle.pyver_core.proofs.Lemmas.Set.ReadSoFar.{ReadSoFar, read_blank, read_end, read_end_large, read_large, read_refused, read_start, read_within}
-use Rattle.pyver_core.proofs.Lemmas.Set.Answers.{set_past, set_refused, set_within}
+use Rattle.pyver_core.proofs.Lemmas.Outcomes.{within-false, within-true}
 use Rattle.pyver_core.proofs.set.parse.read_items.Goals as goal
 
 abbrev pieces : List ℕ → List (List ℕ)
@@ -46,13 +49,14 @@ loop-piece-preserved-then-is_blank c =
     (at.0, at.1, read_blank c.in-Some.piece.now at.0 (pieces c.args.text.now) c.loop-piece.items.items c.loop-piece.is_large blank at.2)
 
 pub returns-in_default : goal.returns-in_default
-unfolding set_of
+unfolding set_of parsed_set
 returns-in_default c =
     let at = taken c.args.text.now c.loop-piece.piece-iterator c.next.new.self c.in-Some.piece c.loop-piece.items.items c.loop-piece.is_large
     c.in-Some.ensures.steps c.loop-piece.invariant in
     let other : list_all is_white c.in-Some.piece.now ≡ false = ap (list_all is_white) (sym c.as_bytes.ensures.value) ∙ sym c.is_blank.ensures ∙ c.if-is_blank.false in
     let none : specifier_of c.in-Some.piece.now ≡ None = rw c.in_default.is at (sym c.read_specifier.ensures) in
-    λ _. set_refused c.args.text.now (read_refused c.in-Some.piece.now at.0 (pieces c.args.text.now) c.loop-piece.items.items c.loop-piece.is_large other none at.2)
+    let refused = read_refused c.in-Some.piece.now at.0 (pieces c.args.text.now) c.loop-piece.items.items c.loop-piece.is_large other none at.2 in
+    λ _. rw refused refl
 
 pub loop-piece-preserved-then-not-is_within : goal.loop-piece-preserved-then-not-is_within
 loop-piece-preserved-then-not-is_within c =
@@ -83,19 +87,19 @@ loop-piece-preserved c =
     )
 
 pub returns-then-is_large : goal.returns-then-is_large
-unfolding set_of
+unfolding set_of parsed_set
 returns-then-is_large c =
     let i = c.loop-piece.invariant in
     let none = no_piece (split_steps FindsChar (λ a b. b ≡ a)) (λ y. y.now) c.loop-piece.piece-iterator i.0 i.1 c.next.new.self c.in-None.ensures.steps in
     let r : ReadSoFar i.0 (pieces c.args.text.now) c.loop-piece.items.items true = rw c.if-is_large.true at i.2 in
     let all = read_end_large (pieces c.args.text.now) c.loop-piece.items.items (subst (λ left. ReadSoFar left (pieces c.args.text.now) c.loop-piece.items.items true) none r) in
-    λ _. set_past c.args.text.now all.0 all.1 all.2
+    λ _. rw all.1 (within-true NumberTooLarge (set_numbers all.0) all.0 all.2)
 
 pub returns : goal.returns
-unfolding set_of
+unfolding set_of parsed_set
 returns c =
     let i = c.loop-piece.invariant in
     let none = no_piece (split_steps FindsChar (λ a b. b ≡ a)) (λ y. y.now) c.loop-piece.piece-iterator i.0 i.1 c.next.new.self c.in-None.ensures.steps in
     let r : ReadSoFar i.0 (pieces c.args.text.now) c.loop-piece.items.items false = rw c.if-is_large.false at i.2 in
     let all = read_end (pieces c.args.text.now) c.loop-piece.items.items (subst (λ left. ReadSoFar left (pieces c.args.text.now) c.loop-piece.items.items false) none r) in
-    set_within c.args.text.now c.loop-piece.items.items all.0 all.1
+    rw all.0 (within-false NumberTooLarge (set_numbers c.loop-piece.items.items) c.loop-piece.items.items all.1)

@@ -1,14 +1,17 @@
-use Rattle.pyver_core.proofs.Lemmas.Version.Answers.{answered_fits, answered_ok, answered_syntax, answered_large}
+use Rattle.pyver_core.specs.Parsed.{parsed_version}
+use Rattle.pyver_core.specs.Version.Grammar.{Spells, numbers}
+use Rattle.pyver_core.specs.Version.Reading.{version_of}
+use Rattle.pyver_core.specs.declared.version.error.VersionError.TheVariants.{Syntax, NumberTooLarge, Memory}
+use Rattle.pyver_core.proofs.Lemmas.Outcomes.{answers}
+use Rattle.pyver_core.proofs.Lemmas.Version.Complete.Whole.{version_again}
+use Rattle.pyver_core.proofs.Lemmas.Version.Sound.Parts.{version_takes}
 use Rattle.pyver_core.proofs.version.Version.parse.Goals as goal
 
-pub returns-clause-ok : goal.returns-clause-ok
-returns-clause-ok c = answered_ok c.args.text.now c.version_from_bytes.result (rw c.as_bytes.ensures.value at c.version_from_bytes.ensures)
-
-pub returns-clause-fits : goal.returns-clause-fits
-returns-clause-fits c = answered_fits c.args.text.now c.version_from_bytes.result (rw c.as_bytes.ensures.value at c.version_from_bytes.ensures)
-
-pub returns-clause-syntax : goal.returns-clause-syntax
-returns-clause-syntax c = answered_syntax c.args.text.now c.version_from_bytes.result (rw c.as_bytes.ensures.value at c.version_from_bytes.ensures)
-
-pub returns-clause-large : goal.returns-clause-large
-returns-clause-large c = answered_large c.args.text.now c.version_from_bytes.result (rw c.as_bytes.ensures.value at c.version_from_bytes.ensures)
+pub returns : goal.returns
+unfolding parsed_version
+returns c =
+    let text = c.args.text.now in
+    let exact = rw c.as_bytes.ensures.value at c.version_from_bytes.ensures in
+    let x = answers (Spells text) numbers Memory Syntax NumberTooLarge (version_of text) c.version_from_bytes.result (λ e. cc e) (λ e. cc e) (λ e. cc e)
+    (version_takes text) (version_again text) exact in
+    record { ok = x.ok; fits = x.fits; syntax = x.syntax; large = x.large; exact = exact }

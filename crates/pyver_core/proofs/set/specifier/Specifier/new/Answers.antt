@@ -1,14 +1,28 @@
-use Rattle.pyver_core.proofs.Lemmas.Set.OperandAnswers.{one_fits, one_large, one_ok, one_syntax}
+use Rattle.std.proofs.Common.{◌≡◌, ◌∙◌, ap, sym}
+use Rattle.pyver_core.specs.Parsed.{parsed_operand}
+use Rattle.pyver_core.specs.Set.Grammar.{IsOperand, specifier_numbers}
+use Rattle.pyver_core.specs.Set.Normal.{operator_of}
+use Rattle.pyver_core.specs.Set.Reading.{operand_of}
+use Rattle.pyver_core.specs.declared.set.error.SpecifierError.TheVariants.{Syntax, NumberTooLarge, Memory}
+use Rattle.pyver_core.specs.declared.set.specifier.Operator.{Operator}
+use Rattle.pyver_core.specs.declared.set.specifier.Specifier.{Specifier}
+use Rattle.pyver_core.proofs.Lemmas.Outcomes.{answers}
+use Rattle.pyver_core.proofs.Lemmas.Set.Complete.{operand_again}
+use Rattle.pyver_core.proofs.Lemmas.Set.Sound.{operand_takes}
 use Rattle.pyver_core.proofs.set.specifier.Specifier.new.Goals as goal
 
-pub returns-clause-ok : goal.returns-clause-ok
-returns-clause-ok c = one_ok c.args.operator c.args.operand.now c.specifier_from_operand.result c.specifier_from_operand.ensures
-
-pub returns-clause-fits : goal.returns-clause-fits
-returns-clause-fits c = one_fits c.args.operator c.args.operand.now c.specifier_from_operand.result c.specifier_from_operand.ensures
-
-pub returns-clause-syntax : goal.returns-clause-syntax
-returns-clause-syntax c = one_syntax c.args.operator c.args.operand.now c.specifier_from_operand.result c.specifier_from_operand.ensures
-
-pub returns-clause-large : goal.returns-clause-large
-returns-clause-large c = one_large c.args.operator c.args.operand.now c.specifier_from_operand.result c.specifier_from_operand.ensures
+pub returns : goal.returns
+unfolding parsed_operand
+returns c =
+    let o = c.args.operator in
+    let text = c.args.operand.now in
+    let IsMeant : Specifier → Type 0 = λ s. (operator_of s ≡ o) × IsOperand text s in
+    let x = answers IsMeant specifier_numbers Memory Syntax NumberTooLarge (operand_of o text) c.specifier_from_operand.result (λ e. cc e) (λ e. cc e) (λ e. cc e)
+    (operand_takes o text) (λ s p. ap (λ (q : Operator). operand_of q text) (sym p.0) ∙ operand_again s text p.1) c.specifier_from_operand.ensures in
+    record {
+      ok = x.ok;
+      fits = x.fits;
+      syntax = λ is s same operand. x.syntax is s (same, operand);
+      large = λ is. let y = x.large is in (y.0, y.1.0, y.1.1, y.2);
+      exact = c.specifier_from_operand.ensures;
+    }
