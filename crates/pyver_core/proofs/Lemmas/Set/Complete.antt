@@ -20,7 +20,8 @@ use Rattle.pyver_core.specs.declared.set.specifier.Operator.TheVariants as opera
 use Rattle.pyver_core.specs.declared.set.specifier.Specifier.{Specifier}
 use Rattle.pyver_core.specs.declared.set.specifier.Specifier.TheVariants.{Equal, EqualPrefix, NotEqual, NotEqualPrefix, AtMost, AtLeast, Before, After, Compatible, Arbitrary}
 use Rattle.pytext.proofs.Fronts.{dropped_exact, prefix_len_exact, starts_all, taken_exact, white_again}
-use Rattle.pyver_core.proofs.Lemmas.Version.Complete.Whole.{base_again, body_digit, prefix_not_white, version_again}
+use Rattle.pyver_core.proofs.Lemmas.Version.Complete.Whole.{base_again, body_digit, prefix_not_white, starts_other, version_again}
+use Rattle.pyver_core.proofs.Lemmas.Version.FirstBytes.{all_white_begins, begins_not, whites}
 use Rattle.pyver_core.proofs.Lemmas.Set.Sound.{prefix_of_takes}
 use Rattle.pytext.proofs.Options.{option_sight}
 use Rattle.std.proofs.lemmas.Bool.{cases_Bool}
@@ -50,62 +51,48 @@ operator_again operator.AtLeast rest longest = refl
 operator_again operator.Before rest longest = rw (lacks_longer operator.Before operator.AtMost rest longest (omega arith)) refl
 operator_again operator.After rest longest = rw (lacks_longer operator.After operator.AtLeast rest longest (omega arith)) refl
 
-operator_not_white : (o : Operator) (rest : List ℕ) → starts is_white (operator_text o ++ rest) ≡ false
-operator_not_white operator.Arbitrary rest = refl
-operator_not_white operator.Compatible rest = refl
-operator_not_white operator.Equal rest = refl
-operator_not_white operator.NotEqual rest = refl
-operator_not_white operator.AtMost rest = refl
-operator_not_white operator.AtLeast rest = refl
-operator_not_white operator.Before rest = refl
-operator_not_white operator.After rest = refl
+operator_not_white : (o : Operator) (rest : List ℕ) → (starts is_white (operator_text o ++ rest) ≡ false) × (list_all is_white (operator_text o ++ rest) ≡ false)
+operator_not_white operator.Arbitrary rest = (refl, refl)
+operator_not_white operator.Compatible rest = (refl, refl)
+operator_not_white operator.Equal rest = (refl, refl)
+operator_not_white operator.NotEqual rest = (refl, refl)
+operator_not_white operator.AtMost rest = (refl, refl)
+operator_not_white operator.AtLeast rest = (refl, refl)
+operator_not_white operator.Before rest = (refl, refl)
+operator_not_white operator.After rest = (refl, refl)
 
 -- ---- operands
 
-star_again : (after : List ℕ) → list_all is_white after ≡ true → is_star (codes ".*" ++ after) ≡ true
-star_again after white = white
-
-prefix_end : (text : List ℕ) (base : (ℕ × List ℕ) × List ℕ) → base_at (after_white text) ≡ Some base → is_star base.1 ≡ true
-    → prefix_of text ≡ Some (record { epoch = base.0.0; release = base.0.1 })
-unfolding prefix_of
-prefix_end text base read star = rw (read, star) refl
-
-no_dotted_star : (after : List ℕ) → dotted_number_at (codes ".*" ++ after) ≡ None
-unfolding dotted_number_at
-no_dotted_star after = refl
-
 -- the epoch and the release of a prefix are read, and `.*` is left
 prefix_base : (text : List ℕ) (p : Prefix) (s : SpellsPrefix text p) → base_at (after_white text) ≡ Some ((p.epoch, p.release), codes ".*" ++ s.after)
+unfolding dotted_number_at
 prefix_base text p s =
     let next = codes ".*" ++ s.after in
     let body = s.epoch ++ (s.release ++ next) in
     let digit : starts is_ascii_digit body ≡ true = body_digit s.epoch s.release next p.epoch p.release s.is_epoch s.is_release in
     let white : after_white text ≡ s.prefix ++ body = ap after_white s.whole
     ∙ white_again s.before (s.prefix ++ body) s.is_before (prefix_not_white s.prefix body s.is_prefix digit) in
-    ap base_at white ∙ base_again s.prefix s.epoch s.release next p.epoch p.release s.is_prefix s.is_epoch s.is_release refl refl (no_dotted_star s.after)
+    ap base_at white ∙ base_again s.prefix s.epoch s.release next p.epoch p.release s.is_prefix s.is_epoch s.is_release refl refl refl
 
 prefix_of_again : (text : List ℕ) (p : Prefix) → SpellsPrefix text p → prefix_of text ≡ Some p
-prefix_of_again text p s = prefix_end text ((p.epoch, p.release), codes ".*" ++ s.after) (prefix_base text p s) (star_again s.after s.is_after)
+unfolding prefix_of
+prefix_of_again text p s = rw (prefix_base text p s, s.is_after) refl
 
 -- no part of a version stands at `.*`
 star_is_left : (base : ℕ × List ℕ) (after : List ℕ) → (parts_at base (codes ".*" ++ after)).1 ≡ codes ".*" ++ after
 unfolding parts_at tagged_pre_at pre_word_at dashed_or_tagged_post_at dashed_number_at tagged_post_at post_word_at tagged_dev_at local_at added_segment_at
 star_is_left base after = refl
 
-no_version_end : (text : List ℕ) (base : (ℕ × List ℕ) × List ℕ) → base_at (after_white text) ≡ Some base
-    → list_all is_white (parts_at base.0 base.1).1 ≡ false → version_of text ≡ None
-unfolding version_of
-no_version_end text base read left = rw (read, left) refl
-
 -- a text that spells a version is no prefix
 no_prefix : (text : List ℕ) (v : Parts) → Spells text v → prefix_of text ≡ None
+unfolding version_of
 no_prefix text v s = elim (option_sight (prefix_of text)) [
   | inl none ↦ none
   | inr some ↦
       let p = prefix_of_takes text some.0 some.1 in
       let base : ℕ × List ℕ = (some.0.epoch, some.0.release) in
       let left : list_all is_white (parts_at base (codes ".*" ++ p.after)).1 ≡ false = ap (list_all is_white) (star_is_left base p.after) in
-      let none : version_of text ≡ None = no_version_end text (base, codes ".*" ++ p.after) (prefix_base text some.0 p) left in
+      let none : version_of text ≡ None = rw (prefix_base text some.0 p, left) refl in
       absurd (let both : None ≡ Some v = sym none ∙ version_again text v s in cc)
 ]
 
@@ -115,50 +102,28 @@ public_again text v s none =
     let empty : (length v.local == 0) ≡ true = ap (λ (l : List _). length l == 0) none in
     rw (version_again text v s, empty) refl
 
-two_or_more : (n : ℕ) → 2 ≤ n → nat_le 2 n ≡ true
-two_or_more n h = grind (arith, nat_tests)
-
 compatible_again : (text : List ℕ) (v : Parts) → Spells text v → v.local ≡ [] → 2 ≤ length v.release → compatible_of text ≡ Some v
 unfolding compatible_of
-compatible_again text v s none two = rw (public_again text v s none, two_or_more (length v.release) two) refl
+compatible_again text v s none two =
+    let enough : nat_le 2 (length v.release) ≡ true = grind (arith, nat_tests) in rw (public_again text v s none, enough) refl
 
 arbitrary_not_white : (b : ℕ) → is_arbitrary b ≡ true → is_white b ≡ false
 arbitrary_not_white b e = grind (arith, nat_tests)
 
-white_not_arbitrary : (b : ℕ) → is_white b ≡ true → is_arbitrary b ≡ false
-white_not_arbitrary b e = rw e refl
-
-starts_other : (text : List ℕ) → starts is_arbitrary text ≡ true → starts is_white text ≡ false
-starts_other [] e = refl
-starts_other (b ∷ rest) e = arbitrary_not_white b e
-
-white_stops : (text : List ℕ) → list_all is_white text ≡ true → starts is_arbitrary text ≡ false
-white_stops [] e = refl
-white_stops (b ∷ rest) e = elim (cases_Bool (is_white b)) [
-  | inl white ↦ white_not_arbitrary b white
-  | inr other ↦ absurd (let n : false ≡ true = rw other at e in cc)
-]
-
-some_or_none : (n : ℕ) → 1 ≤ n → nat_lt 0 n ≡ true
-some_or_none n h = grind (arith, nat_tests)
-
-arbitrary_end : (text t label after : List ℕ) → after_white text ≡ t → prefix_len is_arbitrary t ≡ length label → drop (length label) t ≡ after
-    → take (length label) t ≡ label → nat_lt 0 (length label) ≡ true → list_all is_white after ≡ true → arbitrary_of text ≡ Some label
-unfolding arbitrary_of
-arbitrary_end text t label after h1 h2 h3 h4 h5 h6 = rw (h1, h2, h3, h4, h5, h6) refl
-
 arbitrary_again : (text label : List ℕ) → SpellsArbitrary text label → arbitrary_of text ≡ Some label
+unfolding arbitrary_of
 arbitrary_again text label s =
-    let stops : starts is_arbitrary s.after ≡ false = white_stops s.after s.is_after in
+    let stops : starts is_arbitrary s.after ≡ false = begins_not is_arbitrary whites refl s.after (all_white_begins s.after s.is_after) in
     let begins : starts is_arbitrary (label ++ s.after) ≡ true = starts_all is_arbitrary label s.after s.not_empty s.allowed in
     let white : after_white text ≡ label ++ s.after =
-    ap after_white s.whole ∙ white_again s.before (label ++ s.after) s.is_before (starts_other (label ++ s.after) begins) in
+    ap after_white s.whole ∙ white_again s.before (label ++ s.after) s.is_before (starts_other is_arbitrary is_white arbitrary_not_white (label ++ s.after) begins) in
     let len : prefix_len is_arbitrary (label ++ s.after) ≡ length label = prefix_len_exact is_arbitrary label s.after s.allowed stops in
     let dropped : drop (length label) (label ++ s.after) ≡ s.after =
     ap (λ (n : ℕ). drop n (label ++ s.after)) (sym len) ∙ dropped_exact is_arbitrary label s.after s.allowed stops in
     let taken : take (length label) (label ++ s.after) ≡ label =
     ap (λ (n : ℕ). take n (label ++ s.after)) (sym len) ∙ taken_exact is_arbitrary label s.after s.allowed stops in
-    arbitrary_end text (label ++ s.after) label s.after white len dropped taken (some_or_none (length label) s.not_empty) s.is_after
+    let some : nat_lt 0 (length label) ≡ true = grind (arith, nat_tests, s.not_empty) in
+    rw (white, len, dropped, taken, some, s.is_after) refl
 
 pub operand_again : (s : Specifier) (text : List ℕ) → IsOperand text s → operand_of (operator_of s) text ≡ Some s
 unfolding operand_of
@@ -175,31 +140,13 @@ operand_again (Arbitrary label) text h = rw (arbitrary_again text label h) refl
 
 -- ---- specifiers and sets
 
-specifier_end : (piece t operand : List ℕ) (o : Operator) (s : Specifier) → after_white piece ≡ t → operator_at t ≡ Some (o, operand)
-    → operand_of o operand ≡ Some s → specifier_of piece ≡ Some s
-unfolding specifier_of
-specifier_end piece t operand o s h1 h2 h3 = rw (h1, h2, h3) refl
-
 specifier_again : (piece : List ℕ) (s : Specifier) → IsSpecifier piece s → specifier_of piece ≡ Some s
+unfolding specifier_of
 specifier_again piece s is =
     let o = operator_of s in
     let white : after_white piece ≡ operator_text o ++ is.operand = ap after_white is.whole
-    ∙ white_again is.before (operator_text o ++ is.operand) is.is_before (operator_not_white o is.operand) in
-    specifier_end piece (operator_text o ++ is.operand) is.operand o s white (operator_again o is.operand is.longest) (operand_again s is.operand is.is_operand)
-
-not_all : (text : List ℕ) → starts is_white text ≡ false → 1 ≤ length text → list_all is_white text ≡ false
-not_all [] e some = absurd (omega arith)
-not_all (b ∷ rest) e some = rw e refl
-
-operator_some : (o : Operator) (rest : List ℕ) → 1 ≤ length (operator_text o ++ rest)
-operator_some operator.Arbitrary rest = omega arith
-operator_some operator.Compatible rest = omega arith
-operator_some operator.Equal rest = omega arith
-operator_some operator.NotEqual rest = omega arith
-operator_some operator.AtMost rest = omega arith
-operator_some operator.AtLeast rest = omega arith
-operator_some operator.Before rest = omega arith
-operator_some operator.After rest = omega arith
+    ∙ white_again is.before (operator_text o ++ is.operand) is.is_before (operator_not_white o is.operand).0 in
+    rw (white, operator_again o is.operand is.longest, operand_again s is.operand is.is_operand) refl
 
 and_false : (a b : Bool) → b ≡ false → (a && b) ≡ false
 and_false true b e = e
@@ -210,7 +157,7 @@ not_blank piece s is =
     let rest = operator_text (operator_of s) ++ is.operand in
     ap (list_all is_white) is.whole ∙ list_all-append is_white is.before rest
     ∙ and_false (list_all is_white is.before) (list_all is_white rest)
-    (not_all rest (operator_not_white (operator_of s) is.operand) (operator_some (operator_of s) is.operand))
+    (operator_not_white (operator_of s) is.operand).1
 
 pieces_again : (pieces : List (List ℕ)) (specifiers : List Specifier) → ArePieces pieces specifiers → specifiers_of pieces ≡ Some specifiers
 unfolding specifiers_of

@@ -3,7 +3,7 @@ use Rattle.std.proofs.Common.{◌≡◌, ◌⊎◌, ℕ, ◌≤◌, Bool, true, 
 use Rattle.std.specs.Prelude.{◌==◌, ◌&&◌, codes, nat_eq, nat_le, nat_lt, option_map}
 use Rattle.std.specs.Cmp.{unsigned_Decides}
 use Rattle.std.specs.List.{list_all, prefix_len, starts_with}
-use Rattle.std.proofs.lemmas.Bool.{eqb-true, cases_Bool}
+use Rattle.std.proofs.lemmas.Bool.{and_parts, cases_Bool, eqb-true}
 use Rattle.std.proofs.lemmas.Bool.Decides.{nat_tests}
 use Rattle.std.proofs.lemmas.List.{nil_from_length, take-append-drop}
 use Rattle.std.proofs.lemmas.List.Folds.{length-prefix_len}
@@ -24,16 +24,8 @@ use Rattle.pyver_core.specs.declared.set.specifier.Operator.TheVariants as opera
 use Rattle.pyver_core.specs.declared.set.specifier.Specifier.{Specifier}
 use Rattle.pyver_core.specs.declared.set.specifier.Specifier.TheVariants.{Equal, EqualPrefix, NotEqual, NotEqualPrefix, AtMost, AtLeast, Before, After, Compatible, Arbitrary}
 use Rattle.pytext.proofs.Fronts.{list_all_front, white_takes}
-use Rattle.pytext.proofs.Options.{option_sight, bind_some, either_some}
+use Rattle.pytext.proofs.Options.{bind_some, either_some, map_some, option_sight}
 use Rattle.pyver_core.proofs.Lemmas.Version.Sound.Parts.{base_takes, version_takes}
-
-pub mapped : {X Y : Type 0} (f : X → Y) (o : Option X) (y : Y) → option_map f o ≡ Some y → (x : X) × (o ≡ Some x) × (f x ≡ y)
-mapped f None y e = absurd cc
-mapped f (Some x) y e = (x, refl, cc)
-
-pub both : (a b : Bool) → (a && b) ≡ true → (a ≡ true) × (b ≡ true)
-both true b e = (refl, e)
-both false b e = absurd (let n : false ≡ true = e in cc)
 
 -- ---- operators
 
@@ -52,35 +44,36 @@ no_operator o text e = elim (cases_Bool (starts_with nat_eq text (operator_text 
 ]
 
 -- the operators of a list are no longer than a number
-abbrev NoLonger : ℕ → List Operator → Type 0
-NoLonger n [] = Unit {0}
-NoLonger n (o ∷ os) = (length (operator_text o) ≤ n) × NoLonger n os
+abbrev no_longer : ℕ → List Operator → Bool
+no_longer n os = list_all (λ o. nat_le (length (operator_text o)) n) os
 
 -- none is longer than one before it
-abbrev Falls : List Operator → Type 0
-Falls [] = Unit {0}
-Falls (o ∷ os) = NoLonger (length (operator_text o)) os × Falls os
+abbrev falls : List Operator → Bool
+falls [] = true
+falls (o ∷ os) = no_longer (length (operator_text o)) os && falls os
 
 abbrev IsIn : Operator → List Operator → Type 0
 IsIn o [] = ⊥
 IsIn o (p ∷ ps) = (o ≡ p) ⊎ IsIn o ps
 
-no_longer : (n : ℕ) (os : List Operator) (o : Operator) → NoLonger n os → IsIn o os → length (operator_text o) ≤ n
-no_longer n [] o h i = absurd i
-no_longer n (p ∷ ps) o h (inl same) = subst (λ (q : Operator). length (operator_text q) ≤ n) (sym same) h.0
-no_longer n (p ∷ ps) o h (inr rest) = no_longer n ps o h.1 rest
+is_no_longer : (n : ℕ) (os : List Operator) (o : Operator) → no_longer n os ≡ true → IsIn o os → length (operator_text o) ≤ n
+is_no_longer n [] o h i = absurd i
+is_no_longer n (p ∷ ps) o h (inl same) =
+    let fits : nat_le (length (operator_text p)) n ≡ true = (and_parts _ (no_longer n ps) h).0 in
+    rw same (grind (arith, nat_tests, fits))
+is_no_longer n (p ∷ ps) o h (inr rest) = is_no_longer n ps o (and_parts _ (no_longer n ps) h).1 rest
 
 -- what is found is a cut of the text, and no longer operator of the list stands there
 abbrev IsFound : List Operator → List ℕ → Operator × List ℕ → Type 0
 IsFound os text cut = (text ≡ operator_text cut.0 ++ cut.1)
     × ((other : Operator) → IsIn other os → starts_with nat_eq text (operator_text other) ≡ true → length (operator_text other) ≤ length (operator_text cut.0))
 
-among_takes : (os : List Operator) (text : List ℕ) (cut : Operator × List ℕ) → Falls os → operator_among os text ≡ Some cut → IsFound os text cut
-among_takes [] text cut falls e = absurd cc
-among_takes (o ∷ os) text cut falls e = elim (option_sight (behind_operator o text)) [
+among_takes : (os : List Operator) (text : List ℕ) (cut : Operator × List ℕ) → falls os ≡ true → operator_among os text ≡ Some cut → IsFound os text cut
+among_takes [] text cut fall e = absurd cc
+among_takes (o ∷ os) text cut fall e = elim (option_sight (behind_operator o text)) [
   | inl none ↦
       let later : operator_among os text ≡ Some cut = rw none at e in
-      let found = among_takes os text cut falls.1 later in
+      let found = among_takes os text cut (and_parts (no_longer (length (operator_text o)) os) (falls os) fall).1 later in
       (found.0, λ other i begins. longest other i begins (no_operator o text none) found.1)
   | inr some ↦
       let here : ◌≡◌ {A = Option (Operator × List ℕ)} (Some (o, some.0)) (Some cut) = rw some.1 at e in
@@ -98,34 +91,7 @@ among_takes (o ∷ os) text cut falls e = elim (option_sight (behind_operator o 
 
     first : (other : Operator) → IsIn other (o ∷ os) → length (operator_text other) ≤ length (operator_text o)
     first other (inl same) = subst (λ (q : Operator). length (operator_text q) ≤ length (operator_text o)) (sym same) (omega arith)
-    first other (inr rest) = no_longer (length (operator_text o)) os other falls.0 rest
-
-operators_fall : Falls operators
-operators_fall = (
-  (omega arith, (omega arith, (omega arith, (omega arith, (omega arith, (omega arith, (omega arith, tt))))))),
-  (
-    (omega arith, (omega arith, (omega arith, (omega arith, (omega arith, (omega arith, tt)))))),
-    (
-      (omega arith, (omega arith, (omega arith, (omega arith, (omega arith, tt))))),
-      (
-        (omega arith, (omega arith, (omega arith, (omega arith, tt)))),
-        (
-          (omega arith, (omega arith, (omega arith, tt))),
-          (
-            (omega arith, (omega arith, tt)),
-            (
-              (omega arith, tt),
-              (
-                tt,
-                tt,
-              ),
-            ),
-          ),
-        ),
-      ),
-    ),
-  ),
-)
+    first other (inr rest) = is_no_longer (length (operator_text o)) os other (and_parts (no_longer (length (operator_text o)) os) (falls os) fall).0 rest
 
 each_operator : (o : Operator) → IsIn o operators
 each_operator operator.Arbitrary = inl refl
@@ -139,13 +105,13 @@ each_operator operator.After = inr (inr (inr (inr (inr (inr (inr (inl refl))))))
 
 cut_takes : (text : List ℕ) (cut : Operator × List ℕ) → operator_at text ≡ Some cut → IsFound operators text cut
 unfolding operator_at
-cut_takes text cut e = among_takes operators text cut operators_fall e
+cut_takes text cut e = among_takes operators text cut refl e
 
 -- ---- operands
 
 star_takes : (text : List ℕ) → is_star text ≡ true → (text ≡ codes ".*" ++ drop 2 text) × (list_all is_white (drop 2 text) ≡ true)
 star_takes text e =
-    let b = both (starts_with nat_eq text (codes ".*")) (list_all is_white (drop 2 text)) e in
+    let b = and_parts (starts_with nat_eq text (codes ".*")) (list_all is_white (drop 2 text)) e in
     (begins_takes text (codes ".*") b.0, b.1)
 
 pub prefix_of_takes : (text : List ℕ) (p : Prefix) → prefix_of text ≡ Some p → SpellsPrefix text p
@@ -182,20 +148,14 @@ public_takes text v e =
     let made : Spells text a.0 × (a.0.local ≡ []) = (version_takes text a.0 a.1, nil_from_length a.0.local (eqb-true (length a.0.local) 0 c.0)) in
     subst (λ (p : Parts). Spells text p × (p.local ≡ [])) c.1 made
 
-two_or_more : (n : ℕ) → nat_le 2 n ≡ true → 2 ≤ n
-two_or_more n e = grind (arith, nat_tests)
-
 compatible_takes : (text : List ℕ) (v : Parts) → compatible_of text ≡ Some v → Spells text v × (v.local ≡ []) × (2 ≤ length v.release)
 unfolding compatible_of
 compatible_takes text v e =
     let a = bind_some (public_of text) _ v e in
     let c = cond_some (nat_le 2 (length a.0.release)) a.0 v a.2 in
     let p = public_takes text a.0 a.1 in
-    let made : Spells text a.0 × (a.0.local ≡ []) × (2 ≤ length a.0.release) = (p.0, p.1, two_or_more (length a.0.release) c.0) in
+    let made : Spells text a.0 × (a.0.local ≡ []) × (2 ≤ length a.0.release) = (p.0, p.1, grind (arith, nat_tests, c.0)) in
     subst (λ (p : Parts). Spells text p × (p.local ≡ []) × (2 ≤ length p.release)) c.1 made
-
-some_or_none : (n : ℕ) → nat_lt 0 n ≡ true → 1 ≤ n
-some_or_none n e = grind (arith, nat_tests)
 
 arbitrary_takes : (text label : List ℕ) → arbitrary_of text ≡ Some label → SpellsArbitrary text label
 unfolding arbitrary_of
@@ -204,14 +164,14 @@ arbitrary_takes text label e =
     let t = after_white text in
     let n = prefix_len is_arbitrary t in
     let c = cond_some (nat_lt 0 n && list_all is_white (drop n t)) (take n t) label e in
-    let b = both (nat_lt 0 n) (list_all is_white (drop n t)) c.0 in
-    let some : 1 ≤ length (take n t) = omega (arith, length-prefix_len is_arbitrary t, some_or_none n b.0) in
+    let b = and_parts (nat_lt 0 n) (list_all is_white (drop n t)) c.0 in
+    let some : 1 ≤ n = grind (arith, nat_tests, b.0) in
     let made : SpellsArbitrary text (take n t) = record {
       before = w.0;
       after = drop n t;
       whole = w.1 ∙ ap (λ (r : List ℕ). w.0 ++ r) (sym (take-append-drop n t));
       is_before = w.2;
-      not_empty = some;
+      not_empty = omega (arith, length-prefix_len is_arbitrary t, some);
       allowed = list_all_front is_arbitrary t;
       is_after = b.1;
     } in
@@ -224,15 +184,15 @@ IsRead o text s = (operator_of s ≡ o) × IsOperand text s
 read_public : (make : Parts → Specifier) (o : Operator) (text : List ℕ) (s : Specifier)
     → ((v : Parts) → Spells text v × (v.local ≡ []) → IsRead o text (make v)) → option_map make (public_of text) ≡ Some s → IsRead o text s
 read_public make o text s h e =
-    let m = mapped make (public_of text) s e in
+    let m = map_some (public_of text) make s e in
     subst (IsRead o text) m.2 (h m.0 (public_takes text m.0 m.1))
 
 read_either : (make_prefix : Prefix → Specifier) (make : Parts → Specifier) (o : Operator) (text : List ℕ) (s : Specifier)
     → ((p : Prefix) → SpellsPrefix text p → IsRead o text (make_prefix p)) → ((v : Parts) → Spells text v → IsRead o text (make v))
     → either (option_map make_prefix (prefix_of text)) (option_map make (version_of text)) ≡ Some s → IsRead o text s
 read_either make_prefix make o text s h k e = elim (either_some (option_map make_prefix (prefix_of text)) (option_map make (version_of text)) s e) [
-  | inl a ↦ let m = mapped make_prefix (prefix_of text) s a in subst (IsRead o text) m.2 (h m.0 (prefix_of_takes text m.0 m.1))
-  | inr b ↦ let m = mapped make (version_of text) s b in subst (IsRead o text) m.2 (k m.0 (version_takes text m.0 m.1))
+  | inl a ↦ let m = map_some (prefix_of text) make_prefix s a in subst (IsRead o text) m.2 (h m.0 (prefix_of_takes text m.0 m.1))
+  | inr b ↦ let m = map_some (version_of text) make s b in subst (IsRead o text) m.2 (k m.0 (version_takes text m.0 m.1))
 ]
 
 pub operand_takes : (o : Operator) (text : List ℕ) (s : Specifier) → operand_of o text ≡ Some s → IsRead o text s
@@ -244,10 +204,10 @@ operand_takes operator.AtLeast text s e = read_public AtLeast operator.AtLeast t
 operand_takes operator.Before text s e = read_public Before operator.Before text s (λ v h. (refl, h)) e
 operand_takes operator.After text s e = read_public After operator.After text s (λ v h. (refl, h)) e
 operand_takes operator.Compatible text s e =
-    let m = mapped Compatible (compatible_of text) s e in
+    let m = map_some (compatible_of text) Compatible s e in
     subst (IsRead operator.Compatible text) m.2 (refl, compatible_takes text m.0 m.1)
 operand_takes operator.Arbitrary text s e =
-    let m = mapped Arbitrary (arbitrary_of text) s e in
+    let m = map_some (arbitrary_of text) Arbitrary s e in
     subst (IsRead operator.Arbitrary text) m.2 (refl, arbitrary_takes text m.0 m.1)
 
 -- ---- specifiers and sets
@@ -281,7 +241,7 @@ pieces_take (piece ∷ rest) specifiers e = elim (cases_Bool (list_all is_white 
       blank_piece piece rest specifiers blank (pieces_take rest specifiers later)
   | inr other ↦
       let read = bind_some (specifier_of piece) (λ s. option_map (λ others. s ∷ others) (specifiers_of rest)) specifiers (rw other at e) in
-      let m = mapped (λ (others : List Specifier). read.0 ∷ others) (specifiers_of rest) specifiers read.2 in
+      let m = map_some (specifiers_of rest) (λ (others : List Specifier). read.0 ∷ others) specifiers read.2 in
       subst (ArePieces (piece ∷ rest)) m.2 (specifier_piece piece rest read.0 m.0 (specifier_takes piece read.0 read.1) (pieces_take rest m.0 m.1))
 ]
 

@@ -3,7 +3,7 @@ use Rattle.std.proofs.Common.{◌≡◌, ◌⊎◌, ℕ, ◌+◌, ◌≤◌, Boo
 use Rattle.std.specs.Prelude.{◌==◌}
 use Rattle.std.specs.Char.{is_ascii_digit, is_ascii_alphanumeric, to_ascii_lowercase}
 use Rattle.std.specs.List.{list_all, list_any}
-use Rattle.std.proofs.lemmas.Bool.{cases_Bool, eqb-true, not-true}
+use Rattle.std.proofs.lemmas.Bool.{and_parts, cases_Bool, eqb-true, not-true}
 use Rattle.std.proofs.lemmas.Bool.Decides.{nat_tests}
 use Rattle.pytext.specs.Bytes.{is_separator, is_white, starts}
 
@@ -22,16 +22,12 @@ is_letter c b = to_ascii_lowercase b == c
 
 member_passes : (test : ℕ → Bool) (set : List ℕ) (b : ℕ) → list_all test set ≡ true → is_in set b ≡ true → test b ≡ true
 member_passes test [] b all m = absurd (let n : false ≡ true = m in cc)
-member_passes test (c ∷ set) b all m = elim (cases_Bool (b == c)) [
-  | inl same ↦ elim (cases_Bool (test c)) [
-    | inl passes ↦ rw (eqb-true b c same) passes
-    | inr fails ↦ absurd (let n : false ≡ true = rw fails at all in cc)
-  ]
-  | inr other ↦ elim (cases_Bool (test c)) [
-    | inl passes ↦ member_passes test set b (rw passes at all) (rw other at m)
-    | inr fails ↦ absurd (let n : false ≡ true = rw fails at all in cc)
-  ]
-]
+member_passes test (c ∷ set) b all m =
+    let both = and_parts (test c) (list_all test set) all in
+    elim (cases_Bool (b == c)) [
+      | inl same ↦ rw (eqb-true b c same) both.0
+      | inr other ↦ member_passes test set b both.1 (rw other at m)
+    ]
 
 -- a test that each listed byte fails
 pub begins_not : (test : ℕ → Bool) (set : List ℕ) → list_all (λ b. not (test b)) set ≡ true → (text : List ℕ) → begins_in set text ≡ true → starts test text ≡ false
@@ -53,24 +49,16 @@ white_in b e = grind (arith, nat_tests)
 
 pub all_white_begins : (text : List ℕ) → list_all is_white text ≡ true → begins_in whites text ≡ true
 all_white_begins [] e = refl
-all_white_begins (b ∷ rest) e = elim (cases_Bool (is_white b)) [
-  | inl white ↦ white_in b white
-  | inr other ↦ absurd (let n : false ≡ true = rw other at e in cc)
-]
+all_white_begins (b ∷ rest) e = white_in b (and_parts (is_white b) (list_all is_white rest) e).0
 
 -- ---- separators, digits and letters
 
 separator_cases : (b : ℕ) → is_separator b ≡ true → (b ≡ 45) ⊎ ((b ≡ 95) ⊎ (b ≡ 46))
 separator_cases b e = grind (arith, nat_tests)
 
-pub separator_passes : (test : ℕ → Bool) → test 45 ≡ true → test 95 ≡ true → test 46 ≡ true → (b : ℕ) → is_separator b ≡ true → test b ≡ true
-separator_passes test h45 h95 h46 b e = elim (separator_cases b e) [
-  | inl is ↦ rw is h45
-  | inr other ↦ elim other [ inl is ↦ rw is h95 | inr is ↦ rw is h46 ]
-]
-
-pub separator_fails : (test : ℕ → Bool) → test 45 ≡ false → test 95 ≡ false → test 46 ≡ false → (b : ℕ) → is_separator b ≡ true → test b ≡ false
-separator_fails test h45 h95 h46 b e = elim (separator_cases b e) [
+-- what a test says of each separator
+pub separator_judged : (test : ℕ → Bool) (verdict : Bool) → test 45 ≡ verdict → test 95 ≡ verdict → test 46 ≡ verdict → (b : ℕ) → is_separator b ≡ true → test b ≡ verdict
+separator_judged test verdict h45 h95 h46 b e = elim (separator_cases b e) [
   | inl is ↦ rw is h45
   | inr other ↦ elim other [ inl is ↦ rw is h95 | inr is ↦ rw is h46 ]
 ]

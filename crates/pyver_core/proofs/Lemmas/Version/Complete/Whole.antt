@@ -19,7 +19,7 @@ use Rattle.pyver_core.proofs.Lemmas.Version.Complete.Words.{word_starts}
 use Rattle.pyver_core.proofs.Lemmas.Version.Complete.Parts.{follow_release, local_again, local_begins, dev_again, dev_begins, dev_apart, post_again, post_begins, post_apart, pre_again, pre_begins, pre_not_dotted}
 
 -- a text that begins with what passes one test doesn't begin with what passes another
-starts_other : (test other : ℕ → Bool) → ((b : ℕ) → test b ≡ true → other b ≡ false) → (text : List ℕ) → starts test text ≡ true → starts other text ≡ false
+pub starts_other : (test other : ℕ → Bool) → ((b : ℕ) → test b ≡ true → other b ≡ false) → (text : List ℕ) → starts test text ≡ true → starts other text ≡ false
 starts_other test other apart [] e = refl
 starts_other test other apart (b ∷ rest) e = apart b e
 

@@ -9,7 +9,7 @@ use Rattle.pytext.specs.Bytes.{is_separator, starts}
 use Rattle.pyver_core.specs.Version.Grammar.{is_dot, IsOptionalSeparator, IsWord, IsTagged, IsPreWord, word_a, word_alpha, word_b, word_beta, word_c, word_rc, word_pre, word_preview, IsPostWord, word_post, word_rev, word_r}
 use Rattle.pyver_core.specs.Version.Reading.{behind_at, after_separator, number_at, word_at, tail_at, pre_word_at, post_word_at, dotted_number_at, dashed_number_at}
 use Rattle.pyver_core.specs.declared.version.part.PreKind.{PreKind}
-use Rattle.pyver_core.proofs.Lemmas.Version.FirstBytes.{is_in, begins_in, is_letter, separator_passes, separator_fails, letter_cases, letter_not_separator, letter_not_digit, digit_not_letter}
+use Rattle.pyver_core.proofs.Lemmas.Version.FirstBytes.{is_in, begins_in, is_letter, separator_judged, letter_cases, letter_not_separator, letter_not_digit, digit_not_letter}
 use Rattle.pytext.proofs.Fronts.{starts_none}
 use Rattle.pyver_core.proofs.Lemmas.Version.Complete.Pieces.{separator_again, no_number, tail_again, word_again, other_word, no_word, not_behind_byte}
 
@@ -62,14 +62,14 @@ tagged_tail word piece n next t stops = tail_again t.after t.digits n next t.is_
 -- no letter but one of the next part stands behind the word
 pub tagged_letter : (c : ℕ) → 97 ≤ c → is_letter c 45 ≡ false → is_letter c 95 ≡ false → is_letter c 46 ≡ false → (word piece : List ℕ) (n : ℕ) (next : List ℕ) (t : IsTagged word piece n next) → starts (is_letter c) next ≡ false → starts (is_letter c) (t.after ++ (t.digits ++ next)) ≡ false
 tagged_letter c low h45 h95 h46 word piece n next t stops =
-    starts_none is_separator (is_letter c) (separator_fails (is_letter c) h45 h95 h46) t.after (t.digits ++ next) t.is_after.0
+    starts_none is_separator (is_letter c) (separator_judged (is_letter c) false h45 h95 h46) t.after (t.digits ++ next) t.is_after.0
     (starts_none is_ascii_digit (is_letter c) (λ b e. digit_not_letter b c e low) t.digits next t.is_number.digits stops)
 
 -- the part begins with a separator or its letter
 before_begins : (before rest set : List ℕ) → IsOptionalSeparator before → is_in set 45 ≡ true → is_in set 95 ≡ true → is_in set 46 ≡ true → begins_in set rest ≡ true → begins_in set (before ++ rest) ≡ true
 before_begins [] rest set is h45 h95 h46 begins = begins
 before_begins (b ∷ before) rest set is h45 h95 h46 begins = elim (cases_Bool (is_separator b)) [
-  | inl sep ↦ separator_passes (is_in set) h45 h95 h46 b sep
+  | inl sep ↦ separator_judged (is_in set) true h45 h95 h46 b sep
   | inr other ↦ absurd (let n : false ≡ true = rw other at is.0 in cc)
 ]
 

@@ -13,7 +13,7 @@ use Rattle.pyver_core.specs.Version.Reading.{onto, optional_at, many_at, after_s
 use Rattle.pyver_core.specs.declared.version.part.PreKind.{PreKind}
 use Rattle.pyver_core.specs.declared.version.part.PreKind.TheVariants.{A, B, Rc}
 use Rattle.pyver_core.specs.declared.version.part.LocalPart.{LocalPart}
-use Rattle.pytext.proofs.Options.{option_sight, bind_some, either_some}
+use Rattle.pytext.proofs.Options.{bind_some, either_some, map_some, option_sight}
 use Rattle.pytext.proofs.Fronts.{white_takes}
 use Rattle.pyver_core.proofs.Lemmas.Version.Sound.Pieces.{separator_takes, count_takes, number_takes, word_takes, many_at_takes, dotted_takes, dashed_takes, separated_takes, added_takes}
 
@@ -109,10 +109,6 @@ tagged_takes word text rest w =
       },
     )
 
-mapped_some : {X Y : Type 0} (f : X → Y) (o : Option X) (y : Y) → option_map f o ≡ Some y → (x : X) × (o ≡ Some x) × (f x ≡ y)
-mapped_some f None y e = absurd cc
-mapped_some f (Some x) y e = (x, refl, cc)
-
 -- what an optional reader gives is what it read, or nothing
 optional_takes : {X : Type 0} (read : List ℕ → Option (X × List ℕ)) (P : Option X × List ℕ → Type 0) (text : List ℕ) → P (None, text) → ((x : X × List ℕ) → read text ≡ Some x → P (Some x.0, x.1)) → P (optional_at read text)
 optional_takes {X} read P text none some = elim (option_sight (read text)) [
@@ -127,7 +123,7 @@ IsPreRead text x = (word : List ℕ) × IsPreWord word x.0 × (written : List �
 
 kind_takes : (kind : PreKind) (longer shorter : List ℕ) → IsPreWord longer kind → IsPreWord shorter kind → (text : List ℕ) (x : PreKind × List ℕ) → option_map (λ rest. (kind, rest)) (either_at longer shorter text) ≡ Some x → IsPreRead text x
 kind_takes kind longer shorter is_longer is_shorter text x e =
-    let m = mapped_some (λ (rest : List ℕ). (kind, rest)) (either_at longer shorter text) x e in
+    let m = map_some (either_at longer shorter text) (λ (rest : List ℕ). (kind, rest)) x e in
     subst (IsPreRead text) m.2 (elim (either_some (word_at longer text) (word_at shorter text) m.0 m.1) [
       | inl a ↦ let t = word_takes longer text m.0 a in (longer, is_longer, t.0, t.1, t.2)
       | inr b ↦ let t = word_takes shorter text m.0 b in (shorter, is_shorter, t.0, t.1, t.2)
