@@ -1,5 +1,5 @@
 -- A specifier set that a text writes is read again.
-use Rattle.std.proofs.Common.{◌≡◌, ℕ, ◌<◌, ◌≤◌, Bool, true, false, List, [], ◌∷◌, ◌++◌, length, take, drop, Some, None, refl, sym, ap, ◌∙◌, arith, inl, inr}
+use Rattle.std.proofs.Common.{◌≡◌, ℕ, ◌<◌, ◌≤◌, Bool, true, false, List, [], ◌++◌, length, take, drop, Some, None, refl, sym, ap, ◌∙◌, arith, inl, inr}
 use Rattle.std.specs.Prelude.{◌==◌, ◌&&◌, codes, nat_eq, nat_le, nat_lt}
 use Rattle.std.specs.Char.{is_ascii_digit}
 use Rattle.std.specs.List.{list_all, prefix_len, starts_with}
@@ -13,7 +13,7 @@ use Rattle.pyver_core.specs.Set.Prefix.{Prefix}
 use Rattle.pytext.specs.White.{after_white}
 use Rattle.pyver_core.specs.Version.Reading.{added_segment_at, base_at, dashed_number_at, dashed_or_tagged_post_at, dotted_number_at, local_at, parts_at, post_word_at, pre_word_at, tagged_dev_at, tagged_post_at, tagged_pre_at, version_of}
 use Rattle.pyver_core.specs.Set.Grammar.{ArePieces, IsOperand, IsSpecifier, SetText, SpellsArbitrary, SpellsPrefix, blank_piece, is_arbitrary, no_piece, specifier_piece}
-use Rattle.pyver_core.specs.Set.Reading.{arbitrary_of, compatible_of, is_star, operand_of, operator_at, prefix_of, public_of, set_of, specifier_of, specifiers_of}
+use Rattle.pyver_core.specs.Set.Reading.{arbitrary_of, compatible_of, operand_of, operator_at, prefix_of, public_of, set_of, specifier_of, specifiers_of}
 use Rattle.pyver_core.specs.Set.Normal.{operator_of, operator_text}
 use Rattle.pyver_core.specs.declared.set.specifier.Operator.{Operator}
 use Rattle.pyver_core.specs.declared.set.specifier.Operator.TheVariants as operator

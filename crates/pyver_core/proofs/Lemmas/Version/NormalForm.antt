@@ -1,7 +1,7 @@
 -- The normal form of what a text spells is spelt so too.
-use Rattle.std.proofs.Common.{◌≡◌, ℕ, zero, suc, ◌+◌, ◌<◌, ◌≤◌, true, false, List, [], ◌∷◌, ◌++◌, length, map, Option, Some, None, refl, sym, ap, subst, ◌∙◌, arith, inl, inr, lit≤}
+use Rattle.std.proofs.Common.{◌≡◌, ℕ, zero, suc, ◌+◌, ◌<◌, ◌≤◌, true, List, [], ◌∷◌, ◌++◌, length, map, Option, Some, None, refl, sym, ap, ◌∙◌, arith, inl, inr, lit≤}
 use Rattle.std.specs.Prelude.{codes, flat_map}
-use Rattle.std.specs.Char.{is_ascii_digit, is_ascii_alphanumeric, to_ascii_lowercase, digit_value}
+use Rattle.std.specs.Char.{is_ascii_digit, to_ascii_lowercase, digit_value}
 use Rattle.std.specs.Int.Digits.{digits_of, number_from_digits, AllBelowBase}
 use Rattle.std.specs.List.{list_all}
 use Rattle.std.specs.Str.{str_to_ascii_lowercase}
@@ -9,14 +9,10 @@ use Rattle.std.proofs.lemmas.Bool.Decides.{nat_tests}
 use Rattle.std.proofs.lemmas.Int.Digits.{digits_value_is, all_below_base_digits_of, number_digits_of, length-digits_of_step}
 use Rattle.std.proofs.lemmas.List.{append-nil, length-map}
 use Rattle.pyver_core.specs.Version.Parts.{Parts}
-use Rattle.pyver_core.specs.Version.Normal.{decimal_text, epoch_text, release_text, pre_text, post_text, dev_text, local_text, dotted_number, dotted_segment, segment_text, letters, normal}
-use Rattle.pytext.specs.Bytes.{is_separator}
-use Rattle.pyver_core.specs.Version.Grammar.{is_dot, IsOptionalSeparator, IsNumber, AreBehind, IsEpoch, IsRelease, IsTagged, IsPreWord, word_a, word_b, word_rc, IsPre, word_post, IsPost, IsDev, IsSegment, IsLocal, Spells}
-use Rattle.pytext.proofs.Fronts.{all_cons}
+use Rattle.pyver_core.specs.Version.Normal.{decimal_text, epoch_text, release_text, pre_text, post_text, dev_text, local_text, dotted_number, letters, normal}
+use Rattle.pyver_core.specs.Version.Grammar.{is_dot, IsOptionalSeparator, IsNumber, AreBehind, IsEpoch, IsRelease, IsTagged, IsPreWord, word_a, word_b, word_rc, IsPre, word_post, IsPost, IsDev, IsLocal, Spells}
 use Rattle.pyver_core.specs.declared.version.part.PreKind.{PreKind}
 use Rattle.pyver_core.specs.declared.version.part.PreKind.TheVariants.{A, B, Rc}
-use Rattle.pyver_core.specs.declared.version.part.LocalPart.{LocalPart}
-use Rattle.pyver_core.specs.declared.version.part.LocalPart.TheVariants.{Number, Text}
 
 -- ---- numbers
 
