@@ -10,12 +10,11 @@ use Rattle.std.specs.List.{Contains}
 use Rattle.std.specs.Ordering.{is_lt, ordering_reverse}
 use Rattle.std.specs.declared.cmp.Ordering.{Ordering}
 use Rattle.std.specs.declared.cmp.Ordering.TheVariants.{Less, Equal, Greater}
-use Rattle.std.proofs.lemmas.Bool.{cases_Bool}
+use Rattle.std.proofs.lemmas.Bool.{and_parts, cases_Bool, or_parts}
 use Rattle.pywheel_core.specs.Choice.{ComesBehind, IsBest, IsCompatible, IsRank, Ranked, best, best_from, better, is_better, least_rank, rank_from, ranked}
 use Rattle.pywheel_core.specs.Tag.{TagValue, rank_of}
 use Rattle.pywheel_core.specs.Wheel.Build.{build_number, build_rest, builds_cmp}
 use Rattle.pywheel_core.specs.Wheel.Value.{WheelValue}
-use Rattle.pywheel_core.proofs.Cuts.{and_both}
 
 -- ---- elements of a list
 
@@ -165,14 +164,10 @@ either_holds : (x y : Bool) → (x || y) ≡ true → (x ≡ true) ⊎ (y ≡ tr
 either_holds true y h = inl refl
 either_holds false y h = inr h
 
-neither_holds : (x y : Bool) → (x || y) ≡ false → (x ≡ false) × (y ≡ false)
-neither_holds true y h = absurd (true≢false h)
-neither_holds false y h = (refl, h)
-
 better_means : (first later : Ranked) → is_better later first ≡ true → (later.rank < first.rank) ⊎ ((later.rank ≡ first.rank) × (builds_cmp first.build later.build ≡ Less))
 better_means first later t = elim (either_holds (nat_lt later.rank first.rank) ((later.rank == first.rank) && is_lt (builds_cmp first.build later.build)) t) [
   | inl e ↦ inl (grind (arith, nat_tests, e))
-  | inr e ↦ let p = and_both (later.rank == first.rank) (is_lt (builds_cmp first.build later.build)) e in
+  | inr e ↦ let p = and_parts (later.rank == first.rank) (is_lt (builds_cmp first.build later.build)) e in
       inr ((Decides-eqb later.rank first.rank).0 p.0, lt_less (builds_cmp first.build later.build) p.1)
 ]
 
@@ -199,7 +194,7 @@ first_behind first later t = elim (better_means first later t) [ inl l ↦ inl l
 -- a later one that isn't better is behind
 later_behind : (first later : Ranked) → first.place < later.place → is_better later first ≡ false → ComesBehind first later
 later_behind first later l t =
-    let p = neither_holds (nat_lt later.rank first.rank) ((later.rank == first.rank) && is_lt (builds_cmp first.build later.build)) t in
+    let p = or_parts (nat_lt later.rank first.rank) ((later.rank == first.rank) && is_lt (builds_cmp first.build later.build)) t in
     let low = p.0 in
     elim (cases_Bool (later.rank == first.rank)) [
       | inl e ↦

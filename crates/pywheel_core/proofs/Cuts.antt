@@ -1,6 +1,5 @@
 -- Texts cut at a byte: what std's words say, in the words of `cut_at` and `pieces_at`.
-use Rattle.std.proofs.Common.{◌≡◌, ℕ, suc, ◌+◌, ◌-◌, ◌<◌, Bool, true, false, ◌==◌, ◌&&◌, ◌||◌, bytes_eq, codes, List, [], ◌∷◌, ◌++◌, length, take, drop, Option, Some, None, option_map, MatchOption, Bor, refl, sym, subst, ap, ◌∙◌, inl, inr, arith}
-use Rattle.std.proofs.Math.Bool.{true≢false}
+use Rattle.std.proofs.Common.{◌≡◌, ℕ, suc, ◌+◌, ◌-◌, ◌<◌, true, false, ◌==◌, bytes_eq, codes, List, [], ◌∷◌, ◌++◌, length, take, drop, Option, Some, None, option_map, MatchOption, Bor, refl, sym, subst, ap, ◌∙◌, inl, inr, arith}
 use Rattle.std.proofs.lemmas.Bool.Decides.{Decides-eqb}
 use Rattle.std.proofs.lemmas.List.{append_assoc, append_cancel_left, take-append-drop}
 use Rattle.std.proofs.lemmas.List.Elements.{All-cons}
@@ -11,7 +10,7 @@ use Rattle.std.specs.Cmp.Lexicographic.{bytes_decides}
 use Rattle.std.specs.Str.Pattern.{FindsTextSuffix, StripsSuffix}
 use Rattle.std.specs.List.{All, after_first, before_first, list_any, position_or_len}
 use Rattle.pytext.proofs.Options.{option_sight}
-use Rattle.std.proofs.lemmas.Bool.{cases_Bool}
+use Rattle.std.proofs.lemmas.Bool.{cases_Bool, or_parts}
 use Rattle.pywheel_core.specs.Texts.{before_cut, cut_at, pieces_at}
 use Rattle.pywheel_core.specs.Inner.Places.{places_from}
 use Rattle.pywheel_core.specs.Tag.{pieces}
@@ -64,16 +63,6 @@ stem_is s (Some x) h =
     let front : x.now ≡ take m s = subst (λ k. x.now ≡ take (length s - k) s) h.1.0 h.2 in
     rw test (ap Some front)
 
--- two tests of the same
-pub same_test : (a b : Bool) → (a ≡ true → b ≡ true) → (b ≡ true → a ≡ true) → a ≡ b
-same_test true b f g = sym (f refl)
-same_test false true f g = absurd (true≢false (sym (g refl)))
-same_test false false f g = refl
-
-pub and_both : (x y : Bool) → (x && y) ≡ true → (x ≡ true) × (y ≡ true)
-and_both true y h = (refl, h)
-and_both false y h = absurd (true≢false (sym h))
-
 -- ---- what a cut says of the text
 
 -- no such byte stands in the text
@@ -112,34 +101,24 @@ no_cut_says c (b ∷ s) h = elim (cases_Bool (b == c)) [
 ]
 
 -- and the other way round
-or_false_left : (x y : Bool) → (x || y) ≡ false → x ≡ false
-or_false_left true y h = h
-or_false_left false y h = refl
-
-or_false_right : (x y : Bool) → (x || y) ≡ false → y ≡ false
-or_false_right true y h = absurd (true≢false h)
-or_false_right false y h = h
-
 pub cut_joined : (c : ℕ) (x y : List ℕ) → Lacks c x → cut_at c (x ++ (c ∷ y)) ≡ Some (x, y)
 cut_joined c [] y h = let e : (c == c) ≡ true = (Decides-eqb c c).1 refl in rw e refl
 cut_joined c (b ∷ x) y h =
-    let e = or_false_left (b == c) (list_any (λ d. d == c) x) h in
-    let rest = or_false_right (b == c) (list_any (λ d. d == c) x) h in
-    rw e (ap (option_map (before_cut b)) (cut_joined c x y rest))
+    let both = or_parts (b == c) (list_any (λ d. d == c) x) h in
+    rw both.0 (ap (option_map (before_cut b)) (cut_joined c x y both.1))
 
 pub cut_lacking : (c : ℕ) (x : List ℕ) → Lacks c x → cut_at c x ≡ None
 cut_lacking c [] h = refl
 cut_lacking c (b ∷ x) h =
-    let e = or_false_left (b == c) (list_any (λ d. d == c) x) h in
-    let rest = or_false_right (b == c) (list_any (λ d. d == c) x) h in
-    rw e (ap (option_map (before_cut b)) (cut_lacking c x rest))
+    let both = or_parts (b == c) (list_any (λ d. d == c) x) h in
+    rw both.0 (ap (option_map (before_cut b)) (cut_lacking c x both.1))
 
 -- ---- pieces
 
 lacks_all : (c : ℕ) (s : List ℕ) → Lacks c s → All (λ b. (b == c) ≡ false) s
 lacks_all c [] h = λ k d l. absurd (omega arith)
-lacks_all c (b ∷ s) h = All-cons (λ d. (d == c) ≡ false) b s (or_false_left (b == c) (list_any (λ d. d == c) s) h)
-    (lacks_all c s (or_false_right (b == c) (list_any (λ d. d == c) s) h))
+lacks_all c (b ∷ s) h =
+    let both = or_parts (b == c) (list_any (λ d. d == c) s) h in All-cons (λ d. (d == c) ≡ false) b s both.0 (lacks_all c s both.1)
 
 pub pieces_cut : (c : ℕ) (s x y : List ℕ) → cut_at c s ≡ Some (x, y) → pieces_at c s ≡ x ∷ pieces_at c y
 pieces_cut c s x y h =
@@ -148,9 +127,6 @@ pieces_cut c s x y h =
 
 pub pieces_whole : (c : ℕ) (s : List ℕ) → cut_at c s ≡ None → pieces_at c s ≡ s ∷ []
 pieces_whole c s h = slice_split_none (λ b. b == c) s (lacks_all c s (no_cut_says c s h))
-
-pub length_cut : (c : ℕ) (s x y : List ℕ) → cut_at c s ≡ Some (x, y) → length s ≡ length x + (1 + length y)
-length_cut c s x y h = ap length (cut_says c s x y h).0 ∙ (length-append x (c ∷ y) ∙ omega arith)
 
 -- ---- the places of pieces
 
@@ -164,7 +140,7 @@ pub places_last : (front : List Place) (start : ℕ) (s : List ℕ) → None ≡
 places_last front start s h = ap (λ ps. front ++ places_from start ps) (pieces_whole 46 s (sym h))
 
 pub length_step : (s x y : List ℕ) → Some (x, y) ≡ cut_at 46 s → length s ≡ length x + (1 + length y)
-length_step s x y h = length_cut 46 s x y (sym h)
+length_step s x y h = ap length (cut_says 46 s x y (sym h)).0 ∙ (length-append x (46 ∷ y) ∙ omega arith)
 
 -- ---- a part that is one piece
 

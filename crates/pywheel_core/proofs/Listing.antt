@@ -6,14 +6,13 @@ use Rattle.std.specs.List.{IsDistinct, list_any}
 use Rattle.std.specs.Option.{ok_or}
 use Rattle.std.specs.Result.{IfOk, IsErrOf}
 use Rattle.std.specs.Str.{str_to_ascii_lowercase}
-use Rattle.std.proofs.lemmas.Bool.{cases_Bool, cond-true}
+use Rattle.std.proofs.lemmas.Bool.{and_parts, cases_Bool, cond-true}
 use Rattle.pytext.specs.Agreement.{Gives}
 use Rattle.pywheel_core.specs.Tag.{TagText, TagValue, at_place, is_tag, is_tag_part, rank_of, tag_eq, tag_of, tag_text, tag_with, tags_after, tags_of, with_tag}
 use Rattle.pywheel_core.specs.TagLaws.{tag_equiv}
 use Rattle.pywheel_core.specs.Texts.{three_parts}
 use Rattle.pywheel_core.specs.declared.error.TagError.{TagError}
 use Rattle.pywheel_core.specs.declared.error.TagError.TheVariants as tag
-use Rattle.pywheel_core.proofs.Cuts.{and_both}
 use Rattle.pytext.proofs.Results.{bind_ok, if_ok, ok_or_some}
 use Rattle.pywheel_core.proofs.Naming.{part_lacks, three_joined}
 use Rattle.pywheel_core.proofs.Pieces.{tag_taken, three_say}
@@ -27,8 +26,8 @@ tag_says text t h =
     let x = bind_ok (ok_or (three_parts 45 lower) tag.Shape) (λ parts. if is_tag parts then Ok (tag_with parts) else Err tag.Shape) t h in
     let three = three_say 45 lower x.0 (ok_or_some (three_parts 45 lower) tag.Shape x.0 x.1) in
     let y = if_ok (is_tag x.0) (tag_with x.0) t tag.Shape x.2 in
-    let p = and_both (is_tag_part x.0.0) (is_tag_part x.0.1 && is_tag_part x.0.2) y.0 in
-    let q = and_both (is_tag_part x.0.1) (is_tag_part x.0.2) p.1 in
+    let p = and_parts (is_tag_part x.0.0) (is_tag_part x.0.1 && is_tag_part x.0.2) y.0 in
+    let q = and_parts (is_tag_part x.0.1) (is_tag_part x.0.2) p.1 in
     let it : TagText text (tag_with x.0) = record { whole = three.0; python = p.0; abi = q.0; platform = q.1 } in
     subst (TagText text) y.1 it
 

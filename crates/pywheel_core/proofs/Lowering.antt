@@ -1,6 +1,6 @@
 -- A text in lower case is cut where the text is, and its parts are parts of a tag where those are.
-use Rattle.std.proofs.Common.{◌≡◌, ℕ, ◌+◌, ◌*◌, ◌<◌, ◌≤◌, true, false, ◌==◌, ◌&&◌, nat_lt, List, [], ◌∷◌, length, Option, Some, None, option_map, Result, Ok, Err, refl, sym, ap, ◌∙◌, inl, inr, arith, map, nat_le}
-use Rattle.std.proofs.lemmas.Bool.Decides.{Decides-eqb, nat_tests}
+use Rattle.std.proofs.Common.{◌≡◌, ℕ, ◌+◌, ◌*◌, ◌<◌, true, false, ◌==◌, ◌&&◌, nat_lt, List, [], ◌∷◌, length, Option, Some, None, option_map, Result, Ok, Err, refl, sym, ap, ◌∙◌, inl, inr, arith, map, nat_le}
+use Rattle.std.proofs.lemmas.Bool.Decides.{nat_tests}
 use Rattle.std.proofs.lemmas.List.{length-map}
 use Rattle.std.specs.Char.{to_ascii_lowercase}
 use Rattle.std.specs.List.{list_all, onto_first}
@@ -17,35 +17,15 @@ use Rattle.pywheel_core.specs.declared.error.TagError.TheVariants as tag
 use Rattle.pywheel_core.specs.declared.error.WheelError.{WheelError}
 use Rattle.pywheel_core.specs.declared.error.WheelError.TheVariants as wheel
 use Rattle.pywheel_core.specs.declared.place.Place.{Place}
-use Rattle.pywheel_core.proofs.Cuts.{same_test}
 use Rattle.pywheel_core.proofs.Pieces.{SetStands, TagStands, made_of, set_places, tag_stands, tag_taken}
 
 -- ---- one byte
 
 pub lower_eq : (c b : ℕ) → c < 65 → (to_ascii_lowercase b == c) ≡ (b == c)
-lower_eq c b small = elim (cases_Bool (nat_lt b 65)) [
-  | inl e ↦ rw e refl
-  | inr e ↦
-      let low : 65 ≤ b = grind (arith, nat_tests, e) in
-      elim (cases_Bool (nat_lt b 91)) [
-        | inl f ↦ rw (e, f) (same_test (b + 32 == c) (b == c)
-            (λ t. absurd (let z = (Decides-eqb (b + 32) c).0 t in omega (arith, z, low, small)))
-            (λ t. absurd (let z = (Decides-eqb b c).0 t in omega (arith, z, low, small))))
-        | inr f ↦ rw (e, f) refl
-      ]
-]
+lower_eq c b small = grind (arith, nat_tests, small)
 
 lower_tag_byte : (b : ℕ) → is_word_byte (to_ascii_lowercase b) ≡ is_word_byte b
-lower_tag_byte b = elim (cases_Bool (nat_lt b 65)) [
-  | inl e ↦ rw e refl
-  | inr e ↦ elim (cases_Bool (nat_lt b 91)) [
-    | inl f ↦
-        let x : is_word_byte (b + 32) ≡ true = grind (arith, nat_tests, e, f) in
-        let y : is_word_byte b ≡ true = grind (arith, nat_tests, e, f) in
-        rw (e, f) (x ∙ sym y)
-    | inr f ↦ rw (e, f) refl
-  ]
-]
+lower_tag_byte b = grind (arith, nat_tests)
 
 -- ---- parts
 
@@ -176,16 +156,13 @@ lower_cut_set text s h = lower_three_parts text ∙ ap (option_map lower_set) h
 abbrev pub made_tags : List TagValue → Result (List TagValue) WheelError
 made_tags tags = Ok tags
 
-same_tags : (a b : List TagValue) → made_tags a ≡ made_tags b → a ≡ b
-same_tags a b h = cc
-
 pub set_read : (text lower : List ℕ) (s : TagParts) (tags : List TagValue) → lower ≡ str_to_ascii_lowercase text → three_parts 45 text ≡ Some s → is_tag_set s ≡ true
     → made_tags (tags_in (lower_set s)) ≡ made_tags tags → tag_set_in text ≡ Ok (lower, tags)
 unfolding tag_set_in set_tags_in
 set_read text lower s tags is h ok made =
     let e = lower_cut_set text s h in
     let f = lower_is_set s ∙ ok in
-    rw (e, f) (λ i. Ok (sym is i, same_tags (tags_in (lower_set s)) tags made i))
+    let same : tags_in (lower_set s) ≡ tags = cc in rw (e, f) (λ i. Ok (sym is i, same i))
 
 pub set_refused : (text : List ℕ) (s : TagParts) → three_parts 45 text ≡ Some s → (is_tag_set s ≡ true → ⊥) → tag_set_in text ≡ Err wheel.Tags
 unfolding tag_set_in set_tags_in

@@ -13,7 +13,7 @@ use Rattle.std.specs.Result.{IfErr, IfOk}
 use Rattle.std.specs.Str.{str_to_ascii_lowercase}
 use Rattle.pyver_core.proofs.Lemmas.Version.Complete.Whole.{version_again}
 use Rattle.pytext.proofs.Options.{option_sight}
-use Rattle.std.proofs.lemmas.Bool.{cases_Bool}
+use Rattle.std.proofs.lemmas.Bool.{and_parts, cases_Bool, or_parts}
 use Rattle.pyver_core.proofs.Lemmas.Version.Sound.Parts.{version_takes}
 use Rattle.pyver_core.specs.Version.Grammar.{IsLarge, Spells, has_large, numbers}
 use Rattle.pyver_core.specs.Version.Parts.{Parts}
@@ -34,7 +34,7 @@ use Rattle.pywheel_core.specs.Wheel.Reading.{build_in, name_in, set_tags_in, tag
 use Rattle.pywheel_core.specs.Wheel.Value.{WheelValue, with_build}
 use Rattle.pywheel_core.specs.declared.error.WheelError.{WheelError}
 use Rattle.pywheel_core.specs.declared.error.WheelError.TheVariants as wheel
-use Rattle.pywheel_core.proofs.Cuts.{Lacks, and_both, cut_joined, cut_lacking}
+use Rattle.pywheel_core.proofs.Cuts.{Lacks, cut_joined, cut_lacking}
 use Rattle.pywheel_core.proofs.Lowering.{lower_cut_set, lower_eq}
 use Rattle.pywheel_core.proofs.NamingParts.{parts_made, parts_say}
 use Rattle.pywheel_core.proofs.Pieces.{three_say}
@@ -130,9 +130,9 @@ set_says text t found three h =
 
 set_is : (p a q : List ℕ) (tags : List TagValue) → is_tag_set (p, a, q) ≡ true → tags_in (p, a, q) ≡ tags → IsTagSet (p, a, q) tags
 set_is p a q tags ok made =
-    let x = and_both (has_tag_parts (p, a, q)) (nat_le (tag_count (p, a, q)) TAGS_LIMIT) ok in
-    let y = and_both (are_tag_parts (pieces p)) (are_tag_parts (pieces a) && are_tag_parts (pieces q)) x.0 in
-    let z = and_both (are_tag_parts (pieces a)) (are_tag_parts (pieces q)) y.1 in
+    let x = and_parts (has_tag_parts (p, a, q)) (nat_le (tag_count (p, a, q)) TAGS_LIMIT) ok in
+    let y = and_parts (are_tag_parts (pieces p)) (are_tag_parts (pieces a) && are_tag_parts (pieces q)) x.0 in
+    let z = and_parts (are_tag_parts (pieces a)) (are_tag_parts (pieces q)) y.1 in
     let few = x.1 in
     record { python = y.0; abi = z.0; platform = z.1; few = grind (arith, nat_tests, few); triples = sym made }
 
@@ -190,17 +190,13 @@ wheel_says text w h =
 
 -- ---- and the other way round
 
-neither : (x y : Bool) → (x || y) ≡ false → (x ≡ false) × (y ≡ false)
-neither true y h = absurd (true≢false h)
-neither false y h = (refl, h)
-
 lacks_both : (s t : List ℕ) → Lacks 45 s → Lacks 45 t → Lacks 45 (s ++ t)
 lacks_both [] t x y = y
-lacks_both (b ∷ s) t x y = let n = neither (b == 45) (list_any (λ d. d == 45) s) x in let e = n.0 in rw e (lacks_both s t n.1 y)
+lacks_both (b ∷ s) t x y = let n = or_parts (b == 45) (list_any (λ d. d == 45) s) x in let e = n.0 in rw e (lacks_both s t n.1 y)
 
 bytes_lack : (test : ℕ → Bool) → ((b : ℕ) → test b ≡ true → (b == 45) ≡ false) → (s : List ℕ) → list_all test s ≡ true → Lacks 45 s
 bytes_lack test no_dash [] h = refl
-bytes_lack test no_dash (b ∷ s) h = let p = and_both (test b) (list_all test s) h in let e = no_dash b p.0 in rw e (bytes_lack test no_dash s p.1)
+bytes_lack test no_dash (b ∷ s) h = let p = and_parts (test b) (list_all test s) h in let e = no_dash b p.0 in rw e (bytes_lack test no_dash s p.1)
 
 tag_byte_no_dash : (b : ℕ) → is_word_byte b ≡ true → (b == 45) ≡ false
 tag_byte_no_dash b h = grind (arith, nat_tests, h)
@@ -209,13 +205,13 @@ name_byte_no_dash : (b : ℕ) → is_wheel_name_byte b ≡ true → (b == 45) �
 name_byte_no_dash b h = grind (arith, nat_tests, h)
 
 pub part_lacks : (s : List ℕ) → is_tag_part s ≡ true → Lacks 45 s
-part_lacks s h = bytes_lack is_word_byte tag_byte_no_dash s (and_both (nat_lt 0 (length s)) (list_all is_word_byte s) h).1
+part_lacks s h = bytes_lack is_word_byte tag_byte_no_dash s (and_parts (nat_lt 0 (length s)) (list_all is_word_byte s) h).1
 
 joined_lack : (ps : List (List ℕ)) → are_tag_parts ps ≡ true → Lacks 45 (join_with_byte 46 ps)
 joined_lack [] h = refl
-joined_lack (p ∷ []) h = part_lacks p (and_both (is_tag_part p) true h).0
+joined_lack (p ∷ []) h = part_lacks p (and_parts (is_tag_part p) true h).0
 joined_lack (p ∷ (q ∷ ps)) h =
-    let x = and_both (is_tag_part p) (are_tag_parts (q ∷ ps)) h in
+    let x = and_parts (is_tag_part p) (are_tag_parts (q ∷ ps)) h in
     lacks_both p (46 ∷ join_with_byte 46 (q ∷ ps)) (part_lacks p x.0) (joined_lack (q ∷ ps) x.1)
 
 pieces_lack : (s : List ℕ) → are_tag_parts (pieces s) ≡ true → Lacks 45 s
@@ -265,7 +261,7 @@ wheel_made text name version build tags x =
     let la : Lacks 45 a = sym (lower_lacks a) ∙ pieces_lack (str_to_ascii_lowercase a) x.is_tag_set.abi in
     let lq : Lacks 45 q = sym (lower_lacks q) ∙ pieces_lack (str_to_ascii_lowercase q) x.is_tag_set.platform in
     let ln : Lacks 45 name = bytes_lack is_wheel_name_byte name_byte_no_dash name
-    (and_both (nat_lt 0 (length name)) (list_all is_wheel_name_byte name) (and_both (nat_lt 0 (length name) && list_all is_wheel_name_byte name) (not (has_pair 95 name)) x.is_name).0).1 in
+    (and_parts (nat_lt 0 (length name)) (list_all is_wheel_name_byte name) (and_parts (nat_lt 0 (length name) && list_all is_wheel_name_byte name) (not (has_pair 95 name)) x.is_name).0).1 in
     let stem = name ++ (45 ∷ (x.spelling ++ (45 ∷ with_build build set))) in
     let parts : WheelParts = record { name = name; version = x.spelling; build = build; tag_set = set } in
     let e1 : stem_of text ≡ Some stem = ap stem_of (x.whole ∙ ap (λ l. l ++ codes ".whl") (joined_is name x.spelling build p a q)) ∙ stem_joined stem in

@@ -12,6 +12,7 @@ use Rattle.std.proofs.lemmas.Simd.{map-map}
 use Rattle.std.proofs.lemmas.List.Elements.{All-cons}
 use Rattle.std.proofs.lemmas.List.Folds.{flat_map-map, list_all-append}
 use Rattle.std.proofs.lemmas.List.Splits.{join_with_byte-slice_split, length-slice_split}
+use Rattle.std.proofs.lemmas.Bool.{and_parts}
 use Rattle.pytext.proofs.Options.{option_sight}
 use Rattle.pywheel_core.specs.Inner.Places.{AreWithin, IsAsciiText, IsWithin, at, places_from, places_of, tag_at}
 use Rattle.pytext.specs.Bytes.{is_word_byte}
@@ -19,7 +20,7 @@ use Rattle.pywheel_core.specs.Tag.{TagParts, are_tag_parts, has_tag_parts, is_ta
 use Rattle.pywheel_core.specs.Texts.{cut_at, three_parts}
 use Rattle.pywheel_core.specs.declared.error.WheelError.{WheelError}
 use Rattle.pywheel_core.specs.declared.place.Place.{Place}
-use Rattle.pywheel_core.proofs.Cuts.{Lacks, and_both, cut_says, no_cut_says}
+use Rattle.pywheel_core.proofs.Cuts.{Lacks, cut_says, no_cut_says}
 
 -- ---- a piece at its place
 
@@ -53,12 +54,6 @@ pieces_stand text front (p ∷ (q ∷ ps)) back start e h =
       (λ i. at_front text front p ((46 ∷ rest) ++ back) start e whole i ∷ others.0 i),
       All-cons (IsWithin text) (record { start = start; end = start + length p }) (places_from (start + length p + 1) (q ∷ ps)) (within_front text front p ((46 ∷ rest) ++ back) start e whole) others.1,
     )
-
--- the pieces of a part that stands in the text
-pub part_stands : (text front part back : List ℕ) (start : ℕ) → start ≡ length front → text ≡ front ++ (part ++ back)
-    → (map (at text) (places_from start (pieces part)) ≡ pieces part) × AreWithin text (places_from start (pieces part))
-part_stands text front part back start e h =
-    pieces_stand text front (pieces part) back start e (h ∙ ap (λ l. front ++ (l ++ back)) (sym (join_with_byte-slice_split 46 part)))
 
 -- the whole part at its place
 pub whole_stands : (text front part back : List ℕ) (start : ℕ) → start ≡ length front → text ≡ front ++ (part ++ back)
@@ -95,20 +90,20 @@ tag_byte_ascii b h = grind (arith, nat_tests)
 bytes_ascii : (s : List ℕ) → list_all is_word_byte s ≡ true → IsAsciiText s
 bytes_ascii [] h = refl
 bytes_ascii (b ∷ s) h =
-    let p = and_both (is_word_byte b) (list_all is_word_byte s) h in
+    let p = and_parts (is_word_byte b) (list_all is_word_byte s) h in
     let e = tag_byte_ascii b p.0 in rw e (bytes_ascii s p.1)
 
 pub part_ascii : (s : List ℕ) → is_tag_part s ≡ true → IsAsciiText s
-part_ascii s h = bytes_ascii s (and_both _ (list_all is_word_byte s) h).1
+part_ascii s h = bytes_ascii s (and_parts _ (list_all is_word_byte s) h).1
 
 both_ascii : (s t : List ℕ) → IsAsciiText s → IsAsciiText t → IsAsciiText (s ++ t)
 both_ascii s t h g = list_all-append is_ascii s t ∙ rw (h, g) refl
 
 joined_ascii : (ps : List (List ℕ)) → are_tag_parts ps ≡ true → IsAsciiText (join_with_byte 46 ps)
 joined_ascii [] h = refl
-joined_ascii (p ∷ []) h = part_ascii p (and_both (is_tag_part p) true h).0
+joined_ascii (p ∷ []) h = part_ascii p (and_parts (is_tag_part p) true h).0
 joined_ascii (p ∷ (q ∷ ps)) h =
-    let x = and_both (is_tag_part p) (are_tag_parts (q ∷ ps)) h in
+    let x = and_parts (is_tag_part p) (are_tag_parts (q ∷ ps)) h in
     both_ascii p (46 ∷ join_with_byte 46 (q ∷ ps)) (part_ascii p x.0) (joined_ascii (q ∷ ps) x.1)
 
 pub pieces_ascii : (s : List ℕ) → are_tag_parts (pieces s) ≡ true → IsAsciiText s
@@ -155,16 +150,18 @@ pub record SetStands (text : List ℕ) (s : TagParts) (pythons abis platforms : 
   pub platforms_within : AreWithin text platforms
   pub tags : flat_map (λ p. flat_map (λ a. map (λ q. tag_at text p a q) platforms) abis) pythons ≡ tags_in s
 
-pub part_placed : (text part : List ℕ) (start : ℕ) → Stands text part start
+-- the pieces of a part that stands in the text
+part_placed : (text part : List ℕ) (start : ℕ) → Stands text part start
     → (map (at text) (places_from start (pieces part)) ≡ pieces part) × AreWithin text (places_from start (pieces part))
-part_placed text part start x = part_stands text x.0 part x.1 start x.2 x.3
+part_placed text part start (front, back, e, h) =
+    pieces_stand text front (pieces part) back start e (h ∙ ap (λ l. front ++ (l ++ back)) (sym (join_with_byte-slice_split 46 part)))
 
 pub set_stands : (text : List ℕ) (s : TagParts) → three_parts 45 text ≡ Some s → is_tag_set s ≡ true
     → SetStands text s (places_from 0 (pieces s.0)) (places_from (length s.0 + 1) (pieces s.1)) (places_from (length s.0 + 1 + length s.1 + 1) (pieces s.2))
 set_stands text s h ok =
-    let all = (and_both (has_tag_parts s) _ ok).0 in
-    let x = and_both (are_tag_parts (pieces s.0)) (are_tag_parts (pieces s.1) && are_tag_parts (pieces s.2)) all in
-    let y = and_both (are_tag_parts (pieces s.1)) (are_tag_parts (pieces s.2)) x.1 in
+    let all = (and_parts (has_tag_parts s) _ ok).0 in
+    let x = and_parts (are_tag_parts (pieces s.0)) (are_tag_parts (pieces s.1) && are_tag_parts (pieces s.2)) all in
+    let y = and_parts (are_tag_parts (pieces s.1)) (are_tag_parts (pieces s.2)) x.1 in
     let stand = three_stand text s h in
     let python = part_placed text s.0 0 stand.0 in
     let abi = part_placed text s.1 (length s.0 + 1) stand.1 in
@@ -222,8 +219,8 @@ pub record TagStands (text : List ℕ) (s : TagParts) (x : Place × Place × Pla
 
 tag_stands_at : (text : List ℕ) (s : TagParts) → three_parts 45 text ≡ Some s → is_tag s ≡ true → TagStands text s (places_of s)
 tag_stands_at text s h ok =
-    let x = and_both (is_tag_part s.0) (is_tag_part s.1 && is_tag_part s.2) ok in
-    let y = and_both (is_tag_part s.1) (is_tag_part s.2) x.1 in
+    let x = and_parts (is_tag_part s.0) (is_tag_part s.1 && is_tag_part s.2) ok in
+    let y = and_parts (is_tag_part s.1) (is_tag_part s.2) x.1 in
     let stand = three_stand text s h in
     let P : ℕ → Type 0 = λ n. (at text (record { start = 0; end = n }) ≡ s.0) × IsWithin text (record { start = 0; end = n }) in
     let none : 0 + length s.0 ≡ length s.0 = omega arith in

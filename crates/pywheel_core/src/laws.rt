@@ -19,6 +19,7 @@ pub fn tag_of_is_the_answer()
 {}
 
 /// No two tags of a list are equal: each has one rank.
+#[tactic(auto, using(crate::proofs::Listing::distinct))]
 pub fn tags_are_distinct()
     ensures { (texts : List (List ℕ)) (tags : List TagValue)
         → tags_of texts ≡ Ok tags → IsDistinct tag_eq tags }
@@ -26,6 +27,7 @@ pub fn tags_are_distinct()
 
 /// What [`TagList::parse`](crate::TagList::parse) answers: the tags of the texts, each once, in the
 /// order of their first places; or the place of the first text that is no tag.
+#[tactic(auto, using(crate::proofs::Firsts::firsts, crate::proofs::Firsts::refused))]
 pub fn tags_of_is_the_answer()
     ensures tags { (texts : List (List ℕ)) (tags : List TagValue) → tags_of texts ≡ Ok tags
         → (given : List TagValue) × AreTags texts given × AreFirsts given tags }
@@ -34,6 +36,7 @@ pub fn tags_of_is_the_answer()
 {}
 
 /// The tag of the first text has the rank 0.
+#[tactic(auto, using(crate::proofs::Listing::first))]
 pub fn first_tag_ranks_first()
     ensures { (text : List ℕ) (texts : List (List ℕ)) (t : TagValue) (tags : List TagValue)
         → tag_of text ≡ Ok t → tags_of (text ∷ texts) ≡ Ok tags → rank_of t tags ≡ Some 0 }
@@ -41,6 +44,7 @@ pub fn first_tag_ranks_first()
 
 /// Among some wheels there is one best place, or none: the one that [`choose`](crate::choose)
 /// answers.
+#[tactic(auto, using(crate::proofs::Best::is_best, crate::proofs::Best::best_is_one))]
 pub fn one_best_wheel()
     ensures stands { (wheels : List (Option WheelValue)) (tags : List TagValue)
         → IsBest wheels tags (best wheels tags) }
@@ -49,12 +53,14 @@ pub fn one_best_wheel()
 {}
 
 /// What [`WheelName::parse`](crate::WheelName::parse) reads, the text says as the name of a wheel.
+#[tactic(auto, using(crate::proofs::Naming::wheel_says))]
 pub fn wheel_of_is_the_answer()
     ensures { (text : List ℕ) (w : WheelValue)
         → wheel_of text ≡ Ok w → Wheel text w.name w.version w.build w.tags }
 {}
 
 /// What a text says as the name of a wheel, [`WheelName::parse`](crate::WheelName::parse) reads.
+#[tactic(auto, using(crate::proofs::Naming::wheel_made))]
 pub fn wheel_of_is_complete()
     ensures { (text name : List ℕ) (version : Parts) (build : Option (List ℕ))
         (tags : List TagValue)
@@ -68,6 +74,7 @@ pub fn wheel_of_is_complete()
 {}
 
 /// The tags of a wheel are those for which its compressed tag set stands.
+#[tactic(auto, using(crate::proofs::WheelTags::set_has_tags))]
 pub fn tag_set_has_the_tags()
     ensures { (text : List ℕ) (w : WheelValue)
         → wheel_of text ≡ Ok w → set_tags_in w.tag_set ≡ Ok w.tags }

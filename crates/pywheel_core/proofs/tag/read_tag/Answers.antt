@@ -17,25 +17,11 @@ returns-then-not-is_tag c =
 pub places-requires : goal.places-requires
 places-requires c = three_length c.args.text.now (set_of c.in-Some.parts) (sym c.in-Some.ensures)
 
-pub new-requires-clause-ascii : goal.new-requires-clause-ascii
-new-requires-clause-ascii c =
+pub new-requires : goal.new-requires
+new-requires c =
     let ok : is_tag (set_of c.in-Some.parts) ≡ true = cc in
-    (tag_lowered c.args.text.now (rc_str_bytes c.in_ok-lower.lower) (set_of c.in-Some.parts) c.places.result c.in_ok-lower.ensures (sym c.in-Some.ensures) ok c.places.ensures).0.ascii
-
-pub new-requires-clause-python : goal.new-requires-clause-python
-new-requires-clause-python c =
-    let ok : is_tag (set_of c.in-Some.parts) ≡ true = cc in
-    (tag_lowered c.args.text.now (rc_str_bytes c.in_ok-lower.lower) (set_of c.in-Some.parts) c.places.result c.in_ok-lower.ensures (sym c.in-Some.ensures) ok c.places.ensures).0.python
-
-pub new-requires-clause-abi : goal.new-requires-clause-abi
-new-requires-clause-abi c =
-    let ok : is_tag (set_of c.in-Some.parts) ≡ true = cc in
-    (tag_lowered c.args.text.now (rc_str_bytes c.in_ok-lower.lower) (set_of c.in-Some.parts) c.places.result c.in_ok-lower.ensures (sym c.in-Some.ensures) ok c.places.ensures).0.abi
-
-pub new-requires-clause-platform : goal.new-requires-clause-platform
-new-requires-clause-platform c =
-    let ok : is_tag (set_of c.in-Some.parts) ≡ true = cc in
-    (tag_lowered c.args.text.now (rc_str_bytes c.in_ok-lower.lower) (set_of c.in-Some.parts) c.places.result c.in_ok-lower.ensures (sym c.in-Some.ensures) ok c.places.ensures).0.platform
+    let x = (tag_lowered c.args.text.now (rc_str_bytes c.in_ok-lower.lower) (set_of c.in-Some.parts) c.places.result c.in_ok-lower.ensures (sym c.in-Some.ensures) ok c.places.ensures).0 in
+    record { ascii = x.ascii; python = x.python; abi = x.abi; platform = x.platform }
 
 pub returns : goal.returns
 returns c =

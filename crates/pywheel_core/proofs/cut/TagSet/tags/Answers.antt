@@ -17,17 +17,16 @@ stands c = set_lowered c.args.text.now (rc_str_bytes c.args.lower.now) (set_of c
 pub places-requires : goal.places-requires
 places-requires c = three_length c.args.text.now (set_of c.args.self.now) c.requires.whole
 
-pub push_tags-requires-clause-ascii : goal.push_tags-requires-clause-ascii
-push_tags-requires-clause-ascii c = (stands c).ascii
-
-pub push_tags-requires-clause-pythons : goal.push_tags-requires-clause-pythons
-push_tags-requires-clause-pythons c = subst (AreWithin (rc_str_bytes c.args.lower.now)) (sym c.as_slice.ensures) (stands c).pythons_within
-
-pub push_tags-requires-clause-abis : goal.push_tags-requires-clause-abis
-push_tags-requires-clause-abis c = subst (AreWithin (rc_str_bytes c.args.lower.now)) (sym c.as_slice-2.ensures) (stands c).abis_within
-
-pub push_tags-requires-clause-platforms : goal.push_tags-requires-clause-platforms
-push_tags-requires-clause-platforms c = subst (AreWithin (rc_str_bytes c.args.lower.now)) (sym c.as_slice-3.ensures) (stands c).platforms_within
+pub push_tags-requires : goal.push_tags-requires
+push_tags-requires c =
+    let x = stands c in
+    let text = rc_str_bytes c.args.lower.now in
+    record {
+      ascii = x.ascii;
+      pythons = subst (AreWithin text) (sym c.as_slice.ensures) x.pythons_within;
+      abis = subst (AreWithin text) (sym c.as_slice-2.ensures) x.abis_within;
+      platforms = subst (AreWithin text) (sym c.as_slice-3.ensures) x.platforms_within;
+    }
 
 pub returns : goal.returns
 returns c =
