@@ -3,7 +3,8 @@ use Rattle.std.proofs.Common.{◌≡◌, ℕ, ◌+◌, ◌≤◌, ◌<◌, ◌-�
 use Rattle.std.proofs.lemmas.List.{take_all, length-take-le, length-take, take_more, get_or-take, take_min}
 use Rattle.std.proofs.lemmas.List.Quantifiers.{position-Some}
 use Rattle.std.specs.List.{position, position_or_len}
-use Rattle.std.proofs.lemmas.Bool.{cases_lt, lt-ltb, le-ltb, eqb-true, false≢true}
+use Rattle.std.proofs.Math.Bool.{or-false, or_assoc}
+use Rattle.std.proofs.lemmas.Bool.{cases_lt, lt-ltb, le-ltb, eqb-true, not-true}
 use Rattle.std.proofs.lemmas.List.Sums.{prefix_len_passes}
 use Rattle.std.specs.Result.{is_err, result_unwrap_or}
 use Rattle.pylock_core.specs.Session.State.{State}
@@ -109,16 +110,8 @@ pub record Edits (at last : At) (text : List ℕ) (lines : List (List ℕ)) : Ty
   pub refused : last.refused ≡ (at.refused || any_refused at.state lines)
   pub ended : last.ended ≡ at.ended + length lines
 
-or-false : (b : Bool) → b ≡ (b || false)
-or-false true = refl
-or-false false = refl
-
-or_assoc : (a b c : Bool) → ((a || b) || c) ≡ (a || (b || c))
-or_assoc true b c = refl
-or_assoc false b c = refl
-
 Edits-none : (at : At) → Edits at at [] []
-Edits-none at = record { prints = refl; state = refl; refused = or-false at.refused; ended = omega arith }
+Edits-none at = record { prints = refl; state = refl; refused = sym (or-false at.refused); ended = omega arith }
 
 prints-more : (at : At) (line text : List ℕ) (lines : List (List ℕ)) → at.line ≡ kept line
     → text ≡ lines_text (end_line at).state ((end_line at).ended + 1) lines → end_text at ++ text ≡ lines_text at.state (at.ended + 1) (line ∷ lines)
@@ -281,12 +274,8 @@ part_text at (b ∷ bytes) part =
     ap (λ t. cond t (end_text at ++ bytes_text (end_line at) bytes) (bytes_text (keep_byte at b) bytes)) (part 0 (omega arith))
     ∙ part_text (keep_byte at b) bytes (λ k below. part (suc k) (omega arith))
 
-is_false : (b : Bool) → not b ≡ true → b ≡ false
-is_false true e = absurd (false≢true e)
-is_false false e = refl
-
 before_lf : (bytes : List ℕ) (k : ℕ) → k < position_or_len is_lf bytes → (get_or bytes k 0 == 10) ≡ false
-before_lf bytes k below = is_false (is_lf (get_or bytes k 0)) (prefix_len_passes (λ b. not (is_lf b)) bytes k 0 below)
+before_lf bytes k below = not-true (is_lf (get_or bytes k 0)) (prefix_len_passes (λ b. not (is_lf b)) bytes k 0 below)
 
 none≢some : {n : ℕ} → None ≡ Some n → ⊥
 none≢some e = cc
@@ -315,9 +304,6 @@ record UpToLf (bytes : List ℕ) (n : ℕ) : Type 0 where
   pub part : IsPart (take n bytes)
   pub whole : take (n + 1) bytes ≡ take n bytes ++ 10 ∷ []
 
-is_lf-true : (b : ℕ) → is_lf b ≡ true → b ≡ 10
-is_lf-true b e = eqb-true b 10 e
-
 UpToLf-some : (bytes : List ℕ) (n : ℕ) → position is_lf bytes ≡ Some n → UpToLf bytes n
 unfolding IsPart
 UpToLf-some bytes n some =
@@ -328,7 +314,7 @@ UpToLf-some bytes n some =
       part = λ k below.
           let less : k < n = (let size = length-take n bytes in omega arith) in
           ap (λ b. b == 10) (get_or-take n bytes k 0 less) ∙ found.2 k less;
-      whole = take_more bytes n 0 found.0 ∙ ap (λ b. take n bytes ++ b ∷ []) (is_lf-true _ found.1);
+      whole = take_more bytes n 0 found.0 ∙ ap (λ b. take n bytes ++ b ∷ []) (eqb-true (get_or bytes n 0) 10 found.1);
     }
 
 pub line_done : (at : At) (bytes : List ℕ) (n : ℕ) → position is_lf bytes ≡ Some n → kept at.line ≡ at.line

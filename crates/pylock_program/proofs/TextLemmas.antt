@@ -1,8 +1,9 @@
 -- Lemmas on the printed text.
-use Rattle.std.proofs.Common.{◌≡◌, ℕ, List, [], ◌∷◌, ◌++◌, Bool, true, false, cond, Some, refl, ap, sym, ◌∙◌, append_assoc, append-nil, map, eqb, ◌&&◌}
+use Rattle.std.proofs.Common.{◌≡◌, ℕ, List, [], ◌∷◌, ◌++◌, false, cond, Some, refl, ap, sym, ◌∙◌, append_assoc, append-nil, map, eqb, ◌&&◌}
 use Rattle.std.specs.List.{join_with_byte}
 use Rattle.std.specs.Str.{bytes_eq}
 use Rattle.std.specs.Prelude.{codes}
+use Rattle.std.proofs.Math.Bool.{and-false}
 use Rattle.std.proofs.lemmas.List.Concat.{flat_map-append}
 use Rattle.pylock_program.specs.Text.Field.{escape, escaped, field}
 use Rattle.pylock_program.specs.Text.Plan.{hash_text, hashes_text}
@@ -16,10 +17,6 @@ use Rattle.pylock_core.specs.declared.answer.PickSource.TheVariants as source
 use Rattle.pylock_program.specs.Inner.Picked.{picked_fields}
 use Rattle.pylock_program.specs.Text.Plan.{vcs_fields, directory_fields, archive_fields, file_fields, source_fields}
 use Rattle.std.specs.Prelude.{slice_get}
-
-and-false : (b : Bool) → (b && false) ≡ false
-and-false true = refl
-and-false false = refl
 
 -- a text with another mark in it is not `-`
 not_dash : (mark : ℕ) (front rest : List ℕ) → eqb mark 45 ≡ false → bytes_eq (front ++ mark ∷ rest) (45 ∷ []) ≡ false
