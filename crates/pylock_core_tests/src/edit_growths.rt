@@ -9,18 +9,12 @@ use pywheel_core::TagList;
 use std::alloc::{AllocError, Global};
 use std::process::Abort;
 
-/// What a session shows: the numbers judged last, the name of the entry of each number, `-` where
-/// none is, and the answer.
-type Shown = (&'static [u32], [&'static str; 4], &'static str);
+/// What a session shows: the numbers judged last, a digit each; the name of the entry of each
+/// number, a letter each, `-` where none is; and the answer.
+type Shown = (&'static str, &'static str, &'static str);
 
 /// An edit as a word, a number and a text, and what the session shows after it.
 type Step = (&'static str, u32, &'static str, Shown);
-
-const THREE: [&str; 4] = ["a", "b", "c", "-"];
-
-const FOUR: [&str; 4] = ["a", "b", "c", "d"];
-
-const LAST_PUT: [&str; 4] = ["a", "b", "c", "e"];
 
 /// A session: the lines of its lock, the members of its environment and its tags, and what it shows
 /// at its start.
@@ -30,7 +24,7 @@ const SOURCES: Start = (
     LINES,
     MEMBERS,
     "\"py3-none-any\"",
-    (&[0, 1, 2, 3], THREE, "plan 1 Wheel(0)"),
+    ("0123", "abc-", "plan 1 Wheel(0)"),
 );
 
 /// Its head reads `python_full_version`.
@@ -43,7 +37,7 @@ const ASKED: Start = (
     directory={path=\"c\"}}]",
     MEMBERS,
     "",
-    (&[0, 1, 2, 3], THREE, "plan 1 Directory"),
+    ("0123", "abc-", "plan 1 Directory"),
 );
 
 const LINES: &str = "extras = [\"x\"]\ndependency-groups = [\"dev\"]\npackages = [\
@@ -54,99 +48,52 @@ const LINES: &str = "extras = [\"x\"]\ndependency-groups = [\"dev\"]\npackages =
 
 const MEMBERS: &str = "\"os_name\":\"posix\",\"python_full_version\":\"3.12.0\"";
 
-/// Each kind of edit, each after those before it.
-const STEPS: [Step; 14] = [
-    (
-        "extra",
-        0,
-        "x",
-        (&[2], THREE, "plan 1 Wheel(0) 2 Directory"),
-    ),
-    (
-        "group",
-        0,
-        "dev",
-        (&[3], THREE, "plan 1 Wheel(0) 2 Directory 3 Directory"),
-    ),
-    (
-        "python_full_version",
-        0,
-        "3.8",
-        (&[3], THREE, "fault 3 PythonNotMet"),
-    ),
-    (
-        "unset python_full_version",
-        0,
-        "",
-        (&[3], THREE, "fault 3 PythonUnknown"),
-    ),
-    (
-        "drop group",
-        0,
-        "dev",
-        (&[3], THREE, "plan 1 Wheel(0) 2 Directory"),
-    ),
-    ("tags", 0, "", (&[1], THREE, "plan 1 Sdist 2 Directory")),
-    ("wheel", 0, "A", (&[1], THREE, "fault 1 NoFile")),
-    ("source", 0, "a", (&[1], THREE, "plan 1 Sdist 2 Directory")),
-    ("wheel", 0, "zz", (&[], THREE, "plan 1 Sdist 2 Directory")),
-    (
-        "add",
-        0,
-        "{name=\"d\", directory={path=\"d\"}}",
-        (&[4], FOUR, "plan 1 Sdist 2 Directory 4 Directory"),
-    ),
-    (
-        "put",
-        4,
-        "{name=\"e\", marker=\"os_name == 'nt'\", vcs={type=\"git\", commit-id=\"f\", url=\"u\"}}",
-        (&[4], LAST_PUT, "plan 1 Sdist 2 Directory"),
-    ),
-    (
-        "os_name",
-        0,
-        "nt",
-        (&[4], LAST_PUT, "plan 1 Sdist 2 Directory 4 Vcs"),
-    ),
-    ("drop extra", 0, "x", (&[2], LAST_PUT, "plan 1 Sdist 4 Vcs")),
-    ("del", 4, "", (&[], THREE, "plan 1 Sdist")),
-];
+/// Each kind of edit, each after those before it: a step a line, its parts between bars. One text
+/// takes the prover less time than a table of many.
+const STEPS: &str = "\
+    extra|0|x|2|abc-|plan 1 Wheel(0) 2 Directory\n\
+    group|0|dev|3|abc-|plan 1 Wheel(0) 2 Directory 3 Directory\n\
+    python_full_version|0|3.8|3|abc-|fault 3 PythonNotMet\n\
+    unset python_full_version|0||3|abc-|fault 3 PythonUnknown\n\
+    drop group|0|dev|3|abc-|plan 1 Wheel(0) 2 Directory\n\
+    tags|0||1|abc-|plan 1 Sdist 2 Directory\n\
+    wheel|0|A|1|abc-|fault 1 NoFile\n\
+    source|0|a|1|abc-|plan 1 Sdist 2 Directory\n\
+    wheel|0|zz||abc-|plan 1 Sdist 2 Directory\n\
+    add|0|{name=\"d\", directory={path=\"d\"}}|4|abcd|plan 1 Sdist 2 Directory 4 Directory\n\
+    put|4|{name=\"e\", marker=\"os_name == 'nt'\", \
+    vcs={type=\"git\", commit-id=\"f\", url=\"u\"}}|4|abce|plan 1 Sdist 2 Directory\n\
+    os_name|0|nt|4|abce|plan 1 Sdist 2 Directory 4 Vcs\n\
+    drop extra|0|x|2|abce|plan 1 Sdist 4 Vcs\n\
+    del|4|||abc-|plan 1 Sdist";
 
 /// Edits where an extra and a group are asked for.
-const ASKED_STEPS: [Step; 10] = [
-    (
-        "extra",
-        0,
-        "x",
-        (&[2], THREE, "plan 1 Directory 2 Directory"),
-    ),
-    ("group", 0, "g", (&[3], THREE, ALL)),
-    ("python_full_version", 0, "3.13.0", (&[0, 3], THREE, ALL)),
-    (
-        "python_full_version",
-        0,
-        "3.8.1",
-        (&[0, 3], THREE, "fault 0 PythonNotMet"),
-    ),
-    (
-        "unset python_full_version",
-        0,
-        "",
-        (&[0, 3], THREE, "fault 0 PythonUnknown"),
-    ),
-    ("python_full_version", 0, "3.9", (&[0, 3], THREE, ALL)),
-    (
-        "os_name",
-        0,
-        "nt",
-        (&[1], THREE, "plan 2 Directory 3 Directory"),
-    ),
-    ("drop extra", 0, "X", (&[2], THREE, "plan 3 Directory")),
-    ("drop group", 0, "G", (&[3], THREE, "plan")),
-    ("del", 1, "", (&[], ["-", "b", "c", "-"], "plan")),
-];
+const ASKED_STEPS: &str = "\
+    extra|0|x|2|abc-|plan 1 Directory 2 Directory\n\
+    group|0|g|3|abc-|plan 1 Directory 2 Directory 3 Directory\n\
+    python_full_version|0|3.13.0|03|abc-|plan 1 Directory 2 Directory 3 Directory\n\
+    python_full_version|0|3.8.1|03|abc-|fault 0 PythonNotMet\n\
+    unset python_full_version|0||03|abc-|fault 0 PythonUnknown\n\
+    python_full_version|0|3.9|03|abc-|plan 1 Directory 2 Directory 3 Directory\n\
+    os_name|0|nt|1|abc-|plan 2 Directory 3 Directory\n\
+    drop extra|0|X|2|abc-|plan 3 Directory\n\
+    drop group|0|G|3|abc-|plan\n\
+    del|1|||-bc-|plan";
 
-const ALL: &str = "plan 1 Directory 2 Directory 3 Directory";
+/// What the parts say that a session shows.
+fn shown(parts: &'static str) -> Option<Shown> {
+    let (judged, rest) = parts.split_once('|')?;
+    let (names, answer) = rest.split_once('|')?;
+    Some((judged, names, answer))
+}
+
+/// The step of a line.
+fn step(line: &'static str) -> Option<Step> {
+    let (word, rest) = line.split_once('|')?;
+    let (number, rest) = rest.split_once('|')?;
+    let (text, rest) = rest.split_once('|')?;
+    Some((word, number.parse().ok()?, text, shown(rest)?))
+}
 
 /// Whether the session's answer, where memory allows one, is this.
 fn answers(alloc: Global, session: &Session, wanted: &str) -> bool {
@@ -156,24 +103,39 @@ fn answers(alloc: Global, session: &Session, wanted: &str) -> bool {
     }
 }
 
-/// Whether the entry of the number has this name, or `-` stands for none.
-fn is_named(session: &Session, number: u32, name: &str) -> bool {
-    session.entry(number).map_or("-", Entry::name) == name
+/// Whether the name of the number's entry is this letter, or `-` stands for none.
+fn is_named(session: &Session, number: u32, letter: u8) -> bool {
+    let name = session.entry(number).map_or("-", Entry::name);
+    matches!(name.as_bytes(), [only] if *only == letter)
 }
 
 /// Whether the entries of the first four numbers have these names.
-fn are_entries(session: &Session, names: [&str; 4]) -> bool {
-    let [first, second, third, fourth] = names;
-    is_named(session, 1, first)
-        && is_named(session, 2, second)
-        && is_named(session, 3, third)
-        && is_named(session, 4, fourth)
+fn are_entries(session: &Session, names: &str) -> bool {
+    let [first, second, third, fourth] = names.as_bytes() else {
+        return false;
+    };
+    is_named(session, 1, *first)
+        && is_named(session, 2, *second)
+        && is_named(session, 3, *third)
+        && is_named(session, 4, *fourth)
+}
+
+/// Whether the numbers are these digits.
+fn are_digits(numbers: &[u32], digits: &str) -> bool {
+    for (number, digit) in numbers.iter().zip(digits.as_bytes().iter()) {
+        if *number != u32::from(digit.wrapping_sub(b'0')) {
+            return false;
+        }
+    }
+    numbers.len() == digits.len()
 }
 
 /// Whether the session shows this.
 fn shows(alloc: Global, session: &Session, wanted: Shown) -> bool {
     let (judged, names, answer) = wanted;
-    session.judged() == judged && are_entries(session, names) && answers(alloc, session, answer)
+    are_digits(session.judged(), judged)
+        && are_entries(session, names)
+        && answers(alloc, session, answer)
 }
 
 /// The edit of a step that has a name or a text, where memory allows it; none for a wrong word.
@@ -229,16 +191,29 @@ fn is_whole(alloc: Global, session: &mut Session, step: Step, before: Shown) -> 
     made == Some(step.3.0.len() as u64) && shows(alloc, session, step.3)
 }
 
+fn check_step<R: Abort + AllocGlobal>(
+    rt: &R,
+    session: &mut Session,
+    line: &'static str,
+    before: Shown,
+) -> Shown {
+    let Some(step) = step(line) else {
+        assert!(rt; false, "{line}");
+        return before;
+    };
+    assert!(rt; is_whole(rt.alloc(), session, step, before), "{line}");
+    step.3
+}
+
 fn check_steps<R: Abort + AllocGlobal>(
     rt: &R,
     session: &mut Session,
     start: Shown,
-    steps: &[Step],
+    steps: &'static str,
 ) {
     let mut before = start;
-    for step in steps.iter().copied() {
-        assert!(rt; is_whole(rt.alloc(), session, step, before), "{}", step.0);
-        before = step.3;
+    for line in steps.lines() {
+        before = check_step(rt, session, line, before);
     }
 }
 
@@ -257,7 +232,7 @@ fn is_started(alloc: Global, start: Start) -> bool {
 }
 
 /// Makes the steps in the session, where memory allows one.
-fn check_session<R: Abort + AllocGlobal>(rt: &R, start: Start, steps: &[Step]) {
+fn check_session<R: Abort + AllocGlobal>(rt: &R, start: Start, steps: &'static str) {
     if let Some(mut session) = started(rt.alloc(), start) {
         check_steps(rt, &mut session, start.3, steps);
     }
@@ -265,10 +240,10 @@ fn check_session<R: Abort + AllocGlobal>(rt: &R, start: Start, steps: &[Step]) {
 
 #[test]
 fn every_kind_of_edit_is_whole(rt: HostRuntime) {
-    check_session(&rt, SOURCES, &STEPS);
+    check_session(&rt, SOURCES, STEPS);
 }
 
 #[test]
 fn edits_are_whole_where_names_are_asked_for(rt: HostRuntime) {
-    check_session(&rt, ASKED, &ASKED_STEPS);
+    check_session(&rt, ASKED, ASKED_STEPS);
 }
