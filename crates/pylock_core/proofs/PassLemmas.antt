@@ -1,18 +1,14 @@
 -- Lemmas on the installation steps over rows, row by row.
-use Rattle.std.proofs.Common.{◌≡◌, ℕ, zero, suc, ◌+◌, ◌<◌, Bool, true, false, ◌||◌, nat_eq, List, [], ◌∷◌, ◌++◌, length, drop, get_or, Option, Some, None, Result, Ok, Err, cond, ◌∙◌, ap, refl, sym, append_assoc, arith}
+use Rattle.std.proofs.Common.{◌≡◌, ℕ, zero, suc, ◌+◌, ◌<◌, Bool, true, false, ◌||◌, nat_eq, List, [], ◌∷◌, ◌++◌, length, drop, get_or, Option, Some, None, Result, Ok, Err, cond, ◌∙◌, ap, refl, sym, arith}
 use Rattle.std.proofs.lemmas.List.{drop_more}
-use Rattle.pylock_core.specs.Inner.Pass.{AreSlated, active_rows, and_row, checked_standing, conflict_among, fault_in, has_number, is_active, numbered, pick_rows, put_row, row_at, row_source, row_standing, slate_rows, slated_after}
+use Rattle.pylock_core.specs.Inner.Pass.{AreSlated, active_rows, and_row, checked_standing, conflict_among, fault_in, has_number, numbered, pick_rows, put_row, row_at, row_standing, slate_rows, slated_after}
 use Rattle.pylock_core.specs.Inner.Parts.{OfRows}
 use Rattle.pylock_core.specs.Inner.Rows.{in_rows}
 use Rattle.pylock_core.specs.Session.Judgement.{numbers_where}
 use Rattle.pylock_readers.specs.Entry.{EntryValue}
-use Rattle.pylock_core.specs.Session.Steps.{FirstFault, answer_by, by_standing, pick_before}
-use Rattle.pylock_core.specs.Inner.Names.{policy_at}
-use Rattle.pylock_core.specs.declared.answer.Answer.TheVariants.{Fault}
+use Rattle.pylock_core.specs.Session.Steps.{FirstFault, by_standing}
 use Rattle.pylock_core.specs.declared.answer.FaultCode.{FaultCode}
-use Rattle.pylock_core.specs.declared.answer.FaultCode.TheVariants.{NoFile}
 use Rattle.pylock_core.specs.declared.answer.Pick.{Pick}
-use Rattle.pylock_core.specs.declared.answer.PickSource.{PickSource}
 use Rattle.pylock_core.specs.declared.answer.Standing.{Standing}
 use Rattle.pylock_core.specs.declared.answer.Standing.TheVariants.{Skipped, Faulty, Active}
 use Rattle.pylock_core.specs.declared.edit.Policy.{Policy}

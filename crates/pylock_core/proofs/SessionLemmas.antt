@@ -115,7 +115,6 @@ session_kept parts names kept s = record {
   members = λ q. kept.members q ∙ s.members q;
   index = s.index;
   living = s.living;
-  spare = s.spare;
 }
 
 pub shown_kept : (parts : Parts) (names : Names) → Kept parts.names names → shown (record parts { names = names }) ≡ shown parts

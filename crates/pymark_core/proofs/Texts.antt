@@ -55,6 +55,36 @@ module _ {Y : Type 0} (s n : BTreeSet (String Y)) (k : List ℕ) where
   seen-taken u = set.same_set nat_list_cmp_total (slice_cmp-IsAntisymmetric nat_cmp-IsAntisymmetric) _ _
       (λ q. after false u q ∙ and_taken (eq_by_cmp (slice_cmp nat_cmp) q k) (set.contains (seen s) q) ∙ sym (set.contains-remove nat_list_cmp_total (seen s) k q))
 
+-- the empty set has no text
+pub nothing_in : (q : List ℕ) → false ≡ set.contains {R = slice_cmp nat_cmp} set.empty q
+nothing_in q = sym (set.contains-empty (slice_cmp nat_cmp) q)
+
+is_equal : (o : Ordering) → is_eq o ≡ true → o ≡ Equal
+is_equal Less is = absurd cc
+is_equal Equal is = refl
+is_equal Greater is = absurd cc
+
+same_text : (k q : List ℕ) → eq_by_cmp (slice_cmp nat_cmp) q k ≡ true → q ≡ k
+same_text k q is = slice_cmp-IsAntisymmetric nat_cmp-IsAntisymmetric q k (is_equal _ is)
+
+-- a text that is in is not put in again, and one that is out is not taken out
+module _ (s : Texts) (k : List ℕ) where
+  stays_in : (b : Bool) (q : List ℕ) → eq_by_cmp (slice_cmp nat_cmp) q k ≡ b → set.contains s k ≡ true → set.contains s q ≡ (b || set.contains s q)
+  stays_in true q is there = ap (set.contains s) (same_text k q is) ∙ there
+  stays_in false q is there = refl
+
+  pub put_again : set.contains s k ≡ true → s ≡ set.insert s k
+  put_again there = set.same_set nat_list_cmp_total (slice_cmp-IsAntisymmetric nat_cmp-IsAntisymmetric) _ _
+      (λ q. stays_in (eq_by_cmp (slice_cmp nat_cmp) q k) q refl there ∙ sym (set.contains-insert nat_list_cmp_total s k q))
+
+  stays_out : (b : Bool) (q : List ℕ) → eq_by_cmp (slice_cmp nat_cmp) q k ≡ b → set.contains s k ≡ false → set.contains s q ≡ (not b && set.contains s q)
+  stays_out true q is out = ap (set.contains s) (same_text k q is) ∙ out
+  stays_out false q is out = refl
+
+  pub none_taken : set.contains s k ≡ false → s ≡ set.remove s k
+  none_taken out = set.same_set nat_list_cmp_total (slice_cmp-IsAntisymmetric nat_cmp-IsAntisymmetric) _ _
+      (λ q. stays_out (eq_by_cmp (slice_cmp nat_cmp) q k) q refl out ∙ sym (set.contains-remove nat_list_cmp_total s k q))
+
 -- clones of texts have their bytes
 pub seen-clone : {Y : Type 0} (s n : List (String Y)) → AllZip (λ x y. string_bytes y ≡ string_bytes x) s n → map string_bytes n ≡ map string_bytes s
 seen-clone [] [] each = refl
@@ -64,16 +94,11 @@ seen-clone (x ∷ xs) (y ∷ ys) each = λ i. each.0 i ∷ seen-clone xs ys each
 
 -- ---- names in normal form
 
-is_equal : (o : Ordering) → is_eq o ≡ true → o ≡ Equal
-is_equal Less is = absurd cc
-is_equal Equal is = refl
-is_equal Greater is = absurd cc
-
 module _ {Y : Type 0} (s n : BTreeSet (String Y)) (k : List ℕ) where
   -- a set with a normal name more
   pub normal-put : norm k ≡ k → UpdatesBy string_cmp (λ x. slice_cmp nat_cmp k (string_bytes x)) s n true → AreNormal (seen s) → AreNormal (seen n)
   normal-put is u all q there = elim (cases_Bool (eq_by_cmp (slice_cmp nat_cmp) q k)) [
-    | inl same ↦ (let equal : q ≡ k = slice_cmp-IsAntisymmetric nat_cmp-IsAntisymmetric q k (is_equal (slice_cmp nat_cmp q k) same) in rw equal is)
+    | inl same ↦ (let equal : q ≡ k = same_text k q same in rw equal is)
     | inr other ↦ all q (rw other at (sym (after s n k true u q) ∙ there))
   ]
 

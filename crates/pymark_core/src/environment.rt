@@ -11,7 +11,7 @@ ghost use Rattle.pymark_core.specs.Environment.{with_extra, with_group, with_var
 ghost use Rattle.pymark_core.specs.Environment.{without_extra, without_group, without_variable};
 
 use crate::candidate::{Candidate, SharedText};
-use crate::names::NameSet;
+use crate::names::SharedNames;
 use crate::variable::Var;
 use pyver_core::{Version, VersionError};
 use std::alloc::{AllocError, Global};
@@ -25,8 +25,8 @@ use std::marker::Model;
 pub struct Environment {
     alloc: Global,
     variables: [Option<SharedText>; 11],
-    extras: NameSet,
-    groups: NameSet,
+    extras: SharedNames,
+    groups: SharedNames,
 }
 
 impl Model for Environment {
@@ -58,8 +58,8 @@ impl Environment {
         Environment {
             alloc,
             variables: no_variables(),
-            extras: NameSet::new(alloc),
-            groups: NameSet::new(alloc),
+            extras: SharedNames::new(),
+            groups: SharedNames::new(),
         }
     }
 
@@ -120,8 +120,8 @@ impl Environment {
     pub fn ask_nothing(&mut self)
         ensures { self.new ≡ record self.old { extras = set.empty; groups = set.empty } }
     {
-        self.extras = NameSet::new(self.alloc);
-        self.groups = NameSet::new(self.alloc);
+        self.extras = SharedNames::new();
+        self.groups = SharedNames::new();
     }
 
     /// Asks for the extra of this name, and answers whether it wasn't asked for. Where there is no
@@ -185,15 +185,16 @@ impl Environment {
     }
 
     /// An environment with the same variables and sets. The two share the texts of the variables
-    /// and what they read as, and a change of one moves no other. It takes memory for each name.
+    /// with what they read as, and the sets, and a change of one moves no other. It takes no
+    /// memory; it is refused only where 2^63 copies stand.
     pub fn copy(&self) -> Result<Environment, AllocError>
         ensures { IfOk result (λ copy. copy ≡ self.now) }
     {
         Ok(Environment {
             alloc: self.alloc,
             variables: copy_variables(&self.variables)?,
-            extras: self.extras.copy()?,
-            groups: self.groups.copy()?,
+            extras: self.extras.clone()?,
+            groups: self.groups.clone()?,
         })
     }
 }

@@ -1,6 +1,6 @@
 //! Sets of normal names.
 
-ghost use Rattle.std.specs.Prelude.{◌≡◌, not, IfOk, IsTrue, OnErr};
+ghost use Rattle.std.specs.Prelude.{◌≡◌, false, not, IfOk, IsTrue, OnErr};
 ghost use Rattle.std.specs.FinSet as set;
 ghost use Rattle.pyver_core.specs.Name.{norm};
 
@@ -8,6 +8,7 @@ use pyver_core::NormalName;
 use std::alloc::{AllocError, Global};
 use std::collections::BTreeSet;
 use std::marker::Model;
+use std::sync::Arc;
 
 /// A set of normal names.
 pub(crate) struct NameSet {
@@ -53,31 +54,126 @@ impl NameSet {
         self.names.contains(name)
     }
 
-    /// Puts the normal form of the text in, and answers whether it was out.
+    /// Puts a name in.
+    pub(crate) fn insert(&mut self, name: NormalName) -> Result<(), AllocError>
+        ensures set { IfOk result (λ _. self.new ≡ set.insert self.old name) }
+        ensures err { OnErr result (self.new ≡ self.old) }
+    {
+        self.names.insert(name.into_string())?;
+        Ok(())
+    }
+
+    /// Takes a name out.
+    pub(crate) fn remove(&mut self, name: &NormalName)
+        ensures { self.new ≡ set.remove self.old name.now }
+    {
+        self.names.remove(name.as_str());
+    }
+}
+
+/// A set of the same names, each copied.
+impl Clone for NameSet {
+    ghost is_clone = { λ names copy. copy ≡ names };
+
+    fn clone(&self) -> Result<NameSet, AllocError> {
+        let names = self.names.clone()?;
+        Ok(NameSet { names })
+    }
+}
+
+/// A set of normal names that environments share: it is copied where it changes, and so a change
+/// of one moves no other.
+pub(crate) struct SharedNames {
+    /// None is the empty set.
+    names: Option<Arc<NameSet>>,
+}
+
+impl Model for SharedNames {
+    ghost use Rattle.std.specs.Prelude.{List, ℕ, option_map, unwrap_or};
+    ghost use Rattle.std.specs.Coded.{coded_list, coded_ℕ};
+    ghost use Rattle.std.specs.FinSet as set;
+    ghost use Rattle.pymark_core.specs.Environment.{Texts};
+
+    ghost Value = { Texts };
+
+    ghost coded = { set.code (coded_list coded_ℕ) };
+
+    ghost view = { λ s. unwrap_or (option_map (λ names. names.value) s.names) set.empty };
+}
+
+impl Drop for SharedNames {
+    fn drop(self) {
+        let SharedNames { names: _ } = self;
+    }
+}
+
+impl SharedNames {
+    /// The empty set. It takes no memory.
+    pub(crate) fn new() -> SharedNames
+        ensures { result ≡ set.empty }
+    {
+        SharedNames { names: None }
+    }
+
+    /// Whether this very text is in the set.
+    pub(crate) fn has(&self, name: &str) -> bool
+        ensures has { result ≡ set.contains self.now name.now }
+        ensures normal { IsTrue result → norm name.now ≡ name.now }
+    {
+        match &self.names {
+            Some(names) => names.has(name),
+            None => false,
+        }
+    }
+
+    /// Puts the normal form of the text in, and answers whether it was out. A name that is in takes
+    /// the memory of its normal form alone.
     pub(crate) fn add(&mut self, alloc: Global, name: &str) -> Result<bool, AllocError>
         ensures set { IfOk result (λ added. self.new ≡ set.insert self.old (norm name.now)) }
         ensures added { IfOk result (λ added. added ≡ not (set.contains self.old (norm name.now))) }
         ensures err { OnErr result (self.new ≡ self.old) }
     {
-        let name = NormalName::new(alloc, name)?.into_string();
-        Ok(self.names.insert(name)?)
+        let name = NormalName::new(alloc, name)?;
+        let Some(names) = &mut self.names else {
+            let mut names = NameSet::new(alloc);
+            names.insert(name)?;
+            self.names = Some(Arc::new(alloc, names)?);
+            return Ok(true);
+        };
+        if names.has(name.as_str()) {
+            return Ok(false);
+        }
+        Arc::make_mut(names)?.insert(name)?;
+        Ok(true)
     }
 
-    /// Takes the normal form of the text out, and answers whether it was in.
+    /// Takes the normal form of the text out, and answers whether it was in. A name that is out
+    /// takes the memory of its normal form alone.
     pub(crate) fn drop_name(&mut self, alloc: Global, name: &str) -> Result<bool, AllocError>
         ensures set { IfOk result (λ dropped. self.new ≡ set.remove self.old (norm name.now)) }
         ensures dropped { IfOk result (λ dropped. dropped ≡ set.contains self.old (norm name.now)) }
         ensures err { OnErr result (self.new ≡ self.old) }
     {
         let name = NormalName::new(alloc, name)?;
-        Ok(self.names.remove(name.as_str()))
+        let Some(names) = &mut self.names else {
+            return Ok(false);
+        };
+        if !names.has(name.as_str()) {
+            return Ok(false);
+        }
+        Arc::make_mut(names)?.remove(&name);
+        Ok(true)
     }
+}
 
-    /// A set of the same names.
-    pub(crate) fn copy(&self) -> Result<NameSet, AllocError>
-        ensures { IfOk result (λ copy. copy ≡ self.now) }
-    {
-        let names = self.names.clone()?;
-        Ok(NameSet { names })
+/// A copy shares the names, also with other threads. It takes no memory; it is refused only where
+/// 2^63 copies stand.
+impl Clone for SharedNames {
+    ghost is_clone = { λ shared copy. copy ≡ shared };
+
+    fn clone(&self) -> Result<SharedNames, AllocError> {
+        Ok(SharedNames {
+            names: self.names.clone()?,
+        })
     }
 }

@@ -1,6 +1,6 @@
 -- The parts of a session, and how they belong together.
 use Rattle.std.specs.Prelude.{◌≡◌, ℕ, ◌≤◌, true, List, [], ◌∷◌, map, length, Option, Some, None}
-use Rattle.std.specs.Prelude.{is_some, IfSome}
+use Rattle.std.specs.Prelude.{is_some}
 use Rattle.std.specs.Global.{Global}
 use Rattle.std.specs.Str.{bytes_eq}
 use Rattle.std.specs.declared.vec.Vec.{Vec}
@@ -114,5 +114,4 @@ pub record IsSession (parts : Parts) : Type 0 where
   pub names : IsNames parts.names
   pub members : AreMembers parts.names parts.entries.items
   pub index : IsIndex parts.index parts.head parts.entries.items
-  pub spare : IfSome parts.spare (λ spare. spare ≡ parts.environment)
   pub living : AreLiving parts.living.items parts.entries.items

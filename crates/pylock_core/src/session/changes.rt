@@ -25,7 +25,6 @@ use pymark_core::{Environment, Key, Var};
 use pyver_core::{Label, NormalName};
 use pywheel_core::TagList;
 use std::alloc::AllocError;
-use std::mem;
 
 /// A change of an environment.
 #[derive(Drop)]
@@ -88,18 +87,6 @@ impl Change {
     }
 }
 
-/// An environment like that of the session, of which the next is made: the spare one, or a copy
-/// where a change that was refused has left none.
-fn take_spare(parts: &mut Parts) -> Result<Environment, AllocError>
-    ensures same { IfOk result (λ spare. IsSession parts.old → spare ≡ parts.old.environment) }
-    ensures taken { parts.new ≡ record parts.old { spare = None } }
-{
-    match parts.spare.take() {
-        Some(spare) => Ok(spare),
-        None => parts.environment.copy(),
-    }
-}
-
 /// Refuses a name whose normal form isn't that of an extra of the lock.
 fn has_extra(parts: &Parts, name: &str) -> Result<(), EditError>
     ensures known { OnOk result (is_known parts.now.head.extras name.now ≡ true) }
@@ -149,21 +136,19 @@ fn put_head(kept: &mut HeadVerdict, fresh: Option<HeadVerdict>)
     }
 }
 
-/// Puts the environment, which differs at the key alone, in place of the one that was there, and
-/// gives that back. What reads the key is judged again. Where there is no memory for it, all stays.
+/// Puts the environment, which differs at the key alone, in place of the one that was there. What
+/// reads the key is judged again. Where there is no memory for it, all stays.
 fn change_environment(
     parts: &mut Parts,
     environment: Environment,
     key: Key,
     judged: &mut Judged,
-) -> Result<Environment, AllocError>
+) -> Result<(), AllocError>
     requires session { IsSession parts.old }
-    requires spare { parts.old.spare ≡ None }
     requires differ { DifferAt key parts.old.environment environment }
     ensures session { IsSession parts.new }
     ensures ok { OnOk result (state_of parts.new
         ≡ in_environment environment (state_of parts.old)) }
-    ensures back { IfOk result (λ back. back ≡ parts.old.environment) }
     ensures judged { OnOk result (judged.new
         ≡ judged.old ++ readers (Marked key) (state_of parts.old)) }
     ensures err { OnErr result (shown parts.new ≡ shown parts.old) }
@@ -172,11 +157,12 @@ fn change_environment(
     let (verdict, fresh) = judge_key(parts, &environment, key, judged)?;
     put_head(&mut parts.head_verdict, verdict);
     store(&mut parts.rows, fresh);
-    Ok(mem::replace(&mut parts.environment, environment))
+    parts.environment = environment;
+    Ok(())
 }
 
-/// Changes the environment, where the lock lets it be changed so: on the spare environment first,
-/// which takes the place of the other.
+/// Changes the environment, where the lock lets it be changed so: on a copy first, which shares
+/// all that doesn't change and takes the place of the other.
 pub(crate) fn edit_environment(
     parts: &mut Parts,
     change: Change,
@@ -187,12 +173,9 @@ pub(crate) fn edit_environment(
     ensures left { Leaves (edit_of change) parts.old parts.new judged.old judged.new result }
 {
     change.is_known(parts)?;
-    let mut next = take_spare(parts)?;
+    let mut next = parts.environment.copy()?;
     change.make(&mut next)?;
-    let mut old = change_environment(parts, next, change.key(), judged)?;
-    if change.make(&mut old).is_ok() {
-        parts.spare = Some(old);
-    }
+    change_environment(parts, next, change.key(), judged)?;
     Ok(())
 }
 

@@ -31,9 +31,6 @@ pub(crate) struct Parts {
     pub(crate) head: Head,
     pub(crate) head_verdict: HeadVerdict,
     pub(crate) environment: Environment,
-    /// The same environment once more, where there is one: the next is made of it, and so none is
-    /// copied for an edit.
-    pub(crate) spare: Option<Environment>,
     pub(crate) tags: TagList,
     /// The entry of number k stands at place k - 1. They are let go last: the allocator merges
     /// their many small pieces only when a large one is given back behind them.
@@ -52,7 +49,6 @@ impl Drop for Parts {
             head: _,
             head_verdict: _,
             environment: _,
-            spare: _,
             tags: _,
             entries: _,
         } = self;

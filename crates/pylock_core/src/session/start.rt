@@ -39,7 +39,6 @@ pub(crate) fn without_entries(
 {
     let environment = asking(environment, head.default_groups().as_slice())?;
     let head_verdict = HeadVerdict::new(alloc, &head, &environment, &mut judged)?;
-    let spare = environment.copy()?;
     let living = Vec::with_capacity(alloc, room)?;
     let rows = Vec::with_capacity(alloc, room)?;
     let names = Names::with_capacity(alloc, room)?;
@@ -55,7 +54,6 @@ pub(crate) fn without_entries(
         head,
         head_verdict,
         environment,
-        spare: Some(spare),
         tags,
         entries,
     })

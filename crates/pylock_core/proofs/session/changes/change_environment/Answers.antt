@@ -17,7 +17,7 @@ returns-clause-session c =
     let test = entry_reads (Marked c.args.key) in
     let policies = p.names.policies.items in
     let is = c.store.ensures ∙ ap (λ fresh. stored fresh p.rows.items) c.in_ok-verdict.ensures.rows in
-    rw c.replace.ensures.after (record {
+    record {
       few = s.few;
       named = anew_named p test c.args.environment p.tags (policy_at policies) c.store.new.rows.items s is;
       judged = anew_judged p test c.args.environment p.tags policies (policy_at policies) c.store.new.rows.items s
@@ -28,5 +28,4 @@ returns-clause-session c =
       members = s.members;
       index = s.index;
       living = s.living;
-      spare = rw c.requires.spare tt;
-    })
+    }

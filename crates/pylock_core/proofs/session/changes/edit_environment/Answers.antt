@@ -7,6 +7,5 @@ use Rattle.pylock_core.proofs.session.changes.edit_environment.Goals as goal
 pub change_environment-requires-clause-differ : goal.change_environment-requires-clause-differ
 change_environment-requires-clause-differ c = λ other apart.
     let old = c.args.parts.now.environment in
-    let made : c.make.new.environment ≡ changed c.args.change old = c.in_ok-make.ensures ∙ ap (changed c.args.change) (c.in_ok-next.ensures.same c.requires) in
-    subst (λ e. AgreeAt other e c.make.new.environment) (sym (ap (λ p. p.environment) c.take_spare.ensures.taken))
-    (subst (AgreeAt other old) (sym made) (changed_differs c.args.change old other (λ same. apart (same ∙ sym c.key.ensures))))
+    let made : c.make.new.environment ≡ changed c.args.change old = c.in_ok-make.ensures ∙ ap (changed c.args.change) c.in_ok-next.ensures in
+    subst (AgreeAt other old) (sym made) (changed_differs c.args.change old other (λ same. apart (same ∙ sym c.key.ensures)))

@@ -53,7 +53,6 @@ returns-clause-session c =
       members = λ q. c.set_policy.ensures.members q ∙ s.members q;
       index = s.index;
       living = s.living;
-      spare = s.spare;
     }
 
 pub returns-clause-left : goal.returns-clause-left

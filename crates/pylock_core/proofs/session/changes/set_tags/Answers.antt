@@ -26,5 +26,4 @@ returns-clause-session c =
       members = s.members;
       index = s.index;
       living = s.living;
-      spare = s.spare;
     }

@@ -25,7 +25,6 @@ write_at-requires-clause-session c =
       members = subst (AreMembers p.names) (sym entries) (members_wider p.names p.entries.items s.members);
       index = subst (IsIndex p.index p.head) (sym entries) (index_wider p.index p.head p.entries.items s.index);
       living = subst (AreLiving c.reserve-3.new.self.items) (sym entries) (living_wider c.reserve-3.new.self.items p.entries.items (c.in_ok-reserve-3.ensures.items ∙ s.living));
-      spare = s.spare;
     }
 
 pub write_at-requires-clause-within : goal.write_at-requires-clause-within

@@ -66,7 +66,6 @@ returns-clause-session c =
           s.index there c.keys_at-was.ensures c.keys_at-is.ensures (omega arith) c.requires.within c.change_each.ensures.long c.change_each.ensures.changed);
       living = subst (AreLiving c.change.new.numbers.items) (sym c.put_at-2.ensures) (living_written p.living.items c.change.new.numbers.items p.entries.items place (place + 1) c.is_some-stood.result c.is_some.result c.args.entry
           s.living (ap is_some (sym (old_at p.entries.items place c.index-3.result.now c.requires.within c.index-3.ensures)) ∙ sym c.is_some-stood.ensures) (sym c.is_some.ensures) (omega arith) c.requires.within c.change.ensures);
-      spare = s.spare;
     }
 
 pub returns-clause-state : goal.returns-clause-state

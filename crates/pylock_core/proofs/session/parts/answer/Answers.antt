@@ -1,4 +1,4 @@
-use Rattle.std.proofs.Common.{◌≡◌, ◌∙◌, [], None, get_or, IfOk, refl, subst, sym, ap, arith}
+use Rattle.std.proofs.Common.{◌≡◌, ◌∙◌, [], None, get_or, IfOk, subst, sym, ap, arith}
 use Rattle.pylock_core.specs.Inner.Parts.{IsNamed}
 use Rattle.pylock_core.specs.Inner.Pass.{picks_after_rows, slate_rows}
 use Rattle.pylock_core.specs.Session.Steps.{answer_by}

@@ -1,11 +1,8 @@
-use Rattle.std.proofs.Common.{◌≡◌, ℕ, List, [], drop, get_or, Option, Some, None, ◌∙◌, ◌+◌, refl, sym, subst, ap}
+use Rattle.std.proofs.Common.{[], drop, get_or, ◌∙◌, ◌+◌, refl, sym, subst, ap}
 use Rattle.std.specs.Option.{option_copied}
-use Rattle.pylock_core.specs.Inner.Pass.{numbered, row_at, slated_after}
+use Rattle.pylock_core.specs.Inner.Pass.{numbered}
 use Rattle.pylock_core.specs.Inner.Slated.{HasPlace, is_slated}
 use Rattle.pylock_core.proofs.PassLemmas.{Slating, numbered_none, numbered_some, of_row, slating_faulty, slating_on}
-use Rattle.pylock_core.specs.declared.answer.Standing.{Standing}
-use Rattle.pylock_core.specs.declared.answer.Standing.TheVariants.{Skipped, Faulty, Active}
-use Rattle.pylock_core.specs.declared.session.row.Row.{Row}
 use Rattle.pylock_core.proofs.session.pass.slating_fault.Goals as goal
 
 pub loop-number-init : goal.loop-number-init
