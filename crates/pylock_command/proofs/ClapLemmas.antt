@@ -1,5 +1,6 @@
 -- What clap's matches tell of a subcommand.
 use Rattle.std.proofs.Common.{◌≡◌, ◌||◌, Bool, false, not, List, [], ◌∷◌, Option, None, Some, refl, true, inl, inr, is_some, subst, sym, ap, ap₂, ◌∙◌, Box, option_map}
+use Rattle.std.proofs.lemmas.Bool.{and_parts}
 use Rattle.std.proofs.lemmas.List.Elements.{All-cons, All-nil}
 use Rattle.std.specs.Box.{box_value}
 use Rattle.std.specs.Prelude.{IfOk, Result}
@@ -7,12 +8,15 @@ use Rattle.std.specs.declared.alloc.AllocError.{AllocError}
 use Rattle.clap.proofs.WalkLemmas.{first_value-rows}
 use Rattle.clap.specs.Words.{Row, Text, first_of, first_value, found_of, rows_of, subcommand_name_of, subcommand_rows, subcommand_rows_of}
 use Rattle.clap.proofs.OnLiterals.{clap_on_literals}
-use Rattle.clap.specs.Words.{App, HasKind, IsAmong, app_of, fault_of, is_simple_and_free, kind_of}
+use Rattle.clap.specs.Words.{App, HasKind, HasMatchesOf, IsAmong, app_of, built, fault_of, is_simple, is_simple_and_free, kind_of, subcommand_of}
+use Rattle.clap.specs.Faults.{is_free_app}
+use Rattle.clap.specs.declared.error.kind.ErrorKind.TheVariants.{MissingRequiredArgument, OutOfMemory}
 use Rattle.clap.specs.declared.builder.command.Command.{Command}
 use Rattle.clap.specs.declared.error.Error.{Error}
-use Rattle.pylock_command.specs.CommandLine.{HasTexts, IsRefusal, Keeps, is_lacking, lacks, lacks_text, pylock_app}
+use Rattle.pylock_command.specs.CommandLine.{HasTexts, IsRefusal, IsTask, Keeps, is_lacking, lacks, lacks_text, pylock_app}
 use Rattle.pylock_command.specs.declared.command_line.CommandError.{CommandError}
 use Rattle.pylock_command.specs.declared.command_line.CommandError.TheVariants.{Refused, Memory}
+use Rattle.pylock_command.specs.declared.command_line.Task.{Task}
 use Rattle.clap.specs.declared.parser.matches.ArgMatches.{ArgMatches}
 use Rattle.clap.specs.declared.parser.matches.ArgMatches.TheViews.{out-ArgMatches, out-SubCommand}
 use Rattle.clap.specs.declared.parser.matches.SubCommand.{SubCommand}
@@ -85,6 +89,19 @@ pylock_app-is_simple_and_free = refl
 module _ (app : App) (is : app ≡ pylock_app) (words : List Text) where
   is_free : is_simple_and_free app ≡ true
   is_free = ap is_simple_and_free is ∙ pylock_app-is_simple_and_free
+
+  -- the subcommand that the matches tell is that of the words
+  told_of-words : (m : ArgMatches) → HasMatchesOf app words m → subcommand_rows_of m ≡ subcommand_of pylock_app words
+  told_of-words m has =
+      (has (and_parts (is_simple app) (is_free_app (built app)) is_free).0).1 ∙ ap (λ (a : App). subcommand_of a words) is
+
+  pub IsTask-told : (m : ArgMatches) (task : Task) → HasMatchesOf app words m → IsTask (subcommand_rows_of m) task → IsTask (subcommand_of pylock_app words) task
+  IsTask-told m task has told = subst (λ found. IsTask found task) (told_of-words m has) told
+
+  pub IsRefusal-told : (m : ArgMatches) (error : Error) → HasMatchesOf app words m → is_lacking (subcommand_rows_of m) ≡ true
+      → kind_of error ≡ MissingRequiredArgument → IsRefusal words (Refused error)
+  IsRefusal-told m error has lacking kind =
+      ((λ memory. (let contradiction : MissingRequiredArgument ≡ OutOfMemory = sym kind ∙ memory in absurd cc)), inr (kind, ap is_lacking (sym (told_of-words m has)) ∙ lacking))
 
   pub fault_of-taken : (is_simple_and_free app ≡ true → fault_of app words ≡ []) → fault_of pylock_app words ≡ []
   fault_of-taken taken = ap (λ (a : App). fault_of a words) (sym is) ∙ taken is_free

@@ -10,7 +10,8 @@ use Rattle.clap.specs.declared.error.kind.ErrorKind.TheVariants.{OutOfMemory}
 use Rattle.pylock_command.specs.declared.command_line.CommandError.{CommandError}
 use Rattle.pylock_command.specs.declared.command_line.CommandError.TheVariants.{Refused, Memory}
 use Rattle.pylock_command.specs.declared.command_line.Task.{Task}
-use Rattle.pylock_command.specs.declared.command_line.Task.TheVariants.{Bare, Select, Version}
+use Rattle.pylock_command.specs.declared.command_line.Task.TheVariants.{Bare, Select, Files}
+use Rattle.pylock_command.specs.declared.command_line.Task.TheVariants.{Version}
 use Rattle.pylock_command.specs.declared.command_line.Task.TheVariants.{Match, Name}
 use Rattle.pylock_command.specs.declared.command_line.Task.TheVariants.{Marker, Requirement, Wheel}
 
@@ -38,13 +39,15 @@ top_app =
     let app = new_app (codes "pylock") in
     record app { top = record app.top { has_version = true } }
 
--- the run, and the commands on versions and names
+-- the run, the list of sources, and the commands on versions and names
 abbrev pub with_first : App → App
 with_first app =
     with_one
     (with_two
     (with_one
+    (with_one
     (with_two app (codes "select") (codes "LOCK") (codes "ENV"))
+    (codes "files") (codes "LOCK"))
     (codes "version") (codes "TEXT"))
     (codes "match") (codes "SET") (codes "VERSION"))
     (codes "name") (codes "TEXT")
@@ -73,6 +76,7 @@ abbrev pub call_of : Task → Option (Text × List (Text × Text))
 call_of Bare = None
 call_of (Select lock env) =
     Some (codes "select", (codes "LOCK", lock.now) ∷ (codes "ENV", env.now) ∷ [])
+call_of (Files lock) = Some (codes "files", (codes "LOCK", lock.now) ∷ [])
 call_of (Version text) = Some (codes "version", (codes "TEXT", text.now) ∷ [])
 call_of (Match set version) =
     Some (codes "match", (codes "SET", set.now) ∷ (codes "VERSION", version.now) ∷ [])
@@ -99,6 +103,7 @@ lacks rows id = not (is_some (first_of id rows))
 abbrev pub lacks_text : Text → List Row → Bool
 lacks_text name rows =
     if bytes_eq name (codes "select") then lacks rows (codes "LOCK") || lacks rows (codes "ENV")
+    else if bytes_eq name (codes "files") then lacks rows (codes "LOCK")
     else if bytes_eq name (codes "version") then lacks rows (codes "TEXT")
     else if bytes_eq name (codes "match")
     then lacks rows (codes "SET") || lacks rows (codes "VERSION")

@@ -18,6 +18,8 @@ pub enum Task<'a> {
     Bare,
     /// `select`, with the paths of the lock and of the environment.
     Select(&'a str, &'a str),
+    /// `files`, with the path of the lock.
+    Files(&'a str),
     /// `version`, with the text of a version.
     Version(&'a str),
     /// `match`, with the texts of a specifier set and of a version.
@@ -122,6 +124,22 @@ const LOCK: Text = Text {
 const ENV: Text = Text {
     id: "ENV",
     help: "The path of the environment: JSON with marker variables and wheel tags",
+};
+
+const FILES: Usage = Usage {
+    name: "files",
+    about: "Print every source that a lock names, whatever machine it is for",
+    reply: "\
+Prints files K and then K lines, one for each source of each entry, with a TAB
+between each two fields: the entry's number, name, version, kind of source,
+file name, place, hashes, VCS commit and subdirectory. For example:
+  pylock files pylock.toml
+
+The lines are for programs. A field may hold any character of the lock but TAB
+and LF, which are written \\t and \\n.
+
+Status: 0, the lines; 2, the lock or the command line is refused; 3, a file
+can't be read, the output failed or memory ran out.",
 };
 
 const VERSION_OF: Usage = Usage {
@@ -299,11 +317,12 @@ fn argument<'a>(alloc: Global, text: Text) -> Arg<'a>
     Arg::new(alloc, text.id).required(true).help(text.help)
 }
 
-/// Adds the run, and the commands on versions and names.
+/// Adds the run, the list of sources, and the commands on versions and names.
 fn with_first<'a>(alloc: Global, pylock: Command<'a>) -> Result<Command<'a>, AllocError>
     ensures { IfOk result (λ c. app_of c ≡ with_first (app_of pylock.entry)) }
 {
     let pylock = with_two_texts(alloc, pylock, SELECT, LOCK, ENV)?;
+    let pylock = with_one_text(alloc, pylock, FILES, LOCK)?;
     let pylock = with_one_text(alloc, pylock, VERSION_OF, VERSION_TEXT)?;
     let pylock = with_two_texts(alloc, pylock, MATCH, SET, SET_VERSION)?;
     with_one_text(alloc, pylock, NAME, NAME_TEXT)
@@ -337,6 +356,7 @@ fn task_of<'a>(matches: &ArgMatches<'a>) -> Option<Task<'a>>
     };
     match name {
         "select" => Some(Task::Select(found.get_str("LOCK")?, found.get_str("ENV")?)),
+        "files" => Some(Task::Files(found.get_str("LOCK")?)),
         "version" => Some(Task::Version(found.get_str("TEXT")?)),
         "match" => Some(Task::Match(found.get_str("SET")?, found.get_str("VERSION")?)),
         "name" => Some(Task::Name(found.get_str("TEXT")?)),

@@ -1,6 +1,7 @@
 pub mod LineLemmas
 pub mod EditingLemmas
 pub mod TextLemmas
+pub mod FilesLemmas
 pub mod PlainText
 pub mod ReadLemmas
 pub mod WriteLemmas

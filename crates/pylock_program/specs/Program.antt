@@ -3,7 +3,7 @@ use Rattle.std.specs.Prelude.{◌≡◌, ◌≢◌, ℕ, List, codes, Result, Ok
 use Rattle.std.specs.Result.{result_map_both}
 use Rattle.pylock_command.specs.declared.command_line.Task.{Task}
 use Rattle.pylock_command.specs.declared.command_line.Task.TheVariants as task
-use Rattle.pylock_program.specs.Reply.{reply, reply_of, marker_answer}
+use Rattle.pylock_program.specs.Reply.{files_answer, marker_answer, reply, reply_of}
 use Rattle.pylock_program.specs.Report.{Report, opened}
 use Rattle.pylock_program.specs.Report.Print.{Prints}
 use Rattle.pylock_program.specs.Report.Run.{IsRun}
@@ -106,6 +106,8 @@ abbrev pub Performs : Reads → Task → Outcome
 Performs gives task.Bare = Greets
 Performs gives (task.Select lock environment) =
     Opens gives lock.now (λ lock. Opens gives environment.now (Runs lock))
+Performs gives (task.Files lock) =
+    Opens gives lock.now (λ bytes. Replies (reply_of (files_answer bytes)))
 Performs gives (task.Version text) = Replies (reply (query.Version text))
 Performs gives (task.Match set version) = Replies (reply (query.Match set version))
 Performs gives (task.Name text) = Replies (reply (query.Name text))

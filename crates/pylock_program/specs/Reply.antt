@@ -31,11 +31,14 @@ use Rattle.pywheel_core.specs.declared.error.WheelError.TheVariants as wheel
 use Rattle.pylock_readers.specs.Environment.{env_of}
 use Rattle.pylock_core.specs.Session.Steps.{fault_code}
 use Rattle.pylock_core.specs.declared.answer.FaultCode.{FaultCode}
+use Rattle.pylock_readers.specs.Lock.Reading.{lock_of}
 use Rattle.pylock_readers.specs.declared.error.EnvError.{EnvError}
+use Rattle.pylock_readers.specs.declared.error.LockError.{LockError}
 use Rattle.pylock_program.specs.Report.{Report}
 use Rattle.pylock_program.specs.Text.Field.{field, line_of}
 use Rattle.pylock_program.specs.Text.Plan.{fault_word}
-use Rattle.pylock_program.specs.Text.Refusal.{environment_text}
+use Rattle.pylock_program.specs.Text.Files.{files_text}
+use Rattle.pylock_program.specs.Text.Refusal.{environment_text, lock_text}
 use Rattle.pylock_program.specs.declared.reply.queries.Query.{Query}
 use Rattle.pylock_program.specs.declared.reply.queries.Query.TheVariants as query
 
@@ -179,10 +182,20 @@ wheel_answer text = do
   parts ← or_else (λ e. refused (wheel_word e)) (wheel_of text)
   Ok (wheel_line parts)
 
+-- `files LOCK`: every source that the lock names
+abbrev pub unread_lock : LockError → Report
+unread_lock error = record { text = lock_text error; status = 2 }
+
+abbrev pub files_answer : List ℕ → Result (List ℕ) Report
+files_answer bytes = do
+  lock ← or_else unread_lock (lock_of bytes)
+  Ok (files_text lock.entries)
+
 -- ---- the reply
 
--- the line of an answer, or what is printed in its place
+-- the text of an answer, or what is printed in its place
 abbrev pub query_answer : Query → Result (List ℕ) Report
+query_answer (query.Files lock) = files_answer lock.now
 query_answer (query.Version text) = version_answer text.now
 query_answer (query.Match set version) = match_answer set.now version.now
 query_answer (query.Name text) = name_answer text.now

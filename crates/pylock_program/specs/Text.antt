@@ -1,4 +1,5 @@
 -- The printed text.
 pub mod Field
+pub mod Files
 pub mod Plan
 pub mod Refusal

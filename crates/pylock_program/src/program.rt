@@ -5,7 +5,7 @@ ghost use Rattle.std.specs.Result.{result_map_both};
 ghost use Rattle.pylock_program.specs.Program.{most_file_bytes, failure_message, failure_status};
 ghost use Rattle.pylock_program.specs.Program.{Opens, Performs, Reads, Replies, Runs, Tells};
 ghost use Rattle.pylock_program.specs.Program.{greeting, told};
-ghost use Rattle.pylock_program.specs.Reply.{marker_answer, reply, reply_of};
+ghost use Rattle.pylock_program.specs.Reply.{files_answer, marker_answer, reply, reply_of};
 ghost use Rattle.pylock_program.specs.Report.Print.{Prints};
 ghost use Rattle.pylock_program.specs.Stream.{SourceValue};
 ghost use Rattle.pylock_program.specs.Stream.Whole.{GivesAll, IsCause};
@@ -145,6 +145,7 @@ pub fn perform<F: Files, R: Source, W: Sink>(
     match task {
         Task::Bare => greet(writer),
         Task::Select(lock, environment) => select(alloc, files, lock, environment, reader, writer),
+        Task::Files(lock) => list(alloc, files, lock, writer),
         Task::Version(text) => answer(alloc, Query::Version(text), writer),
         Task::Match(set, version) => answer(alloc, Query::Match(set, version), writer),
         Task::Name(text) => answer(alloc, Query::Name(text), writer),
@@ -176,6 +177,21 @@ fn select<F: Files, R: Source, W: Sink>(
     let lock = files.read(lock)?;
     let environment = files.read(environment)?;
     told(run_whole(alloc, &lock, &environment, true, reader, writer))
+}
+
+/// Answers `files` on the lock of a file.
+fn list<F: Files, W: Sink>(
+    alloc: Global,
+    files: &F,
+    lock: &str,
+    writer: &mut W,
+) -> Result<u8, Failure>
+    ensures { (source : SourceValue) → Opens (F.read_gives files.now) lock.now
+        (λ bytes. Replies (reply_of (files_answer bytes)))
+        source source (W.value writer.old) (W.value writer.new) result }
+{
+    let lock = files.read(lock)?;
+    answer(alloc, Query::Files(&lock), writer)
 }
 
 /// Answers `marker` in the environment of a file.

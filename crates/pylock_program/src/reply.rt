@@ -7,7 +7,7 @@ ghost use Rattle.pyver_core.specs.Name.{norm};
 ghost use Rattle.pywheel_core.specs.Tag.{tag_text};
 ghost use Rattle.pylock_program.specs.Inner.Reply.{Pushes};
 ghost use Rattle.pylock_program.specs.Reply.{reply, reply_of, version_answer, match_answer};
-ghost use Rattle.pylock_program.specs.Reply.{admits_answer};
+ghost use Rattle.pylock_program.specs.Reply.{admits_answer, files_answer};
 ghost use Rattle.pylock_program.specs.Reply.{truth_word, name_answer, marker_answer, judged_answer};
 ghost use Rattle.pylock_program.specs.Reply.{value_answer};
 ghost use Rattle.pylock_program.specs.Reply.{requirement_answer, requirement_line, names_text};
@@ -23,9 +23,10 @@ use crate::report::fault::RunFault;
 use crate::report::print::print;
 use crate::stream::Sink;
 use crate::text::field::{push_field, push_last_word, push_next};
+use crate::text::files::push_files;
 use crate::text::plan::fault_word;
-use crate::text::refusal::push_environment_error;
-use pylock_core::{EnvError, FaultCode, read_environment};
+use crate::text::refusal::{push_environment_error, push_lock_error};
+use pylock_core::{EnvError, FaultCode, Lock, LockError, read_environment};
 use pymark_core::{Environment, EvalFault, Marker, MarkerError, Requirement, RequirementError};
 use pyver_core::{SpecifierError, SpecifierSet, Version, VersionError, is_name, normal_name};
 use pywheel_core::{Tag, WheelError, WheelName};
@@ -46,12 +47,29 @@ fn push_reply(alloc: Global, out: &mut Vec<u8>, query: Query<'_>) -> Result<u8, 
     ensures { Pushes out.old.items out.new.items (reply query.entry) result }
 {
     match query {
+        Query::Files(lock) => push_files_of(alloc, out, lock),
         Query::Version(text) => push_version(alloc, out, text),
         Query::Match(set, version) => push_match(alloc, out, set, version),
         Query::Name(text) => push_name(alloc, out, text),
         Query::Marker(text, environment) => push_marker(alloc, out, text, environment),
         Query::Requirement(text) => push_requirement(alloc, out, text),
         Query::Wheel(text) => push_wheel(alloc, out, text),
+    }
+}
+
+fn push_files_of(alloc: Global, out: &mut Vec<u8>, lock: &[u8]) -> Result<u8, AllocError>
+    ensures { Pushes out.old.items out.new.items (reply_of (files_answer lock.now)) result }
+{
+    match Lock::read(alloc, lock) {
+        Ok(lock) => {
+            push_files(alloc, out, lock.entries())?;
+            Ok(0)
+        }
+        Err(LockError::Memory) => Err(AllocError),
+        Err(error) => {
+            push_lock_error(out, &error)?;
+            Ok(2)
+        }
     }
 }
 

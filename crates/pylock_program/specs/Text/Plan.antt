@@ -64,11 +64,13 @@ source_fields entry (source.Wheel place) =
     option_map_or (file_fields (codes "wheel")) (slice_get entry.wheels place) []
 source_fields entry source.Sdist = option_map_or (file_fields (codes "sdist")) entry.sdist []
 
--- number, name and version, and the fields of the source
+-- number, name and version, and the fields of a source
+abbrev pub source_line : ℕ → EntryValue → List (List ℕ) → List ℕ
+source_line number entry fields =
+    line_of (decimal number) (field (Some entry.name) ∷ field entry.version ∷ fields)
+
 abbrev pub plan_line : ℕ → PickSource → EntryValue → List ℕ
-plan_line number source entry =
-    line_of (decimal number)
-    (field (Some entry.name) ∷ field entry.version ∷ source_fields entry source)
+plan_line number source entry = source_line number entry (source_fields entry source)
 
 -- the line of a pick; its number is that of an entry, so the line is never left out
 abbrev pub pick_text : State → Pick → List ℕ

@@ -3,6 +3,8 @@
 /// What a one-shot command asks.
 #[derive(Clone, Copy, Debug)]
 pub enum Query<'a> {
+    /// Every source that a lock names, which is given by the bytes of its TOML text (PEP 751).
+    Files(&'a [u8]),
     /// The normal form of a version (PEP 440).
     Version(&'a str),
     /// Whether a specifier set, which stands first, admits a version (PEP 440).

@@ -14,6 +14,7 @@ ghost use Rattle.pylock_program.specs.Text.Plan.{directory_fields};
 ghost use Rattle.pylock_program.specs.Text.Plan.{archive_fields, file_fields};
 ghost use Rattle.pylock_program.specs.Text.Plan.{fault_word};
 ghost use Rattle.pylock_program.specs.Text.Plan.{plan_line, pick_text, answer_text, fault_text};
+ghost use Rattle.pylock_program.specs.Text.Plan.{source_line};
 
 use crate::text::field::{push_decimal, push_escaped, push_last_word, push_next};
 use pylock_core::{
@@ -130,17 +131,30 @@ fn push_source(out: &mut Vec<u8>, source: Option<PickedSource<'_>>) -> Result<()
     }
 }
 
+/// Pushes the line of a source of an entry, which has this number.
+pub(crate) fn push_source_line(
+    out: &mut Vec<u8>,
+    number: u64,
+    entry: &Entry,
+    source: Option<PickedSource<'_>>,
+) -> Result<(), AllocError>
+    ensures { OnOk result (out.new.items ≡ out.old.items ++ source_line number entry.now
+        (option_map_or picked_fields (option_map lent_source source.entry) [])) }
+{
+    push_decimal(out, number)?;
+    push_next(out, Some(entry.name()))?;
+    push_next(out, entry.version())?;
+    push_source(out, source)?;
+    out.push(b'\n')?;
+    Ok(())
+}
+
 #[tactic(auto, using(crate::proofs::TextLemmas::picked_source))]
 fn push_plan_line(out: &mut Vec<u8>, pick: &Pick, entry: &Entry) -> Result<(), AllocError>
     ensures { OnOk result (out.new.items
         ≡ out.old.items ++ plan_line pick.now.id pick.now.source entry.now) }
 {
-    push_decimal(out, u64::from(pick.id))?;
-    push_next(out, Some(entry.name()))?;
-    push_next(out, entry.version())?;
-    push_source(out, pick.source.of(entry))?;
-    out.push(b'\n')?;
-    Ok(())
+    push_source_line(out, u64::from(pick.id), entry, pick.source.of(entry))
 }
 
 fn push_pick(out: &mut Vec<u8>, session: &Session, pick: &Pick) -> Result<(), AllocError>

@@ -52,7 +52,7 @@ pub fn push_refusal(out: &mut Vec<u8>, error: &OpenError) -> Result<(), AllocErr
 }
 
 /// Pushes the line of a refused lock.
-fn push_lock_error(out: &mut Vec<u8>, error: &LockError) -> Result<(), AllocError>
+pub(crate) fn push_lock_error(out: &mut Vec<u8>, error: &LockError) -> Result<(), AllocError>
     ensures { OnOk result (out.new.items ≡ out.old.items ++ lock_text error.now) }
 {
     out.extend_from_slice(b"lock")?;

@@ -1,7 +1,7 @@
 use Rattle.std.proofs.Common.{List, Bor, map}
 use Rattle.std.proofs.lemmas.Result.{err_from_is_err_and}
 use Rattle.clap.specs.Words.{Text}
-use Rattle.pylock_command.proofs.ClapLemmas.{IsRefusal-kept, fault_of-taken}
+use Rattle.pylock_command.proofs.ClapLemmas.{IsRefusal-kept, IsRefusal-told, IsTask-told, fault_of-taken}
 use Rattle.pylock_command.proofs.command_line.command.Goals as goal
 
 abbrev texts : List (Bor Text) → List Text
@@ -14,3 +14,12 @@ returns-in_err-matches-clause-refused c =
 
 pub returns-in-Some-clause-taken : goal.returns-in-Some-clause-taken
 returns-in-Some-clause-taken c = fault_of-taken _ c.in_ok-app.ensures (texts c.args.words.now) c.in_ok-matches.ensures.kinds
+
+pub returns-in-Some-clause-task : goal.returns-in-Some-clause-task
+returns-in-Some-clause-task c =
+    IsTask-told _ c.in_ok-app.ensures (texts c.args.words.now) c.in_ok-matches.matches c.in-Some.task c.in_ok-matches.ensures.ok.2 c.in-Some.ensures.some
+
+pub returns-clause-refused : goal.returns-clause-refused
+returns-clause-refused c =
+    IsRefusal-told _ c.in_ok-app.ensures (texts c.args.words.now) c.in_ok-matches.matches c.in_ok-error-in-None.field-0 c.in_ok-matches.ensures.ok.2 c.in-None.ensures.none
+    c.in_ok-error-in-None.ensures.kind

@@ -77,3 +77,11 @@ pub returns-in_err-get_str-in-wheel-clause-none : goal.returns-in_err-get_str-in
 returns-in_err-get_str-in-wheel-clause-none c =
     rw c.from_residual-in_err-get_str-in-wheel.ensures (is_lacking-from c.args.matches.now c.in-Some.found.now _ _ c.in-wheel.is c.in-Some.ensures.name c.in-Some.ensures.rows
     (lacks_one c.args.matches.now c.in-Some.found.now _ _ c.in-wheel.is c.in-Some.ensures.name c.in-Some.ensures.rows _ c.in_err-get_str-in-wheel.ensures))
+
+pub returns-in_ok-get_str-in-files-clause-some : goal.returns-in_ok-get_str-in-files-clause-some
+returns-in_ok-get_str-in-files-clause-some c = HasTexts-one c.args.matches.now c.in-Some.found.now _ _ c.in-files.is c.in-Some.ensures.name c.in-Some.ensures.rows _ _ c.in_ok-get_str-in-files.ensures
+
+pub returns-in_err-get_str-in-files-clause-none : goal.returns-in_err-get_str-in-files-clause-none
+returns-in_err-get_str-in-files-clause-none c =
+    rw c.from_residual-in_err-get_str-in-files.ensures (is_lacking-from c.args.matches.now c.in-Some.found.now _ _ c.in-files.is c.in-Some.ensures.name c.in-Some.ensures.rows
+    (lacks_one c.args.matches.now c.in-Some.found.now _ _ c.in-files.is c.in-Some.ensures.name c.in-Some.ensures.rows _ c.in_err-get_str-in-files.ensures))

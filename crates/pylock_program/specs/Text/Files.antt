@@ -1,0 +1,33 @@
+-- What `files` prints: a line for each source that a lock names, whatever machine it is for.
+use Rattle.std.specs.Prelude.{ℕ, ◌++◌, List, [], ◌∷◌, Option, Some, None, codes, decimal, length}
+use Rattle.std.specs.Prelude.{map}
+use Rattle.std.specs.List.{flat_map}
+use Rattle.pylock_readers.specs.Entry.{EntryValue}
+use Rattle.pylock_program.specs.Text.Plan.{archive_fields, directory_fields, file_fields}
+use Rattle.pylock_program.specs.Text.Plan.{source_line, vcs_fields}
+
+-- the fields of a source, where there is one
+abbrev pub where_there : {A : Type 0} → (A → List (List ℕ)) → Option A → List (List (List ℕ))
+where_there fields None = []
+where_there fields (Some source) = fields source ∷ []
+
+-- the fields of each source of an entry: `vcs`, `directory`, `archive`, the wheels in order, `sdist`
+abbrev pub each_source : EntryValue → List (List (List ℕ))
+each_source entry =
+    where_there vcs_fields entry.vcs
+    ++ where_there directory_fields entry.directory
+    ++ where_there archive_fields entry.archive
+    ++ map (file_fields (codes "wheel")) entry.wheels
+    ++ where_there (file_fields (codes "sdist")) entry.sdist
+
+-- the lines of the entries, the first of which has this number
+abbrev pub lines_from : ℕ → List EntryValue → List (List ℕ)
+lines_from number [] = []
+lines_from number (entry ∷ entries) =
+    map (source_line number entry) (each_source entry) ++ lines_from (suc number) entries
+
+-- `files K` and K lines
+abbrev pub files_text : List EntryValue → List ℕ
+files_text entries =
+    let lines = lines_from 1 entries in
+    codes "files " ++ decimal (length lines) ++ codes "\n" ++ flat_map (λ line. line) lines

@@ -1,0 +1,132 @@
+//! Every source that a lock names, a line for each.
+
+ghost use Rattle.std.specs.Prelude.{◌≡◌, ◌++◌, IfOk, OnOk, codes, map, option_map};
+ghost use Rattle.std.specs.List.{flat_map};
+ghost use Rattle.pylock_core.specs.Session.Picks.{lent_source};
+ghost use Rattle.pylock_program.specs.Inner.Picked.{picked_fields};
+ghost use Rattle.pylock_program.specs.Text.Files.{each_source, files_text, lines_from, where_there};
+ghost use Rattle.pylock_program.specs.Text.Plan.{file_fields, source_line};
+
+use crate::text::field::push_decimal;
+use crate::text::plan::push_source_line;
+use pylock_core::{Entry, PickSource, PickedSource};
+use std::alloc::{AllocError, Global};
+use std::marker::Model;
+
+/// A source, with its entry and the number of that.
+///
+/// Contracts see its line.
+#[derive(Clone, Copy)]
+struct Named<'a> {
+    number: usize,
+    entry: &'a Entry,
+    source: PickedSource<'a>,
+}
+
+impl Model for Named<'_> {
+    ghost use Rattle.std.specs.Prelude.{List, ℕ};
+    ghost use Rattle.pylock_core.specs.Session.Picks.{lent_source};
+    ghost use Rattle.pylock_program.specs.Inner.Picked.{picked_fields};
+    ghost use Rattle.pylock_program.specs.Text.Plan.{source_line};
+
+    ghost Value = { List ℕ };
+
+    ghost view = { λ n. source_line n.number n.entry.now (picked_fields (lent_source n.source)) };
+}
+
+/// Pushes `files K` and a line for each source of each entry. Takes memory for the lines and for a
+/// list of the sources.
+pub(crate) fn push_files(
+    alloc: Global,
+    out: &mut Vec<u8>,
+    entries: &[Entry],
+) -> Result<(), AllocError>
+    ensures { OnOk result (out.new.items ≡ out.old.items ++ files_text entries.now) }
+{
+    let named = name_all(alloc, entries)?;
+    out.extend_from_slice(b"files ")?;
+    push_decimal(out, named.len() as u64)?;
+    out.push(b'\n')?;
+    push_lines(out, named.as_slice())
+}
+
+/// The sources of all entries.
+fn name_all<'a>(alloc: Global, entries: &'a [Entry]) -> Result<Vec<Named<'a>>, AllocError>
+    ensures { IfOk result (λ named. named.items ≡ lines_from 1 entries.now) }
+{
+    let mut named = Vec::new(alloc);
+    for (place, entry) in entries.iter().enumerate() {
+        name_sources(&mut named, place + 1, entry)?;
+    }
+    Ok(named)
+}
+
+/// Adds the sources of an entry.
+#[tactic(auto, using(crate::proofs::FilesLemmas::sources_named))]
+fn name_sources<'a>(
+    named: &mut Vec<Named<'a>>,
+    number: usize,
+    entry: &'a Entry,
+) -> Result<(), AllocError>
+    ensures { OnOk result (named.new.items
+        ≡ named.old.items ++ map (source_line number entry.now) (each_source entry.now)) }
+{
+    name_one(named, number, entry, PickSource::Vcs.of(entry))?;
+    name_one(named, number, entry, PickSource::Directory.of(entry))?;
+    name_one(named, number, entry, PickSource::Archive.of(entry))?;
+    name_wheels(named, number, entry)?;
+    name_one(named, number, entry, PickSource::Sdist.of(entry))
+}
+
+/// Adds a source of an entry, where it is there.
+fn name_one<'a>(
+    named: &mut Vec<Named<'a>>,
+    number: usize,
+    entry: &'a Entry,
+    source: Option<PickedSource<'a>>,
+) -> Result<(), AllocError>
+    ensures { OnOk result (named.new.items ≡ named.old.items ++ map (source_line number entry.now)
+        (where_there picked_fields (option_map lent_source source.entry))) }
+{
+    if let Some(source) = source {
+        named.push(Named {
+            number,
+            entry,
+            source,
+        })?;
+    }
+    Ok(())
+}
+
+/// Adds the wheels of an entry.
+fn name_wheels<'a>(
+    named: &mut Vec<Named<'a>>,
+    number: usize,
+    entry: &'a Entry,
+) -> Result<(), AllocError>
+    ensures { OnOk result (named.new.items ≡ named.old.items
+        ++ map (source_line number entry.now) (map (file_fields (codes "wheel")) entry.now.wheels)) }
+{
+    for wheel in entry.wheels() {
+        named.push(Named {
+            number,
+            entry,
+            source: PickedSource::Wheel(wheel),
+        })?;
+    }
+    Ok(())
+}
+
+fn push_lines(out: &mut Vec<u8>, named: &[Named<'_>]) -> Result<(), AllocError>
+    ensures { OnOk result (out.new.items ≡ out.old.items ++ flat_map (λ line. line) named.now) }
+{
+    for source in named {
+        push_source_line(
+            out,
+            source.number as u64,
+            source.entry,
+            Some(source.source),
+        )?;
+    }
+    Ok(())
+}
