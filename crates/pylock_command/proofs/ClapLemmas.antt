@@ -8,7 +8,7 @@ use Rattle.std.specs.declared.alloc.AllocError.{AllocError}
 use Rattle.clap.proofs.WalkLemmas.{first_value-rows}
 use Rattle.clap.specs.Words.{Row, Text, first_of, first_value, found_of, rows_of, subcommand_name_of, subcommand_rows, subcommand_rows_of}
 use Rattle.clap.proofs.OnLiterals.{clap_on_literals}
-use Rattle.clap.specs.Words.{App, HasKind, HasMatchesOf, IsAmong, app_of, built, fault_of, is_simple, is_simple_and_free, kind_of, subcommand_of}
+use Rattle.clap.specs.Words.{App, HasKind, HasMatchesOf, IsAmong, Rule, app_of, built, fault_of, is_simple, is_simple_and_free, kind_of, subcommand_of, with_rule}
 use Rattle.clap.specs.Faults.{is_free_app}
 use Rattle.clap.specs.declared.error.kind.ErrorKind.TheVariants.{MissingRequiredArgument, OutOfMemory}
 use Rattle.clap.specs.declared.builder.command.Command.{Command}
@@ -119,3 +119,11 @@ module _ (app : App) (is : app ≡ pylock_app) (words : List Text) where
 pub added-to : (result : Result Command AllocError) (step : App → App) (one other : App) → one ≡ other → IfOk result (λ c. app_of c ≡ step one)
     → IfOk result (λ c. app_of c ≡ step other)
 added-to result step one other same added = subst (λ app. IfOk result (λ c. app_of c ≡ step app)) same added
+
+-- the same of one more option
+pub ruled-more : (rule : Rule) (new one other : App) → one ≡ other → new ≡ with_rule one rule → new ≡ with_rule other rule
+ruled-more rule new one other same added = added ∙ ap (λ (app : App). with_rule app rule) same
+
+pub ruled-to : (result : Result Command AllocError) (rule : Rule) (one other : App) → one ≡ other → IfOk result (λ c. app_of c ≡ with_rule one rule)
+    → IfOk result (λ c. app_of c ≡ with_rule other rule)
+ruled-to result rule = added-to result (λ app. with_rule app rule)

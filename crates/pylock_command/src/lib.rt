@@ -1,6 +1,9 @@
 //! The command line of `pylock`, read by `clap`: from words to a task.
 #![tactic(auto)]
 
+mod choice;
+mod choices;
 mod command_line;
 
+pub use choice::Choice;
 pub use command_line::{CommandError, Task, command};

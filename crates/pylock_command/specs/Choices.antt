@@ -1,0 +1,99 @@
+-- The options of `plan`, in clap's terms.
+use Rattle.std.specs.Prelude.{◌≡◌, ◌⊎◌, ◌++◌, Bool, List, [], ◌∷◌, Option, Some, None, IfSome}
+use Rattle.std.specs.Prelude.{if◌then◌else◌, false, codes, fold, map, unwrap_or}
+use Rattle.std.specs.Option.{option_map_or}
+use Rattle.std.specs.Str.{bytes_eq}
+use Rattle.clap.specs.Words.{App, Row, Rule, Text, all_of, first_of, new_rule, with_rule}
+use Rattle.clap.specs.declared.builder.action.ArgAction.TheVariants.{Append, SetTrue}
+use Rattle.pylock_command.specs.declared.choice.Choice.{Choice}
+use Rattle.pylock_command.specs.declared.choice.Choice.TheVariants.{AllExtras, Extra}
+use Rattle.pylock_command.specs.declared.choice.Choice.TheVariants.{NoDefaultGroups, AllGroups}
+use Rattle.pylock_command.specs.declared.choice.Choice.TheVariants.{Group, NoGroup, OnlyBinary}
+use Rattle.pylock_command.specs.declared.choice.Choice.TheVariants.{NoBinary}
+use Rattle.pylock_command.specs.declared.choice.Choice.TheVariants as choice
+
+-- an option without a text, which stands once at most
+abbrev pub flag_rule : Text → Rule
+flag_rule name = record (new_rule name) { long = Some name; action = Some SetTrue }
+
+-- an option with a text, which may stand again with another one
+abbrev pub text_rule : Text → Rule
+text_rule name = record (new_rule name) {
+  long = Some name;
+  action = Some Append;
+  value_names = 1;
+}
+
+abbrev pub extra_rules : List Rule
+extra_rules = flag_rule (codes "all-extras") ∷ text_rule (codes "extra") ∷ []
+
+abbrev pub group_rules : List Rule
+group_rules = flag_rule (codes "no-default-groups") ∷ flag_rule (codes "all-groups")
+    ∷ text_rule (codes "group") ∷ text_rule (codes "no-group") ∷ []
+
+abbrev pub other_rules : List Rule
+other_rules = text_rule (codes "only-binary") ∷ text_rule (codes "no-binary")
+    ∷ text_rule (codes "set") ∷ []
+
+abbrev pub with_rules : App → List Rule → App
+with_rules = fold with_rule
+
+-- what the options of `plan` make of a command
+abbrev pub with_choices : App → App
+with_choices app = with_rules (with_rules (with_rules app extra_rules) group_rules) other_rules
+
+-- an option as it is written: its name, and its text, if it takes one
+abbrev pub Written : Type 0
+Written = Text × Option Text
+
+abbrev pub written : Choice → Written
+written AllExtras = (codes "all-extras", None)
+written (Extra name) = (codes "extra", Some name.now)
+written NoDefaultGroups = (codes "no-default-groups", None)
+written AllGroups = (codes "all-groups", None)
+written (Group name) = (codes "group", Some name.now)
+written (NoGroup name) = (codes "no-group", Some name.now)
+written (OnlyBinary name) = (codes "only-binary", Some name.now)
+written (NoBinary name) = (codes "no-binary", Some name.now)
+written (choice.Set text) = (codes "set", Some text.now)
+
+-- an option without a text, where the words have it
+abbrev pub has_flag : Text → List Row → Bool
+has_flag name rows = option_map_or (λ text. bytes_eq text (codes "true")) (first_of name rows) false
+
+abbrev pub flag_of : Text → List Row → List Written
+flag_of name rows = if has_flag name rows then (name, None) ∷ [] else []
+
+-- the texts that the words give an option, and the option with each of them
+abbrev pub texts_at : Text → List Row → List Text
+texts_at name rows = unwrap_or (all_of name rows) []
+
+abbrev pub texts_of : Text → List Row → List Written
+texts_of name rows = map (λ text. (name, Some text)) (texts_at name rows)
+
+-- what the words say of extras, and of dependency groups
+abbrev pub on_extras : List Row → List Written
+on_extras rows = flag_of (codes "all-extras") rows ++ texts_of (codes "extra") rows
+
+abbrev pub on_groups : List Row → List Written
+on_groups rows = flag_of (codes "no-default-groups") rows ++ flag_of (codes "all-groups") rows
+    ++ texts_of (codes "group") rows ++ texts_of (codes "no-group") rows
+
+-- `all` is made of two lists, of which each keeps its order
+abbrev pub Interleaves : List Written → List Written → List Written → Type 0
+Interleaves one other [] = (one ≡ []) × (other ≡ [])
+Interleaves one other (x ∷ all) =
+    ((rest : List Written) × (one ≡ x ∷ rest) × Interleaves rest other all)
+    ⊎ ((rest : List Written) × (other ≡ x ∷ rest) × Interleaves one rest all)
+
+-- what the words say of files, in their order, of which rows tell that of each option alone
+abbrev pub AreOnFiles : List Row → List Written → Type 0
+AreOnFiles rows = Interleaves (texts_of (codes "only-binary") rows)
+    (texts_of (codes "no-binary") rows)
+
+-- the options that the rows have, in the order in which `Choice` names them
+pub record AreChoices (rows : List Row) (choices : List Choice) : Type 0 where
+  pub on_files : List Written
+  pub as_rows_have : AreOnFiles rows on_files
+  pub listed : map written choices
+      ≡ on_extras rows ++ on_groups rows ++ on_files ++ texts_of (codes "set") rows

@@ -1,0 +1,252 @@
+//! The options of `plan`: what clap is told of them, and what it found.
+ghost use Rattle.std.specs.Prelude.{◌≡◌, ◌++◌, List, false, map, IfOk, OnOk, Some, None};
+ghost use Rattle.clap.specs.Words.{app_of, found_of, rows_of, rule_of, with_rule};
+ghost use Rattle.clap.specs.declared.builder.command.Command.TheViews.{out-Command as fields_of};
+ghost use Rattle.pylock_command.specs.Choices.{AreChoices, AreOnFiles, Written, extra_rules};
+ghost use Rattle.pylock_command.specs.Choices.{flag_of, flag_rule, group_rules, has_flag};
+ghost use Rattle.pylock_command.specs.Choices.{on_extras, on_groups, other_rules, text_rule};
+ghost use Rattle.pylock_command.specs.Choices.{texts_at, texts_of, with_choices, with_rules};
+ghost use Rattle.pylock_command.specs.Choices.{written};
+
+use crate::choice::Choice;
+use clap::{Arg, ArgAction, ArgMatches, Command};
+use std::alloc::{AllocError, Global};
+
+/// The command, which takes the options of `plan` too.
+pub(crate) fn with_choices<'a>(
+    alloc: Global,
+    command: Command<'a>,
+) -> Result<Command<'a>, AllocError>
+    requires local { (fields_of command).has_globals ≡ false }
+    ensures app { IfOk result (λ c. app_of c ≡ with_choices (app_of command.entry)) }
+    ensures local { IfOk result (λ c. (fields_of c).has_globals ≡ false) }
+{
+    let command = with_extra_options(alloc, command)?;
+    let command = with_group_options(alloc, command)?;
+    with_other_options(alloc, command)
+}
+
+/// Adds the options on extras.
+fn with_extra_options<'a>(
+    alloc: Global,
+    command: Command<'a>,
+) -> Result<Command<'a>, AllocError>
+    requires local { (fields_of command).has_globals ≡ false }
+    ensures app { IfOk result (λ c. app_of c ≡ with_rules (app_of command.entry) extra_rules) }
+    ensures local { IfOk result (λ c. (fields_of c).has_globals ≡ false) }
+{
+    let command = with_flag(alloc, command, "all-extras", "Each extra of the lock")?;
+    with_option(alloc, command, "extra", "NAME", "An extra of the lock")
+}
+
+/// Adds the options on dependency groups.
+fn with_group_options<'a>(
+    alloc: Global,
+    command: Command<'a>,
+) -> Result<Command<'a>, AllocError>
+    requires local { (fields_of command).has_globals ≡ false }
+    ensures app { IfOk result (λ c. app_of c ≡ with_rules (app_of command.entry) group_rules) }
+    ensures local { IfOk result (λ c. (fields_of c).has_globals ≡ false) }
+{
+    let command = with_flag(alloc, command, "no-default-groups", "No default group of the lock")?;
+    let command = with_flag(alloc, command, "all-groups", "Each group of the lock")?;
+    let command = with_option(alloc, command, "group", "NAME", "A group of the lock")?;
+    with_option(alloc, command, "no-group", "NAME", "All but this group")
+}
+
+/// Adds the options on files and on marker variables.
+fn with_other_options<'a>(
+    alloc: Global,
+    command: Command<'a>,
+) -> Result<Command<'a>, AllocError>
+    requires local { (fields_of command).has_globals ≡ false }
+    ensures app { IfOk result (λ c. app_of c ≡ with_rules (app_of command.entry) other_rules) }
+    ensures local { IfOk result (λ c. (fields_of c).has_globals ≡ false) }
+{
+    let command = with_option(alloc, command, "only-binary", "NAME", "Wheels alone of this name")?;
+    let command = with_option(alloc, command, "no-binary", "NAME", "No wheel of this name")?;
+    with_option(alloc, command, "set", "VARIABLE=VALUE", "A marker variable with this text")
+}
+
+/// The command with one more option, which takes no text.
+fn with_flag<'a>(
+    alloc: Global,
+    command: Command<'a>,
+    name: &'static str,
+    help: &'static str,
+) -> Result<Command<'a>, AllocError>
+    requires local { (fields_of command).has_globals ≡ false }
+    ensures app { IfOk result (λ c. app_of c ≡ with_rule (app_of command.entry) (flag_rule name.now)) }
+    ensures local { IfOk result (λ c. (fields_of c).has_globals ≡ false) }
+{
+    command.arg(flag(alloc, name, help))
+}
+
+/// The command with one more option, which takes a text.
+fn with_option<'a>(
+    alloc: Global,
+    command: Command<'a>,
+    name: &'static str,
+    value: &'static str,
+    help: &'static str,
+) -> Result<Command<'a>, AllocError>
+    requires local { (fields_of command).has_globals ≡ false }
+    ensures app { IfOk result (λ c. app_of c ≡ with_rule (app_of command.entry) (text_rule name.now)) }
+    ensures local { IfOk result (λ c. (fields_of c).has_globals ≡ false) }
+{
+    command.arg(option(alloc, name, value, help))
+}
+
+/// An option without a text.
+fn flag<'a>(alloc: Global, name: &'static str, help: &'static str) -> Arg<'a>
+    ensures rule { rule_of result ≡ flag_rule name.now }
+    ensures local { result.global ≡ false }
+{
+    Arg::new(alloc, name)
+        .long(name)
+        .action(ArgAction::SetTrue)
+        .help(help)
+}
+
+/// An option with a text, which `value` stands for in the help.
+fn option<'a>(
+    alloc: Global,
+    name: &'static str,
+    value: &'static str,
+    help: &'static str,
+) -> Arg<'a>
+    ensures rule { rule_of result ≡ text_rule name.now }
+    ensures local { result.global ≡ false }
+{
+    Arg::new(alloc, name)
+        .long(name)
+        .action(ArgAction::Append)
+        .value_name(value)
+        .help(help)
+}
+
+/// The options that the words have, in the order in which `Choice` names them.
+pub(crate) fn choices_of<'a>(
+    alloc: Global,
+    found: &ArgMatches<'a>,
+) -> Result<Vec<Choice<'a>>, AllocError>
+    ensures { IfOk result (λ choices. AreChoices (rows_of (found_of found.now)) choices.items) }
+{
+    let mut choices = Vec::new(alloc);
+    push_on_extras(&mut choices, found)?;
+    push_on_groups(&mut choices, found)?;
+    push_on_files(&mut choices, found)?;
+    push_texts(&mut choices, found, "set", |text| Choice::Set(text))?;
+    Ok(choices)
+}
+
+/// Pushes what the words say of extras.
+fn push_on_extras<'a>(
+    choices: &mut Vec<Choice<'a>>,
+    found: &ArgMatches<'a>,
+) -> Result<(), AllocError>
+    ensures { OnOk result (map written choices.new.items
+        ≡ map written choices.old.items ++ on_extras (rows_of (found_of found.now))) }
+{
+    push_flag(choices, found, "all-extras", Choice::AllExtras)?;
+    push_texts(choices, found, "extra", |name| Choice::Extra(name))
+}
+
+/// Pushes what the words say of dependency groups.
+fn push_on_groups<'a>(
+    choices: &mut Vec<Choice<'a>>,
+    found: &ArgMatches<'a>,
+) -> Result<(), AllocError>
+    ensures { OnOk result (map written choices.new.items
+        ≡ map written choices.old.items ++ on_groups (rows_of (found_of found.now))) }
+{
+    push_flag(choices, found, "no-default-groups", Choice::NoDefaultGroups)?;
+    push_flag(choices, found, "all-groups", Choice::AllGroups)?;
+    push_texts(choices, found, "group", |name| Choice::Group(name))?;
+    push_texts(choices, found, "no-group", |name| Choice::NoGroup(name))
+}
+
+/// Pushes what the words say of files, in their order.
+fn push_on_files<'a>(
+    choices: &mut Vec<Choice<'a>>,
+    found: &ArgMatches<'a>,
+) -> Result<(), AllocError>
+    ensures { OnOk result ((on_files : List Written)
+        × AreOnFiles (rows_of (found_of found.now)) on_files
+        × (map written choices.new.items ≡ map written choices.old.items ++ on_files)) }
+{
+    let wheels = texts(found, "only-binary");
+    let sources = texts(found, "no-binary");
+    let wheel_places = places(found, "only-binary");
+    let source_places = places(found, "no-binary");
+    let (mut wheel, mut source) = (0, 0);
+    while wheel < wheels.len() || source < sources.len() {
+        let is_first = wheel_places.get(wheel) < source_places.get(source);
+        if source == sources.len() || (wheel < wheels.len() && is_first) {
+            choices.push(Choice::OnlyBinary(wheels[wheel]))?;
+            wheel += 1;
+        } else {
+            choices.push(Choice::NoBinary(sources[source]))?;
+            source += 1;
+        }
+    }
+    Ok(())
+}
+
+/// Pushes an option without a text, if the words have it.
+fn push_flag<'a>(
+    choices: &mut Vec<Choice<'a>>,
+    found: &ArgMatches<'a>,
+    name: &str,
+    choice: Choice<'a>,
+) -> Result<(), AllocError>
+    requires { written choice ≡ (name.now, None) }
+    ensures { OnOk result (map written choices.new.items
+        ≡ map written choices.old.items ++ flag_of name.now (rows_of (found_of found.now))) }
+{
+    if has_flag(found, name) {
+        choices.push(choice)?;
+    }
+    Ok(())
+}
+
+/// Whether the words have an option without a text.
+fn has_flag(found: &ArgMatches<'_>, name: &str) -> bool
+    ensures { result ≡ has_flag name.now (rows_of (found_of found.now)) }
+{
+    match found.get_str(name) {
+        Some(text) => text == "true",
+        None => false,
+    }
+}
+
+/// Pushes an option with each text that the words give it.
+fn push_texts<'a, F: Fn(&'a str) -> Choice<'a>>(
+    choices: &mut Vec<Choice<'a>>,
+    found: &ArgMatches<'a>,
+    name: &str,
+    choice: F,
+) -> Result<(), AllocError>
+    requires called { F.IsAlwaysCallable choice }
+    requires named { (text : _) (chosen : Choice) → F.post choice text chosen
+        → written chosen ≡ (name.now, Some text.now) }
+    ensures { OnOk result (map written choices.new.items
+        ≡ map written choices.old.items ++ texts_of name.now (rows_of (found_of found.now))) }
+{
+    for text in texts(found, name) {
+        choices.push(choice(*text))?;
+    }
+    Ok(())
+}
+
+/// The texts that the words give an option.
+fn texts<'b, 'a>(found: &'b ArgMatches<'a>, name: &str) -> &'b [&'a str]
+    ensures { map (λ text. text.now) result.now ≡ texts_at name.now (rows_of (found_of found.now)) }
+{
+    found.get_strs(name).unwrap_or_default()
+}
+
+/// The places of an option's texts among the words.
+fn places<'b>(found: &'b ArgMatches<'_>, name: &str) -> &'b [usize] {
+    found.indices_of(name).unwrap_or_default()
+}
