@@ -29,7 +29,7 @@ pushed-more name start texts i d before after choice within so_far pushed is =
     ∙ ap₂ (λ (front : List Written) (last : Written). front ++ last ∷ []) so_far is
     ∙ append_assoc start (map (named name) (take i texts)) (named name (get_or texts i d) ∷ [])
     ∙ ap (λ (more : List Written). start ++ more)
-      (sym (ap (map (named name)) (take_more texts i d within) ∙ map-append (named name) (take i texts) (get_or texts i d ∷ [])))
+    (sym (ap (map (named name)) (take_more texts i d within) ∙ map-append (named name) (take i texts) (get_or texts i d ∷ [])))
 
 named-all : (name : Text) (texts : List (Bor Text)) → map (named name) texts ≡ map (λ (text : Text). (name, Some text)) (map (λ text. text.now) texts)
 named-all name [] = refl
@@ -119,6 +119,8 @@ pub all-merged : (wheels sources : List (Bor Text)) (wheel source : ℕ) (start 
     → (on_files : List Written) × AreOnFiles rows on_files × (map written choices ≡ start ++ on_files)
 all-merged wheels sources wheel source start choices rows m no_wheel no_source told_wheels told_sources =
     let whole = m.goes_on [] (ap wheels_of (drop_of_length-le wheels no_wheel), ap sources_of (drop_of_length-le sources no_source)) in
-    let by_wheels = subst (λ (one : List Written). Interleaves one (sources_of sources) whole.0) (texts-named (codes "only-binary") wheels rows told_wheels) whole.1 in
-    (whole.0, subst (λ (other : List Written). Interleaves (texts_of (codes "only-binary") rows) other whole.0) (texts-named (codes "no-binary") sources rows told_sources) by_wheels,
-    sym (append-nil (map written choices)) ∙ whole.2)
+    let by_wheels = subst (λ (one : List Written). Interleaves one (sources_of sources) whole.0) (texts-named (codes "only-binary") wheels rows told_wheels) whole.1 in (
+      whole.0,
+      subst (λ (other : List Written). Interleaves (texts_of (codes "only-binary") rows) other whole.0) (texts-named (codes "no-binary") sources rows told_sources) by_wheels,
+      sym (append-nil (map written choices)) ∙ whole.2,
+    )

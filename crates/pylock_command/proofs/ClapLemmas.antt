@@ -1,38 +1,23 @@
 -- What clap's matches tell of a subcommand.
-use Rattle.std.proofs.Common.{◌≡◌, ◌||◌, Bool, false, not, List, [], ◌∷◌, Option, None, Some, refl, true, inl, inr, is_some, subst, sym, ap, ap₂, ◌∙◌, Box, option_map}
+use Rattle.std.proofs.Common.{◌≡◌, ◌||◌, Bool, false, not, List, [], ◌∷◌, Option, None, Some, refl, true, inl, inr, is_some, subst, sym, ap, ◌∙◌}
 use Rattle.std.proofs.lemmas.Bool.{and_parts}
 use Rattle.std.proofs.lemmas.List.Elements.{All-cons, All-nil}
-use Rattle.std.specs.Box.{box_value}
-use Rattle.std.specs.Prelude.{IfOk, Result}
+use Rattle.std.specs.Prelude.{IfOk, Result, Ok, Err}
 use Rattle.std.specs.declared.alloc.AllocError.{AllocError}
 use Rattle.clap.proofs.WalkLemmas.{first_value-rows}
-use Rattle.clap.specs.Words.{Row, Text, first_of, first_value, found_of, rows_of, subcommand_name_of, subcommand_rows, subcommand_rows_of}
+use Rattle.clap.specs.Words.{Row, Text, first_of, first_value, found_of, rows_of, subcommand_rows_of}
 use Rattle.clap.proofs.OnLiterals.{clap_on_literals}
-use Rattle.clap.specs.Words.{App, HasKind, HasMatchesOf, IsAmong, Rule, app_of, built, fault_of, is_simple, is_simple_and_free, kind_of, subcommand_of, with_rule}
+use Rattle.clap.specs.Words.{AddsSubcommand, App, HasKind, HasMatchesOf, IsAmong, Rule, app_of, built, fault_of, is_simple, is_simple_and_free, kind_of, subcommand_of, with_rule, with_subcommand}
 use Rattle.clap.specs.Faults.{is_free_app}
 use Rattle.clap.specs.declared.error.kind.ErrorKind.TheVariants.{MissingRequiredArgument, OutOfMemory}
 use Rattle.clap.specs.declared.builder.command.Command.{Command}
+use Rattle.clap.specs.declared.builder.command.Command.TheViews.{out-Command}
 use Rattle.clap.specs.declared.error.Error.{Error}
-use Rattle.pylock_command.specs.CommandLine.{HasTexts, IsRefusal, IsTask, Keeps, is_lacking, lacks, lacks_text, pylock_app}
+use Rattle.pylock_command.specs.CommandLine.{HasTexts, HaveTexts, IsRefusal, IsTask, Keeps, is_lacking, lacks, lacks_plain_text, pylock_app}
 use Rattle.pylock_command.specs.declared.command_line.CommandError.{CommandError}
 use Rattle.pylock_command.specs.declared.command_line.CommandError.TheVariants.{Refused, Memory}
 use Rattle.pylock_command.specs.declared.command_line.Task.{Task}
 use Rattle.clap.specs.declared.parser.matches.ArgMatches.{ArgMatches}
-use Rattle.clap.specs.declared.parser.matches.ArgMatches.TheViews.{out-ArgMatches, out-SubCommand}
-use Rattle.clap.specs.declared.parser.matches.SubCommand.{SubCommand}
-
-name_of-rows : {Z : Type 0} (found : Option (Box SubCommand Z))
-    → option_map (λ b. (out-SubCommand (box_value b)).name.now) found ≡ option_map (λ p. p.0) (subcommand_rows found)
-name_of-rows None = refl
-name_of-rows (Some found) = refl
-
-both_parts : (found : Option (Text × List Row)) (name : Text) (rows : List Row) → Some name ≡ option_map (λ p. p.0) found → Some rows ≡ option_map (λ p. p.1) found
-    → found ≡ Some (name, rows)
-both_parts None name rows named met = cc
-both_parts (Some found) name rows named met =
-    let same_name : found.0 ≡ name = cc in
-    let same_rows : found.1 ≡ rows = cc in
-    ap₂ (λ (n : Text) (rs : List Row). Some (n, rs)) same_name same_rows
 
 or-true : (b : Bool) → (b || true) ≡ true
 or-true true = refl
@@ -41,36 +26,21 @@ or-true false = refl
 abbrev HasText : List Row → Text × Text → Type 0
 HasText rows p = first_of p.0 rows ≡ Some p.1
 
--- the subcommand that clap met, and the texts that its matches give
-module _ (m found : ArgMatches) (name word : Text) (is : name ≡ word) (named : Some name ≡ subcommand_name_of m)
-    (met : Some (rows_of (found_of found)) ≡ option_map (λ p. p.1) (subcommand_rows_of m)) where
+-- the texts that the matches of a subcommand give
+module _ (found : ArgMatches) where
   abbrev rows : List Row
   rows = rows_of (found_of found)
-
-  entered : subcommand_rows_of m ≡ Some (word, rows)
-  entered = both_parts (subcommand_rows_of m) word rows (ap (λ (n : Text). Some n) (sym is) ∙ named ∙ name_of-rows (out-ArgMatches m).subcommand) met
 
   given : (id text : Text) → Some text ≡ first_value (found_of found) id → HasText rows (id, text)
   given id text gives = sym (gives ∙ first_value-rows (found_of found) id)
 
-  pub HasTexts-one : (id text : Text) → Some text ≡ first_value (found_of found) id → HasTexts (subcommand_rows_of m) word ((id, text) ∷ [])
-  HasTexts-one id text gives = record {
-    rows = rows;
-    entered = entered;
-    given = All-cons (HasText rows) (id, text) [] (given id text gives) (All-nil (HasText rows));
-  }
+  HaveTexts-one : (id text : Text) → Some text ≡ first_value (found_of found) id → HaveTexts rows ((id, text) ∷ [])
+  HaveTexts-one id text gives = All-cons (HasText rows) (id, text) [] (given id text gives) (All-nil (HasText rows))
 
-  pub HasTexts-two : (id text other other_text : Text) → Some text ≡ first_value (found_of found) id → Some other_text ≡ first_value (found_of found) other
-      → HasTexts (subcommand_rows_of m) word ((id, text) ∷ (other, other_text) ∷ [])
-  HasTexts-two id text other other_text gives gives_other = record {
-    rows = rows;
-    entered = entered;
-    given = All-cons (HasText rows) (id, text) ((other, other_text) ∷ []) (given id text gives)
-        (All-cons (HasText rows) (other, other_text) [] (given other other_text gives_other) (All-nil (HasText rows)));
-  }
-
-  pub is_lacking-from : lacks_text word rows ≡ true → is_lacking (subcommand_rows_of m) ≡ true
-  is_lacking-from lacking = ap is_lacking entered ∙ lacking
+  pub HaveTexts-two : (id text other other_text : Text) → Some text ≡ first_value (found_of found) id → Some other_text ≡ first_value (found_of found) other
+      → HaveTexts rows ((id, text) ∷ (other, other_text) ∷ [])
+  HaveTexts-two id text other other_text gives gives_other =
+      All-cons (HasText rows) (id, text) ((other, other_text) ∷ []) (given id text gives) (HaveTexts-one other other_text gives_other)
 
   pub lacks_one : (id : Text) → None ≡ first_value (found_of found) id → lacks rows id ≡ true
   lacks_one id none = ap (λ (text : Option Text). not (is_some text)) (sym (none ∙ first_value-rows (found_of found) id))
@@ -80,6 +50,26 @@ module _ (m found : ArgMatches) (name word : Text) (is : name ≡ word) (named :
 
   pub lacks_second : (id other : Text) → None ≡ first_value (found_of found) other → (lacks rows id || lacks rows other) ≡ true
   lacks_second id other none = ap (λ b. lacks rows id || b) (lacks_one other none) ∙ or-true (lacks rows id)
+
+  -- of a subcommand whose name is this word
+  module _ (name word : Text) (is : name ≡ word) where
+    pub HasTexts-of : (texts : List (Text × Text)) → HaveTexts rows texts → HasTexts (Some (name, rows)) word texts
+    HasTexts-of texts have = record {
+      rows = rows;
+      entered = ap (λ (n : Text). Some (n, rows)) is;
+      given = have;
+    }
+
+    pub HasTexts-one : (id text : Text) → Some text ≡ first_value (found_of found) id → HasTexts (Some (name, rows)) word ((id, text) ∷ [])
+    HasTexts-one id text gives = HasTexts-of ((id, text) ∷ []) (HaveTexts-one id text gives)
+
+    pub HasTexts-two : (id text other other_text : Text) → Some text ≡ first_value (found_of found) id → Some other_text ≡ first_value (found_of found) other
+        → HasTexts (Some (name, rows)) word ((id, text) ∷ (other, other_text) ∷ [])
+    HasTexts-two id text other other_text gives gives_other =
+        HasTexts-of ((id, text) ∷ (other, other_text) ∷ []) (HaveTexts-two id text other other_text gives gives_other)
+
+    pub lacks_plain_text-of : lacks_plain_text word rows ≡ true → lacks_plain_text name rows ≡ true
+    lacks_plain_text-of lacking = ap (λ (n : Text). lacks_plain_text n rows) is ∙ lacking
 
 pylock_app-is_simple_and_free : is_simple_and_free pylock_app ≡ true
 unfolding clap_on_literals
@@ -127,3 +117,9 @@ ruled-more rule new one other same added = added ∙ ap (λ (app : App). with_ru
 pub ruled-to : (result : Result Command AllocError) (rule : Rule) (one other : App) → one ≡ other → IfOk result (λ c. app_of c ≡ with_rule one rule)
     → IfOk result (λ c. app_of c ≡ with_rule other rule)
 ruled-to result rule = added-to result (λ app. with_rule app rule)
+
+-- the command with one more subcommand, of which this is known
+pub subcommand-added : (result : Result Command AllocError) (old sub : Command) (app : App) → IfOk result (λ c. AddsSubcommand old sub c)
+    → (out-Command sub).has_globals ≡ false → app_of sub ≡ app → IfOk result (λ c. app_of c ≡ with_subcommand (app_of old) app.top)
+subcommand-added (Err error) old sub app added local is = tt
+subcommand-added (Ok new) old sub app added local is = added.shape local ∙ ap (λ (a : App). with_subcommand (app_of old) a.top) is

@@ -1,17 +1,19 @@
 -- The program's command line, in clap's terms.
 use Rattle.std.specs.Prelude.{◌≡◌, ◌≢◌, ◌⊎◌, ◌||◌, Bool, true, false, not, if◌then◌else◌, codes}
-use Rattle.std.specs.Prelude.{List, [], ◌∷◌, Option, Some, None, is_some, All}
+use Rattle.std.specs.Prelude.{List, [], ◌∷◌, Option, Some, None, IfSome, is_some, All}
 use Rattle.std.specs.Str.{bytes_eq}
 use Rattle.clap.specs.Words.{App, IsAmong, Row, Rule, Text, fault_of, first_of, kind_of, new_app}
 use Rattle.clap.specs.Words.{new_rule, subcommand_of, with_rule, with_subcommand}
 use Rattle.clap.specs.declared.error.Error.{Error}
 use Rattle.clap.specs.declared.error.kind.ErrorKind.TheVariants.{MissingRequiredArgument}
 use Rattle.clap.specs.declared.error.kind.ErrorKind.TheVariants.{OutOfMemory}
+use Rattle.pylock_command.specs.Choices.{AreChoices, with_choices}
+use Rattle.pylock_command.specs.declared.choice.Choice.{Choice}
 use Rattle.pylock_command.specs.declared.command_line.CommandError.{CommandError}
 use Rattle.pylock_command.specs.declared.command_line.CommandError.TheVariants.{Refused, Memory}
 use Rattle.pylock_command.specs.declared.command_line.Task.{Task}
-use Rattle.pylock_command.specs.declared.command_line.Task.TheVariants.{Bare, Select, Files}
-use Rattle.pylock_command.specs.declared.command_line.Task.TheVariants.{Version}
+use Rattle.pylock_command.specs.declared.command_line.Task.TheVariants.{Bare, Plan, Select}
+use Rattle.pylock_command.specs.declared.command_line.Task.TheVariants.{Files, Version}
 use Rattle.pylock_command.specs.declared.command_line.Task.TheVariants.{Match, Name}
 use Rattle.pylock_command.specs.declared.command_line.Task.TheVariants.{Marker, Requirement, Wheel}
 
@@ -26,7 +28,14 @@ one_text name id = with_rule (new_app name) (place_rule id)
 abbrev pub two_texts : Text → Text → Text → App
 two_texts name first second = with_rule (one_text name first) (place_rule second)
 
+-- a subcommand of this name, which takes the paths of lock and environment and `plan`'s options
+abbrev pub chosen_app : Text → App
+chosen_app name = with_choices (two_texts name (codes "LOCK") (codes "ENV"))
+
 -- what adding a subcommand makes of a command
+abbrev pub with_chosen : App → Text → App
+with_chosen app name = with_subcommand app (chosen_app name).top
+
 abbrev pub with_one : App → Text → Text → App
 with_one app name id = with_subcommand app (one_text name id).top
 
@@ -38,6 +47,10 @@ abbrev pub top_app : App
 top_app =
     let app = new_app (codes "pylock") in
     record app { top = record app.top { has_version = true } }
+
+-- the commands with the options of `plan`
+abbrev pub with_plan : App → App
+with_plan app = with_chosen app (codes "plan")
 
 -- the run, the list of sources, and the commands on versions and names
 abbrev pub with_first : App → App
@@ -62,20 +75,28 @@ with_further app =
     (codes "wheel") (codes "TEXT")
 
 abbrev pub pylock_app : App
-pylock_app = with_further (with_first top_app)
+pylock_app = with_further (with_first (with_plan top_app))
 
--- the words have this subcommand, and each of these arguments of it, by name, has this text
+-- each of these arguments, by name, has this text
+abbrev pub HaveTexts : List Row → List (Text × Text) → Type 0
+HaveTexts rows = All (λ p. first_of p.0 rows ≡ Some p.1)
+
+-- the words have this subcommand, with these texts of its arguments
 pub record HasTexts (found : Option (Text × List Row)) (name : Text) (texts : List (Text × Text))
     : Type 0 where
   pub rows : List Row
   pub entered : found ≡ Some (name, rows)
-  pub given : All (λ p. first_of p.0 rows ≡ Some p.1) texts
+  pub given : HaveTexts rows texts
+
+-- the paths of lock and environment, by the names of the arguments
+abbrev pub paths : Text → Text → List (Text × Text)
+paths lock env = (codes "LOCK", lock) ∷ (codes "ENV", env) ∷ []
 
 -- the subcommand of a task, and the texts of its arguments by name
 abbrev pub call_of : Task → Option (Text × List (Text × Text))
 call_of Bare = None
-call_of (Select lock env) =
-    Some (codes "select", (codes "LOCK", lock.now) ∷ (codes "ENV", env.now) ∷ [])
+call_of (Plan lock env choices) = Some (codes "plan", paths lock.now env.now)
+call_of (Select lock env) = Some (codes "select", paths lock.now env.now)
 call_of (Files lock) = Some (codes "files", (codes "LOCK", lock.now) ∷ [])
 call_of (Version text) = Some (codes "version", (codes "TEXT", text.now) ∷ [])
 call_of (Match set version) =
@@ -91,18 +112,28 @@ abbrev pub IsCall : Option (Text × List Row) → Option (Text × List (Text × 
 IsCall found None = found ≡ None
 IsCall found (Some call) = HasTexts found call.0 call.1
 
+-- these are the options of the words' subcommand
+abbrev pub HasChoices : Option (Text × List Row) → List Choice → Type 0
+HasChoices found choices = IfSome found (λ p. AreChoices p.1 choices)
+
 -- the task that the words give
 abbrev pub IsTask : Option (Text × List Row) → Task → Type 0
+IsTask found (Plan lock env choices) =
+    IsCall found (call_of (Plan lock env choices)) × HasChoices found choices.items
 IsTask found task = IsCall found (call_of task)
 
 -- an argument has no text
 abbrev pub lacks : List Row → Text → Bool
 lacks rows id = not (is_some (first_of id rows))
 
--- the words have a subcommand that lacks one of its texts, or that is none of the program's
-abbrev pub lacks_text : Text → List Row → Bool
-lacks_text name rows =
-    if bytes_eq name (codes "select") then lacks rows (codes "LOCK") || lacks rows (codes "ENV")
+-- the path of the lock is missing, or that of the environment
+abbrev pub lacks_path : List Row → Bool
+lacks_path rows = lacks rows (codes "LOCK") || lacks rows (codes "ENV")
+
+-- a subcommand that takes texts alone lacks one, or it is none of the program's
+abbrev pub lacks_plain_text : Text → List Row → Bool
+lacks_plain_text name rows =
+    if bytes_eq name (codes "select") then lacks_path rows
     else if bytes_eq name (codes "files") then lacks rows (codes "LOCK")
     else if bytes_eq name (codes "version") then lacks rows (codes "TEXT")
     else if bytes_eq name (codes "match")
@@ -113,6 +144,11 @@ lacks_text name rows =
     else if bytes_eq name (codes "requirement") then lacks rows (codes "TEXT")
     else if bytes_eq name (codes "wheel") then lacks rows (codes "TEXT")
     else true
+
+-- the words have a subcommand that lacks one of its texts, or that is none of the program's
+abbrev pub lacks_text : Text → List Row → Bool
+lacks_text name rows =
+    if bytes_eq name (codes "plan") then lacks_path rows else lacks_plain_text name rows
 
 abbrev pub is_lacking : Option (Text × List Row) → Bool
 is_lacking None = false

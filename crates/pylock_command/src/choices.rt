@@ -27,10 +27,7 @@ pub(crate) fn with_choices<'a>(
 }
 
 /// Adds the options on extras.
-fn with_extra_options<'a>(
-    alloc: Global,
-    command: Command<'a>,
-) -> Result<Command<'a>, AllocError>
+fn with_extra_options<'a>(alloc: Global, command: Command<'a>) -> Result<Command<'a>, AllocError>
     requires local { (fields_of command).has_globals ≡ false }
     ensures app { IfOk result (λ c. app_of c ≡ with_rules (app_of command.entry) extra_rules) }
     ensures local { IfOk result (λ c. (fields_of c).has_globals ≡ false) }
@@ -40,32 +37,43 @@ fn with_extra_options<'a>(
 }
 
 /// Adds the options on dependency groups.
-fn with_group_options<'a>(
-    alloc: Global,
-    command: Command<'a>,
-) -> Result<Command<'a>, AllocError>
+fn with_group_options<'a>(alloc: Global, command: Command<'a>) -> Result<Command<'a>, AllocError>
     requires local { (fields_of command).has_globals ≡ false }
     ensures app { IfOk result (λ c. app_of c ≡ with_rules (app_of command.entry) group_rules) }
     ensures local { IfOk result (λ c. (fields_of c).has_globals ≡ false) }
 {
-    let command = with_flag(alloc, command, "no-default-groups", "No default group of the lock")?;
+    let command = with_flag(
+        alloc,
+        command,
+        "no-default-groups",
+        "No default group of the lock",
+    )?;
     let command = with_flag(alloc, command, "all-groups", "Each group of the lock")?;
     let command = with_option(alloc, command, "group", "NAME", "A group of the lock")?;
     with_option(alloc, command, "no-group", "NAME", "All but this group")
 }
 
 /// Adds the options on files and on marker variables.
-fn with_other_options<'a>(
-    alloc: Global,
-    command: Command<'a>,
-) -> Result<Command<'a>, AllocError>
+fn with_other_options<'a>(alloc: Global, command: Command<'a>) -> Result<Command<'a>, AllocError>
     requires local { (fields_of command).has_globals ≡ false }
     ensures app { IfOk result (λ c. app_of c ≡ with_rules (app_of command.entry) other_rules) }
     ensures local { IfOk result (λ c. (fields_of c).has_globals ≡ false) }
 {
-    let command = with_option(alloc, command, "only-binary", "NAME", "Wheels alone of this name")?;
+    let command = with_option(
+        alloc,
+        command,
+        "only-binary",
+        "NAME",
+        "Wheels alone of this name",
+    )?;
     let command = with_option(alloc, command, "no-binary", "NAME", "No wheel of this name")?;
-    with_option(alloc, command, "set", "VARIABLE=VALUE", "A marker variable with this text")
+    with_option(
+        alloc,
+        command,
+        "set",
+        "VARIABLE=VALUE",
+        "A marker variable with this text",
+    )
 }
 
 /// The command with one more option, which takes no text.
@@ -109,12 +117,7 @@ fn flag<'a>(alloc: Global, name: &'static str, help: &'static str) -> Arg<'a>
 }
 
 /// An option with a text, which `value` stands for in the help.
-fn option<'a>(
-    alloc: Global,
-    name: &'static str,
-    value: &'static str,
-    help: &'static str,
-) -> Arg<'a>
+fn option<'a>(alloc: Global, name: &'static str, value: &'static str, help: &'static str) -> Arg<'a>
     ensures rule { rule_of result ≡ text_rule name.now }
     ensures local { result.global ≡ false }
 {

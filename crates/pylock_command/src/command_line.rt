@@ -1,21 +1,29 @@
 //! The command line.
-ghost use Rattle.std.specs.Prelude.{◌≡◌, [], map, false, true, IfOk, IfErr, OnOk, IfSome, IfNone};
-ghost use Rattle.clap.specs.Words.{app_of, fault_of, new_app, rule_of, subcommand_of};
-ghost use Rattle.clap.specs.Words.{subcommand_rows_of, with_rule};
+ghost use Rattle.std.specs.Prelude.{◌≡◌, [], map, codes, false, true, Some, IfOk, IfErr, OnOk};
+ghost use Rattle.std.specs.Prelude.{IfSome, IfNone};
+ghost use Rattle.clap.specs.Words.{app_of, fault_of, found_of, new_app, rows_of, rule_of};
+ghost use Rattle.clap.specs.Words.{subcommand_of, subcommand_rows_of, with_rule};
 ghost use Rattle.clap.specs.declared.builder.command.Command.TheViews.{out-Command as fields_of};
-ghost use Rattle.pylock_command.specs.CommandLine.{IsRefusal, IsTask, is_lacking, one_text};
-ghost use Rattle.pylock_command.specs.CommandLine.{place_rule, pylock_app, two_texts, with_one};
-ghost use Rattle.pylock_command.specs.CommandLine.{with_first, with_further, with_two};
+ghost use Rattle.pylock_command.specs.CommandLine.{HaveTexts, IsRefusal, IsTask, chosen_app};
+ghost use Rattle.pylock_command.specs.CommandLine.{is_lacking, lacks_path, lacks_plain_text};
+ghost use Rattle.pylock_command.specs.CommandLine.{lacks_text};
+ghost use Rattle.pylock_command.specs.CommandLine.{one_text, paths, place_rule, pylock_app};
+ghost use Rattle.pylock_command.specs.CommandLine.{two_texts, with_chosen, with_first};
+ghost use Rattle.pylock_command.specs.CommandLine.{with_further, with_one, with_plan, with_two};
 
+use crate::choice::Choice;
+use crate::choices::{choices_of, with_choices};
 use clap::error::ErrorKind;
 use clap::{Arg, ArgMatches, Command};
 use std::alloc::{AllocError, Global};
 
 /// What the program is asked to do.
-#[derive(Clone, Copy, Debug)]
+#[derive(Debug, Drop)]
 pub enum Task<'a> {
     /// No subcommand.
     Bare,
+    /// `plan`, with the paths of the lock and of the environment, and its options.
+    Plan(&'a str, &'a str, Vec<Choice<'a>>),
     /// `select`, with the paths of the lock and of the environment.
     Select(&'a str, &'a str),
     /// `files`, with the path of the lock.
@@ -86,6 +94,24 @@ struct Usage {
     about: &'static str,
     reply: &'static str,
 }
+
+const PLAN: Usage = Usage {
+    name: "plan",
+    about: "Print the plan of a lock, with the extras, groups and kinds of files asked for",
+    reply: "\
+Prints plan K and then K lines, or fault ID, TAB and CODE, as select does. Tags
+come from ENV alone. For example:
+  pylock plan pylock.toml env.json --extra=test --group dev --only-binary :all:
+
+--only-binary :all: leaves VCS sources, directories and archives, which are
+built all the same. Of --only-binary and --no-binary a later one counts for the
+names that it has. An option that is refused prints refused, TAB, the option,
+TAB and its TEXT. A TEXT that begins with - is given as --extra=TEXT.
+
+Status: 0, a plan; 1, a fault or a refused option; 2, the lock, the environment
+or the command line is refused; 3, a file can't be read, the output failed or
+memory ran out.",
+};
 
 const SELECT: Usage = Usage {
     name: "select",
@@ -239,6 +265,18 @@ const WHEEL_TEXT: Text = Text {
     help: "A file name, such as numpy-2.2.1-cp312-cp312-win_amd64.whl",
 };
 
+/// The command `pylock` with one more subcommand, which takes the paths of lock and environment,
+/// and the options of `plan`.
+fn with_chosen<'a>(
+    alloc: Global,
+    pylock: Command<'a>,
+    usage: Usage,
+) -> Result<Command<'a>, AllocError>
+    ensures { IfOk result (λ c. app_of c ≡ with_chosen (app_of pylock.entry) usage.name.now) }
+{
+    pylock.subcommand(chosen(alloc, usage)?)
+}
+
 /// The command `pylock` with one more subcommand, which takes one text.
 fn with_one_text<'a>(
     alloc: Global,
@@ -264,6 +302,15 @@ fn with_two_texts<'a>(
         ≡ with_two (app_of pylock.entry) usage.name.now first.id.now second.id.now) }
 {
     pylock.subcommand(two_texts(alloc, usage, first, second)?)
+}
+
+/// A subcommand that takes the paths of lock and environment, and the options of `plan`.
+fn chosen<'a>(alloc: Global, usage: Usage) -> Result<Command<'a>, AllocError>
+    ensures app { IfOk result (λ c. app_of c ≡ chosen_app usage.name.now) }
+    ensures local { IfOk result (λ c. (fields_of c).has_globals ≡ false) }
+{
+    let command = two_texts(alloc, usage, LOCK, ENV)?;
+    with_choices(alloc, command)
 }
 
 /// A subcommand that takes one text.
@@ -337,23 +384,81 @@ fn with_further<'a>(alloc: Global, pylock: Command<'a>) -> Result<Command<'a>, A
     with_one_text(alloc, pylock, WHEEL, WHEEL_TEXT)
 }
 
+/// Adds the commands with the options of `plan`.
+fn with_plan<'a>(alloc: Global, pylock: Command<'a>) -> Result<Command<'a>, AllocError>
+    ensures { IfOk result (λ c. app_of c ≡ with_plan (app_of pylock.entry)) }
+{
+    with_chosen(alloc, pylock, PLAN)
+}
+
 /// The command `pylock` with its subcommands.
 fn pylock_command<'a>(alloc: Global) -> Result<Command<'a>, AllocError>
     ensures { IfOk result (λ c. app_of c ≡ pylock_app) }
 {
     let pylock = Command::new(alloc, "pylock").about(ABOUT).version(VERSION);
+    let pylock = with_plan(alloc, pylock)?;
     let pylock = with_first(alloc, pylock)?;
     with_further(alloc, pylock)
 }
 
 /// The task that clap's matches give: none where a subcommand lacks a text.
-fn task_of<'a>(matches: &ArgMatches<'a>) -> Option<Task<'a>>
-    ensures some { IfSome result (IsTask (subcommand_rows_of matches.now)) }
-    ensures none { IfNone result (is_lacking (subcommand_rows_of matches.now) ≡ true) }
+fn task_of<'a>(alloc: Global, matches: ArgMatches<'a>) -> Result<Option<Task<'a>>, AllocError>
+    ensures some { IfOk result (λ task. IfSome task (IsTask (subcommand_rows_of matches.entry))) }
+    ensures none { IfOk result (λ task. IfNone task
+        (is_lacking (subcommand_rows_of matches.entry) ≡ true)) }
 {
-    let Some((name, found)) = matches.subcommand() else {
-        return Some(Task::Bare);
+    match matches.subcommand() {
+        Some((name, found)) => task_in(alloc, name, found),
+        None => Ok(Some(Task::Bare)),
+    }
+}
+
+/// The task of a subcommand: none where it lacks a text.
+fn task_in<'a>(
+    alloc: Global,
+    name: &str,
+    found: &ArgMatches<'a>,
+) -> Result<Option<Task<'a>>, AllocError>
+    ensures some { IfOk result (λ task. IfSome task
+        (IsTask (Some (name.now, rows_of (found_of found.now))))) }
+    ensures none { IfOk result (λ task. IfNone task
+        (lacks_text name.now (rows_of (found_of found.now)) ≡ true)) }
+{
+    match name {
+        "plan" => plan_of(alloc, found),
+        _ => Ok(plain_task(name, found)),
+    }
+}
+
+/// The task of `plan`: none where it lacks a path.
+fn plan_of<'a>(alloc: Global, found: &ArgMatches<'a>) -> Result<Option<Task<'a>>, AllocError>
+    ensures some { IfOk result (λ task. IfSome task
+        (IsTask (Some (codes "plan", rows_of (found_of found.now))))) }
+    ensures none { IfOk result (λ task. IfNone task
+        (lacks_path (rows_of (found_of found.now)) ≡ true)) }
+{
+    let Some((lock, env)) = paths_of(found) else {
+        return Ok(None);
     };
+    let choices = choices_of(alloc, found)?;
+    Ok(Some(Task::Plan(lock, env, choices)))
+}
+
+/// The paths of lock and environment, where both are there.
+fn paths_of<'a>(found: &ArgMatches<'a>) -> Option<(&'a str, &'a str)>
+    ensures some { IfSome result (λ p.
+        HaveTexts (rows_of (found_of found.now)) (paths p.0.now p.1.now)) }
+    ensures none { IfNone result (lacks_path (rows_of (found_of found.now)) ≡ true) }
+{
+    Some((found.get_str("LOCK")?, found.get_str("ENV")?))
+}
+
+/// The task of a subcommand that takes texts alone: none where it lacks one.
+fn plain_task<'a>(name: &str, found: &ArgMatches<'a>) -> Option<Task<'a>>
+    ensures some { IfSome result (IsTask (Some (name.now, rows_of (found_of found.now)))) }
+    ensures none { IfNone result
+        (lacks_plain_text name.now (rows_of (found_of found.now)) ≡ true) }
+{
     match name {
         "select" => Some(Task::Select(found.get_str("LOCK")?, found.get_str("ENV")?)),
         "files" => Some(Task::Files(found.get_str("LOCK")?)),
@@ -380,7 +485,8 @@ pub fn command<'a>(alloc: Global, words: &'a [&'a str]) -> Result<Task<'a>, Comm
 {
     let mut app = pylock_command(alloc)?;
     let matches = app.try_get_matches_from_mut(words)?;
-    match task_of(&matches) {
+    let found = task_of(alloc, matches)?;
+    match found {
         Some(task) => Ok(task),
         None => {
             let kind = ErrorKind::MissingRequiredArgument;

@@ -1,6 +1,6 @@
 use Rattle.std.proofs.Common.{◌<◌, length, rules, refl}
 use Rattle.clap.specs.Words.{found_of, rows_of}
-use Rattle.pylock_command.proofs.ChoiceLemmas.{all-merged, none-merged, source-merged, wheel-merged}
+use Rattle.pylock_command.proofs.ChoiceLemmas.{all-merged, source-merged, wheel-merged}
 use Rattle.pylock_command.proofs.choices.push_on_files.Goals as goal
 
 pub loop-wheel-preserved-then-is_first : goal.loop-wheel-preserved-then-is_first

@@ -1,4 +1,4 @@
-use Rattle.std.proofs.Common.{◌≡◌, map, refl, sym, ◌∙◌, append-nil}
+use Rattle.std.proofs.Common.{map, sym, append-nil}
 use Rattle.pylock_command.specs.Choices.{written}
 use Rattle.pylock_command.proofs.ChoiceLemmas.{pushed-all, pushed-more}
 use Rattle.pylock_command.proofs.choices.push_texts.Goals as goal

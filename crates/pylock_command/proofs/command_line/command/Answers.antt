@@ -17,9 +17,11 @@ returns-in-Some-clause-taken c = fault_of-taken _ c.in_ok-app.ensures (texts c.a
 
 pub returns-in-Some-clause-task : goal.returns-in-Some-clause-task
 returns-in-Some-clause-task c =
-    IsTask-told _ c.in_ok-app.ensures (texts c.args.words.now) c.in_ok-matches.matches c.in-Some.task c.in_ok-matches.ensures.ok.2 c.in-Some.ensures.some
+    IsTask-told _ c.in_ok-app.ensures (texts c.args.words.now) c.in_ok-matches.matches c.in-Some.task c.in_ok-matches.ensures.ok.2
+    (rw c.in-Some.is at c.in_ok-found.ensures.some)
 
 pub returns-clause-refused : goal.returns-clause-refused
 returns-clause-refused c =
-    IsRefusal-told _ c.in_ok-app.ensures (texts c.args.words.now) c.in_ok-matches.matches c.in_ok-error-in-None.field-0 c.in_ok-matches.ensures.ok.2 c.in-None.ensures.none
+    IsRefusal-told _ c.in_ok-app.ensures (texts c.args.words.now) c.in_ok-matches.matches c.in_ok-error-in-None.field-0 c.in_ok-matches.ensures.ok.2
+    (rw c.in-None.is at c.in_ok-found.ensures.none)
     c.in_ok-error-in-None.ensures.kind
