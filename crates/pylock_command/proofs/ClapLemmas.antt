@@ -72,7 +72,7 @@ module _ (found : ArgMatches) where
     lacks_plain_text-of lacking = ap (λ (n : Text). lacks_plain_text n rows) is ∙ lacking
 
 pylock_app-is_simple_and_free : is_simple_and_free pylock_app ≡ true
-unfolding clap_on_literals
+unfolding clap_on_literals pylock_app
 pylock_app-is_simple_and_free = refl
 
 -- what a parse by the program's command says of the words

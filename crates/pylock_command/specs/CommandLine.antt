@@ -74,7 +74,7 @@ with_further app =
     (codes "requirement") (codes "TEXT"))
     (codes "wheel") (codes "TEXT")
 
-abbrev pub pylock_app : App
+unfoldable pub pylock_app : App
 pylock_app = with_further (with_first (with_plan top_app))
 
 -- each of these arguments, by name, has this text

@@ -392,6 +392,7 @@ fn with_plan<'a>(alloc: Global, pylock: Command<'a>) -> Result<Command<'a>, Allo
 }
 
 /// The command `pylock` with its subcommands.
+#[tactic(auto, unfolding(crate::specs::CommandLine::pylock_app))]
 fn pylock_command<'a>(alloc: Global) -> Result<Command<'a>, AllocError>
     ensures { IfOk result (λ c. app_of c ≡ pylock_app) }
 {
@@ -484,6 +485,21 @@ pub fn command<'a>(alloc: Global, words: &'a [&'a str]) -> Result<Task<'a>, Comm
     ensures refused { IfErr result (IsRefusal (map (λ w. w.now) words.entry.now)) }
 {
     let mut app = pylock_command(alloc)?;
+    read_task(alloc, &mut app, words)
+}
+
+/// The task that `words` ask for, as the program's command reads them.
+fn read_task<'a>(
+    alloc: Global,
+    app: &mut Command<'a>,
+    words: &'a [&'a str],
+) -> Result<Task<'a>, CommandError>
+    requires { app_of app.old ≡ pylock_app }
+    ensures task { IfOk result
+        (IsTask (subcommand_of pylock_app (map (λ w. w.now) words.entry.now))) }
+    ensures taken { OnOk result (fault_of pylock_app (map (λ w. w.now) words.entry.now) ≡ []) }
+    ensures refused { IfErr result (IsRefusal (map (λ w. w.now) words.entry.now)) }
+{
     let matches = app.try_get_matches_from_mut(words)?;
     let found = task_of(alloc, matches)?;
     match found {
