@@ -32,8 +32,19 @@ fn with_extra_options<'a>(alloc: Global, command: Command<'a>) -> Result<Command
     ensures app { IfOk result (λ c. app_of c ≡ with_rules (app_of command.entry) extra_rules) }
     ensures local { IfOk result (λ c. (fields_of c).has_globals ≡ false) }
 {
-    let command = with_flag(alloc, command, "all-extras", "Each extra of the lock")?;
-    with_option(alloc, command, "extra", "NAME", "An extra of the lock")
+    let command = with_flag(
+        alloc,
+        command,
+        "all-extras",
+        "Ask for each extra of the lock",
+    )?;
+    with_option(
+        alloc,
+        command,
+        "extra",
+        "NAME",
+        "Ask for an extra of the lock",
+    )
 }
 
 /// Adds the options on dependency groups.
@@ -46,11 +57,28 @@ fn with_group_options<'a>(alloc: Global, command: Command<'a>) -> Result<Command
         alloc,
         command,
         "no-default-groups",
-        "No default group of the lock",
+        "Leave out the default groups",
     )?;
-    let command = with_flag(alloc, command, "all-groups", "Each group of the lock")?;
-    let command = with_option(alloc, command, "group", "NAME", "A group of the lock")?;
-    with_option(alloc, command, "no-group", "NAME", "All but this group")
+    let command = with_flag(
+        alloc,
+        command,
+        "all-groups",
+        "Ask for each group of the lock",
+    )?;
+    let command = with_option(
+        alloc,
+        command,
+        "group",
+        "NAME",
+        "Ask for a group of the lock",
+    )?;
+    with_option(
+        alloc,
+        command,
+        "no-group",
+        "NAME",
+        "Leave out a group of the lock",
+    )
 }
 
 /// Adds the options on files and on marker variables.
@@ -64,15 +92,21 @@ fn with_other_options<'a>(alloc: Global, command: Command<'a>) -> Result<Command
         command,
         "only-binary",
         "NAME",
-        "Wheels alone of this name",
+        "Take wheels alone, of a name or :all:",
     )?;
-    let command = with_option(alloc, command, "no-binary", "NAME", "No wheel of this name")?;
+    let command = with_option(
+        alloc,
+        command,
+        "no-binary",
+        "NAME",
+        "Take no wheels, of a name or :all:",
+    )?;
     with_option(
         alloc,
         command,
         "set",
         "VARIABLE=VALUE",
-        "A marker variable with this text",
+        "Give a marker variable a text",
     )
 }
 
@@ -84,7 +118,8 @@ fn with_flag<'a>(
     help: &'static str,
 ) -> Result<Command<'a>, AllocError>
     requires local { (fields_of command).has_globals ≡ false }
-    ensures app { IfOk result (λ c. app_of c ≡ with_rule (app_of command.entry) (flag_rule name.now)) }
+    ensures app { IfOk result (λ c. app_of c
+        ≡ with_rule (app_of command.entry) (flag_rule name.now)) }
     ensures local { IfOk result (λ c. (fields_of c).has_globals ≡ false) }
 {
     command.arg(flag(alloc, name, help))
@@ -99,7 +134,8 @@ fn with_option<'a>(
     help: &'static str,
 ) -> Result<Command<'a>, AllocError>
     requires local { (fields_of command).has_globals ≡ false }
-    ensures app { IfOk result (λ c. app_of c ≡ with_rule (app_of command.entry) (text_rule name.now)) }
+    ensures app { IfOk result (λ c. app_of c
+        ≡ with_rule (app_of command.entry) (text_rule name.now)) }
     ensures local { IfOk result (λ c. (fields_of c).has_globals ≡ false) }
 {
     command.arg(option(alloc, name, value, help))

@@ -99,14 +99,14 @@ const PLAN: Usage = Usage {
     name: "plan",
     about: "Print the plan of a lock, with the extras, groups and kinds of files asked for",
     reply: "\
-Prints plan K and then K lines, or fault ID, TAB and CODE, as select does. Tags
-come from ENV alone. For example:
-  pylock plan pylock.toml env.json --extra=test --group dev --only-binary :all:
+Prints plan K and then K lines, or fault ID, TAB and CODE, as select does. An
+option that is refused prints refused, TAB, the option, TAB and its text. For
+example:
+  pylock plan pylock.toml env.json --extra=test --only-binary :all:
 
---only-binary :all: leaves VCS sources, directories and archives, which are
-built all the same. Of --only-binary and --no-binary a later one counts for the
-names that it has. An option that is refused prints refused, TAB, the option,
-TAB and its TEXT. A TEXT that begins with - is given as --extra=TEXT.
+An option with a text may stand again. A text that begins with - is given as
+--extra=TEXT. Tags come from ENV alone. --only-binary :all: leaves VCS sources,
+directories and archives, which are built all the same.
 
 Status: 0, a plan; 1, a fault or a refused option; 2, the lock, the environment
 or the command line is refused; 3, a file can't be read, the output failed or
