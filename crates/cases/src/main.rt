@@ -8,6 +8,7 @@ mod environments;
 mod files;
 mod keys;
 mod locks;
+mod plans;
 mod replies;
 mod runs;
 mod sessions;
@@ -32,6 +33,7 @@ impl Answers for Cases {
             "keys" => keys::tell(alloc, case),
             "lock" => locks::judge(alloc, case),
             "lock_keys" => locks::tell(alloc, case),
+            "plan" => plans::tell(alloc, case),
             "reply" => replies::tell(alloc, case),
             "run" => runs::tell(alloc, case),
             "session" => sessions::tell(alloc, case),

@@ -7,7 +7,7 @@ use std::alloc::{AllocError, Global};
 use toml::Table;
 
 /// What the command of `words` prints, and its status; of it no more than `brief` says where the
-/// case has that key. In place of the name of an environment's file stands its text, and in place
+/// case has that key. In place of the name of a file stands its text, and in place
 /// of `#` the text `long`.
 pub(crate) fn tell(alloc: Global, case: &Table) -> anyhow::Result<String> {
     let long = text(alloc, case, "long")?;
@@ -43,6 +43,7 @@ fn reply(alloc: Global, words: &[&str]) -> anyhow::Result<String> {
 /// What the words ask.
 fn asked<'a>(words: &[&'a str]) -> Option<Query<'a>> {
     match *words {
+        ["files", lock] => Some(Query::Files(lock.as_bytes())),
         ["version", version] => Some(Query::Version(version)),
         ["match", set, version] => Some(Query::Match(set, version)),
         ["name", name] => Some(Query::Name(name)),

@@ -16,7 +16,7 @@ const PIECES: [usize; 5] = [1, 2, 3, 65_535, 65_536];
 
 /// The bytes of a lock and of an environment, which are files of these names too.
 #[derive(Drop)]
-struct Inputs {
+pub(crate) struct Inputs {
     lock: Vec<u8>,
     environment: Vec<u8>,
 }
@@ -69,7 +69,8 @@ fn front(line: &str) -> &str {
     line.get(..60).unwrap_or(line)
 }
 
-fn read_inputs(alloc: Global, case: &Table) -> anyhow::Result<Inputs> {
+/// The lock and the environment of a case.
+pub(crate) fn read_inputs(alloc: Global, case: &Table) -> anyhow::Result<Inputs> {
     let lock = files::lock(alloc, case)?;
     let environment = files::environment(alloc, case)?;
     Ok(Inputs { lock, environment })

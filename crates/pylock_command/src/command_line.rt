@@ -104,9 +104,11 @@ option that is refused prints refused, TAB, the option, TAB and its text. For
 example:
   pylock plan pylock.toml env.json --extra=test --only-binary :all:
 
-An option with a text may stand again. A text that begins with - is given as
---extra=TEXT. Tags come from ENV alone. --only-binary :all: leaves VCS sources,
-directories and archives, which are built all the same.
+Options count in the order of the list above; of --only-binary and --no-binary
+the last that names a package counts, and :all: names each. An option with a
+text may stand again. A text that begins with - is given as --extra=TEXT. Tags
+come from ENV alone. --only-binary :all: leaves VCS sources, directories and
+archives, which are built all the same.
 
 Status: 0, a plan; 1, a fault or a refused option; 2, the lock, the environment
 or the command line is refused; 3, a file can't be read, the output failed or

@@ -13,7 +13,7 @@ pub use answer::{Answer, FaultCode, Pick, PickSource, Plan, Standing};
 pub use edit::{Edit, EditError, Policy};
 pub use picked::PickedSource;
 pub use pylock_readers::{
-    Archive, Directory, DistributionFile, Entry, EntryError, EntryKey, EnvError, HeadKey, Lock,
-    LockError, Sdist, Vcs, WheelFile, read_environment,
+    Archive, Directory, DistributionFile, Entry, EntryError, EntryKey, EnvError, Head, HeadKey,
+    HeadNames, Lock, LockError, Sdist, Vcs, WheelFile, read_environment,
 };
 pub use session::Session;

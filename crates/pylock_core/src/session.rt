@@ -18,7 +18,7 @@ pub(crate) mod verdict;
 ghost use Rattle.std.specs.Prelude.{◌≡◌, Ok, Err, IfOk, IfErr, OnOk, IsTrue, length};
 ghost use Rattle.std.specs.Option.{option_copied};
 ghost use Rattle.pylock_core.specs.Session.Judgement.{all_numbers, index_of, touched, verdicts_of};
-ghost use Rattle.pylock_core.specs.Session.State.{NumbersRise, apply, entry_at, first};
+ghost use Rattle.pylock_core.specs.Session.State.{NumbersRise, apply, entry_at, first, in_rows};
 ghost use Rattle.pylock_core.specs.Session.State.{takes_memory};
 ghost use Rattle.pylock_core.specs.Session.Steps.{answer};
 ghost use Rattle.pylock_core.specs.declared.edit.EditError.{EditError};
@@ -29,7 +29,7 @@ use crate::edit::{Edit, EditError};
 use crate::session::entries::entry_in;
 use crate::session::judged::{edit_parts, start};
 use crate::session::parts::{Parts, answer};
-use pylock_readers::{Entry, Lock};
+use pylock_readers::{Entry, Head, Lock};
 use pymark_core::Environment;
 use pywheel_core::TagList;
 use std::alloc::{AllocError, Global};
@@ -133,6 +133,21 @@ impl Session {
         ensures { option_copied result ≡ entry_at number self.now.state.entries }
     {
         entry_in(self.parts.entries.as_slice(), number)
+    }
+
+    /// The head of the lock. It takes no memory.
+    pub fn head(&self) -> &Head
+        ensures { result.now ≡ self.now.state.head }
+    {
+        &self.parts.head
+    }
+
+    /// The entries by their numbers, that of number 1 first; none where the entry is gone. It takes
+    /// no memory.
+    pub fn entries(&self) -> &[Option<Entry>]
+        ensures { in_rows 1 result.now ≡ self.now.state.entries }
+    {
+        self.parts.entries.as_slice()
     }
 
     /// The numbers judged by the last accepted edit, or by the start where there was none.

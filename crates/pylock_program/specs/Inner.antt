@@ -5,6 +5,7 @@ pub mod Faults
 pub mod Edited
 pub mod Hashes
 pub mod Reply
+pub mod Chosen
 pub mod Pieces
 pub mod Plain
 pub mod Picked

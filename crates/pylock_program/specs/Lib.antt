@@ -3,5 +3,6 @@ pub mod Text
 pub mod Line
 pub mod Report
 pub mod Reply
+pub mod Choices
 pub mod Program
 pub mod Inner

@@ -3,6 +3,7 @@ use Rattle.std.specs.Prelude.{◌≡◌, ◌≢◌, ℕ, List, codes, Result, Ok
 use Rattle.std.specs.Result.{result_map_both}
 use Rattle.pylock_command.specs.declared.command_line.Task.{Task}
 use Rattle.pylock_command.specs.declared.command_line.Task.TheVariants as task
+use Rattle.pylock_program.specs.Choices.{plan_report}
 use Rattle.pylock_program.specs.Reply.{files_answer, marker_answer, reply, reply_of}
 use Rattle.pylock_program.specs.Report.{Report, opened}
 use Rattle.pylock_program.specs.Report.Print.{Prints}
@@ -100,12 +101,15 @@ abbrev pub Greets : Outcome
 Greets source source' sink sink' result =
     Replies greeting source source' sink sink' result × (result ≢ Err Memory)
 
--- What the program does with each task, by what reads of files may give. `select` reads its first
--- file as the lock, and then its second as the environment.
+-- What the program does with each task, by what reads of files may give. `select` and `plan` read
+-- their first file as the lock, and then their second as the environment.
 abbrev pub Performs : Reads → Task → Outcome
 Performs gives task.Bare = Greets
 Performs gives (task.Select lock environment) =
     Opens gives lock.now (λ lock. Opens gives environment.now (Runs lock))
+Performs gives (task.Plan lock environment choices) =
+    Opens gives lock.now (λ lock. Opens gives environment.now
+    (λ environment. Replies (plan_report (opened lock environment) choices.items)))
 Performs gives (task.Files lock) =
     Opens gives lock.now (λ bytes. Replies (reply_of (files_answer bytes)))
 Performs gives (task.Version text) = Replies (reply (query.Version text))

@@ -2,6 +2,7 @@
 //! replies of the one-shot commands, over sources and sinks of bytes.
 #![tactic(auto)]
 
+mod choices;
 pub mod laws;
 mod line;
 mod program;
@@ -10,6 +11,7 @@ mod report;
 mod stream;
 mod text;
 
+pub use choices::plan;
 pub use program::{FILE_BYTES, Failure, Files, perform, read_file, words_failure};
 pub use reply::queries::Query;
 pub use reply::query;

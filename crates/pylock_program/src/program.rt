@@ -6,11 +6,14 @@ ghost use Rattle.pylock_program.specs.Program.{most_file_bytes, failure_message,
 ghost use Rattle.pylock_program.specs.Program.{Opens, Performs, Reads, Replies, Runs, Tells};
 ghost use Rattle.pylock_program.specs.Program.{greeting, told};
 ghost use Rattle.pylock_program.specs.Reply.{files_answer, marker_answer, reply, reply_of};
+ghost use Rattle.pylock_program.specs.Choices.{plan_report};
+ghost use Rattle.pylock_program.specs.Report.{opened};
 ghost use Rattle.pylock_program.specs.Report.Print.{Prints};
 ghost use Rattle.pylock_program.specs.Stream.{SourceValue};
 ghost use Rattle.pylock_program.specs.Stream.Whole.{GivesAll, IsCause};
 ghost use Rattle.pylock_program.specs.declared.program.Failure.TheVariants as failure;
 
+use crate::choices::plan;
 use crate::reply::queries::Query;
 use crate::reply::query;
 use crate::report::fault::RunFault;
@@ -18,7 +21,7 @@ use crate::report::print::print;
 use crate::report::run::run_whole;
 use crate::stream::whole::{FileFault, read_whole};
 use crate::stream::{Sink, Source};
-use pylock_command::Task;
+use pylock_command::{Choice, Task};
 use std::alloc::Global;
 use std::io::ErrorKind;
 
@@ -130,7 +133,7 @@ pub fn read_file<R: Source>(alloc: Global, file: &mut R) -> Result<Vec<u8>, File
 }
 
 /// Does the task on the files, standard input and standard output, and answers the status of the
-/// program. Of the files of `select` the lock is read first, and both before either is judged. The
+/// program. Of two files the lock is read first, and both before either is judged. The
 /// memory of a session isn't given back but left to the system, for the program ends then.
 pub fn perform<F: Files, R: Source, W: Sink>(
     alloc: Global,
@@ -144,6 +147,9 @@ pub fn perform<F: Files, R: Source, W: Sink>(
 {
     match task {
         Task::Bare => greet(writer),
+        Task::Plan(lock, environment, choices) => {
+            plan_files(alloc, files, lock, environment, &choices, writer)
+        }
         Task::Select(lock, environment) => select(alloc, files, lock, environment, reader, writer),
         Task::Files(lock) => list(alloc, files, lock, writer),
         Task::Version(text) => answer(alloc, Query::Version(text), writer),
@@ -179,6 +185,24 @@ fn select<F: Files, R: Source, W: Sink>(
     told(run_whole(alloc, &lock, &environment, true, reader, writer))
 }
 
+/// Answers `plan` on the lock and the environment of two files.
+fn plan_files<F: Files, W: Sink>(
+    alloc: Global,
+    files: &F,
+    lock: &str,
+    environment: &str,
+    choices: &[Choice<'_>],
+    writer: &mut W,
+) -> Result<u8, Failure>
+    ensures { (source : SourceValue) → Opens (F.read_gives files.now) lock.now
+        (λ lock. Opens (F.read_gives files.now) environment.now
+        (λ environment. Replies (plan_report (opened lock environment) choices.now)))
+        source source (W.value writer.old) (W.value writer.new) result }
+{
+    let (lock, environment) = (files.read(lock)?, files.read(environment)?);
+    told(plan(alloc, &lock, &environment, choices, writer))
+}
+
 /// Answers `files` on the lock of a file.
 fn list<F: Files, W: Sink>(
     alloc: Global,
@@ -190,8 +214,8 @@ fn list<F: Files, W: Sink>(
         (λ bytes. Replies (reply_of (files_answer bytes)))
         source source (W.value writer.old) (W.value writer.new) result }
 {
-    let lock = files.read(lock)?;
-    answer(alloc, Query::Files(&lock), writer)
+    let bytes = files.read(lock)?;
+    answer(alloc, Query::Files(&bytes), writer)
 }
 
 /// Answers `marker` in the environment of a file.

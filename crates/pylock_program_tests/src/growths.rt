@@ -3,11 +3,11 @@
 //! leaves what it should, or answers just what it answers with ample memory.
 
 use crate::check::{End, check_growth};
-use pylock_command::{CommandError, Task, command};
+use pylock_command::{Choice, CommandError, Task, command};
 use pylock_core::{
     Answer, Edit, EditError, Entry, EnvError, Lock, LockError, Session, read_environment,
 };
-use pylock_program::{FileFault, Pieces, Query, Room, query, read_whole, run};
+use pylock_program::{FileFault, Pieces, Query, Room, plan, query, read_whole, run};
 use std::alloc::Global;
 use std::process::Abort;
 
@@ -167,6 +167,36 @@ fn run_over_wheels(rt: HostRuntime) {
     check_run(&rt, files, &mut reader, (4096, 4096), (Ok(1), CHOSEN));
 }
 
+/// Options of each kind that takes memory.
+const OPTIONS: [Choice<'static>; 6] = [
+    Choice::AllExtras,
+    Choice::Extra("X"),
+    Choice::AllGroups,
+    Choice::OnlyBinary(":all:"),
+    Choice::NoBinary("A"),
+    Choice::Set("os_name=posix"),
+];
+
+const PLANNED: &[u8] = b"plan 2\n1\ta\t1\tsdist\ta-1.tar.gz\ts/a-1.tar.gz\t-\t-\t-\n\
+        2\tb\t-\tdirectory\t-\tb\t-\t-\t-\n";
+
+/// `plan` with these options ends so, or is refused memory.
+fn check_plan<R: Abort + AllocGlobal>(rt: &R, choices: &[Choice<'_>], wanted: End<'_>) {
+    let Ok(mut room) = Room::new(rt.alloc(), 4096, 4096, None) else {
+        return;
+    };
+    let (lock, environment) = (WHEELS.as_bytes(), TAGGED.as_bytes());
+    let answer = plan(rt.alloc(), lock, environment, choices, &mut room);
+    check_growth(rt, (answer, room.bytes()), wanted);
+}
+
+#[test]
+fn plan_with_options(rt: HostRuntime) {
+    check_plan(&rt, &OPTIONS, (Ok(0), PLANNED));
+    let refused = [Choice::Extra("x"), Choice::Group("y")];
+    check_plan(&rt, &refused, (Ok(1), b"refused\tgroup\ty\n"));
+}
+
 const HALF: &str =
     "lock-version = \"1.0\"\ncreated-by = \"t\"\npackages = [{name=\"a\", marker=\"x\"}]\n";
 
@@ -186,7 +216,7 @@ fn refused_files(rt: HostRuntime) {
 
 /// The reply and its status are these, or memory is refused.
 fn check_query<R: Abort + AllocGlobal>(rt: &R, asked: Query<'_>, reply: &[u8], status: u8) {
-    let Ok(mut room) = Room::new(rt.alloc(), 100, 7, None) else {
+    let Ok(mut room) = Room::new(rt.alloc(), 200, 7, None) else {
         return;
     };
     let answer = query(rt.alloc(), asked, &mut room);
@@ -197,6 +227,15 @@ fn check_query<R: Abort + AllocGlobal>(rt: &R, asked: Query<'_>, reply: &[u8], s
 fn version_query(rt: HostRuntime) {
     let asked = Query::Version(" V1.0-RC.1_r2.DEV+Ubuntu-01 ");
     check_query(&rt, asked, b"1.0rc1.post2.dev0+ubuntu.1\n", 0);
+}
+
+const SOURCES: &[u8] = b"files 2\n1\tb-b\t1.0\tdirectory\t-\t./b\t-\t-\ts\n\
+        2\ta\t2\tsdist\ta-2+.tar.gz\thttps://h/a-2%2B.tar.gz\tmd5=11,sha256=00\t-\t-\n";
+
+#[test]
+fn files_queries(rt: HostRuntime) {
+    check_query(&rt, Query::Files(LOCK.as_bytes()), SOURCES, 0);
+    check_query(&rt, Query::Files(b"["), b"lock\ttoml\n", 2);
 }
 
 #[test]
@@ -273,7 +312,9 @@ fn wheel_queries(rt: HostRuntime) {
 fn texts_of(task: Task<'_>) -> (&str, &str, &str) {
     match task {
         Task::Bare => ("", "", ""),
+        Task::Plan(lock, environment, _) => ("plan", lock, environment),
         Task::Select(lock, environment) => ("select", lock, environment),
+        Task::Files(lock) => ("files", lock, ""),
         Task::Version(version) => ("version", version, ""),
         Task::Match(set, version) => ("match", set, version),
         Task::Name(name) => ("name", name, ""),
@@ -306,6 +347,10 @@ fn command_words(rt: HostRuntime) {
             ("select", "a", "b"),
         ),
         (&["pylock", "name", "--", "-a"], ("name", "-a", "")),
+        (
+            &["pylock", "plan", "a", "b", "--extra", "x", "--no-binary=y"],
+            ("plan", "a", "b"),
+        ),
         // A refusal takes memory for its text.
         (&["pylock", "fly"], ("refused", "", "")),
         (&["pylock", "match", "1"], ("refused", "", "")),

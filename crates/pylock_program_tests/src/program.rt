@@ -44,6 +44,12 @@ fn reads_both_files(rt: HostRuntime) -> Result<(), Fail> {
         (Task::Select("lock", "environment"), 0, "plan 0\n"),
         (Task::Select("environment", "lock"), 2, "lock\ttoml\n"),
         (Task::Select("lock", "lock"), 2, "environment\tjson\n"),
+        (
+            Task::Plan("lock", "environment", Vec::new(rt.alloc())),
+            0,
+            "plan 0\n",
+        ),
+        (Task::Files("lock"), 0, "files 0\n"),
         (Task::Marker("'a' == 'a'", "environment"), 0, "true\n"),
         (Task::Marker("'a' == 'a'", "lock"), 2, "environment\tjson\n"),
     ] {
@@ -60,6 +66,15 @@ fn refuses_either_file(rt: HostRuntime) -> Result<(), Fail> {
         (Task::Select("large", "full"), Failure::File),
         (Task::Select("lock", "absent"), Failure::File),
         (Task::Select("lock", "full"), Failure::Memory),
+        (
+            Task::Plan("lock", "absent", Vec::new(rt.alloc())),
+            Failure::File,
+        ),
+        (
+            Task::Plan("full", "lock", Vec::new(rt.alloc())),
+            Failure::Memory,
+        ),
+        (Task::Files("absent"), Failure::File),
         (Task::Marker("'a' == 'a'", "large"), Failure::File),
     ] {
         check_task(&rt, task, None, Err(failure), "")?;

@@ -70,6 +70,12 @@ first lock environment tags = record {
   policies = map_of.empty;
 }
 
+-- what stands in rows, with its numbers: n for the first row, and one more for each
+abbrev pub in_rows : {X : Type 0} → ℕ → List (Option X) → List (ℕ × X)
+in_rows n [] = []
+in_rows n (None ∷ rows) = in_rows (n + 1) rows
+in_rows n (Some x ∷ rows) = (n, x) ∷ in_rows (n + 1) rows
+
 -- the entry of the number
 abbrev pub entry_at : ℕ → List (ℕ × EntryValue) → Option EntryValue
 entry_at n [] = None

@@ -1,6 +1,6 @@
 -- What `files` prints: a line for each source that a lock names, whatever machine it is for.
-use Rattle.std.specs.Prelude.{ℕ, ◌++◌, List, [], ◌∷◌, Option, Some, None, codes, decimal, length}
-use Rattle.std.specs.Prelude.{map}
+use Rattle.std.specs.Prelude.{ℕ, ◌+◌, ◌++◌, List, [], ◌∷◌, Option, Some, None, codes, decimal}
+use Rattle.std.specs.Prelude.{length, map}
 use Rattle.std.specs.List.{flat_map}
 use Rattle.pylock_readers.specs.Entry.{EntryValue}
 use Rattle.pylock_program.specs.Text.Plan.{archive_fields, directory_fields, file_fields}
@@ -11,7 +11,8 @@ abbrev pub where_there : {A : Type 0} → (A → List (List ℕ)) → Option A �
 where_there fields None = []
 where_there fields (Some source) = fields source ∷ []
 
--- the fields of each source of an entry: `vcs`, `directory`, `archive`, the wheels in order, `sdist`
+-- the fields of each source of an entry: `vcs`, `directory`, `archive`, the wheels in order,
+-- `sdist`
 abbrev pub each_source : EntryValue → List (List (List ℕ))
 each_source entry =
     where_there vcs_fields entry.vcs
@@ -24,7 +25,7 @@ each_source entry =
 abbrev pub lines_from : ℕ → List EntryValue → List (List ℕ)
 lines_from number [] = []
 lines_from number (entry ∷ entries) =
-    map (source_line number entry) (each_source entry) ++ lines_from (suc number) entries
+    map (source_line number entry) (each_source entry) ++ lines_from (number + 1) entries
 
 -- `files K` and K lines
 abbrev pub files_text : List EntryValue → List ℕ

@@ -205,7 +205,7 @@ fn name(alloc: Global, unknown: LineRefusal, argument: Option<&str>) -> Result<L
 }
 
 /// The text, as edits hold it.
-fn label(alloc: Global, text: &str) -> Result<Label, AllocError>
+pub(crate) fn label(alloc: Global, text: &str) -> Result<Label, AllocError>
     ensures { IfOk result (λ label. label ≡ text.now) }
 {
     Ok(Label::new(String::from_str(alloc, text)?))

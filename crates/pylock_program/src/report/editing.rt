@@ -203,7 +203,7 @@ fn obey(alloc: Global, session: &mut Session, line: &[u8]) -> Result<(), LineRef
 }
 
 /// Pushes the answer as it stands, and answers whether it is a plan.
-fn push_standing(session: &Session, out: &mut Vec<u8>) -> Result<bool, AllocError>
+pub(crate) fn push_standing(session: &Session, out: &mut Vec<u8>) -> Result<bool, AllocError>
     ensures plan { IfOk result (λ plan. plan ≡ is_plan (answer session.now.state)) }
     ensures text { OnOk result (out.new.items ≡ out.old.items ++ standing_text session.now.state) }
 {

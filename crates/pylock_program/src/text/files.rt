@@ -16,14 +16,14 @@ use std::marker::Model;
 /// A source, with its entry and the number of that.
 ///
 /// Contracts see its line.
-#[derive(Clone, Copy)]
+#[derive(Drop)]
 struct Named<'a> {
     number: usize,
     entry: &'a Entry,
     source: PickedSource<'a>,
 }
 
-impl Model for Named<'_> {
+impl<'a> Model for Named<'a> {
     ghost use Rattle.std.specs.Prelude.{List, ℕ};
     ghost use Rattle.pylock_core.specs.Session.Picks.{lent_source};
     ghost use Rattle.pylock_program.specs.Inner.Picked.{picked_fields};
@@ -104,8 +104,8 @@ fn name_wheels<'a>(
     number: usize,
     entry: &'a Entry,
 ) -> Result<(), AllocError>
-    ensures { OnOk result (named.new.items ≡ named.old.items
-        ++ map (source_line number entry.now) (map (file_fields (codes "wheel")) entry.now.wheels)) }
+    ensures { OnOk result (named.new.items ≡ named.old.items ++ map (source_line number entry.now)
+        (map (file_fields (codes "wheel")) entry.now.wheels)) }
 {
     for wheel in entry.wheels() {
         named.push(Named {
@@ -121,12 +121,7 @@ fn push_lines(out: &mut Vec<u8>, named: &[Named<'_>]) -> Result<(), AllocError>
     ensures { OnOk result (out.new.items ≡ out.old.items ++ flat_map (λ line. line) named.now) }
 {
     for source in named {
-        push_source_line(
-            out,
-            source.number as u64,
-            source.entry,
-            Some(source.source),
-        )?;
+        push_source_line(out, source.number as u64, source.entry, Some(source.source))?;
     }
     Ok(())
 }

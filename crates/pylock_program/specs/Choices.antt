@@ -1,0 +1,95 @@
+-- The options of `plan`: the edits that each means, and what is printed after them.
+use Rattle.std.specs.Prelude.{ℕ, List, [], ◌∷◌, ◌++◌, map, codes, if◌then◌else◌}
+use Rattle.std.specs.Prelude.{Option, Some, None, option_map, option_and_then, ok_or}
+use Rattle.std.specs.Prelude.{Result, Ok, Err}
+use Rattle.std.specs.Result.{result_ok}
+use Rattle.std.specs.Str.{bytes_eq}
+use Rattle.pytext.specs.Results.{◌>>=◌}
+use Rattle.pyver_core.specs.Name.{is_name}
+use Rattle.pymark_core.specs.Variables.{variable_of}
+use Rattle.pywheel_core.specs.Texts.{cut_at}
+use Rattle.pylock_command.specs.Choices.{written}
+use Rattle.pylock_command.specs.declared.choice.Choice.{Choice}
+use Rattle.pylock_command.specs.declared.choice.Choice.TheVariants as choice
+use Rattle.pylock_core.specs.Session.State.{State, apply}
+use Rattle.pylock_core.specs.Session.Steps.{answer}
+use Rattle.pylock_core.specs.declared.edit.Edit.{Edit}
+use Rattle.pylock_core.specs.declared.edit.Edit.TheVariants as edit
+use Rattle.pylock_core.specs.declared.edit.EditError.{EditError}
+use Rattle.pylock_core.specs.declared.edit.Policy.{Policy}
+use Rattle.pylock_core.specs.declared.edit.Policy.TheVariants.{Wheel, Source}
+use Rattle.pylock_program.specs.Report.{Report, is_plan, standing_text}
+use Rattle.pylock_program.specs.Text.Field.{field, line_of}
+use Rattle.pylock_program.specs.Text.Refusal.{refusal_text}
+use Rattle.pylock_program.specs.declared.report.opening.OpenError.{OpenError}
+
+-- ---- the edits that an option means
+
+-- the edit of a text, where that is a name
+abbrev pub named : (List ℕ → Edit) → List ℕ → Option (List Edit)
+named edit name = if is_name name then Some (edit name ∷ []) else None
+
+-- a policy of the name, or with `:all:` of the name of each entry
+abbrev pub policies : State → Policy → List ℕ → Option (List Edit)
+policies state policy text =
+    if bytes_eq text (codes ":all:")
+    then Some (map (λ entry. edit.Policy entry.1.name policy) state.entries)
+    else named (λ name. edit.Policy name policy) text
+
+-- `VARIABLE=VALUE`, cut at the first `=`, which has to be there
+abbrev pub set_variable : List ℕ → Option (List Edit)
+set_variable text =
+    option_and_then (λ cut. option_map (λ variable. edit.Set variable cut.1 ∷ [])
+    (variable_of cut.0)) (cut_at 61 text)
+
+-- the edits of an option, in order; none where its text is none
+abbrev pub edits_of : State → Choice → Option (List Edit)
+edits_of state choice.AllExtras = Some (map edit.AddExtra state.head.extras)
+edits_of state (choice.Extra name) = named edit.AddExtra name.now
+edits_of state choice.NoDefaultGroups = Some (map edit.DropGroup state.head.default_groups)
+edits_of state choice.AllGroups =
+    Some (map edit.AddGroup state.head.groups ++ map edit.AddGroup state.head.default_groups)
+edits_of state (choice.Group name) = named edit.AddGroup name.now
+edits_of state (choice.NoGroup name) = named edit.DropGroup name.now
+edits_of state (choice.OnlyBinary name) = policies state Wheel name.now
+edits_of state (choice.NoBinary name) = policies state Source name.now
+edits_of state (choice.Set text) = set_variable text.now
+
+-- ---- the state after options
+
+-- the state after edits, one after another, or the first refusal
+abbrev pub after_edits : List Edit → State → Result State EditError
+after_edits [] state = Ok state
+after_edits (edit ∷ edits) state = apply edit state >>= after_edits edits
+
+-- the state after an option, where that isn't refused
+abbrev pub after_choice : Choice → State → Option State
+after_choice choice state =
+    option_and_then (λ edits. result_ok (after_edits edits state)) (edits_of state choice)
+
+-- the state after options, one after another, or the first that is refused
+abbrev pub after_choices : List Choice → State → Result State Choice
+after_choices [] state = Ok state
+after_choices (choice ∷ choices) state =
+    ok_or (after_choice choice state) choice >>= after_choices choices
+
+-- ---- what `plan` prints
+
+-- an option that is refused: its word, without the dashes, and its text
+abbrev pub refused_option : Choice → List ℕ
+refused_option choice =
+    line_of (codes "refused") ((written choice).0 ∷ field (written choice).1 ∷ [])
+
+-- the answer of the state after the options, or the first option that is refused
+abbrev pub chosen_report : Result State Choice → Report
+chosen_report (Err choice) = record { text = refused_option choice; status = 1 }
+chosen_report (Ok state) = record {
+  text = standing_text state;
+  status = if is_plan (answer state) then 0 else 1;
+}
+
+-- The report of `plan`: a refused lock or environment is all that is reported, and then a refused
+-- option.
+abbrev pub plan_report : Result State OpenError → List Choice → Report
+plan_report (Err refusal) choices = record { text = refusal_text refusal; status = 2 }
+plan_report (Ok state) choices = chosen_report (after_choices choices state)

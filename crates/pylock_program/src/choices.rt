@@ -1,0 +1,350 @@
+//! The options of `plan`: the edits that each means, and the answer after them.
+
+ghost use Rattle.std.specs.Prelude.{◌≡◌, ◌++◌, ◌∷◌, [], IfOk, OnOk, None, Some, map, option_map};
+ghost use Rattle.std.specs.Prelude.{if◌then◌else◌, string_bytes};
+ghost use Rattle.std.specs.Option.{option_copied};
+ghost use Rattle.std.specs.Result.{result_ok};
+ghost use Rattle.pyver_core.specs.Name.{is_name};
+ghost use Rattle.pywheel_core.specs.Texts.{cut_at};
+ghost use Rattle.pylock_command.specs.Choices.{written};
+ghost use Rattle.pylock_core.specs.declared.edit.Edit.TheVariants as edit;
+ghost use Rattle.pylock_program.specs.Choices.{after_choice, after_choices, after_edits};
+ghost use Rattle.pylock_program.specs.Choices.{chosen_report, edits_of, named};
+ghost use Rattle.pylock_program.specs.Choices.{plan_report, policies, refused_option};
+ghost use Rattle.pylock_program.specs.Choices.{set_variable};
+ghost use Rattle.pylock_program.specs.Inner.Chosen.{chosen, made};
+ghost use Rattle.pylock_program.specs.Inner.Reply.{Pushes};
+ghost use Rattle.pylock_program.specs.Report.{opened};
+ghost use Rattle.pylock_program.specs.Report.Print.{Prints};
+
+use crate::line::commands::label;
+use crate::report::editing::push_standing;
+use crate::report::fault::RunFault;
+use crate::report::opening::{OpenError, open};
+use crate::report::print::print;
+use crate::stream::Sink;
+use crate::text::field::push_next;
+use crate::text::refusal::push_refusal;
+use pylock_command::Choice;
+use pylock_core::{Edit, EditError, Policy, Session};
+use pymark_core::Var;
+use pyver_core::{Label, is_name};
+use std::alloc::{AllocError, Global};
+
+/// Runs `plan`: writes the answer of the lock in the environment after the options, or the first
+/// option that is refused. It answers the status: 0 where the answer is a plan, 1 where it is a
+/// fault or an option is refused, 2 where the lock or the environment is refused.
+///
+/// It takes memory for the session, for the edits of one option at a time, and for what it writes.
+pub fn plan<W: Sink>(
+    alloc: Global,
+    lock: &[u8],
+    env: &[u8],
+    choices: &[Choice<'_>],
+    writer: &mut W,
+) -> Result<u8, RunFault>
+    ensures { Prints (plan_report (opened lock.now env.now) choices.now)
+        (W.value writer.old) (W.value writer.new) result }
+{
+    let mut out = Vec::new(alloc);
+    let status = push_plan(alloc, &mut out, lock, env, choices)?;
+    print(&out, status, writer)
+}
+
+/// Pushes what `plan` prints, and answers its status.
+fn push_plan(
+    alloc: Global,
+    out: &mut Vec<u8>,
+    lock: &[u8],
+    env: &[u8],
+    choices: &[Choice<'_>],
+) -> Result<u8, AllocError>
+    ensures { Pushes out.old.items out.new.items
+        (plan_report (opened lock.now env.now) choices.now) result }
+{
+    match open(alloc, lock, env) {
+        Ok(session) => push_chosen(alloc, out, session, choices),
+        Err(OpenError::Memory) => Err(AllocError),
+        Err(refusal) => {
+            push_refusal(out, &refusal)?;
+            Ok(2)
+        }
+    }
+}
+
+/// Pushes the answer of the session after the options, or the first that is refused.
+fn push_chosen(
+    alloc: Global,
+    out: &mut Vec<u8>,
+    session: Session,
+    choices: &[Choice<'_>],
+) -> Result<u8, AllocError>
+    ensures { Pushes out.old.items out.new.items
+        (chosen_report (after_choices choices.now session.state)) result }
+{
+    let mut session = session;
+    if let Some(choice) = choose(alloc, &mut session, choices)? {
+        push_refused_option(out, choice)?;
+        return Ok(1);
+    }
+    let is_plan = push_standing(&session, out)?;
+    Ok(if is_plan { 0 } else { 1 })
+}
+
+/// Makes the edits of the options, one after another, up to the first that is refused, which it
+/// answers.
+fn choose<'a>(
+    alloc: Global,
+    session: &mut Session,
+    choices: &[Choice<'a>],
+) -> Result<Option<Choice<'a>>, AllocError>
+    ensures { IfOk result (λ refused. after_choices choices.now session.old.state
+        ≡ chosen refused session.new.state) }
+{
+    for choice in choices {
+        if !make(alloc, session, *choice)? {
+            return Ok(Some(*choice));
+        }
+    }
+    Ok(None)
+}
+
+/// Makes the edits of an option, and answers whether it is accepted.
+fn make(alloc: Global, session: &mut Session, choice: Choice<'_>) -> Result<bool, AllocError>
+    ensures { IfOk result (λ is_made. after_choice choice.entry session.old.state
+        ≡ made is_made session.new.state) }
+{
+    match edits_of(alloc, session, choice)? {
+        Some(edits) => make_all(session, edits),
+        None => Ok(false),
+    }
+}
+
+/// Makes edits, one after another, up to the first that is refused; answers whether none is.
+fn make_all(session: &mut Session, edits: Vec<Edit>) -> Result<bool, AllocError>
+    ensures { IfOk result (λ is_made. result_ok (after_edits edits.items session.old.state)
+        ≡ made is_made session.new.state) }
+{
+    for edit in edits {
+        match session.edit(edit) {
+            Ok(_) => {}
+            Err(EditError::Memory) => return Err(AllocError),
+            Err(_) => return Ok(false),
+        }
+    }
+    Ok(true)
+}
+
+/// The edits that an option means; none where its text is none.
+fn edits_of(
+    alloc: Global,
+    session: &Session,
+    choice: Choice<'_>,
+) -> Result<Option<Vec<Edit>>, AllocError>
+    ensures { IfOk result (λ edits. option_map (λ edits. edits.items) edits
+        ≡ edits_of session.now.state choice.entry) }
+{
+    match choice {
+        Choice::AllExtras => all_extras(alloc, session.head().extras().as_slice()),
+        Choice::Extra(name) => extra(alloc, name),
+        Choice::NoDefaultGroups => no_groups(alloc, session.head().default_groups().as_slice()),
+        Choice::AllGroups => all_groups(alloc, session),
+        Choice::Group(name) => group(alloc, name),
+        Choice::NoGroup(name) => no_group(alloc, name),
+        Choice::OnlyBinary(name) => policy(alloc, session, Policy::Wheel, name),
+        Choice::NoBinary(name) => policy(alloc, session, Policy::Source, name),
+        Choice::Set(text) => set_variable(alloc, text),
+    }
+}
+
+fn all_extras(alloc: Global, names: &[String]) -> Result<Option<Vec<Edit>>, AllocError>
+    ensures { IfOk result (λ edits. option_map (λ edits. edits.items) edits
+        ≡ Some (map edit.AddExtra (map string_bytes names.now))) }
+{
+    let mut edits = Vec::with_capacity(alloc, names.len())?;
+    for name in names {
+        edits.push(Edit::AddExtra(Label::new(name.clone()?)))?;
+    }
+    Ok(Some(edits))
+}
+
+fn no_groups(alloc: Global, names: &[String]) -> Result<Option<Vec<Edit>>, AllocError>
+    ensures { IfOk result (λ edits. option_map (λ edits. edits.items) edits
+        ≡ Some (map edit.DropGroup (map string_bytes names.now))) }
+{
+    let mut edits = Vec::with_capacity(alloc, names.len())?;
+    for name in names {
+        edits.push(Edit::DropGroup(Label::new(name.clone()?)))?;
+    }
+    Ok(Some(edits))
+}
+
+fn all_groups(alloc: Global, session: &Session) -> Result<Option<Vec<Edit>>, AllocError>
+    ensures { IfOk result (λ edits. option_map (λ edits. edits.items) edits
+        ≡ Some (map edit.AddGroup session.now.state.head.groups
+        ++ map edit.AddGroup session.now.state.head.default_groups)) }
+{
+    let mut edits = Vec::new(alloc);
+    push_groups(&mut edits, session.head().groups().as_slice())?;
+    push_groups(&mut edits, session.head().default_groups().as_slice())?;
+    Ok(Some(edits))
+}
+
+fn push_groups(edits: &mut Vec<Edit>, names: &[String]) -> Result<(), AllocError>
+    ensures { OnOk result (edits.new.items
+        ≡ edits.old.items ++ map edit.AddGroup (map string_bytes names.now)) }
+{
+    for name in names {
+        edits.push(Edit::AddGroup(Label::new(name.clone()?)))?;
+    }
+    Ok(())
+}
+
+fn extra(alloc: Global, text: &str) -> Result<Option<Vec<Edit>>, AllocError>
+    ensures { IfOk result (λ edits. option_map (λ edits. edits.items) edits
+        ≡ named edit.AddExtra text.now) }
+{
+    match name_of(alloc, text)? {
+        Some(name) => one(alloc, Edit::AddExtra(name)),
+        None => Ok(None),
+    }
+}
+
+fn group(alloc: Global, text: &str) -> Result<Option<Vec<Edit>>, AllocError>
+    ensures { IfOk result (λ edits. option_map (λ edits. edits.items) edits
+        ≡ named edit.AddGroup text.now) }
+{
+    match name_of(alloc, text)? {
+        Some(name) => one(alloc, Edit::AddGroup(name)),
+        None => Ok(None),
+    }
+}
+
+fn no_group(alloc: Global, text: &str) -> Result<Option<Vec<Edit>>, AllocError>
+    ensures { IfOk result (λ edits. option_map (λ edits. edits.items) edits
+        ≡ named edit.DropGroup text.now) }
+{
+    match name_of(alloc, text)? {
+        Some(name) => one(alloc, Edit::DropGroup(name)),
+        None => Ok(None),
+    }
+}
+
+/// The edits of `--only-binary` and `--no-binary`.
+fn policy(
+    alloc: Global,
+    session: &Session,
+    policy: Policy,
+    text: &str,
+) -> Result<Option<Vec<Edit>>, AllocError>
+    ensures { IfOk result (λ edits. option_map (λ edits. edits.items) edits
+        ≡ policies session.now.state policy text.now) }
+{
+    if text == ":all:" {
+        return each_policy(alloc, session, policy);
+    }
+    match name_of(alloc, text)? {
+        Some(name) => one(alloc, Edit::Policy(name, policy)),
+        None => Ok(None),
+    }
+}
+
+/// The policy for the name of each entry.
+fn each_policy(
+    alloc: Global,
+    session: &Session,
+    policy: Policy,
+) -> Result<Option<Vec<Edit>>, AllocError>
+    ensures { IfOk result (λ edits. option_map (λ edits. edits.items) edits
+        ≡ Some (map (λ entry. edit.Policy entry.1.name policy) session.now.state.entries)) }
+{
+    let mut edits = Vec::with_capacity(alloc, session.entries().len())?;
+    for entry in session.entries() {
+        if let Some(entry) = entry {
+            edits.push(Edit::Policy(label(alloc, entry.name())?, policy))?;
+        }
+    }
+    Ok(Some(edits))
+}
+
+/// The edit of `--set`, whose text is cut at its first `=`.
+fn set_variable(alloc: Global, text: &str) -> Result<Option<Vec<Edit>>, AllocError>
+    ensures { IfOk result (λ edits. option_map (λ edits. edits.items) edits
+        ≡ set_variable text.now) }
+{
+    let Some((name, value)) = around_equals(text) else {
+        return Ok(None);
+    };
+    match Var::of(name) {
+        Some(variable) => one(alloc, Edit::Set(variable, label(alloc, value)?)),
+        None => Ok(None),
+    }
+}
+
+/// What stands before and behind the first `=`.
+fn around_equals(text: &str) -> Option<(&str, &str)>
+    ensures { option_map (λ cut. (cut.0.now, cut.1.now)) result ≡ cut_at 61 text.now }
+{
+    text.split_once('=')
+}
+
+/// The text, where it is a name.
+fn name_of(alloc: Global, text: &str) -> Result<Option<Label>, AllocError>
+    ensures { IfOk result (λ name. name ≡ (if is_name text.now then Some text.now else None)) }
+{
+    if !is_name(text) {
+        return Ok(None);
+    }
+    Ok(Some(label(alloc, text)?))
+}
+
+fn one(alloc: Global, edit: Edit) -> Result<Option<Vec<Edit>>, AllocError>
+    ensures { IfOk result (λ edits. option_map (λ edits. edits.items) edits ≡ Some (edit ∷ [])) }
+{
+    let mut edits = Vec::new(alloc);
+    edits.push(edit)?;
+    Ok(Some(edits))
+}
+
+/// Pushes the line of a refused option.
+fn push_refused_option(out: &mut Vec<u8>, choice: Choice<'_>) -> Result<(), AllocError>
+    ensures { OnOk result (out.new.items ≡ out.old.items ++ refused_option choice.entry) }
+{
+    out.extend_from_slice(b"refused\t")?;
+    out.extend_from_slice(option_word(choice))?;
+    push_next(out, option_text(choice))?;
+    out.push(b'\n')?;
+    Ok(())
+}
+
+/// The word of an option, without its dashes.
+fn option_word(choice: Choice<'_>) -> &'static [u8]
+    ensures { result.now ≡ (written choice.entry).0 }
+{
+    match choice {
+        Choice::AllExtras => b"all-extras",
+        Choice::Extra(_) => b"extra",
+        Choice::NoDefaultGroups => b"no-default-groups",
+        Choice::AllGroups => b"all-groups",
+        Choice::Group(_) => b"group",
+        Choice::NoGroup(_) => b"no-group",
+        Choice::OnlyBinary(_) => b"only-binary",
+        Choice::NoBinary(_) => b"no-binary",
+        Choice::Set(_) => b"set",
+    }
+}
+
+/// The text of an option, where it has one.
+fn option_text(choice: Choice<'_>) -> Option<&str>
+    ensures { option_copied result ≡ (written choice.entry).1 }
+{
+    match choice {
+        Choice::AllExtras | Choice::NoDefaultGroups | Choice::AllGroups => None,
+        Choice::Extra(text)
+        | Choice::Group(text)
+        | Choice::NoGroup(text)
+        | Choice::OnlyBinary(text)
+        | Choice::NoBinary(text)
+        | Choice::Set(text) => Some(text),
+    }
+}
