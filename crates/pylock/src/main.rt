@@ -4,8 +4,9 @@
 
 use pylock_command::{CommandError, Task, command};
 use pylock_program::{
-    Failure, FileFault, Files, FromRead, ToWrite, perform, read_file, words_failure,
+    Failure, FileFault, Files, FromRead, ToWrite, perform, read_file, terminal_note, words_failure,
 };
+use std::io::IsTerminal;
 use std::process::ExitCode;
 use std::{env, fs};
 
@@ -26,8 +27,18 @@ impl<'a> Files for HostFiles<'a> {
     }
 }
 
+/// Says what the task waits for, where standard input is a terminal.
+fn note(rt: &HostRuntime, task: &Task<'_>) {
+    if let Some(note) = terminal_note(task) {
+        if rt.stdin().is_terminal() {
+            let _ = eprintln!(rt; "pylock: {note}");
+        }
+    }
+}
+
 /// Does the task on the files, standard input and standard output of the host.
 fn perform_here(rt: &HostRuntime, task: Task<'_>) -> Result<u8, Failure> {
+    note(rt, &task);
     let mut reader = FromRead::new(rt.stdin());
     let mut writer = ToWrite::new(rt.stdout());
     perform(

@@ -1,5 +1,5 @@
 -- What the program does with its task, and how it ends.
-use Rattle.std.specs.Prelude.{◌≡◌, ◌≢◌, ℕ, List, codes, Result, Ok, Err}
+use Rattle.std.specs.Prelude.{◌≡◌, ◌≢◌, ℕ, List, codes, Option, Some, None, Result, Ok, Err}
 use Rattle.std.specs.Result.{result_map_both}
 use Rattle.pylock_command.specs.declared.command_line.Task.{Task}
 use Rattle.pylock_command.specs.declared.command_line.Task.TheVariants as task
@@ -48,6 +48,12 @@ failure_message Memory = codes "memory"
 abbrev pub failure_status : Failure → ℕ
 failure_status NotText = 2
 failure_status _ = 3
+
+-- what stands there before a task is done where standard input is a terminal
+abbrev pub terminal_note : Task → Option (List ℕ)
+terminal_note (task.Select lock environment) =
+    Some (codes "edit lines are read from standard input; Ctrl-D ends them")
+terminal_note _ = None
 
 -- ---- what the program does with a task
 

@@ -12,7 +12,7 @@ mod stream;
 mod text;
 
 pub use choices::plan;
-pub use program::{FILE_BYTES, Failure, Files, perform, read_file, words_failure};
+pub use program::{FILE_BYTES, Failure, Files, perform, read_file, terminal_note, words_failure};
 pub use reply::queries::Query;
 pub use reply::query;
 pub use report::fault::RunFault;

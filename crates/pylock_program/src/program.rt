@@ -1,10 +1,11 @@
 //! What the program does with its task, and how it ends.
 
 ghost use Rattle.std.specs.Prelude.{◌≡◌, ◌≢◌, Err, IfErr, IfOk};
+ghost use Rattle.std.specs.Option.{option_copied};
 ghost use Rattle.std.specs.Result.{result_map_both};
 ghost use Rattle.pylock_program.specs.Program.{most_file_bytes, failure_message, failure_status};
 ghost use Rattle.pylock_program.specs.Program.{Opens, Performs, Reads, Replies, Runs, Tells};
-ghost use Rattle.pylock_program.specs.Program.{greeting, told};
+ghost use Rattle.pylock_program.specs.Program.{greeting, terminal_note, told};
 ghost use Rattle.pylock_program.specs.Reply.{files_answer, marker_answer, reply, reply_of};
 ghost use Rattle.pylock_program.specs.Choices.{plan_report};
 ghost use Rattle.pylock_program.specs.Report.{opened};
@@ -101,6 +102,17 @@ impl From<FileFault> for Failure {
     }
 }
 
+/// What stands on standard error behind `pylock: ` before a task is done where standard input is a
+/// terminal: that edit lines are awaited, if the task reads them.
+pub fn terminal_note(task: &Task<'_>) -> Option<&'static str>
+    ensures { option_copied result ≡ terminal_note task.now }
+{
+    match task {
+        Task::Select(_, _) => { Some("edit lines are read from standard input; Ctrl-D ends them") }
+        _ => None,
+    }
+}
+
 /// What an error of the list of words says: one that is not UTF-8, or else that memory ran out.
 pub fn words_failure(kind: ErrorKind) -> Failure
     ensures text { kind ≡ ErrorKind.InvalidData → result ≡ failure.NotText }
@@ -148,7 +160,7 @@ pub fn perform<F: Files, R: Source, W: Sink>(
     match task {
         Task::Bare => greet(writer),
         Task::Plan(lock, environment, choices) => {
-            plan_files(alloc, files, lock, environment, &choices, writer)
+            plan_files(alloc, files, lock, environment, choices, writer)
         }
         Task::Select(lock, environment) => select(alloc, files, lock, environment, reader, writer),
         Task::Files(lock) => list(alloc, files, lock, writer),
@@ -191,16 +203,16 @@ fn plan_files<F: Files, W: Sink>(
     files: &F,
     lock: &str,
     environment: &str,
-    choices: &[Choice<'_>],
+    choices: Vec<Choice<'_>>,
     writer: &mut W,
 ) -> Result<u8, Failure>
     ensures { (source : SourceValue) → Opens (F.read_gives files.now) lock.now
         (λ lock. Opens (F.read_gives files.now) environment.now
-        (λ environment. Replies (plan_report (opened lock environment) choices.now)))
+        (λ environment. Replies (plan_report (opened lock environment) choices.entry.items)))
         source source (W.value writer.old) (W.value writer.new) result }
 {
     let (lock, environment) = (files.read(lock)?, files.read(environment)?);
-    told(plan(alloc, &lock, &environment, choices, writer))
+    told(plan(alloc, &lock, &environment, &choices, writer))
 }
 
 /// Answers `files` on the lock of a file.

@@ -5,3 +5,9 @@ returns-in-Select g c = rw c.in-Select.is c.select.ensures
 
 pub returns-in-Marker : goal.returns-in-Marker
 returns-in-Marker g c = rw c.in-Marker.is (c.judge.ensures (g.R.Source.value c.args.reader.now))
+
+pub returns-in-Files : goal.returns-in-Files
+returns-in-Files g c = rw c.in-Files.is (c.list.ensures (g.R.Source.value c.args.reader.now))
+
+pub returns-in-Plan : goal.returns-in-Plan
+returns-in-Plan g c = rw c.in-Plan.is (c.plan_files.ensures (g.R.Source.value c.args.reader.now))
