@@ -1,6 +1,8 @@
 mod IndexLemmas
 pub mod NameLemmas
 pub mod PassLemmas
+pub mod FateLemmas
+pub mod FateLaw
 pub mod VerdictLemmas
 pub mod WriteLemmas
 pub mod ReaderLemmas

@@ -274,19 +274,23 @@ source_same e tags policy = by e.vcs e.directory e.archive (best_wheel e tags po
     by None None None (Some b) = refl
     by None None None None = sdist_same e.sdist policy e refl
 
+-- the source of an entry is that of its row
+pub source_of_row : (names : Names) (environment : EnvironmentValue) (tags : List TagValue) (e : EntryValue) (r : Row) → Both names environment tags e r
+    → source_of e tags (policy_of (policies_in names) e.name) ≡ row_source r (policy_at names.policies.items r.name)
+source_of_row names environment tags e r h =
+    let policy : policy_of (policies_in names) e.name ≡ policy_at names.policies.items r.name = policy_here names e.name r.name h.0.name in
+    let best : best_wheel e tags (policy_at names.policies.items r.name) ≡ r.verdict.best = sym (ap (λ v. v.best) h.1) in
+    ap (source_of e tags) policy ∙ source_same e tags (policy_at names.policies.items r.name)
+    ∙ ap (λ s. source_among s (best_wheel e tags (policy_at names.policies.items r.name)) (policy_at names.policies.items r.name)) (sym h.0.sources)
+    ∙ ap (λ b. source_among r.sources b (policy_at names.policies.items r.name)) best
+
 picks_same : (names : Names) (environment : EnvironmentValue) (tags : List TagValue) (xs : List (ℕ × EntryValue)) (ys : List (ℕ × Row)) → Pairs names environment tags xs ys
     → picks xs tags (policies_in names) ≡ pick_rows ys names.policies.items
 picks_same names environment tags [] [] h = refl
 picks_same names environment tags [] (y ∷ ys) h = absurd h
 picks_same names environment tags (x ∷ xs) [] h = absurd h
 picks_same names environment tags (x ∷ xs) (y ∷ ys) h =
-    let named = h.1.0 in
-    let policy : policy_of (policies_in names) x.1.name ≡ policy_at names.policies.items y.1.name = policy_here names x.1.name y.1.name named.name in
-    let best : best_wheel x.1 tags (policy_at names.policies.items y.1.name) ≡ y.1.verdict.best = sym (ap (λ v. v.best) h.1.1) in
-    let chosen : source_of x.1 tags (policy_of (policies_in names) x.1.name) ≡ row_source y.1 (policy_at names.policies.items y.1.name) =
-    ap (source_of x.1 tags) policy ∙ source_same x.1 tags (policy_at names.policies.items y.1.name)
-    ∙ ap (λ s. source_among s (best_wheel x.1 tags (policy_at names.policies.items y.1.name)) (policy_at names.policies.items y.1.name)) (sym named.sources)
-    ∙ ap (λ b. source_among y.1.sources b (policy_at names.policies.items y.1.name)) best in
+    let chosen : source_of x.1 tags (policy_of (policies_in names) x.1.name) ≡ row_source y.1 (policy_at names.policies.items y.1.name) = source_of_row names environment tags x.1 y.1 h.1 in
     ap (λ n. pick_before n (source_of x.1 tags (policy_of (policies_in names) x.1.name)) (picks xs tags (policies_in names))) h.0
     ∙ ap (λ s. pick_before y.0 s (picks xs tags (policies_in names))) chosen
     ∙ ap (pick_before y.0 (row_source y.1 (policy_at names.policies.items y.1.name))) (picks_same names environment tags xs ys h.2)

@@ -1,6 +1,7 @@
 -- What serves the contracts of private functions alone.
 pub mod Again
 pub mod Edits
+pub mod Fates
 pub mod Index
 pub mod Names
 pub mod Parts

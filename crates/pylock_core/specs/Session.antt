@@ -1,4 +1,5 @@
 -- A session: its state and its edits, the installation steps on it, and what of them is kept.
+pub mod Fates
 pub mod Judgement
 pub mod Picks
 pub mod State

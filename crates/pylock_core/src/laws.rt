@@ -8,6 +8,7 @@ ghost use Rattle.pymark_core.specs.declared.variable.Var.TheVariants.{PythonFull
 ghost use Rattle.pywheel_core.specs.Tag.{TagValue};
 ghost use Rattle.pylock_readers.specs.Entry.{EntryValue};
 ghost use Rattle.pylock_readers.specs.Lock.{HeadValue};
+ghost use Rattle.pylock_core.specs.Session.Fates.{explained_answer};
 ghost use Rattle.pylock_core.specs.Session.Judgement.{AgreeAtKey, IndexKey, entry_reads};
 ghost use Rattle.pylock_core.specs.Session.Judgement.{head_reads, readers, touched, verdict_of};
 ghost use Rattle.pylock_core.specs.Session.Picks.{IsFaultIn, IsPickAmong};
@@ -81,4 +82,11 @@ pub fn fault_stands()
 /// What an edit makes of a state is never want of memory: only a call may answer it.
 pub fn answers_want_no_memory()
     ensures { (edit : Edit) (state : State) → apply edit state ≡ Err Memory → ⊥ }
+{}
+
+/// What becomes of each entry gives the answer: the head's fault; else the first fault of step 5
+/// that an entry has; else the first entry without a file; else the plan of all that is picked.
+#[tactic(auto, using(crate::proofs::FateLaw::fates_give))]
+pub fn fates_give()
+    ensures { (state : State) → NumbersRise state → answer state ≡ explained_answer state }
 {}

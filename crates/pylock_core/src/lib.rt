@@ -5,12 +5,14 @@
 
 mod answer;
 mod edit;
+mod fate;
 pub mod laws;
 mod picked;
 mod session;
 
 pub use answer::{Answer, FaultCode, Pick, PickSource, Plan, Standing};
 pub use edit::{Edit, EditError, Policy};
+pub use fate::Fate;
 pub use picked::PickedSource;
 pub use pylock_readers::{
     Archive, Directory, DistributionFile, Entry, EntryError, EntryKey, EnvError, Head, HeadKey,

@@ -3,6 +3,7 @@
 pub(crate) mod changes;
 pub(crate) mod edits;
 pub(crate) mod entries;
+pub(crate) mod fates;
 pub(crate) mod index;
 pub(crate) mod judged;
 pub(crate) mod judgement;
@@ -20,15 +21,17 @@ ghost use Rattle.std.specs.Option.{option_copied};
 ghost use Rattle.pylock_core.specs.Session.Judgement.{all_numbers, index_of, touched, verdicts_of};
 ghost use Rattle.pylock_core.specs.Session.State.{NumbersRise, apply, entry_at, first, in_rows};
 ghost use Rattle.pylock_core.specs.Session.State.{takes_memory};
-ghost use Rattle.pylock_core.specs.Session.Steps.{answer};
+ghost use Rattle.pylock_core.specs.Session.Fates.{fates};
+ghost use Rattle.pylock_core.specs.Session.Steps.{answer, head_fault};
 ghost use Rattle.pylock_core.specs.declared.edit.EditError.{EditError};
 ghost use Rattle.pylock_core.specs.declared.edit.EditError.TheVariants.{Memory};
 
-use crate::answer::Answer;
+use crate::answer::{Answer, FaultCode};
 use crate::edit::{Edit, EditError};
+use crate::fate::Fate;
 use crate::session::entries::entry_in;
 use crate::session::judged::{edit_parts, start};
-use crate::session::parts::{Parts, answer};
+use crate::session::parts::{Parts, answer, fates};
 use pylock_readers::{Entry, Head, Lock};
 use pymark_core::Environment;
 use pywheel_core::TagList;
@@ -126,6 +129,22 @@ impl Session {
         ensures { IfOk result (λ found. found ≡ answer self.now.state) }
     {
         answer(&self.parts)
+    }
+
+    /// What becomes of each entry, judged for itself, with its number. Changes nothing.
+    ///
+    /// Takes memory for what it answers, and for a number for each name that the session has met.
+    pub fn fates(&self) -> Result<Vec<(u32, Fate)>, AllocError>
+        ensures { IfOk result (λ found. found.items ≡ fates self.now.state) }
+    {
+        fates(&self.parts)
+    }
+
+    /// The fault of the head, if it has one. It takes no memory.
+    pub fn head_fault(&self) -> Option<FaultCode>
+        ensures { result ≡ head_fault self.now.state.head self.now.state.environment }
+    {
+        self.parts.head_verdict.fault()
     }
 
     /// The entry of the number.

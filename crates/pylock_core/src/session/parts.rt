@@ -2,9 +2,12 @@
 
 ghost use Rattle.std.specs.Prelude.{◌≡◌, IfOk};
 ghost use Rattle.pylock_core.specs.Inner.Parts.{IsSession, state_of};
+ghost use Rattle.pylock_core.specs.Session.Fates.{fates};
 ghost use Rattle.pylock_core.specs.Session.Steps.{answer};
 
 use crate::answer::Answer;
+use crate::fate::Fate;
+use crate::session::fates::fates_of;
 use crate::session::index::Lists;
 use crate::session::judged::Judged;
 use crate::session::names::Names;
@@ -64,6 +67,19 @@ pub(crate) fn answer(parts: &Parts) -> Result<Answer, AllocError>
         return Ok(Answer::Fault { id: 0, code });
     }
     answer_of(
+        parts.alloc,
+        parts.living.as_slice(),
+        parts.rows.as_slice(),
+        parts.names.policies.as_slice(),
+    )
+}
+
+/// What becomes of each entry, with its number.
+pub(crate) fn fates(parts: &Parts) -> Result<Vec<(u32, Fate)>, AllocError>
+    requires { IsSession parts.now }
+    ensures { IfOk result (λ found. found.items ≡ fates (state_of parts.now)) }
+{
+    fates_of(
         parts.alloc,
         parts.living.as_slice(),
         parts.rows.as_slice(),

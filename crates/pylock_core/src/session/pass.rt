@@ -37,7 +37,7 @@ pub(crate) fn answer_of(
 }
 
 /// The row of the number.
-fn row_in(rows: &[Option<Row>], number: u32) -> Option<&Row>
+pub(crate) fn row_in(rows: &[Option<Row>], number: u32) -> Option<&Row>
     ensures { option_copied result ≡ row_at rows.now number }
 {
     let place = (number as usize).checked_sub(1)?;
@@ -103,7 +103,7 @@ fn slating_active(slated: &mut Slated, row: &Row) -> Result<Standing, AllocError
 }
 
 /// Whether the entry stands by its marker and its Python check.
-fn is_active(row: &Row) -> bool
+pub(crate) fn is_active(row: &Row) -> bool
     ensures { result ≡ is_active row.now }
 {
     matches!(row.verdict.standing(), Standing::Active)
