@@ -16,6 +16,7 @@ use Rattle.pylock_core.specs.declared.answer.Pick.{Pick}
 use Rattle.pylock_core.specs.declared.answer.PickSource.{PickSource}
 use Rattle.pylock_core.specs.declared.answer.Standing.{Standing}
 use Rattle.pylock_core.specs.declared.answer.Standing.TheVariants.{Skipped, Faulty, Active}
+use Rattle.pylock_core.specs.declared.edit.Policy.{Policy}
 use Rattle.pylock_core.specs.declared.fate.Fate.{Fate}
 use Rattle.pylock_core.proofs.NameLemmas.{text_itself}
 
@@ -43,20 +44,23 @@ below_more None n k more below = tt
 
 -- ---- one fate
 
-picked_picks : (n : ℕ) (s : Option PickSource) (fs : List (ℕ × Fate)) → fate_picks ((n, picked s) ∷ fs) ≡ pick_before n s (fate_picks fs)
-picked_picks n None fs = refl
-picked_picks n (Some s) fs = refl
+picked_picks : (n : ℕ) (policy : Policy) (s : Option PickSource) (fs : List (ℕ × Fate)) → fate_picks ((n, picked policy s) ∷ fs) ≡ pick_before n s (fate_picks fs)
+picked_picks n policy None fs = refl
+picked_picks n policy (Some s) fs = refl
 
-picked_fault : (n : ℕ) (s : Option PickSource) (fs : List (ℕ × Fate)) → first_slating_fault ((n, picked s) ∷ fs) ≡ first_slating_fault fs
-picked_fault n None fs = refl
-picked_fault n (Some s) fs = refl
+picked_fault : (n : ℕ) (policy : Policy) (s : Option PickSource) (fs : List (ℕ × Fate)) → first_slating_fault ((n, picked policy s) ∷ fs) ≡ first_slating_fault fs
+picked_fault n policy None fs = refl
+picked_fault n policy (Some s) fs = refl
 
 module _ (environment : EnvironmentValue) (tags : List TagValue) (policies : Policies) (first : List ℕ → Option ℕ) where
+  abbrev policy : EntryValue → Policy
+  policy e = policy_of policies e.name
+
   abbrev source : EntryValue → Option PickSource
-  source e = source_of e tags (policy_of policies e.name)
+  source e = source_of e tags (policy e)
 
   abbrev fate_of : ℕ × EntryValue → ℕ × Fate
-  fate_of e = (e.0, fate_by (standing e.1 environment) e.0 (first e.1.name) (own_fate (has_conflict e.1) (source e.1)))
+  fate_of e = (e.0, fate_by (standing e.1 environment) e.0 (first e.1.name) (own_fate (has_conflict e.1) (policy e.1) (source e.1)))
 
   -- what step 5 gives, and what fates say of it and of step 6
   abbrev Agree : Result (List (ℕ × EntryValue)) FirstFault → Option FirstFault → Result (List Pick) FirstFault → Type 0
@@ -86,7 +90,7 @@ module _ (environment : EnvironmentValue) (tags : List TagValue) (policies : Pol
       → (shared ≡ true → (m : ℕ) × (found ≡ Some m) × (m < n))
       → (s ≡ Active → shared ≡ false → found ≡ Some n)
       → Agree (by_standing s skipped (λ code. Err (n, code)) (cond shared (Err (n, Ambiguous)) (cond conflict (Err (n, Sources)) (put_before (n, e) later))))
-      (first_slating_fault ((n, fate_by s n found (own_fate conflict (source e))) ∷ fs)) (fate_picks ((n, fate_by s n found (own_fate conflict (source e))) ∷ fs))
+      (first_slating_fault ((n, fate_by s n found (own_fate conflict (policy e) (source e))) ∷ fs)) (fate_picks ((n, fate_by s n found (own_fate conflict (policy e) (source e))) ∷ fs))
   turn n e Skipped shared conflict found fs skipped later at_skipped at_active other own = at_skipped refl
   turn n e (Faulty code) shared conflict found fs skipped later at_skipped at_active other own = refl
   turn n e Active true conflict found fs skipped later at_skipped at_active other own =
@@ -94,7 +98,7 @@ module _ (environment : EnvironmentValue) (tags : List TagValue) (policies : Pol
       rw (h.1, ne_eqb h.0 n (λ same. omega (arith, same, h.2))) refl
   turn n e Active false true found fs skipped later at_skipped at_active other own = rw (own refl refl, eq-eqb n n refl) refl
   turn n e Active false false found fs skipped later at_skipped at_active other own =
-      rw (own refl refl, eq-eqb n n refl, picked_fault n (source e) fs, picked_picks n (source e) fs) (put_agree n e later (first_slating_fault fs) (fate_picks fs) (at_active refl refl))
+      rw (own refl refl, eq-eqb n n refl, picked_fault n (policy e) (source e) fs, picked_picks n (policy e) (source e) fs) (put_agree n e later (first_slating_fault fs) (fate_picks fs) (at_active refl refl))
 
   -- what is known after the entries in front, whose slated ones have these names
   record Known (k : ℕ) (es : List (ℕ × EntryValue)) (names : List (List ℕ)) (front : List ℕ → Option ℕ) : Type 0 where

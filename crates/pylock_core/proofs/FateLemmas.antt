@@ -18,7 +18,7 @@ use Rattle.pylock_core.specs.declared.fate.Fate.{Fate}
 use Rattle.pylock_core.specs.declared.session.names.Names.{Names}
 use Rattle.pylock_core.specs.declared.session.parts.Parts.{Parts}
 use Rattle.pylock_core.specs.declared.session.row.Row.{Row}
-use Rattle.pylock_core.proofs.SessionLemmas.{Both, of_rows_and, same_number, source_of_row}
+use Rattle.pylock_core.proofs.SessionLemmas.{Both, of_rows_and, policy_here, same_number, source_of_row}
 
 -- what is noted of one row, and then of the rest, is what is noted of both
 either_first : (b : Bool) (n : ℕ) (rest : Option ℕ) → either (cond b (Some n) None) rest ≡ cond b (Some n) rest
@@ -62,21 +62,22 @@ module _ (names : Names) (environment : EnvironmentValue) (tags : List TagValue)
 
   -- what becomes of an entry is what becomes of its row
   fate_same : (n : ℕ) (e : EntryValue) (r : Row) → Both names environment tags e r → (first other : Option ℕ) → first ≡ other
-      → fate_by (standing e environment) n first (own_fate (has_conflict e) (source_of e tags (policy_of (policies_in names) e.name)))
+      → fate_by (standing e environment) n first (own_fate (has_conflict e) (policy_of (policies_in names) e.name) (source_of e tags (policy_of (policies_in names) e.name)))
       ≡ row_fate (policy_at names.policies.items r.name) other (n, r)
   fate_same n e r both first other same =
       let conflict : has_conflict e ≡ conflict_among r.sources = sym (ap conflict_among both.0.sources) in
       let source = source_of_row names environment tags e r both in
-      ap (λ s. fate_by s n first (own_fate (has_conflict e) (source_of e tags (policy_of (policies_in names) e.name)))) (stands e r both)
-      ∙ ap (λ f. fate_by r.verdict.standing n f (own_fate (has_conflict e) (source_of e tags (policy_of (policies_in names) e.name)))) same
-      ∙ ap (λ c. fate_by r.verdict.standing n other (own_fate c (source_of e tags (policy_of (policies_in names) e.name)))) conflict
-      ∙ ap (λ s. fate_by r.verdict.standing n other (own_fate (conflict_among r.sources) s)) source
+      ap (λ s. fate_by s n first (own_fate (has_conflict e) (policy_of (policies_in names) e.name) (source_of e tags (policy_of (policies_in names) e.name)))) (stands e r both)
+      ∙ ap (λ f. fate_by r.verdict.standing n f (own_fate (has_conflict e) (policy_of (policies_in names) e.name) (source_of e tags (policy_of (policies_in names) e.name)))) same
+      ∙ ap (λ c. fate_by r.verdict.standing n other (own_fate c (policy_of (policies_in names) e.name) (source_of e tags (policy_of (policies_in names) e.name)))) conflict
+      ∙ ap (λ p. fate_by r.verdict.standing n other (own_fate (conflict_among r.sources) p (source_of e tags (policy_of (policies_in names) e.name)))) (policy_here names e.name r.name both.0.name)
+      ∙ ap (λ s. fate_by r.verdict.standing n other (own_fate (conflict_among r.sources) (policy_at names.policies.items r.name) s)) source
 
   abbrev of_entry : List (ℕ × EntryValue) → ℕ × EntryValue → ℕ × Fate
   of_entry all e = (
     e.0,
     fate_by (standing e.1 environment) e.0 (first_active all environment e.1.name)
-        (own_fate (has_conflict e.1) (source_of e.1 tags (policy_of (policies_in names) e.1.name))),
+        (own_fate (has_conflict e.1) (policy_of (policies_in names) e.1.name) (source_of e.1 tags (policy_of (policies_in names) e.1.name))),
   )
 
   fates_same : (all : List (ℕ × EntryValue)) (every : List (ℕ × Row)) → ((q : List ℕ) (n : ℕ) → number_named names q ≡ Some n → first_active all environment q ≡ first_active_row every n)

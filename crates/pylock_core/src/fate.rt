@@ -1,6 +1,7 @@
 //! What becomes of an entry.
 
 use crate::answer::{FaultCode, PickSource};
+use crate::edit::Policy;
 
 /// What becomes of an entry, judged for itself (PEP 751, "Installation", steps 5 and 6). The first
 /// that holds is the entry's.
@@ -14,8 +15,8 @@ pub enum Fate {
     Ambiguous(u32),
     /// It has sources of more than one kind.
     Sources,
-    /// It has no source to install from.
-    NoFile,
+    /// It has no source to install from under this policy of its name.
+    NoFile(Policy),
     /// It is installed from this source.
     Picked(PickSource),
 }

@@ -154,6 +154,20 @@ impl Session {
         entry_in(self.parts.entries.as_slice(), number)
     }
 
+    /// The environment that the entries are judged in. It takes no memory.
+    pub fn environment(&self) -> &Environment
+        ensures { result.now ≡ self.now.state.environment }
+    {
+        &self.parts.environment
+    }
+
+    /// The tags that wheels are judged by, the best first. It takes no memory.
+    pub fn tags(&self) -> &TagList
+        ensures { result.now ≡ self.now.state.tags }
+    {
+        &self.parts.tags
+    }
+
     /// The head of the lock. It takes no memory.
     pub fn head(&self) -> &Head
         ensures { result.now ≡ self.now.state.head }

@@ -195,3 +195,10 @@ fn session_edits_are_whole(rt: HostRuntime) {
         check_edits(&rt, &mut session);
     }
 }
+
+#[test]
+fn session_fates(rt: HostRuntime) {
+    if let Some(session) = session(rt.alloc()) {
+        assert!(rt; session.fates().map_or(true, |fates| fates.len() == 2));
+    }
+}

@@ -18,7 +18,7 @@ first_active_row (e ∷ es) name =
 abbrev pub row_fate : Policy → Option ℕ → ℕ × Row → Fate
 row_fate policy first e =
     fate_by e.1.verdict.standing e.0 first
-    (own_fate (conflict_among e.1.sources) (row_source e.1 policy))
+    (own_fate (conflict_among e.1.sources) policy (row_source e.1 policy))
 
 -- of each, among all rows
 abbrev pub fate_among : List (ℕ × Row) → List Policy → ℕ × Row → Fate

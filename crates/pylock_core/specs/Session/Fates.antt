@@ -17,6 +17,7 @@ use Rattle.pylock_core.specs.declared.answer.FaultCode.TheVariants as code
 use Rattle.pylock_core.specs.declared.answer.Pick.{Pick}
 use Rattle.pylock_core.specs.declared.answer.PickSource.{PickSource}
 use Rattle.pylock_core.specs.declared.answer.Standing.{Standing}
+use Rattle.pylock_core.specs.declared.edit.Policy.{Policy}
 use Rattle.pylock_core.specs.declared.fate.Fate.{Fate}
 use Rattle.pylock_core.specs.declared.fate.Fate.TheVariants.{Skipped, Faulty, Ambiguous, Sources}
 use Rattle.pylock_core.specs.declared.fate.Fate.TheVariants.{NoFile, Picked}
@@ -33,12 +34,12 @@ first_active (e ∷ es) environment name =
     else first_active es environment name
 
 -- what becomes of an active entry that shares its name with no earlier one
-abbrev pub picked : Option PickSource → Fate
-picked None = NoFile
-picked (Some source) = Picked source
+abbrev pub picked : Policy → Option PickSource → Fate
+picked policy None = NoFile policy
+picked policy (Some source) = Picked source
 
-abbrev pub own_fate : Bool → Option PickSource → Fate
-own_fate conflict source = if conflict then Sources else picked source
+abbrev pub own_fate : Bool → Policy → Option PickSource → Fate
+own_fate conflict policy source = if conflict then Sources else picked policy source
 
 -- what becomes of an active entry: the first active one of its name has its number, or is an
 -- earlier one
@@ -53,10 +54,10 @@ fate_by standing number first own =
 
 abbrev pub fate : State → ℕ × EntryValue → Fate
 fate state e =
+    let policy = policy_of state.policies e.1.name in
     fate_by (standing e.1 state.environment) e.0
     (first_active state.entries state.environment e.1.name)
-    (own_fate (has_conflict e.1)
-    (source_of e.1 state.tags (policy_of state.policies e.1.name)))
+    (own_fate (has_conflict e.1) policy (source_of e.1 state.tags policy))
 
 -- what becomes of each entry, with its number
 abbrev pub fates : State → List (ℕ × Fate)
@@ -80,7 +81,7 @@ first_slating_fault (f ∷ fs) =
 abbrev pub fate_picks : List (ℕ × Fate) → Result (List Pick) FirstFault
 fate_picks [] = Ok []
 fate_picks ((n, Picked source) ∷ fs) = pick_before n (Some source) (fate_picks fs)
-fate_picks ((n, NoFile) ∷ fs) = pick_before n None (fate_picks fs)
+fate_picks ((n, NoFile policy) ∷ fs) = pick_before n None (fate_picks fs)
 fate_picks (f ∷ fs) = fate_picks fs
 
 -- the first fault of step 5, or else what step 6 gives

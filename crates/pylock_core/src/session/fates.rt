@@ -100,7 +100,7 @@ fn fate(number: u32, row: &Row, first: Option<u32>, policy: Policy) -> Fate
 
 fn active_fate(number: u32, row: &Row, first: Option<u32>, policy: Policy) -> Fate
     ensures { result ≡ active_fate number first
-        (own_fate (conflict_among row.now.sources) (row_source row.now policy)) }
+        (own_fate (conflict_among row.now.sources) policy (row_source row.now policy)) }
 {
     match first {
         Some(first) if first != number => Fate::Ambiguous(first),
@@ -110,13 +110,14 @@ fn active_fate(number: u32, row: &Row, first: Option<u32>, policy: Policy) -> Fa
 
 /// What becomes of an active entry that shares its name with no earlier one.
 fn own_fate(row: &Row, policy: Policy) -> Fate
-    ensures { result ≡ own_fate (conflict_among row.now.sources) (row_source row.now policy) }
+    ensures { result ≡ own_fate (conflict_among row.now.sources) policy
+        (row_source row.now policy) }
 {
     if row.sources.has_conflict() {
         return Fate::Sources;
     }
     match row.source(policy) {
         Some(source) => Fate::Picked(source),
-        None => Fate::NoFile,
+        None => Fate::NoFile(policy),
     }
 }
