@@ -33,11 +33,12 @@ first_active (e ∷ es) environment name =
     if stands_active (standing e.1 environment) && bytes_eq name e.1.name then Some e.0
     else first_active es environment name
 
--- what becomes of an active entry that shares its name with no earlier one
+-- an entry that step 6 gives this source, or none under the policy of its name
 abbrev pub picked : Policy → Option PickSource → Fate
 picked policy None = NoFile policy
 picked policy (Some source) = Picked source
 
+-- what becomes of an active entry that shares its name with no earlier one
 abbrev pub own_fate : Bool → Policy → Option PickSource → Fate
 own_fate conflict policy source = if conflict then Sources else picked policy source
 
