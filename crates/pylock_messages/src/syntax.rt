@@ -1,0 +1,93 @@
+//! Where a text is no UTF-8, no TOML or no JSON.
+
+use std::alloc::{AllocError, Global};
+
+/// The byte order mark that a text may begin with, in UTF-8.
+const BYTE_ORDER_MARK: &[u8] = b"\xEF\xBB\xBF";
+
+/// That the byte at this offset is the first that is no UTF-8.
+pub(crate) fn not_text(alloc: Global, name: &str, offset: usize) -> Result<String, AllocError> {
+    format!(in alloc; "{name}: byte {offset} is not UTF-8 text")
+}
+
+/// Where the text is no TOML, and what `toml` says of it.
+pub(crate) fn toml_message(
+    alloc: Global,
+    name: &str,
+    text: &str,
+    fault: toml::de::Error,
+) -> Result<Option<String>, AllocError> {
+    let Some(span) = fault.span() else {
+        return Err(AllocError);
+    };
+    let bytes = text.as_bytes();
+    let before = without_mark(&bytes[..span.start.min(bytes.len())]);
+    let line = ends_of_lines(before).saturating_add(1);
+    let column = characters(last_line(before)).saturating_add(1);
+    let words = fault.message();
+    Ok(Some(format!(in alloc; "{name}:{line}:{column}: {words}")?))
+}
+
+/// Where the text is no JSON, and what `serde_json` says of it, which counts a column in bytes.
+pub(crate) fn json_message(
+    alloc: Global,
+    name: &str,
+    text: &str,
+    fault: serde_json::Error,
+) -> Result<Option<String>, AllocError> {
+    if fault.is_memory() {
+        return Err(AllocError);
+    }
+    let line = fault.line();
+    let rest = from_line(text.as_bytes(), line);
+    let front = &rest[..fault.column().min(rest.len())];
+    let front = if line == 1 {
+        without_mark(front)
+    } else {
+        front
+    };
+    let column = characters(front).max(1);
+    let words = json_words(alloc, fault)?;
+    Ok(Some(format!(in alloc; "{name}:{line}:{column}: {words}")?))
+}
+
+/// What `serde_json` says, without its line and its column.
+fn json_words(alloc: Global, fault: serde_json::Error) -> Result<String, AllocError> {
+    let (line, column) = (fault.line(), fault.column());
+    let words = format!(in alloc; "{fault}")?;
+    let place = format!(in alloc; " at line {line} column {column}")?;
+    match words.strip_suffix(place.as_str()) {
+        Some(words) => String::from_str(alloc, words),
+        None => Ok(words),
+    }
+}
+
+fn without_mark(bytes: &[u8]) -> &[u8] {
+    bytes.strip_prefix(BYTE_ORDER_MARK).unwrap_or(bytes)
+}
+
+fn ends_of_lines(bytes: &[u8]) -> usize {
+    bytes.iter().filter(|byte| **byte == b'\n').count()
+}
+
+/// What stands behind the last LF.
+fn last_line(bytes: &[u8]) -> &[u8] {
+    bytes.rsplit(|byte| *byte == b'\n').next().unwrap_or(bytes)
+}
+
+/// What stands from the line of this number on, which counts from 1.
+fn from_line(bytes: &[u8], line: usize) -> &[u8] {
+    let mut rest = bytes;
+    for _ in 1..line {
+        match rest.iter().position(|byte| *byte == b'\n') {
+            Some(end) => rest = &rest[end + 1..],
+            None => return &[],
+        }
+    }
+    rest
+}
+
+/// How many characters begin in the bytes of a text.
+fn characters(bytes: &[u8]) -> usize {
+    bytes.iter().filter(|byte| **byte & 0xC0 != 0x80).count()
+}
