@@ -12,8 +12,8 @@ use Rattle.pylock_command.specs.declared.choice.Choice.{Choice}
 use Rattle.pylock_command.specs.declared.command_line.CommandError.{CommandError}
 use Rattle.pylock_command.specs.declared.command_line.CommandError.TheVariants.{Refused, Memory}
 use Rattle.pylock_command.specs.declared.command_line.Task.{Task}
-use Rattle.pylock_command.specs.declared.command_line.Task.TheVariants.{Bare, Plan, Select}
-use Rattle.pylock_command.specs.declared.command_line.Task.TheVariants.{Files, Version}
+use Rattle.pylock_command.specs.declared.command_line.Task.TheVariants.{Bare, Plan, Explain}
+use Rattle.pylock_command.specs.declared.command_line.Task.TheVariants.{Select, Files, Version}
 use Rattle.pylock_command.specs.declared.command_line.Task.TheVariants.{Match, Name}
 use Rattle.pylock_command.specs.declared.command_line.Task.TheVariants.{Marker, Requirement, Wheel}
 
@@ -49,8 +49,8 @@ top_app =
     record app { top = record app.top { has_version = true } }
 
 -- the commands with the options of `plan`
-abbrev pub with_plan : App → App
-with_plan app = with_chosen app (codes "plan")
+abbrev pub with_chosen_commands : App → App
+with_chosen_commands app = with_chosen (with_chosen app (codes "plan")) (codes "explain")
 
 -- the run, the list of sources, and the commands on versions and names
 abbrev pub with_first : App → App
@@ -75,7 +75,7 @@ with_further app =
     (codes "wheel") (codes "TEXT")
 
 unfoldable pub pylock_app : App
-pylock_app = with_further (with_first (with_plan top_app))
+pylock_app = with_further (with_first (with_chosen_commands top_app))
 
 -- each of these arguments, by name, has this text
 abbrev pub HaveTexts : List Row → List (Text × Text) → Type 0
@@ -96,6 +96,7 @@ paths lock env = (codes "LOCK", lock) ∷ (codes "ENV", env) ∷ []
 abbrev pub call_of : Task → Option (Text × List (Text × Text))
 call_of Bare = None
 call_of (Plan lock env choices) = Some (codes "plan", paths lock.now env.now)
+call_of (Explain lock env choices) = Some (codes "explain", paths lock.now env.now)
 call_of (Select lock env) = Some (codes "select", paths lock.now env.now)
 call_of (Files lock) = Some (codes "files", (codes "LOCK", lock.now) ∷ [])
 call_of (Version text) = Some (codes "version", (codes "TEXT", text.now) ∷ [])
@@ -120,6 +121,8 @@ HasChoices found choices = IfSome found (λ p. AreChoices p.1 choices)
 abbrev pub IsTask : Option (Text × List Row) → Task → Type 0
 IsTask found (Plan lock env choices) =
     IsCall found (call_of (Plan lock env choices)) × HasChoices found choices.items
+IsTask found (Explain lock env choices) =
+    IsCall found (call_of (Explain lock env choices)) × HasChoices found choices.items
 IsTask found task = IsCall found (call_of task)
 
 -- an argument has no text
@@ -148,7 +151,8 @@ lacks_plain_text name rows =
 -- the words have a subcommand that lacks one of its texts, or that is none of the program's
 abbrev pub lacks_text : Text → List Row → Bool
 lacks_text name rows =
-    if bytes_eq name (codes "plan") then lacks_path rows else lacks_plain_text name rows
+    if bytes_eq name (codes "plan") || bytes_eq name (codes "explain") then lacks_path rows
+    else lacks_plain_text name rows
 
 abbrev pub is_lacking : Option (Text × List Row) → Bool
 is_lacking None = false

@@ -1,6 +1,6 @@
-//! What `plan` is asked beside the lock's defaults.
+//! What `plan` and `explain` are asked beside the lock's defaults.
 
-/// An option of `plan`: what is asked beside the lock's defaults.
+/// An option of `plan` and `explain`: what is asked beside the lock's defaults.
 #[derive(Clone, Copy, Debug)]
 pub enum Choice<'a> {
     /// `--all-extras`: each extra of the lock.

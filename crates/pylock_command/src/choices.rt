@@ -1,4 +1,4 @@
-//! The options of `plan`: what clap is told of them, and what it found.
+//! The options of `plan` and `explain`: what clap is told of them, and what it found.
 ghost use Rattle.std.specs.Prelude.{◌≡◌, ◌++◌, List, false, map, IfOk, OnOk, Some, None};
 ghost use Rattle.clap.specs.Words.{app_of, found_of, rows_of, rule_of, with_rule};
 ghost use Rattle.clap.specs.declared.builder.command.Command.TheViews.{out-Command as fields_of};
@@ -12,7 +12,7 @@ use crate::choice::Choice;
 use clap::{Arg, ArgAction, ArgMatches, Command};
 use std::alloc::{AllocError, Global};
 
-/// The command, which takes the options of `plan` too.
+/// The command, which takes the options of `plan` and `explain` too.
 pub(crate) fn with_choices<'a>(
     alloc: Global,
     command: Command<'a>,
@@ -43,7 +43,7 @@ fn with_extra_options<'a>(alloc: Global, command: Command<'a>) -> Result<Command
         command,
         "extra",
         "NAME",
-        "Ask for an extra of the lock",
+        "Ask for an extra of the lock: --extra test",
     )
 }
 
@@ -70,14 +70,14 @@ fn with_group_options<'a>(alloc: Global, command: Command<'a>) -> Result<Command
         command,
         "group",
         "NAME",
-        "Ask for a group of the lock",
+        "Ask for a group of the lock: --group test",
     )?;
     with_option(
         alloc,
         command,
         "no-group",
         "NAME",
-        "Leave out a group of the lock",
+        "Leave out a group of the lock: --no-group dev",
     )
 }
 
@@ -92,21 +92,21 @@ fn with_other_options<'a>(alloc: Global, command: Command<'a>) -> Result<Command
         command,
         "only-binary",
         "NAME",
-        "Take wheels alone, of a name or :all:",
+        "Take wheels alone: --only-binary numpy, or :all:",
     )?;
     let command = with_option(
         alloc,
         command,
         "no-binary",
         "NAME",
-        "Take no wheels, of a name or :all:",
+        "Take no wheels: --no-binary numpy, or :all:",
     )?;
     with_option(
         alloc,
         command,
         "set",
         "VARIABLE=VALUE",
-        "Give a marker variable a text",
+        "Give a marker variable a text: --set os_name=nt",
     )
 }
 

@@ -4,12 +4,13 @@ ghost use Rattle.std.specs.Prelude.{IfSome, IfNone};
 ghost use Rattle.clap.specs.Words.{app_of, fault_of, found_of, new_app, rows_of, rule_of};
 ghost use Rattle.clap.specs.Words.{subcommand_of, subcommand_rows_of, with_rule};
 ghost use Rattle.clap.specs.declared.builder.command.Command.TheViews.{out-Command as fields_of};
+ghost use Rattle.pylock_command.specs.Choices.{AreChoices};
 ghost use Rattle.pylock_command.specs.CommandLine.{HaveTexts, IsRefusal, IsTask, chosen_app};
 ghost use Rattle.pylock_command.specs.CommandLine.{is_lacking, lacks_path, lacks_plain_text};
 ghost use Rattle.pylock_command.specs.CommandLine.{lacks_text};
 ghost use Rattle.pylock_command.specs.CommandLine.{one_text, paths, place_rule, pylock_app};
-ghost use Rattle.pylock_command.specs.CommandLine.{two_texts, with_chosen, with_first};
-ghost use Rattle.pylock_command.specs.CommandLine.{with_further, with_one, with_plan, with_two};
+ghost use Rattle.pylock_command.specs.CommandLine.{two_texts, with_chosen, with_chosen_commands};
+ghost use Rattle.pylock_command.specs.CommandLine.{with_first, with_further, with_one, with_two};
 
 use crate::choice::Choice;
 use crate::choices::{choices_of, with_choices};
@@ -24,6 +25,8 @@ pub enum Task<'a> {
     Bare,
     /// `plan`, with the paths of the lock and of the environment, and its options.
     Plan(&'a str, &'a str, Vec<Choice<'a>>),
+    /// `explain`, with the paths of the lock and of the environment, and its options.
+    Explain(&'a str, &'a str, Vec<Choice<'a>>),
     /// `select`, with the paths of the lock and of the environment.
     Select(&'a str, &'a str),
     /// `files`, with the path of the lock.
@@ -40,6 +43,14 @@ pub enum Task<'a> {
     Requirement(&'a str),
     /// `wheel`, with the file name of a wheel.
     Wheel(&'a str),
+}
+
+/// What `plan` and `explain` are given: the paths of lock and environment, and the options.
+#[derive(Drop)]
+struct Asked<'a> {
+    lock: &'a str,
+    env: &'a str,
+    choices: Vec<Choice<'a>>,
 }
 
 /// Why there is no task.
@@ -97,12 +108,13 @@ struct Usage {
 
 const PLAN: Usage = Usage {
     name: "plan",
-    about: "Print the plan of a lock, with the extras, groups and kinds of files asked for",
+    about: "Print the plan of a lock, with extras, groups and files asked for",
     reply: "\
 Prints plan K and then K lines, or fault ID, TAB and CODE, as select does. An
 option that is refused prints refused, TAB, the option, TAB and its text. For
 example:
   pylock plan pylock.toml env.json --extra=test --only-binary :all:
+  pylock plan pylock.toml env.json --all-extras --no-default-groups --all-groups
 
 Options count in the order of the list above; of --only-binary and --no-binary
 the last that names a package counts, and :all: names each. An option with a
@@ -113,6 +125,38 @@ archives, which are built all the same.
 Status: 0, a plan; 1, a fault or a refused option; 2, the lock, the environment
 or the command line is refused; 3, a file can't be read, the output failed or
 memory ran out.",
+};
+
+const EXPLAIN: Usage = Usage {
+    name: "explain",
+    about: "Print what becomes of each entry of a lock, and why",
+    reply: "\
+Judges each entry for itself, so all faults are seen at once. The first line is
+that of the lock's head: head, then ok or a code, then DETAIL. A line for each
+entry follows: ID NAME VERSION VERDICT DETAIL. A TAB stands between each two
+fields, and an absent field is -. For example, with spaces for the TABs:
+  pylock explain pylock.toml env.json --extra=test
+  7  colorama  0.4.6  skipped  sys_platform == 'win32'
+
+VERDICT is one of these, and DETAIL is what stands in parentheses:
+  skipped         the marker is false (the marker)
+  marker-unset    the marker reads a variable without a text (both)
+  marker-extra, marker-undefined, marker-number
+                  the marker has another fault (the marker)
+  python-unknown  the version of Python isn't known (requires-python)
+  python-not-met  requires-python doesn't admit it (requires-python)
+  ambiguous       an earlier entry of this name is active too (its number)
+  sources         there are sources of several kinds (the kinds)
+  no-file         no file may be taken (its wheels, its sdist and the policy)
+  vcs, directory, editable, archive, wheel, sdist
+                  the source that is installed (a file name, or a place; of a
+                  wheel its best tag too)
+
+The options are those of plan, and mean the same.
+
+Status: 0, the answer is a plan; 1, it is a fault, or an option is refused;
+2, the lock, the environment or the command line is refused; 3, a file can't be
+read, the output failed or memory ran out.",
 };
 
 const SELECT: Usage = Usage {
@@ -387,10 +431,11 @@ fn with_further<'a>(alloc: Global, pylock: Command<'a>) -> Result<Command<'a>, A
 }
 
 /// Adds the commands with the options of `plan`.
-fn with_plan<'a>(alloc: Global, pylock: Command<'a>) -> Result<Command<'a>, AllocError>
-    ensures { IfOk result (λ c. app_of c ≡ with_plan (app_of pylock.entry)) }
+fn with_chosen_commands<'a>(alloc: Global, pylock: Command<'a>) -> Result<Command<'a>, AllocError>
+    ensures { IfOk result (λ c. app_of c ≡ with_chosen_commands (app_of pylock.entry)) }
 {
-    with_chosen(alloc, pylock, PLAN)
+    let pylock = with_chosen(alloc, pylock, PLAN)?;
+    with_chosen(alloc, pylock, EXPLAIN)
 }
 
 /// The command `pylock` with its subcommands.
@@ -399,7 +444,7 @@ fn pylock_command<'a>(alloc: Global) -> Result<Command<'a>, AllocError>
     ensures { IfOk result (λ c. app_of c ≡ pylock_app) }
 {
     let pylock = Command::new(alloc, "pylock").about(ABOUT).version(VERSION);
-    let pylock = with_plan(alloc, pylock)?;
+    let pylock = with_chosen_commands(alloc, pylock)?;
     let pylock = with_first(alloc, pylock)?;
     with_further(alloc, pylock)
 }
@@ -429,6 +474,7 @@ fn task_in<'a>(
 {
     match name {
         "plan" => plan_of(alloc, found),
+        "explain" => explain_of(alloc, found),
         _ => Ok(plain_task(name, found)),
     }
 }
@@ -440,11 +486,38 @@ fn plan_of<'a>(alloc: Global, found: &ArgMatches<'a>) -> Result<Option<Task<'a>>
     ensures none { IfOk result (λ task. IfNone task
         (lacks_path (rows_of (found_of found.now)) ≡ true)) }
 {
+    let Some(asked) = asked_of(alloc, found)? else {
+        return Ok(None);
+    };
+    Ok(Some(Task::Plan(asked.lock, asked.env, asked.choices)))
+}
+
+/// The task of `explain`: none where it lacks a path.
+fn explain_of<'a>(alloc: Global, found: &ArgMatches<'a>) -> Result<Option<Task<'a>>, AllocError>
+    ensures some { IfOk result (λ task. IfSome task
+        (IsTask (Some (codes "explain", rows_of (found_of found.now))))) }
+    ensures none { IfOk result (λ task. IfNone task
+        (lacks_path (rows_of (found_of found.now)) ≡ true)) }
+{
+    let Some(asked) = asked_of(alloc, found)? else {
+        return Ok(None);
+    };
+    Ok(Some(Task::Explain(asked.lock, asked.env, asked.choices)))
+}
+
+/// The paths of lock and environment, where both are there, and the options.
+fn asked_of<'a>(alloc: Global, found: &ArgMatches<'a>) -> Result<Option<Asked<'a>>, AllocError>
+    ensures some { IfOk result (λ asked. IfSome asked (λ a.
+        HaveTexts (rows_of (found_of found.now)) (paths a.lock.now a.env.now)
+        × AreChoices (rows_of (found_of found.now)) a.choices.items)) }
+    ensures none { IfOk result (λ asked. IfNone asked
+        (lacks_path (rows_of (found_of found.now)) ≡ true)) }
+{
     let Some((lock, env)) = paths_of(found) else {
         return Ok(None);
     };
     let choices = choices_of(alloc, found)?;
-    Ok(Some(Task::Plan(lock, env, choices)))
+    Ok(Some(Asked { lock, env, choices }))
 }
 
 /// The paths of lock and environment, where both are there.
