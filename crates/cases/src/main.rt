@@ -1,5 +1,6 @@
-//! Cases of locks, of entries, of environments, of sessions, of runs, of replies and of command
-//! lines: what each reader, session and command gives for the texts in `data/`.
+//! Cases of locks, of entries, of environments, of the messages on them, of sessions, of runs, of
+//! replies and of command lines: what each reader, session and command gives for the texts in
+//! `data/`.
 #![tactic(auto)]
 
 mod edits;
@@ -8,6 +9,7 @@ mod environments;
 mod files;
 mod keys;
 mod locks;
+mod messages;
 mod plans;
 mod replies;
 mod runs;
@@ -30,10 +32,12 @@ impl Answers for Cases {
             "entry_keys" => entries::tell(alloc, case),
             "environment" => environments::judge(alloc, case),
             "environment_keys" => environments::tell(alloc, case),
+            "environment_message" => messages::of_environment(alloc, case),
+            "explain" | "plan" => plans::tell(alloc, case, kind),
             "keys" => keys::tell(alloc, case),
             "lock" => locks::judge(alloc, case),
             "lock_keys" => locks::tell(alloc, case),
-            "plan" => plans::tell(alloc, case),
+            "lock_message" => messages::of_lock(alloc, case),
             "reply" => replies::tell(alloc, case),
             "run" => runs::tell(alloc, case),
             "session" => sessions::tell(alloc, case),

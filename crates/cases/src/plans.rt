@@ -1,4 +1,4 @@
-//! The command `plan` over a lock and an environment.
+//! The commands `plan` and `explain` over a lock and an environment.
 
 use crate::runs::{Inputs, ended, read_inputs};
 use case_files::texts;
@@ -7,37 +7,54 @@ use pylock_program::{Pieces, ToWrite, perform};
 use std::alloc::{AllocError, Global};
 use toml::Table;
 
-/// What `plan` prints with the options of each text, and its status. The words of a text stand
-/// between its spaces.
-pub(crate) fn tell(alloc: Global, case: &Table) -> anyhow::Result<String> {
+/// What the command prints with the options of each text, its status, and what a person is told
+/// besides. The words of a text stand between its spaces.
+pub(crate) fn tell(alloc: Global, case: &Table, name: &str) -> anyhow::Result<String> {
     let inputs = read_inputs(alloc, case)?;
     let mut told = String::new(alloc);
     for options in &texts(alloc, case, "options")? {
-        told.push_str("> plan ")?;
+        told.push_str("> ")?;
+        told.push_str(name)?;
+        told.push(' ')?;
         told.push_str(options)?;
         told.push('\n')?;
-        told.push_str(plan(alloc, &inputs, options)?.as_str())?;
+        told.push_str(run(alloc, &inputs, name, options)?.as_str())?;
     }
     Ok(told)
 }
 
-/// What `plan` prints with these options, and its status; of words that clap refuses its status.
-fn plan(alloc: Global, inputs: &Inputs, options: &str) -> anyhow::Result<String> {
-    let words = words(alloc, options)?;
+/// What the command prints with these options, its status, and what a person is told; of words that
+/// clap refuses, that they are refused.
+fn run(alloc: Global, inputs: &Inputs, name: &str, options: &str) -> anyhow::Result<String> {
+    let words = words(alloc, name, options)?;
     let Ok(task) = command(alloc, &words) else {
         return Ok(String::from_str(alloc, "refused by clap\n")?);
     };
-    let mut text = Vec::new(alloc);
+    let (mut text, mut notes) = (Vec::new(alloc), Vec::new(alloc));
     let mut reader = Pieces::new(b"", 1, None);
     let mut writer = ToWrite::new(&mut text);
-    let end = perform(alloc, task, inputs, &mut reader, &mut writer);
-    ended(text, end)
+    let mut beside = ToWrite::new(&mut notes);
+    let end = perform(
+        alloc,
+        task,
+        inputs,
+        &mut reader,
+        &mut writer,
+        &mut beside,
+    );
+    let mut told = ended(text, end)?;
+    told.push_str(std::str::from_utf8(&notes)?)?;
+    Ok(told)
 }
 
 /// The words of the command line.
-fn words<'a>(alloc: Global, options: &'a str) -> Result<Vec<&'a str>, AllocError> {
+fn words<'a>(
+    alloc: Global,
+    name: &'a str,
+    options: &'a str,
+) -> Result<Vec<&'a str>, AllocError> {
     let mut words = Vec::new(alloc);
-    for word in ["pylock", "plan", "lock", "environment"] {
+    for word in ["pylock", name, "lock", "environment"] {
         words.push(word)?;
     }
     if !options.is_empty() {

@@ -117,8 +117,17 @@ fn program_report(alloc: Global, inputs: &Inputs, input: &[u8]) -> anyhow::Resul
     let mut text = Vec::new(alloc);
     let mut reader = Pieces::new(input, PIECE, None);
     let mut writer = ToWrite::new(&mut text);
+    let mut notes = Vec::new(alloc);
+    let mut beside = ToWrite::new(&mut notes);
     let task = Task::Select("lock", "environment");
-    let end = perform(alloc, task, inputs, &mut reader, &mut writer);
+    let end = perform(
+        alloc,
+        task,
+        inputs,
+        &mut reader,
+        &mut writer,
+        &mut beside,
+    );
     ended(text, end)
 }
 

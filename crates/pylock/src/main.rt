@@ -4,7 +4,8 @@
 
 use pylock_command::{CommandError, Task, command};
 use pylock_program::{
-    Failure, FileFault, Files, FromRead, ToWrite, perform, read_file, terminal_note, words_failure,
+    Failure, FileFault, Files, FromRead, ToWrite, open_fault, perform, read_file, terminal_note,
+    words_failure,
 };
 use std::io::IsTerminal;
 use std::process::ExitCode;
@@ -21,9 +22,17 @@ impl<'a> Files for HostFiles<'a> {
 
     fn read(&self, path: &str) -> Result<Vec<u8>, FileFault> {
         match fs::open(self.rt, path) {
+            Ok(file) if is_directory(&file) => Err(FileFault::Directory),
             Ok(file) => read_file(self.rt.alloc(), &mut FromRead::new(file)),
-            Err(_) => Err(FileFault::Read),
+            Err(error) => Err(open_fault(error.kind())),
         }
+    }
+}
+
+fn is_directory(file: &fs::File) -> bool {
+    match file.metadata() {
+        Ok(metadata) => metadata.is_dir(),
+        Err(_) => false,
     }
 }
 
@@ -47,6 +56,7 @@ fn perform_here(rt: &HostRuntime, task: Task<'_>) -> Result<u8, Failure> {
         &HostFiles { rt },
         &mut reader,
         &mut writer,
+        &mut ToWrite::new(rt.stderr()),
     )
 }
 
@@ -61,8 +71,9 @@ fn arguments(rt: &HostRuntime) -> Result<Vec<String>, Failure> {
 
 /// Says why the program ends, and answers its status.
 fn fail(rt: &HostRuntime, failure: Failure) -> ExitCode {
-    let message = failure.message();
-    let _ = eprintln!(rt; "pylock: {message}");
+    if let Some(message) = failure.message() {
+        let _ = eprintln!(rt; "pylock: {message}");
+    }
     ExitCode::from(failure.status())
 }
 

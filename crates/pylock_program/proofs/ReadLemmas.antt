@@ -5,7 +5,7 @@ use Rattle.std.specs.Io.KnownBytes.{Consumes, ReadConsumes}
 use Rattle.pylock_program.specs.Stream.{SourceValue, one_more}
 use Rattle.pylock_program.specs.Stream.Whole.{GivesWithin, GivesPast, IsCause}
 use Rattle.pylock_program.specs.declared.stream.whole.FileFault.{FileFault}
-use Rattle.pylock_program.specs.declared.stream.whole.FileFault.TheVariants.{Read, Limit, Memory}
+use Rattle.pylock_program.specs.declared.stream.whole.FileFault.TheVariants.{Read, Limit, Memory, Missing, Directory, Permission}
 
 -- the bytes read so far, of a source that has failed no more than at first
 pub record HasRead (limit : ℕ) (old new : SourceValue) (bytes : List ℕ) : Type 0 where
@@ -41,6 +41,9 @@ cause_after : (limit : ℕ) (old mid new : SourceValue) (bytes : List ℕ) (faul
 cause_after limit old mid new bytes Read read cause = (GivesWithin-after limit old mid new bytes read cause.0, cause.1 ∙ ap one_more read.counted)
 cause_after limit old mid new bytes Limit read cause = (GivesPast-after limit old mid new bytes read cause.0, cause.1 ∙ read.counted)
 cause_after limit old mid new bytes Memory read cause = (GivesWithin-after limit old mid new bytes read cause.0, cause.1 ∙ read.counted)
+cause_after limit old mid new bytes Missing read cause = absurd cause
+cause_after limit old mid new bytes Directory read cause = absurd cause
+cause_after limit old mid new bytes Permission read cause = absurd cause
 
 pub IsCause-after : (limit size : ℕ) (old mid new : SourceValue) (bytes : List ℕ) (fault : FileFault) → HasRead limit old mid bytes
     → size ≡ length bytes → IsCause (limit - size) mid new fault → IsCause limit old new fault

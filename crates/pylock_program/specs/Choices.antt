@@ -1,4 +1,4 @@
--- The options of `plan`: the edits that each means, and what is printed after them.
+-- The options of `plan` and `explain`: the edits that each means, and what is printed after them.
 use Rattle.std.specs.Prelude.{ℕ, List, [], ◌∷◌, ◌++◌, map, codes, if◌then◌else◌}
 use Rattle.std.specs.Prelude.{Option, Some, None, option_map, option_and_then, ok_or}
 use Rattle.std.specs.Prelude.{Result, Ok, Err}
@@ -19,6 +19,7 @@ use Rattle.pylock_core.specs.declared.edit.EditError.{EditError}
 use Rattle.pylock_core.specs.declared.edit.Policy.{Policy}
 use Rattle.pylock_core.specs.declared.edit.Policy.TheVariants.{Wheel, Source}
 use Rattle.pylock_program.specs.Report.{Report, is_plan, standing_text}
+use Rattle.pylock_program.specs.Text.Explain.{explain_text}
 use Rattle.pylock_program.specs.Text.Field.{field, line_of}
 use Rattle.pylock_program.specs.Text.Refusal.{refusal_text}
 use Rattle.pylock_program.specs.declared.report.opening.OpenError.{OpenError}
@@ -73,23 +74,31 @@ after_choices [] state = Ok state
 after_choices (choice ∷ choices) state =
     ok_or (after_choice choice state) choice >>= after_choices choices
 
--- ---- what `plan` prints
+-- ---- what is printed
 
 -- an option that is refused: its word, without the dashes, and its text
 abbrev pub refused_option : Choice → List ℕ
 refused_option choice =
     line_of (codes "refused") ((written choice).0 ∷ field (written choice).1 ∷ [])
 
--- the answer of the state after the options, or the first option that is refused
-abbrev pub chosen_report : Result State Choice → Report
-chosen_report (Err choice) = record { text = refused_option choice; status = 1 }
-chosen_report (Ok state) = record {
-  text = standing_text state;
+-- what is printed of the state after the options, or the first option that is refused
+abbrev pub chosen_report : (State → List ℕ) → Result State Choice → Report
+chosen_report text (Err choice) = record { text = refused_option choice; status = 1 }
+chosen_report text (Ok state) = record {
+  text = text state;
   status = if is_plan (answer state) then 0 else 1;
 }
 
--- The report of `plan`: a refused lock or environment is all that is reported, and then a refused
--- option.
+-- A report on the state after options: a refused lock or environment is all that is reported, and
+-- then a refused option.
+abbrev pub report_after : (State → List ℕ) → Result State OpenError → List Choice → Report
+report_after text (Err refusal) choices = record { text = refusal_text refusal; status = 2 }
+report_after text (Ok state) choices = chosen_report text (after_choices choices state)
+
+-- the report of `plan`: the answer
 abbrev pub plan_report : Result State OpenError → List Choice → Report
-plan_report (Err refusal) choices = record { text = refusal_text refusal; status = 2 }
-plan_report (Ok state) choices = chosen_report (after_choices choices state)
+plan_report = report_after standing_text
+
+-- the report of `explain`: what becomes of each entry, and the status of `plan`
+abbrev pub explain_report : Result State OpenError → List Choice → Report
+explain_report = report_after explain_text

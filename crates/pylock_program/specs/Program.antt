@@ -3,7 +3,7 @@ use Rattle.std.specs.Prelude.{◌≡◌, ◌≢◌, ℕ, List, codes, Option, So
 use Rattle.std.specs.Result.{result_map_both}
 use Rattle.pylock_command.specs.declared.command_line.Task.{Task}
 use Rattle.pylock_command.specs.declared.command_line.Task.TheVariants as task
-use Rattle.pylock_program.specs.Choices.{plan_report}
+use Rattle.pylock_program.specs.Choices.{explain_report, plan_report}
 use Rattle.pylock_program.specs.Reply.{files_answer, marker_answer, reply, reply_of}
 use Rattle.pylock_program.specs.Report.{Report, opened}
 use Rattle.pylock_program.specs.Report.Print.{Prints}
@@ -11,7 +11,7 @@ use Rattle.pylock_program.specs.Report.Run.{IsRun}
 use Rattle.pylock_program.specs.Stream.{SourceValue, SinkValue}
 use Rattle.pylock_program.specs.declared.program.Failure.{Failure}
 use Rattle.pylock_program.specs.declared.program.Failure.TheVariants.{NotText, File, Read, Write}
-use Rattle.pylock_program.specs.declared.program.Failure.TheVariants.{Input}
+use Rattle.pylock_program.specs.declared.program.Failure.TheVariants.{Input, NamedFile}
 use Rattle.pylock_program.specs.declared.program.Failure.TheVariants.{Memory}
 use Rattle.pylock_program.specs.declared.reply.queries.Query.TheVariants as query
 use Rattle.pylock_program.specs.declared.report.fault.RunFault.{RunFault}
@@ -31,18 +31,23 @@ run_failure run.Input = Input
 run_failure run.Memory = Memory
 
 abbrev pub file_failure : FileFault → Failure
-file_failure file.Read = File
-file_failure file.Limit = File
 file_failure file.Memory = Memory
+file_failure fault = File
 
--- what stands on standard error behind `pylock: `
-abbrev pub failure_message : Failure → List ℕ
-failure_message NotText = codes "a word of the command line is not UTF-8"
-failure_message File = codes "file"
-failure_message Read = codes "read"
-failure_message Write = codes "write"
-failure_message Input = codes "input"
-failure_message Memory = codes "memory"
+-- the same of a file of which a person is told which it is, and why it can't be read
+abbrev pub named_failure : FileFault → Failure
+named_failure file.Memory = Memory
+named_failure fault = NamedFile
+
+-- what stands on standard error behind `pylock: `, where it isn't told yet
+abbrev pub failure_message : Failure → Option (List ℕ)
+failure_message NotText = Some (codes "a word of the command line is not UTF-8")
+failure_message File = Some (codes "file")
+failure_message NamedFile = None
+failure_message Read = Some (codes "read")
+failure_message Write = Some (codes "write")
+failure_message Input = Some (codes "input")
+failure_message Memory = Some (codes "memory")
 
 -- 2: the command line is refused
 abbrev pub failure_status : Failure → ℕ
@@ -81,23 +86,38 @@ Runs lock environment source source' sink sink' result =
     Tells (IsRun (opened lock environment) source source' sink sink') result
 
 -- what the bytes of a file lead to; a fault of the file is told, and nothing else is done
-abbrev pub LeadsTo : (List ℕ → Outcome) → Result (List ℕ) FileFault → Outcome
-LeadsTo outcome (Ok bytes) source source' sink sink' result =
+abbrev pub LeadsTo : (FileFault → Failure) → (List ℕ → Outcome) → Result (List ℕ) FileFault
+    → Outcome
+LeadsTo failure outcome (Ok bytes) source source' sink sink' result =
     outcome bytes source source' sink sink' result
-LeadsTo outcome (Err fault) source source' sink sink' result =
-    (result ≡ Err (file_failure fault)) × (source' ≡ source) × (sink' ≡ sink)
+LeadsTo failure outcome (Err fault) source source' sink sink' result =
+    (result ≡ Err (failure fault)) × (source' ≡ source) × (sink' ≡ sink)
 
 -- what a read of the file at a path may give
 abbrev pub Reads : Type 1
 Reads = List ℕ → Result (List ℕ) FileFault → Type 0
 
 -- the file at a path is read first
-pub record Opens (gives : Reads) (path : List ℕ) (outcome : List ℕ → Outcome)
-    (source source' : SourceValue) (sink sink' : SinkValue) (result : Result ℕ Failure)
-    : Type 0 where
+pub record OpensOr (failure : FileFault → Failure) (gives : Reads) (path : List ℕ)
+    (outcome : List ℕ → Outcome) (source source' : SourceValue) (sink sink' : SinkValue)
+    (result : Result ℕ Failure) : Type 0 where
   pub read : Result (List ℕ) FileFault
   pub given : gives path read
-  pub leads : LeadsTo outcome read source source' sink sink' result
+  pub leads : LeadsTo failure outcome read source source' sink sink' result
+
+-- a file that is named is read: its bytes, or how the program ends
+pub record GivesNamed (gives : Reads) (path : List ℕ) (result : Result (List ℕ) Failure) : Type 0
+  where
+    pub read : Result (List ℕ) FileFault
+    pub given : gives path read
+    pub tells : result ≡ result_map_both (λ bytes. bytes) named_failure read
+
+abbrev pub Opens : Reads → List ℕ → (List ℕ → Outcome) → Outcome
+Opens = OpensOr file_failure
+
+-- the same, and a person is told which file can't be read
+abbrev pub OpensNamed : Reads → List ℕ → (List ℕ → Outcome) → Outcome
+OpensNamed = OpensOr named_failure
 
 -- what the program prints without words; it takes no memory
 abbrev pub greeting : Report
@@ -107,17 +127,20 @@ abbrev pub Greets : Outcome
 Greets source source' sink sink' result =
     Replies greeting source source' sink sink' result × (result ≢ Err Memory)
 
--- What the program does with each task, by what reads of files may give. `select` and `plan` read
--- their first file as the lock, and then their second as the environment.
+-- What the program does with each task, by what reads of files may give. `select`, `plan` and
+-- `explain` read their first file as the lock, and then their second as the environment.
 abbrev pub Performs : Reads → Task → Outcome
 Performs gives task.Bare = Greets
 Performs gives (task.Select lock environment) =
     Opens gives lock.now (λ lock. Opens gives environment.now (Runs lock))
 Performs gives (task.Plan lock environment choices) =
-    Opens gives lock.now (λ lock. Opens gives environment.now
+    OpensNamed gives lock.now (λ lock. OpensNamed gives environment.now
     (λ environment. Replies (plan_report (opened lock environment) choices.items)))
+Performs gives (task.Explain lock environment choices) =
+    OpensNamed gives lock.now (λ lock. OpensNamed gives environment.now
+    (λ environment. Replies (explain_report (opened lock environment) choices.items)))
 Performs gives (task.Files lock) =
-    Opens gives lock.now (λ bytes. Replies (reply_of (files_answer bytes)))
+    OpensNamed gives lock.now (λ bytes. Replies (reply_of (files_answer bytes)))
 Performs gives (task.Version text) = Replies (reply (query.Version text))
 Performs gives (task.Match set version) = Replies (reply (query.Match set version))
 Performs gives (task.Name text) = Replies (reply (query.Name text))

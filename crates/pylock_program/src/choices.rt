@@ -1,4 +1,4 @@
-//! The options of `plan`: the edits that each means, and the answer after them.
+//! The options of `plan` and `explain`: the edits that each means, and what is printed after them.
 
 ghost use Rattle.std.specs.Prelude.{◌≡◌, ◌++◌, ◌∷◌, [], IfOk, OnOk, None, Some, map, option_map};
 ghost use Rattle.std.specs.Prelude.{if◌then◌else◌, string_bytes};
@@ -9,20 +9,26 @@ ghost use Rattle.pywheel_core.specs.Texts.{cut_at};
 ghost use Rattle.pylock_command.specs.Choices.{written};
 ghost use Rattle.pylock_core.specs.declared.edit.Edit.TheVariants as edit;
 ghost use Rattle.pylock_program.specs.Choices.{after_choice, after_choices, after_edits};
-ghost use Rattle.pylock_program.specs.Choices.{chosen_report, edits_of, named};
+ghost use Rattle.pylock_program.specs.Choices.{chosen_report, edits_of, explain_report, named};
 ghost use Rattle.pylock_program.specs.Choices.{plan_report, policies, refused_option};
+ghost use Rattle.pylock_program.specs.Choices.{report_after};
 ghost use Rattle.pylock_program.specs.Choices.{set_variable};
-ghost use Rattle.pylock_program.specs.Inner.Chosen.{chosen, made};
+ghost use Rattle.pylock_core.specs.Session.Steps.{answer};
+ghost use Rattle.pylock_program.specs.Inner.Chosen.{chosen, made, view_text};
 ghost use Rattle.pylock_program.specs.Inner.Reply.{Pushes};
-ghost use Rattle.pylock_program.specs.Report.{opened};
+ghost use Rattle.pylock_program.specs.Report.{is_plan, opened};
 ghost use Rattle.pylock_program.specs.Report.Print.{Prints};
 
+use crate::document::Document;
 use crate::line::commands::label;
+use crate::notes::fault::tell_fault;
+use crate::notes::options::{tell_notes, tell_refused};
 use crate::report::editing::push_standing;
 use crate::report::fault::RunFault;
 use crate::report::opening::{OpenError, open};
 use crate::report::print::print;
 use crate::stream::Sink;
+use crate::text::explain::push_explained;
 use crate::text::field::push_next;
 use crate::text::refusal::push_refusal;
 use pylock_command::Choice;
@@ -31,39 +37,77 @@ use pymark_core::Var;
 use pyver_core::{Label, is_name};
 use std::alloc::{AllocError, Global};
 
+/// What is printed of the state after the options.
+#[derive(Clone, Copy)]
+enum View {
+    /// The answer.
+    Plan,
+    /// What becomes of each entry.
+    Explain,
+}
+
 /// Runs `plan`: writes the answer of the lock in the environment after the options, or the first
 /// option that is refused. It answers the status: 0 where the answer is a plan, 1 where it is a
 /// fault or an option is refused, 2 where the lock or the environment is refused.
 ///
+/// To `notes` it writes a line for a person on each option that may not do what it seems to, and on
+/// the option that is refused or the fault; what can't be written there is left out.
+///
 /// It takes memory for the session, for the edits of one option at a time, and for what it writes.
-pub fn plan<W: Sink>(
+pub fn plan<W: Sink, N: Sink>(
     alloc: Global,
-    lock: &[u8],
+    lock: Document<'_>,
     env: &[u8],
     choices: &[Choice<'_>],
     writer: &mut W,
+    notes: &mut N,
 ) -> Result<u8, RunFault>
-    ensures { Prints (plan_report (opened lock.now env.now) choices.now)
+    ensures { Prints (plan_report (opened lock.entry.bytes.now env.now) choices.now)
         (W.value writer.old) (W.value writer.new) result }
 {
     let mut out = Vec::new(alloc);
-    let status = push_plan(alloc, &mut out, lock, env, choices)?;
+    let status = push_view(alloc, &mut out, View::Plan, lock, env, choices, notes)?;
     print(&out, status, writer)
 }
 
-/// Pushes what `plan` prints, and answers its status.
-fn push_plan(
+/// Runs `explain`: writes what becomes of the head and of each entry, judged for itself, of the
+/// lock in the environment after the options, or the first option that is refused. The status is
+/// that of `plan`.
+///
+/// To `notes` it writes what `plan` does, but nothing on a fault.
+///
+/// It takes the memory of `plan`, for what becomes of each entry, and for one reason at a time.
+pub fn explain<W: Sink, N: Sink>(
     alloc: Global,
-    out: &mut Vec<u8>,
-    lock: &[u8],
+    lock: Document<'_>,
     env: &[u8],
     choices: &[Choice<'_>],
+    writer: &mut W,
+    notes: &mut N,
+) -> Result<u8, RunFault>
+    ensures { Prints (explain_report (opened lock.entry.bytes.now env.now) choices.now)
+        (W.value writer.old) (W.value writer.new) result }
+{
+    let mut out = Vec::new(alloc);
+    let status = push_view(alloc, &mut out, View::Explain, lock, env, choices, notes)?;
+    print(&out, status, writer)
+}
+
+/// Pushes what is printed, and answers the status.
+fn push_view<N: Sink>(
+    alloc: Global,
+    out: &mut Vec<u8>,
+    view: View,
+    lock: Document<'_>,
+    env: &[u8],
+    choices: &[Choice<'_>],
+    notes: &mut N,
 ) -> Result<u8, AllocError>
     ensures { Pushes out.old.items out.new.items
-        (plan_report (opened lock.now env.now) choices.now) result }
+        (report_after (view_text view) (opened lock.entry.bytes.now env.now) choices.now) result }
 {
-    match open(alloc, lock, env) {
-        Ok(session) => push_chosen(alloc, out, session, choices),
+    match open(alloc, lock.bytes, env) {
+        Ok(session) => push_chosen(alloc, out, view, session, lock.path, choices, notes),
         Err(OpenError::Memory) => Err(AllocError),
         Err(refusal) => {
             push_refusal(out, &refusal)?;
@@ -72,23 +116,48 @@ fn push_plan(
     }
 }
 
-/// Pushes the answer of the session after the options, or the first that is refused.
-fn push_chosen(
+/// Pushes what is printed of the session after the options, or the first that is refused.
+fn push_chosen<N: Sink>(
     alloc: Global,
     out: &mut Vec<u8>,
+    view: View,
     session: Session,
+    lock: &str,
     choices: &[Choice<'_>],
+    notes: &mut N,
 ) -> Result<u8, AllocError>
     ensures { Pushes out.old.items out.new.items
-        (chosen_report (after_choices choices.now session.state)) result }
+        (chosen_report (view_text view) (after_choices choices.now session.state)) result }
 {
     let mut session = session;
     if let Some(choice) = choose(alloc, &mut session, choices)? {
         push_refused_option(out, choice)?;
+        tell_refused(alloc, notes, lock, choice);
         return Ok(1);
     }
-    let is_plan = push_standing(&session, out)?;
+    let is_plan = push_session(alloc, out, view, &session)?;
+    tell_notes(alloc, notes, &session, choices);
+    if matches!(view, View::Plan) && !is_plan {
+        tell_fault(alloc, notes, &session);
+    }
     Ok(if is_plan { 0 } else { 1 })
+}
+
+/// Pushes what is printed of the session, and answers whether its answer is a plan.
+fn push_session(
+    alloc: Global,
+    out: &mut Vec<u8>,
+    view: View,
+    session: &Session,
+) -> Result<bool, AllocError>
+    ensures plan { IfOk result (λ plan. plan ≡ is_plan (answer session.now.state)) }
+    ensures text { OnOk result (out.new.items
+        ≡ out.old.items ++ view_text view session.now.state) }
+{
+    match view {
+        View::Plan => push_standing(session, out),
+        View::Explain => push_explained(alloc, out, session),
+    }
 }
 
 /// Makes the edits of the options, one after another, up to the first that is refused, which it
@@ -282,7 +351,7 @@ fn set_variable(alloc: Global, text: &str) -> Result<Option<Vec<Edit>>, AllocErr
 }
 
 /// What stands before and behind the first `=`.
-fn around_equals(text: &str) -> Option<(&str, &str)>
+pub(crate) fn around_equals(text: &str) -> Option<(&str, &str)>
     ensures { option_map (λ cut. (cut.0.now, cut.1.now)) result ≡ cut_at 61 text.now }
 {
     text.split_once('=')
@@ -311,31 +380,31 @@ fn push_refused_option(out: &mut Vec<u8>, choice: Choice<'_>) -> Result<(), Allo
     ensures { OnOk result (out.new.items ≡ out.old.items ++ refused_option choice.entry) }
 {
     out.extend_from_slice(b"refused\t")?;
-    out.extend_from_slice(option_word(choice))?;
+    out.extend_from_slice(option_word(choice).as_bytes())?;
     push_next(out, option_text(choice))?;
     out.push(b'\n')?;
     Ok(())
 }
 
 /// The word of an option, without its dashes.
-fn option_word(choice: Choice<'_>) -> &'static [u8]
+pub(crate) fn option_word(choice: Choice<'_>) -> &'static str
     ensures { result.now ≡ (written choice.entry).0 }
 {
     match choice {
-        Choice::AllExtras => b"all-extras",
-        Choice::Extra(_) => b"extra",
-        Choice::NoDefaultGroups => b"no-default-groups",
-        Choice::AllGroups => b"all-groups",
-        Choice::Group(_) => b"group",
-        Choice::NoGroup(_) => b"no-group",
-        Choice::OnlyBinary(_) => b"only-binary",
-        Choice::NoBinary(_) => b"no-binary",
-        Choice::Set(_) => b"set",
+        Choice::AllExtras => "all-extras",
+        Choice::Extra(_) => "extra",
+        Choice::NoDefaultGroups => "no-default-groups",
+        Choice::AllGroups => "all-groups",
+        Choice::Group(_) => "group",
+        Choice::NoGroup(_) => "no-group",
+        Choice::OnlyBinary(_) => "only-binary",
+        Choice::NoBinary(_) => "no-binary",
+        Choice::Set(_) => "set",
     }
 }
 
 /// The text of an option, where it has one.
-fn option_text(choice: Choice<'_>) -> Option<&str>
+pub(crate) fn option_text(choice: Choice<'_>) -> Option<&str>
     ensures { option_copied result ≡ (written choice.entry).1 }
 {
     match choice {

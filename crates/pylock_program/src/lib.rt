@@ -3,16 +3,21 @@
 #![tactic(auto)]
 
 mod choices;
+mod document;
 pub mod laws;
 mod line;
+mod notes;
 mod program;
 mod reply;
 mod report;
 mod stream;
 mod text;
 
-pub use choices::plan;
-pub use program::{FILE_BYTES, Failure, Files, perform, read_file, terminal_note, words_failure};
+pub use choices::{explain, plan};
+pub use document::Document;
+pub use program::{
+    FILE_BYTES, Failure, Files, open_fault, perform, read_file, terminal_note, words_failure,
+};
 pub use reply::queries::Query;
 pub use reply::query;
 pub use report::fault::RunFault;

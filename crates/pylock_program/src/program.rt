@@ -4,17 +4,22 @@ ghost use Rattle.std.specs.Prelude.{◌≡◌, ◌≢◌, Err, IfErr, IfOk};
 ghost use Rattle.std.specs.Option.{option_copied};
 ghost use Rattle.std.specs.Result.{result_map_both};
 ghost use Rattle.pylock_program.specs.Program.{most_file_bytes, failure_message, failure_status};
-ghost use Rattle.pylock_program.specs.Program.{Opens, Performs, Reads, Replies, Runs, Tells};
+ghost use Rattle.pylock_program.specs.Program.{GivesNamed, Opens, OpensNamed};
+ghost use Rattle.pylock_program.specs.Program.{Performs, Reads, Replies, Runs, Tells};
 ghost use Rattle.pylock_program.specs.Program.{greeting, terminal_note, told};
 ghost use Rattle.pylock_program.specs.Reply.{files_answer, marker_answer, reply, reply_of};
-ghost use Rattle.pylock_program.specs.Choices.{plan_report};
+ghost use Rattle.pylock_program.specs.Choices.{explain_report, plan_report};
 ghost use Rattle.pylock_program.specs.Report.{opened};
 ghost use Rattle.pylock_program.specs.Report.Print.{Prints};
 ghost use Rattle.pylock_program.specs.Stream.{SourceValue};
 ghost use Rattle.pylock_program.specs.Stream.Whole.{GivesAll, IsCause};
 ghost use Rattle.pylock_program.specs.declared.program.Failure.TheVariants as failure;
+ghost use Rattle.pylock_program.specs.declared.stream.whole.FileFault.TheVariants as file_fault;
 
-use crate::choices::plan;
+use crate::choices::{explain, plan};
+use crate::document::Document;
+use crate::notes::file::tell_file;
+use crate::notes::refusal::{tell_environment_refusal, tell_lock_refusal, tell_refusal};
 use crate::reply::queries::Query;
 use crate::reply::query;
 use crate::report::fault::RunFault;
@@ -38,6 +43,8 @@ pub enum Failure {
     NotText,
     /// A file can't be read, or has more than 268,435,456 bytes.
     File,
+    /// The same, and a person is told already which file it is, and why.
+    NamedFile,
     /// A read of standard input failed.
     Read,
     /// A write to standard output failed.
@@ -49,18 +56,19 @@ pub enum Failure {
 }
 
 impl Failure {
-    /// What stands on standard error behind `pylock: `.
-    pub fn message(self) -> &'static str
-        ensures { result.now ≡ failure_message self }
+    /// What stands on standard error behind `pylock: `, where it isn't told yet.
+    pub fn message(self) -> Option<&'static str>
+        ensures { option_copied result ≡ failure_message self }
     {
-        match self {
+        Some(match self {
             Failure::NotText => "a word of the command line is not UTF-8",
             Failure::File => "file",
+            Failure::NamedFile => return None,
             Failure::Read => "read",
             Failure::Write => "write",
             Failure::Input => "input",
             Failure::Memory => "memory",
-        }
+        })
     }
 
     /// The status of the program: 2 where the command line is refused, else 3.
@@ -96,8 +104,8 @@ impl From<FileFault> for Failure {
 
     fn from(fault: FileFault) -> Failure {
         match fault {
-            FileFault::Read | FileFault::Limit => Failure::File,
             FileFault::Memory => Failure::Memory,
+            _ => Failure::File,
         }
     }
 }
@@ -124,6 +132,22 @@ pub fn words_failure(kind: ErrorKind) -> Failure
     }
 }
 
+/// Why a file can't be read that can't be opened.
+pub fn open_fault(kind: ErrorKind) -> FileFault
+    ensures missing { kind ≡ ErrorKind.NotFound → result ≡ file_fault.Missing }
+    ensures permission { kind ≡ ErrorKind.PermissionDenied → result ≡ file_fault.Permission }
+    ensures memory { kind ≡ ErrorKind.OutOfMemory → result ≡ file_fault.Memory }
+    ensures other { kind ≢ ErrorKind.NotFound → kind ≢ ErrorKind.PermissionDenied
+        → kind ≢ ErrorKind.OutOfMemory → result ≡ file_fault.Read }
+{
+    match kind {
+        ErrorKind::NotFound => FileFault::Missing,
+        ErrorKind::PermissionDenied => FileFault::Permission,
+        ErrorKind::OutOfMemory => FileFault::Memory,
+        _ => FileFault::Read,
+    }
+}
+
 /// Where files are read.
 pub trait Files {
     // What a read of the file at a path may give.
@@ -146,13 +170,15 @@ pub fn read_file<R: Source>(alloc: Global, file: &mut R) -> Result<Vec<u8>, File
 
 /// Does the task on the files, standard input and standard output, and answers the status of the
 /// program. Of two files the lock is read first, and both before either is judged. The
-/// memory of a session isn't given back but left to the system, for the program ends then.
-pub fn perform<F: Files, R: Source, W: Sink>(
+/// memory of a session isn't given back but left to the system, for the program ends then. What a
+/// person is told besides goes to `notes`; what can't be written there is left out.
+pub fn perform<F: Files, R: Source, W: Sink, N: Sink>(
     alloc: Global,
     task: Task<'_>,
     files: &F,
     reader: &mut R,
     writer: &mut W,
+    notes: &mut N,
 ) -> Result<u8, Failure>
     ensures { Performs (F.read_gives files.now) task.entry
         (R.value reader.old) (R.value reader.new) (W.value writer.old) (W.value writer.new) result }
@@ -160,14 +186,19 @@ pub fn perform<F: Files, R: Source, W: Sink>(
     match task {
         Task::Bare => greet(writer),
         Task::Plan(lock, environment, choices) => {
-            plan_files(alloc, files, lock, environment, choices, writer)
+            plan_files(alloc, files, lock, environment, choices, writer, notes)
         }
-        Task::Select(lock, environment) => select(alloc, files, lock, environment, reader, writer),
-        Task::Files(lock) => list(alloc, files, lock, writer),
+        Task::Explain(lock, environment, choices) => {
+            explain_files(alloc, files, lock, environment, choices, writer, notes)
+        }
+        Task::Select(lock, environment) => {
+            select(alloc, files, lock, environment, reader, writer, notes)
+        }
+        Task::Files(lock) => list(alloc, files, lock, writer, notes),
         Task::Version(text) => answer(alloc, Query::Version(text), writer),
         Task::Match(set, version) => answer(alloc, Query::Match(set, version), writer),
         Task::Name(text) => answer(alloc, Query::Name(text), writer),
-        Task::Marker(text, environment) => judge(alloc, files, text, environment, writer),
+        Task::Marker(text, environment) => { judge(alloc, files, text, environment, writer, notes) }
         Task::Requirement(text) => answer(alloc, Query::Requirement(text), writer),
         Task::Wheel(text) => answer(alloc, Query::Wheel(text), writer),
     }
@@ -180,70 +211,157 @@ fn greet<W: Sink>(writer: &mut W) -> Result<u8, Failure>
     told(print(GREETING, 0, writer))
 }
 
-fn select<F: Files, R: Source, W: Sink>(
+fn select<F: Files, R: Source, W: Sink, N: Sink>(
     alloc: Global,
     files: &F,
     lock: &str,
     environment: &str,
     reader: &mut R,
     writer: &mut W,
+    notes: &mut N,
 ) -> Result<u8, Failure>
     ensures { Opens (F.read_gives files.now) lock.now
         (λ lock. Opens (F.read_gives files.now) environment.now (Runs lock))
         (R.value reader.old) (R.value reader.new) (W.value writer.old) (W.value writer.new) result }
 {
-    let lock = files.read(lock)?;
-    let environment = files.read(environment)?;
-    told(run_whole(alloc, &lock, &environment, true, reader, writer))
+    let lock_bytes = files.read(lock)?;
+    let bytes = files.read(environment)?;
+    let end = run_whole(alloc, &lock_bytes, &bytes, true, reader, writer);
+    let lock = Document {
+        path: lock,
+        bytes: &lock_bytes,
+    };
+    let environment = Document {
+        path: environment,
+        bytes: &bytes,
+    };
+    tell_refusal(alloc, notes, &end, lock, environment);
+    told(end)
+}
+
+/// All bytes of a file; a person is told which file can't be read, and why.
+fn read_named<F: Files, N: Sink>(
+    alloc: Global,
+    files: &F,
+    path: &str,
+    notes: &mut N,
+) -> Result<Vec<u8>, Failure>
+    ensures { GivesNamed (F.read_gives files.now) path.now
+        (result_map_both (λ bytes. bytes.items) (λ failure. failure) result) }
+{
+    match files.read(path) {
+        Ok(bytes) => Ok(bytes),
+        Err(FileFault::Memory) => Err(Failure::Memory),
+        Err(fault) => {
+            tell_file(alloc, notes, path, fault);
+            Err(Failure::NamedFile)
+        }
+    }
 }
 
 /// Answers `plan` on the lock and the environment of two files.
-fn plan_files<F: Files, W: Sink>(
+fn plan_files<F: Files, W: Sink, N: Sink>(
     alloc: Global,
     files: &F,
     lock: &str,
     environment: &str,
     choices: Vec<Choice<'_>>,
     writer: &mut W,
+    notes: &mut N,
 ) -> Result<u8, Failure>
-    ensures { (source : SourceValue) → Opens (F.read_gives files.now) lock.now
-        (λ lock. Opens (F.read_gives files.now) environment.now
+    ensures { (source : SourceValue) → OpensNamed (F.read_gives files.now) lock.now
+        (λ lock. OpensNamed (F.read_gives files.now) environment.now
         (λ environment. Replies (plan_report (opened lock environment) choices.entry.items)))
         source source (W.value writer.old) (W.value writer.new) result }
 {
-    let (lock, environment) = (files.read(lock)?, files.read(environment)?);
-    told(plan(alloc, &lock, &environment, &choices, writer))
+    let lock_bytes = read_named(alloc, files, lock, notes)?;
+    let bytes = read_named(alloc, files, environment, notes)?;
+    let lock = Document {
+        path: lock,
+        bytes: &lock_bytes,
+    };
+    let environment = Document {
+        path: environment,
+        bytes: &bytes,
+    };
+    let end = plan(alloc, lock, &bytes, &choices, writer, notes);
+    tell_refusal(alloc, notes, &end, lock, environment);
+    told(end)
+}
+
+/// Answers `explain` on the lock and the environment of two files.
+fn explain_files<F: Files, W: Sink, N: Sink>(
+    alloc: Global,
+    files: &F,
+    lock: &str,
+    environment: &str,
+    choices: Vec<Choice<'_>>,
+    writer: &mut W,
+    notes: &mut N,
+) -> Result<u8, Failure>
+    ensures { (source : SourceValue) → OpensNamed (F.read_gives files.now) lock.now
+        (λ lock. OpensNamed (F.read_gives files.now) environment.now
+        (λ environment. Replies (explain_report (opened lock environment) choices.entry.items)))
+        source source (W.value writer.old) (W.value writer.new) result }
+{
+    let lock_bytes = read_named(alloc, files, lock, notes)?;
+    let bytes = read_named(alloc, files, environment, notes)?;
+    let lock = Document {
+        path: lock,
+        bytes: &lock_bytes,
+    };
+    let environment = Document {
+        path: environment,
+        bytes: &bytes,
+    };
+    let end = explain(alloc, lock, &bytes, &choices, writer, notes);
+    tell_refusal(alloc, notes, &end, lock, environment);
+    told(end)
 }
 
 /// Answers `files` on the lock of a file.
-fn list<F: Files, W: Sink>(
+fn list<F: Files, W: Sink, N: Sink>(
     alloc: Global,
     files: &F,
     lock: &str,
     writer: &mut W,
+    notes: &mut N,
 ) -> Result<u8, Failure>
-    ensures { (source : SourceValue) → Opens (F.read_gives files.now) lock.now
+    ensures { (source : SourceValue) → OpensNamed (F.read_gives files.now) lock.now
         (λ bytes. Replies (reply_of (files_answer bytes)))
         source source (W.value writer.old) (W.value writer.new) result }
 {
-    let bytes = files.read(lock)?;
-    answer(alloc, Query::Files(&bytes), writer)
+    let bytes = read_named(alloc, files, lock, notes)?;
+    let end = query(alloc, Query::Files(&bytes), writer);
+    let lock = Document {
+        path: lock,
+        bytes: &bytes,
+    };
+    tell_lock_refusal(alloc, notes, &end, lock);
+    told(end)
 }
 
 /// Answers `marker` in the environment of a file.
-fn judge<F: Files, W: Sink>(
+fn judge<F: Files, W: Sink, N: Sink>(
     alloc: Global,
     files: &F,
     marker: &str,
     environment: &str,
     writer: &mut W,
+    notes: &mut N,
 ) -> Result<u8, Failure>
     ensures { (source : SourceValue) → Opens (F.read_gives files.now) environment.now
         (λ bytes. Replies (reply_of (marker_answer marker.now bytes)))
         source source (W.value writer.old) (W.value writer.new) result }
 {
-    let environment = files.read(environment)?;
-    answer(alloc, Query::Marker(marker, &environment), writer)
+    let bytes = files.read(environment)?;
+    let end = query(alloc, Query::Marker(marker, &bytes), writer);
+    let environment = Document {
+        path: environment,
+        bytes: &bytes,
+    };
+    tell_environment_refusal(alloc, notes, &end, environment);
+    told(end)
 }
 
 fn answer<W: Sink>(alloc: Global, asked: Query<'_>, writer: &mut W) -> Result<u8, Failure>

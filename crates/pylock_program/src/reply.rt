@@ -26,6 +26,7 @@ use crate::text::field::{push_field, push_last_word, push_next};
 use crate::text::files::push_files;
 use crate::text::plan::fault_word;
 use crate::text::refusal::{push_environment_error, push_lock_error};
+use crate::text::tag::tag_text;
 use pylock_core::{EnvError, FaultCode, Lock, LockError, read_environment};
 use pymark_core::{Environment, EvalFault, Marker, MarkerError, Requirement, RequirementError};
 use pyver_core::{SpecifierError, SpecifierSet, Version, VersionError, is_name, normal_name};
@@ -294,17 +295,6 @@ fn tag_texts(alloc: Global, tags: &[Tag]) -> Result<Vec<String>, AllocError>
     Ok(texts)
 }
 
-fn tag_text(alloc: Global, tag: &Tag) -> Result<String, AllocError>
-    ensures { IfOk result (λ text. string_bytes text ≡ tag_text tag.now) }
-{
-    let mut text = String::from_str(alloc, tag.python())?;
-    text.push_str("-")?;
-    text.push_str(tag.abi())?;
-    text.push_str("-")?;
-    text.push_str(tag.platform())?;
-    Ok(text)
-}
-
 /// A text, which is the one field of its line.
 fn push_field_line(out: &mut Vec<u8>, text: &str) -> Result<u8, AllocError>
     ensures { Pushes out.old.items out.new.items
@@ -336,6 +326,6 @@ fn push_fault(out: &mut Vec<u8>, code: FaultCode) -> Result<u8, AllocError>
     ensures { Pushes out.old.items out.new.items (faulty code) result }
 {
     out.extend_from_slice(b"fault")?;
-    push_last_word(out, fault_word(code))?;
+    push_last_word(out, fault_word(code).as_bytes())?;
     Ok(1)
 }

@@ -62,6 +62,9 @@ impl<'a> Files for Shelf<'a> {
         match path {
             "lock" => Ok(Vec::from_slice(self.alloc, self.lock)?),
             "environment" => Ok(Vec::from_slice(self.alloc, self.environment)?),
+            "missing" => Err(FileFault::Missing),
+            "folder" => Err(FileFault::Directory),
+            "locked" => Err(FileFault::Permission),
             "large" => Err(FileFault::Limit),
             "full" => Err(FileFault::Memory),
             _ => Err(FileFault::Read),

@@ -7,7 +7,9 @@ use pylock_command::{Choice, CommandError, Task, command};
 use pylock_core::{
     Answer, Edit, EditError, Entry, EnvError, Lock, LockError, Session, read_environment,
 };
-use pylock_program::{FileFault, Pieces, Query, Room, plan, query, read_whole, run};
+use pylock_program::{
+    Document, FileFault, Pieces, Query, Room, explain, plan, query, read_whole, run,
+};
 use std::alloc::Global;
 use std::process::Abort;
 
@@ -185,9 +187,48 @@ fn check_plan<R: Abort + AllocGlobal>(rt: &R, choices: &[Choice<'_>], wanted: En
     let Ok(mut room) = Room::new(rt.alloc(), 4096, 4096, None) else {
         return;
     };
-    let (lock, environment) = (WHEELS.as_bytes(), TAGGED.as_bytes());
-    let answer = plan(rt.alloc(), lock, environment, choices, &mut room);
+    let Ok(mut notes) = Room::new(rt.alloc(), 1024, 1024, None) else {
+        return;
+    };
+    let (lock, environment) = (document(WHEELS), TAGGED.as_bytes());
+    let answer = plan(rt.alloc(), lock, environment, choices, &mut room, &mut notes);
     check_growth(rt, (answer, room.bytes()), wanted);
+}
+
+fn document(lock: &str) -> Document<'_> {
+    Document {
+        path: "lock",
+        bytes: lock.as_bytes(),
+    }
+}
+
+/// Entries of which each has a reason that takes memory.
+const REASONS: &str =
+    "lock-version = \"1.0\"\ncreated-by = \"t\"\npackages = [{name=\"a\", \
+        marker=\"os_name == 'nt'\"}, {name=\"b\", marker=\"sys_platform == 'x'\"}, \
+        {name=\"c\", requires-python=\">=4\"}, {name=\"d\"}, {name=\"d\"}, {name=\"e\", \
+        directory={path=\"e\"}, archive={path=\"e\"}}, {name=\"f\", \
+        wheels=[{path=\"f-1-py3-none-any.whl\"}]}, {name=\"g\", version=\"\u{7f}\", \
+        sdist={path=\"g.zip\"}}]\n";
+
+const EXPLAINED: &[u8] = b"head\tok\t-\n1\ta\t-\tskipped\tos_name == 'nt'\n\
+        2\tb\t-\tmarker-unset\tsys_platform sys_platform == 'x'\n\
+        3\tc\t-\tpython-not-met\t>=4\n4\td\t-\tno-file\twheels 0 no sdist any\n\
+        5\td\t-\tambiguous\t4\n6\te\t-\tsources\tdirectory,archive\n\
+        7\tf\t-\twheel\tf-1-py3-none-any.whl py3-none-any\n\
+        8\tg\t\\u{7f}\tsdist\tg.zip\n";
+
+#[test]
+fn explain_reasons(rt: HostRuntime) {
+    let Ok(mut room) = Room::new(rt.alloc(), 4096, 4096, None) else {
+        return;
+    };
+    let Ok(mut notes) = Room::new(rt.alloc(), 1024, 1024, None) else {
+        return;
+    };
+    let (lock, environment) = (document(REASONS), TAGGED.as_bytes());
+    let answer = explain(rt.alloc(), lock, environment, &[], &mut room, &mut notes);
+    check_growth(&rt, (answer, room.bytes()), (Ok(1), EXPLAINED));
 }
 
 #[test]
@@ -313,6 +354,7 @@ fn texts_of(task: Task<'_>) -> (&str, &str, &str) {
     match task {
         Task::Bare => ("", "", ""),
         Task::Plan(lock, environment, _) => ("plan", lock, environment),
+        Task::Explain(lock, environment, _) => ("explain", lock, environment),
         Task::Select(lock, environment) => ("select", lock, environment),
         Task::Files(lock) => ("files", lock, ""),
         Task::Version(version) => ("version", version, ""),

@@ -27,7 +27,8 @@ fn status(alloc: Global, lock: &[u8], leaves: bool) -> Result<Option<u8>, AllocE
     if leaves {
         let shelf = Shelf::new(alloc, lock, environment);
         let task = Task::Select("lock", "environment");
-        Ok(perform(alloc, task, &shelf, &mut reader, &mut room).ok())
+        let mut notes = Room::new(alloc, 100, 100, None)?;
+        Ok(perform(alloc, task, &shelf, &mut reader, &mut room, &mut notes).ok())
     } else {
         Ok(run(alloc, lock, environment, &mut reader, &mut room).ok())
     }

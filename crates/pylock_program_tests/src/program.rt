@@ -3,7 +3,7 @@
 use crate::check::{ENVIRONMENT, HEAD, Shelf, check_bytes};
 use pylock_command::Task;
 use pylock_program::{
-    Failure, FileFault, Pieces, Room, RunFault, perform, read_file, words_failure,
+    Failure, FileFault, Pieces, Room, RunFault, open_fault, perform, read_file, words_failure,
 };
 use std::alloc::{AllocError, Global};
 use std::io::ErrorKind;
@@ -22,10 +22,23 @@ fn check_task<R: Abort + AllocGlobal>(
     wanted: Result<u8, Failure>,
     text: &str,
 ) -> Result<(), AllocError> {
+    let mut notes = Room::new(rt.alloc(), 1_000, 1_000, None)?;
+    check_noted(rt, task, fail_at, wanted, text, &mut notes)
+}
+
+/// The same; what a person is told goes to `notes`.
+fn check_noted<R: Abort + AllocGlobal>(
+    rt: &R,
+    task: Task<'_>,
+    fail_at: Option<u64>,
+    wanted: Result<u8, Failure>,
+    text: &str,
+    notes: &mut Room,
+) -> Result<(), AllocError> {
     let shelf = Shelf::new(rt.alloc(), HEAD.as_bytes(), ENVIRONMENT.as_bytes());
     let mut reader = Pieces::new(b"", 1, None);
     let mut room = Room::new(rt.alloc(), 100, 4, fail_at)?;
-    let answer = perform(rt.alloc(), task, &shelf, &mut reader, &mut room);
+    let answer = perform(rt.alloc(), task, &shelf, &mut reader, &mut room, notes);
     check_answer(rt, answer, wanted);
     check_bytes(rt, room.bytes(), text.as_bytes());
     Ok(())
@@ -49,6 +62,11 @@ fn reads_both_files(rt: HostRuntime) -> Result<(), Fail> {
             0,
             "plan 0\n",
         ),
+        (
+            Task::Explain("lock", "environment", Vec::new(rt.alloc())),
+            0,
+            "head\tok\t-\n",
+        ),
         (Task::Files("lock"), 0, "files 0\n"),
         (Task::Marker("'a' == 'a'", "environment"), 0, "true\n"),
         (Task::Marker("'a' == 'a'", "lock"), 2, "environment\tjson\n"),
@@ -68,17 +86,51 @@ fn refuses_either_file(rt: HostRuntime) -> Result<(), Fail> {
         (Task::Select("lock", "full"), Failure::Memory),
         (
             Task::Plan("lock", "absent", Vec::new(rt.alloc())),
-            Failure::File,
+            Failure::NamedFile,
         ),
         (
             Task::Plan("full", "lock", Vec::new(rt.alloc())),
             Failure::Memory,
         ),
-        (Task::Files("absent"), Failure::File),
+        (
+            Task::Explain("absent", "full", Vec::new(rt.alloc())),
+            Failure::NamedFile,
+        ),
+        (
+            Task::Explain("lock", "full", Vec::new(rt.alloc())),
+            Failure::Memory,
+        ),
+        (Task::Files("absent"), Failure::NamedFile),
         (Task::Marker("'a' == 'a'", "large"), Failure::File),
     ] {
         check_task(&rt, task, None, Err(failure), "")?;
     }
+    Ok(())
+}
+
+#[test]
+fn tells_which_file(rt: HostRuntime) -> Result<(), Fail> {
+    for (path, line) in [
+        ("missing", "pylock: file: missing: no such file\n"),
+        ("folder", "pylock: file: folder: a directory\n"),
+        ("locked", "pylock: file: locked: permission\n"),
+        ("large", "pylock: file: large: more than 268,435,456 bytes\n"),
+        ("\u{1b}[m", "pylock: file: \\u{1b}[m: can't be read\n"),
+    ] {
+        let mut notes = Room::new(rt.alloc(), 100, 7, None)?;
+        let failure = Err(Failure::NamedFile);
+        check_noted(&rt, Task::Files(path), None, failure, "", &mut notes)?;
+        check_bytes(&rt, notes.bytes(), line.as_bytes());
+    }
+    Ok(())
+}
+
+#[test]
+fn tells_nothing_where_a_note_fails(rt: HostRuntime) -> Result<(), Fail> {
+    let mut notes = Room::new(rt.alloc(), 100, 100, Some(1))?;
+    let failure = Err(Failure::NamedFile);
+    check_noted(&rt, Task::Files("missing"), None, failure, "", &mut notes)?;
+    check_bytes(&rt, notes.bytes(), b"");
     Ok(())
 }
 
@@ -119,6 +171,12 @@ fn says_how_it_ends(rt: HostRuntime) {
     assert_eq!(rt; words_failure(ErrorKind::InvalidData), Failure::NotText);
     assert_eq!(rt; words_failure(ErrorKind::OutOfMemory), Failure::Memory);
     assert_eq!(rt; Failure::from(FileFault::Limit), Failure::File);
-    assert_eq!(rt; Failure::from(RunFault::Input).message(), "input");
+    assert_eq!(rt; open_fault(ErrorKind::NotFound), FileFault::Missing);
+    assert_eq!(rt; open_fault(ErrorKind::PermissionDenied), FileFault::Permission);
+    assert_eq!(rt; open_fault(ErrorKind::OutOfMemory), FileFault::Memory);
+    assert_eq!(rt; open_fault(ErrorKind::Other), FileFault::Read);
+    assert_eq!(rt; Failure::NamedFile.message(), None);
+    assert_eq!(rt; Failure::NamedFile.status(), 3);
+    assert_eq!(rt; Failure::from(RunFault::Input).message(), Some("input"));
     assert_eq!(rt; Failure::from(RunFault::Input).status(), 3);
 }

@@ -1,7 +1,11 @@
--- How far the options of `plan` are made.
-use Rattle.std.specs.Prelude.{Bool, true, false, Option, Some, None, Result, Ok, Err}
+-- How far options are made, and what is printed after them.
+use Rattle.std.specs.Prelude.{ℕ, List, Bool, true, false, Option, Some, None, Result, Ok, Err}
 use Rattle.pylock_command.specs.declared.choice.Choice.{Choice}
 use Rattle.pylock_core.specs.Session.State.{State}
+use Rattle.pylock_program.specs.Report.{standing_text}
+use Rattle.pylock_program.specs.Text.Explain.{explain_text}
+use Rattle.pylock_program.specs.declared.choices.View.{View}
+use Rattle.pylock_program.specs.declared.choices.View.TheVariants.{Plan, Explain}
 
 -- the state that was reached, unless a choice was refused
 abbrev pub chosen : Option Choice → State → Result State Choice
@@ -12,3 +16,8 @@ chosen (Some choice) state = Err choice
 abbrev pub made : Bool → State → Option State
 made true state = Some state
 made false state = None
+
+-- what is printed of a state
+abbrev pub view_text : View → State → List ℕ
+view_text Plan = standing_text
+view_text Explain = explain_text

@@ -36,9 +36,12 @@ vcs_fields vcs =
     ∷ field None ∷ field (Some (place_of vcs.location)) ∷ field None
     ∷ field (Some (revision vcs)) ∷ field vcs.subdirectory ∷ []
 
+abbrev pub directory_word : DirectoryValue → List ℕ
+directory_word directory = if directory.editable then codes "editable" else codes "directory"
+
 abbrev pub directory_fields : DirectoryValue → List (List ℕ)
 directory_fields directory =
-    (if directory.editable then codes "editable" else codes "directory")
+    directory_word directory
     ∷ field None ∷ field (Some directory.path) ∷ field None
     ∷ field None ∷ field directory.subdirectory ∷ []
 

@@ -11,10 +11,16 @@ use std::alloc::{AllocError, Global};
 /// How many bytes are asked for at once.
 pub const PIECE_BYTES: usize = 65_536;
 
-/// Why a source was not read whole.
+/// Why a file or a source was not read whole.
 #[derive(Clone, Copy, Debug, PartialEq, Eq)]
 pub enum FileFault {
-    /// A read failed.
+    /// There is no such file.
+    Missing,
+    /// It is a directory.
+    Directory,
+    /// It may not be read.
+    Permission,
+    /// A read failed, or the file can't be opened for another reason.
     Read,
     /// The source gave more bytes than the limit.
     Limit,

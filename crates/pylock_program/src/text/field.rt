@@ -132,3 +132,11 @@ pub fn push_last_word(out: &mut Vec<u8>, word: &[u8]) -> Result<(), AllocError>
     out.push(b'\n')?;
     Ok(())
 }
+
+/// Pushes a TAB and a word.
+pub(crate) fn push_word(out: &mut Vec<u8>, word: &[u8]) -> Result<(), AllocError>
+    ensures { OnOk result (out.new.items ≡ out.old.items ++ 9 ∷ word.now) }
+{
+    out.push(b'\t')?;
+    out.extend_from_slice(word)
+}

@@ -11,7 +11,7 @@ ghost use Rattle.pylock_readers.specs.declared.error.EnvError.TheVariants.{Tag};
 
 use crate::line::refusal::LineRefusal;
 use crate::report::opening::OpenError;
-use crate::text::field::{push_decimal, push_last_word};
+use crate::text::field::{push_decimal, push_last_word, push_word};
 use pylock_core::{EntryError, EntryKey, EnvError, HeadKey, LockError};
 use std::alloc::AllocError;
 
@@ -120,14 +120,6 @@ fn push_tag(out: &mut Vec<u8>, place: usize) -> Result<(), AllocError>
 {
     out.extend_from_slice(b"\ttag\t")?;
     push_decimal(out, place as u64)
-}
-
-/// Pushes a TAB and a word.
-fn push_word(out: &mut Vec<u8>, word: &[u8]) -> Result<(), AllocError>
-    ensures { OnOk result (out.new.items ≡ out.old.items ++ 9 ∷ word.now) }
-{
-    out.push(b'\t')?;
-    out.extend_from_slice(word)
 }
 
 fn head_word(key: &HeadKey) -> &'static [u8]

@@ -11,3 +11,6 @@ returns-in-Files g c = rw c.in-Files.is (c.list.ensures (g.R.Source.value c.args
 
 pub returns-in-Plan : goal.returns-in-Plan
 returns-in-Plan g c = rw c.in-Plan.is (c.plan_files.ensures (g.R.Source.value c.args.reader.now))
+
+pub returns-in-Explain : goal.returns-in-Explain
+returns-in-Explain g c = rw c.in-Explain.is (c.explain_files.ensures (g.R.Source.value c.args.reader.now))

@@ -1,0 +1,34 @@
+//! Lines for a person, on standard error. They say nothing that the printed answer rests on.
+
+pub(crate) mod fault;
+pub(crate) mod file;
+pub(crate) mod options;
+pub(crate) mod refusal;
+
+use crate::stream::Sink;
+use crate::stream::writer::write_all;
+use pylock_messages::push_visible;
+use std::alloc::{AllocError, Global};
+
+/// Writes `pylock: ` and the text, in which each control character stands as its number. Where
+/// memory or the write fails, the line is left out.
+pub(crate) fn tell<N: Sink>(alloc: Global, notes: &mut N, text: &str) {
+    if let Ok(line) = line(alloc, text) {
+        let _ = write_all(notes, &line);
+    }
+}
+
+/// The same of a text that may have failed for memory.
+pub(crate) fn tell_made<N: Sink>(alloc: Global, notes: &mut N, text: Result<String, AllocError>) {
+    if let Ok(text) = text {
+        tell(alloc, notes, text.as_str());
+    }
+}
+
+fn line(alloc: Global, text: &str) -> Result<Vec<u8>, AllocError> {
+    let mut line = Vec::new(alloc);
+    line.extend_from_slice(b"pylock: ")?;
+    push_visible(&mut line, text)?;
+    line.push(b'\n')?;
+    Ok(line)
+}

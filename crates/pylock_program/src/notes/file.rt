@@ -1,0 +1,22 @@
+//! What a person is told of a file that can't be read.
+
+use crate::notes::tell_made;
+use crate::stream::Sink;
+use crate::stream::whole::FileFault;
+use std::alloc::Global;
+
+/// Tells which file can't be read, and why.
+pub(crate) fn tell_file<N: Sink>(alloc: Global, notes: &mut N, path: &str, fault: FileFault) {
+    let why = why(fault);
+    tell_made(alloc, notes, format!(in alloc; "file: {path}: {why}"));
+}
+
+fn why(fault: FileFault) -> &'static str {
+    match fault {
+        FileFault::Missing => "no such file",
+        FileFault::Directory => "a directory",
+        FileFault::Permission => "permission",
+        FileFault::Limit => "more than 268,435,456 bytes",
+        FileFault::Read | FileFault::Memory => "can't be read",
+    }
+}
