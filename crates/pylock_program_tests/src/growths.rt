@@ -208,7 +208,7 @@ const REASONS: &str =
         marker=\"os_name == 'nt'\"}, {name=\"b\", marker=\"sys_platform == 'x'\"}, \
         {name=\"c\", requires-python=\">=4\"}, {name=\"d\"}, {name=\"d\"}, {name=\"e\", \
         directory={path=\"e\"}, archive={path=\"e\"}}, {name=\"f\", \
-        wheels=[{path=\"f-1-py3-none-any.whl\"}]}, {name=\"g\", version=\"\u{7f}\", \
+        wheels=[{path=\"f-1-py3-none-any.whl\"}]}, {name=\"g\", version=\"\\u007f\", \
         sdist={path=\"g.zip\"}}]\n";
 
 const EXPLAINED: &[u8] = b"head\tok\t-\n1\ta\t-\tskipped\tos_name == 'nt'\n\
