@@ -34,25 +34,14 @@ fn run(alloc: Global, inputs: &Inputs, name: &str, options: &str) -> anyhow::Res
     let mut reader = Pieces::new(b"", 1, None);
     let mut writer = ToWrite::new(&mut text);
     let mut beside = ToWrite::new(&mut notes);
-    let end = perform(
-        alloc,
-        task,
-        inputs,
-        &mut reader,
-        &mut writer,
-        &mut beside,
-    );
+    let end = perform(alloc, task, inputs, &mut reader, &mut writer, &mut beside);
     let mut told = ended(text, end)?;
     told.push_str(std::str::from_utf8(&notes)?)?;
     Ok(told)
 }
 
 /// The words of the command line.
-fn words<'a>(
-    alloc: Global,
-    name: &'a str,
-    options: &'a str,
-) -> Result<Vec<&'a str>, AllocError> {
+fn words<'a>(alloc: Global, name: &'a str, options: &'a str) -> Result<Vec<&'a str>, AllocError> {
     let mut words = Vec::new(alloc);
     for word in ["pylock", name, "lock", "environment"] {
         words.push(word)?;

@@ -120,14 +120,7 @@ fn program_report(alloc: Global, inputs: &Inputs, input: &[u8]) -> anyhow::Resul
     let mut notes = Vec::new(alloc);
     let mut beside = ToWrite::new(&mut notes);
     let task = Task::Select("lock", "environment");
-    let end = perform(
-        alloc,
-        task,
-        inputs,
-        &mut reader,
-        &mut writer,
-        &mut beside,
-    );
+    let end = perform(alloc, task, inputs, &mut reader, &mut writer, &mut beside);
     ended(text, end)
 }
 

@@ -191,7 +191,14 @@ fn check_plan<R: Abort + AllocGlobal>(rt: &R, choices: &[Choice<'_>], wanted: En
         return;
     };
     let (lock, environment) = (document(WHEELS), TAGGED.as_bytes());
-    let answer = plan(rt.alloc(), lock, environment, choices, &mut room, &mut notes);
+    let answer = plan(
+        rt.alloc(),
+        lock,
+        environment,
+        choices,
+        &mut room,
+        &mut notes,
+    );
     check_growth(rt, (answer, room.bytes()), wanted);
 }
 
@@ -203,8 +210,7 @@ fn document(lock: &str) -> Document<'_> {
 }
 
 /// Entries of which each has a reason that takes memory.
-const REASONS: &str =
-    "lock-version = \"1.0\"\ncreated-by = \"t\"\npackages = [{name=\"a\", \
+const REASONS: &str = "lock-version = \"1.0\"\ncreated-by = \"t\"\npackages = [{name=\"a\", \
         marker=\"os_name == 'nt'\"}, {name=\"b\", marker=\"sys_platform == 'x'\"}, \
         {name=\"c\", requires-python=\">=4\"}, {name=\"d\"}, {name=\"d\"}, {name=\"e\", \
         directory={path=\"e\"}, archive={path=\"e\"}}, {name=\"f\", \

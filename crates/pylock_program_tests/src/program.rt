@@ -114,7 +114,10 @@ fn tells_which_file(rt: HostRuntime) -> Result<(), Fail> {
         ("missing", "pylock: file: missing: no such file\n"),
         ("folder", "pylock: file: folder: a directory\n"),
         ("locked", "pylock: file: locked: permission\n"),
-        ("large", "pylock: file: large: more than 268,435,456 bytes\n"),
+        (
+            "large",
+            "pylock: file: large: more than 268,435,456 bytes\n",
+        ),
         ("\u{1b}[m", "pylock: file: \\u{1b}[m: can't be read\n"),
     ] {
         let mut notes = Room::new(rt.alloc(), 100, 7, None)?;
@@ -172,7 +175,10 @@ fn says_how_it_ends(rt: HostRuntime) {
     assert_eq!(rt; words_failure(ErrorKind::OutOfMemory), Failure::Memory);
     assert_eq!(rt; Failure::from(FileFault::Limit), Failure::File);
     assert_eq!(rt; open_fault(ErrorKind::NotFound), FileFault::Missing);
-    assert_eq!(rt; open_fault(ErrorKind::PermissionDenied), FileFault::Permission);
+    assert_eq!(rt;
+        open_fault(ErrorKind::PermissionDenied),
+        FileFault::Permission
+    );
     assert_eq!(rt; open_fault(ErrorKind::OutOfMemory), FileFault::Memory);
     assert_eq!(rt; open_fault(ErrorKind::Other), FileFault::Read);
     assert_eq!(rt; Failure::NamedFile.message(), None);
