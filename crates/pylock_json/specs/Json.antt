@@ -1,10 +1,10 @@
 -- Documents in JSON (RFC 8259), whose members are put one after another.
-use Rattle.std.specs.Prelude.{ℕ, ◌++◌, List, [], ◌∷◌, codes}
-use Rattle.std.specs.Prelude.{Option, Some, option_map}
+use Rattle.std.specs.Prelude.{◌≡◌, ℕ, ◌++◌, List, [], ◌∷◌, codes, false, map}
+use Rattle.std.specs.Prelude.{Option, IfSome, Some, option_map}
 use Rattle.std.specs.Option.{option_map_or}
 use Rattle.serde_json.specs.Data.{Data, array, number, object, string, unsigned}
 use Rattle.serde_json.specs.Data.{Items, no_items, item, Members, no_members, put}
-use Rattle.serde_json.specs.Written.{compact_text}
+use Rattle.serde_json.specs.Written.{compact_text, has_float}
 
 -- a key, and its value where there is one
 abbrev pub Row : Type 0
@@ -32,6 +32,10 @@ items_of (d ∷ ds) = item d (items_of ds)
 abbrev pub list_of : List Data → Data
 list_of ds = array (items_of ds)
 
+-- a list of texts
+abbrev pub texts_of : List (List ℕ) → Data
+texts_of texts = list_of (map string texts)
+
 -- a text that is there, and one that may be
 abbrev pub there : List ℕ → Option Data
 there text = Some (string text)
@@ -41,6 +45,10 @@ maybe = option_map string
 
 abbrev pub numbered : ℕ → Option Data
 numbered n = Some (number (unsigned n))
+
+-- A row has no float.
+abbrev pub HasNone : Row → Type 0
+HasNone row = IfSome row.1 (λ d. has_float d ≡ false)
 
 -- A document: the text of an object without white space, and LF. Its member `pylock` is the number
 -- of its form.

@@ -1,9 +1,9 @@
 //! A value.
 
-ghost use Rattle.std.specs.Prelude.{◌≡◌, IfOk, false};
+ghost use Rattle.std.specs.Prelude.{◌≡◌, IfOk, false, string_bytes};
 ghost use Rattle.serde_json.specs.Data.{number, string, unsigned};
 ghost use Rattle.serde_json.specs.View.{view as data_of};
-ghost use Rattle.serde_json.specs.Written.{has_float};
+ghost use Rattle.serde_json.specs.Written.{compact_text, has_float};
 
 use serde_json::Value;
 use std::alloc::{AllocError, Global};
@@ -11,7 +11,7 @@ use std::marker::Model;
 
 /// A JSON value without floats. Contracts see its data.
 pub struct Json {
-    value: Value,
+    pub(crate) value: Value,
 }
 
 impl Model for Json {
@@ -55,12 +55,12 @@ impl Json {
         Ok(Json { value })
     }
 
-    /// A value that is made of parts without floats.
-    pub(crate) fn of(value: Value) -> Json
-        requires { has_float (data_of value) ≡ false }
-        ensures { result ≡ value }
+    /// The text of `serde_json`, without white space. It takes memory for the text, once more while
+    /// it grows.
+    pub fn to_text(&self, alloc: Global) -> Result<String, AllocError>
+        ensures { IfOk result (λ text. string_bytes text ≡ compact_text (data_of self.now)) }
     {
-        Json { value }
+        self.value.to_string(alloc)
     }
 
     /// The value itself.

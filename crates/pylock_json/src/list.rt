@@ -1,6 +1,7 @@
 //! A list that grows.
 
 ghost use Rattle.std.specs.Prelude.{◌≡◌, ◌++◌, ◌∷◌, [], OnErr, OnOk, map};
+ghost use Rattle.serde_json.specs.Data.{string};
 ghost use Rattle.serde_json.specs.View.{view as data_of};
 ghost use Rattle.pylock_json.specs.Json.{list_of};
 
@@ -57,11 +58,22 @@ impl List {
         Ok(())
     }
 
+    /// Adds a copy of a text.
+    pub fn push_text(&mut self, alloc: Global, text: &str) -> Result<(), AllocError>
+        ensures ok { OnOk result (map data_of self.new
+            ≡ map data_of self.old ++ string text.now ∷ []) }
+        ensures err { OnErr result (self.new ≡ self.old) }
+    {
+        self.push(Json::text(alloc, text)?)
+    }
+
     /// The list as a value.
     pub fn into_json(self) -> Json
         ensures { data_of result ≡ list_of (map data_of self) }
     {
         let List { items } = self;
-        Json::of(Value::Array(items))
+        Json {
+            value: Value::Array(items),
+        }
     }
 }

@@ -100,6 +100,8 @@ impl Object {
         ensures { data_of result ≡ object (members_view self) }
     {
         let Object { members } = self;
-        Json::of(Value::Object(members))
+        Json {
+            value: Value::Object(members),
+        }
     }
 }
