@@ -1,0 +1,57 @@
+-- Documents in JSON (RFC 8259), whose members are put one after another.
+use Rattle.std.specs.Prelude.{◌≡◌, ℕ, ◌++◌, List, [], ◌∷◌, codes, false, map}
+use Rattle.std.specs.Prelude.{Option, IfSome, Some, option_map}
+use Rattle.std.specs.Option.{option_map_or}
+use Rattle.serde_json.specs.Data.{Data, array, number, object, string, unsigned}
+use Rattle.serde_json.specs.Data.{Items, no_items, item, Members, no_members, put}
+use Rattle.serde_json.specs.Written.{compact_text, has_float}
+
+-- a key, and its value where there is one
+abbrev pub Row : Type 0
+Row = List ℕ × Option Data
+
+-- the members with one more, where it is there
+abbrev pub with_row : Row → Members → Members
+with_row row members = option_map_or (λ d. put row.0 d members) row.1 members
+
+abbrev pub with_rows : List Row → Members → Members
+with_rows [] members = members
+with_rows (row ∷ rows) members = with_rows rows (with_row row members)
+
+-- an object of the members that are there
+abbrev pub members_of : List Row → Members
+members_of rows = with_rows rows no_members
+
+abbrev pub object_of : List Row → Data
+object_of rows = object (members_of rows)
+
+abbrev pub items_of : List Data → Items
+items_of [] = no_items
+items_of (d ∷ ds) = item d (items_of ds)
+
+abbrev pub list_of : List Data → Data
+list_of ds = array (items_of ds)
+
+-- a list of texts
+abbrev pub texts_of : List (List ℕ) → Data
+texts_of texts = list_of (map string texts)
+
+-- a text that is there, and one that may be
+abbrev pub there : List ℕ → Option Data
+there text = Some (string text)
+
+abbrev pub maybe : Option (List ℕ) → Option Data
+maybe = option_map string
+
+abbrev pub numbered : ℕ → Option Data
+numbered n = Some (number (unsigned n))
+
+-- A row has no float.
+abbrev pub HasNone : Row → Type 0
+HasNone row = IfSome row.1 (λ d. has_float d ≡ false)
+
+-- A document: the text of an object without white space, and LF. Its member `pylock` is the number
+-- of its form.
+abbrev pub document_text : Members → List ℕ
+document_text members =
+    compact_text (object (put (codes "pylock") (number (unsigned 1)) members)) ++ codes "\n"
