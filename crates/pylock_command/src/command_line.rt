@@ -175,7 +175,7 @@ Edits come as lines on standard input:
   add ENTRY           one more entry: add {name = \"a\", directory = {path = \"a\"}}
   put ID ENTRY        this entry in place of one: put 1 {name = \"a\"}
   del ID              remove the entry with this number: del 1
-  policy NAME POLICY  files of this name, any, wheel or source: policy numpy wheel
+  policy NAME POLICY  files of this name, any, wheel or source: policy pip wheel
 
 Status: 0, the last answer is a plan and no line was refused; 1, otherwise;
 2, the lock, the environment or the command line is refused; 3, a line on
@@ -259,7 +259,7 @@ Status: 0, it is a name; 1, it is refused; 2, the command line is refused;
 
 const NAME_TEXT: Text = Text {
     id: "TEXT",
-    help: "The name of a package, an extra or a group; what begins with - goes after --",
+    help: "A package, an extra or a group; what begins with - goes after --",
 };
 
 const MARKER: Usage = Usage {
