@@ -11,7 +11,8 @@ use Rattle.pylock_core.specs.Inner.Parts.{IsJudged, IsNamed, IsSession, OfRows, 
 use Rattle.pylock_core.specs.Inner.Pass.{conflict_among, is_active, row_source}
 use Rattle.pylock_core.specs.Session.Fates.{fate, fate_by, fates, first_active, own_fate, stands_active}
 use Rattle.pylock_core.specs.Session.State.{State, in_rows, policy_of}
-use Rattle.pylock_core.specs.Session.Steps.{has_conflict, source_of, standing}
+use Rattle.pylock_core.specs.Session.Steps.{source_of, standing}
+use Rattle.pylock_readers.specs.Entry.Kinds.{has_conflict}
 use Rattle.pylock_core.specs.declared.answer.Standing.{Standing}
 use Rattle.pylock_core.specs.declared.edit.Policy.{Policy}
 use Rattle.pylock_core.specs.declared.fate.Fate.{Fate}

@@ -12,7 +12,7 @@ use Rattle.pylock_core.specs.Inner.Index.{put_in, take_out, moved, list_at, numb
 use Rattle.pylock_core.specs.Session.State.{Rises}
 use Rattle.pylock_readers.specs.Lock.{HeadValue}
 use Rattle.pylock_core.specs.Session.Judgement.{IndexKey, Marked, OfTags, and_head, entry_reads, head_reads, is_python, keys, marker_reads}
-use Rattle.pylock_core.specs.Session.Steps.{is_any}
+use Rattle.pylock_readers.specs.Entry.Kinds.{is_any}
 
 -- ---- one list
 

@@ -17,7 +17,8 @@ use Rattle.pywheel_core.specs.Choice.{best, best_from}
 use Rattle.pywheel_core.specs.Tag.{TagValue}
 use Rattle.pylock_readers.specs.Entry.{EntryValue, FileValue, wheel_name}
 use Rattle.pylock_readers.specs.Lock.{HeadValue}
-use Rattle.pylock_core.specs.Session.Steps.{best_wheel, by_check, by_marker, decided_by, environments_check, first_true, head_fault, is_any, marked_standing, python_check, standing, text_check}
+use Rattle.pylock_core.specs.Session.Steps.{best_wheel, by_check, by_marker, decided_by, environments_check, first_true, head_fault, marked_standing, python_check, standing, text_check}
+use Rattle.pylock_readers.specs.Entry.Kinds.{is_any}
 use Rattle.pymark_core.specs.declared.fault.EvalFault.{EvalFault}
 use Rattle.pylock_core.specs.declared.answer.FaultCode.{FaultCode}
 use Rattle.pylock_core.specs.declared.answer.Standing.{Standing}

@@ -13,7 +13,7 @@ mod session;
 pub use answer::{Answer, FaultCode, Pick, PickSource, Plan, Standing};
 pub use edit::{Edit, EditError, Policy};
 pub use fate::Fate;
-pub use picked::PickedSource;
+pub use picked::{NamedSource, PickedSource, sources};
 pub use pylock_readers::{
     Archive, Directory, DistributionFile, Entry, EntryError, EntryKey, EnvError, Head, HeadKey,
     HeadNames, Lock, LockError, Sdist, Vcs, WheelFile, read_environment,

@@ -1,21 +1,11 @@
 -- Texts joined by a separator.
 use Rattle.std.proofs.Common.{◌≡◌, ℕ, List, [], ◌∷◌, ◌++◌, map, length, false, Some, refl, ap, sym, ◌∙◌}
-use Rattle.std.specs.List.{flat_map, join_by}
+use Rattle.std.specs.List.{join_by}
 use Rattle.std.specs.Prelude.{◌==◌, codes}
 use Rattle.std.proofs.lemmas.Bool.{false≢true}
 use Rattle.pyver_core.specs.Name.{norm}
+use Rattle.pylock_readers.proofs.Joined.{joined_texts}
 use Rattle.pylock_program.specs.Reply.{names_text}
-
-pieces-map : {X : Type 0} (f : X → List ℕ) (sep : List ℕ) (xs : List X)
-    → flat_map (λ y. sep ++ f y) xs ≡ flat_map (λ y. sep ++ y) (map f xs)
-pieces-map f sep [] = refl
-pieces-map f sep (x ∷ xs) = ap (λ t. (sep ++ f x) ++ t) (pieces-map f sep xs)
-
--- what is joined are the texts alone
-pub joined_texts : {X : Type 0} (f : X → List ℕ) (sep : List ℕ) (xs : List X)
-    → join_by f sep xs ≡ join_by (λ t. t) sep (map f xs)
-joined_texts f sep [] = refl
-joined_texts f sep (x ∷ xs) = ap (λ t. f x ++ t) (pieces-map f sep xs)
 
 -- things with the same texts are joined alike
 pub joined_alike : {X Y : Type 0} (f : X → List ℕ) (g : Y → List ℕ) (sep : List ℕ) (xs : List X) (ys : List Y)

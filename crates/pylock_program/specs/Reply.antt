@@ -36,7 +36,7 @@ use Rattle.pylock_readers.specs.declared.error.EnvError.{EnvError}
 use Rattle.pylock_readers.specs.declared.error.LockError.{LockError}
 use Rattle.pylock_program.specs.Report.{Report}
 use Rattle.pylock_program.specs.Text.Field.{field, line_of}
-use Rattle.pylock_program.specs.Text.Plan.{fault_word}
+use Rattle.pylock_reasons.specs.Words.{fault_word}
 use Rattle.pylock_program.specs.Text.Files.{files_text}
 use Rattle.pylock_program.specs.Text.Refusal.{environment_text, lock_text}
 use Rattle.pylock_program.specs.declared.reply.queries.Query.{Query}

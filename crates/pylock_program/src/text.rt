@@ -6,4 +6,3 @@ pub(crate) mod files;
 pub mod plan;
 pub mod refusal;
 mod safe;
-pub(crate) mod tag;

@@ -5,5 +5,6 @@ mod FrontLemmas
 mod SharedLemmas
 pub mod EntryLemmas
 mod DistinctLemmas
+pub mod Joined
 mod TextLemmas
 pub mod Memory

@@ -8,6 +8,7 @@ use Rattle.pywheel_core.specs.Wheel.Value.{WheelValue}
 use Rattle.pywheel_core.specs.Wheel.Reading.{wheel_of}
 use Rattle.pylock_readers.specs.Entry.FileName.{file_name_of}
 pub mod FileName
+pub mod Kinds
 pub mod Fields
 pub mod Sources
 pub mod Reading

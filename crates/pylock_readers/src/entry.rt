@@ -8,6 +8,7 @@ mod directory;
 mod file;
 mod file_name;
 mod hashes;
+mod kinds;
 mod location;
 mod read;
 mod sources;

@@ -1,3 +1,4 @@
+pub mod Asked
 pub mod Comparison
 pub mod Depth
 pub mod Grammar

@@ -1,11 +1,14 @@
 //! Comparisons of markers (PEP 508, "Environment Markers").
 
 ghost use Rattle.std.specs.Prelude.{◌≡◌, IfOk, Result, string_bytes};
+ghost use Rattle.std.specs.Option.{option_copied};
 ghost use Rattle.pytext.specs.Agreement.{Gives};
 ghost use Rattle.pyver_core.specs.Name.{norm};
 ghost use Rattle.pymark_core.specs.Environment.{has_extra, has_group};
 ghost use Rattle.pymark_core.specs.Inner.Compared.{IsRead, ReadsAs, comparator_of, left_operand};
 ghost use Rattle.pymark_core.specs.Inner.Compared.{right_of, right_operand};
+ghost use Rattle.pymark_core.specs.Marker.Asked.{extra_asked, group_asked, has_extra as asks_extra};
+ghost use Rattle.pymark_core.specs.Marker.Asked.{is_extra, quoted_text};
 ghost use Rattle.pymark_core.specs.Marker.Value.{comparison_value, is_in, is_substring};
 ghost use Rattle.pymark_core.specs.Marker.Value.{operand_text, operator_value, text_value};
 ghost use Rattle.pymark_core.specs.Marker.Value.{texts_value};
@@ -24,7 +27,7 @@ use std::marker::Model;
 /// terms.
 ///
 /// Contracts see the operands and the operator, since what the texts read as follows from them.
-pub(crate) struct Comparison {
+pub struct Comparison {
     left: Left,
     test: Test,
 }
@@ -95,6 +98,35 @@ impl Comparison {
         })
     }
 
+    /// Whether `extra` is one of the operands, which has no value in a lock. It takes no memory.
+    pub fn has_extra(&self) -> bool
+        ensures { result ≡ asks_extra self.now }
+    {
+        matches!(self.left, Left::Extra) || self.test.has_extra()
+    }
+
+    /// The text that is asked for among the extras: a quoted one left of `in` or `not in`, with
+    /// `extras` on the right. It takes no memory.
+    pub fn extra_asked(&self) -> Option<&str>
+        ensures { option_copied result ≡ extra_asked self.now }
+    {
+        match &self.test {
+            Test::In(Operand::Extras) | Test::NotIn(Operand::Extras) => self.left.quoted(),
+            _ => None,
+        }
+    }
+
+    /// The text that is asked for among the groups: a quoted one left of `in` or `not in`, with
+    /// `dependency_groups` on the right. It takes no memory.
+    pub fn group_asked(&self) -> Option<&str>
+        ensures { option_copied result ≡ group_asked self.now }
+    {
+        match &self.test {
+            Test::In(Operand::Groups) | Test::NotIn(Operand::Groups) => self.left.quoted(),
+            _ => None,
+        }
+    }
+
     /// The value in the environment. A variable against a quoted text is judged without memory, and
     /// no text is read; so is a quoted text in a set.
     pub(crate) fn evaluate(
@@ -117,6 +149,30 @@ impl Comparison {
 impl Drop for Comparison {
     fn drop(self) {
         let Comparison { left: _, test: _ } = self;
+    }
+}
+
+impl Left {
+    /// The text that is quoted.
+    fn quoted(&self) -> Option<&str>
+        ensures { option_copied result ≡ quoted_text (left_operand self.now) }
+    {
+        match self {
+            Left::Text(candidate) => Some(candidate.text()),
+            _ => None,
+        }
+    }
+}
+
+impl Test {
+    /// Whether `extra` stands on the right.
+    fn has_extra(&self) -> bool
+        ensures { result ≡ is_extra (right_of self.now) }
+    {
+        matches!(
+            self,
+            Test::By(_, Right::Extra) | Test::In(Operand::Extra) | Test::NotIn(Operand::Extra)
+        )
     }
 }
 

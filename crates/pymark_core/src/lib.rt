@@ -13,6 +13,7 @@ mod operand;
 mod requirement;
 mod variable;
 
+pub use comparison::Comparison;
 pub use environment::Environment;
 pub use fault::EvalFault;
 pub use marker::{Key, Marker, MarkerError, Reads};

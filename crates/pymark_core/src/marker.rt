@@ -1,6 +1,7 @@
 //! Markers (PEP 508, "Environment Markers").
 
 mod builder;
+mod comparisons;
 mod depth;
 mod error;
 mod keys;
@@ -11,11 +12,11 @@ pub(crate) mod tree;
 mod value;
 
 ghost use Rattle.std.specs.Fmt.{padded};
-ghost use Rattle.std.specs.Prelude.{◌≡◌, IfOk, IsErrOf, Some, false, string_bytes, true};
+ghost use Rattle.std.specs.Prelude.{◌≡◌, IfOk, IsErrOf, Some, false, map, string_bytes, true};
 ghost use Rattle.pytext.specs.Agreement.{Gives};
 ghost use Rattle.pymark_core.specs.Inner.View.{tree_view};
 ghost use Rattle.pymark_core.specs.Marker.Depth.{is_deep};
-ghost use Rattle.pymark_core.specs.Marker.Grammar.{MarkerText, has_misuse};
+ghost use Rattle.pymark_core.specs.Marker.Grammar.{MarkerText, comparisons, has_misuse};
 ghost use Rattle.pymark_core.specs.Marker.Keys.{is_flagged, reads};
 ghost use Rattle.pymark_core.specs.Marker.Reading.{marker_of};
 ghost use Rattle.pymark_core.specs.Marker.Tree.{Tree};
@@ -23,8 +24,10 @@ ghost use Rattle.pymark_core.specs.Marker.Value.{marker_value};
 ghost use Rattle.pytext.specs.White.{trimmed};
 ghost use Rattle.pymark_core.specs.declared.marker.keys.Key.{Key};
 
+use crate::comparison::Comparison;
 use crate::environment::Environment;
 use crate::fault::EvalFault;
+use comparisons::push_tree;
 use depth::is_deep;
 pub use error::MarkerError;
 pub use keys::{Key, Reads};
@@ -122,6 +125,16 @@ impl Marker {
             (marker_value environment.now self.now.tree) }
     {
         tree_value(alloc, environment, &self.parsed.tree)
+    }
+
+    /// The comparisons of the marker, in the order in which they stand in its text. It takes memory
+    /// for their list.
+    pub fn comparisons(&self, alloc: Global) -> Result<Vec<&Comparison>, AllocError>
+        ensures { IfOk result (λ list. map (λ c. c.now) list.items ≡ comparisons self.now.tree) }
+    {
+        let mut list = Vec::new(alloc);
+        push_tree(&mut list, &self.parsed.tree)?;
+        Ok(list)
     }
 
     /// The keys that stand in the marker as an operand. It takes no memory.

@@ -14,7 +14,8 @@ use Rattle.pylock_core.specs.Session.Judgement.{SessionValue, VerdictValue, and_
 use Rattle.pylock_core.specs.Session.Judgement.{head_reads, keys, numbers_where, verdict_of}
 use Rattle.pylock_readers.specs.Lock.{HeadValue}
 use Rattle.pylock_core.specs.Session.State.{State}
-use Rattle.pylock_core.specs.Session.Steps.{head_fault, is_any}
+use Rattle.pylock_core.specs.Session.Steps.{head_fault}
+use Rattle.pylock_readers.specs.Entry.Kinds.{is_any}
 use Rattle.pylock_core.specs.declared.edit.Policy.{Policy}
 use Rattle.pylock_core.specs.declared.session.names.Names.{Names}
 use Rattle.pylock_core.specs.declared.session.parts.Parts.{Parts}

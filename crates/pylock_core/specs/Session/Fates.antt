@@ -9,7 +9,8 @@ use Rattle.pymark_core.specs.Environment.{EnvironmentValue}
 use Rattle.pylock_readers.specs.Entry.{EntryValue}
 use Rattle.pylock_core.specs.Session.State.{State, policy_of}
 use Rattle.pylock_core.specs.Session.Steps.{FirstFault, answer_after, answer_by, by_standing}
-use Rattle.pylock_core.specs.Session.Steps.{has_conflict, head_fault, pick_before, source_of}
+use Rattle.pylock_core.specs.Session.Steps.{head_fault, pick_before, source_of}
+use Rattle.pylock_readers.specs.Entry.Kinds.{has_conflict}
 use Rattle.pylock_core.specs.Session.Steps.{standing}
 use Rattle.pylock_core.specs.declared.answer.Answer.{Answer}
 use Rattle.pylock_core.specs.declared.answer.FaultCode.{FaultCode}

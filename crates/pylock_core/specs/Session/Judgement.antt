@@ -18,7 +18,8 @@ use Rattle.pylock_readers.specs.Lock.{HeadValue}
 use Rattle.pylock_core.specs.declared.edit.Edit.{Edit}
 use Rattle.pylock_core.specs.declared.edit.Edit.TheVariants as edit
 use Rattle.pylock_core.specs.Session.State.{State, policy_of}
-use Rattle.pylock_core.specs.Session.Steps.{standing, best_wheel, head_fault, is_any}
+use Rattle.pylock_core.specs.Session.Steps.{standing, best_wheel, head_fault}
+use Rattle.pylock_readers.specs.Entry.Kinds.{is_any}
 use Rattle.pylock_core.specs.declared.answer.FaultCode.{FaultCode}
 use Rattle.pylock_core.specs.declared.answer.Standing.{Standing}
 use Rattle.pylock_core.specs.declared.edit.Policy.{Policy}

@@ -1,7 +1,8 @@
 -- What a pick and a fault name: an entry that stands in the state, and of a pick has its source.
-use Rattle.std.specs.Prelude.{◌≡◌, ◌⊎◌, ℕ, ◌<◌, List, length, Option, Some, None, IsSome}
-use Rattle.std.specs.Prelude.{option_map, slice_get}
+use Rattle.std.specs.Prelude.{◌≡◌, ◌⊎◌, ℕ, ◌<◌, ◌+◌, ◌++◌, List, [], ◌∷◌, length, Option, Some, None}
+use Rattle.std.specs.Prelude.{IsSome, option_map, slice_get}
 use Rattle.std.specs.List.{Contains}
+use Rattle.std.specs.Option.{option_map_or}
 use Rattle.pylock_readers.specs.Entry.{EntryValue, ArchiveValue, DirectoryValue, FileValue}
 use Rattle.pylock_readers.specs.Entry.{VcsValue}
 use Rattle.pylock_core.specs.Session.State.{State}
@@ -10,6 +11,7 @@ use Rattle.pylock_core.specs.declared.answer.FaultCode.{FaultCode}
 use Rattle.pylock_core.specs.declared.answer.Pick.{Pick}
 use Rattle.pylock_core.specs.declared.answer.PickSource.{PickSource}
 use Rattle.pylock_core.specs.declared.answer.PickSource.TheVariants as source
+use Rattle.pylock_core.specs.declared.picked.NamedSource.{NamedSource}
 use Rattle.pylock_core.specs.declared.picked.PickedSource.{PickedSource}
 use Rattle.pylock_core.specs.declared.picked.PickedSource.TheVariants as picked
 
@@ -37,6 +39,25 @@ source_in entry source.Archive = option_map OfArchive entry.archive
 source_in entry (source.Wheel place) = option_map OfWheel (slice_get entry.wheels place)
 source_in entry source.Sdist = option_map OfSdist entry.sdist
 
+-- the source that is named, where the entry has it
+abbrev pub source_where : EntryValue → PickSource → List (PickSource × SourceValue)
+source_where entry name = option_map_or (λ s. (name, s) ∷ []) (source_in entry name) []
+
+-- wheels, the first of them at this place
+abbrev pub wheels_from : ℕ → List FileValue → List (PickSource × SourceValue)
+wheels_from place [] = []
+wheels_from place (file ∷ files) =
+    (source.Wheel place, OfWheel file) ∷ wheels_from (place + 1) files
+
+-- every source that an entry has, whatever machine it is for
+abbrev pub sources : EntryValue → List (PickSource × SourceValue)
+sources entry =
+    source_where entry source.Vcs
+    ++ source_where entry source.Directory
+    ++ source_where entry source.Archive
+    ++ wheels_from 0 entry.wheels
+    ++ source_where entry source.Sdist
+
 -- a source that is lent
 abbrev pub lent_source : PickedSource → SourceValue
 lent_source (picked.Vcs vcs) = OfVcs vcs.now
@@ -44,6 +65,10 @@ lent_source (picked.Directory directory) = OfDirectory directory.now
 lent_source (picked.Archive archive) = OfArchive archive.now
 lent_source (picked.Wheel wheel) = OfWheel wheel.now
 lent_source (picked.Sdist sdist) = OfSdist sdist.now
+
+-- the same, with its name
+abbrev pub lent_named : NamedSource → PickSource × SourceValue
+lent_named named = (named.name, lent_source named.source)
 
 -- the number is that of an entry among these
 abbrev pub StandsAmong : List (ℕ × EntryValue) → ℕ → Type 0

@@ -1,6 +1,6 @@
 -- The installation steps of a lock (PEP 751, "Installation"), from the beginning, on a state.
-use Rattle.std.specs.Prelude.{ℕ, Bool, true, false, ◌||◌, nat_lt, List, [], ◌∷◌}
-use Rattle.std.specs.Prelude.{count_by, Option, Some, None, is_some, option_map, Result, Ok}
+use Rattle.std.specs.Prelude.{ℕ, Bool, true, false, List, [], ◌∷◌}
+use Rattle.std.specs.Prelude.{Option, Some, None, option_map, Result, Ok}
 use Rattle.std.specs.Prelude.{Err, if◌then◌else◌}
 use Rattle.std.specs.List.{list_any}
 use Rattle.std.specs.Str.{bytes_eq}
@@ -20,6 +20,7 @@ use Rattle.pymark_core.specs.declared.variable.Var.TheVariants.{PythonFullVersio
 use Rattle.pywheel_core.specs.Choice.{best}
 use Rattle.pywheel_core.specs.Tag.{TagValue}
 use Rattle.pylock_readers.specs.Entry.{EntryValue, wheel_names}
+use Rattle.pylock_readers.specs.Entry.Kinds.{has_conflict}
 use Rattle.pylock_readers.specs.Lock.{HeadValue}
 use Rattle.pylock_core.specs.Session.State.{State, Policies, policy_of}
 use Rattle.pylock_core.specs.declared.answer.Answer.{Answer}
@@ -115,17 +116,6 @@ standing entry environment =
 -- whether one of the names is this one
 abbrev pub is_among : List (List ℕ) → List ℕ → Bool
 is_among names name = list_any (bytes_eq name) names
-
--- whether a list is not empty
-abbrev pub is_any : {A : Type 0} → List A → Bool
-is_any [] = false
-is_any (x ∷ xs) = true
-
--- whether the entry has sources of more than one kind; its sdist and wheels are one kind
-abbrev pub has_conflict : EntryValue → Bool
-has_conflict entry =
-    nat_lt 1 (count_by (λ stands. stands) (is_some entry.vcs ∷ is_some entry.directory
-    ∷ is_some entry.archive ∷ (is_some entry.sdist || is_any entry.wheels) ∷ []))
 
 -- the entry put before the slated rest, unless the rest has a fault
 abbrev pub put_before : ℕ × EntryValue → Result (List (ℕ × EntryValue)) FirstFault

@@ -1,5 +1,5 @@
 -- An answer as it is printed: the lines of a plan, or a fault.
-use Rattle.std.specs.Prelude.{ℕ, ◌++◌, List, [], ◌∷◌, length, if◌then◌else◌, Option, Some, None}
+use Rattle.std.specs.Prelude.{ℕ, ◌++◌, List, [], ◌∷◌, length, Option, Some, None}
 use Rattle.std.specs.Prelude.{codes, decimal, map, slice_get}
 use Rattle.std.specs.List.{flat_map, join_with_byte}
 use Rattle.std.specs.Option.{option_map_or}
@@ -10,11 +10,11 @@ use Rattle.pylock_core.specs.Session.State.{State, entry_at}
 use Rattle.pylock_core.specs.declared.answer.Answer.{Answer}
 use Rattle.pylock_core.specs.declared.answer.Answer.TheVariants.{Plan, Fault}
 use Rattle.pylock_core.specs.declared.answer.FaultCode.{FaultCode}
-use Rattle.pylock_core.specs.declared.answer.FaultCode.TheVariants as fault
 use Rattle.pylock_core.specs.declared.answer.Pick.{Pick}
 use Rattle.pylock_core.specs.declared.answer.PickSource.{PickSource}
 use Rattle.pylock_core.specs.declared.answer.PickSource.TheVariants as source
 use Rattle.pylock_program.specs.Text.Field.{field, line_of}
+use Rattle.pylock_reasons.specs.Words.{directory_word, fault_word}
 
 -- the hashes: `ALGORITHM=VALUE` joined by `,`, absent where there are none
 abbrev pub hash_text : List ℕ × List ℕ → List ℕ
@@ -35,9 +35,6 @@ vcs_fields vcs =
     codes "vcs"
     ∷ field None ∷ field (Some (place_of vcs.location)) ∷ field None
     ∷ field (Some (revision vcs)) ∷ field vcs.subdirectory ∷ []
-
-abbrev pub directory_word : DirectoryValue → List ℕ
-directory_word directory = if directory.editable then codes "editable" else codes "directory"
 
 abbrev pub directory_fields : DirectoryValue → List (List ℕ)
 directory_fields directory =
@@ -79,18 +76,6 @@ plan_line number source entry = source_line number entry (source_fields entry so
 abbrev pub pick_text : State → Pick → List ℕ
 pick_text state pick =
     option_map_or (plan_line pick.id pick.source) (entry_at pick.id state.entries) []
-
-abbrev pub fault_word : FaultCode → List ℕ
-fault_word fault.PythonUnknown = codes "python-unknown"
-fault_word fault.PythonNotMet = codes "python-not-met"
-fault_word fault.MarkerUnset = codes "marker-unset"
-fault_word fault.MarkerExtra = codes "marker-extra"
-fault_word fault.MarkerUndefined = codes "marker-undefined"
-fault_word fault.MarkerNumber = codes "marker-number"
-fault_word fault.NoEnvironment = codes "no-environment"
-fault_word fault.Ambiguous = codes "ambiguous"
-fault_word fault.Sources = codes "sources"
-fault_word fault.NoFile = codes "no-file"
 
 abbrev pub fault_text : ℕ → FaultCode → List ℕ
 fault_text id code = line_of (codes "fault " ++ decimal id) (fault_word code ∷ [])

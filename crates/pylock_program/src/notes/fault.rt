@@ -2,9 +2,8 @@
 
 use crate::notes::tell_made;
 use crate::stream::Sink;
-use crate::text::explain::{detail, head_detail, verdict_word};
-use crate::text::plan::fault_word;
 use pylock_core::{Answer, Fate, FaultCode, Session};
+use pylock_reasons::{detail, fault_word, head_detail, verdict_word};
 use std::alloc::{AllocError, Global};
 
 /// Tells where the fault of the answer is, and why, if the answer is one.

@@ -10,9 +10,8 @@ ghost use Rattle.pylock_program.specs.Inner.Hashes.{escaped_hash, more_hashes};
 ghost use Rattle.pylock_program.specs.Inner.Picked.{picked_fields};
 ghost use Rattle.pylock_program.specs.Text.Field.{field, tabbed};
 ghost use Rattle.pylock_program.specs.Text.Plan.{hashes_text, revision, vcs_fields};
-ghost use Rattle.pylock_program.specs.Text.Plan.{directory_fields, directory_word};
+ghost use Rattle.pylock_program.specs.Text.Plan.{directory_fields};
 ghost use Rattle.pylock_program.specs.Text.Plan.{archive_fields, file_fields};
-ghost use Rattle.pylock_program.specs.Text.Plan.{fault_word};
 ghost use Rattle.pylock_program.specs.Text.Plan.{plan_line, pick_text, answer_text, fault_text};
 ghost use Rattle.pylock_program.specs.Text.Plan.{source_line};
 
@@ -21,6 +20,7 @@ use pylock_core::{
     Answer, Archive, Directory, DistributionFile, Entry, FaultCode, Pick, PickedSource, Session,
     Vcs,
 };
+use pylock_reasons::{directory_word, fault_word};
 use std::alloc::AllocError;
 
 fn push_hash(out: &mut Vec<u8>, hash: &(String, String)) -> Result<(), AllocError>
@@ -87,17 +87,6 @@ fn push_directory(out: &mut Vec<u8>, directory: &Directory) -> Result<(), AllocE
     push_next(out, Some(directory.place()))?;
     out.extend_from_slice(b"\t-\t-")?;
     push_next(out, directory.subdirectory())
-}
-
-/// Whether a directory is installed in place.
-pub(crate) fn directory_word(directory: &Directory) -> &'static str
-    ensures { result.now ≡ directory_word directory.now }
-{
-    if directory.editable() {
-        "editable"
-    } else {
-        "directory"
-    }
 }
 
 fn push_archive(out: &mut Vec<u8>, archive: &Archive) -> Result<(), AllocError>
@@ -211,22 +200,4 @@ fn push_fault(out: &mut Vec<u8>, id: u32, code: FaultCode) -> Result<(), AllocEr
     out.extend_from_slice(b"fault ")?;
     push_decimal(out, u64::from(id))?;
     push_last_word(out, fault_word(code).as_bytes())
-}
-
-/// The word of a fault.
-pub fn fault_word(code: FaultCode) -> &'static str
-    ensures { result.now ≡ fault_word code }
-{
-    match code {
-        FaultCode::PythonUnknown => "python-unknown",
-        FaultCode::PythonNotMet => "python-not-met",
-        FaultCode::MarkerUnset => "marker-unset",
-        FaultCode::MarkerExtra => "marker-extra",
-        FaultCode::MarkerUndefined => "marker-undefined",
-        FaultCode::MarkerNumber => "marker-number",
-        FaultCode::NoEnvironment => "no-environment",
-        FaultCode::Ambiguous => "ambiguous",
-        FaultCode::Sources => "sources",
-        FaultCode::NoFile => "no-file",
-    }
 }

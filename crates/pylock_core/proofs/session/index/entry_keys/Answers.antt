@@ -1,6 +1,6 @@
 use Rattle.std.proofs.Common.{◌≡◌, ◌∙◌, is_some, not, sym, rules}
 use Rattle.pylock_core.specs.Session.Judgement.{keys}
-use Rattle.pylock_core.specs.Session.Steps.{is_any}
+use Rattle.pylock_readers.specs.Entry.Kinds.{is_any}
 use Rattle.pylock_core.proofs.IndexLemmas.{entry_by_one}
 use Rattle.pylock_core.proofs.session.index.entry_keys.Goals as goal
 

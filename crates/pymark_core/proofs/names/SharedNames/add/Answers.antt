@@ -1,4 +1,4 @@
-use Rattle.std.proofs.Common.{◌≡◌, ◌∙◌, ap, not, option_map, sym, unwrap_or}
+use Rattle.std.proofs.Common.{◌∙◌, ap, not, option_map, sym, unwrap_or}
 use Rattle.std.specs.FinSet as set
 use Rattle.pyver_core.specs.Name.{norm}
 use Rattle.pymark_core.proofs.Texts.{nothing_in, put_again}

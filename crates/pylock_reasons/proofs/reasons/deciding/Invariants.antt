@@ -1,6 +1,6 @@
 use Rattle.std.proofs.Common.{◌≡◌, drop}
-use Rattle.pylock_program.specs.Text.Explain.{deciding}
-use Rattle.pylock_program.proofs.text.explain.deciding.Given as goal
+use Rattle.pylock_reasons.specs.Reasons.{deciding}
+use Rattle.pylock_reasons.proofs.reasons.deciding.Given as goal
 
 -- none of the markers so far decides
 abbrev pub invariant-loop-marker : goal.invariant-loop-marker

@@ -1,6 +1,6 @@
 use Rattle.std.proofs.Common.{◌≡◌, drop}
-use Rattle.pylock_program.specs.Text.Explain.{best_tag}
-use Rattle.pylock_program.proofs.text.explain.best_tag.Given as goal
+use Rattle.pylock_reasons.specs.Reasons.{best_tag}
+use Rattle.pylock_reasons.proofs.reasons.best_tag.Given as goal
 
 -- none of the tags so far is one of the wheel's
 abbrev pub invariant-loop-tag : goal.invariant-loop-tag
