@@ -8,14 +8,16 @@ use Rattle.clap.specs.declared.error.Error.{Error}
 use Rattle.clap.specs.declared.error.kind.ErrorKind.TheVariants.{MissingRequiredArgument}
 use Rattle.clap.specs.declared.error.kind.ErrorKind.TheVariants.{OutOfMemory}
 use Rattle.pylock_command.specs.Choices.{AreChoices, with_choices}
+use Rattle.pylock_command.specs.Form.{form_of, with_json}
 use Rattle.pylock_command.specs.declared.choice.Choice.{Choice}
 use Rattle.pylock_command.specs.declared.command_line.CommandError.{CommandError}
 use Rattle.pylock_command.specs.declared.command_line.CommandError.TheVariants.{Refused, Memory}
 use Rattle.pylock_command.specs.declared.command_line.Task.{Task}
 use Rattle.pylock_command.specs.declared.command_line.Task.TheVariants.{Bare, Plan, Explain}
-use Rattle.pylock_command.specs.declared.command_line.Task.TheVariants.{Select, Files, Version}
-use Rattle.pylock_command.specs.declared.command_line.Task.TheVariants.{Match, Name}
+use Rattle.pylock_command.specs.declared.command_line.Task.TheVariants.{Select, Files, Audit}
+use Rattle.pylock_command.specs.declared.command_line.Task.TheVariants.{Version, Match, Name}
 use Rattle.pylock_command.specs.declared.command_line.Task.TheVariants.{Marker, Requirement, Wheel}
+use Rattle.pylock_command.specs.declared.form.Form.{Form}
 
 -- an argument that stands at its place and has to be there
 abbrev pub place_rule : Text → Rule
@@ -28,13 +30,21 @@ one_text name id = with_rule (new_app name) (place_rule id)
 abbrev pub two_texts : Text → Text → Text → App
 two_texts name first second = with_rule (one_text name first) (place_rule second)
 
--- a subcommand of this name, which takes the paths of lock and environment and `plan`'s options
+-- a subcommand of this name, which takes the paths of lock and environment, `plan`'s options and
+-- `--json`
 abbrev pub chosen_app : Text → App
-chosen_app name = with_choices (two_texts name (codes "LOCK") (codes "ENV"))
+chosen_app name = with_json (with_choices (two_texts name (codes "LOCK") (codes "ENV")))
+
+-- a subcommand of this name, which takes the path of the lock and `--json`
+abbrev pub lock_app : Text → App
+lock_app name = with_json (one_text name (codes "LOCK"))
 
 -- what adding a subcommand makes of a command
 abbrev pub with_chosen : App → Text → App
 with_chosen app name = with_subcommand app (chosen_app name).top
+
+abbrev pub with_lock : App → Text → App
+with_lock app name = with_subcommand app (lock_app name).top
 
 abbrev pub with_one : App → Text → Text → App
 with_one app name id = with_subcommand app (one_text name id).top
@@ -52,15 +62,17 @@ top_app =
 abbrev pub with_chosen_commands : App → App
 with_chosen_commands app = with_chosen (with_chosen app (codes "plan")) (codes "explain")
 
--- the run, the list of sources, and the commands on versions and names
+-- the run, the commands on the lock alone, and those on versions and names
 abbrev pub with_first : App → App
 with_first app =
     with_one
     (with_two
     (with_one
-    (with_one
+    (with_lock
+    (with_lock
     (with_two app (codes "select") (codes "LOCK") (codes "ENV"))
-    (codes "files") (codes "LOCK"))
+    (codes "files"))
+    (codes "audit"))
     (codes "version") (codes "TEXT"))
     (codes "match") (codes "SET") (codes "VERSION"))
     (codes "name") (codes "TEXT")
@@ -95,10 +107,11 @@ paths lock env = (codes "LOCK", lock) ∷ (codes "ENV", env) ∷ []
 -- the subcommand of a task, and the texts of its arguments by name
 abbrev pub call_of : Task → Option (Text × List (Text × Text))
 call_of Bare = None
-call_of (Plan lock env choices) = Some (codes "plan", paths lock.now env.now)
-call_of (Explain lock env choices) = Some (codes "explain", paths lock.now env.now)
+call_of (Plan lock env choices form) = Some (codes "plan", paths lock.now env.now)
+call_of (Explain lock env choices form) = Some (codes "explain", paths lock.now env.now)
 call_of (Select lock env) = Some (codes "select", paths lock.now env.now)
-call_of (Files lock) = Some (codes "files", (codes "LOCK", lock.now) ∷ [])
+call_of (Files lock form) = Some (codes "files", (codes "LOCK", lock.now) ∷ [])
+call_of (Audit lock form) = Some (codes "audit", (codes "LOCK", lock.now) ∷ [])
 call_of (Version text) = Some (codes "version", (codes "TEXT", text.now) ∷ [])
 call_of (Match set version) =
     Some (codes "match", (codes "SET", set.now) ∷ (codes "VERSION", version.now) ∷ [])
@@ -117,12 +130,20 @@ IsCall found (Some call) = HasTexts found call.0 call.1
 abbrev pub HasChoices : Option (Text × List Row) → List Choice → Type 0
 HasChoices found choices = IfSome found (λ p. AreChoices p.1 choices)
 
+-- this is the form that the words of the subcommand ask for
+abbrev pub HasForm : Option (Text × List Row) → Form → Type 0
+HasForm found form = IfSome found (λ p. form ≡ form_of p.1)
+
 -- the task that the words give
 abbrev pub IsTask : Option (Text × List Row) → Task → Type 0
-IsTask found (Plan lock env choices) =
-    IsCall found (call_of (Plan lock env choices)) × HasChoices found choices.items
-IsTask found (Explain lock env choices) =
-    IsCall found (call_of (Explain lock env choices)) × HasChoices found choices.items
+IsTask found (Plan lock env choices form) =
+    IsCall found (call_of (Plan lock env choices form)) × HasChoices found choices.items
+    × HasForm found form
+IsTask found (Explain lock env choices form) =
+    IsCall found (call_of (Explain lock env choices form)) × HasChoices found choices.items
+    × HasForm found form
+IsTask found (Files lock form) = IsCall found (call_of (Files lock form)) × HasForm found form
+IsTask found (Audit lock form) = IsCall found (call_of (Audit lock form)) × HasForm found form
 IsTask found task = IsCall found (call_of task)
 
 -- an argument has no text
@@ -133,11 +154,12 @@ lacks rows id = not (is_some (first_of id rows))
 abbrev pub lacks_path : List Row → Bool
 lacks_path rows = lacks rows (codes "LOCK") || lacks rows (codes "ENV")
 
--- a subcommand that takes texts alone lacks one, or it is none of the program's
+-- a subcommand without `plan`'s options lacks a text, or it is none of the program's
 abbrev pub lacks_plain_text : Text → List Row → Bool
 lacks_plain_text name rows =
     if bytes_eq name (codes "select") then lacks_path rows
     else if bytes_eq name (codes "files") then lacks rows (codes "LOCK")
+    else if bytes_eq name (codes "audit") then lacks rows (codes "LOCK")
     else if bytes_eq name (codes "version") then lacks rows (codes "TEXT")
     else if bytes_eq name (codes "match")
     then lacks rows (codes "SET") || lacks rows (codes "VERSION")

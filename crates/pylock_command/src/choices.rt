@@ -111,7 +111,7 @@ fn with_other_options<'a>(alloc: Global, command: Command<'a>) -> Result<Command
 }
 
 /// The command with one more option, which takes no text.
-fn with_flag<'a>(
+pub(crate) fn with_flag<'a>(
     alloc: Global,
     command: Command<'a>,
     name: &'static str,
@@ -250,7 +250,7 @@ fn push_flag<'a>(
 }
 
 /// Whether the words have an option without a text.
-fn has_flag(found: &ArgMatches<'_>, name: &str) -> bool
+pub(crate) fn has_flag(found: &ArgMatches<'_>, name: &str) -> bool
     ensures { result ≡ has_flag name.now (rows_of (found_of found.now)) }
 {
     match found.get_str(name) {

@@ -7,13 +7,16 @@ ghost use Rattle.clap.specs.declared.builder.command.Command.TheViews.{out-Comma
 ghost use Rattle.pylock_command.specs.Choices.{AreChoices};
 ghost use Rattle.pylock_command.specs.CommandLine.{HaveTexts, IsRefusal, IsTask, chosen_app};
 ghost use Rattle.pylock_command.specs.CommandLine.{is_lacking, lacks_path, lacks_plain_text};
-ghost use Rattle.pylock_command.specs.CommandLine.{lacks_text};
+ghost use Rattle.pylock_command.specs.CommandLine.{lacks_text, lock_app};
 ghost use Rattle.pylock_command.specs.CommandLine.{one_text, paths, place_rule, pylock_app};
 ghost use Rattle.pylock_command.specs.CommandLine.{two_texts, with_chosen, with_chosen_commands};
-ghost use Rattle.pylock_command.specs.CommandLine.{with_first, with_further, with_one, with_two};
+ghost use Rattle.pylock_command.specs.CommandLine.{with_first, with_further, with_lock};
+ghost use Rattle.pylock_command.specs.CommandLine.{with_one, with_two};
+ghost use Rattle.pylock_command.specs.Form.{form_of};
 
 use crate::choice::Choice;
 use crate::choices::{choices_of, with_choices};
+use crate::form::{Form, form_of, with_json};
 use clap::error::ErrorKind;
 use clap::{Arg, ArgMatches, Command};
 use std::alloc::{AllocError, Global};
@@ -23,14 +26,18 @@ use std::alloc::{AllocError, Global};
 pub enum Task<'a> {
     /// No subcommand.
     Bare,
-    /// `plan`, with the paths of the lock and of the environment, and its options.
-    Plan(&'a str, &'a str, Vec<Choice<'a>>),
-    /// `explain`, with the paths of the lock and of the environment, and its options.
-    Explain(&'a str, &'a str, Vec<Choice<'a>>),
+    /// `plan`, with the paths of the lock and of the environment, its options, and the form of the
+    /// answer.
+    Plan(&'a str, &'a str, Vec<Choice<'a>>, Form),
+    /// `explain`, with the paths of the lock and of the environment, its options, and the form of
+    /// the answer.
+    Explain(&'a str, &'a str, Vec<Choice<'a>>, Form),
     /// `select`, with the paths of the lock and of the environment.
     Select(&'a str, &'a str),
-    /// `files`, with the path of the lock.
-    Files(&'a str),
+    /// `files`, with the path of the lock, and the form of the answer.
+    Files(&'a str, Form),
+    /// `audit`, with the path of the lock, and the form of the answer.
+    Audit(&'a str, Form),
     /// `version`, with the text of a version.
     Version(&'a str),
     /// `match`, with the texts of a specifier set and of a version.
@@ -45,12 +52,14 @@ pub enum Task<'a> {
     Wheel(&'a str),
 }
 
-/// What `plan` and `explain` are given: the paths of lock and environment, and the options.
+/// What `plan` and `explain` are given: the paths of lock and environment, the options, and the
+/// form of the answer.
 #[derive(Drop)]
 struct Asked<'a> {
     lock: &'a str,
     env: &'a str,
     choices: Vec<Choice<'a>>,
+    form: Form,
 }
 
 /// Why there is no task.
@@ -214,6 +223,48 @@ Status: 0, the lines; 2, the lock or the command line is refused; 3, a file
 can't be read, the output failed or memory ran out.",
 };
 
+const AUDIT: Usage = Usage {
+    name: "audit",
+    about: "Print what a careful reader of a lock would want to be told",
+    reply: "\
+Prints findings K and then K lines, one for each finding, with a TAB between
+each two fields: the entry's number (0 for the lock's head), name, FINDING and
+DETAIL. An absent field is -. For example:
+  pylock audit pylock.toml
+
+FINDING is one of these:
+  lock-version       the lock's version isn't 1.0
+  unknown-key        PEP 751 doesn't name the key
+  no-packages        the key packages is absent
+  name-form          a name isn't in normal form
+  version            the version is none by PEP 440
+  marker-extra       the marker asks for extra, which no lock gives
+  undeclared-name    the marker asks for an extra or a group that the lock
+                     doesn't declare
+  no-source          an entry has no source
+  several-sources    an entry has several sources
+  no-hash            a file has no hash
+  weak-hash          md5 or sha1 are the only hashes of a file
+  odd-hash           a hash has a , or a = in it
+  bad-hash           a hash has a wrong length, or isn't hex
+  no-wheel-name      the file name of a wheel can't be read
+  other-name         a file is of another package
+  other-version      a file is of another version
+  same-file-name     two files have the same name
+  unsafe-file-name, unsafe-subdirectory
+                     a name or a path climbs out of its folder
+  not-https          a URL isn't one of https
+  credentials        a URL holds a user or a password
+  moving-commit      a commit isn't a full hash
+  control-character  a text has a control character
+
+What stands in a URL before the @ is shown as ***, and control characters as
+\\u{..}.
+
+Status: 0, nothing was found; 1, something was; 2, the lock or the command line
+is refused; 3, a file can't be read, the output failed or memory ran out.",
+};
+
 const VERSION_OF: Usage = Usage {
     name: "version",
     about: "Print the normal form of a version (PEP 440)",
@@ -312,7 +363,7 @@ const WHEEL_TEXT: Text = Text {
 };
 
 /// The command `pylock` with one more subcommand, which takes the paths of lock and environment,
-/// and the options of `plan`.
+/// the options of `plan`, and `--json`.
 fn with_chosen<'a>(
     alloc: Global,
     pylock: Command<'a>,
@@ -321,6 +372,17 @@ fn with_chosen<'a>(
     ensures { IfOk result (λ c. app_of c ≡ with_chosen (app_of pylock.entry) usage.name.now) }
 {
     pylock.subcommand(chosen(alloc, usage)?)
+}
+
+/// The command `pylock` with one more subcommand, which takes the path of the lock and `--json`.
+fn with_lock<'a>(
+    alloc: Global,
+    pylock: Command<'a>,
+    usage: Usage,
+) -> Result<Command<'a>, AllocError>
+    ensures { IfOk result (λ c. app_of c ≡ with_lock (app_of pylock.entry) usage.name.now) }
+{
+    pylock.subcommand(lock_command(alloc, usage)?)
 }
 
 /// The command `pylock` with one more subcommand, which takes one text.
@@ -350,13 +412,23 @@ fn with_two_texts<'a>(
     pylock.subcommand(two_texts(alloc, usage, first, second)?)
 }
 
-/// A subcommand that takes the paths of lock and environment, and the options of `plan`.
+/// A subcommand that takes the paths of lock and environment, the options of `plan`, and `--json`.
 fn chosen<'a>(alloc: Global, usage: Usage) -> Result<Command<'a>, AllocError>
     ensures app { IfOk result (λ c. app_of c ≡ chosen_app usage.name.now) }
     ensures local { IfOk result (λ c. (fields_of c).has_globals ≡ false) }
 {
     let command = two_texts(alloc, usage, LOCK, ENV)?;
-    with_choices(alloc, command)
+    let command = with_choices(alloc, command)?;
+    with_json(alloc, command)
+}
+
+/// A subcommand that takes the path of the lock and `--json`.
+fn lock_command<'a>(alloc: Global, usage: Usage) -> Result<Command<'a>, AllocError>
+    ensures app { IfOk result (λ c. app_of c ≡ lock_app usage.name.now) }
+    ensures local { IfOk result (λ c. (fields_of c).has_globals ≡ false) }
+{
+    let command = one_text(alloc, usage, LOCK)?;
+    with_json(alloc, command)
 }
 
 /// A subcommand that takes one text.
@@ -410,12 +482,13 @@ fn argument<'a>(alloc: Global, text: Text) -> Arg<'a>
     Arg::new(alloc, text.id).required(true).help(text.help)
 }
 
-/// Adds the run, the list of sources, and the commands on versions and names.
+/// Adds the run, the commands on the lock alone, and those on versions and names.
 fn with_first<'a>(alloc: Global, pylock: Command<'a>) -> Result<Command<'a>, AllocError>
     ensures { IfOk result (λ c. app_of c ≡ with_first (app_of pylock.entry)) }
 {
     let pylock = with_two_texts(alloc, pylock, SELECT, LOCK, ENV)?;
-    let pylock = with_one_text(alloc, pylock, FILES, LOCK)?;
+    let pylock = with_lock(alloc, pylock, FILES)?;
+    let pylock = with_lock(alloc, pylock, AUDIT)?;
     let pylock = with_one_text(alloc, pylock, VERSION_OF, VERSION_TEXT)?;
     let pylock = with_two_texts(alloc, pylock, MATCH, SET, SET_VERSION)?;
     with_one_text(alloc, pylock, NAME, NAME_TEXT)
@@ -489,7 +562,7 @@ fn plan_of<'a>(alloc: Global, found: &ArgMatches<'a>) -> Result<Option<Task<'a>>
     let Some(asked) = asked_of(alloc, found)? else {
         return Ok(None);
     };
-    Ok(Some(Task::Plan(asked.lock, asked.env, asked.choices)))
+    Ok(Some(Task::Plan(asked.lock, asked.env, asked.choices, asked.form)))
 }
 
 /// The task of `explain`: none where it lacks a path.
@@ -502,14 +575,16 @@ fn explain_of<'a>(alloc: Global, found: &ArgMatches<'a>) -> Result<Option<Task<'
     let Some(asked) = asked_of(alloc, found)? else {
         return Ok(None);
     };
-    Ok(Some(Task::Explain(asked.lock, asked.env, asked.choices)))
+    Ok(Some(Task::Explain(asked.lock, asked.env, asked.choices, asked.form)))
 }
 
-/// The paths of lock and environment, where both are there, and the options.
+/// The paths of lock and environment, where both are there, the options, and the form of the
+/// answer.
 fn asked_of<'a>(alloc: Global, found: &ArgMatches<'a>) -> Result<Option<Asked<'a>>, AllocError>
     ensures some { IfOk result (λ asked. IfSome asked (λ a.
         HaveTexts (rows_of (found_of found.now)) (paths a.lock.now a.env.now)
-        × AreChoices (rows_of (found_of found.now)) a.choices.items)) }
+        × AreChoices (rows_of (found_of found.now)) a.choices.items
+        × (a.form ≡ form_of (rows_of (found_of found.now))))) }
     ensures none { IfOk result (λ asked. IfNone asked
         (lacks_path (rows_of (found_of found.now)) ≡ true)) }
 {
@@ -517,7 +592,13 @@ fn asked_of<'a>(alloc: Global, found: &ArgMatches<'a>) -> Result<Option<Asked<'a
         return Ok(None);
     };
     let choices = choices_of(alloc, found)?;
-    Ok(Some(Asked { lock, env, choices }))
+    let form = form_of(found);
+    Ok(Some(Asked {
+        lock,
+        env,
+        choices,
+        form,
+    }))
 }
 
 /// The paths of lock and environment, where both are there.
@@ -529,7 +610,7 @@ fn paths_of<'a>(found: &ArgMatches<'a>) -> Option<(&'a str, &'a str)>
     Some((found.get_str("LOCK")?, found.get_str("ENV")?))
 }
 
-/// The task of a subcommand that takes texts alone: none where it lacks one.
+/// The task of a subcommand without the options of `plan`: none where it lacks a text.
 fn plain_task<'a>(name: &str, found: &ArgMatches<'a>) -> Option<Task<'a>>
     ensures some { IfSome result (IsTask (Some (name.now, rows_of (found_of found.now)))) }
     ensures none { IfNone result
@@ -537,7 +618,8 @@ fn plain_task<'a>(name: &str, found: &ArgMatches<'a>) -> Option<Task<'a>>
 {
     match name {
         "select" => Some(Task::Select(found.get_str("LOCK")?, found.get_str("ENV")?)),
-        "files" => Some(Task::Files(found.get_str("LOCK")?)),
+        "files" => Some(Task::Files(found.get_str("LOCK")?, form_of(found))),
+        "audit" => Some(Task::Audit(found.get_str("LOCK")?, form_of(found))),
         "version" => Some(Task::Version(found.get_str("TEXT")?)),
         "match" => Some(Task::Match(found.get_str("SET")?, found.get_str("VERSION")?)),
         "name" => Some(Task::Name(found.get_str("TEXT")?)),

@@ -4,6 +4,8 @@
 mod choice;
 mod choices;
 mod command_line;
+mod form;
 
 pub use choice::Choice;
 pub use command_line::{CommandError, Task, command};
+pub use form::Form;

@@ -79,9 +79,19 @@ returns-in_err-get_str-in-wheel-clause-none c =
     (lacks_one c.args.found.now _ c.in_err-get_str-in-wheel.ensures))
 
 pub returns-in_ok-get_str-in-files-clause-some : goal.returns-in_ok-get_str-in-files-clause-some
-returns-in_ok-get_str-in-files-clause-some c = HasTexts-one c.args.found.now _ _ c.in-files.is _ _ c.in_ok-get_str-in-files.ensures
+returns-in_ok-get_str-in-files-clause-some c =
+    (HasTexts-one c.args.found.now _ _ c.in-files.is _ _ c.in_ok-get_str-in-files.ensures, c.form_of.ensures)
 
 pub returns-in_err-get_str-in-files-clause-none : goal.returns-in_err-get_str-in-files-clause-none
 returns-in_err-get_str-in-files-clause-none c =
     rw c.from_residual-in_err-get_str-in-files.ensures (lacks_plain_text-of c.args.found.now _ _ c.in-files.is
     (lacks_one c.args.found.now _ c.in_err-get_str-in-files.ensures))
+
+pub returns-in_ok-get_str-in-audit-clause-some : goal.returns-in_ok-get_str-in-audit-clause-some
+returns-in_ok-get_str-in-audit-clause-some c =
+    (HasTexts-one c.args.found.now _ _ c.in-audit.is _ _ c.in_ok-get_str-in-audit.ensures, c.form_of-in-audit.ensures)
+
+pub returns-in_err-get_str-in-audit-clause-none : goal.returns-in_err-get_str-in-audit-clause-none
+returns-in_err-get_str-in-audit-clause-none c =
+    rw c.from_residual-in_err-get_str-in-audit.ensures (lacks_plain_text-of c.args.found.now _ _ c.in-audit.is
+    (lacks_one c.args.found.now _ c.in_err-get_str-in-audit.ensures))

@@ -1,0 +1,43 @@
+//! In which form an answer is printed, and the flag that asks for it.
+ghost use Rattle.std.specs.Prelude.{◌≡◌, false, IfOk};
+ghost use Rattle.clap.specs.Words.{app_of, found_of, rows_of};
+ghost use Rattle.clap.specs.declared.builder.command.Command.TheViews.{out-Command as fields_of};
+ghost use Rattle.pylock_command.specs.Form.{form_of, with_json};
+
+use crate::choices::{has_flag, with_flag};
+use clap::{ArgMatches, Command};
+use std::alloc::{AllocError, Global};
+
+/// In which form an answer is printed.
+#[derive(Clone, Copy, Debug, PartialEq, Eq)]
+pub enum Form {
+    /// Lines of fields.
+    Lines,
+    /// One JSON document.
+    Json,
+}
+
+/// The command, which takes the flag `--json` too.
+pub(crate) fn with_json<'a>(alloc: Global, command: Command<'a>) -> Result<Command<'a>, AllocError>
+    requires local { (fields_of command).has_globals ≡ false }
+    ensures app { IfOk result (λ c. app_of c ≡ with_json (app_of command.entry)) }
+    ensures local { IfOk result (λ c. (fields_of c).has_globals ≡ false) }
+{
+    with_flag(
+        alloc,
+        command,
+        "json",
+        "Print one JSON document in place of the lines",
+    )
+}
+
+/// The form that the words ask for.
+pub(crate) fn form_of(found: &ArgMatches<'_>) -> Form
+    ensures { result ≡ form_of (rows_of (found_of found.now)) }
+{
+    if has_flag(found, "json") {
+        Form::Json
+    } else {
+        Form::Lines
+    }
+}
