@@ -13,6 +13,7 @@ pub use head::Head;
 pub use names::HeadNames;
 use pymark_core::Marker;
 use pyver_core::SpecifierSet;
+pub use read::read_document;
 use std::marker::Model;
 
 /// How many entries a lock may have.
@@ -84,6 +85,13 @@ impl Lock {
         ensures { map string_bytes result.now ≡ self.now.head.default_groups }
     {
         self.head.default_groups().as_slice()
+    }
+
+    /// The head of the lock.
+    pub fn head(&self) -> &Head
+        ensures { result.now ≡ self.now.head }
+    {
+        &self.head
     }
 
     /// The entries of the lock, in its order.

@@ -71,6 +71,10 @@ lock_in lock = do
 abbrev pub document_of : List ℕ → Result Members LockError
 document_of text = ok_or (parse_document text) Toml
 
+-- the document that the bytes are
+abbrev pub document_in : List ℕ → Result Members LockError
+document_in bytes = ok_or (utf8_text bytes) NotText >>= document_of
+
 -- the lock that the bytes are
 unfoldable pub lock_of : List ℕ → Result LockValue LockError
-lock_of bytes = ok_or (utf8_text bytes) NotText >>= document_of >>= lock_in
+lock_of bytes = document_in bytes >>= lock_in

@@ -4,7 +4,7 @@ ghost use Rattle.toml.specs.View.{view, table_view};
 ghost use Rattle.pytext.specs.Agreement.{Gives};
 ghost use Rattle.pylock_readers.specs.Lock.Head.{created_by_in, is_lock_version};
 ghost use Rattle.pylock_readers.specs.Lock.Head.{lock_version_in};
-ghost use Rattle.pylock_readers.specs.Lock.Reading.{document_of, lock_in, lock_of};
+ghost use Rattle.pylock_readers.specs.Lock.Reading.{document_in, document_of, lock_in, lock_of};
 
 use crate::error::LockError;
 use crate::field::{or_refused, take, text};
@@ -27,10 +27,18 @@ impl Lock {
     pub fn read(alloc: Global, bytes: &[u8]) -> Result<Lock, LockError>
         ensures { Gives LockError.Memory (λ l. l) result (lock_of bytes.now) }
     {
-        let text = as_text(bytes).ok_or(LockError::NotText)?;
-        let document = document(alloc, text)?;
-        read_document(alloc, document)
+        let document = read_document(alloc, bytes)?;
+        lock_in(alloc, document)
     }
+}
+
+/// The TOML document that the bytes are, from which a lock is read; the refusals are those of a
+/// lock that come before its keys. Takes memory for the document.
+pub fn read_document(alloc: Global, bytes: &[u8]) -> Result<Table, LockError>
+    ensures { Gives LockError.Memory table_view result (document_in bytes.now) }
+{
+    let text = as_text(bytes).ok_or(LockError::NotText)?;
+    document(alloc, text)
 }
 
 fn document(alloc: Global, text: &str) -> Result<Table, LockError>
@@ -44,7 +52,7 @@ fn document(alloc: Global, text: &str) -> Result<Table, LockError>
 }
 
 #[tactic(auto, using(crate::proofs::kept), unfolding(crate::specs::Lock::Reading::lock_in))]
-fn read_document(alloc: Global, mut document: Table) -> Result<Lock, LockError>
+fn lock_in(alloc: Global, mut document: Table) -> Result<Lock, LockError>
     ensures { Gives LockError.Memory (λ l. l) result (lock_in (table_view document)) }
 {
     require_lock_version(take(&mut document, "lock-version"))?;

@@ -1,0 +1,6 @@
+pub mod FrontLemmas
+pub mod KeyLemmas
+pub mod MaskLemmas
+pub mod UnsafeLemmas
+pub mod UserLemmas
+pub mod WheelLemmas

@@ -1,0 +1,67 @@
+-- What a careful reader of a lock would want to be told, though the lock is valid: the findings of
+-- its head and of its entries, in order.
+use Rattle.std.specs.Prelude.{ℕ, ◌++◌, not, codes, suc, List, [], ◌∷◌, Option, Some, None}
+use Rattle.std.specs.Prelude.{is_none, Result, Ok}
+use Rattle.std.specs.Str.{bytes_eq}
+use Rattle.toml.specs.Data.{Data, Items, Members, array, get_member, item, no_items, no_members}
+use Rattle.toml.specs.Data.{table}
+use Rattle.pytext.specs.Results.{◌>>=◌}
+use Rattle.pylock_readers.specs.Entry.{EntryValue}
+use Rattle.pylock_readers.specs.Lock.{HeadValue, LockValue}
+use Rattle.pylock_readers.specs.Lock.Reading.{document_in, lock_in}
+use Rattle.pylock_readers.specs.declared.error.LockError.{LockError}
+use Rattle.pylock_audit.specs.Entry.{entry_findings, text_at}
+use Rattle.pylock_audit.specs.Finding.{FindingValue, FoundValue, found_at, found_each, found_where}
+use Rattle.pylock_audit.specs.Keys.{unknown_keys}
+use Rattle.pylock_audit.specs.Source.{text_where}
+use Rattle.pylock_audit.specs.declared.finding.FindingKind.TheVariants as kind
+use Rattle.pylock_audit.specs.declared.keys.Level.TheVariants as level
+
+-- ---- the head
+
+abbrev pub other_lock_version : Members → List (List ℕ)
+other_lock_version document =
+    text_where (λ version. not (bytes_eq version (codes "1.0"))) (λ version. version)
+    (text_at (codes "lock-version") document)
+
+abbrev pub head_findings : Members → List FindingValue
+head_findings document =
+    found_each kind.LockVersion (other_lock_version document)
+    ++ found_each kind.UnknownKey (unknown_keys [] level.Head document)
+    ++ found_where (is_none (get_member (codes "packages") document)) kind.NoPackages None
+
+-- ---- the entries
+
+-- the table that an entry is; each is one in a lock
+abbrev pub members_in : Data → Members
+members_in (table members) = members
+members_in d = no_members
+
+-- the findings of entries, the first of which has this number, with the tables that they are
+abbrev pub of_entries : HeadValue → ℕ → List EntryValue → Items → List FoundValue
+of_entries head number [] ds = []
+of_entries head number (entry ∷ entries) no_items = []
+of_entries head number (entry ∷ entries) (item d ds) =
+    found_at number (Some entry.name) (entry_findings head (members_in d) entry)
+    ++ of_entries head (suc number) entries ds
+
+-- the list that a key has, or none
+abbrev pub items_at : Option Data → Items
+items_at (Some (array items)) = items
+items_at field = no_items
+
+-- ---- the lock
+
+-- the findings of a document and of the lock that it is
+abbrev pub lock_findings : Members → LockValue → List FoundValue
+lock_findings document lock =
+    found_at 0 None (head_findings document)
+    ++ of_entries lock.head 1 lock.entries (items_at (get_member (codes "packages") document))
+
+abbrev pub document_findings : Members → Result (List FoundValue) LockError
+document_findings document =
+    lock_in document >>= (λ lock. Ok (lock_findings document lock))
+
+-- the findings of the lock that the bytes are, or its refusal
+unfoldable pub findings_of : List ℕ → Result (List FoundValue) LockError
+findings_of bytes = document_in bytes >>= document_findings

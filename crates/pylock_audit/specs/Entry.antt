@@ -1,0 +1,215 @@
+-- What an entry of a lock gives to each kind of finding.
+use Rattle.std.specs.Prelude.{ℕ, Bool, ◌==◌, ◌-◌, ◌&&◌, ◌||◌, ◌++◌, not, codes, false, drop}
+use Rattle.std.specs.Prelude.{List, [], ◌∷◌, length, map, Option, Some, None, is_none}
+use Rattle.std.specs.Prelude.{if◌then◌else◌, option_and_then, option_map}
+use Rattle.std.specs.List.{flat_map, list_any}
+use Rattle.std.specs.Option.{option_map_or}
+use Rattle.std.specs.Ordering.{is_eq}
+use Rattle.std.specs.Result.{is_err, result_ok}
+use Rattle.std.specs.Str.{bytes_eq}
+use Rattle.toml.specs.Data.{Members, as_str, get_member}
+use Rattle.pytext.specs.Options.{either}
+use Rattle.pyver_core.specs.Name.{is_name, norm}
+use Rattle.pyver_core.specs.Parsed.{parsed_version}
+use Rattle.pyver_core.specs.Version.Order.{version_cmp}
+use Rattle.pyver_core.specs.Version.Parts.{Parts}
+use Rattle.pymark_core.specs.Marker.Asked.{extra_asked, group_asked, has_extra}
+use Rattle.pymark_core.specs.Marker.Comparison.{ComparisonValue}
+use Rattle.pymark_core.specs.Marker.Grammar.{comparisons}
+use Rattle.pymark_core.specs.Marker.Reading.{MarkerValue}
+use Rattle.pywheel_core.specs.Wheel.Value.{WheelValue}
+use Rattle.pylock_readers.specs.Entry.{EntryValue, FileValue, file_name, wheel_name, wheel_names}
+use Rattle.pylock_readers.specs.Entry.Kinds.{has_conflict, is_any, kinds, kinds_text}
+use Rattle.pylock_readers.specs.Lock.{HeadValue}
+use Rattle.pylock_core.specs.Session.Picks.{sources}
+use Rattle.pylock_audit.specs.Finding.{FindingValue, found_each, found_where, told_where}
+use Rattle.pylock_audit.specs.Keys.{unknown_of_entry}
+use Rattle.pylock_audit.specs.Source.{over_sources, text_where}
+use Rattle.pylock_audit.specs.Unsafe.{has_control}
+use Rattle.pylock_audit.specs.declared.files.NamedWheel.{NamedWheel}
+use Rattle.pylock_audit.specs.declared.finding.FindingKind.{FindingKind}
+use Rattle.pylock_audit.specs.declared.finding.FindingKind.TheVariants as kind
+
+-- ---- names and versions
+
+-- a text that a key has
+abbrev pub text_at : List ℕ → Members → Option (List ℕ)
+text_at key members = option_and_then as_str (get_member key members)
+
+-- the name as written, where that isn't its own normal form
+abbrev pub other_form : Members → List (List ℕ)
+other_form members =
+    text_where (λ name. not (bytes_eq (norm name) name)) (λ name. name)
+    (text_at (codes "name") members)
+
+abbrev pub refused_version : EntryValue → List (List ℕ)
+refused_version entry =
+    text_where (λ version. is_err (parsed_version version)) (λ version. version) entry.version
+
+-- ---- markers
+
+-- one of the comparisons is so
+abbrev pub compares : (ComparisonValue → Bool) → Option MarkerValue → List (List ℕ)
+compares test None = []
+compares test (Some marker) =
+    told_where (list_any test (comparisons marker.tree)) marker.text
+
+-- a name is asked for that is none of these
+abbrev pub is_undeclared : List (List ℕ) → Option (List ℕ) → Bool
+is_undeclared names asked =
+    option_map_or (λ name. not (list_any (bytes_eq (norm name)) names)) asked false
+
+abbrev pub asks_undeclared : HeadValue → ComparisonValue → Bool
+asks_undeclared head c =
+    is_undeclared head.extras (extra_asked c)
+    || is_undeclared (head.groups ++ head.default_groups) (group_asked c)
+
+-- ---- file names
+
+-- what a wheel's file name says, with the wheel
+abbrev pub ReadWheel : Type 0
+ReadWheel = FileValue × Option WheelValue
+
+abbrev pub read_wheels : EntryValue → List ReadWheel
+read_wheels entry = map (λ file. (file, wheel_name file)) entry.wheels
+
+-- a wheel that is lent
+abbrev pub lent_wheel : NamedWheel → ReadWheel
+lent_wheel wheel = (wheel.file.now, option_map (λ name. name.now) wheel.name)
+
+-- a wheel that is never chosen, since its name can't be read
+abbrev pub unnamed_wheel : ReadWheel → List FindingValue
+unnamed_wheel wheel = found_where (is_none wheel.1) kind.NoWheelName (file_name wheel.0)
+
+-- the file name of a wheel whose parts a test finds
+abbrev pub wheel_where : (WheelValue → Bool) → ReadWheel → List (List ℕ)
+wheel_where test wheel =
+    option_map_or (λ parts. text_where (λ name. test parts) (λ name. name) (file_name wheel.0))
+    wheel.1 []
+
+abbrev pub is_other_name : List ℕ → WheelValue → Bool
+is_other_name name wheel = not (bytes_eq (norm wheel.name) name)
+
+-- the version that the files of an entry should have: the entry's, or where it has none that of
+-- its first wheel with a readable name
+abbrev pub first_version : List (Option WheelValue) → Option Parts
+first_version [] = None
+first_version (name ∷ names) =
+    either (option_map (λ wheel. wheel.version) name) (first_version names)
+
+abbrev pub wanted_version : EntryValue → Option Parts
+wanted_version entry =
+    option_map_or (λ version. result_ok (parsed_version version)) entry.version
+    (first_version (wheel_names entry))
+
+abbrev pub is_other_version : Option Parts → WheelValue → Bool
+is_other_version wanted wheel =
+    option_map_or (λ version. not (is_eq (version_cmp wheel.version version))) wanted false
+
+-- an sdist's file name by its ending
+abbrev pub ends : List ℕ → List ℕ → Bool
+ends ending name = bytes_eq (drop (length name - length ending) name) ending
+
+abbrev pub is_sdist_name : List ℕ → Bool
+is_sdist_name name = ends (codes ".tar.gz") name || ends (codes ".zip") name
+
+-- the text is a name whose normal form is this one
+abbrev pub is_name_of : List ℕ → List ℕ → Bool
+is_name_of name text = is_name text && bytes_eq (norm text) name
+
+-- what stands before each `-`, the text so far before all
+abbrev pub fronts_behind : List ℕ → List ℕ → List (List ℕ)
+fronts_behind front [] = []
+fronts_behind front (b ∷ rest) =
+    if b == 45 then front ∷ fronts_behind (front ++ b ∷ []) rest
+    else fronts_behind (front ++ b ∷ []) rest
+
+abbrev pub is_other_sdist : List ℕ → List ℕ → Bool
+is_other_sdist name file =
+    is_sdist_name file && not (list_any (is_name_of name) (fronts_behind [] file))
+
+abbrev pub other_sdist : EntryValue → List (List ℕ)
+other_sdist entry =
+    text_where (is_other_sdist entry.name) (λ name. name) (option_and_then file_name entry.sdist)
+
+abbrev pub other_names : EntryValue → List (List ℕ)
+other_names entry =
+    flat_map (wheel_where (is_other_name entry.name)) (read_wheels entry) ++ other_sdist entry
+
+abbrev pub other_versions : EntryValue → List (List ℕ)
+other_versions entry =
+    flat_map (wheel_where (is_other_version (wanted_version entry))) (read_wheels entry)
+
+-- a file name beside others
+abbrev pub with_name : Option (List ℕ) → List (List ℕ) → List (List ℕ)
+with_name None names = names
+with_name (Some name) names = names ++ name ∷ []
+
+abbrev pub with_names : List FileValue → List (List ℕ) → List (List ℕ)
+with_names [] names = names
+with_names (file ∷ files) names = with_names files (with_name (file_name file) names)
+
+-- the file names of these files that an earlier one has
+abbrev pub same_names : List (List ℕ) → List FileValue → List (List ℕ)
+same_names earlier [] = []
+same_names earlier (file ∷ files) =
+    text_where (λ name. list_any (bytes_eq name) earlier) (λ name. name) (file_name file)
+    ++ same_names (with_name (file_name file) earlier) files
+
+-- of the wheels, and then of the sdist
+abbrev pub same_file_names : EntryValue → List (List ℕ)
+same_file_names entry =
+    same_names [] entry.wheels
+    ++ text_where (λ name. list_any (bytes_eq name) (with_names entry.wheels [])) (λ name. name)
+    (option_and_then file_name entry.sdist)
+
+-- ---- all of an entry
+
+abbrev pub of_names : Members → EntryValue → List FindingValue
+of_names members entry =
+    found_each kind.UnknownKey (unknown_of_entry members)
+    ++ found_each kind.NameForm (other_form members)
+    ++ found_each kind.Version (refused_version entry)
+
+abbrev pub of_marker : HeadValue → EntryValue → List FindingValue
+of_marker head entry =
+    found_each kind.MarkerExtra (compares has_extra entry.marker)
+    ++ found_each kind.UndeclaredName (compares (asks_undeclared head) entry.marker)
+
+abbrev pub of_kinds : EntryValue → List FindingValue
+of_kinds entry =
+    found_where (not (is_any (kinds entry))) kind.NoSource None
+    ++ found_where (has_conflict entry) kind.SeveralSources (Some (kinds_text entry))
+
+-- what each source gives to a kind
+abbrev pub over : FindingKind → EntryValue → List FindingValue
+over kind entry = found_each kind (over_sources kind (sources entry))
+
+abbrev pub of_hashes : EntryValue → List FindingValue
+of_hashes entry =
+    over kind.NoHash entry ++ over kind.WeakHash entry ++ over kind.OddHash entry
+    ++ over kind.BadHash entry
+
+abbrev pub of_file_names : EntryValue → List FindingValue
+of_file_names entry =
+    flat_map unnamed_wheel (read_wheels entry)
+    ++ found_each kind.OtherName (other_names entry)
+    ++ found_each kind.OtherVersion (other_versions entry)
+    ++ found_each kind.SameFileName (same_file_names entry)
+
+abbrev pub of_sources : EntryValue → List FindingValue
+of_sources entry =
+    over kind.UnsafeFileName entry ++ over kind.UnsafeSubdirectory entry
+    ++ over kind.NotHttps entry ++ over kind.Credentials entry ++ over kind.MovingCommit entry
+
+-- the version first, and then each source
+abbrev pub of_controls : EntryValue → List FindingValue
+of_controls entry =
+    found_each kind.ControlCharacter
+    (text_where has_control (λ version. codes "version " ++ version) entry.version)
+    ++ over kind.ControlCharacter entry
+
+abbrev pub entry_findings : HeadValue → Members → EntryValue → List FindingValue
+entry_findings head members entry =
+    of_names members entry ++ of_marker head entry ++ of_kinds entry ++ of_hashes entry
+    ++ of_file_names entry ++ of_sources entry ++ of_controls entry

@@ -1,0 +1,31 @@
+-- What a careful reader of a lock would want to be told: a kind of finding, and what it names.
+use Rattle.std.specs.Prelude.{ℕ, Bool, List, [], ◌∷◌, map, Option, Some, if◌then◌else◌}
+use Rattle.pylock_audit.specs.declared.finding.FindingKind.{FindingKind}
+
+pub record FindingValue : Type 0 where
+  pub kind : FindingKind
+  pub detail : Option (List ℕ)
+
+abbrev pub finding_of : FindingKind → Option (List ℕ) → FindingValue
+finding_of kind detail = record { kind = kind; detail = detail }
+
+-- a text where it counts
+abbrev pub told_where : Bool → List ℕ → List (List ℕ)
+told_where counts text = if counts then text ∷ [] else []
+
+-- one finding where it stands, and one for each of these
+abbrev pub found_where : Bool → FindingKind → Option (List ℕ) → List FindingValue
+found_where stands kind detail = if stands then finding_of kind detail ∷ [] else []
+
+abbrev pub found_each : FindingKind → List (List ℕ) → List FindingValue
+found_each kind details = map (λ detail. finding_of kind (Some detail)) details
+
+-- a finding of the head, which has the number 0 and no name, or of an entry
+pub record FoundValue : Type 0 where
+  pub number : ℕ
+  pub name : Option (List ℕ)
+  pub finding : FindingValue
+
+abbrev pub found_at : ℕ → Option (List ℕ) → List FindingValue → List FoundValue
+found_at number name findings =
+    map (λ finding. record { number = number; name = name; finding = finding }) findings

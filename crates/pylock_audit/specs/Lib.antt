@@ -1,0 +1,10 @@
+pub mod Audit
+pub mod Entry
+pub mod Finding
+pub mod Hash
+pub mod Inner
+pub mod Keys
+pub mod Source
+pub mod Unsafe
+pub mod Url
+pub mod Words

@@ -1,0 +1,50 @@
+-- Texts that do harm where they are used as they stand: names and paths that leave their folder, and
+-- control characters.
+use Rattle.std.specs.Prelude.{ℕ, Bool, true, false, ◌==◌, ◌&&◌, ◌||◌, codes, List, [], ◌∷◌}
+use Rattle.std.specs.Prelude.{drop, take, Option, Some, None, slice_get}
+use Rattle.std.specs.List.{list_any}
+use Rattle.std.specs.Str.{bytes_eq, chars}
+use Rattle.pylock_messages.specs.Visible.{is_control}
+use Rattle.pylock_readers.specs.Entry.FileName.{ends_segment}
+
+abbrev pub has_control : List ℕ → Bool
+has_control text = list_any is_control (chars text)
+
+-- a file name that names no file of its folder
+abbrev pub is_unsafe_name : List ℕ → Bool
+is_unsafe_name name =
+    list_any ends_segment name || has_control name
+    || bytes_eq name (codes ".") || bytes_eq name (codes "..")
+
+-- a piece ends here
+abbrev pub ends_piece : List ℕ → Bool
+ends_piece [] = true
+ends_piece (b ∷ rest) = ends_segment b
+
+-- the first piece is `..`
+abbrev pub begins_with_parent : List ℕ → Bool
+begins_with_parent text = bytes_eq (take 2 text) (codes "..") && ends_piece (drop 2 text)
+
+-- a later piece is `..`
+abbrev pub has_later_parent : List ℕ → Bool
+has_later_parent [] = false
+has_later_parent (b ∷ rest) =
+    (ends_segment b && begins_with_parent rest) || has_later_parent rest
+
+abbrev pub begins_with_root : List ℕ → Bool
+begins_with_root [] = false
+begins_with_root (b ∷ rest) = ends_segment b
+
+-- the second character is `:`, as behind a drive's letter
+abbrev pub is_colon : Option ℕ → Bool
+is_colon None = false
+is_colon (Some c) = c == 58
+
+abbrev pub has_drive : List ℕ → Bool
+has_drive text = is_colon (slice_get (chars text) 1)
+
+-- a path that leaves the folder that it begins in
+abbrev pub is_unsafe_path : List ℕ → Bool
+is_unsafe_path text =
+    begins_with_root text || has_drive text
+    || begins_with_parent text || has_later_parent text

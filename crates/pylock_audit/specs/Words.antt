@@ -1,0 +1,29 @@
+-- The kinds of findings, as they are printed.
+use Rattle.std.specs.Prelude.{ℕ, List, codes}
+use Rattle.pylock_audit.specs.declared.finding.FindingKind.{FindingKind}
+use Rattle.pylock_audit.specs.declared.finding.FindingKind.TheVariants as kind
+
+abbrev pub finding_word : FindingKind → List ℕ
+finding_word kind.LockVersion = codes "lock-version"
+finding_word kind.UnknownKey = codes "unknown-key"
+finding_word kind.NoPackages = codes "no-packages"
+finding_word kind.NameForm = codes "name-form"
+finding_word kind.Version = codes "version"
+finding_word kind.MarkerExtra = codes "marker-extra"
+finding_word kind.UndeclaredName = codes "undeclared-name"
+finding_word kind.NoSource = codes "no-source"
+finding_word kind.SeveralSources = codes "several-sources"
+finding_word kind.NoHash = codes "no-hash"
+finding_word kind.WeakHash = codes "weak-hash"
+finding_word kind.OddHash = codes "odd-hash"
+finding_word kind.BadHash = codes "bad-hash"
+finding_word kind.NoWheelName = codes "no-wheel-name"
+finding_word kind.OtherName = codes "other-name"
+finding_word kind.OtherVersion = codes "other-version"
+finding_word kind.SameFileName = codes "same-file-name"
+finding_word kind.UnsafeFileName = codes "unsafe-file-name"
+finding_word kind.UnsafeSubdirectory = codes "unsafe-subdirectory"
+finding_word kind.NotHttps = codes "not-https"
+finding_word kind.Credentials = codes "credentials"
+finding_word kind.MovingCommit = codes "moving-commit"
+finding_word kind.ControlCharacter = codes "control-character"

@@ -1,0 +1,214 @@
+//! What an entry of a lock gives to each kind of finding.
+
+ghost use Rattle.std.specs.Prelude.{◌≡◌, ◌++◌, IfOk, OnOk, codes, map, option_and_then};
+ghost use Rattle.std.specs.Prelude.{option_map, string_bytes};
+ghost use Rattle.std.specs.Option.{option_copied};
+ghost use Rattle.std.specs.Result.{is_err};
+ghost use Rattle.toml.specs.Data.{as_str, get_member};
+ghost use Rattle.toml.specs.View.{table_view};
+ghost use Rattle.pyver_core.specs.Parsed.{parsed_version};
+ghost use Rattle.pylock_core.specs.Session.Picks.{lent_named, sources};
+ghost use Rattle.pylock_audit.specs.Entry.{entry_findings, of_controls, of_hashes, of_kinds};
+ghost use Rattle.pylock_audit.specs.Entry.{of_marker, of_names, of_sources, other_form};
+ghost use Rattle.pylock_audit.specs.Entry.{refused_version, text_at};
+ghost use Rattle.pylock_audit.specs.Finding.{found_each};
+ghost use Rattle.pylock_audit.specs.Source.{over_sources, text_where};
+ghost use Rattle.pylock_audit.specs.Unsafe.{has_control};
+
+use crate::files::push_file_names;
+use crate::finding::{Finding, FindingKind, push_each, push_where, told_where};
+use crate::keys::{field, joined, unknown_of_entry};
+use crate::marker::{with_extra, with_undeclared};
+use crate::source::over_sources;
+use crate::unsafe_text::has_control;
+use pylock_core::{Entry, Head, NamedSource, sources};
+use pyver_core::{Version, VersionError, normal_name};
+use std::alloc::{AllocError, Global};
+use toml::Table;
+
+/// The findings of an entry, with the table that it is.
+pub(crate) fn entry_findings(
+    alloc: Global,
+    head: &Head,
+    table: &Table,
+    entry: &Entry,
+) -> Result<Vec<Finding>, AllocError>
+    ensures { IfOk result (λ findings. findings.items
+        ≡ entry_findings head.now (table_view table.now) entry.now) }
+{
+    let mut findings = Vec::new(alloc);
+    let list = sources(alloc, entry)?;
+    push_names(alloc, &mut findings, table, entry)?;
+    push_marker(alloc, &mut findings, head, entry)?;
+    push_kinds(alloc, &mut findings, entry)?;
+    push_hashes(alloc, &mut findings, list.as_slice(), entry)?;
+    push_file_names(alloc, &mut findings, entry)?;
+    push_sources(alloc, &mut findings, list.as_slice(), entry)?;
+    push_controls(alloc, &mut findings, list.as_slice(), entry)?;
+    Ok(findings)
+}
+
+/// Adds what its keys, its name and its version give.
+fn push_names(
+    alloc: Global,
+    findings: &mut Vec<Finding>,
+    table: &Table,
+    entry: &Entry,
+) -> Result<(), AllocError>
+    ensures { OnOk result (findings.new.items
+        ≡ findings.old.items ++ of_names (table_view table.now) entry.now) }
+{
+    push_each(
+        findings,
+        FindingKind::UnknownKey,
+        unknown_of_entry(alloc, table)?,
+    )?;
+    push_each(findings, FindingKind::NameForm, other_form(alloc, table)?)?;
+    push_each(
+        findings,
+        FindingKind::Version,
+        refused_version(alloc, entry)?,
+    )
+}
+
+/// The text of a key, where it is one.
+pub(crate) fn text_at<'a>(table: &'a Table, key: &str) -> Option<&'a str>
+    ensures { option_copied result ≡ text_at key.now (table_view table.now) }
+{
+    field(table, key)?.as_str()
+}
+
+/// The name as written, where that isn't its own normal form.
+fn other_form(alloc: Global, table: &Table) -> Result<Vec<String>, AllocError>
+    ensures { IfOk result (λ list. map string_bytes list.items
+        ≡ other_form (table_view table.now)) }
+{
+    let Some(name) = text_at(table, "name") else {
+        return Ok(Vec::new(alloc));
+    };
+    let normal = normal_name(alloc, name)?;
+    told_where(alloc, normal.as_str() != name, name)
+}
+
+/// The version, where it is none.
+fn refused_version(alloc: Global, entry: &Entry) -> Result<Vec<String>, AllocError>
+    ensures { IfOk result (λ list. map string_bytes list.items ≡ refused_version entry.now) }
+{
+    let Some(version) = entry.version() else {
+        return Ok(Vec::new(alloc));
+    };
+    told_where(alloc, is_refused(alloc, version)?, version)
+}
+
+fn is_refused(alloc: Global, version: &str) -> Result<bool, AllocError>
+    ensures { IfOk result (λ refused. refused ≡ is_err (parsed_version version.now)) }
+{
+    match Version::parse(alloc, version) {
+        Ok(_) => Ok(false),
+        Err(VersionError::Memory) => Err(AllocError),
+        Err(_) => Ok(true),
+    }
+}
+
+/// Adds what its marker gives.
+fn push_marker(
+    alloc: Global,
+    findings: &mut Vec<Finding>,
+    head: &Head,
+    entry: &Entry,
+) -> Result<(), AllocError>
+    ensures { OnOk result (findings.new.items
+        ≡ findings.old.items ++ of_marker head.now entry.now) }
+{
+    let texts = with_extra(alloc, entry.marker())?;
+    push_each(findings, FindingKind::MarkerExtra, texts)?;
+    let texts = with_undeclared(alloc, head, entry.marker())?;
+    push_each(findings, FindingKind::UndeclaredName, texts)
+}
+
+/// Adds what the kinds of its sources give.
+fn push_kinds(alloc: Global, findings: &mut Vec<Finding>, entry: &Entry) -> Result<(), AllocError>
+    ensures { OnOk result (findings.new.items ≡ findings.old.items ++ of_kinds entry.now) }
+{
+    push_where(findings, !entry.has_source(), FindingKind::NoSource, None)?;
+    if entry.has_conflict() {
+        let kinds = entry.kinds_text(alloc)?;
+        push_where(findings, true, FindingKind::SeveralSources, Some(kinds))?;
+    }
+    Ok(())
+}
+
+/// Adds what each of the sources gives to a kind of finding.
+fn push_over(
+    alloc: Global,
+    findings: &mut Vec<Finding>,
+    kind: FindingKind,
+    sources: &[NamedSource<'_>],
+) -> Result<(), AllocError>
+    ensures { OnOk result (findings.new.items ≡ findings.old.items
+        ++ found_each kind (over_sources kind (map lent_named sources.now))) }
+{
+    push_each(findings, kind, over_sources(alloc, kind, sources)?)
+}
+
+/// Adds what the hashes of its sources give.
+fn push_hashes(
+    alloc: Global,
+    findings: &mut Vec<Finding>,
+    list: &[NamedSource<'_>],
+    entry: &Entry,
+) -> Result<(), AllocError>
+    requires { map lent_named list.now ≡ sources entry.now }
+    ensures { OnOk result (findings.new.items ≡ findings.old.items ++ of_hashes entry.now) }
+{
+    push_over(alloc, findings, FindingKind::NoHash, list)?;
+    push_over(alloc, findings, FindingKind::WeakHash, list)?;
+    push_over(alloc, findings, FindingKind::OddHash, list)?;
+    push_over(alloc, findings, FindingKind::BadHash, list)
+}
+
+/// Adds what its sources give by their names, paths, URLs and commits.
+fn push_sources(
+    alloc: Global,
+    findings: &mut Vec<Finding>,
+    list: &[NamedSource<'_>],
+    entry: &Entry,
+) -> Result<(), AllocError>
+    requires { map lent_named list.now ≡ sources entry.now }
+    ensures { OnOk result (findings.new.items ≡ findings.old.items ++ of_sources entry.now) }
+{
+    push_over(alloc, findings, FindingKind::UnsafeFileName, list)?;
+    push_over(alloc, findings, FindingKind::UnsafeSubdirectory, list)?;
+    push_over(alloc, findings, FindingKind::NotHttps, list)?;
+    push_over(alloc, findings, FindingKind::Credentials, list)?;
+    push_over(alloc, findings, FindingKind::MovingCommit, list)
+}
+
+/// Adds its texts that have a control character.
+fn push_controls(
+    alloc: Global,
+    findings: &mut Vec<Finding>,
+    list: &[NamedSource<'_>],
+    entry: &Entry,
+) -> Result<(), AllocError>
+    requires { map lent_named list.now ≡ sources entry.now }
+    ensures { OnOk result (findings.new.items ≡ findings.old.items ++ of_controls entry.now) }
+{
+    let versions = controlled_version(alloc, entry)?;
+    push_each(findings, FindingKind::ControlCharacter, versions)?;
+    push_over(alloc, findings, FindingKind::ControlCharacter, list)
+}
+
+fn controlled_version(alloc: Global, entry: &Entry) -> Result<Vec<String>, AllocError>
+    ensures { IfOk result (λ list. map string_bytes list.items ≡ text_where has_control
+        (λ version. codes "version " ++ version) entry.now.version) }
+{
+    let mut list = Vec::new(alloc);
+    match entry.version() {
+        Some(version) if has_control(version) => {
+            list.push(joined(alloc, "version ", version)?)?;
+        }
+        _ => {}
+    }
+    Ok(list)
+}

@@ -1,0 +1,413 @@
+//! What the file names of an entry say of the package and of each other.
+
+ghost use Rattle.std.specs.Prelude.{◌≡◌, ◌++◌, ◌∷◌, [], IfOk, OnOk, Some, map, option_and_then, option_map};
+ghost use Rattle.std.specs.Prelude.{slice_get, string_bytes, true};
+ghost use Rattle.std.specs.List.{flat_map, list_any};
+ghost use Rattle.std.specs.Option.{option_copied, option_map_or};
+ghost use Rattle.std.specs.Str.{bytes_eq};
+ghost use Rattle.pywheel_core.specs.Texts.{cut_at};
+ghost use Rattle.pylock_readers.specs.Entry.{file_name, wheel_name};
+ghost use Rattle.pylock_audit.specs.Entry.{ends, first_version, fronts_behind, is_name_of};
+ghost use Rattle.pylock_audit.specs.Entry.{is_other_name, lent_wheel, with_name, with_names};
+ghost use Rattle.pylock_audit.specs.Entry.{is_other_sdist, is_other_version, is_sdist_name};
+ghost use Rattle.pylock_audit.specs.Entry.{read_wheels, of_file_names, other_names, other_sdist};
+ghost use Rattle.pylock_audit.specs.Entry.{other_versions, same_file_names, same_names, unnamed_wheel};
+ghost use Rattle.pylock_audit.specs.Entry.{wanted_version, wheel_where};
+ghost use Rattle.pylock_audit.specs.Source.{text_where};
+
+use crate::finding::{Finding, FindingKind, push_each, push_where};
+use pylock_core::{DistributionFile, Entry, WheelFile};
+use pyver_core::{Version, VersionError, is_name, normal_name};
+use pywheel_core::WheelName;
+use std::alloc::{AllocError, Global};
+
+/// A wheel, with what its file name says; nothing where that is absent or refused.
+#[derive(Clone, Copy)]
+struct NamedWheel<'a> {
+    file: &'a WheelFile,
+    name: Option<&'a WheelName>,
+}
+
+/// Adds what the file names of an entry give to a kind of finding.
+pub(crate) fn push_file_names(
+    alloc: Global,
+    findings: &mut Vec<Finding>,
+    entry: &Entry,
+) -> Result<(), AllocError>
+    ensures { OnOk result (findings.new.items ≡ findings.old.items ++ of_file_names entry.now) }
+{
+    let wheels = named_wheels(alloc, entry)?;
+    push_unnamed(alloc, findings, wheels.as_slice())?;
+    let names = other_names(alloc, entry, wheels.as_slice())?;
+    push_each(findings, FindingKind::OtherName, names)?;
+    let names = other_versions(alloc, entry, wheels.as_slice())?;
+    push_each(findings, FindingKind::OtherVersion, names)?;
+    let names = same_names(alloc, entry)?;
+    push_each(findings, FindingKind::SameFileName, names)
+}
+
+/// The wheels of an entry, each with what its file name says.
+fn named_wheels<'a>(alloc: Global, entry: &'a Entry) -> Result<Vec<NamedWheel<'a>>, AllocError>
+    ensures { IfOk result (λ list. map lent_wheel list.items ≡ read_wheels entry.now) }
+{
+    let mut list = Vec::with_capacity(alloc, entry.wheels().len())?;
+    for (place, file) in entry.wheels().iter().enumerate() {
+        list.push(named_wheel(entry, place, file))?;
+    }
+    Ok(list)
+}
+
+/// The wheel at this place.
+fn named_wheel<'a>(entry: &'a Entry, place: usize, file: &'a WheelFile) -> NamedWheel<'a>
+    requires { slice_get entry.now.wheels place ≡ Some file.now }
+    ensures { lent_wheel result ≡ (file.now, wheel_name file.now) }
+{
+    let name = name_at(entry, place);
+    NamedWheel { file, name }
+}
+
+/// What the file name of the wheel at this place says.
+#[tactic(auto, using(crate::proofs::WheelLemmas::read_at))]
+fn name_at(entry: &Entry, place: usize) -> Option<&WheelName>
+    ensures { option_copied result
+        ≡ option_and_then wheel_name (slice_get entry.now.wheels place) }
+{
+    entry.wheel_names().get(place)?.as_ref()
+}
+
+// ---- names that can't be read
+
+/// Adds the wheels that are never chosen, since their name can't be read.
+fn push_unnamed(
+    alloc: Global,
+    findings: &mut Vec<Finding>,
+    wheels: &[NamedWheel<'_>],
+) -> Result<(), AllocError>
+    ensures { OnOk result (findings.new.items ≡ findings.old.items
+        ++ flat_map unnamed_wheel (map lent_wheel wheels.now)) }
+{
+    for wheel in wheels {
+        push_unnamed_wheel(alloc, findings, *wheel)?;
+    }
+    Ok(())
+}
+
+fn push_unnamed_wheel(
+    alloc: Global,
+    findings: &mut Vec<Finding>,
+    wheel: NamedWheel<'_>,
+) -> Result<(), AllocError>
+    ensures { OnOk result (findings.new.items
+        ≡ findings.old.items ++ unnamed_wheel (lent_wheel wheel.entry)) }
+{
+    if wheel.name.is_some() {
+        return Ok(());
+    }
+    let name = owned(alloc, wheel.file.file_name())?;
+    push_where(findings, true, FindingKind::NoWheelName, name)
+}
+
+fn owned(alloc: Global, text: Option<&str>) -> Result<Option<String>, AllocError>
+    ensures { IfOk result (λ owned. option_map string_bytes owned ≡ option_copied text.entry) }
+{
+    match text {
+        Some(text) => Ok(Some(String::from_str(alloc, text)?)),
+        None => Ok(None),
+    }
+}
+
+// ---- other packages
+
+/// The file names of another package.
+fn other_names(
+    alloc: Global,
+    entry: &Entry,
+    wheels: &[NamedWheel<'_>],
+) -> Result<Vec<String>, AllocError>
+    requires { map lent_wheel wheels.now ≡ read_wheels entry.now }
+    ensures { IfOk result (λ list. map string_bytes list.items ≡ other_names entry.now) }
+{
+    let mut list = wheels_of_others(alloc, entry.name(), wheels)?;
+    if let Some(name) = sdist_of_another(alloc, entry)? {
+        list.push(name)?;
+    }
+    Ok(list)
+}
+
+/// The file names of wheels that are of another package than this one.
+fn wheels_of_others(
+    alloc: Global,
+    name: &str,
+    wheels: &[NamedWheel<'_>],
+) -> Result<Vec<String>, AllocError>
+    ensures { IfOk result (λ list. map string_bytes list.items
+        ≡ flat_map (wheel_where (is_other_name name.now)) (map lent_wheel wheels.now)) }
+{
+    let mut list = Vec::new(alloc);
+    for wheel in wheels {
+        push_other_wheel(alloc, &mut list, name, *wheel)?;
+    }
+    Ok(list)
+}
+
+fn push_other_wheel(
+    alloc: Global,
+    list: &mut Vec<String>,
+    name: &str,
+    wheel: NamedWheel<'_>,
+) -> Result<(), AllocError>
+    ensures { OnOk result (map string_bytes list.new.items ≡ map string_bytes list.old.items
+        ++ wheel_where (is_other_name name.now) (lent_wheel wheel.entry)) }
+{
+    let Some(parts) = wheel.name else {
+        return Ok(());
+    };
+    if is_other_name(alloc, name, parts)? {
+        push_file_name(alloc, list, wheel.file)?;
+    }
+    Ok(())
+}
+
+fn is_other_name(alloc: Global, name: &str, wheel: &WheelName) -> Result<bool, AllocError>
+    ensures { IfOk result (λ other. other ≡ is_other_name name.now wheel.now) }
+{
+    Ok(normal_name(alloc, wheel.name())?.as_str() != name)
+}
+
+/// Adds the file name of a file, where it has one.
+fn push_file_name(
+    alloc: Global,
+    list: &mut Vec<String>,
+    file: &DistributionFile,
+) -> Result<(), AllocError>
+    ensures { OnOk result (map string_bytes list.new.items ≡ map string_bytes list.old.items
+        ++ text_where (λ name. true) (λ name. name) (file_name file.now)) }
+{
+    if let Some(name) = file.file_name() {
+        list.push(String::from_str(alloc, name)?)?;
+    }
+    Ok(())
+}
+
+/// The file name of the sdist, where that is of another package.
+fn sdist_of_another(alloc: Global, entry: &Entry) -> Result<Option<String>, AllocError>
+    ensures { IfOk result (λ name. option_map_or (λ name. name ∷ []) (option_map string_bytes name) []
+        ≡ other_sdist entry.now) }
+{
+    let Some(name) = sdist_file_name(entry) else {
+        return Ok(None);
+    };
+    if is_other_sdist(alloc, entry.name(), name)? {
+        return Ok(Some(String::from_str(alloc, name)?));
+    }
+    Ok(None)
+}
+
+fn sdist_file_name(entry: &Entry) -> Option<&str>
+    ensures { option_copied result ≡ option_and_then file_name entry.now.sdist }
+{
+    entry.sdist()?.file_name()
+}
+
+fn is_other_sdist(alloc: Global, name: &str, file: &str) -> Result<bool, AllocError>
+    ensures { IfOk result (λ other. other ≡ is_other_sdist name.now file.now) }
+{
+    Ok(is_sdist_name(file) && !has_front_of(alloc, name, file)?)
+}
+
+fn is_sdist_name(file: &str) -> bool
+    ensures { result ≡ is_sdist_name file.now }
+{
+    ends(b".tar.gz", file.as_bytes()) || ends(b".zip", file.as_bytes())
+}
+
+/// Whether the text ends so.
+fn ends(ending: &[u8], text: &[u8]) -> bool
+    ensures { result ≡ ends ending.now text.now }
+{
+    text.ends_with(ending)
+}
+
+/// Whether some `-` has a name before it whose normal form is this one.
+fn has_front_of(alloc: Global, name: &str, file: &str) -> Result<bool, AllocError>
+    ensures { IfOk result (λ found. found
+        ≡ list_any (is_name_of name.now) (fronts_behind [] file.now)) }
+{
+    let mut front = String::new(alloc);
+    let mut left = file;
+    while let Some((piece, rest)) = around_dash(left) {
+        front.push_str(piece)?;
+        if is_name_of(alloc, name, front.as_str())? {
+            return Ok(true);
+        }
+        front.push_str("-")?;
+        left = rest;
+    }
+    Ok(false)
+}
+
+/// What stands before and behind the first `-`.
+fn around_dash(text: &str) -> Option<(&str, &str)>
+    ensures { option_map (λ cut. (cut.0.now, cut.1.now)) result ≡ cut_at 45 text.now }
+{
+    text.split_once('-')
+}
+
+/// Whether the text is a name whose normal form is this one.
+fn is_name_of(alloc: Global, name: &str, text: &str) -> Result<bool, AllocError>
+    ensures { IfOk result (λ is. is ≡ is_name_of name.now text.now) }
+{
+    Ok(is_name(text) && normal_name(alloc, text)?.as_str() == name)
+}
+
+// ---- other versions
+
+/// The file names of wheels of another version than the entry should have.
+fn other_versions(
+    alloc: Global,
+    entry: &Entry,
+    wheels: &[NamedWheel<'_>],
+) -> Result<Vec<String>, AllocError>
+    requires { map lent_wheel wheels.now ≡ read_wheels entry.now }
+    ensures { IfOk result (λ list. map string_bytes list.items ≡ other_versions entry.now) }
+{
+    let wanted = wanted_version(alloc, entry)?;
+    wheels_of_versions(alloc, wanted.as_ref(), wheels)
+}
+
+/// The version that the files should have: the entry's, or where it has none that of its first
+/// wheel with a readable name.
+fn wanted_version(alloc: Global, entry: &Entry) -> Result<Option<Version>, AllocError>
+    ensures { IfOk result (λ version. version ≡ wanted_version entry.now) }
+{
+    let Some(version) = entry.version() else {
+        return first_version(entry.wheel_names());
+    };
+    match Version::parse(alloc, version) {
+        Ok(version) => Ok(Some(version)),
+        Err(VersionError::Memory) => Err(AllocError),
+        Err(_) => Ok(None),
+    }
+}
+
+fn first_version(names: &[Option<WheelName>]) -> Result<Option<Version>, AllocError>
+    ensures { IfOk result (λ version. version ≡ first_version names.now) }
+{
+    for name in names {
+        if let Some(wheel) = name {
+            return Ok(Some(wheel.version().clone()?));
+        }
+    }
+    Ok(None)
+}
+
+fn wheels_of_versions(
+    alloc: Global,
+    wanted: Option<&Version>,
+    wheels: &[NamedWheel<'_>],
+) -> Result<Vec<String>, AllocError>
+    ensures { IfOk result (λ list. map string_bytes list.items
+        ≡ flat_map (wheel_where (is_other_version (option_copied wanted.entry)))
+        (map lent_wheel wheels.now)) }
+{
+    let mut list = Vec::new(alloc);
+    for wheel in wheels {
+        push_other_version(alloc, &mut list, wanted, *wheel)?;
+    }
+    Ok(list)
+}
+
+fn push_other_version(
+    alloc: Global,
+    list: &mut Vec<String>,
+    wanted: Option<&Version>,
+    wheel: NamedWheel<'_>,
+) -> Result<(), AllocError>
+    ensures { OnOk result (map string_bytes list.new.items ≡ map string_bytes list.old.items
+        ++ wheel_where (is_other_version (option_copied wanted.entry)) (lent_wheel wheel.entry)) }
+{
+    match wheel.name {
+        Some(parts) if is_other_version(wanted, parts) => push_file_name(alloc, list, wheel.file),
+        _ => Ok(()),
+    }
+}
+
+fn is_other_version(wanted: Option<&Version>, wheel: &WheelName) -> bool
+    ensures { result ≡ is_other_version (option_copied wanted.entry) wheel.now }
+{
+    match wanted {
+        Some(version) => wheel.version() != version,
+        None => false,
+    }
+}
+
+// ---- the same names
+
+/// The file names that an earlier wheel has.
+fn same_names(alloc: Global, entry: &Entry) -> Result<Vec<String>, AllocError>
+    ensures { IfOk result (λ list. map string_bytes list.items ≡ same_file_names entry.now) }
+{
+    let mut list = Vec::new(alloc);
+    let mut earlier = Vec::new(alloc);
+    push_same_names(alloc, &mut list, &mut earlier, entry.wheels())?;
+    match sdist_file_name(entry) {
+        Some(name) if is_among(earlier.as_slice(), name) => {
+            list.push(String::from_str(alloc, name)?)?;
+        }
+        _ => {}
+    }
+    Ok(list)
+}
+
+fn push_same_names<'a>(
+    alloc: Global,
+    list: &mut Vec<String>,
+    earlier: &mut Vec<&'a str>,
+    files: &'a [DistributionFile],
+) -> Result<(), AllocError>
+    ensures list { OnOk result (map string_bytes list.new.items
+        ≡ map string_bytes list.old.items
+        ++ same_names (map (λ name. name.now) earlier.old.items) files.now) }
+    ensures earlier { OnOk result (map (λ name. name.now) earlier.new.items
+        ≡ with_names files.now (map (λ name. name.now) earlier.old.items)) }
+{
+    for file in files {
+        push_same_name(alloc, list, earlier, file)?;
+    }
+    Ok(())
+}
+
+/// Adds the file name where an earlier file has it, and has it among the earlier ones.
+fn push_same_name<'a>(
+    alloc: Global,
+    list: &mut Vec<String>,
+    earlier: &mut Vec<&'a str>,
+    file: &'a DistributionFile,
+) -> Result<(), AllocError>
+    ensures list { OnOk result (map string_bytes list.new.items
+        ≡ map string_bytes list.old.items ++ text_where
+        (λ name. list_any (bytes_eq name) (map (λ name. name.now) earlier.old.items))
+        (λ name. name) (file_name file.now)) }
+    ensures earlier { OnOk result (map (λ name. name.now) earlier.new.items
+        ≡ with_name (file_name file.now) (map (λ name. name.now) earlier.old.items)) }
+{
+    let Some(name) = file.file_name() else {
+        return Ok(());
+    };
+    if is_among(earlier.as_slice(), name) {
+        list.push(String::from_str(alloc, name)?)?;
+    }
+    earlier.push(name)?;
+    Ok(())
+}
+
+fn is_among(names: &[&str], wanted: &str) -> bool
+    ensures { result ≡ list_any (bytes_eq wanted.now) (map (λ name. name.now) names.now) }
+{
+    for name in names {
+        if wanted == *name {
+            return true;
+        }
+    }
+    false
+}

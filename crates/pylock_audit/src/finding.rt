@@ -1,0 +1,269 @@
+//! What is found, and where.
+
+ghost use Rattle.std.specs.Prelude.{◌≡◌, ◌++◌, IfOk, OnOk, map, option_map, string_bytes};
+ghost use Rattle.std.specs.Option.{option_copied};
+ghost use Rattle.pylock_audit.specs.Finding.{found_at, found_each};
+ghost use Rattle.pylock_audit.specs.Finding.{found_where, told_where};
+ghost use Rattle.pylock_audit.specs.Words.{finding_word};
+
+use std::alloc::{AllocError, Global};
+use std::marker::Model;
+
+/// The kind of a finding, in the order in which those of one entry are told.
+#[derive(Clone, Copy, Debug, PartialEq, Eq)]
+pub enum FindingKind {
+    /// The `lock-version` of the head isn't `1.0`.
+    LockVersion,
+    /// A key that PEP 751 doesn't name.
+    UnknownKey,
+    /// The head has no key `packages`.
+    NoPackages,
+    /// The name isn't its own normal form (PEP 503).
+    NameForm,
+    /// The version is none (PEP 440), or has a number past the limit.
+    Version,
+    /// The marker has the operand `extra`, which has no value in a lock.
+    MarkerExtra,
+    /// The marker asks for an extra or a group that the head doesn't declare.
+    UndeclaredName,
+    /// No source stands.
+    NoSource,
+    /// Sources of more than one kind stand.
+    SeveralSources,
+    /// A file has no hash.
+    NoHash,
+    /// No hash of a file is of a strong algorithm.
+    WeakHash,
+    /// A hash has a `,` or a `=`.
+    OddHash,
+    /// The value of a hash is none of its algorithm.
+    BadHash,
+    /// A wheel's file name can't be read (PEP 427), so it is never chosen.
+    NoWheelName,
+    /// A file is of another package.
+    OtherName,
+    /// A wheel is of another version.
+    OtherVersion,
+    /// An earlier wheel has this file name too.
+    SameFileName,
+    /// A file name leaves its folder, or has a control character.
+    UnsafeFileName,
+    /// A subdirectory leaves its folder.
+    UnsafeSubdirectory,
+    /// What a URL names may be changed on the way.
+    NotHttps,
+    /// A URL names a user or a password.
+    Credentials,
+    /// A commit isn't named by its hash.
+    MovingCommit,
+    /// A text has a control character.
+    ControlCharacter,
+}
+
+impl FindingKind {
+    /// The word of the kind, as it is printed.
+    pub fn word(self) -> &'static str
+        ensures { result.now ≡ finding_word self }
+    {
+        match self {
+            FindingKind::LockVersion => "lock-version",
+            FindingKind::UnknownKey => "unknown-key",
+            FindingKind::NoPackages => "no-packages",
+            FindingKind::NameForm => "name-form",
+            FindingKind::Version => "version",
+            FindingKind::MarkerExtra => "marker-extra",
+            FindingKind::UndeclaredName => "undeclared-name",
+            FindingKind::NoSource => "no-source",
+            FindingKind::SeveralSources => "several-sources",
+            FindingKind::NoHash => "no-hash",
+            FindingKind::WeakHash => "weak-hash",
+            FindingKind::OddHash => "odd-hash",
+            FindingKind::BadHash => "bad-hash",
+            FindingKind::NoWheelName => "no-wheel-name",
+            FindingKind::OtherName => "other-name",
+            FindingKind::OtherVersion => "other-version",
+            FindingKind::SameFileName => "same-file-name",
+            FindingKind::UnsafeFileName => "unsafe-file-name",
+            FindingKind::UnsafeSubdirectory => "unsafe-subdirectory",
+            FindingKind::NotHttps => "not-https",
+            FindingKind::Credentials => "credentials",
+            FindingKind::MovingCommit => "moving-commit",
+            FindingKind::ControlCharacter => "control-character",
+        }
+    }
+}
+
+/// What is found: its kind, and what it names.
+pub struct Finding {
+    kind: FindingKind,
+    detail: Option<String>,
+}
+
+impl Model for Finding {
+    ghost use Rattle.std.specs.Prelude.{option_map, string_bytes};
+    ghost use Rattle.pylock_audit.specs.Finding.{FindingValue, finding_of};
+
+    ghost Value = { FindingValue };
+
+    ghost view = { λ f. finding_of f.kind (option_map string_bytes f.detail) };
+}
+
+impl Drop for Finding {
+    fn drop(self) {
+        let Finding { kind: _, detail: _ } = self;
+    }
+}
+
+impl Finding {
+    /// The kind.
+    pub fn kind(&self) -> FindingKind
+        ensures { result ≡ self.now.kind }
+    {
+        self.kind
+    }
+
+    /// What it names, if it names something.
+    pub fn detail(&self) -> Option<&str>
+        ensures { option_copied result ≡ self.now.detail }
+    {
+        self.detail.as_deref()
+    }
+}
+
+/// A finding, and where it is.
+pub struct Found {
+    number: usize,
+    name: Option<String>,
+    finding: Finding,
+}
+
+impl Model for Found {
+    ghost use Rattle.std.specs.Prelude.{option_map, string_bytes};
+    ghost use Rattle.pylock_audit.specs.Finding.{FoundValue};
+
+    ghost Value = { FoundValue };
+
+    ghost view = { λ f. record {
+      number = f.number;
+      name = option_map string_bytes f.name;
+      finding = f.finding;
+    } };
+}
+
+impl Drop for Found {
+    fn drop(self) {
+        let Found {
+            number: _,
+            name: _,
+            finding: _,
+        } = self;
+    }
+}
+
+impl Found {
+    /// The number of the entry, from 1; of the head it is 0.
+    pub fn number(&self) -> usize
+        ensures { result ≡ self.now.number }
+    {
+        self.number
+    }
+
+    /// The name of the entry in normal form; the head has none.
+    pub fn name(&self) -> Option<&str>
+        ensures { option_copied result ≡ self.now.name }
+    {
+        self.name.as_deref()
+    }
+
+    /// What is found.
+    pub fn finding(&self) -> &Finding
+        ensures { result.now ≡ self.now.finding }
+    {
+        &self.finding
+    }
+}
+
+/// A copy of a text, where it counts.
+pub(crate) fn told_where(alloc: Global, counts: bool, text: &str) -> Result<Vec<String>, AllocError>
+    ensures { IfOk result (λ list. map string_bytes list.items ≡ told_where counts text.now) }
+{
+    let mut list = Vec::new(alloc);
+    if counts {
+        list.push(String::from_str(alloc, text)?)?;
+    }
+    Ok(list)
+}
+
+/// Adds a finding, where it stands.
+pub(crate) fn push_where(
+    findings: &mut Vec<Finding>,
+    stands: bool,
+    kind: FindingKind,
+    detail: Option<String>,
+) -> Result<(), AllocError>
+    ensures { OnOk result (findings.new.items ≡ findings.old.items
+        ++ found_where stands kind (option_map string_bytes detail)) }
+{
+    if stands {
+        findings.push(Finding { kind, detail })?;
+    }
+    Ok(())
+}
+
+/// Adds a finding of this kind for each of these details.
+pub(crate) fn push_each(
+    findings: &mut Vec<Finding>,
+    kind: FindingKind,
+    details: Vec<String>,
+) -> Result<(), AllocError>
+    ensures { OnOk result (findings.new.items ≡ findings.old.items
+        ++ found_each kind (map string_bytes details.items)) }
+{
+    for detail in details {
+        findings.push(Finding {
+            kind,
+            detail: Some(detail),
+        })?;
+    }
+    Ok(())
+}
+
+/// Adds the findings of the head or of an entry.
+pub(crate) fn push_found(
+    alloc: Global,
+    found: &mut Vec<Found>,
+    number: usize,
+    name: Option<&str>,
+    findings: Vec<Finding>,
+) -> Result<(), AllocError>
+    ensures { OnOk result (found.new.items ≡ found.old.items
+        ++ found_at number (option_copied name.entry) findings.items) }
+{
+    for finding in findings {
+        found.push(found_in(alloc, number, name, finding)?)?;
+    }
+    Ok(())
+}
+
+fn found_in(
+    alloc: Global,
+    number: usize,
+    name: Option<&str>,
+    finding: Finding,
+) -> Result<Found, AllocError>
+    ensures { IfOk result (λ found. found ≡ record {
+      number = number;
+      name = option_copied name.entry;
+      finding = finding;
+    }) }
+{
+    let name = match name {
+        Some(name) => Some(String::from_str(alloc, name)?),
+        None => None,
+    };
+    Ok(Found {
+        number,
+        name,
+        finding,
+    })
+}

@@ -1,0 +1,436 @@
+//! What one source of an entry gives to each kind of finding.
+
+ghost use Rattle.std.specs.Prelude.{◌≡◌, ◌++◌, ◌∷◌, ◌&&◌, [], IfOk, OnOk, codes, map, not};
+ghost use Rattle.std.specs.Prelude.{option_map, string_bytes};
+ghost use Rattle.std.specs.List.{flat_map, list_all};
+ghost use Rattle.std.specs.Option.{option_copied};
+ghost use Rattle.pylock_readers.specs.Text.{text_pairs};
+ghost use Rattle.pylock_core.specs.Session.Picks.{lent_named, lent_source};
+ghost use Rattle.pylock_audit.specs.Hash.{is_bad, is_odd};
+ghost use Rattle.pylock_audit.specs.Source.{algorithms, details, file_label, has_commit_hashes};
+ghost use Rattle.pylock_audit.specs.Source.{hashes_of, is_commit_hash, is_hash_digit, is_open_url};
+ghost use Rattle.pylock_audit.specs.Source.{label, moving_commit, over_hashes, over_sources};
+ghost use Rattle.pylock_audit.specs.Source.{source_file_name, source_path, subdirectory_of};
+ghost use Rattle.pylock_audit.specs.Source.{tested_hashes, text_where, url_of, weakly_hashed};
+ghost use Rattle.pylock_audit.specs.Source.{without_hash};
+ghost use Rattle.pylock_audit.specs.Unsafe.{is_unsafe_name, is_unsafe_path};
+ghost use Rattle.pylock_audit.specs.Url.{has_credentials, shown_place, shown_url};
+
+use crate::control::push_controlled;
+use crate::finding::FindingKind;
+use crate::hash::{Hash, is_bad, is_odd, is_weak};
+use crate::keys::{joined, wheel_path};
+use crate::unsafe_text::{is_unsafe_name, is_unsafe_path};
+use crate::url::{has_credentials, is_https, is_safe_remote, shown_url};
+use pylock_core::{DistributionFile, NamedSource, PickSource, PickedSource, Vcs};
+use std::alloc::{AllocError, Global};
+
+// ---- what a source has
+
+fn url_of<'a>(source: PickedSource<'a>) -> Option<&'a str>
+    ensures { option_copied result ≡ url_of (lent_source source.entry) }
+{
+    match source {
+        PickedSource::Vcs(vcs) => vcs.url(),
+        PickedSource::Directory(_) => None,
+        PickedSource::Archive(archive) => archive.url(),
+        PickedSource::Wheel(file) | PickedSource::Sdist(file) => file.url(),
+    }
+}
+
+fn hashes_of<'a>(source: PickedSource<'a>) -> Option<&'a [Hash]>
+    ensures { option_map (λ hashes. text_pairs hashes.now) result
+        ≡ hashes_of (lent_source source.entry) }
+{
+    match source {
+        PickedSource::Vcs(_) | PickedSource::Directory(_) => None,
+        PickedSource::Archive(archive) => Some(archive.hashes()),
+        PickedSource::Wheel(file) | PickedSource::Sdist(file) => Some(file.hashes()),
+    }
+}
+
+fn source_file_name<'a>(source: PickedSource<'a>) -> Option<&'a str>
+    ensures { option_copied result ≡ source_file_name (lent_source source.entry) }
+{
+    match source {
+        PickedSource::Wheel(file) | PickedSource::Sdist(file) => file.file_name(),
+        _ => None,
+    }
+}
+
+fn subdirectory_of<'a>(source: PickedSource<'a>) -> Option<&'a str>
+    ensures { option_copied result ≡ subdirectory_of (lent_source source.entry) }
+{
+    match source {
+        PickedSource::Vcs(vcs) => vcs.subdirectory(),
+        PickedSource::Directory(directory) => directory.subdirectory(),
+        PickedSource::Archive(archive) => archive.subdirectory(),
+        PickedSource::Wheel(_) | PickedSource::Sdist(_) => None,
+    }
+}
+
+// ---- how it is named
+
+/// The place of a source: its path, else its URL as it is shown.
+fn shown_place(alloc: Global, path: Option<&str>, url: Option<&str>) -> Result<String, AllocError>
+    ensures { IfOk result (λ text. string_bytes text ≡ shown_place (record {
+      url = option_copied url.entry;
+      path = option_copied path.entry;
+    })) }
+{
+    match (path, url) {
+        (Some(path), _) => String::from_str(alloc, path),
+        (None, Some(url)) => shown_url(alloc, url),
+        (None, None) => Ok(String::new(alloc)),
+    }
+}
+
+/// The file name, or the place where it has none.
+fn file_label(alloc: Global, file: &DistributionFile) -> Result<String, AllocError>
+    ensures { IfOk result (λ text. string_bytes text ≡ file_label file.now) }
+{
+    match file.file_name() {
+        Some(name) => String::from_str(alloc, name),
+        None => shown_place(alloc, file.path(), file.url()),
+    }
+}
+
+/// A file that has hashes: its kind, and its file name or place.
+fn label(alloc: Global, source: PickedSource<'_>) -> Result<String, AllocError>
+    ensures { IfOk result (λ text. string_bytes text ≡ label (lent_source source.entry)) }
+{
+    match source {
+        PickedSource::Vcs(_) | PickedSource::Directory(_) => Ok(String::new(alloc)),
+        PickedSource::Archive(archive) => {
+            let place = shown_place(alloc, archive.path(), archive.url())?;
+            joined(alloc, "archive ", place.as_str())
+        }
+        PickedSource::Wheel(file) => joined(alloc, "wheel ", file_label(alloc, file)?.as_str()),
+        PickedSource::Sdist(file) => joined(alloc, "sdist ", file_label(alloc, file)?.as_str()),
+    }
+}
+
+/// The path of a key of the source, but for the key.
+fn source_path(alloc: Global, name: PickSource) -> Result<String, AllocError>
+    ensures { IfOk result (λ text. string_bytes text ≡ source_path name) }
+{
+    match name {
+        PickSource::Vcs => String::from_str(alloc, "vcs "),
+        PickSource::Directory => String::from_str(alloc, "directory "),
+        PickSource::Archive => String::from_str(alloc, "archive "),
+        PickSource::Wheel(place) => wheel_path(alloc, place),
+        PickSource::Sdist => String::from_str(alloc, "sdist "),
+    }
+}
+
+/// The path of a key of the source.
+pub(crate) fn key_path(alloc: Global, name: PickSource, key: &str) -> Result<String, AllocError>
+    ensures { IfOk result (λ text. string_bytes text ≡ source_path name ++ key.now) }
+{
+    let mut text = source_path(alloc, name)?;
+    text.push_str(key)?;
+    Ok(text)
+}
+
+// ---- hashes
+
+/// Adds the label of a file, a space and a text.
+fn push_labelled(
+    alloc: Global,
+    list: &mut Vec<String>,
+    source: PickedSource<'_>,
+    text: &str,
+) -> Result<(), AllocError>
+    ensures { OnOk result (map string_bytes list.new.items ≡ map string_bytes list.old.items
+        ++ (label (lent_source source.entry) ++ codes " " ++ text.now) ∷ []) }
+{
+    let mut line = label(alloc, source)?;
+    line.push_str(" ")?;
+    line.push_str(text)?;
+    list.push(line)?;
+    Ok(())
+}
+
+/// Adds a file that has no hash.
+fn push_without_hash(
+    alloc: Global,
+    list: &mut Vec<String>,
+    source: PickedSource<'_>,
+) -> Result<(), AllocError>
+    ensures { OnOk result (map string_bytes list.new.items ≡ map string_bytes list.old.items
+        ++ over_hashes (without_hash (lent_source source.entry)) (lent_source source.entry)) }
+{
+    if let Some([]) = hashes_of(source) {
+        list.push(label(alloc, source)?)?;
+    }
+    Ok(())
+}
+
+/// Adds a file that has no hash of a strong algorithm, with its algorithms.
+fn push_weakly_hashed(
+    alloc: Global,
+    list: &mut Vec<String>,
+    source: PickedSource<'_>,
+) -> Result<(), AllocError>
+    ensures { OnOk result (map string_bytes list.new.items ≡ map string_bytes list.old.items
+        ++ over_hashes (weakly_hashed (lent_source source.entry)) (lent_source source.entry)) }
+{
+    let Some(hashes) = hashes_of(source) else {
+        return Ok(());
+    };
+    if !hashes.is_empty() && is_weak(hashes) {
+        push_labelled(alloc, list, source, algorithms(alloc, hashes)?.as_str())?;
+    }
+    Ok(())
+}
+
+/// The algorithms, joined by `,`.
+fn algorithms(alloc: Global, hashes: &[Hash]) -> Result<String, AllocError>
+    ensures { IfOk result (λ text. string_bytes text ≡ algorithms (text_pairs hashes.now)) }
+{
+    let Some((first, rest)) = hashes.split_first() else {
+        return Ok(String::new(alloc));
+    };
+    let mut text = String::from_str(alloc, first.0.as_str())?;
+    push_more(&mut text, rest)?;
+    Ok(text)
+}
+
+fn push_more(text: &mut String, hashes: &[Hash]) -> Result<(), AllocError>
+    ensures { OnOk result (string_bytes text.new ≡ string_bytes text.old
+        ++ flat_map (λ hash. codes "," ++ hash.0) (text_pairs hashes.now)) }
+{
+    for hash in hashes {
+        text.push_str(",")?;
+        text.push_str(hash.0.as_str())?;
+    }
+    Ok(())
+}
+
+/// Adds the hashes that have what stands between hashes where a line shows them.
+fn push_odd_hashes(
+    alloc: Global,
+    list: &mut Vec<String>,
+    source: PickedSource<'_>,
+) -> Result<(), AllocError>
+    ensures { OnOk result (map string_bytes list.new.items ≡ map string_bytes list.old.items
+        ++ over_hashes (tested_hashes is_odd (lent_source source.entry)) (lent_source source.entry)) }
+{
+    match hashes_of(source) {
+        Some(hashes) => push_odd_of(alloc, list, source, hashes),
+        None => Ok(()),
+    }
+}
+
+fn push_odd_of(
+    alloc: Global,
+    list: &mut Vec<String>,
+    source: PickedSource<'_>,
+    hashes: &[Hash],
+) -> Result<(), AllocError>
+    ensures { OnOk result (map string_bytes list.new.items ≡ map string_bytes list.old.items
+        ++ tested_hashes is_odd (lent_source source.entry) (text_pairs hashes.now)) }
+{
+    for hash in hashes {
+        if is_odd(hash) {
+            push_labelled(alloc, list, source, hash.0.as_str())?;
+        }
+    }
+    Ok(())
+}
+
+/// Adds the hashes whose value is none of their algorithm.
+fn push_bad_hashes(
+    alloc: Global,
+    list: &mut Vec<String>,
+    source: PickedSource<'_>,
+) -> Result<(), AllocError>
+    ensures { OnOk result (map string_bytes list.new.items ≡ map string_bytes list.old.items
+        ++ over_hashes (tested_hashes is_bad (lent_source source.entry)) (lent_source source.entry)) }
+{
+    match hashes_of(source) {
+        Some(hashes) => push_bad_of(alloc, list, source, hashes),
+        None => Ok(()),
+    }
+}
+
+fn push_bad_of(
+    alloc: Global,
+    list: &mut Vec<String>,
+    source: PickedSource<'_>,
+    hashes: &[Hash],
+) -> Result<(), AllocError>
+    ensures { OnOk result (map string_bytes list.new.items ≡ map string_bytes list.old.items
+        ++ tested_hashes is_bad (lent_source source.entry) (text_pairs hashes.now)) }
+{
+    for hash in hashes {
+        if is_bad(hash) {
+            push_labelled(alloc, list, source, hash.0.as_str())?;
+        }
+    }
+    Ok(())
+}
+
+// ---- names, paths and URLs
+
+/// Adds a copy of a text.
+fn push_copy(alloc: Global, list: &mut Vec<String>, text: &str) -> Result<(), AllocError>
+    ensures { OnOk result (map string_bytes list.new.items
+        ≡ map string_bytes list.old.items ++ text.now ∷ []) }
+{
+    list.push(String::from_str(alloc, text)?)?;
+    Ok(())
+}
+
+/// Adds a file name that names no file of its folder.
+fn push_unsafe_name(
+    alloc: Global,
+    list: &mut Vec<String>,
+    source: PickedSource<'_>,
+) -> Result<(), AllocError>
+    ensures { OnOk result (map string_bytes list.new.items ≡ map string_bytes list.old.items
+        ++ text_where is_unsafe_name (λ name. name) (source_file_name (lent_source source.entry))) }
+{
+    match source_file_name(source) {
+        Some(name) if is_unsafe_name(name) => push_copy(alloc, list, name),
+        _ => Ok(()),
+    }
+}
+
+/// Adds a subdirectory that leaves its folder.
+fn push_unsafe_path(
+    alloc: Global,
+    list: &mut Vec<String>,
+    source: PickedSource<'_>,
+) -> Result<(), AllocError>
+    ensures { OnOk result (map string_bytes list.new.items ≡ map string_bytes list.old.items
+        ++ text_where is_unsafe_path (λ path. path) (subdirectory_of (lent_source source.entry))) }
+{
+    match subdirectory_of(source) {
+        Some(path) if is_unsafe_path(path) => push_copy(alloc, list, path),
+        _ => Ok(()),
+    }
+}
+
+/// Whether anybody on the way may change what the URL names.
+fn is_open_url(source: PickedSource<'_>, url: &str) -> bool
+    ensures { result ≡ is_open_url (lent_source source.entry) url.now }
+{
+    match source {
+        PickedSource::Vcs(_) => !(is_https(url) || is_safe_remote(url)),
+        _ => !is_https(url),
+    }
+}
+
+/// Adds a URL that anybody on the way may change.
+fn push_open_url(
+    alloc: Global,
+    list: &mut Vec<String>,
+    source: PickedSource<'_>,
+) -> Result<(), AllocError>
+    ensures { OnOk result (map string_bytes list.new.items ≡ map string_bytes list.old.items
+        ++ text_where (is_open_url (lent_source source.entry)) shown_url
+        (url_of (lent_source source.entry))) }
+{
+    match url_of(source) {
+        Some(url) if is_open_url(source, url) => Ok(list.push(shown_url(alloc, url)?)?),
+        _ => Ok(()),
+    }
+}
+
+/// Adds the path of a URL that names a user or a password.
+fn push_credentials(
+    alloc: Global,
+    list: &mut Vec<String>,
+    name: PickSource,
+    source: PickedSource<'_>,
+) -> Result<(), AllocError>
+    ensures { OnOk result (map string_bytes list.new.items ≡ map string_bytes list.old.items
+        ++ text_where has_credentials (λ url. source_path name ++ codes "url")
+        (url_of (lent_source source.entry))) }
+{
+    match url_of(source) {
+        Some(url) if has_credentials(url) => Ok(list.push(key_path(alloc, name, "url")?)?),
+        _ => Ok(()),
+    }
+}
+
+/// Whether a commit is named by its hash.
+fn is_commit_hash(text: &str) -> bool
+    ensures { result ≡ is_commit_hash text.now }
+{
+    (text.len() == 40 || text.len() == 64) && has_hex_digits(text)
+}
+
+fn has_hex_digits(text: &str) -> bool
+    ensures { result ≡ list_all is_hash_digit text.now }
+{
+    text.bytes()
+        .all(|b| matches!(b, b'0'..=b'9' | b'a'..=b'f' | b'A'..=b'F'))
+}
+
+/// Adds a commit that isn't one for all time.
+fn push_moving_commit(
+    alloc: Global,
+    list: &mut Vec<String>,
+    source: PickedSource<'_>,
+) -> Result<(), AllocError>
+    ensures { OnOk result (map string_bytes list.new.items
+        ≡ map string_bytes list.old.items ++ moving_commit (lent_source source.entry)) }
+{
+    match source {
+        PickedSource::Vcs(vcs) if is_moving(vcs) => push_copy(alloc, list, vcs.commit_id()),
+        _ => Ok(()),
+    }
+}
+
+fn is_moving(vcs: &Vcs) -> bool
+    ensures { result
+        ≡ (has_commit_hashes vcs.now.kind && not (is_commit_hash vcs.now.commit_id)) }
+{
+    matches!(vcs.kind(), "git" | "hg") && !is_commit_hash(vcs.commit_id())
+}
+
+// ---- the rows
+
+/// Adds what a source gives to a kind of finding that looks at each source by itself.
+fn push_details(
+    alloc: Global,
+    list: &mut Vec<String>,
+    kind: FindingKind,
+    named: NamedSource<'_>,
+) -> Result<(), AllocError>
+    ensures { OnOk result (map string_bytes list.new.items
+        ≡ map string_bytes list.old.items ++ details kind (lent_named named.entry)) }
+{
+    let NamedSource { name, source } = named;
+    match kind {
+        FindingKind::NoHash => push_without_hash(alloc, list, source),
+        FindingKind::WeakHash => push_weakly_hashed(alloc, list, source),
+        FindingKind::OddHash => push_odd_hashes(alloc, list, source),
+        FindingKind::BadHash => push_bad_hashes(alloc, list, source),
+        FindingKind::UnsafeFileName => push_unsafe_name(alloc, list, source),
+        FindingKind::UnsafeSubdirectory => push_unsafe_path(alloc, list, source),
+        FindingKind::NotHttps => push_open_url(alloc, list, source),
+        FindingKind::Credentials => push_credentials(alloc, list, name, source),
+        FindingKind::MovingCommit => push_moving_commit(alloc, list, source),
+        FindingKind::ControlCharacter => push_controlled(alloc, list, name, source),
+        _ => Ok(()),
+    }
+}
+
+/// What the sources of an entry give to a kind of finding.
+pub(crate) fn over_sources(
+    alloc: Global,
+    kind: FindingKind,
+    sources: &[NamedSource<'_>],
+) -> Result<Vec<String>, AllocError>
+    ensures { IfOk result (λ list. map string_bytes list.items
+        ≡ over_sources kind (map lent_named sources.now)) }
+{
+    let mut list = Vec::new(alloc);
+    for named in sources {
+        push_details(alloc, &mut list, kind, *named)?;
+    }
+    Ok(list)
+}

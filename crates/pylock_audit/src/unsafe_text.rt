@@ -1,0 +1,89 @@
+//! Texts that do harm where they are used as they stand.
+
+ghost use Rattle.std.specs.Prelude.{◌≡◌, slice_get};
+ghost use Rattle.std.specs.List.{list_any};
+ghost use Rattle.std.specs.Str.{chars};
+ghost use Rattle.pylock_audit.specs.Unsafe.{begins_with_parent, begins_with_root, has_control};
+ghost use Rattle.pylock_readers.specs.Entry.FileName.{ends_segment};
+ghost use Rattle.pylock_audit.specs.Unsafe.{has_drive, has_later_parent};
+ghost use Rattle.pylock_audit.specs.Unsafe.{is_unsafe_name, is_unsafe_path};
+
+use pylock_messages::is_control;
+
+/// Whether the text has a control character.
+pub(crate) fn has_control(text: &str) -> bool
+    ensures { result ≡ has_control text.now }
+{
+    text.chars().any(|c| is_control(c))
+}
+
+fn ends_segment(b: u8) -> bool
+    ensures { result ≡ ends_segment b }
+{
+    matches!(b, b'/' | b'\\')
+}
+
+/// Whether a file name names no file of its folder, or has a control character.
+pub(crate) fn is_unsafe_name(name: &str) -> bool
+    ensures { result ≡ is_unsafe_name name.now }
+{
+    ends_a_segment(name) || has_control(name) || name == "." || name == ".."
+}
+
+fn ends_a_segment(text: &str) -> bool
+    ensures { result ≡ list_any ends_segment text.now }
+{
+    text.bytes().any(|b| ends_segment(b))
+}
+
+/// Whether a path leaves the folder that it begins in.
+pub(crate) fn is_unsafe_path(text: &str) -> bool
+    ensures { result ≡ is_unsafe_path text.now }
+{
+    let bytes = text.as_bytes();
+    begins_with_root(bytes)
+        || has_drive(text)
+        || begins_with_parent(bytes)
+        || has_later_parent(bytes)
+}
+
+fn begins_with_root(text: &[u8]) -> bool
+    ensures { result ≡ begins_with_root text.now }
+{
+    match text {
+        [first, ..] => ends_segment(*first),
+        [] => false,
+    }
+}
+
+/// Whether the second character is `:`.
+fn has_drive(text: &str) -> bool
+    ensures { result ≡ has_drive text.now }
+{
+    text.chars().nth(1) == Some(':')
+}
+
+/// Whether the first piece is `..`.
+fn begins_with_parent(text: &[u8]) -> bool
+    ensures { result ≡ begins_with_parent text.now }
+{
+    match text {
+        [b'.', b'.'] => true,
+        [b'.', b'.', next, ..] => ends_segment(*next),
+        _ => false,
+    }
+}
+
+/// Whether a later piece is `..`.
+fn has_later_parent(text: &[u8]) -> bool
+    ensures { result ≡ has_later_parent text.now }
+{
+    let mut left = text;
+    while let [first, rest @ ..] = left {
+        if ends_segment(*first) && begins_with_parent(rest) {
+            return true;
+        }
+        left = rest;
+    }
+    false
+}
