@@ -1,6 +1,6 @@
 -- The documents of answers: the members of the object that each command shows.
 use Rattle.std.specs.Prelude.{ℕ, ◌+◌, ◌==◌, ◌++◌, List, [], ◌∷◌, codes, map, Option, Some, None}
-use Rattle.std.specs.Prelude.{if◌then◌else◌, option_and_then, option_map}
+use Rattle.std.specs.Prelude.{find, option_and_then, option_map}
 use Rattle.std.specs.List.{flat_map}
 use Rattle.std.specs.Option.{option_map_or}
 use Rattle.serde_json.specs.Data.{Data}
@@ -35,8 +35,7 @@ pick_data state pick =
 
 -- the fate of a number
 abbrev pub fate_in : ℕ → List (ℕ × Fate) → Option Fate
-fate_in number [] = None
-fate_in number (f ∷ fs) = if number == f.0 then Some f.1 else fate_in number fs
+fate_in number fs = option_map (λ f. f.1) (find (λ f. f.0 == number) fs)
 
 -- why: of the entry that has the fault, or of the head where it is no entry's
 abbrev pub detail_by : State → ℕ → FaultCode → Option Fate → Option (List ℕ)

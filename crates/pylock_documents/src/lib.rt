@@ -9,6 +9,8 @@
 #![tactic(auto)]
 
 mod files;
+mod plan;
 mod source;
 
 pub use files::files_document;
+pub use plan::plan_document;
