@@ -90,7 +90,12 @@ fn fate_object(
 {
     let detail = detail(alloc, session, entry, fate)?;
     let mut object = entry_object(alloc, u64::from(number), entry)?;
-    put_verdict(alloc, &mut object, verdict_word(entry, fate), detail.as_deref())?;
+    put_verdict(
+        alloc,
+        &mut object,
+        verdict_word(entry, fate),
+        detail.as_deref(),
+    )?;
     Ok(object.into_json())
 }
 

@@ -14,6 +14,8 @@ mod files;
 mod plan;
 mod refused;
 mod source;
+#[cfg(test)]
+mod tests;
 
 pub use explain::explain_document;
 pub use files::files_document;
