@@ -1,8 +1,8 @@
 //! Documents beside the texts of another program (Python's `json`, with sorted keys), which stand
 //! here in several lines.
 
-use crate::{files_document, refused_document};
-use pylock_core::Lock;
+use crate::{explain_document, files_document, plan_document, refused_document};
+use pylock_core::{Lock, Session, read_environment};
 use pylock_json::Object;
 use std::alloc::{AllocError, Global};
 use std::process::Abort;
@@ -67,5 +67,61 @@ fn words_of_a_refusal(rt: HostRuntime) -> Result<(), Fail> {
     let alloc = rt.alloc();
     let object = refused_document(alloc, &["python", "no\"é", ""])?;
     check(&rt, alloc, object, r#"{"refused":["python","no\"é",""]}"#)?;
+    Ok(())
+}
+
+/// A lock whose head and entry may have a fault.
+const FAULTY: &str = r#"
+lock-version = "1.0"
+created-by = "t"
+requires-python = ">=3.8"
+packages = [{name="a", marker="os_name == 'nt'", directory={path="x"}}]
+"#;
+
+fn session(alloc: Global, lock: &str, environment: &str) -> Result<Session, Fail> {
+    let lock = Lock::read(alloc, lock.as_bytes())?;
+    let (environment, tags) = read_environment(alloc, environment.as_bytes())?;
+    Ok(Session::start(alloc, lock, environment, tags)?)
+}
+
+fn check_session<R: Abort>(
+    rt: &R,
+    alloc: Global,
+    session: &Session,
+    answer: &str,
+    explained: &str,
+) -> Result<(), AllocError> {
+    let found = plan_document(alloc, session, &session.answer()?)?;
+    check(rt, alloc, found, answer)?;
+    check(rt, alloc, explain_document(alloc, session)?, explained)
+}
+
+#[test]
+fn answers_and_why(rt: HostRuntime) -> Result<(), Fail> {
+    let alloc = rt.alloc();
+    for (environment, answer, explained) in [
+        (
+            r#"{"environment":{},"tags":[]}"#,
+            r#"{"fault":{"code":"python-unknown","detail":">=3.8","id":0}}"#,
+            r#"{"entries":[{"detail":"os_name os_name == 'nt'","id":1,"name":"a",
+"verdict":"marker-unset"}],"head":{"detail":">=3.8","verdict":"python-unknown"}}"#,
+        ),
+        (
+            r#"{"environment":{"python_full_version":"3.9"},"tags":[]}"#,
+            r#"{"fault":{"code":"marker-unset","detail":"os_name os_name == 'nt'","id":1,
+"name":"a"}}"#,
+            r#"{"entries":[{"detail":"os_name os_name == 'nt'","id":1,"name":"a",
+"verdict":"marker-unset"}],"head":{"verdict":"ok"}}"#,
+        ),
+        (
+            r#"{"environment":{"python_full_version":"3.9","os_name":"nt"},"tags":[]}"#,
+            r#"{"plan":[{"id":1,"kind":"directory","name":"a","path":"x","place":"x"}]}"#,
+            r#"{"entries":[{"detail":"x","id":1,"name":"a","verdict":"directory"}],
+"head":{"verdict":"ok"}}"#,
+        ),
+    ] {
+        let session = session(alloc, FAULTY, environment)?;
+        check_session(&rt, alloc, &session, answer, explained)?;
+    }
     Ok(())
 }
