@@ -7,14 +7,13 @@ use Rattle.serde_json.specs.Data.{Data}
 use Rattle.pylock_json.specs.Json.{Row, list_of, maybe, numbered, object_of, texts_of, there}
 use Rattle.pylock_readers.specs.Entry.{EntryValue}
 use Rattle.pylock_core.specs.Session.Fates.{fates}
-use Rattle.pylock_core.specs.Session.Picks.{SourceValue, source_in, sources}
+use Rattle.pylock_core.specs.Session.Picks.{source_in, sources}
 use Rattle.pylock_core.specs.Session.State.{State, entry_at}
 use Rattle.pylock_core.specs.Session.Steps.{head_fault}
 use Rattle.pylock_core.specs.declared.answer.Answer.{Answer}
 use Rattle.pylock_core.specs.declared.answer.Answer.TheVariants.{Plan, Fault}
 use Rattle.pylock_core.specs.declared.answer.FaultCode.{FaultCode}
 use Rattle.pylock_core.specs.declared.answer.Pick.{Pick}
-use Rattle.pylock_core.specs.declared.answer.PickSource.{PickSource}
 use Rattle.pylock_core.specs.declared.fate.Fate.{Fate}
 use Rattle.pylock_reasons.specs.Reasons.{detail, head_detail}
 use Rattle.pylock_reasons.specs.Words.{fault_word, verdict_word}
