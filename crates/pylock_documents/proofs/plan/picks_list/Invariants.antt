@@ -1,0 +1,9 @@
+use Rattle.std.proofs.Common.{◌≡◌, map, take}
+use Rattle.std.specs.List.{flat_map}
+use Rattle.serde_json.specs.View.{view as data_of}
+use Rattle.pylock_documents.specs.Documents.{pick_data}
+use Rattle.pylock_documents.proofs.plan.picks_list.Given as goal
+
+-- the sources of the picks so far are in the list
+abbrev pub invariant-loop-pick : goal.invariant-loop-pick
+invariant-loop-pick l = map data_of l.list ≡ flat_map (pick_data l.session.state) (take l.pick-index l.picks)

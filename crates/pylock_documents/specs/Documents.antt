@@ -1,0 +1,106 @@
+-- The documents of answers: the members of the object that each command shows.
+use Rattle.std.specs.Prelude.{ℕ, ◌+◌, ◌==◌, ◌++◌, List, [], ◌∷◌, codes, map, Option, Some, None}
+use Rattle.std.specs.Prelude.{find, option_and_then, option_map}
+use Rattle.std.specs.List.{flat_map}
+use Rattle.std.specs.Option.{option_map_or}
+use Rattle.serde_json.specs.Data.{Data}
+use Rattle.pylock_json.specs.Json.{Row, list_of, maybe, numbered, object_of, texts_of, there}
+use Rattle.pylock_readers.specs.Entry.{EntryValue}
+use Rattle.pylock_core.specs.Session.Fates.{fates}
+use Rattle.pylock_core.specs.Session.Picks.{source_in, sources}
+use Rattle.pylock_core.specs.Session.State.{State, entry_at}
+use Rattle.pylock_core.specs.Session.Steps.{head_fault}
+use Rattle.pylock_core.specs.declared.answer.Answer.{Answer}
+use Rattle.pylock_core.specs.declared.answer.Answer.TheVariants.{Plan, Fault}
+use Rattle.pylock_core.specs.declared.answer.FaultCode.{FaultCode}
+use Rattle.pylock_core.specs.declared.answer.Pick.{Pick}
+use Rattle.pylock_core.specs.declared.fate.Fate.{Fate}
+use Rattle.pylock_reasons.specs.Reasons.{detail, head_detail}
+use Rattle.pylock_reasons.specs.Words.{fault_word, verdict_word}
+use Rattle.pylock_documents.specs.Source.{entry_rows, source_data}
+
+-- what may be left out, as the items of a list
+abbrev pub where_there : {X : Type 0} → (X → Data) → Option X → List Data
+where_there shown found = option_map_or (λ x. shown x ∷ []) found []
+
+-- ---- plan
+
+-- the source of a pick; its number is that of an entry that has the source, so it is there
+abbrev pub pick_data : State → Pick → List Data
+pick_data state pick =
+    option_map_or (λ entry.
+    where_there (source_data pick.id entry) (source_in entry pick.source))
+    (entry_at pick.id state.entries) []
+
+-- the fate of a number
+abbrev pub fate_in : ℕ → List (ℕ × Fate) → Option Fate
+fate_in number fs = option_map (λ f. f.1) (find (λ f. f.0 == number) fs)
+
+-- why: of the entry that has the fault, or of the head where it is no entry's
+abbrev pub detail_by : State → ℕ → FaultCode → Option Fate → Option (List ℕ)
+detail_by state number code None = head_detail state.head state.environment code
+detail_by state number code (Some fate) =
+    option_and_then (λ entry. detail state entry fate) (entry_at number state.entries)
+
+abbrev pub fault_detail : State → ℕ → FaultCode → Option (List ℕ)
+fault_detail state number code = detail_by state number code (fate_in number (fates state))
+
+abbrev pub fault_rows : State → ℕ → FaultCode → List Row
+fault_rows state number code =
+    (codes "id", numbered number)
+    ∷ (codes "name", maybe (option_map (λ entry. entry.name) (entry_at number state.entries)))
+    ∷ (codes "code", there (fault_word code))
+    ∷ (codes "detail", maybe (fault_detail state number code))
+    ∷ []
+
+-- the picks in order, or the fault
+abbrev pub answer_rows : State → Answer → List Row
+answer_rows state (Plan picks) =
+    (codes "plan", Some (list_of (flat_map (pick_data state) picks))) ∷ []
+answer_rows state (Fault number code) =
+    (codes "fault", Some (object_of (fault_rows state number code))) ∷ []
+
+-- ---- files
+
+-- the sources of the entries, the first of which has this number
+abbrev pub files_from : ℕ → List EntryValue → List Data
+files_from number [] = []
+files_from number (entry ∷ entries) =
+    map (λ s. source_data number entry s.1) (sources entry) ++ files_from (number + 1) entries
+
+abbrev pub files_rows : List EntryValue → List Row
+files_rows entries = (codes "files", Some (list_of (files_from 1 entries))) ∷ []
+
+-- ---- explain
+
+abbrev pub verdict_rows : List ℕ → Option (List ℕ) → List Row
+verdict_rows verdict detail = (codes "verdict", there verdict) ∷ (codes "detail", maybe detail) ∷ []
+
+abbrev pub head_rows : State → Option FaultCode → List Row
+head_rows state None = verdict_rows (codes "ok") None
+head_rows state (Some code) =
+    verdict_rows (fault_word code) (head_detail state.head state.environment code)
+
+abbrev pub fate_rows : State → ℕ → Fate → EntryValue → List Row
+fate_rows state number fate entry =
+    entry_rows number entry
+    ++ verdict_rows (verdict_word entry fate) (detail state entry fate)
+
+-- the verdict on an entry; the number of a fate is that of an entry, so it is there
+abbrev pub verdict_data : State → ℕ × Fate → List Data
+verdict_data state f =
+    where_there (λ entry. object_of (fate_rows state f.0 f.1 entry)) (entry_at f.0 state.entries)
+
+-- the head, and then each entry in order
+abbrev pub explain_rows : State → List Row
+explain_rows state = (
+  codes "head",
+  Some (object_of (head_rows state (head_fault state.head state.environment))),
+)
+    ∷ (codes "entries", Some (list_of (flat_map (verdict_data state) (fates state))))
+    ∷ []
+
+-- ---- refused
+
+abbrev pub refused_rows : List (List ℕ) → List Row
+refused_rows words = (codes "refused", Some (texts_of words)) ∷ []

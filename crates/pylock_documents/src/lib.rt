@@ -1,0 +1,23 @@
+//! The answers of pylock as JSON documents: a plan or its fault, the files of a lock, what becomes
+//! of each entry, and the words of a refusal. They say what the printed lines say, with each field
+//! under a name of its own.
+//!
+//! Each call gives an [`Object`](pylock_json::Object); its text is that of `pylock_json`'s
+//! `document`.
+//!
+//! Its `specs/` has the definitions: `Source` says which members the object of a source has, and
+//! `Documents` says which those of each document are.
+#![tactic(auto)]
+
+mod explain;
+mod files;
+mod plan;
+mod refused;
+mod source;
+#[cfg(test)]
+mod tests;
+
+pub use explain::explain_document;
+pub use files::files_document;
+pub use plan::plan_document;
+pub use refused::refused_document;

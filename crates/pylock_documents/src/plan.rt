@@ -1,0 +1,145 @@
+//! An answer: the plan, or the fault.
+
+ghost use Rattle.std.specs.Prelude.{◌≡◌, ◌++◌, IfOk, OnOk, map, option_and_then, option_map};
+ghost use Rattle.std.specs.Prelude.{string_bytes};
+ghost use Rattle.std.specs.List.{flat_map};
+ghost use Rattle.std.specs.Option.{option_copied};
+ghost use Rattle.serde_json.specs.View.{members_view, view as data_of};
+ghost use Rattle.pylock_json.specs.Json.{members_of};
+ghost use Rattle.pylock_core.specs.Session.Fates.{fates};
+ghost use Rattle.pylock_core.specs.Session.State.{entry_at};
+ghost use Rattle.pylock_reasons.specs.Reasons.{detail};
+ghost use Rattle.pylock_documents.specs.Documents.{answer_rows, fate_in, fault_detail, fault_rows};
+ghost use Rattle.pylock_documents.specs.Documents.{pick_data};
+
+use crate::source::source_object;
+use pylock_core::{Answer, Fate, FaultCode, Pick, Session};
+use pylock_json::{List, Object};
+use pylock_reasons::{detail, fault_word, head_detail};
+use std::alloc::{AllocError, Global};
+
+/// The document of an answer on the state of its session: a plan with its sources, or the fault
+/// and why. It takes memory for the object, and for a fault what `fates` takes.
+pub fn plan_document(
+    alloc: Global,
+    session: &Session,
+    answer: &Answer,
+) -> Result<Object, AllocError>
+    ensures { IfOk result (λ object. members_view object
+        ≡ members_of (answer_rows session.now.state answer.now)) }
+{
+    let mut object = Object::new(alloc);
+    match answer {
+        Answer::Plan(plan) => {
+            let picks = picks_list(alloc, session, plan.picks())?;
+            object.put(alloc, "plan", picks.into_json())?;
+        }
+        Answer::Fault { id, code } => {
+            let fault = fault_object(alloc, session, *id, *code)?;
+            object.put(alloc, "fault", fault.into_json())?;
+        }
+    }
+    Ok(object)
+}
+
+fn picks_list(alloc: Global, session: &Session, picks: &[Pick]) -> Result<List, AllocError>
+    ensures { IfOk result (λ list. map data_of list
+        ≡ flat_map (pick_data session.now.state) picks.now) }
+{
+    let mut list = List::new(alloc);
+    for pick in picks {
+        push_pick(alloc, &mut list, session, pick)?;
+    }
+    Ok(list)
+}
+
+/// Adds the source of a pick.
+fn push_pick(
+    alloc: Global,
+    list: &mut List,
+    session: &Session,
+    pick: &Pick,
+) -> Result<(), AllocError>
+    ensures { OnOk result (map data_of list.new
+        ≡ map data_of list.old ++ pick_data session.now.state pick.now) }
+{
+    let Some(entry) = session.entry(pick.id) else {
+        return Ok(());
+    };
+    let Some(source) = pick.source.of(entry) else {
+        return Ok(());
+    };
+    list.push(source_object(alloc, u64::from(pick.id), entry, source)?)
+}
+
+fn fault_object(
+    alloc: Global,
+    session: &Session,
+    number: u32,
+    code: FaultCode,
+) -> Result<Object, AllocError>
+    ensures { IfOk result (λ object. members_view object
+        ≡ members_of (fault_rows session.now.state number code)) }
+{
+    let detail = fault_detail(alloc, session, number, code)?;
+    let mut object = Object::new(alloc);
+    object.put_number(alloc, "id", u64::from(number))?;
+    object.put_maybe(alloc, "name", name_of(session, number))?;
+    object.put_text(alloc, "code", fault_word(code))?;
+    object.put_maybe(alloc, "detail", detail.as_deref())?;
+    Ok(object)
+}
+
+/// The name of the entry of a number; the head has none.
+fn name_of(session: &Session, number: u32) -> Option<&str>
+    ensures { option_copied result
+        ≡ option_map (λ entry. entry.name) (entry_at number session.now.state.entries) }
+{
+    Some(session.entry(number)?.name())
+}
+
+/// Why the entry of this number, or the head, has its fault.
+fn fault_detail(
+    alloc: Global,
+    session: &Session,
+    number: u32,
+    code: FaultCode,
+) -> Result<Option<String>, AllocError>
+    ensures { IfOk result (λ text. option_map string_bytes text
+        ≡ fault_detail session.now.state number code) }
+{
+    match fate_of(session, number)? {
+        Some(fate) => entry_detail(alloc, session, number, fate),
+        None => head_detail(alloc, session.head(), session.environment(), code),
+    }
+}
+
+fn entry_detail(
+    alloc: Global,
+    session: &Session,
+    number: u32,
+    fate: Fate,
+) -> Result<Option<String>, AllocError>
+    ensures { IfOk result (λ text. option_map string_bytes text
+        ≡ option_and_then (λ entry. detail session.now.state entry fate)
+        (entry_at number session.now.state.entries)) }
+{
+    match session.entry(number) {
+        Some(entry) => detail(alloc, session, entry, fate),
+        None => Ok(None),
+    }
+}
+
+fn fate_of(session: &Session, number: u32) -> Result<Option<Fate>, AllocError>
+    ensures { IfOk result (λ fate. fate ≡ fate_in number (fates session.now.state)) }
+{
+    let fates = session.fates()?;
+    Ok(fate_in(fates.as_slice(), number))
+}
+
+fn fate_in(fates: &[(u32, Fate)], number: u32) -> Option<Fate>
+    ensures { result ≡ fate_in number fates.now }
+{
+    let (_, fate) = fates.iter().find(|fate| fate.0 == number)?;
+    Some(*fate)
+}
