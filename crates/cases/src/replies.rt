@@ -2,6 +2,7 @@
 
 use crate::runs::{brief, ended};
 use case_files::{text, texts};
+use pylock_command::Form;
 use pylock_program::{Query, ToWrite, query};
 use std::alloc::{AllocError, Global};
 use toml::Table;
@@ -43,7 +44,10 @@ fn reply(alloc: Global, words: &[&str]) -> anyhow::Result<String> {
 /// What the words ask.
 fn asked<'a>(words: &[&'a str]) -> Option<Query<'a>> {
     match *words {
-        ["files", lock] => Some(Query::Files(lock.as_bytes())),
+        ["files", lock] => Some(Query::Files(lock.as_bytes(), Form::Lines)),
+        ["files", "--json", lock] => Some(Query::Files(lock.as_bytes(), Form::Json)),
+        ["audit", lock] => Some(Query::Audit(lock.as_bytes(), Form::Lines)),
+        ["audit", "--json", lock] => Some(Query::Audit(lock.as_bytes(), Form::Json)),
         ["version", version] => Some(Query::Version(version)),
         ["match", set, version] => Some(Query::Match(set, version)),
         ["name", name] => Some(Query::Name(name)),

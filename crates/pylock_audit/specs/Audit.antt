@@ -8,7 +8,7 @@ use Rattle.toml.specs.Data.{table}
 use Rattle.pytext.specs.Results.{◌>>=◌}
 use Rattle.pylock_readers.specs.Entry.{EntryValue}
 use Rattle.pylock_readers.specs.Lock.{HeadValue, LockValue}
-use Rattle.pylock_readers.specs.Lock.Reading.{document_in, lock_in}
+use Rattle.pylock_readers.specs.Lock.Reading.{document_in, lock_of}
 use Rattle.pylock_readers.specs.declared.error.LockError.{LockError}
 use Rattle.pylock_audit.specs.Entry.{entry_findings, text_at}
 use Rattle.pylock_audit.specs.Finding.{FindingValue, FoundValue, found_at, found_each, found_where}
@@ -58,10 +58,9 @@ lock_findings document lock =
     found_at 0 None (head_findings document)
     ++ of_entries lock.head 1 lock.entries (items_at (get_member (codes "packages") document))
 
-abbrev pub document_findings : Members → Result (List FoundValue) LockError
-document_findings document =
-    lock_in document >>= (λ lock. Ok (lock_findings document lock))
-
 -- the findings of the lock that the bytes are, or its refusal
 unfoldable pub findings_of : List ℕ → Result (List FoundValue) LockError
-findings_of bytes = document_in bytes >>= document_findings
+findings_of bytes = do
+  lock ← lock_of bytes
+  document ← document_in bytes
+  Ok (lock_findings document lock)

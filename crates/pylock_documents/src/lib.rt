@@ -1,5 +1,5 @@
 //! The answers of pylock as JSON documents: a plan or its fault, the files of a lock, what becomes
-//! of each entry, and the words of a refusal. They say what the printed lines say, with each field
+//! of each entry, what is found in a lock, and the words of a refusal. They say what the printed lines say, with each field
 //! under a name of its own.
 //!
 //! Each call gives an [`Object`](pylock_json::Object); its text is that of `pylock_json`'s
@@ -11,6 +11,7 @@
 
 mod explain;
 mod files;
+mod findings;
 mod plan;
 mod refused;
 mod source;
@@ -19,5 +20,6 @@ mod tests;
 
 pub use explain::explain_document;
 pub use files::files_document;
+pub use findings::findings_document;
 pub use plan::plan_document;
 pub use refused::refused_document;

@@ -18,9 +18,13 @@ use Rattle.pylock_core.specs.declared.edit.Edit.TheVariants as edit
 use Rattle.pylock_core.specs.declared.edit.EditError.{EditError}
 use Rattle.pylock_core.specs.declared.edit.Policy.{Policy}
 use Rattle.pylock_core.specs.declared.edit.Policy.TheVariants.{Wheel, Source}
+use Rattle.pylock_command.specs.declared.form.Form.{Form}
+use Rattle.pylock_command.specs.declared.form.Form.TheVariants.{Lines, Json}
+use Rattle.pylock_documents.specs.Documents.{answer_rows, explain_rows}
 use Rattle.pylock_program.specs.Report.{Report, is_plan, standing_text}
 use Rattle.pylock_program.specs.Text.Explain.{explain_text}
 use Rattle.pylock_program.specs.Text.Field.{field, line_of}
+use Rattle.pylock_program.specs.Text.Json.{json_text, option_json, refusal_json}
 use Rattle.pylock_program.specs.Text.Refusal.{refusal_text}
 use Rattle.pylock_program.specs.declared.report.opening.OpenError.{OpenError}
 
@@ -81,24 +85,46 @@ abbrev pub refused_option : Choice → List ℕ
 refused_option choice =
     line_of (codes "refused") ((written choice).0 ∷ field (written choice).1 ∷ [])
 
+abbrev pub option_shown : Form → Choice → List ℕ
+option_shown Lines choice = refused_option choice
+option_shown Json choice = option_json choice
+
+-- a refused lock or environment
+abbrev pub refusal_shown : Form → OpenError → List ℕ
+refusal_shown Lines refusal = refusal_text refusal
+refusal_shown Json refusal = refusal_json refusal
+
+-- the answer, and what becomes of each entry
+abbrev pub plan_shown : Form → State → List ℕ
+plan_shown Lines state = standing_text state
+plan_shown Json state = json_text (answer_rows state (answer state))
+
+abbrev pub explain_shown : Form → State → List ℕ
+explain_shown Lines state = explain_text state
+explain_shown Json state = json_text (explain_rows state)
+
 -- what is printed of the state after the options, or the first option that is refused
-abbrev pub chosen_report : (State → List ℕ) → Result State Choice → Report
-chosen_report text (Err choice) = record { text = refused_option choice; status = 1 }
-chosen_report text (Ok state) = record {
+abbrev pub chosen_report : Form → (State → List ℕ) → Result State Choice → Report
+chosen_report form text (Err choice) = record { text = option_shown form choice; status = 1 }
+chosen_report form text (Ok state) = record {
   text = text state;
   status = if is_plan (answer state) then 0 else 1;
 }
 
 -- A report on the state after options: a refused lock or environment is all that is reported, and
 -- then a refused option.
-abbrev pub report_after : (State → List ℕ) → Result State OpenError → List Choice → Report
-report_after text (Err refusal) choices = record { text = refusal_text refusal; status = 2 }
-report_after text (Ok state) choices = chosen_report text (after_choices choices state)
+abbrev pub report_after : Form → (State → List ℕ) → Result State OpenError → List Choice → Report
+report_after form text (Err refusal) choices = record {
+  text = refusal_shown form refusal;
+  status = 2;
+}
+report_after form text (Ok state) choices =
+    chosen_report form text (after_choices choices state)
 
 -- the report of `plan`: the answer
-abbrev pub plan_report : Result State OpenError → List Choice → Report
-plan_report = report_after standing_text
+abbrev pub plan_report : Form → Result State OpenError → List Choice → Report
+plan_report form = report_after form (plan_shown form)
 
 -- the report of `explain`: what becomes of each entry, and the status of `plan`
-abbrev pub explain_report : Result State OpenError → List Choice → Report
-explain_report = report_after explain_text
+abbrev pub explain_report : Form → Result State OpenError → List Choice → Report
+explain_report form = report_after form (explain_shown form)

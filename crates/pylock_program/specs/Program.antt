@@ -4,7 +4,7 @@ use Rattle.std.specs.Result.{result_map_both}
 use Rattle.pylock_command.specs.declared.command_line.Task.{Task}
 use Rattle.pylock_command.specs.declared.command_line.Task.TheVariants as task
 use Rattle.pylock_program.specs.Choices.{explain_report, plan_report}
-use Rattle.pylock_program.specs.Reply.{files_answer, marker_answer, reply, reply_of}
+use Rattle.pylock_program.specs.Reply.{audit_answer, files_answer, marker_answer, reply, reply_of}
 use Rattle.pylock_program.specs.Report.{Report, opened}
 use Rattle.pylock_program.specs.Report.Print.{Prints}
 use Rattle.pylock_program.specs.Report.Run.{IsRun}
@@ -133,14 +133,16 @@ abbrev pub Performs : Reads → Task → Outcome
 Performs gives task.Bare = Greets
 Performs gives (task.Select lock environment) =
     Opens gives lock.now (λ lock. Opens gives environment.now (Runs lock))
-Performs gives (task.Plan lock environment choices) =
+Performs gives (task.Plan lock environment choices form) =
     OpensNamed gives lock.now (λ lock. OpensNamed gives environment.now
-    (λ environment. Replies (plan_report (opened lock environment) choices.items)))
-Performs gives (task.Explain lock environment choices) =
+    (λ environment. Replies (plan_report form (opened lock environment) choices.items)))
+Performs gives (task.Explain lock environment choices form) =
     OpensNamed gives lock.now (λ lock. OpensNamed gives environment.now
-    (λ environment. Replies (explain_report (opened lock environment) choices.items)))
-Performs gives (task.Files lock) =
-    OpensNamed gives lock.now (λ bytes. Replies (reply_of (files_answer bytes)))
+    (λ environment. Replies (explain_report form (opened lock environment) choices.items)))
+Performs gives (task.Files lock form) =
+    OpensNamed gives lock.now (λ bytes. Replies (reply_of (files_answer form bytes)))
+Performs gives (task.Audit lock form) =
+    OpensNamed gives lock.now (λ bytes. Replies (reply_of (audit_answer form bytes)))
 Performs gives (task.Version text) = Replies (reply (query.Version text))
 Performs gives (task.Match set version) = Replies (reply (query.Match set version))
 Performs gives (task.Name text) = Replies (reply (query.Name text))

@@ -34,7 +34,15 @@ use Rattle.pylock_core.specs.declared.answer.FaultCode.{FaultCode}
 use Rattle.pylock_readers.specs.Lock.Reading.{lock_of}
 use Rattle.pylock_readers.specs.declared.error.EnvError.{EnvError}
 use Rattle.pylock_readers.specs.declared.error.LockError.{LockError}
+use Rattle.pylock_command.specs.declared.form.Form.{Form}
+use Rattle.pylock_command.specs.declared.form.Form.TheVariants.{Lines, Json}
+use Rattle.pylock_readers.specs.Entry.{EntryValue}
+use Rattle.pylock_audit.specs.Audit.{findings_of}
+use Rattle.pylock_audit.specs.Finding.{FoundValue}
+use Rattle.pylock_documents.specs.Documents.{files_rows, findings_rows}
 use Rattle.pylock_program.specs.Report.{Report}
+use Rattle.pylock_program.specs.Text.Audit.{findings_text}
+use Rattle.pylock_program.specs.Text.Json.{json_text, lock_json}
 use Rattle.pylock_program.specs.Text.Field.{field, line_of}
 use Rattle.pylock_reasons.specs.Words.{fault_word}
 use Rattle.pylock_program.specs.Text.Files.{files_text}
@@ -182,20 +190,41 @@ wheel_answer text = do
   parts ← or_else (λ e. refused (wheel_word e)) (wheel_of text)
   Ok (wheel_line parts)
 
--- `files LOCK`: every source that the lock names
-abbrev pub unread_lock : LockError → Report
-unread_lock error = record { text = lock_text error; status = 2 }
+-- ---- answers on a lock, as lines or as a document
 
-abbrev pub files_answer : List ℕ → Result (List ℕ) Report
-files_answer bytes = do
-  lock ← or_else unread_lock (lock_of bytes)
-  Ok (files_text lock.entries)
+abbrev pub unread_lock : Form → LockError → Report
+unread_lock Lines error = record { text = lock_text error; status = 2 }
+unread_lock Json error = record { text = lock_json error; status = 2 }
+
+-- `files LOCK`: every source that the lock names
+abbrev pub files_shown : Form → List EntryValue → List ℕ
+files_shown Lines entries = files_text entries
+files_shown Json entries = json_text (files_rows entries)
+
+abbrev pub files_answer : Form → List ℕ → Result (List ℕ) Report
+files_answer form bytes = do
+  lock ← or_else (unread_lock form) (lock_of bytes)
+  Ok (files_shown form lock.entries)
+
+-- `audit LOCK`: what a careful reader would want to be told; status 1 where that is something
+abbrev pub findings_shown : Form → List FoundValue → List ℕ
+findings_shown Lines found = findings_text found
+findings_shown Json found = json_text (findings_rows found)
+
+abbrev pub found_answer : Form → List FoundValue → Result (List ℕ) Report
+found_answer form [] = Ok (findings_shown form [])
+found_answer form (one ∷ others) =
+    Err (record { text = findings_shown form (one ∷ others); status = 1 })
+
+abbrev pub audit_answer : Form → List ℕ → Result (List ℕ) Report
+audit_answer form bytes = or_else (unread_lock form) (findings_of bytes) >>= found_answer form
 
 -- ---- the reply
 
 -- the text of an answer, or what is printed in its place
 abbrev pub query_answer : Query → Result (List ℕ) Report
-query_answer (query.Files lock) = files_answer lock.now
+query_answer (query.Files lock form) = files_answer form lock.now
+query_answer (query.Audit lock form) = audit_answer form lock.now
 query_answer (query.Version text) = version_answer text.now
 query_answer (query.Match set version) = match_answer set.now version.now
 query_answer (query.Name text) = name_answer text.now

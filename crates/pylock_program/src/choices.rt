@@ -10,11 +10,13 @@ ghost use Rattle.pylock_command.specs.Choices.{written};
 ghost use Rattle.pylock_core.specs.declared.edit.Edit.TheVariants as edit;
 ghost use Rattle.pylock_program.specs.Choices.{after_choice, after_choices, after_edits};
 ghost use Rattle.pylock_program.specs.Choices.{chosen_report, edits_of, explain_report, named};
+ghost use Rattle.pylock_program.specs.Choices.{explain_shown, option_shown, plan_shown};
+ghost use Rattle.pylock_program.specs.Choices.{refusal_shown};
 ghost use Rattle.pylock_program.specs.Choices.{plan_report, policies, refused_option};
 ghost use Rattle.pylock_program.specs.Choices.{report_after};
 ghost use Rattle.pylock_program.specs.Choices.{set_variable};
 ghost use Rattle.pylock_core.specs.Session.Steps.{answer};
-ghost use Rattle.pylock_program.specs.Inner.Chosen.{chosen, made, view_text};
+ghost use Rattle.pylock_program.specs.Inner.Chosen.{chosen, made, view_shown};
 ghost use Rattle.pylock_program.specs.Inner.Reply.{Pushes};
 ghost use Rattle.pylock_program.specs.Report.{is_plan, opened};
 ghost use Rattle.pylock_program.specs.Report.Print.{Prints};
@@ -30,9 +32,12 @@ use crate::report::print::print;
 use crate::stream::Sink;
 use crate::text::explain::push_explained;
 use crate::text::field::push_next;
+use crate::text::json::{push_option_json, push_refusal_json};
 use crate::text::refusal::push_refusal;
-use pylock_command::Choice;
-use pylock_core::{Edit, EditError, Policy, Session};
+use pylock_command::{Choice, Form};
+use pylock_core::{Answer, Edit, EditError, Policy, Session};
+use pylock_documents::{explain_document, plan_document};
+use pylock_json::push_document;
 use pymark_core::Var;
 use pyver_core::{Label, is_name};
 use std::alloc::{AllocError, Global};
@@ -56,17 +61,18 @@ enum View {
 /// It takes memory for the session, for the edits of one option at a time, and for what it writes.
 pub fn plan<W: Sink, N: Sink>(
     alloc: Global,
+    form: Form,
     lock: Document<'_>,
     env: &[u8],
     choices: &[Choice<'_>],
     writer: &mut W,
     notes: &mut N,
 ) -> Result<u8, RunFault>
-    ensures { Prints (plan_report (opened lock.entry.bytes.now env.now) choices.now)
+    ensures { Prints (plan_report form (opened lock.entry.bytes.now env.now) choices.now)
         (W.value writer.old) (W.value writer.new) result }
 {
     let mut out = Vec::new(alloc);
-    let status = push_view(alloc, &mut out, View::Plan, lock, env, choices, notes)?;
+    let status = push_view(alloc, &mut out, View::Plan, form, lock, env, choices, notes)?;
     print(&out, status, writer)
 }
 
@@ -79,17 +85,27 @@ pub fn plan<W: Sink, N: Sink>(
 /// It takes the memory of `plan`, for what becomes of each entry, and for one reason at a time.
 pub fn explain<W: Sink, N: Sink>(
     alloc: Global,
+    form: Form,
     lock: Document<'_>,
     env: &[u8],
     choices: &[Choice<'_>],
     writer: &mut W,
     notes: &mut N,
 ) -> Result<u8, RunFault>
-    ensures { Prints (explain_report (opened lock.entry.bytes.now env.now) choices.now)
+    ensures { Prints (explain_report form (opened lock.entry.bytes.now env.now) choices.now)
         (W.value writer.old) (W.value writer.new) result }
 {
     let mut out = Vec::new(alloc);
-    let status = push_view(alloc, &mut out, View::Explain, lock, env, choices, notes)?;
+    let status = push_view(
+        alloc,
+        &mut out,
+        View::Explain,
+        form,
+        lock,
+        env,
+        choices,
+        notes,
+    )?;
     print(&out, status, writer)
 }
 
@@ -98,21 +114,37 @@ fn push_view<N: Sink>(
     alloc: Global,
     out: &mut Vec<u8>,
     view: View,
+    form: Form,
     lock: Document<'_>,
     env: &[u8],
     choices: &[Choice<'_>],
     notes: &mut N,
 ) -> Result<u8, AllocError>
-    ensures { Pushes out.old.items out.new.items
-        (report_after (view_text view) (opened lock.entry.bytes.now env.now) choices.now) result }
+    ensures { Pushes out.old.items out.new.items (report_after form (view_shown view form)
+        (opened lock.entry.bytes.now env.now) choices.now) result }
 {
     match open(alloc, lock.bytes, env) {
-        Ok(session) => push_chosen(alloc, out, view, session, lock.path, choices, notes),
+        Ok(session) => push_chosen(alloc, out, view, form, session, lock.path, choices, notes),
         Err(OpenError::Memory) => Err(AllocError),
         Err(refusal) => {
-            push_refusal(out, &refusal)?;
+            push_refusal_in(alloc, out, form, &refusal)?;
             Ok(2)
         }
+    }
+}
+
+/// Pushes a refused lock or environment.
+fn push_refusal_in(
+    alloc: Global,
+    out: &mut Vec<u8>,
+    form: Form,
+    refusal: &OpenError,
+) -> Result<(), AllocError>
+    ensures { OnOk result (out.new.items ≡ out.old.items ++ refusal_shown form refusal.now) }
+{
+    match form {
+        Form::Lines => push_refusal(out, refusal),
+        Form::Json => push_refusal_json(alloc, out, refusal),
     }
 }
 
@@ -121,21 +153,22 @@ fn push_chosen<N: Sink>(
     alloc: Global,
     out: &mut Vec<u8>,
     view: View,
+    form: Form,
     session: Session,
     lock: &str,
     choices: &[Choice<'_>],
     notes: &mut N,
 ) -> Result<u8, AllocError>
-    ensures { Pushes out.old.items out.new.items
-        (chosen_report (view_text view) (after_choices choices.now session.state)) result }
+    ensures { Pushes out.old.items out.new.items (chosen_report form (view_shown view form)
+        (after_choices choices.now session.state)) result }
 {
     let mut session = session;
     if let Some(choice) = choose(alloc, &mut session, choices)? {
-        push_refused_option(out, choice)?;
+        push_option_in(alloc, out, form, choice)?;
         tell_refused(alloc, notes, lock, choice);
         return Ok(1);
     }
-    let is_plan = push_session(alloc, out, view, &session)?;
+    let is_plan = push_session(alloc, out, view, form, &session)?;
     tell_notes(alloc, notes, &session, choices);
     if matches!(view, View::Plan) && !is_plan {
         tell_fault(alloc, notes, &session);
@@ -148,16 +181,44 @@ fn push_session(
     alloc: Global,
     out: &mut Vec<u8>,
     view: View,
+    form: Form,
     session: &Session,
 ) -> Result<bool, AllocError>
     ensures plan { IfOk result (λ plan. plan ≡ is_plan (answer session.now.state)) }
     ensures text { OnOk result (out.new.items
-        ≡ out.old.items ++ view_text view session.now.state) }
+        ≡ out.old.items ++ view_shown view form session.now.state) }
 {
-    match view {
-        View::Plan => push_standing(session, out),
-        View::Explain => push_explained(alloc, out, session),
+    match (view, form) {
+        (View::Plan, Form::Lines) => push_standing(session, out),
+        (View::Explain, Form::Lines) => push_explained(alloc, out, session),
+        (View::Plan, Form::Json) => push_plan_json(alloc, out, session),
+        (View::Explain, Form::Json) => push_explain_json(alloc, out, session),
     }
+}
+
+/// Pushes the document of the answer, and answers whether that is a plan.
+fn push_plan_json(alloc: Global, out: &mut Vec<u8>, session: &Session) -> Result<bool, AllocError>
+    ensures plan { IfOk result (λ plan. plan ≡ is_plan (answer session.now.state)) }
+    ensures text { OnOk result (out.new.items
+        ≡ out.old.items ++ plan_shown Form.Json session.now.state) }
+{
+    let answer = session.answer()?;
+    push_document(alloc, out, plan_document(alloc, session, &answer)?)?;
+    Ok(matches!(answer, Answer::Plan(_)))
+}
+
+/// Pushes the document of what becomes of each entry, and answers whether the answer is a plan.
+fn push_explain_json(
+    alloc: Global,
+    out: &mut Vec<u8>,
+    session: &Session,
+) -> Result<bool, AllocError>
+    ensures plan { IfOk result (λ plan. plan ≡ is_plan (answer session.now.state)) }
+    ensures text { OnOk result (out.new.items
+        ≡ out.old.items ++ explain_shown Form.Json session.now.state) }
+{
+    push_document(alloc, out, explain_document(alloc, session)?)?;
+    Ok(matches!(session.answer()?, Answer::Plan(_)))
 }
 
 /// Makes the edits of the options, one after another, up to the first that is refused, which it
@@ -373,6 +434,21 @@ fn one(alloc: Global, edit: Edit) -> Result<Option<Vec<Edit>>, AllocError>
     let mut edits = Vec::new(alloc);
     edits.push(edit)?;
     Ok(Some(edits))
+}
+
+/// Pushes a refused option.
+fn push_option_in(
+    alloc: Global,
+    out: &mut Vec<u8>,
+    form: Form,
+    choice: Choice<'_>,
+) -> Result<(), AllocError>
+    ensures { OnOk result (out.new.items ≡ out.old.items ++ option_shown form choice.entry) }
+{
+    match form {
+        Form::Lines => push_refused_option(out, choice),
+        Form::Json => push_option_json(alloc, out, choice),
+    }
 }
 
 /// Pushes the line of a refused option.

@@ -7,7 +7,8 @@ ghost use Rattle.pylock_program.specs.Program.{most_file_bytes, failure_message,
 ghost use Rattle.pylock_program.specs.Program.{GivesNamed, Opens, OpensNamed};
 ghost use Rattle.pylock_program.specs.Program.{Performs, Reads, Replies, Runs, Tells};
 ghost use Rattle.pylock_program.specs.Program.{greeting, terminal_note, told};
-ghost use Rattle.pylock_program.specs.Reply.{files_answer, marker_answer, reply, reply_of};
+ghost use Rattle.pylock_program.specs.Reply.{audit_answer, files_answer, marker_answer, reply};
+ghost use Rattle.pylock_program.specs.Reply.{reply_of};
 ghost use Rattle.pylock_program.specs.Choices.{explain_report, plan_report};
 ghost use Rattle.pylock_program.specs.Report.{opened};
 ghost use Rattle.pylock_program.specs.Report.Print.{Prints};
@@ -27,7 +28,7 @@ use crate::report::print::print;
 use crate::report::run::run_whole;
 use crate::stream::whole::{FileFault, read_whole};
 use crate::stream::{Sink, Source};
-use pylock_command::{Choice, Task};
+use pylock_command::{Choice, Form, Task};
 use std::alloc::Global;
 use std::io::ErrorKind;
 
@@ -185,16 +186,35 @@ pub fn perform<F: Files, R: Source, W: Sink, N: Sink>(
 {
     match task {
         Task::Bare => greet(writer),
-        Task::Plan(lock, environment, choices) => {
-            plan_files(alloc, files, lock, environment, choices, writer, notes)
+        Task::Plan(lock, environment, choices, form) => {
+            plan_files(
+                alloc,
+                files,
+                form,
+                lock,
+                environment,
+                choices,
+                writer,
+                notes,
+            )
         }
-        Task::Explain(lock, environment, choices) => {
-            explain_files(alloc, files, lock, environment, choices, writer, notes)
+        Task::Explain(lock, environment, choices, form) => {
+            explain_files(
+                alloc,
+                files,
+                form,
+                lock,
+                environment,
+                choices,
+                writer,
+                notes,
+            )
         }
         Task::Select(lock, environment) => {
             select(alloc, files, lock, environment, reader, writer, notes)
         }
-        Task::Files(lock) => list(alloc, files, lock, writer, notes),
+        Task::Files(lock, form) => list(alloc, files, form, lock, writer, notes),
+        Task::Audit(lock, form) => inspect(alloc, files, form, lock, writer, notes),
         Task::Version(text) => answer(alloc, Query::Version(text), writer),
         Task::Match(set, version) => answer(alloc, Query::Match(set, version), writer),
         Task::Name(text) => answer(alloc, Query::Name(text), writer),
@@ -263,6 +283,7 @@ fn read_named<F: Files, N: Sink>(
 fn plan_files<F: Files, W: Sink, N: Sink>(
     alloc: Global,
     files: &F,
+    form: Form,
     lock: &str,
     environment: &str,
     choices: Vec<Choice<'_>>,
@@ -271,7 +292,7 @@ fn plan_files<F: Files, W: Sink, N: Sink>(
 ) -> Result<u8, Failure>
     ensures { (source : SourceValue) → OpensNamed (F.read_gives files.now) lock.now
         (λ lock. OpensNamed (F.read_gives files.now) environment.now
-        (λ environment. Replies (plan_report (opened lock environment) choices.entry.items)))
+        (λ environment. Replies (plan_report form (opened lock environment) choices.entry.items)))
         source source (W.value writer.old) (W.value writer.new) result }
 {
     let lock_bytes = read_named(alloc, files, lock, notes)?;
@@ -284,7 +305,7 @@ fn plan_files<F: Files, W: Sink, N: Sink>(
         path: environment,
         bytes: &bytes,
     };
-    let end = plan(alloc, lock, &bytes, &choices, writer, notes);
+    let end = plan(alloc, form, lock, &bytes, &choices, writer, notes);
     tell_refusal(alloc, notes, &end, lock, environment);
     told(end)
 }
@@ -293,6 +314,7 @@ fn plan_files<F: Files, W: Sink, N: Sink>(
 fn explain_files<F: Files, W: Sink, N: Sink>(
     alloc: Global,
     files: &F,
+    form: Form,
     lock: &str,
     environment: &str,
     choices: Vec<Choice<'_>>,
@@ -301,7 +323,7 @@ fn explain_files<F: Files, W: Sink, N: Sink>(
 ) -> Result<u8, Failure>
     ensures { (source : SourceValue) → OpensNamed (F.read_gives files.now) lock.now
         (λ lock. OpensNamed (F.read_gives files.now) environment.now
-        (λ environment. Replies (explain_report (opened lock environment) choices.entry.items)))
+        (λ environment. Replies (explain_report form (opened lock environment) choices.entry.items)))
         source source (W.value writer.old) (W.value writer.new) result }
 {
     let lock_bytes = read_named(alloc, files, lock, notes)?;
@@ -314,7 +336,7 @@ fn explain_files<F: Files, W: Sink, N: Sink>(
         path: environment,
         bytes: &bytes,
     };
-    let end = explain(alloc, lock, &bytes, &choices, writer, notes);
+    let end = explain(alloc, form, lock, &bytes, &choices, writer, notes);
     tell_refusal(alloc, notes, &end, lock, environment);
     told(end)
 }
@@ -323,16 +345,40 @@ fn explain_files<F: Files, W: Sink, N: Sink>(
 fn list<F: Files, W: Sink, N: Sink>(
     alloc: Global,
     files: &F,
+    form: Form,
     lock: &str,
     writer: &mut W,
     notes: &mut N,
 ) -> Result<u8, Failure>
     ensures { (source : SourceValue) → OpensNamed (F.read_gives files.now) lock.now
-        (λ bytes. Replies (reply_of (files_answer bytes)))
+        (λ bytes. Replies (reply_of (files_answer form bytes)))
         source source (W.value writer.old) (W.value writer.new) result }
 {
     let bytes = read_named(alloc, files, lock, notes)?;
-    let end = query(alloc, Query::Files(&bytes), writer);
+    let end = query(alloc, Query::Files(&bytes, form), writer);
+    let lock = Document {
+        path: lock,
+        bytes: &bytes,
+    };
+    tell_lock_refusal(alloc, notes, &end, lock);
+    told(end)
+}
+
+/// Answers `audit` on the lock of a file.
+fn inspect<F: Files, W: Sink, N: Sink>(
+    alloc: Global,
+    files: &F,
+    form: Form,
+    lock: &str,
+    writer: &mut W,
+    notes: &mut N,
+) -> Result<u8, Failure>
+    ensures { (source : SourceValue) → OpensNamed (F.read_gives files.now) lock.now
+        (λ bytes. Replies (reply_of (audit_answer form bytes)))
+        source source (W.value writer.old) (W.value writer.new) result }
+{
+    let bytes = read_named(alloc, files, lock, notes)?;
+    let end = query(alloc, Query::Audit(&bytes, form), writer);
     let lock = Document {
         path: lock,
         bytes: &bytes,

@@ -7,7 +7,8 @@ ghost use Rattle.pyver_core.specs.Name.{norm};
 ghost use Rattle.pywheel_core.specs.Tag.{tag_text};
 ghost use Rattle.pylock_program.specs.Inner.Reply.{Pushes};
 ghost use Rattle.pylock_program.specs.Reply.{reply, reply_of, version_answer, match_answer};
-ghost use Rattle.pylock_program.specs.Reply.{admits_answer, files_answer};
+ghost use Rattle.pylock_program.specs.Reply.{admits_answer, audit_answer, files_answer};
+ghost use Rattle.pylock_program.specs.Reply.{files_shown, found_answer, unread_lock};
 ghost use Rattle.pylock_program.specs.Reply.{truth_word, name_answer, marker_answer, judged_answer};
 ghost use Rattle.pylock_program.specs.Reply.{value_answer};
 ghost use Rattle.pylock_program.specs.Reply.{requirement_answer, requirement_line, names_text};
@@ -22,10 +23,16 @@ use crate::reply::queries::Query;
 use crate::report::fault::RunFault;
 use crate::report::print::print;
 use crate::stream::Sink;
+use crate::text::audit::push_findings;
 use crate::text::field::{push_field, push_last_word, push_next};
 use crate::text::files::push_files;
+use crate::text::json::push_lock_json;
 use crate::text::refusal::{push_environment_error, push_lock_error};
-use pylock_core::{EnvError, FaultCode, Lock, LockError, read_environment};
+use pylock_audit::{Found, audit};
+use pylock_command::Form;
+use pylock_core::{Entry, EnvError, FaultCode, Lock, LockError, read_environment};
+use pylock_documents::{files_document, findings_document};
+use pylock_json::push_document;
 use pylock_reasons::{fault_word, tag_text};
 use pymark_core::{Environment, EvalFault, Marker, MarkerError, Requirement, RequirementError};
 use pyver_core::{SpecifierError, SpecifierSet, Version, VersionError, is_name, normal_name};
@@ -47,7 +54,8 @@ fn push_reply(alloc: Global, out: &mut Vec<u8>, query: Query<'_>) -> Result<u8, 
     ensures { Pushes out.old.items out.new.items (reply query.entry) result }
 {
     match query {
-        Query::Files(lock) => push_files_of(alloc, out, lock),
+        Query::Files(lock, form) => push_files_of(alloc, out, form, lock),
+        Query::Audit(lock, form) => push_audit_of(alloc, out, form, lock),
         Query::Version(text) => push_version(alloc, out, text),
         Query::Match(set, version) => push_match(alloc, out, set, version),
         Query::Name(text) => push_name(alloc, out, text),
@@ -57,20 +65,83 @@ fn push_reply(alloc: Global, out: &mut Vec<u8>, query: Query<'_>) -> Result<u8, 
     }
 }
 
-fn push_files_of(alloc: Global, out: &mut Vec<u8>, lock: &[u8]) -> Result<u8, AllocError>
-    ensures { Pushes out.old.items out.new.items (reply_of (files_answer lock.now)) result }
+fn push_files_of(
+    alloc: Global,
+    out: &mut Vec<u8>,
+    form: Form,
+    lock: &[u8],
+) -> Result<u8, AllocError>
+    ensures { Pushes out.old.items out.new.items
+        (reply_of (files_answer form lock.now)) result }
 {
     match Lock::read(alloc, lock) {
-        Ok(lock) => {
-            push_files(alloc, out, lock.entries())?;
-            Ok(0)
-        }
+        Ok(lock) => push_files_in(alloc, out, form, lock.entries()),
         Err(LockError::Memory) => Err(AllocError),
-        Err(error) => {
-            push_lock_error(out, &error)?;
-            Ok(2)
-        }
+        Err(error) => push_unread(alloc, out, form, &error),
     }
+}
+
+fn push_files_in(
+    alloc: Global,
+    out: &mut Vec<u8>,
+    form: Form,
+    entries: &[Entry],
+) -> Result<u8, AllocError>
+    ensures text { OnOk result (out.new.items ≡ out.old.items ++ files_shown form entries.now) }
+    ensures status { IfOk result (λ status. status ≡ 0) }
+{
+    match form {
+        Form::Lines => push_files(alloc, out, entries)?,
+        Form::Json => push_document(alloc, out, files_document(alloc, entries)?)?,
+    }
+    Ok(0)
+}
+
+/// Pushes a refused lock.
+fn push_unread(
+    alloc: Global,
+    out: &mut Vec<u8>,
+    form: Form,
+    error: &LockError,
+) -> Result<u8, AllocError>
+    ensures { Pushes out.old.items out.new.items (unread_lock form error.now) result }
+{
+    match form {
+        Form::Lines => push_lock_error(out, error)?,
+        Form::Json => push_lock_json(alloc, out, error)?,
+    }
+    Ok(2)
+}
+
+fn push_audit_of(
+    alloc: Global,
+    out: &mut Vec<u8>,
+    form: Form,
+    lock: &[u8],
+) -> Result<u8, AllocError>
+    ensures { Pushes out.old.items out.new.items
+        (reply_of (audit_answer form lock.now)) result }
+{
+    match audit(alloc, lock) {
+        Ok(found) => push_findings_in(alloc, out, form, found.as_slice()),
+        Err(LockError::Memory) => Err(AllocError),
+        Err(error) => push_unread(alloc, out, form, &error),
+    }
+}
+
+fn push_findings_in(
+    alloc: Global,
+    out: &mut Vec<u8>,
+    form: Form,
+    found: &[Found],
+) -> Result<u8, AllocError>
+    ensures { Pushes out.old.items out.new.items (reply_of (found_answer form found.now)) result }
+{
+    match form {
+        Form::Lines => push_findings(out, found)?,
+        Form::Json => push_document(alloc, out, findings_document(alloc, found)?)?,
+    }
+    Ok(if found.is_empty() { 0 } else { 1 })
 }
 
 fn push_version(alloc: Global, out: &mut Vec<u8>, text: &str) -> Result<u8, AllocError>

@@ -3,7 +3,7 @@
 //! leaves what it should, or answers just what it answers with ample memory.
 
 use crate::check::{End, check_growth};
-use pylock_command::{Choice, CommandError, Task, command};
+use pylock_command::{Choice, CommandError, Form, Task, command};
 use pylock_core::{
     Answer, Edit, EditError, Entry, EnvError, Lock, LockError, Session, read_environment,
 };
@@ -182,8 +182,8 @@ const OPTIONS: [Choice<'static>; 6] = [
 const PLANNED: &[u8] = b"plan 2\n1\ta\t1\tsdist\ta-1.tar.gz\ts/a-1.tar.gz\t-\t-\t-\n\
         2\tb\t-\tdirectory\t-\tb\t-\t-\t-\n";
 
-/// `plan` with these options ends so, or is refused memory.
-fn check_plan<R: Abort + AllocGlobal>(rt: &R, choices: &[Choice<'_>], wanted: End<'_>) {
+/// `plan` with these options ends so in this form, or is refused memory.
+fn check_plan<R: Abort + AllocGlobal>(rt: &R, form: Form, choices: &[Choice<'_>], wanted: End<'_>) {
     let Ok(mut room) = Room::new(rt.alloc(), 4096, 4096, None) else {
         return;
     };
@@ -193,6 +193,7 @@ fn check_plan<R: Abort + AllocGlobal>(rt: &R, choices: &[Choice<'_>], wanted: En
     let (lock, environment) = (document(WHEELS), TAGGED.as_bytes());
     let answer = plan(
         rt.alloc(),
+        form,
         lock,
         environment,
         choices,
@@ -224,24 +225,64 @@ const EXPLAINED: &[u8] = b"head\tok\t-\n1\ta\t-\tskipped\tos_name == 'nt'\n\
         7\tf\t-\twheel\tf-1-py3-none-any.whl py3-none-any\n\
         8\tg\t\\u{7f}\tsdist\tg.zip\n";
 
-#[test]
-fn explain_reasons(rt: HostRuntime) {
+/// `explain` in this form prints this, or is refused memory.
+fn check_explain<R: Abort + AllocGlobal>(rt: &R, form: Form, lock: &str, wanted: End<'_>) {
     let Ok(mut room) = Room::new(rt.alloc(), 4096, 4096, None) else {
         return;
     };
     let Ok(mut notes) = Room::new(rt.alloc(), 1024, 1024, None) else {
         return;
     };
-    let (lock, environment) = (document(REASONS), TAGGED.as_bytes());
-    let answer = explain(rt.alloc(), lock, environment, &[], &mut room, &mut notes);
-    check_growth(&rt, (answer, room.bytes()), (Ok(1), EXPLAINED));
+    let (lock, environment) = (document(lock), TAGGED.as_bytes());
+    let answer = explain(
+        rt.alloc(),
+        form,
+        lock,
+        environment,
+        &[],
+        &mut room,
+        &mut notes,
+    );
+    check_growth(rt, (answer, room.bytes()), wanted);
+}
+
+#[test]
+fn explain_reasons(rt: HostRuntime) {
+    check_explain(&rt, Form::Lines, REASONS, (Ok(1), EXPLAINED));
+    let refused = b"{\"pylock\":1,\"refused\":[\"lock\",\"toml\"]}\n";
+    check_explain(&rt, Form::Json, "[", (Ok(2), refused));
+}
+
+const EXPLAINED_JSON: &[u8] = b"{\"entries\":[{\"detail\":\"os_name == 'nt'\",\"id\":1,\
+        \"name\":\"a\",\"verdict\":\"skipped\"}],\"head\":{\"verdict\":\"ok\"},\
+        \"pylock\":1}\n";
+
+#[test]
+fn explain_document(rt: HostRuntime) {
+    let lock = "lock-version = \"1.0\"\ncreated-by = \"t\"\npackages = [{name=\"a\", \
+        marker=\"os_name == 'nt'\"}]\n";
+    check_explain(&rt, Form::Json, lock, (Ok(0), EXPLAINED_JSON));
 }
 
 #[test]
 fn plan_with_options(rt: HostRuntime) {
-    check_plan(&rt, &OPTIONS, (Ok(0), PLANNED));
+    check_plan(&rt, Form::Lines, &OPTIONS, (Ok(0), PLANNED));
     let refused = [Choice::Extra("x"), Choice::Group("y")];
-    check_plan(&rt, &refused, (Ok(1), b"refused\tgroup\ty\n"));
+    let line = b"refused\tgroup\ty\n";
+    check_plan(&rt, Form::Lines, &refused, (Ok(1), line));
+}
+
+const PLANNED_JSON: &[u8] = b"{\"plan\":[{\"file\":\"a-1.tar.gz\",\"id\":1,\"kind\":\"sdist\",\
+        \"name\":\"a\",\"path\":\"s/a-1.tar.gz\",\"place\":\"s/a-1.tar.gz\",\
+        \"version\":\"1\"},{\"id\":2,\"kind\":\"directory\",\"name\":\"b\",\
+        \"path\":\"b\",\"place\":\"b\"}],\"pylock\":1}\n";
+
+#[test]
+fn plan_document(rt: HostRuntime) {
+    check_plan(&rt, Form::Json, &OPTIONS, (Ok(0), PLANNED_JSON));
+    let refused = [Choice::Extra("x"), Choice::Group("y")];
+    let document = b"{\"pylock\":1,\"refused\":[\"group\",\"y\"]}\n";
+    check_plan(&rt, Form::Json, &refused, (Ok(1), document));
 }
 
 const HALF: &str =
@@ -263,7 +304,7 @@ fn refused_files(rt: HostRuntime) {
 
 /// The reply and its status are these, or memory is refused.
 fn check_query<R: Abort + AllocGlobal>(rt: &R, asked: Query<'_>, reply: &[u8], status: u8) {
-    let Ok(mut room) = Room::new(rt.alloc(), 200, 7, None) else {
+    let Ok(mut room) = Room::new(rt.alloc(), 500, 7, None) else {
         return;
     };
     let answer = query(rt.alloc(), asked, &mut room);
@@ -281,8 +322,52 @@ const SOURCES: &[u8] = b"files 2\n1\tb-b\t1.0\tdirectory\t-\t./b\t-\t-\ts\n\
 
 #[test]
 fn files_queries(rt: HostRuntime) {
-    check_query(&rt, Query::Files(LOCK.as_bytes()), SOURCES, 0);
-    check_query(&rt, Query::Files(b"["), b"lock\ttoml\n", 2);
+    check_query(&rt, Query::Files(LOCK.as_bytes(), Form::Lines), SOURCES, 0);
+    check_query(&rt, Query::Files(b"[", Form::Lines), b"lock\ttoml\n", 2);
+    let refused = b"{\"pylock\":1,\"refused\":[\"lock\",\"entry\",\"1\",\"marker\"]}\n";
+    check_query(&rt, Query::Files(HALF.as_bytes(), Form::Json), refused, 2);
+}
+
+/// A lock with findings of which each takes memory.
+const AUDITED: &str = "lock-version = \"1.0\"\ncreated-by = \"t\"\npackages = [{name=\"A\", \
+        marker=\"'x' in extras\", archive={url=\"http://u:p@h/a\", hashes={md5=\"=\"}}}]\n";
+
+const FINDINGS: &[u8] = b"findings 7\n1\ta\tname-form\tA\n\
+        1\ta\tundeclared-name\t'x' in extras\n\
+        1\ta\tweak-hash\tarchive http://***@h/a md5\n\
+        1\ta\todd-hash\tarchive http://***@h/a md5\n\
+        1\ta\tbad-hash\tarchive http://***@h/a md5\n\
+        1\ta\tnot-https\thttp://***@h/a\n1\ta\tcredentials\tarchive url\n";
+
+#[test]
+fn audit_queries(rt: HostRuntime) {
+    check_query(
+        &rt,
+        Query::Audit(AUDITED.as_bytes(), Form::Lines),
+        FINDINGS,
+        1,
+    );
+    check_query(&rt, Query::Audit(b"[", Form::Lines), b"lock\ttoml\n", 2);
+}
+
+/// An entry without a file, which has wheels of two names.
+const NAMED: &str = "lock-version = \"1.0\"\ncreated-by = \"t\"\npackages = [{name=\"a\", \
+        version=\"1\", wheels=[{path=\"b-2-py3-none-any.whl\", hashes={sha256=\"\"}}]}]\n";
+
+const NAMED_JSON: &[u8] = b"{\"findings\":[{\"detail\":\"wheel b-2-py3-none-any.whl sha256\",\
+        \"finding\":\"bad-hash\",\"id\":1,\"name\":\"a\"},{\"detail\":\
+        \"b-2-py3-none-any.whl\",\"finding\":\"other-name\",\"id\":1,\"name\":\"a\"},\
+        {\"detail\":\"b-2-py3-none-any.whl\",\"finding\":\"other-version\",\"id\":1,\
+        \"name\":\"a\"}],\"pylock\":1}\n";
+
+#[test]
+fn audit_document(rt: HostRuntime) {
+    check_query(
+        &rt,
+        Query::Audit(NAMED.as_bytes(), Form::Json),
+        NAMED_JSON,
+        1,
+    );
 }
 
 #[test]
@@ -359,10 +444,11 @@ fn wheel_queries(rt: HostRuntime) {
 fn texts_of(task: Task<'_>) -> (&str, &str, &str) {
     match task {
         Task::Bare => ("", "", ""),
-        Task::Plan(lock, environment, _) => ("plan", lock, environment),
-        Task::Explain(lock, environment, _) => ("explain", lock, environment),
+        Task::Plan(lock, environment, _, _) => ("plan", lock, environment),
+        Task::Explain(lock, environment, _, _) => ("explain", lock, environment),
         Task::Select(lock, environment) => ("select", lock, environment),
-        Task::Files(lock) => ("files", lock, ""),
+        Task::Files(lock, _) => ("files", lock, ""),
+        Task::Audit(lock, _) => ("audit", lock, ""),
         Task::Version(version) => ("version", version, ""),
         Task::Match(set, version) => ("match", set, version),
         Task::Name(name) => ("name", name, ""),

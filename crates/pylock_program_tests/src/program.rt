@@ -1,7 +1,7 @@
 //! What the program does with its task, over files in memory.
 
 use crate::check::{ENVIRONMENT, HEAD, Shelf, check_bytes};
-use pylock_command::Task;
+use pylock_command::{Form, Task};
 use pylock_program::{
     Failure, FileFault, Pieces, Room, RunFault, open_fault, perform, read_file, words_failure,
 };
@@ -51,6 +51,9 @@ fn greets(rt: HostRuntime) -> Result<(), Fail> {
     Ok(())
 }
 
+/// What `audit` prints of a lock without entries.
+const AUDITED: &str = "findings 1\n0\t-\tno-packages\t-\n";
+
 #[test]
 fn reads_both_files(rt: HostRuntime) -> Result<(), Fail> {
     for (task, status, text) in [
@@ -58,16 +61,17 @@ fn reads_both_files(rt: HostRuntime) -> Result<(), Fail> {
         (Task::Select("environment", "lock"), 2, "lock\ttoml\n"),
         (Task::Select("lock", "lock"), 2, "environment\tjson\n"),
         (
-            Task::Plan("lock", "environment", Vec::new(rt.alloc())),
+            Task::Plan("lock", "environment", Vec::new(rt.alloc()), Form::Lines),
             0,
             "plan 0\n",
         ),
         (
-            Task::Explain("lock", "environment", Vec::new(rt.alloc())),
+            Task::Explain("lock", "environment", Vec::new(rt.alloc()), Form::Lines),
             0,
             "head\tok\t-\n",
         ),
-        (Task::Files("lock"), 0, "files 0\n"),
+        (Task::Files("lock", Form::Lines), 0, "files 0\n"),
+        (Task::Audit("lock", Form::Lines), 1, AUDITED),
         (Task::Marker("'a' == 'a'", "environment"), 0, "true\n"),
         (Task::Marker("'a' == 'a'", "lock"), 2, "environment\tjson\n"),
     ] {
@@ -85,22 +89,23 @@ fn refuses_either_file(rt: HostRuntime) -> Result<(), Fail> {
         (Task::Select("lock", "absent"), Failure::File),
         (Task::Select("lock", "full"), Failure::Memory),
         (
-            Task::Plan("lock", "absent", Vec::new(rt.alloc())),
+            Task::Plan("lock", "absent", Vec::new(rt.alloc()), Form::Lines),
             Failure::NamedFile,
         ),
         (
-            Task::Plan("full", "lock", Vec::new(rt.alloc())),
+            Task::Plan("full", "lock", Vec::new(rt.alloc()), Form::Json),
             Failure::Memory,
         ),
         (
-            Task::Explain("absent", "full", Vec::new(rt.alloc())),
+            Task::Explain("absent", "full", Vec::new(rt.alloc()), Form::Json),
             Failure::NamedFile,
         ),
         (
-            Task::Explain("lock", "full", Vec::new(rt.alloc())),
+            Task::Explain("lock", "full", Vec::new(rt.alloc()), Form::Lines),
             Failure::Memory,
         ),
-        (Task::Files("absent"), Failure::NamedFile),
+        (Task::Files("absent", Form::Lines), Failure::NamedFile),
+        (Task::Audit("absent", Form::Json), Failure::NamedFile),
         (Task::Marker("'a' == 'a'", "large"), Failure::File),
     ] {
         check_task(&rt, task, None, Err(failure), "")?;
@@ -122,7 +127,14 @@ fn tells_which_file(rt: HostRuntime) -> Result<(), Fail> {
     ] {
         let mut notes = Room::new(rt.alloc(), 100, 7, None)?;
         let failure = Err(Failure::NamedFile);
-        check_noted(&rt, Task::Files(path), None, failure, "", &mut notes)?;
+        check_noted(
+            &rt,
+            Task::Files(path, Form::Lines),
+            None,
+            failure,
+            "",
+            &mut notes,
+        )?;
         check_bytes(&rt, notes.bytes(), line.as_bytes());
     }
     Ok(())
@@ -132,7 +144,14 @@ fn tells_which_file(rt: HostRuntime) -> Result<(), Fail> {
 fn tells_nothing_where_a_note_fails(rt: HostRuntime) -> Result<(), Fail> {
     let mut notes = Room::new(rt.alloc(), 100, 100, Some(1))?;
     let failure = Err(Failure::NamedFile);
-    check_noted(&rt, Task::Files("missing"), None, failure, "", &mut notes)?;
+    check_noted(
+        &rt,
+        Task::Audit("missing", Form::Lines),
+        None,
+        failure,
+        "",
+        &mut notes,
+    )?;
     check_bytes(&rt, notes.bytes(), b"");
     Ok(())
 }

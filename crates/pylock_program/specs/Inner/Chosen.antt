@@ -2,8 +2,8 @@
 use Rattle.std.specs.Prelude.{ℕ, List, Bool, true, false, Option, Some, None, Result, Ok, Err}
 use Rattle.pylock_command.specs.declared.choice.Choice.{Choice}
 use Rattle.pylock_core.specs.Session.State.{State}
-use Rattle.pylock_program.specs.Report.{standing_text}
-use Rattle.pylock_program.specs.Text.Explain.{explain_text}
+use Rattle.pylock_command.specs.declared.form.Form.{Form}
+use Rattle.pylock_program.specs.Choices.{explain_shown, plan_shown}
 use Rattle.pylock_program.specs.declared.choices.View.{View}
 use Rattle.pylock_program.specs.declared.choices.View.TheVariants.{Plan, Explain}
 
@@ -18,6 +18,6 @@ made true state = Some state
 made false state = None
 
 -- what is printed of a state
-abbrev pub view_text : View → State → List ℕ
-view_text Plan = standing_text
-view_text Explain = explain_text
+abbrev pub view_shown : View → Form → State → List ℕ
+view_shown Plan = plan_shown
+view_shown Explain = explain_shown

@@ -1,10 +1,14 @@
 //! What the one-shot commands ask.
 
+use pylock_command::Form;
+
 /// What a one-shot command asks.
 #[derive(Clone, Copy, Debug)]
 pub enum Query<'a> {
     /// Every source that a lock names, which is given by the bytes of its TOML text (PEP 751).
-    Files(&'a [u8]),
+    Files(&'a [u8], Form),
+    /// What a careful reader of a lock would want to be told.
+    Audit(&'a [u8], Form),
     /// The normal form of a version (PEP 440).
     Version(&'a str),
     /// Whether a specifier set, which stands first, admits a version (PEP 440).

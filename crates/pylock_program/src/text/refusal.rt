@@ -102,7 +102,7 @@ fn push_head(out: &mut Vec<u8>, key: &HeadKey) -> Result<(), AllocError>
     ensures { OnOk result (out.new.items ≡ out.old.items ++ tabbed (lock_words (Head key.now))) }
 {
     push_word(out, b"head")?;
-    push_word(out, head_word(key))
+    push_word(out, head_word(key).as_bytes())
 }
 
 fn push_entry_error(out: &mut Vec<u8>, place: usize, error: &EntryError) -> Result<(), AllocError>
@@ -111,7 +111,7 @@ fn push_entry_error(out: &mut Vec<u8>, place: usize, error: &EntryError) -> Resu
 {
     out.extend_from_slice(b"\tentry\t")?;
     push_decimal(out, place as u64)?;
-    push_word(out, entry_word(error))
+    push_word(out, entry_word(error).as_bytes())
 }
 
 fn push_tag(out: &mut Vec<u8>, place: usize) -> Result<(), AllocError>
@@ -122,41 +122,43 @@ fn push_tag(out: &mut Vec<u8>, place: usize) -> Result<(), AllocError>
     push_decimal(out, place as u64)
 }
 
-fn head_word(key: &HeadKey) -> &'static [u8]
+/// The word of a key of the head.
+pub(crate) fn head_word(key: &HeadKey) -> &'static str
     ensures { result.now ≡ head_word key.now }
 {
     match key {
-        HeadKey::Environments => b"environments",
-        HeadKey::RequiresPython => b"requires-python",
-        HeadKey::Extras => b"extras",
-        HeadKey::DependencyGroups => b"dependency-groups",
-        HeadKey::DefaultGroups => b"default-groups",
+        HeadKey::Environments => "environments",
+        HeadKey::RequiresPython => "requires-python",
+        HeadKey::Extras => "extras",
+        HeadKey::DependencyGroups => "dependency-groups",
+        HeadKey::DefaultGroups => "default-groups",
     }
 }
 
-fn entry_word(error: &EntryError) -> &'static [u8]
+/// The word of an entry's refusal.
+pub(crate) fn entry_word(error: &EntryError) -> &'static str
     ensures { result.now ≡ entry_word error.now }
 {
     match error {
-        EntryError::Toml => b"toml",
-        EntryError::NotTable => b"not-table",
-        EntryError::Name => b"name",
+        EntryError::Toml => "toml",
+        EntryError::NotTable => "not-table",
+        EntryError::Name => "name",
         EntryError::Key(key) => key_word(key),
-        EntryError::Marker => b"marker",
-        EntryError::RequiresPython => b"requires-python",
-        EntryError::Memory => b"memory",
+        EntryError::Marker => "marker",
+        EntryError::RequiresPython => "requires-python",
+        EntryError::Memory => "memory",
     }
 }
 
-fn key_word(key: &EntryKey) -> &'static [u8]
+fn key_word(key: &EntryKey) -> &'static str
     ensures { result.now ≡ key_word key.now }
 {
     match key {
-        EntryKey::Version => b"version",
-        EntryKey::Vcs => b"vcs",
-        EntryKey::Directory => b"directory",
-        EntryKey::Archive => b"archive",
-        EntryKey::Sdist => b"sdist",
-        EntryKey::Wheels => b"wheels",
+        EntryKey::Version => "version",
+        EntryKey::Vcs => "vcs",
+        EntryKey::Directory => "directory",
+        EntryKey::Archive => "archive",
+        EntryKey::Sdist => "sdist",
+        EntryKey::Wheels => "wheels",
     }
 }

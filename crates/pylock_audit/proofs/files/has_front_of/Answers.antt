@@ -3,7 +3,7 @@ use Rattle.std.specs.List.{list_any}
 use Rattle.pywheel_core.specs.Texts.{cut_at}
 use Rattle.pylock_audit.proofs.FrontLemmas.{next_front, no_front}
 use Rattle.pylock_audit.proofs.UserLemmas.{cut_shorter}
-use Rattle.pylock_audit.specs.Entry.{fronts_behind, is_name_of}
+use Rattle.pylock_audit.specs.Entry.{is_name_of}
 use Rattle.pylock_audit.proofs.files.has_front_of.Goals as goal
 
 pub returns-then-branch : goal.returns-then-branch

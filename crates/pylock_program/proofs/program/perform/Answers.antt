@@ -14,3 +14,6 @@ returns-in-Plan g c = rw c.in-Plan.is (c.plan_files.ensures (g.R.Source.value c.
 
 pub returns-in-Explain : goal.returns-in-Explain
 returns-in-Explain g c = rw c.in-Explain.is (c.explain_files.ensures (g.R.Source.value c.args.reader.now))
+
+pub returns-in-Audit : goal.returns-in-Audit
+returns-in-Audit g c = rw c.in-Audit.is (c.inspect.ensures (g.R.Source.value c.args.reader.now))

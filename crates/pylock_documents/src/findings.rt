@@ -1,0 +1,42 @@
+//! What is found in a lock.
+
+ghost use Rattle.std.specs.Prelude.{◌≡◌, IfOk, map};
+ghost use Rattle.serde_json.specs.View.{members_view, view as data_of};
+ghost use Rattle.pylock_json.specs.Json.{members_of, object_of};
+ghost use Rattle.pylock_documents.specs.Documents.{findings_rows, found_rows};
+
+use pylock_audit::Found;
+use pylock_json::{Json, List, Object};
+use std::alloc::{AllocError, Global};
+
+/// The document of findings, in their order. It takes memory for the object.
+pub fn findings_document(alloc: Global, found: &[Found]) -> Result<Object, AllocError>
+    ensures { IfOk result (λ object. members_view object ≡ members_of (findings_rows found.now)) }
+{
+    let findings = findings_list(alloc, found)?;
+    let mut object = Object::new(alloc);
+    object.put(alloc, "findings", findings.into_json())?;
+    Ok(object)
+}
+
+fn findings_list(alloc: Global, found: &[Found]) -> Result<List, AllocError>
+    ensures { IfOk result (λ list. map data_of list
+        ≡ map (λ one. object_of (found_rows one)) found.now) }
+{
+    let mut list = List::new(alloc);
+    for one in found {
+        list.push(found_json(alloc, one)?)?;
+    }
+    Ok(list)
+}
+
+fn found_json(alloc: Global, found: &Found) -> Result<Json, AllocError>
+    ensures { IfOk result (λ json. data_of json ≡ object_of (found_rows found.now)) }
+{
+    let mut object = Object::new(alloc);
+    object.put_number(alloc, "id", found.number() as u64)?;
+    object.put_maybe(alloc, "name", found.name())?;
+    object.put_text(alloc, "finding", found.finding().kind().word())?;
+    object.put_maybe(alloc, "detail", found.finding().detail())?;
+    Ok(object.into_json())
+}

@@ -1,0 +1,37 @@
+-- What is printed in place of an answer, as JSON documents.
+use Rattle.std.specs.Prelude.{ℕ, List, [], ◌∷◌, codes}
+use Rattle.std.specs.Option.{option_map_or}
+use Rattle.pylock_command.specs.Choices.{written}
+use Rattle.pylock_command.specs.declared.choice.Choice.{Choice}
+use Rattle.pylock_documents.specs.Documents.{refused_rows}
+use Rattle.pylock_json.specs.Json.{Row, document_text, members_of}
+use Rattle.pylock_readers.specs.declared.error.EnvError.{EnvError}
+use Rattle.pylock_readers.specs.declared.error.LockError.{LockError}
+use Rattle.pylock_program.specs.Text.Refusal.{environment_words, lock_words}
+use Rattle.pylock_program.specs.declared.report.opening.OpenError.{OpenError}
+use Rattle.pylock_program.specs.declared.report.opening.OpenError.TheVariants as open_error
+
+-- a document of these members
+abbrev pub json_text : List Row → List ℕ
+json_text rows = document_text (members_of rows)
+
+-- a refusal: the words of its line
+abbrev pub refused_json : List (List ℕ) → List ℕ
+refused_json words = json_text (refused_rows words)
+
+abbrev pub lock_json : LockError → List ℕ
+lock_json error = refused_json (codes "lock" ∷ lock_words error)
+
+abbrev pub environment_json : EnvError → List ℕ
+environment_json error = refused_json (codes "environment" ∷ environment_words error)
+
+-- want of memory is no refusal, and is never printed
+abbrev pub refusal_json : OpenError → List ℕ
+refusal_json (open_error.Lock error) = lock_json error
+refusal_json (open_error.Environment error) = environment_json error
+refusal_json open_error.Memory = []
+
+-- an option that is refused: its word, without the dashes, and its text as it was given
+abbrev pub option_json : Choice → List ℕ
+option_json choice =
+    refused_json ((written choice).0 ∷ option_map_or (λ text. text ∷ []) (written choice).1 [])
