@@ -16,7 +16,7 @@ abbrev pub json_text : List Row → List ℕ
 json_text rows = document_text (members_of rows)
 
 -- a refusal: the words of its line
-abbrev pub refused_json : List (List ℕ) → List ℕ
+unfoldable pub refused_json : List (List ℕ) → List ℕ
 refused_json words = json_text (refused_rows words)
 
 abbrev pub lock_json : LockError → List ℕ

@@ -1,6 +1,6 @@
 //! What is printed in place of an answer, as JSON documents.
 
-ghost use Rattle.std.specs.Prelude.{◌≡◌, ◌++◌, OnOk, map};
+ghost use Rattle.std.specs.Prelude.{◌≡◌, ◌++◌, ◌∷◌, [], OnOk, map};
 ghost use Rattle.pylock_program.specs.Text.Json.{environment_json, lock_json, option_json};
 ghost use Rattle.pylock_program.specs.Text.Json.{refusal_json, refused_json};
 
@@ -14,6 +14,7 @@ use pylock_json::push_document;
 use std::alloc::{AllocError, Global};
 
 /// Pushes the document of a refusal, of these words.
+#[tactic(auto, unfolding(crate::specs::Text::Json::refused_json))]
 fn push_refused(alloc: Global, out: &mut Vec<u8>, words: &[&str]) -> Result<(), AllocError>
     ensures { OnOk result (out.new.items
         ≡ out.old.items ++ refused_json (map (λ word. word.now) words.now)) }
@@ -93,7 +94,19 @@ pub(crate) fn push_option_json(
 {
     let word = option_word(choice);
     match option_text(choice) {
-        Some(text) => push_refused(alloc, out, &[word, text]),
+        Some(text) => push_refused_pair(alloc, out, word, text),
         None => push_refused(alloc, out, &[word]),
     }
+}
+
+fn push_refused_pair<'a>(
+    alloc: Global,
+    out: &mut Vec<u8>,
+    word: &'a str,
+    text: &'a str,
+) -> Result<(), AllocError>
+    ensures { OnOk result (out.new.items
+        ≡ out.old.items ++ refused_json (word.now ∷ text.now ∷ [])) }
+{
+    push_refused(alloc, out, &[word, text])
 }
