@@ -242,11 +242,11 @@ FINDING is one of these:
   undeclared-name    the marker asks for an extra or a group that the lock
                      doesn't declare
   no-source          an entry has no source
-  several-sources    an entry has several sources
+  several-sources    an entry has sources of several kinds
   no-hash            a file has no hash
-  weak-hash          md5 or sha1 are the only hashes of a file
+  weak-hash          a file has hashes, and none is of a strong algorithm
   odd-hash           a hash has a , or a = in it
-  bad-hash           a hash has a wrong length, or isn't hex
+  bad-hash           a hash is too short or too long, or isn't hex
   no-wheel-name      the file name of a wheel can't be read
   other-name         a file is of another package
   other-version      a file is of another version
