@@ -21,7 +21,7 @@ use Rattle.pylock_reasons.specs.Reasons.{detail, head_detail}
 use Rattle.pylock_reasons.specs.Words.{fault_word, verdict_word}
 use Rattle.pylock_documents.specs.Source.{entry_rows, source_data}
 
--- what may be left out, as the items of a list
+-- what may be absent, as a list of one item or none
 abbrev pub where_there : {X : Type 0} → (X → Data) → Option X → List Data
 where_there shown found = option_map_or (λ x. shown x ∷ []) found []
 
@@ -30,8 +30,8 @@ where_there shown found = option_map_or (λ x. shown x ∷ []) found []
 -- the source of a pick; its number is that of an entry that has the source, so it is there
 abbrev pub pick_data : State → Pick → List Data
 pick_data state pick =
-    option_map_or (λ entry.
-    where_there (source_data pick.id entry) (source_in entry pick.source))
+    option_map_or
+    (λ entry. where_there (source_data pick.id entry) (source_in entry pick.source))
     (entry_at pick.id state.entries) []
 
 -- the fate of a number
@@ -83,6 +83,9 @@ head_rows state None = verdict_rows (codes "ok") None
 head_rows state (Some code) =
     verdict_rows (fault_word code) (head_detail state.head state.environment code)
 
+abbrev pub head_data : State → Data
+head_data state = object_of (head_rows state (head_fault state.head state.environment))
+
 abbrev pub fate_rows : State → ℕ → Fate → EntryValue → List Row
 fate_rows state number fate entry =
     entry_rows number entry
@@ -95,10 +98,8 @@ verdict_data state f =
 
 -- the head, and then each entry in order
 abbrev pub explain_rows : State → List Row
-explain_rows state = (
-  codes "head",
-  Some (object_of (head_rows state (head_fault state.head state.environment))),
-)
+explain_rows state =
+    (codes "head", Some (head_data state))
     ∷ (codes "entries", Some (list_of (flat_map (verdict_data state) (fates state))))
     ∷ []
 

@@ -5,8 +5,7 @@ ghost use Rattle.std.specs.List.{flat_map};
 ghost use Rattle.std.specs.Option.{option_copied};
 ghost use Rattle.serde_json.specs.View.{members_view, view as data_of};
 ghost use Rattle.pylock_json.specs.Json.{members_of, object_of, with_rows};
-ghost use Rattle.pylock_core.specs.Session.Steps.{head_fault};
-ghost use Rattle.pylock_documents.specs.Documents.{explain_rows, fate_rows, head_rows};
+ghost use Rattle.pylock_documents.specs.Documents.{explain_rows, fate_rows, head_data};
 ghost use Rattle.pylock_documents.specs.Documents.{verdict_data, verdict_rows};
 
 use crate::source::entry_object;
@@ -25,24 +24,22 @@ pub fn explain_document(alloc: Global, session: &Session) -> Result<Object, Allo
     let fates = session.fates()?;
     let entries = verdicts_list(alloc, session, fates.as_slice())?;
     let mut object = Object::new(alloc);
-    object.put(alloc, "head", head.into_json())?;
+    object.put(alloc, "head", head)?;
     object.put(alloc, "entries", entries.into_json())?;
     Ok(object)
 }
 
-fn head_object(alloc: Global, session: &Session) -> Result<Object, AllocError>
-    ensures { IfOk result (λ object. members_view object ≡ members_of (head_rows
-        session.now.state
-        (head_fault session.now.state.head session.now.state.environment))) }
+fn head_object(alloc: Global, session: &Session) -> Result<Json, AllocError>
+    ensures { IfOk result (λ json. data_of json ≡ head_data session.now.state) }
 {
     let mut object = Object::new(alloc);
     let Some(code) = session.head_fault() else {
         put_verdict(alloc, &mut object, "ok", None)?;
-        return Ok(object);
+        return Ok(object.into_json());
     };
     let detail = head_detail(alloc, session.head(), session.environment(), code)?;
     put_verdict(alloc, &mut object, fault_word(code), detail.as_deref())?;
-    Ok(object)
+    Ok(object.into_json())
 }
 
 fn verdicts_list(

@@ -1,6 +1,7 @@
 //! The answers of pylock as JSON documents: a plan or its fault, the files of a lock, what becomes
-//! of each entry, what is found in a lock, and the words of a refusal. They say what the printed lines say, with each field
-//! under a name of its own.
+//! of each entry, what is found in a lock, and the words of a refusal. They have what the printed
+//! lines have, each field under a name of its own, and of a fault its reason too. A field that is
+//! absent is left out.
 //!
 //! Each call gives an [`Object`](pylock_json::Object); its text is that of `pylock_json`'s
 //! `document`.

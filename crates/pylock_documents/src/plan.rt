@@ -5,7 +5,7 @@ ghost use Rattle.std.specs.Prelude.{string_bytes};
 ghost use Rattle.std.specs.List.{flat_map};
 ghost use Rattle.std.specs.Option.{option_copied};
 ghost use Rattle.serde_json.specs.View.{members_view, view as data_of};
-ghost use Rattle.pylock_json.specs.Json.{members_of};
+ghost use Rattle.pylock_json.specs.Json.{members_of, object_of};
 ghost use Rattle.pylock_core.specs.Session.Fates.{fates};
 ghost use Rattle.pylock_core.specs.Session.State.{entry_at};
 ghost use Rattle.pylock_reasons.specs.Reasons.{detail};
@@ -14,7 +14,7 @@ ghost use Rattle.pylock_documents.specs.Documents.{pick_data};
 
 use crate::source::source_object;
 use pylock_core::{Answer, Fate, FaultCode, Pick, Session};
-use pylock_json::{List, Object};
+use pylock_json::{Json, List, Object};
 use pylock_reasons::{detail, fault_word, head_detail};
 use std::alloc::{AllocError, Global};
 
@@ -36,7 +36,7 @@ pub fn plan_document(
         }
         Answer::Fault { id, code } => {
             let fault = fault_object(alloc, session, *id, *code)?;
-            object.put(alloc, "fault", fault.into_json())?;
+            object.put(alloc, "fault", fault)?;
         }
     }
     Ok(object)
@@ -77,9 +77,9 @@ fn fault_object(
     session: &Session,
     number: u32,
     code: FaultCode,
-) -> Result<Object, AllocError>
-    ensures { IfOk result (λ object. members_view object
-        ≡ members_of (fault_rows session.now.state number code)) }
+) -> Result<Json, AllocError>
+    ensures { IfOk result (λ json. data_of json
+        ≡ object_of (fault_rows session.now.state number code)) }
 {
     let detail = fault_detail(alloc, session, number, code)?;
     let mut object = Object::new(alloc);
@@ -87,7 +87,7 @@ fn fault_object(
     object.put_maybe(alloc, "name", name_of(session, number))?;
     object.put_text(alloc, "code", fault_word(code))?;
     object.put_maybe(alloc, "detail", detail.as_deref())?;
-    Ok(object)
+    Ok(object.into_json())
 }
 
 /// The name of the entry of a number; the head has none.

@@ -3,7 +3,8 @@
 ghost use Rattle.std.specs.Prelude.{◌≡◌, ◌∷◌, [], IfOk, OnOk, Some, codes, map};
 ghost use Rattle.std.specs.Option.{option_copied};
 ghost use Rattle.serde_json.specs.View.{members_view, view as data_of};
-ghost use Rattle.pylock_json.specs.Json.{maybe, members_of, there, with_row, with_rows};
+ghost use Rattle.pylock_json.specs.Json.{maybe, members_of, object_of, there, with_row};
+ghost use Rattle.pylock_json.specs.Json.{with_rows};
 ghost use Rattle.pylock_readers.specs.Text.{text_pairs};
 ghost use Rattle.pylock_core.specs.Session.Picks.{lent_source};
 ghost use Rattle.pylock_documents.specs.Source.{archive_rows, directory_rows, entry_rows};
@@ -31,7 +32,7 @@ pub(crate) fn source_object(
     Ok(object.into_json())
 }
 
-/// The number, the name and the version of an entry.
+/// An object with the number, the name and the version of an entry.
 pub(crate) fn entry_object(alloc: Global, number: u64, entry: &Entry) -> Result<Object, AllocError>
     ensures { IfOk result (λ object. members_view object
         ≡ members_of (entry_rows number entry.now)) }
@@ -66,11 +67,11 @@ fn put_vcs(alloc: Global, object: &mut Object, vcs: &Vcs) -> Result<(), AllocErr
 {
     object.put_text(alloc, "kind", "vcs")?;
     put_place(alloc, object, vcs.place(), vcs.url(), vcs.path())?;
-    object.put(alloc, "revision", revision(alloc, vcs)?)?;
+    object.put(alloc, "revision", revision_object(alloc, vcs)?)?;
     object.put_maybe(alloc, "subdirectory", vcs.subdirectory())
 }
 
-fn revision(alloc: Global, vcs: &Vcs) -> Result<Json, AllocError>
+fn revision_object(alloc: Global, vcs: &Vcs) -> Result<Json, AllocError>
     ensures { IfOk result (λ json. data_of json ≡ revision_data vcs.now) }
 {
     let mut object = Object::new(alloc);
@@ -158,17 +159,16 @@ fn put_hashes(
     if hashes.is_empty() {
         return Ok(());
     }
-    let values = hashes_object(alloc, hashes)?;
-    object.put(alloc, "hashes", values.into_json())
+    object.put(alloc, "hashes", hashes_object(alloc, hashes)?)
 }
 
-fn hashes_object(alloc: Global, hashes: &[(String, String)]) -> Result<Object, AllocError>
-    ensures { IfOk result (λ object. members_view object
-        ≡ members_of (map hash_row (text_pairs hashes.now))) }
+fn hashes_object(alloc: Global, hashes: &[(String, String)]) -> Result<Json, AllocError>
+    ensures { IfOk result (λ json. data_of json
+        ≡ object_of (map hash_row (text_pairs hashes.now))) }
 {
     let mut object = Object::new(alloc);
     for (algorithm, value) in hashes {
         object.put_text(alloc, algorithm.as_str(), value.as_str())?;
     }
-    Ok(object)
+    Ok(object.into_json())
 }
