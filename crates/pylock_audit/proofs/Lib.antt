@@ -1,6 +1,7 @@
 pub mod FrontLemmas
 pub mod KeyLemmas
 pub mod MaskLemmas
+pub mod NameLemmas
 pub mod UnsafeLemmas
 pub mod UserLemmas
 pub mod WheelLemmas

@@ -1,7 +1,8 @@
 //! What the file names of an entry say of the package and of each other.
 
 ghost use Rattle.std.specs.Prelude.{◌≡◌, ◌++◌, ◌∷◌, [], IfOk, OnOk, Some, map, option_and_then, option_map};
-ghost use Rattle.std.specs.Prelude.{slice_get, string_bytes, true};
+ghost use Rattle.std.specs.Prelude.{List, slice_get, string_bytes, true, ℕ};
+ghost use Rattle.std.specs.BTreeSet.{contains_text};
 ghost use Rattle.std.specs.List.{flat_map, list_any};
 ghost use Rattle.std.specs.Option.{option_copied, option_map_or};
 ghost use Rattle.std.specs.Str.{bytes_eq};
@@ -13,6 +14,7 @@ ghost use Rattle.pylock_audit.specs.Entry.{is_other_sdist, is_other_version, is_
 ghost use Rattle.pylock_audit.specs.Entry.{read_wheels, of_file_names, other_names, other_sdist};
 ghost use Rattle.pylock_audit.specs.Entry.{other_versions, same_file_names, same_names, unnamed_wheel};
 ghost use Rattle.pylock_audit.specs.Entry.{wanted_version, wheel_where};
+ghost use Rattle.pylock_audit.specs.Inner.Names.{Holds};
 ghost use Rattle.pylock_audit.specs.Source.{text_where};
 
 use crate::finding::{Finding, FindingKind, push_each, push_where};
@@ -20,6 +22,7 @@ use pylock_core::{DistributionFile, Entry, WheelFile};
 use pyver_core::{Version, VersionError, is_name, normal_name};
 use pywheel_core::WheelName;
 use std::alloc::{AllocError, Global};
+use std::collections::BTreeSet;
 
 /// A wheel, with what its file name says; nothing where that is absent or refused.
 #[derive(Clone, Copy)]
@@ -348,28 +351,42 @@ fn same_names(alloc: Global, entry: &Entry) -> Result<Vec<String>, AllocError>
     ensures { IfOk result (λ list. map string_bytes list.items ≡ same_file_names entry.now) }
 {
     let mut list = Vec::new(alloc);
-    let mut earlier = Vec::new(alloc);
+    let mut earlier = BTreeSet::new(alloc);
     push_same_names(alloc, &mut list, &mut earlier, entry.wheels())?;
-    match sdist_file_name(entry) {
-        Some(name) if is_among(earlier.as_slice(), name) => {
-            list.push(String::from_str(alloc, name)?)?;
-        }
-        _ => {}
-    }
+    push_same_sdist(alloc, &mut list, &earlier, sdist_file_name(entry))?;
     Ok(list)
 }
 
-fn push_same_names<'a>(
+/// Adds the file name of the sdist where a wheel has it.
+fn push_same_sdist(
     alloc: Global,
     list: &mut Vec<String>,
-    earlier: &mut Vec<&'a str>,
-    files: &'a [DistributionFile],
+    earlier: &BTreeSet<String>,
+    name: Option<&str>,
 ) -> Result<(), AllocError>
-    ensures list { OnOk result (map string_bytes list.new.items
-        ≡ map string_bytes list.old.items
-        ++ same_names (map (λ name. name.now) earlier.old.items) files.now) }
-    ensures earlier { OnOk result (map (λ name. name.now) earlier.new.items
-        ≡ with_names files.now (map (λ name. name.now) earlier.old.items)) }
+    ensures { OnOk result (map string_bytes list.new.items ≡ map string_bytes list.old.items
+        ++ text_where (contains_text earlier.now) (λ name. name) (option_copied name.entry)) }
+{
+    let Some(name) = name else {
+        return Ok(());
+    };
+    if earlier.contains(name) {
+        list.push(String::from_str(alloc, name)?)?;
+    }
+    Ok(())
+}
+
+fn push_same_names(
+    alloc: Global,
+    list: &mut Vec<String>,
+    earlier: &mut BTreeSet<String>,
+    files: &[DistributionFile],
+) -> Result<(), AllocError>
+    ensures list { OnOk result ((names : List (List ℕ)) → Holds earlier.old names
+        → map string_bytes list.new.items
+        ≡ map string_bytes list.old.items ++ same_names names files.now) }
+    ensures earlier { OnOk result ((names : List (List ℕ)) → Holds earlier.old names
+        → Holds earlier.new (with_names files.now names)) }
 {
     for file in files {
         push_same_name(alloc, list, earlier, file)?;
@@ -378,36 +395,24 @@ fn push_same_names<'a>(
 }
 
 /// Adds the file name where an earlier file has it, and has it among the earlier ones.
-fn push_same_name<'a>(
+fn push_same_name(
     alloc: Global,
     list: &mut Vec<String>,
-    earlier: &mut Vec<&'a str>,
-    file: &'a DistributionFile,
+    earlier: &mut BTreeSet<String>,
+    file: &DistributionFile,
 ) -> Result<(), AllocError>
-    ensures list { OnOk result (map string_bytes list.new.items
-        ≡ map string_bytes list.old.items ++ text_where
-        (λ name. list_any (bytes_eq name) (map (λ name. name.now) earlier.old.items))
-        (λ name. name) (file_name file.now)) }
-    ensures earlier { OnOk result (map (λ name. name.now) earlier.new.items
-        ≡ with_name (file_name file.now) (map (λ name. name.now) earlier.old.items)) }
+    ensures list { OnOk result ((names : List (List ℕ)) → Holds earlier.old names
+        → map string_bytes list.new.items ≡ map string_bytes list.old.items ++ text_where
+        (λ name. list_any (bytes_eq name) names) (λ name. name) (file_name file.now)) }
+    ensures earlier { OnOk result ((names : List (List ℕ)) → Holds earlier.old names
+        → Holds earlier.new (with_name (file_name file.now) names)) }
 {
     let Some(name) = file.file_name() else {
         return Ok(());
     };
-    if is_among(earlier.as_slice(), name) {
+    if earlier.contains(name) {
         list.push(String::from_str(alloc, name)?)?;
     }
-    earlier.push(name)?;
+    earlier.insert(String::from_str(alloc, name)?)?;
     Ok(())
-}
-
-fn is_among(names: &[&str], wanted: &str) -> bool
-    ensures { result ≡ list_any (bytes_eq wanted.now) (map (λ name. name.now) names.now) }
-{
-    for name in names {
-        if wanted == *name {
-            return true;
-        }
-    }
-    false
 }

@@ -1,10 +1,10 @@
-use Rattle.std.proofs.Common.{◌≡◌, ◌++◌, drop, map, string_bytes}
+use Rattle.std.proofs.Common.{◌≡◌, ◌++◌, ℕ, List, map, string_bytes, take}
 use Rattle.pylock_audit.specs.Entry.{same_names, with_names}
+use Rattle.pylock_audit.specs.Inner.Names.{Holds}
 use Rattle.pylock_audit.proofs.files.push_same_names.Given as goal
 
 abbrev pub invariant-loop-file : goal.invariant-loop-file
 invariant-loop-file l =
-    (map string_bytes l.list.items ++ same_names (map (λ name. name.now) l.earlier.items) (drop l.file-index l.files)
-    ≡ map string_bytes l.initial.list.items ++ same_names (map (λ name. name.now) l.initial.earlier.items) l.files)
-    × (with_names (drop l.file-index l.files) (map (λ name. name.now) l.earlier.items)
-    ≡ with_names l.files (map (λ name. name.now) l.initial.earlier.items))
+    (names : List (List ℕ)) → Holds l.initial.earlier names
+    → Holds l.earlier (with_names (take l.file-index l.files) names)
+    × (map string_bytes l.list.items ≡ map string_bytes l.initial.list.items ++ same_names names (take l.file-index l.files))

@@ -1,9 +1,0 @@
-use Rattle.std.proofs.Common.{◌≡◌, drop, map}
-use Rattle.std.specs.List.{list_any}
-use Rattle.std.specs.Str.{bytes_eq}
-use Rattle.pylock_audit.proofs.files.is_among.Given as goal
-
-abbrev pub invariant-loop-name : goal.invariant-loop-name
-invariant-loop-name l =
-    list_any (bytes_eq l.wanted) (map (λ name. name.now) l.names)
-    ≡ list_any (bytes_eq l.wanted) (map (λ name. name.now) (drop l.name-index l.names))
