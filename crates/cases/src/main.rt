@@ -1,8 +1,10 @@
 //! Cases of locks, of entries, of environments, of the messages on them, of sessions, of runs, of
-//! replies and of command lines: what each reader, session and command gives for the texts in
-//! `data/`.
+//! replies, of audits, of JSON documents and of command lines: what each reader, session and
+//! command gives for the texts in `data/`.
 #![tactic(auto)]
 
+mod audits;
+mod documents;
 mod edits;
 mod entries;
 mod environments;
@@ -27,7 +29,9 @@ struct Cases;
 impl Answers for Cases {
     fn answer(&self, alloc: Global, kind: &str, case: &Table) -> anyhow::Result<String> {
         match kind {
+            "audit" => audits::tell(alloc, case),
             "command" => words::tell(alloc, case),
+            "document" => documents::tell(alloc, case),
             "entry" => entries::judge(alloc, case),
             "entry_keys" => entries::tell(alloc, case),
             "environment" => environments::judge(alloc, case),

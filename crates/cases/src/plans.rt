@@ -18,16 +18,16 @@ pub(crate) fn tell(alloc: Global, case: &Table, name: &str) -> anyhow::Result<St
         told.push(' ')?;
         told.push_str(options)?;
         told.push('\n')?;
-        told.push_str(run(alloc, &inputs, name, options)?.as_str())?;
+        let words = words(alloc, name, options)?;
+        told.push_str(run(alloc, &inputs, &words)?.as_str())?;
     }
     Ok(told)
 }
 
-/// What the command prints with these options, its status, and what a person is told; of words that
+/// What the command of these words prints, its status, and what a person is told; of words that
 /// clap refuses, that they are refused.
-fn run(alloc: Global, inputs: &Inputs, name: &str, options: &str) -> anyhow::Result<String> {
-    let words = words(alloc, name, options)?;
-    let Ok(task) = command(alloc, &words) else {
+pub(crate) fn run(alloc: Global, inputs: &Inputs, words: &[&str]) -> anyhow::Result<String> {
+    let Ok(task) = command(alloc, words) else {
         return Ok(String::from_str(alloc, "refused by clap\n")?);
     };
     let (mut text, mut notes) = (Vec::new(alloc), Vec::new(alloc));
