@@ -1,5 +1,5 @@
--- Hashes of files: pairs of algorithm and value (PEP 751, `packages.archive.hashes`), with the names
--- of algorithms that Python's `hashlib` has.
+-- Hashes of files: pairs of algorithm and value (PEP 751, `packages.archive.hashes`), with the
+-- names of algorithms that Python's `hashlib` has.
 use Rattle.std.specs.Prelude.{ℕ, Bool, ◌==◌, ◌&&◌, ◌||◌, not, codes, List, [], ◌∷◌, length}
 use Rattle.std.specs.Prelude.{if◌then◌else◌}
 use Rattle.std.specs.Int.{is_in_range}

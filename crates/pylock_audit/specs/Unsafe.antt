@@ -1,5 +1,5 @@
--- Texts that do harm where they are used as they stand: names and paths that leave their folder, and
--- control characters.
+-- Texts that do harm where they are used as they stand: names and paths that leave their folder,
+-- and control characters.
 use Rattle.std.specs.Prelude.{ℕ, Bool, true, false, ◌==◌, ◌&&◌, ◌||◌, codes, List, [], ◌∷◌}
 use Rattle.std.specs.Prelude.{drop, take, Option, Some, None, slice_get}
 use Rattle.std.specs.List.{list_any}

@@ -1,7 +1,7 @@
 //! What the file names of an entry say of the package and of each other.
 
-ghost use Rattle.std.specs.Prelude.{◌≡◌, ◌++◌, ◌∷◌, [], IfOk, OnOk, Some, map, option_and_then, option_map};
-ghost use Rattle.std.specs.Prelude.{List, slice_get, string_bytes, true, ℕ};
+ghost use Rattle.std.specs.Prelude.{◌≡◌, ◌++◌, ◌∷◌, [], IfOk, List, OnOk, Some, map};
+ghost use Rattle.std.specs.Prelude.{option_and_then, option_map, slice_get, string_bytes, true, ℕ};
 ghost use Rattle.std.specs.BTreeSet.{contains_text};
 ghost use Rattle.std.specs.List.{flat_map, list_any};
 ghost use Rattle.std.specs.Option.{option_copied, option_map_or};
@@ -12,8 +12,8 @@ ghost use Rattle.pylock_audit.specs.Entry.{ends, first_version, fronts_behind, i
 ghost use Rattle.pylock_audit.specs.Entry.{is_other_name, lent_wheel, with_name, with_names};
 ghost use Rattle.pylock_audit.specs.Entry.{is_other_sdist, is_other_version, is_sdist_name};
 ghost use Rattle.pylock_audit.specs.Entry.{read_wheels, of_file_names, other_names, other_sdist};
-ghost use Rattle.pylock_audit.specs.Entry.{other_versions, same_file_names, same_names, unnamed_wheel};
-ghost use Rattle.pylock_audit.specs.Entry.{wanted_version, wheel_where};
+ghost use Rattle.pylock_audit.specs.Entry.{other_versions, same_file_names, same_names};
+ghost use Rattle.pylock_audit.specs.Entry.{unnamed_wheel, wanted_version, wheel_where};
 ghost use Rattle.pylock_audit.specs.Inner.Names.{Holds};
 ghost use Rattle.pylock_audit.specs.Source.{text_where};
 
@@ -194,7 +194,8 @@ fn push_file_name(
 
 /// The file name of the sdist, where that is of another package.
 fn sdist_of_another(alloc: Global, entry: &Entry) -> Result<Option<String>, AllocError>
-    ensures { IfOk result (λ name. option_map_or (λ name. name ∷ []) (option_map string_bytes name) []
+    ensures { IfOk result (λ name.
+        option_map_or (λ name. name ∷ []) (option_map string_bytes name) []
         ≡ other_sdist entry.now) }
 {
     let Some(name) = sdist_file_name(entry) else {

@@ -113,7 +113,8 @@ fn push_entry(
     table: &Value,
     entry: &Entry,
 ) -> Result<(), AllocError>
-    ensures { OnOk result (found.new.items ≡ found.old.items ++ found_at number (Some entry.now.name)
+    ensures { OnOk result (found.new.items ≡ found.old.items
+        ++ found_at number (Some entry.now.name)
         (entry_findings head.now (members_in (view table.now)) entry.now)) }
 {
     let findings = match table {

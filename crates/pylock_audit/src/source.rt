@@ -214,7 +214,8 @@ fn push_odd_hashes(
     source: PickedSource<'_>,
 ) -> Result<(), AllocError>
     ensures { OnOk result (map string_bytes list.new.items ≡ map string_bytes list.old.items
-        ++ over_hashes (tested_hashes is_odd (lent_source source.entry)) (lent_source source.entry)) }
+        ++ over_hashes (tested_hashes is_odd (lent_source source.entry))
+        (lent_source source.entry)) }
 {
     match hashes_of(source) {
         Some(hashes) => push_odd_of(alloc, list, source, hashes),
@@ -246,7 +247,8 @@ fn push_bad_hashes(
     source: PickedSource<'_>,
 ) -> Result<(), AllocError>
     ensures { OnOk result (map string_bytes list.new.items ≡ map string_bytes list.old.items
-        ++ over_hashes (tested_hashes is_bad (lent_source source.entry)) (lent_source source.entry)) }
+        ++ over_hashes (tested_hashes is_bad (lent_source source.entry))
+        (lent_source source.entry)) }
 {
     match hashes_of(source) {
         Some(hashes) => push_bad_of(alloc, list, source, hashes),

@@ -323,7 +323,8 @@ fn explain_files<F: Files, W: Sink, N: Sink>(
 ) -> Result<u8, Failure>
     ensures { (source : SourceValue) → OpensNamed (F.read_gives files.now) lock.now
         (λ lock. OpensNamed (F.read_gives files.now) environment.now
-        (λ environment. Replies (explain_report form (opened lock environment) choices.entry.items)))
+        (λ environment. Replies
+        (explain_report form (opened lock environment) choices.entry.items)))
         source source (W.value writer.old) (W.value writer.new) result }
 {
     let lock_bytes = read_named(alloc, files, lock, notes)?;

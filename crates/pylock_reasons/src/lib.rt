@@ -1,5 +1,5 @@
-//! What becomes of each entry of a lock, in words: the verdict, and the reason for it. Printed lines,
-//! JSON documents and messages to a person have their words and reasons from here.
+//! What becomes of each entry of a lock, in words: the verdict, and the reason for it. Printed
+//! lines, JSON documents and messages to a person have their words and reasons from here.
 #![tactic(auto)]
 
 mod reasons;

@@ -1,6 +1,6 @@
 -- What a pick and a fault name: an entry that stands in the state, and of a pick has its source.
-use Rattle.std.specs.Prelude.{◌≡◌, ◌⊎◌, ℕ, ◌<◌, ◌+◌, ◌++◌, List, [], ◌∷◌, length, Option, Some, None}
-use Rattle.std.specs.Prelude.{IsSome, option_map, slice_get}
+use Rattle.std.specs.Prelude.{◌≡◌, ◌⊎◌, ℕ, ◌<◌, ◌+◌, ◌++◌, List, [], ◌∷◌, length, Option, Some}
+use Rattle.std.specs.Prelude.{None, IsSome, option_map, slice_get}
 use Rattle.std.specs.List.{Contains}
 use Rattle.std.specs.Option.{option_map_or}
 use Rattle.pylock_readers.specs.Entry.{EntryValue, ArchiveValue, DirectoryValue, FileValue}
