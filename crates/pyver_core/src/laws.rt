@@ -1,9 +1,11 @@
 //! Laws of the definitions alone: each function's contract is a law, and its body is empty.
 
 ghost use Rattle.std.specs.Prelude.{◌≡◌, ℕ, List, [], ◌∷◌, ◌++◌, Err, Ok, Some, false, replicate};
-ghost use Rattle.std.specs.Prelude.{true};
+ghost use Rattle.std.specs.Prelude.{true, ◌↔◌, ◌+◌, ◌/◌, ◌%◌, ◌<◌, ◌≤◌};
+ghost use Rattle.std.specs.Cmp.Lexicographic.{slice_cmp};
 ghost use Rattle.std.specs.Char.{to_ascii_lowercase};
 ghost use Rattle.std.specs.List.{list_all};
+ghost use Rattle.std.specs.Ordering.{nat_cmp, ordering_then};
 ghost use Rattle.pyver_core.specs.Parsed.{parsed_operand, parsed_set, parsed_version};
 ghost use Rattle.pyver_core.specs.Version.FromParts.{version_from};
 ghost use Rattle.pyver_core.specs.Version.Parts.{Parts};
@@ -11,7 +13,8 @@ ghost use Rattle.pytext.specs.Bytes.{is_separator, starts};
 ghost use Rattle.pyver_core.specs.Version.Grammar.{Spells};
 ghost use Rattle.pyver_core.specs.Name.{norm};
 ghost use Rattle.pyver_core.specs.Version.Normal.{normal};
-ghost use Rattle.pyver_core.specs.Version.Order.{version_cmp};
+ghost use Rattle.pyver_core.specs.Version.Order.{same, version_cmp};
+ghost use Rattle.pyver_core.specs.Version.OrderKey.{number_key, order_key};
 ghost use Rattle.pyver_core.specs.Version.Reading.{version_of};
 ghost use Rattle.pyver_core.specs.Set.Equality.{set_eq, specifier_eq};
 ghost use Rattle.pyver_core.specs.Set.Grammar.{IsOperand, SetText};
@@ -85,6 +88,26 @@ pub fn equal_ones_print_alike()
 pub fn trailing_zeros_are_no_difference()
     ensures { (v w : Parts) (n : ℕ)
         → version_cmp (record v { release = v.release ++ replicate n 0 }) w ≡ version_cmp v w }
+{}
+
+/// The keys of [`Version::order_key`](crate::Version::order_key), compared number by number with a
+/// proper prefix first, stand as their versions do; equal versions, and no others, have one key. No
+/// key is a proper prefix of another: what stands behind keys decides between equal versions alone.
+pub fn keys_stand_in_order()
+    ensures order { (v w : Parts)
+        → slice_cmp nat_cmp (order_key v) (order_key w) ≡ version_cmp v w }
+    ensures equal { (v w : Parts) → same v w ↔ (order_key v ≡ order_key w) }
+    ensures behind { (v w : Parts) (s t : List ℕ)
+        → slice_cmp nat_cmp (order_key v ++ s) (order_key w ++ t)
+        ≡ ordering_then (version_cmp v w) (slice_cmp nat_cmp s t) }
+{}
+
+/// The key of a number, of any size: below 253 it is the byte above the number; else it is 254, the
+/// key of the quotient by 256, and the remainder.
+pub fn number_keys_have_two_forms()
+    ensures short { (n : ℕ) → n < 253 → number_key n ≡ (n + 1) ∷ [] }
+    ensures long { (n : ℕ) → 253 ≤ n
+        → number_key n ≡ 254 ∷ (number_key (n / 256) ++ n % 256 ∷ []) }
 {}
 
 /// The normal form of a name, read from the left: a run of separators that no separator follows is

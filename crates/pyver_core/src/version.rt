@@ -10,6 +10,7 @@ mod from_parts;
 mod hashing;
 mod normal;
 mod order;
+mod order_key;
 mod parse;
 mod part;
 mod parts_ref;

@@ -7,7 +7,9 @@ pub mod InTurn
 pub mod Limits
 pub mod Many
 pub mod NormalForm
+pub mod OrderKey
 pub mod OrderZeros
+pub mod Phases
 pub mod Sound
 pub mod TrailingZeros
 pub mod TwoNumbers

@@ -49,7 +49,7 @@ pub(crate) fn without_trailing_zeros(release: &[u128]) -> &[u128]
 
 /// Where a version stands among those of its release, lowest first.
 #[derive(Clone, Copy, PartialEq, Eq, PartialOrd, Ord)]
-enum Phase {
+pub(super) enum Phase {
     /// A developmental release that is neither a pre- nor a post-release.
     Developmental,
     /// A pre-release: by its letter, then by its number.
@@ -58,7 +58,7 @@ enum Phase {
     Final,
 }
 
-fn phase_of(parts: &PartsRef<'_>) -> Phase
+pub(super) fn phase_of(parts: &PartsRef<'_>) -> Phase
     ensures { result ≡ phase_of parts.now.pre parts.now.post parts.now.dev }
 {
     match (parts.pre, parts.post, parts.dev) {

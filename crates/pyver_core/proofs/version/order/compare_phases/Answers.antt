@@ -1,38 +1,15 @@
-use Rattle.std.proofs.Common.{◌≡◌, ℕ, Option, Some, None, refl, ◌∙◌}
+use Rattle.std.proofs.Common.{◌≡◌, refl, ◌∙◌}
 use Rattle.std.specs.Ordering.{nat_cmp, ordering_then}
-use Rattle.pyver_core.specs.Version.Order.{letter_rank, phase_rank, phase_number}
-use Rattle.pyver_core.specs.Inner.Phase.{phase_of}
+use Rattle.pyver_core.specs.Inner.Phase.{number_of, phase_of, rank_of}
 use Rattle.pyver_core.specs.contracts.version.order.PhaseOrd.TheImpl.{cmp-value}
 use Rattle.pyver_core.specs.declared.version.order.Phase.{Phase}
 use Rattle.pyver_core.specs.declared.version.order.Phase.TheVariants.{Developmental, Pre, Final}
-use Rattle.pyver_core.specs.declared.version.part.PreKind.{PreKind}
 use Rattle.pyver_core.specs.declared.version.part.PreKind.TheVariants.{A, B, Rc}
+use Rattle.pyver_core.proofs.Lemmas.Version.Phases.{number_is, rank_is}
 use Rattle.pyver_core.proofs.version.order.compare_phases.Goals as goal
 
-abbrev rank : Phase → ℕ
-rank Developmental = 0
-rank (Pre kind n) = letter_rank kind
-rank Final = 4
-
-abbrev number : Phase → ℕ
-number Developmental = 0
-number (Pre kind n) = n
-number Final = 0
-
-rank_is : (pre : Option (PreKind × ℕ)) (post dev : Option ℕ) → rank (phase_of pre post dev) ≡ phase_rank pre post dev
-rank_is None None None = refl
-rank_is None None (Some d) = refl
-rank_is None (Some n) dev = refl
-rank_is (Some pre) post dev = refl
-
-number_is : (pre : Option (PreKind × ℕ)) (post dev : Option ℕ) → number (phase_of pre post dev) ≡ phase_number pre
-number_is None None None = refl
-number_is None None (Some d) = refl
-number_is None (Some n) dev = refl
-number_is (Some pre) post dev = refl
-
 -- the derived order goes by the rank and then by the number
-derived_cmp : (p q : Phase) → cmp-value.it p q ≡ ordering_then (nat_cmp (rank p) (rank q)) (nat_cmp (number p) (number q))
+derived_cmp : (p q : Phase) → cmp-value.it p q ≡ ordering_then (nat_cmp (rank_of p) (rank_of q)) (nat_cmp (number_of p) (number_of q))
 derived_cmp Developmental Developmental = refl
 derived_cmp Developmental (Pre A n) = refl
 derived_cmp Developmental (Pre B n) = refl
