@@ -39,6 +39,7 @@ impl Answers for Cases {
             "parts" => versions::tell_parts(alloc, case),
             "reads" => markers::tell_reads(alloc, case),
             "requirement" => requirements::tell(alloc, case),
+            "same_name" => names::compare(alloc, case),
             "set" => sets::tell(alloc, case),
             "specifier" => sets::make(alloc, case),
             "tag" => tags::tell(alloc, case),
@@ -47,6 +48,7 @@ impl Answers for Cases {
             "version" => versions::tell(alloc, case),
             "wheel" => wheels::tell(alloc, case),
             "wheel_text" => wheels::print(alloc, case),
+            "with_extra" => markers::judge_with_extra(alloc, case),
             _ => Err(anyhow::anyhow!("no kind of case")),
         }
     }

@@ -12,7 +12,7 @@ pub(crate) fn judge(alloc: Global, case: &Table) -> anyhow::Result<String> {
     let marker = text(alloc, case, "marker")?;
     let mut environment = Environment::new(alloc);
     set_all(&mut environment, alloc, case)?;
-    Ok(judged(alloc, &environment, marker.as_str())?)
+    Ok(judged(alloc, &environment, None, marker.as_str())?)
 }
 
 /// The same of each of `markers`, with its text.
@@ -20,34 +20,54 @@ pub(crate) fn judge_all(alloc: Global, case: &Table) -> anyhow::Result<String> {
     let markers = texts(alloc, case, "markers")?;
     let mut environment = Environment::new(alloc);
     set_all(&mut environment, alloc, case)?;
-    all_judged(alloc, &environment, &markers)
+    all_judged(alloc, &environment, None, &markers)
+}
+
+/// The same where the operand `extra` has the text `extra`.
+pub(crate) fn judge_with_extra(alloc: Global, case: &Table) -> anyhow::Result<String> {
+    let extra = text(alloc, case, "extra")?;
+    let markers = texts(alloc, case, "markers")?;
+    let mut environment = Environment::new(alloc);
+    set_all(&mut environment, alloc, case)?;
+    all_judged(alloc, &environment, Some(extra.as_str()), &markers)
 }
 
 fn all_judged(
     alloc: Global,
     environment: &Environment,
+    extra: Option<&str>,
     markers: &[&str],
 ) -> anyhow::Result<String> {
     let mut all = String::new(alloc);
     for marker in markers {
-        let value = judged(alloc, environment, marker)?;
+        let value = judged(alloc, environment, extra, marker)?;
         writeln!(all, "{marker:?}: {value}")?;
     }
     Ok(all)
 }
 
-fn judged(alloc: Global, environment: &Environment, text: &str) -> Result<String, AllocError> {
+fn judged(
+    alloc: Global,
+    environment: &Environment,
+    extra: Option<&str>,
+    text: &str,
+) -> Result<String, AllocError> {
     match Marker::parse(alloc, text) {
-        Ok(marker) => value(alloc, environment, &marker),
+        Ok(marker) => value(alloc, environment, extra, &marker),
         Err(refusal) => format!(in alloc; "{refusal:?}"),
     }
 }
 
 /// The value or the fault of a marker, with that of its copy in a copy of the environment where it
 /// is another.
-fn value(alloc: Global, environment: &Environment, marker: &Marker) -> Result<String, AllocError> {
-    let value = marker.evaluate(alloc, environment);
-    let copied = copied_value(alloc, environment, marker)?;
+fn value(
+    alloc: Global,
+    environment: &Environment,
+    extra: Option<&str>,
+    marker: &Marker,
+) -> Result<String, AllocError> {
+    let value = evaluate(alloc, environment, extra, marker);
+    let copied = copied_value(alloc, environment, extra, marker)?;
     if copied == value {
         return format!(in alloc; "{value:?}");
     }
@@ -57,11 +77,25 @@ fn value(alloc: Global, environment: &Environment, marker: &Marker) -> Result<St
 fn copied_value(
     alloc: Global,
     environment: &Environment,
+    extra: Option<&str>,
     marker: &Marker,
 ) -> Result<Result<bool, EvalFault>, AllocError> {
     let environment = environment.copy()?;
     let copy = marker.clone()?;
-    Ok(copy.evaluate(alloc, &environment))
+    Ok(evaluate(alloc, &environment, extra, &copy))
+}
+
+/// The value of the marker, where `extra` has this text or none.
+fn evaluate(
+    alloc: Global,
+    environment: &Environment,
+    extra: Option<&str>,
+    marker: &Marker,
+) -> Result<bool, EvalFault> {
+    match extra {
+        Some(extra) => marker.evaluate_with_extra(alloc, environment, extra),
+        None => marker.evaluate(alloc, environment),
+    }
 }
 
 /// The text of `marker`, and the keys that it reads.

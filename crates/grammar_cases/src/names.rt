@@ -2,15 +2,35 @@
 
 use crate::told::measured;
 use case_files::text;
-use pyver_core::{is_name, normal_name};
-use std::alloc::Global;
+use pyver_core::{NormalForm, is_name, is_same_name, normal_name};
+use std::alloc::{AllocError, Global};
 use toml::Table;
 
 /// Whether `text` is a name, and its normal form.
 pub(crate) fn tell(alloc: Global, case: &Table) -> anyhow::Result<String> {
     let text = text(alloc, case, "text")?;
     let normal = normal_name(alloc, text.as_str())?;
-    Ok(format!(in alloc; "{}, {normal:?}", is_name(text.as_str()))?)
+    let mut told = format!(in alloc; "{}, {normal:?}", is_name(text.as_str()))?;
+    push_form(&mut told, alloc, text.as_str(), normal.as_str())?;
+    Ok(told)
+}
+
+/// The form that is lent where the text has it, where that is another.
+fn push_form(told: &mut String, alloc: Global, text: &str, normal: &str) -> Result<(), AllocError> {
+    let form = NormalForm::of(alloc, text)?;
+    if form.as_str() != normal {
+        write!(told, ", but its form {:?}", form.as_str())?;
+    }
+    Ok(())
+}
+
+/// Whether `first` and `second` have the same normal form, told from either side.
+pub(crate) fn compare(alloc: Global, case: &Table) -> anyhow::Result<String> {
+    let first = text(alloc, case, "first")?;
+    let second = text(alloc, case, "second")?;
+    let is_same = is_same_name(first.as_str(), second.as_str());
+    let turned = is_same_name(second.as_str(), first.as_str());
+    Ok(format!(in alloc; "{is_same}, {turned}")?)
 }
 
 /// Whether the long `text` is a name, and what is to be seen of its normal form.

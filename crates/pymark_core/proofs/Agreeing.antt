@@ -1,5 +1,6 @@
--- Two environments that have the same at the keys of a tree give it the same value.
-use Rattle.std.proofs.Common.{◌≡◌, ℕ, Bool, true, false, not, ◌||◌, ◌&&◌, List, ◌++◌, ok_or, Result, Ok, Err, ◌∙◌, ap, refl}
+-- Two environments that have the same at the keys of a tree give it the same value, whatever text
+-- `extra` has, or none.
+use Rattle.std.proofs.Common.{◌≡◌, ℕ, Bool, true, false, not, ◌||◌, ◌&&◌, List, ◌++◌, Option, ok_or, Result, Ok, Err, ◌∙◌, ap, refl}
 use Rattle.std.proofs.lemmas.Bool.{eq-eqb, or_left, or_right}
 use Rattle.std.proofs.lemmas.List.Folds.{list_any-append}
 use Rattle.std.specs.List.{list_any}
@@ -11,7 +12,7 @@ use Rattle.pymark_core.specs.Marker.Grammar.{atom_comparisons, comparisons, conj
 use Rattle.pymark_core.specs.Marker.Keys.{comparison_reads, has_key, is_key, operand_keys}
 use Rattle.pymark_core.specs.Marker.Tree.{Tree, last, or, Conjunction, only, and, Atom, leaf, group}
 use Rattle.pymark_core.specs.Variables.{place}
-use Rattle.pymark_core.specs.Marker.Value.{AgreeAt, atom_value, both, comparison_value, conjunction_value, is_in, is_substring, marker_value, operand_text, operator_value, text_value}
+use Rattle.pymark_core.specs.Marker.Value.{AgreeAt, atom_value, both, by_value, compares_names, comparison_value, conjunction_value, is_in, is_part, operand_text, text_value, value_with}
 use Rattle.pymark_core.specs.declared.fault.EvalFault.{EvalFault}
 use Rattle.pymark_core.specs.declared.fault.EvalFault.TheVariants.{Unset}
 use Rattle.pymark_core.specs.declared.marker.keys.Key.{Key}
@@ -22,11 +23,11 @@ use Rattle.pymark_core.specs.declared.operand.Operand.{Operand}
 use Rattle.pymark_core.specs.declared.operand.Operand.TheVariants.{Text, Variable, Extra, Extras, Groups}
 use Rattle.std.specs.FinSet.{contains}
 
-module _ (e f : EnvironmentValue) where
+module _ (extra : Option (List ℕ)) (e f : EnvironmentValue) where
   abbrev Agree : (Key → Bool) → Type 0
   Agree read = (k : Key) → read k ≡ true → AgreeAt k e f
 
-  operand_agrees : (o : Operand) → Agree (λ k. has_key k (operand_keys o)) → operand_text e o ≡ operand_text f o
+  operand_agrees : (o : Operand) → Agree (λ k. has_key k (operand_keys o)) → operand_text extra e o ≡ operand_text extra f o
   operand_agrees (Text text) agree = refl
   operand_agrees (Variable v) agree =
       ap (λ x. ok_or x (Unset v)) (agree (key.Of v) (or_left _ _ (eq-eqb (place v) (place v) refl)))
@@ -34,17 +35,18 @@ module _ (e f : EnvironmentValue) where
   operand_agrees Extras agree = refl
   operand_agrees Groups agree = refl
 
-  in_agrees : (x : List ℕ) (o : Operand) → Agree (λ k. has_key k (operand_keys o)) → is_in e x o ≡ is_in f x o
-  in_agrees x (Text text) agree = refl
-  in_agrees x (Variable v) agree = ap (λ r. r >>= λ y. Ok (is_substring x y)) (operand_agrees (Variable v) agree)
-  in_agrees x Extra agree = refl
-  in_agrees x Extras agree = ap (λ s. Ok (contains s (norm x))) (agree key.Extras refl)
-  in_agrees x Groups agree = ap (λ s. Ok (contains s (norm x))) (agree key.Groups refl)
+  in_agrees : (named : Bool) (x : List ℕ) (o : Operand) → Agree (λ k. has_key k (operand_keys o)) → is_in extra e named x o ≡ is_in extra f named x o
+  in_agrees named x (Text text) agree = refl
+  in_agrees named x (Variable v) agree = ap (λ r. r >>= λ y. Ok (is_part named x y)) (operand_agrees (Variable v) agree)
+  in_agrees named x Extra agree = refl
+  in_agrees named x Extras agree = ap (λ s. Ok (contains s (norm x))) (agree key.Extras refl)
+  in_agrees named x Groups agree = ap (λ s. Ok (contains s (norm x))) (agree key.Groups refl)
 
-  text_agrees : (x : List ℕ) (c : Comparator) (o : Operand) → Agree (λ k. has_key k (operand_keys o)) → text_value e x c o ≡ text_value f x c o
-  text_agrees x (By operator) o agree = ap (λ r. r >>= λ y. operator_value operator x y) (operand_agrees o agree)
-  text_agrees x In o agree = in_agrees x o agree
-  text_agrees x NotIn o agree = ap (λ r. r >>= λ is. Ok (not is)) (in_agrees x o agree)
+  text_agrees : (named : Bool) (x : List ℕ) (c : Comparator) (o : Operand) → Agree (λ k. has_key k (operand_keys o))
+      → text_value extra e named x c o ≡ text_value extra f named x c o
+  text_agrees named x (By operator) o agree = ap (λ r. r >>= λ y. by_value named operator x y) (operand_agrees o agree)
+  text_agrees named x In o agree = in_agrees named x o agree
+  text_agrees named x NotIn o agree = ap (λ r. r >>= λ is. Ok (not is)) (in_agrees named x o agree)
 
   -- the keys of two lists
   of_first : (k : Key) (xs ys : List Key) → has_key k xs ≡ true → has_key k (xs ++ ys) ≡ true
@@ -53,14 +55,16 @@ module _ (e f : EnvironmentValue) where
   of_second : (k : Key) (xs ys : List Key) → has_key k ys ≡ true → has_key k (xs ++ ys) ≡ true
   of_second k xs ys is = list_any-append (is_key k) xs ys ∙ or_right _ _ is
 
-  comparison_agrees : (c : ComparisonValue) → Agree (λ k. comparison_reads k c) → comparison_value e c ≡ comparison_value f c
+  comparison_agrees : (c : ComparisonValue) → Agree (λ k. comparison_reads k c) → comparison_value extra e c ≡ comparison_value extra f c
   comparison_agrees c agree =
-      ap (λ r. r >>= λ x. text_value e x c.comparator c.right)
+      ap (λ r. r >>= λ x. text_value extra e (compares_names extra c) x c.comparator c.right)
       (operand_agrees c.left (λ k is. agree k (of_first k (operand_keys c.left) (operand_keys c.right) is)))
-      ∙ after (operand_text f c.left)
+      ∙ after (operand_text extra f c.left)
     where
-      after : (r : Result (List ℕ) EvalFault) → (r >>= λ x. text_value e x c.comparator c.right) ≡ (r >>= λ x. text_value f x c.comparator c.right)
-      after (Ok x) = text_agrees x c.comparator c.right (λ k is. agree k (of_second k (operand_keys c.left) (operand_keys c.right) is))
+      after : (r : Result (List ℕ) EvalFault)
+          → (r >>= λ x. text_value extra e (compares_names extra c) x c.comparator c.right)
+          ≡ (r >>= λ x. text_value extra f (compares_names extra c) x c.comparator c.right)
+      after (Ok x) = text_agrees (compares_names extra c) x c.comparator c.right (λ k is. agree k (of_second k (operand_keys c.left) (operand_keys c.right) is))
       after (Err fault) = refl
 
   abbrev Reads : List ComparisonValue → Type 0
@@ -73,18 +77,18 @@ module _ (e f : EnvironmentValue) where
   second_of_two xs ys agree k is = agree k (list_any-append (comparison_reads k) xs ys ∙ or_right _ _ is)
 
   mutual
-    pub tree_agrees : (t : Tree) → Reads (comparisons t) → marker_value e t ≡ marker_value f t
+    pub tree_agrees : (t : Tree) → Reads (comparisons t) → value_with extra e t ≡ value_with extra f t
     tree_agrees (last c) agree = conjunction_agrees c agree
     tree_agrees (or c rest) agree = λ i. both (λ x y. x || y)
         (conjunction_agrees c (first_of_two (conjunction_comparisons c) (comparisons rest) agree) i)
         (tree_agrees rest (second_of_two (conjunction_comparisons c) (comparisons rest) agree) i)
 
-    pub conjunction_agrees : (c : Conjunction) → Reads (conjunction_comparisons c) → conjunction_value e c ≡ conjunction_value f c
+    pub conjunction_agrees : (c : Conjunction) → Reads (conjunction_comparisons c) → conjunction_value extra e c ≡ conjunction_value extra f c
     conjunction_agrees (only a) agree = atom_agrees a agree
     conjunction_agrees (and a rest) agree = λ i. both (λ x y. x && y)
         (atom_agrees a (first_of_two (atom_comparisons a) (conjunction_comparisons rest) agree) i)
         (conjunction_agrees rest (second_of_two (atom_comparisons a) (conjunction_comparisons rest) agree) i)
 
-    pub atom_agrees : (a : Atom) → Reads (atom_comparisons a) → atom_value e a ≡ atom_value f a
+    pub atom_agrees : (a : Atom) → Reads (atom_comparisons a) → atom_value extra e a ≡ atom_value extra f a
     atom_agrees (leaf c) agree = comparison_agrees c (λ k is. agree k (or_left _ false is))
     atom_agrees (group t) agree = tree_agrees t agree

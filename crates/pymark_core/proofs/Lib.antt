@@ -4,6 +4,7 @@ pub mod BuilderLemmas
 pub mod Choices
 pub mod Cuts
 pub mod DepthLemmas
+pub mod ExtraLemmas
 pub mod Judged
 pub mod MarkerLemmas
 pub mod Memory
@@ -19,3 +20,4 @@ pub mod TokenLemmas
 pub mod TokensLemmas
 pub mod TreeView
 pub mod Turns
+pub mod ValueRefusals

@@ -1,5 +1,5 @@
 -- No definition answers want of memory.
-use Rattle.std.proofs.Common.{◌≡◌, ℕ, Bool, not, ◌||◌, ◌&&◌, List, [], ◌∷◌, take, drop, Option, Some, None, ok_or, Result, Ok, Err}
+use Rattle.std.proofs.Common.{◌≡◌, ℕ, List, [], ◌∷◌, take, drop, Option, Some, None, ok_or, Result, Ok, Err}
 use Rattle.std.specs.Prelude.{◌==◌}
 use Rattle.std.specs.List.{list_all, prefix_len, slice_split}
 use Rattle.pytext.proofs.Never.{Never, never_cond, never_err, never_or, never_then}
@@ -7,29 +7,17 @@ use Rattle.pytext.specs.Bytes.{is_name_byte, is_white}
 use Rattle.pyver_core.specs.Name.{is_name}
 use Rattle.pyver_core.specs.Parsed.{parsed_set}
 use Rattle.pytext.specs.Results.{◌>>=◌}
-use Rattle.pyver_core.specs.Set.Admission.{admits}
-use Rattle.pyver_core.specs.Set.Grammar.{specifier_numbers}
-use Rattle.pyver_core.specs.Set.Reading.{operand_of}
-use Rattle.pyver_core.specs.Version.Grammar.{has_large, numbers}
-use Rattle.pyver_core.specs.Version.Parts.{Parts}
 use Rattle.pytext.specs.White.{after_white, trimmed}
-use Rattle.pyver_core.specs.Version.Reading.{version_of}
-use Rattle.pyver_core.specs.declared.set.specifier.Operator.{Operator}
-use Rattle.pyver_core.specs.declared.set.specifier.Operator.TheVariants as operator
-use Rattle.pyver_core.specs.declared.set.specifier.Specifier.{Specifier}
 use Rattle.pymark_core.specs.Environment.{EnvironmentValue, variable_in}
-use Rattle.pymark_core.specs.Marker.Comparison.{ComparisonValue}
 use Rattle.pymark_core.specs.Marker.Depth.{is_deep}
 use Rattle.pymark_core.specs.Marker.Grammar.{has_misuse}
 use Rattle.pymark_core.specs.Marker.Reading.{marker_from, marker_of, tree_text}
-use Rattle.pymark_core.specs.Marker.Tree.{Tree, last, or, Conjunction, only, and, Atom, leaf, group}
-use Rattle.pymark_core.specs.Marker.Value.{atom_value, both, comparison_value, conjunction_value, is_in, is_substring, marker_value, operand_text, operator_value, text_value, texts_value, version_value}
+use Rattle.pymark_core.specs.Marker.Tree.{Tree}
+use Rattle.pymark_core.specs.Marker.Value.{operand_text, value_with}
+use Rattle.pymark_core.proofs.ValueRefusals.{value_never}
 use Rattle.pymark_core.specs.Requirement.Reading.{around, behind, cut_at, cut_source, extra_in, extras_at, extras_behind, extras_from, extras_in, marker_in, marker_text_at, name_at, names_in, refused_as, requirement_of, set_source, source_at, source_from, url_len, url_source, within_parentheses}
-use Rattle.pymark_core.specs.declared.fault.EvalFault.{EvalFault}
 use Rattle.pymark_core.specs.declared.fault.EvalFault.TheVariants as fault
 use Rattle.pymark_core.specs.declared.marker.error.MarkerError.TheVariants as marker
-use Rattle.pymark_core.specs.declared.operand.Comparator.{Comparator}
-use Rattle.pymark_core.specs.declared.operand.Comparator.TheVariants.{By, In, NotIn}
 use Rattle.pymark_core.specs.declared.operand.Operand.{Operand}
 use Rattle.pymark_core.specs.declared.operand.Operand.TheVariants.{Text, Variable, Extra, Extras, Groups}
 use Rattle.pymark_core.specs.declared.requirement.error.RequirementError.{RequirementError}
@@ -49,69 +37,15 @@ marker_wants_none text =
 
 -- ---- values
 
-module _ (environment : EnvironmentValue) where
-  operand_wants_none : (o : Operand) → Never fault.Memory (operand_text environment o)
-  operand_wants_none (Text text) = λ e. cc e
-  operand_wants_none (Variable v) = never_or fault.Memory (fault.Unset v) (variable_in v environment) (λ e. cc e)
-  operand_wants_none Extra = λ e. cc e
-  operand_wants_none Extras = λ e. cc e
-  operand_wants_none Groups = λ e. cc e
+operand_wants_none : (extra : Option (List ℕ)) (environment : EnvironmentValue) (o : Operand) → Never fault.Memory (operand_text extra environment o)
+operand_wants_none extra environment (Text text) = λ e. cc e
+operand_wants_none extra environment (Variable v) = never_or fault.Memory (fault.Unset v) (variable_in v environment) (λ e. cc e)
+operand_wants_none extra environment Extra = never_or fault.Memory fault.Extra extra (λ e. cc e)
+operand_wants_none extra environment Extras = λ e. cc e
+operand_wants_none extra environment Groups = λ e. cc e
 
-  texts_want_none : (o : Operator) (x y : List ℕ) → Never fault.Memory (texts_value o x y)
-  texts_want_none operator.Equal x y = λ e. cc e
-  texts_want_none operator.NotEqual x y = λ e. cc e
-  texts_want_none operator.AtMost x y = λ e. cc e
-  texts_want_none operator.AtLeast x y = λ e. cc e
-  texts_want_none operator.Before x y = λ e. cc e
-  texts_want_none operator.After x y = λ e. cc e
-  texts_want_none operator.Compatible x y = λ e. cc e
-  texts_want_none operator.Arbitrary x y = λ e. cc e
-
-  version_wants_none : (v : Option Parts) (s : Option Specifier) (texts : Result Bool EvalFault) → Never fault.Memory texts
-      → Never fault.Memory (version_value v s texts)
-  version_wants_none (Some v) (Some s) texts never =
-      never_cond fault.Memory (has_large (numbers v) || has_large (specifier_numbers s)) (Err fault.NumberTooLarge) (Ok (admits s v)) (λ e. cc e) (λ e. cc e)
-  version_wants_none (Some v) None texts never = never
-  version_wants_none None s texts never = never
-
-  in_wants_none : (x : List ℕ) (o : Operand) → Never fault.Memory (is_in environment x o)
-  in_wants_none x (Text text) = λ e. cc e
-  in_wants_none x (Variable v) = never_then fault.Memory (operand_text environment (Variable v)) (λ y. Ok (is_substring x y)) (operand_wants_none (Variable v)) (λ y e. cc e)
-  in_wants_none x Extra = λ e. cc e
-  in_wants_none x Extras = λ e. cc e
-  in_wants_none x Groups = λ e. cc e
-
-  text_wants_none : (x : List ℕ) (c : Comparator) (o : Operand) → Never fault.Memory (text_value environment x c o)
-  text_wants_none x (By operator) o =
-      never_then fault.Memory (operand_text environment o) (λ y. operator_value operator x y) (operand_wants_none o)
-      (λ y. version_wants_none (version_of x) (operand_of operator y) (texts_value operator x y) (texts_want_none operator x y))
-  text_wants_none x In o = in_wants_none x o
-  text_wants_none x NotIn o = never_then fault.Memory (is_in environment x o) (λ is. Ok (not is)) (in_wants_none x o) (λ is e. cc e)
-
-  comparison_wants_none : (c : ComparisonValue) → Never fault.Memory (comparison_value environment c)
-  comparison_wants_none c =
-      never_then fault.Memory (operand_text environment c.left) (λ x. text_value environment x c.comparator c.right) (operand_wants_none c.left)
-      (λ x. text_wants_none x c.comparator c.right)
-
-  both_want_none : (join : Bool → Bool → Bool) (first second : Result Bool EvalFault) → Never fault.Memory first → Never fault.Memory second
-      → Never fault.Memory (both join first second)
-  both_want_none join first second a b =
-      never_then fault.Memory first (λ x. second >>= λ y. Ok (join x y)) a (λ x. never_then fault.Memory second (λ y. Ok (join x y)) b (λ y e. cc e))
-
-  mutual
-    pub value_wants_none : (t : Tree) → Never fault.Memory (marker_value environment t)
-    value_wants_none (last c) = conjunction_wants_none c
-    value_wants_none (or c rest) =
-        both_want_none (λ x y. x || y) (conjunction_value environment c) (marker_value environment rest) (conjunction_wants_none c) (value_wants_none rest)
-
-    conjunction_wants_none : (c : Conjunction) → Never fault.Memory (conjunction_value environment c)
-    conjunction_wants_none (only a) = atom_wants_none a
-    conjunction_wants_none (and a rest) =
-        both_want_none (λ x y. x && y) (atom_value environment a) (conjunction_value environment rest) (atom_wants_none a) (conjunction_wants_none rest)
-
-    atom_wants_none : (a : Atom) → Never fault.Memory (atom_value environment a)
-    atom_wants_none (leaf c) = comparison_wants_none c
-    atom_wants_none (group t) = value_wants_none t
+pub value_wants_none : (extra : Option (List ℕ)) (environment : EnvironmentValue) (t : Tree) → Never fault.Memory (value_with extra environment t)
+value_wants_none extra environment t = value_never fault.Memory extra environment (λ e. cc e) (λ e. cc e) (operand_wants_none extra environment) t
 
 -- ---- requirements
 

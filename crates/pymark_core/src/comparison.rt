@@ -1,6 +1,6 @@
 //! Comparisons of markers (PEP 508, "Environment Markers").
 
-ghost use Rattle.std.specs.Prelude.{◌≡◌, IfOk, Result, string_bytes};
+ghost use Rattle.std.specs.Prelude.{◌≡◌, IfOk, None, Result, Some, false, string_bytes, true};
 ghost use Rattle.std.specs.Option.{option_copied};
 ghost use Rattle.pytext.specs.Agreement.{Gives};
 ghost use Rattle.pyver_core.specs.Name.{norm};
@@ -10,8 +10,8 @@ ghost use Rattle.pymark_core.specs.Inner.Compared.{right_of, right_operand};
 ghost use Rattle.pymark_core.specs.Marker.Asked.{extra_asked, group_asked, has_extra as asks_extra};
 ghost use Rattle.pymark_core.specs.Marker.Asked.{is_extra, quoted_text};
 ghost use Rattle.pymark_core.specs.Marker.Value.{comparison_value, is_in, is_substring};
-ghost use Rattle.pymark_core.specs.Marker.Value.{operand_text, operator_value, text_value};
-ghost use Rattle.pymark_core.specs.Marker.Value.{texts_value};
+ghost use Rattle.pymark_core.specs.Marker.Value.{names_value, operand_text, operator_value};
+ghost use Rattle.pymark_core.specs.Marker.Value.{text_value, texts_value};
 ghost use Rattle.pyver_core.specs.Parsed.{parsed_operand};
 
 use crate::candidate::Candidate;
@@ -19,7 +19,9 @@ use crate::environment::Environment;
 use crate::fault::EvalFault;
 use crate::operand::{Comparator, Operand};
 use crate::variable::Var;
-use pyver_core::{Label, Operator, Specifier, SpecifierError, VersionError, normal_name};
+use pyver_core::{
+    Label, NormalForm, Operator, Specifier, SpecifierError, VersionError, is_same_name, normal_name,
+};
 use std::alloc::{AllocError, Global};
 use std::marker::Model;
 
@@ -127,21 +129,54 @@ impl Comparison {
         }
     }
 
-    /// The value in the environment. A variable against a quoted text is judged without memory, and
-    /// no text is read; so is a quoted text in a set.
+    /// The value in the environment, where `extra` has this text or none.
     pub(crate) fn evaluate(
         &self,
         alloc: Global,
         environment: &Environment,
+        extra: Option<&str>,
     ) -> Result<bool, EvalFault>
         ensures { Gives EvalFault.Memory (λ b. b) result
-            (comparison_value environment.now self.now) }
+            (comparison_value (option_copied extra.entry) environment.now self.now) }
+    {
+        match extra {
+            Some(extra) if self.has_extra() => self.value_of_names(alloc, environment, extra),
+            _ => self.value_of_texts(alloc, environment),
+        }
+    }
+
+    /// The value where `extra` has no text. A variable against a quoted text is judged without
+    /// memory, and no text is read; so is a quoted text in a set.
+    fn value_of_texts(&self, alloc: Global, environment: &Environment) -> Result<bool, EvalFault>
+        ensures { Gives EvalFault.Memory (λ b. b) result
+            (comparison_value None environment.now self.now) }
     {
         let left = candidate_in(&self.left, environment)?;
         match &self.test {
             Test::By(operator, right) => value_by(alloc, environment, left, *operator, right),
             Test::In(right) => has_in(alloc, environment, left, right),
             Test::NotIn(right) => Ok(!has_in(alloc, environment, left, right)?),
+        }
+    }
+
+    /// The value where `extra` is one of the operands and has this text: the two are names.
+    fn value_of_names(
+        &self,
+        alloc: Global,
+        environment: &Environment,
+        extra: &str,
+    ) -> Result<bool, EvalFault>
+        requires { asks_extra self.now ≡ true }
+        ensures { Gives EvalFault.Memory (λ b. b) result
+            (comparison_value (Some extra.now) environment.now self.now) }
+    {
+        let left = self.left.text(environment, extra)?;
+        match &self.test {
+            Test::By(operator, right) => {
+                compare_names(*operator, left, right.text(environment, extra)?)
+            }
+            Test::In(right) => has_name_in(alloc, environment, extra, left, right),
+            Test::NotIn(right) => Ok(!has_name_in(alloc, environment, extra, left, right)?),
         }
     }
 }
@@ -160,6 +195,42 @@ impl Left {
         match self {
             Left::Text(candidate) => Some(candidate.text()),
             _ => None,
+        }
+    }
+
+    /// The text that stands there, where `extra` has this one.
+    fn text<'a>(
+        &'a self,
+        environment: &'a Environment,
+        extra: &'a str,
+    ) -> Result<&'a str, EvalFault>
+        ensures { Gives EvalFault.Memory (λ text. text.now) result
+            (operand_text (Some extra.now) environment.now (left_operand self.now)) }
+    {
+        match self {
+            Left::Text(candidate) => Ok(candidate.text()),
+            Left::Variable(variable) => variable_text(environment, *variable),
+            Left::Extra => Ok(extra),
+            Left::Extras | Left::Groups => Err(EvalFault::Undefined),
+        }
+    }
+}
+
+impl Right {
+    /// The text that stands there, where `extra` has this one.
+    fn text<'a>(
+        &'a self,
+        environment: &'a Environment,
+        extra: &'a str,
+    ) -> Result<&'a str, EvalFault>
+        ensures { Gives EvalFault.Memory (λ text. text.now) result
+            (operand_text (Some extra.now) environment.now (right_operand self.now)) }
+    {
+        match self {
+            Right::Text(text, _) => Ok(text.as_str()),
+            Right::Variable(variable) => variable_text(environment, *variable),
+            Right::Extra => Ok(extra),
+            Right::Extras | Right::Groups => Err(EvalFault::Undefined),
         }
     }
 }
@@ -246,11 +317,19 @@ fn read_operand(
 /// The text of a variable, with the version that it spells.
 fn variable_candidate(environment: &Environment, variable: Var) -> Result<&Candidate, EvalFault>
     ensures { Gives EvalFault.Memory (λ candidate. candidate.now) result
-        (operand_text environment.now (Operand.Variable variable)) }
+        (operand_text None environment.now (Operand.Variable variable)) }
 {
     environment
         .candidate(variable)
         .ok_or(EvalFault::Unset(variable))
+}
+
+/// The text of a variable.
+fn variable_text(environment: &Environment, variable: Var) -> Result<&str, EvalFault>
+    ensures { Gives EvalFault.Memory (λ text. text.now) result
+        (operand_text None environment.now (Operand.Variable variable)) }
+{
+    Ok(variable_candidate(environment, variable)?.text())
 }
 
 /// The text left of an operator, with the version that it spells.
@@ -259,7 +338,7 @@ fn candidate_in<'a>(
     environment: &'a Environment,
 ) -> Result<&'a Candidate, EvalFault>
     ensures { Gives EvalFault.Memory (λ candidate. candidate.now) result
-        (operand_text environment.now (left_operand left.now)) }
+        (operand_text None environment.now (left_operand left.now)) }
 {
     match left {
         Left::Text(candidate) => Ok(candidate),
@@ -276,7 +355,8 @@ fn has_in(
     left: &Candidate,
     right: &Operand,
 ) -> Result<bool, EvalFault>
-    ensures { Gives EvalFault.Memory (λ b. b) result (is_in environment.now left.now right.now) }
+    ensures { Gives EvalFault.Memory (λ b. b) result
+        (is_in None environment.now false left.now right.now) }
 {
     match right {
         Operand::Text(whole) => Ok(is_substring(left.text(), whole.as_str())),
@@ -288,6 +368,37 @@ fn has_in(
         Operand::Extras => Ok(is_extra(alloc, environment, left)?),
         Operand::Groups => Ok(is_group(alloc, environment, left)?),
     }
+}
+
+/// Whether the name is in the operand, where `extra` has this text.
+fn has_name_in(
+    alloc: Global,
+    environment: &Environment,
+    extra: &str,
+    left: &str,
+    right: &Operand,
+) -> Result<bool, EvalFault>
+    ensures { Gives EvalFault.Memory (λ b. b) result
+        (is_in (Some extra.now) environment.now true left.now right.now) }
+{
+    let left = NormalForm::of(alloc, left)?;
+    match right {
+        Operand::Text(whole) => Ok(is_part(alloc, &left, whole.as_str())?),
+        Operand::Variable(variable) => {
+            Ok(is_part(alloc, &left, variable_text(environment, *variable)?)?)
+        }
+        Operand::Extra => Ok(is_part(alloc, &left, extra)?),
+        Operand::Extras => Ok(environment.has_extra(left.as_str())),
+        Operand::Groups => Ok(environment.has_group(left.as_str())),
+    }
+}
+
+/// Whether the name stands somewhere in the normal form of the text.
+fn is_part(alloc: Global, name: &NormalForm, whole: &str) -> Result<bool, AllocError>
+    ensures { IfOk result (λ b. b ≡ is_substring name.now (norm whole.now)) }
+{
+    let whole = NormalForm::of(alloc, whole)?;
+    Ok(is_substring(name.as_str(), whole.as_str()))
 }
 
 /// Whether the text names an extra that is asked for.
@@ -327,7 +438,8 @@ fn value_by(
 ) -> Result<bool, EvalFault>
     requires { ReadsAs operator right.now }
     ensures { Gives EvalFault.Memory (λ b. b) result
-        (text_value environment.now left.now (Comparator.By operator) (right_operand right.now)) }
+        (text_value None environment.now false left.now (Comparator.By operator)
+        (right_operand right.now)) }
 {
     match right {
         Right::Text(text, specifier) => judge(left, operator, text.as_str(), specifier),
@@ -372,5 +484,21 @@ fn compare_texts(operator: Operator, left: &str, right: &str) -> Result<bool, Ev
         Operator::Before => Ok(left < right),
         Operator::After => Ok(left > right),
         Operator::Compatible | Operator::Arbitrary => Err(EvalFault::Undefined),
+    }
+}
+
+/// The two names by their normal forms.
+fn compare_names(operator: Operator, left: &str, right: &str) -> Result<bool, EvalFault>
+    ensures { result ≡ names_value operator left.now right.now }
+{
+    match operator {
+        Operator::Equal => Ok(is_same_name(left, right)),
+        Operator::NotEqual => Ok(!is_same_name(left, right)),
+        Operator::AtMost
+        | Operator::AtLeast
+        | Operator::Before
+        | Operator::After
+        | Operator::Compatible
+        | Operator::Arbitrary => Err(EvalFault::Undefined),
     }
 }

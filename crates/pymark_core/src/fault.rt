@@ -11,9 +11,10 @@ use std::alloc::AllocError;
 pub enum EvalFault {
     /// The marker reads a variable that has no text.
     Unset(Var),
-    /// The marker reads `extra`, which has no value in a lock.
+    /// The marker reads `extra`, which has no text in a lock.
     Extra,
-    /// `~=` or `===` stands between texts that it can't compare.
+    /// `~=` or `===` stands between texts that it can't compare, or an operator other than `==`,
+    /// `!=`, `in` and `not in` beside an `extra` that has a text.
     Undefined,
     /// A version with a number past [`u128::MAX`] is compared.
     NumberTooLarge,

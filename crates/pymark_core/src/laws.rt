@@ -2,6 +2,7 @@
 
 ghost use Rattle.std.specs.Prelude.{◌≡◌, ℕ, List, Some, Err, Ok, false, true};
 ghost use Rattle.pymark_core.specs.Environment.{EnvironmentValue};
+ghost use Rattle.pymark_core.specs.Marker.Asked.{reads_extra};
 ghost use Rattle.pymark_core.specs.Marker.Depth.{is_deep};
 ghost use Rattle.pymark_core.specs.Marker.Grammar.{MarkerText, has_misuse};
 ghost use Rattle.pymark_core.specs.Marker.Keys.{reads};
@@ -10,7 +11,7 @@ ghost use Rattle.pymark_core.specs.Marker.Tree.{Tree};
 ghost use Rattle.pymark_core.specs.Requirement.Grammar.{Req};
 ghost use Rattle.pymark_core.specs.Requirement.Reading.{requirement_of};
 ghost use Rattle.pymark_core.specs.Requirement.Value.{RequirementValue};
-ghost use Rattle.pymark_core.specs.Marker.Value.{AgreeAt, marker_value};
+ghost use Rattle.pymark_core.specs.Marker.Value.{AgreeAt, marker_value, value_with};
 ghost use Rattle.pytext.specs.White.{trimmed};
 ghost use Rattle.pymark_core.specs.declared.marker.keys.Key.{Key};
 
@@ -48,6 +49,20 @@ pub fn marker_reads()
         → marker_value e tree ≡ marker_value f tree }
 {}
 
+/// Where `extra` is no operand of a marker, its value with any text for `extra` is its value.
+pub fn marker_without_extra()
+    ensures { (extra : List ℕ) (environment : EnvironmentValue) (tree : Tree)
+        → reads_extra tree ≡ false
+        → value_with (Some extra) environment tree ≡ marker_value environment tree }
+{}
+
+/// With a text for `extra` too, a marker reads nothing of the environment but its keys.
+pub fn marker_with_extra_reads()
+    ensures { (tree : Tree) (extra : List ℕ) (e f : EnvironmentValue)
+        → ((k : Key) → reads k tree ≡ true → AgreeAt k e f)
+        → value_with (Some extra) e tree ≡ value_with (Some extra) f tree }
+{}
+
 /// What is read of a requirement, the text is, and what the text is, is read: each text is at most
 /// one requirement.
 pub fn requirement_of_is_complete()
@@ -57,11 +72,13 @@ pub fn requirement_of_is_complete()
         → Req text parts → requirement_of text ≡ Ok parts }
 {}
 
-/// The reading of a marker or of a requirement is never want of memory, nor is a marker's value:
-/// only a call may answer it.
+/// The reading of a marker or of a requirement is never want of memory, nor is a marker's value,
+/// with a text for `extra` or without: only a call may answer it.
 pub fn answers_want_no_memory()
     ensures marker { (text : List ℕ) → marker_of text ≡ Err MarkerError.Memory → ⊥ }
     ensures value { (environment : EnvironmentValue) (tree : Tree)
         → marker_value environment tree ≡ Err EvalFault.Memory → ⊥ }
+    ensures with_extra { (extra : List ℕ) (environment : EnvironmentValue) (tree : Tree)
+        → value_with (Some extra) environment tree ≡ Err EvalFault.Memory → ⊥ }
     ensures requirement { (text : List ℕ) → requirement_of text ≡ Err RequirementError.Memory → ⊥ }
 {}

@@ -20,7 +20,7 @@ ghost use Rattle.pymark_core.specs.Marker.Grammar.{MarkerText, comparisons, has_
 ghost use Rattle.pymark_core.specs.Marker.Keys.{is_flagged, reads};
 ghost use Rattle.pymark_core.specs.Marker.Reading.{marker_of};
 ghost use Rattle.pymark_core.specs.Marker.Tree.{Tree};
-ghost use Rattle.pymark_core.specs.Marker.Value.{marker_value};
+ghost use Rattle.pymark_core.specs.Marker.Value.{marker_value, value_with};
 ghost use Rattle.pytext.specs.White.{trimmed};
 ghost use Rattle.pymark_core.specs.declared.marker.keys.Key.{Key};
 
@@ -124,7 +124,31 @@ impl Marker {
         ensures { Gives EvalFault.Memory (λ b. b) result
             (marker_value environment.now self.now.tree) }
     {
-        tree_value(alloc, environment, &self.parsed.tree)
+        tree_value(alloc, environment, None, &self.parsed.tree)
+    }
+
+    /// The value of the marker in an environment where the operand `extra` has this text, as in a
+    /// package's metadata: `Requires-Dist: foo; extra == "bar"` (PEP 685). It is that of
+    /// [`Marker::evaluate`], but that `extra` is no fault.
+    ///
+    /// What stands on the other side of `extra`, a quoted text or a variable, is compared as a
+    /// name: `==` and `!=` compare the normal forms of the two texts (PEP 503), `in` and `not in`
+    /// look for the normal form on the left in that on the right, and any other operator is
+    /// `Undefined`. In front of `extras` and `dependency_groups` it is a text like any other.
+    ///
+    /// It takes memory where `evaluate` does, and besides only for `extra` with `in` or `not in`,
+    /// for the normal form of a text that doesn't stand in it already.
+    pub fn evaluate_with_extra(
+        &self,
+        alloc: Global,
+        environment: &Environment,
+        extra: &str,
+    ) -> Result<bool, EvalFault>
+        ensures exact { Gives EvalFault.Memory (λ b. b) result
+            (value_with (Some extra.now) environment.now self.now.tree) }
+        ensures given { IsErrOf result EvalFault.Extra → ⊥ }
+    {
+        tree_value(alloc, environment, Some(extra), &self.parsed.tree)
     }
 
     /// The comparisons of the marker, in the order in which they stand in its text. It takes memory

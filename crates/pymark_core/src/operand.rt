@@ -10,7 +10,7 @@ pub enum Operand {
     Text(Label),
     /// A variable of the environment.
     Variable(Var),
-    /// `extra`, which has no value in a lock.
+    /// `extra`: the extra that a package's metadata is read for. In a lock it has no text.
     Extra,
     /// `extras`: the set of the extras that are asked for.
     Extras,

@@ -209,6 +209,62 @@ fn marker_evaluate(rt: HostRuntime) {
     check_value(&rt, &environment);
 }
 
+/// A marker whose value takes memory where the extra isn't in normal form.
+const IN_EXTRA: &str = "'A_b' in extra and extra in extras and extra not in python_version";
+
+fn check_in_extra<R: Abort + AllocGlobal>(rt: &R, environment: &Environment, marker: &Marker) {
+    let is_set = environment.get(Var::PythonVersion).is_some();
+    let is_in = environment.has_extra("a-b");
+    match marker.evaluate_with_extra(rt.alloc(), environment, "a.B") {
+        Ok(value) => assert!(rt; is_set && value == is_in),
+        Err(EvalFault::Unset(_)) => assert!(rt; !is_set),
+        Err(fault) => assert_eq!(rt; fault, EvalFault::Memory),
+    }
+}
+
+#[test]
+fn marker_evaluate_with_extra(rt: HostRuntime) {
+    let environment = environment(rt.alloc());
+    if let Ok(marker) = Marker::parse(rt.alloc(), IN_EXTRA) {
+        check_in_extra(&rt, &environment, &marker);
+    }
+}
+
+/// A marker of names, which are compared without memory, in normal form or not.
+const NAMED: &str = "(extra == 'A_b' or 'c' != extra) and extra != python_version";
+
+/// A marker that looks for names, which takes no memory where they are in normal form.
+const SOUGHT: &str = "'a' in extra and extra in extras and extra not in python_version";
+
+fn check_with_extra<R: Abort + AllocGlobal>(
+    rt: &R,
+    environment: &Environment,
+    text: &str,
+    extra: &str,
+    wanted: bool,
+) {
+    let is_set = environment.get(Var::PythonVersion).is_some();
+    let wanted = if is_set {
+        Ok(wanted)
+    } else {
+        Err(EvalFault::Unset(Var::PythonVersion))
+    };
+    if let Ok(marker) = Marker::parse(rt.alloc(), text) {
+        let value = marker.evaluate_with_extra(rt.alloc(), environment, extra);
+        assert_eq!(rt; value, wanted);
+    }
+}
+
+/// Where the marker and the environment were made, no growth is left that could be refused.
+#[test]
+fn marker_evaluate_with_extra_without_memory(rt: HostRuntime) {
+    let mut environment = Environment::new(rt.alloc());
+    let _ = environment.set(Var::PythonVersion, "py3");
+    let is_in = environment.add_extra("a.b").is_ok();
+    check_with_extra(&rt, &environment, NAMED, "a.-B", true);
+    check_with_extra(&rt, &environment, SOUGHT, "a-b", is_in);
+}
+
 /// A marker that is judged without memory.
 const JUDGED: &str = "(python_version >= '3.8' or python_version > 'x' or 'y' in python_version) \
         and 'A_b' in extras and 'a' not in dependency_groups and '1.0' == '1'";

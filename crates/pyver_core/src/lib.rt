@@ -6,6 +6,6 @@ mod name;
 mod set;
 mod version;
 
-pub use name::{NormalName, is_name, normal_name};
+pub use name::{NormalForm, NormalName, is_name, is_same_name, normal_name};
 pub use set::{Operator, ReleasePrefix, Specifier, SpecifierError, SpecifierSet};
 pub use version::{Label, LocalPart, PartsError, PreKind, Version, VersionError, VersionParts};

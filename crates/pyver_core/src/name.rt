@@ -7,9 +7,11 @@ ghost use Rattle.pytext.specs.Bytes.{is_separator, is_name_byte};
 ghost use Rattle.pyver_core.specs.Name.{is_name, is_name_end, norm};
 
 mod normal;
+mod same;
 
-pub use normal::NormalName;
+pub use normal::{NormalForm, NormalName};
 use pytext::is_name_byte;
+pub use same::is_same_name;
 use std::alloc::{AllocError, Global};
 
 /// Whether the text is a name: one or more ASCII letters, digits, `.`, `_` and `-`, first and last

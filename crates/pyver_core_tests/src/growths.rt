@@ -4,8 +4,8 @@
 
 use crate::parts::parts_with_local;
 use pyver_core::{
-    NormalName, Operator, PartsError, Specifier, SpecifierError, SpecifierSet, Version,
-    VersionError, VersionParts, is_name, normal_name,
+    NormalForm, NormalName, Operator, PartsError, Specifier, SpecifierError, SpecifierSet, Version,
+    VersionError, VersionParts, is_name, is_same_name, normal_name,
 };
 use std::process::Abort;
 use std::test::Fail;
@@ -156,6 +156,23 @@ fn name_from_string(rt: HostRuntime) {
             assert_eq!(rt; name.into_string().as_str(), "a-b");
         }
     }
+}
+
+/// Of a text that stands in normal form, and of one that doesn't.
+#[test]
+fn name_form(rt: HostRuntime) {
+    for text in ["a-b", "A.-_B"] {
+        match NormalForm::of(rt.alloc(), text) {
+            Ok(name) => assert_eq!(rt; name.as_str(), "a-b"),
+            Err(_) => assert!(rt; text == "A.-_B"),
+        }
+    }
+}
+
+/// Names are compared without memory.
+#[test]
+fn names_compared(rt: HostRuntime) {
+    assert!(rt; is_same_name("A.-_B", "a--b") && !is_same_name("A.-_B", "ab"));
 }
 
 /// The calls of the version `1!2.0rc1.post3.dev4+ubuntu.1` that take no memory.

@@ -2,8 +2,10 @@
 -- that are asked for (PEP 751, `packages.marker`).
 use Rattle.std.specs.Prelude.{ℕ, Bool, false, true, ◌||◌, List, Option, Some, None}
 use Rattle.std.specs.Prelude.{if◌then◌else◌}
+use Rattle.std.specs.List.{list_any}
 use Rattle.pymark_core.specs.Marker.Comparison.{ComparisonValue}
-use Rattle.pymark_core.specs.Marker.Grammar.{is_by}
+use Rattle.pymark_core.specs.Marker.Grammar.{comparisons, is_by}
+use Rattle.pymark_core.specs.Marker.Tree.{Tree}
 use Rattle.pymark_core.specs.declared.operand.Operand.{Operand}
 use Rattle.pymark_core.specs.declared.operand.Operand.TheVariants.{Text, Extra, Extras, Groups}
 
@@ -14,6 +16,10 @@ is_extra operand = false
 -- `extra` is one of the operands
 abbrev pub has_extra : ComparisonValue → Bool
 has_extra c = is_extra c.left || is_extra c.right
+
+-- `extra` is an operand somewhere in the tree
+abbrev pub reads_extra : Tree → Bool
+reads_extra tree = list_any has_extra (comparisons tree)
 
 abbrev pub quoted_text : Operand → Option (List ℕ)
 quoted_text (Text text) = Some text

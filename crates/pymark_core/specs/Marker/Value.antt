@@ -1,7 +1,7 @@
 -- What a marker is worth in an environment: true, false or a fault (PEP 508, "Environment Markers";
--- PEP 751, "Installation", for `extras` and `dependency_groups`).
-use Rattle.std.specs.Prelude.{◌≡◌, ℕ, Bool, not, ◌&&◌, ◌||◌, List, [], ◌∷◌, Option, Some, None}
-use Rattle.std.specs.Prelude.{ok_or, nat_eq, Result, Ok, Err, if◌then◌else◌}
+-- PEP 685 for `extra`; PEP 751, "Installation", for `extras` and `dependency_groups`).
+use Rattle.std.specs.Prelude.{◌≡◌, ℕ, Bool, true, false, not, ◌&&◌, ◌||◌, List, [], ◌∷◌, Option}
+use Rattle.std.specs.Prelude.{Some, None, ok_or, nat_eq, Result, Ok, Err, if◌then◌else◌}
 use Rattle.std.specs.Cmp.Lexicographic.{slice_cmp}
 use Rattle.std.specs.List.{starts_with}
 use Rattle.std.specs.Ordering.{is_ge, is_gt, is_le, is_lt, nat_cmp}
@@ -18,6 +18,7 @@ use Rattle.pyver_core.specs.declared.set.specifier.Operator.{Operator}
 use Rattle.pyver_core.specs.declared.set.specifier.Operator.TheVariants as operator
 use Rattle.pyver_core.specs.declared.set.specifier.Specifier.{Specifier}
 use Rattle.pymark_core.specs.Environment.{EnvironmentValue, has_extra, has_group, variable_in}
+use Rattle.pymark_core.specs.Marker.Asked.{has_extra as asks_extra}
 use Rattle.pymark_core.specs.Marker.Comparison.{ComparisonValue}
 use Rattle.pymark_core.specs.Marker.Tree.{Tree, last, or, Conjunction, only, and, Atom, leaf, group}
 use Rattle.pymark_core.specs.declared.fault.EvalFault.{EvalFault}
@@ -32,14 +33,19 @@ use Rattle.pymark_core.specs.declared.operand.Operand.TheVariants.{Groups}
 
 -- ---- operands
 
--- The text that an operand stands for. `extra` has none, and a set is no text: it stands right of
--- `in` and `not in` alone.
-abbrev pub operand_text : EnvironmentValue → Operand → Result (List ℕ) EvalFault
-operand_text environment (Text text) = Ok text
-operand_text environment (Variable v) = ok_or (variable_in v environment) (fault.Unset v)
-operand_text environment Extra = Err fault.Extra
-operand_text environment Extras = Err fault.Undefined
-operand_text environment Groups = Err fault.Undefined
+-- The text that an operand stands for. `extra` has the one that is given for it, or none, as in a
+-- lock. A set is no text: it stands right of `in` and `not in` alone.
+abbrev pub operand_text : Option (List ℕ) → EnvironmentValue → Operand → Result (List ℕ) EvalFault
+operand_text extra environment (Text text) = Ok text
+operand_text extra environment (Variable v) = ok_or (variable_in v environment) (fault.Unset v)
+operand_text extra environment Extra = ok_or extra fault.Extra
+operand_text extra environment Extras = Err fault.Undefined
+operand_text extra environment Groups = Err fault.Undefined
+
+-- names are compared: `extra` is one of the operands, and has a text (PEP 685)
+abbrev pub compares_names : Option (List ℕ) → ComparisonValue → Bool
+compares_names None c = false
+compares_names (Some extra) c = asks_extra c
 
 -- ---- `in`
 
@@ -48,11 +54,18 @@ abbrev pub is_substring : List ℕ → List ℕ → Bool
 is_substring x [] = starts_with nat_eq [] x
 is_substring x (b ∷ rest) = starts_with nat_eq (b ∷ rest) x || is_substring x rest
 
--- whether x is in the operand: its normal form in a set of names, x itself in a text
-abbrev pub is_in : EnvironmentValue → List ℕ → Operand → Result Bool EvalFault
-is_in environment x Extras = Ok (has_extra (norm x) environment)
-is_in environment x Groups = Ok (has_group (norm x) environment)
-is_in environment x right = operand_text environment right >>= λ y. Ok (is_substring x y)
+-- whether x stands somewhere in y; of names, the normal form of x in that of y
+abbrev pub is_part : Bool → List ℕ → List ℕ → Bool
+is_part false x y = is_substring x y
+is_part true x y = is_substring (norm x) (norm y)
+
+-- whether x is in the operand: its normal form in a set of names, or x in a text
+abbrev pub is_in : Option (List ℕ) → EnvironmentValue → Bool → List ℕ → Operand
+    → Result Bool EvalFault
+is_in extra environment named x Extras = Ok (has_extra (norm x) environment)
+is_in extra environment named x Groups = Ok (has_group (norm x) environment)
+is_in extra environment named x right =
+    operand_text extra environment right >>= λ y. Ok (is_part named x y)
 
 -- ---- the operators of specifiers
 
@@ -82,19 +95,34 @@ abbrev pub operator_value : Operator → List ℕ → List ℕ → Result Bool E
 operator_value operator x y =
     version_value (version_of x) (operand_of operator y) (texts_value operator x y)
 
+-- two names by their normal forms, which have no order
+abbrev pub names_value : Operator → List ℕ → List ℕ → Result Bool EvalFault
+names_value operator.Equal x y = Ok (bytes_eq (norm x) (norm y))
+names_value operator.NotEqual x y = Ok (not (bytes_eq (norm x) (norm y)))
+names_value other x y = Err fault.Undefined
+
+-- x against y by an operator of specifiers: as names, or as what they read as
+abbrev pub by_value : Bool → Operator → List ℕ → List ℕ → Result Bool EvalFault
+by_value false operator x y = operator_value operator x y
+by_value true operator x y = names_value operator x y
+
 -- ---- comparisons
 
 -- a text against the operand right of the operator
-abbrev pub text_value : EnvironmentValue → List ℕ → Comparator → Operand → Result Bool EvalFault
-text_value environment x (By operator) right =
-    operand_text environment right >>= λ y. operator_value operator x y
-text_value environment x In right = is_in environment x right
-text_value environment x NotIn right = is_in environment x right >>= λ is. Ok (not is)
+abbrev pub text_value : Option (List ℕ) → EnvironmentValue → Bool → List ℕ → Comparator → Operand
+    → Result Bool EvalFault
+text_value extra environment named x (By operator) right =
+    operand_text extra environment right >>= λ y. by_value named operator x y
+text_value extra environment named x In right = is_in extra environment named x right
+text_value extra environment named x NotIn right =
+    is_in extra environment named x right >>= λ is. Ok (not is)
 
 -- the left operand first, then the right one
-abbrev pub comparison_value : EnvironmentValue → ComparisonValue → Result Bool EvalFault
-comparison_value environment c =
-    operand_text environment c.left >>= λ x. text_value environment x c.comparator c.right
+abbrev pub comparison_value : Option (List ℕ) → EnvironmentValue → ComparisonValue
+    → Result Bool EvalFault
+comparison_value extra environment c =
+    operand_text extra environment c.left >>= λ x.
+    text_value extra environment (compares_names extra c) x c.comparator c.right
 
 -- ---- markers
 
@@ -103,22 +131,28 @@ abbrev pub both : (Bool → Bool → Bool) → Result Bool EvalFault → Result 
     → Result Bool EvalFault
 both join first second = first >>= λ x. second >>= λ y. Ok (join x y)
 
--- every comparison counts, also where the others have decided already
+-- The value where `extra` has this text, or none. Every comparison counts, also where the others
+-- have decided already.
 abbrev mutual
-  pub marker_value : EnvironmentValue → Tree → Result Bool EvalFault
-  marker_value environment (last conjunction) = conjunction_value environment conjunction
-  marker_value environment (or conjunction rest) =
+  pub value_with : Option (List ℕ) → EnvironmentValue → Tree → Result Bool EvalFault
+  value_with extra environment (last conjunction) = conjunction_value extra environment conjunction
+  value_with extra environment (or conjunction rest) =
       both (λ x y. x || y)
-      (conjunction_value environment conjunction) (marker_value environment rest)
+      (conjunction_value extra environment conjunction) (value_with extra environment rest)
 
-  pub conjunction_value : EnvironmentValue → Conjunction → Result Bool EvalFault
-  conjunction_value environment (only atom) = atom_value environment atom
-  conjunction_value environment (and atom rest) =
-      both (λ x y. x && y) (atom_value environment atom) (conjunction_value environment rest)
+  pub conjunction_value : Option (List ℕ) → EnvironmentValue → Conjunction → Result Bool EvalFault
+  conjunction_value extra environment (only atom) = atom_value extra environment atom
+  conjunction_value extra environment (and atom rest) =
+      both (λ x y. x && y)
+      (atom_value extra environment atom) (conjunction_value extra environment rest)
 
-  pub atom_value : EnvironmentValue → Atom → Result Bool EvalFault
-  atom_value environment (leaf comparison) = comparison_value environment comparison
-  atom_value environment (group tree) = marker_value environment tree
+  pub atom_value : Option (List ℕ) → EnvironmentValue → Atom → Result Bool EvalFault
+  atom_value extra environment (leaf comparison) = comparison_value extra environment comparison
+  atom_value extra environment (group tree) = value_with extra environment tree
+
+-- the value in a lock, where `extra` has no text
+abbrev pub marker_value : EnvironmentValue → Tree → Result Bool EvalFault
+marker_value environment tree = value_with None environment tree
 
 -- ---- what a marker reads
 

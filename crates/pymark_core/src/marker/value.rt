@@ -1,8 +1,9 @@
-//! The value of a marker's tree (PEP 508, "Environment Markers").
+//! The value of a marker's tree (PEP 508, "Environment Markers"), where `extra` has a text or none.
 
 ghost use Rattle.std.specs.Prelude.{◌≡◌};
+ghost use Rattle.std.specs.Option.{option_copied};
 ghost use Rattle.pytext.specs.Agreement.{Gives};
-ghost use Rattle.pymark_core.specs.Marker.Value.{atom_value, conjunction_value, marker_value};
+ghost use Rattle.pymark_core.specs.Marker.Value.{atom_value, conjunction_value, value_with};
 ghost use Rattle.pymark_core.specs.Inner.View.{atom_view, conjunction_view, tree_view};
 
 use super::tree::{Atom, Conjunction, Tree};
@@ -16,17 +17,18 @@ use std::alloc::Global;
 pub(super) fn tree_value(
     alloc: Global,
     environment: &Environment,
+    extra: Option<&str>,
     tree: &Tree,
 ) -> Result<bool, EvalFault>
     ensures { Gives EvalFault.Memory (λ b. b) result
-        (marker_value environment.now (tree_view tree.now)) }
+        (value_with (option_copied extra.entry) environment.now (tree_view tree.now)) }
 {
     let mut value = false;
     for conjunction in &tree.front {
-        let next = conjunction_value(alloc, environment, conjunction)?;
+        let next = conjunction_value(alloc, environment, extra, conjunction)?;
         value = value || next;
     }
-    let last = conjunction_value(alloc, environment, &tree.last)?;
+    let last = conjunction_value(alloc, environment, extra, &tree.last)?;
     Ok(value || last)
 }
 
@@ -35,28 +37,35 @@ pub(super) fn tree_value(
 fn conjunction_value(
     alloc: Global,
     environment: &Environment,
+    extra: Option<&str>,
     conjunction: &Conjunction,
 ) -> Result<bool, EvalFault>
     ensures { Gives EvalFault.Memory (λ b. b) result
-        (conjunction_value environment.now (conjunction_view conjunction.now)) }
+        (conjunction_value (option_copied extra.entry) environment.now
+        (conjunction_view conjunction.now)) }
 {
     let mut value = true;
     for atom in &conjunction.front {
-        let next = atom_value(alloc, environment, atom)?;
+        let next = atom_value(alloc, environment, extra, atom)?;
         value = value && next;
     }
-    let last = atom_value(alloc, environment, &conjunction.last)?;
+    let last = atom_value(alloc, environment, extra, &conjunction.last)?;
     Ok(value && last)
 }
 
 /// The value of a comparison, or of a marker in parentheses.
 #[cycle(value)]
-fn atom_value(alloc: Global, environment: &Environment, atom: &Atom) -> Result<bool, EvalFault>
+fn atom_value(
+    alloc: Global,
+    environment: &Environment,
+    extra: Option<&str>,
+    atom: &Atom,
+) -> Result<bool, EvalFault>
     ensures { Gives EvalFault.Memory (λ b. b) result
-        (atom_value environment.now (atom_view atom.now)) }
+        (atom_value (option_copied extra.entry) environment.now (atom_view atom.now)) }
 {
     match atom {
-        Atom::Leaf(comparison) => comparison.evaluate(alloc, environment),
-        Atom::Group(inner) => tree_value(alloc, environment, inner),
+        Atom::Leaf(comparison) => comparison.evaluate(alloc, environment, extra),
+        Atom::Group(inner) => tree_value(alloc, environment, extra, inner),
     }
 }

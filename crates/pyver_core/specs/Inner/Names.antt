@@ -1,7 +1,8 @@
 -- Names that are their own normal form.
-use Rattle.std.specs.Prelude.{ℕ, ◌==◌, ◌&&◌, ◌||◌, not, Bool, false, true, List, [], ◌∷◌}
-use Rattle.std.specs.Prelude.{if◌then◌else◌}
+use Rattle.std.specs.Prelude.{◌≡◌, ℕ, ◌==◌, ◌<◌, ◌&&◌, ◌||◌, not, Bool, false, true, List, [], ◌∷◌}
+use Rattle.std.specs.Prelude.{length, if◌then◌else◌}
 use Rattle.std.specs.Char.{is_ascii_digit, is_ascii_lowercase}
+use Rattle.pyver_core.specs.Name.{norm}
 
 -- a byte that a normal form may have
 abbrev pub is_normal_byte : ℕ → Bool
@@ -14,3 +15,8 @@ is_normal_behind after_dash (b ∷ rest) =
     if (after_dash && (b == 45)) || not (is_normal_byte b)
     then false
     else is_normal_behind (b == 45) rest
+
+-- the normal form of a text begins with this byte, and goes on with that of this shorter text
+pub record BeginsNormal (text : List ℕ) (byte : ℕ) (behind : List ℕ) : Type 0 where
+  pub begins : norm text ≡ byte ∷ norm behind
+  pub shorter : length behind < length text

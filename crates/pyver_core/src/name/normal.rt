@@ -75,6 +75,54 @@ impl NormalName {
     }
 }
 
+/// The normal form of a text (PEP 503, "Normalized Names"), which is lent where the text stands in
+/// it already. Contracts see the normal form.
+pub struct NormalForm<'a> {
+    text: &'a str,
+    /// The normal form, where it was made.
+    made: Option<NormalName>,
+}
+
+impl<'a> Model for NormalForm<'a> {
+    ghost use Rattle.std.specs.Prelude.{List, ℕ, unwrap_or};
+
+    ghost Value = { List ℕ };
+
+    ghost view = { λ n. unwrap_or n.made n.text.now };
+}
+
+impl Drop for NormalForm<'_> {
+    fn drop(self) {
+        let NormalForm { text: _, made: _ } = self;
+    }
+}
+
+impl<'a> NormalForm<'a> {
+    /// The normal form of any text. It takes memory only where the text isn't lower-case letters,
+    /// digits and single `-` alone: then that of one text as long as the given one.
+    #[tactic(auto, using(crate::proofs::Lemmas::Name::Normal::normal_stays))]
+    pub fn of(alloc: Global, text: &'a str) -> Result<NormalForm<'a>, AllocError>
+        ensures { IfOk result (λ name. name ≡ norm text.now) }
+    {
+        let made = if is_normal(text.as_bytes()) {
+            None
+        } else {
+            Some(NormalName::new(alloc, text)?)
+        };
+        Ok(NormalForm { text, made })
+    }
+
+    /// The normal form. It takes no memory.
+    pub fn as_str(&self) -> &str
+        ensures { result.now ≡ self.now }
+    {
+        match &self.made {
+            Some(name) => name.as_str(),
+            None => self.text,
+        }
+    }
+}
+
 /// Whether these are lower-case letters, digits and single `-`.
 fn is_normal(bytes: &[u8]) -> bool
     ensures { result ≡ is_normal_behind false bytes.now }

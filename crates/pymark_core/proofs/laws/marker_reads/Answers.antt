@@ -1,5 +1,6 @@
+use Rattle.std.proofs.Common.{None}
 use Rattle.pymark_core.proofs.Agreeing.{tree_agrees}
 use Rattle.pymark_core.proofs.laws.marker_reads.Goals as goal
 
 pub returns : goal.returns
-returns c tree e f agree = tree_agrees e f tree agree
+returns c tree e f agree = tree_agrees None e f tree agree

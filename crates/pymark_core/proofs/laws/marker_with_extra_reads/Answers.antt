@@ -1,0 +1,6 @@
+use Rattle.std.proofs.Common.{Some}
+use Rattle.pymark_core.proofs.Agreeing.{tree_agrees}
+use Rattle.pymark_core.proofs.laws.marker_with_extra_reads.Goals as goal
+
+pub returns : goal.returns
+returns c tree extra e f agree = tree_agrees (Some extra) e f tree agree
