@@ -27,6 +27,7 @@ impl Answers for Cases {
             "environment" => environments::tell(alloc, case),
             "equality" => sets::compare(alloc, case),
             "items" => sets::tell_items(alloc, case),
+            "key" => versions::tell_key(alloc, case),
             "long_name" => names::measure(alloc, case),
             "long_set" => sets::measure(alloc, case),
             "long_version" => versions::measure(alloc, case),

@@ -4,6 +4,7 @@ use crate::told::{measured, printed, told};
 use case_files::{text, texts};
 use pyver_core::Version;
 use std::alloc::{AllocError, Global};
+use std::cmp::Ordering;
 use toml::Table;
 
 /// The normal text of `version`, or why it is refused.
@@ -75,15 +76,38 @@ pub(crate) fn compare(alloc: Global, case: &Table) -> anyhow::Result<String> {
 fn sign_between(alloc: Global, left: &str, right: &str) -> anyhow::Result<&'static str> {
     let left = Version::parse(alloc, left)?;
     let right = Version::parse(alloc, right)?;
-    Ok(sign(&left, &right))
+    let keys = compare_keys(alloc, &left, &right)?;
+    Ok(sign(&left, &right, keys))
 }
 
-/// What each of the comparisons says.
-fn sign(left: &Version, right: &Version) -> &'static str {
-    match (left < right, left == right, left > right, left != right) {
-        (true, false, false, true) => "<",
-        (false, true, false, false) => "==",
-        (false, false, true, true) => ">",
+fn compare_keys(alloc: Global, left: &Version, right: &Version) -> Result<Ordering, AllocError> {
+    Ok(left.order_key(alloc)?.cmp(&right.order_key(alloc)?))
+}
+
+/// What each of the comparisons says, and that of the order keys.
+fn sign(left: &Version, right: &Version, keys: Ordering) -> &'static str {
+    match (
+        left < right,
+        left == right,
+        left > right,
+        left != right,
+        keys,
+    ) {
+        (true, false, false, true, Ordering::Less) => "<",
+        (false, true, false, false, Ordering::Equal) => "==",
+        (false, false, true, true, Ordering::Greater) => ">",
         _ => "?",
     }
+}
+
+/// The bytes of the order key of `version`.
+pub(crate) fn tell_key(alloc: Global, case: &Table) -> anyhow::Result<String> {
+    let text = text(alloc, case, "version")?;
+    let version = Version::parse(alloc, text.as_str())?;
+    Ok(key(alloc, &version)?)
+}
+
+fn key(alloc: Global, version: &Version) -> Result<String, AllocError> {
+    let key = version.order_key(alloc)?;
+    format!(in alloc; "{key:?}")
 }

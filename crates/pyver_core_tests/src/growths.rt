@@ -18,6 +18,27 @@ fn version_parse(rt: HostRuntime) {
     }
 }
 
+/// A key that outgrows the room that it begins with.
+fn check_order_key<R: Abort + AllocGlobal>(rt: &R, version: &Version) {
+    if let Ok(key) = version.order_key(rt.alloc()) {
+        assert_eq!(rt;
+            key.as_slice(),
+            [
+                2, 3, 0, 3, 2, 4, 5, 1, 118, 99, 118, 111, 117, 118, 0, 2, 254, 254, 2, 0, 0, 2, 2,
+                2, 3, 2, 4, 0
+            ]
+            .as_slice()
+        );
+    }
+}
+
+#[test]
+fn version_order_key(rt: HostRuntime) {
+    if let Ok(version) = Version::parse(rt.alloc(), "1!2.0RC1.post3.dev4+Ubuntu.65536.1.2.3") {
+        check_order_key(&rt, &version);
+    }
+}
+
 fn check_version_copy<R: Abort>(rt: &R, version: &Version) {
     if let Ok(copy) = version.clone() {
         assert_eq!(rt; copy.text(), version.text());
