@@ -4,5 +4,6 @@ pub mod Grammar
 pub mod Hashing
 pub mod Normal
 pub mod Order
+pub mod OrderLaws
 pub mod Parts
 pub mod Reading
