@@ -6,7 +6,7 @@ use Rattle.std.specs.declared.cmp.Ordering.{Ordering}
 use Rattle.std.specs.declared.cmp.Ordering.TheVariants.{Less, Equal, Greater}
 use Rattle.std.proofs.lemmas.List.Elements.{All-append, All-cons, All-nil, All-weaker, Contains-append_left, Contains-push}
 use Rattle.std.proofs.lemmas.Bool.{cases_Bool}
-use Rattle.pyver_core.specs.Inner.OrderLaws.{version_total}
+use Rattle.pyver_core.specs.Version.OrderLaws.{version_total}
 use Rattle.pyver_core.specs.Set.Admission.{admits_all}
 use Rattle.pyver_core.specs.Version.Order.{before, is_before, version_cmp}
 use Rattle.pyver_core.specs.Version.Parts.{Parts}

@@ -51,7 +51,7 @@ impl Model for Session {
     ghost use Rattle.std.specs.FinMap as map_of;
     ghost use Rattle.std.specs.Ordering.{nat_cmp};
     ghost use Rattle.pymark_core.specs.Environment.{environment_code};
-    ghost use Rattle.pymark_core.specs.Inner.Coding.{marker_code};
+    ghost use Rattle.pymark_core.specs.Marker.Coding.{marker_code};
     ghost use Rattle.pylock_core.specs.contracts.edit.Policy as policy;
 
     ghost Value = { SessionValue };

@@ -40,7 +40,7 @@ impl Model for Entry {
     ghost use Rattle.std.specs.Prelude.{option_map, string_bytes};
     ghost use Rattle.pylock_readers.specs.Entry.{EntryValue};
     ghost use Rattle.std.specs.Coded.{codes};
-    ghost use Rattle.pymark_core.specs.Inner.Coding.{marker_code};
+    ghost use Rattle.pymark_core.specs.Marker.Coding.{marker_code};
 
     ghost Value = { EntryValue };
 

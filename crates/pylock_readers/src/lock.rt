@@ -29,7 +29,7 @@ impl Model for Lock {
     ghost use Rattle.std.specs.Prelude.{◌≤◌, vec_len};
     ghost use Rattle.pylock_readers.specs.Lock.{LockValue};
     ghost use Rattle.std.specs.Coded.{codes};
-    ghost use Rattle.pymark_core.specs.Inner.Coding.{marker_code};
+    ghost use Rattle.pymark_core.specs.Marker.Coding.{marker_code};
 
     ghost Value = { LockValue };
 

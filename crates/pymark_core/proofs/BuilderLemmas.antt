@@ -12,7 +12,7 @@ use Rattle.pymark_core.specs.Inner.Building.{frame_view, noted, rest_atom}
 use Rattle.pymark_core.specs.Marker.Reading as reading
 use Rattle.pymark_core.specs.Marker.Reading.{Place, Stage, at_atom, at_operator, at_in, at_rest, at_right, behind_closing, end_at, frame_tree, operand_of, word_operand}
 use Rattle.pymark_core.specs.Marker.Token.{Token}
-use Rattle.pymark_core.specs.Inner.View.{atom_view, tree_view}
+use Rattle.pymark_core.specs.Marker.View.{atom_view, tree_view}
 use Rattle.pymark_core.specs.Variables.{variable_of}
 use Rattle.pymark_core.specs.declared.marker.builder.Frame.{Frame}
 use Rattle.pymark_core.specs.declared.marker.tree.Atom.{Atom}

@@ -3,7 +3,7 @@ use Rattle.std.proofs.Common.{◌≡◌, sym, ap, ◌∙◌}
 use Rattle.std.proofs.lemmas.Simd.{map-map}
 use Rattle.pymark_core.specs.Marker.Comparison.{ComparisonValue}
 use Rattle.pymark_core.specs.Marker.Tree as tree
-use Rattle.pymark_core.specs.Inner.View.{atom_step, atom_view, tree_view}
+use Rattle.pymark_core.specs.Marker.View.{atom_step, atom_view, tree_view}
 use Rattle.pymark_core.specs.declared.marker.tree.Atom.{Atom}
 use Rattle.pymark_core.specs.declared.marker.tree.Atom.TheFolds.{fold-roll-Atom}
 use Rattle.pymark_core.specs.declared.marker.tree.Atom.TheOpen as layer

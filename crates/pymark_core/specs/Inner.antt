@@ -1,9 +1,6 @@
 pub mod Building
-pub mod Coding
-pub mod Compared
 pub mod Front
 pub mod Nesting
 pub mod Next
 pub mod ReadingComplete
 pub mod Source
-pub mod View

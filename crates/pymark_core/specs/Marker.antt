@@ -1,4 +1,6 @@
 pub mod Asked
+pub mod Coding
+pub mod Compared
 pub mod Comparison
 pub mod Depth
 pub mod Grammar
@@ -7,3 +9,4 @@ pub mod Reading
 pub mod Token
 pub mod Tree
 pub mod Value
+pub mod View

@@ -5,8 +5,8 @@ ghost use Rattle.std.specs.Option.{option_copied};
 ghost use Rattle.pytext.specs.Agreement.{Gives};
 ghost use Rattle.pyver_core.specs.Name.{norm};
 ghost use Rattle.pymark_core.specs.Environment.{has_extra, has_group};
-ghost use Rattle.pymark_core.specs.Inner.Compared.{IsRead, ReadsAs, comparator_of, left_operand};
-ghost use Rattle.pymark_core.specs.Inner.Compared.{right_of, right_operand};
+ghost use Rattle.pymark_core.specs.Marker.Compared.{IsRead, ReadsAs, comparator_of, left_operand};
+ghost use Rattle.pymark_core.specs.Marker.Compared.{right_of, right_operand};
 ghost use Rattle.pymark_core.specs.Marker.Asked.{extra_asked, group_asked, has_extra as asks_extra};
 ghost use Rattle.pymark_core.specs.Marker.Asked.{is_extra, quoted_text};
 ghost use Rattle.pymark_core.specs.Marker.Value.{comparison_value, is_in, is_substring};
@@ -66,8 +66,8 @@ enum Right {
 
 impl Model for Comparison {
     ghost use Rattle.pymark_core.specs.Marker.Comparison.{ComparisonValue};
-    ghost use Rattle.pymark_core.specs.Inner.Compared.{IsRead, comparator_of, left_operand};
-    ghost use Rattle.pymark_core.specs.Inner.Compared.{right_of};
+    ghost use Rattle.pymark_core.specs.Marker.Compared.{IsRead, comparator_of, left_operand};
+    ghost use Rattle.pymark_core.specs.Marker.Compared.{right_of};
 
     ghost Value = { ComparisonValue };
 

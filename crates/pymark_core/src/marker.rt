@@ -14,7 +14,7 @@ mod value;
 ghost use Rattle.std.specs.Fmt.{padded};
 ghost use Rattle.std.specs.Prelude.{◌≡◌, IfOk, IsErrOf, Some, false, map, string_bytes, true};
 ghost use Rattle.pytext.specs.Agreement.{Gives};
-ghost use Rattle.pymark_core.specs.Inner.View.{tree_view};
+ghost use Rattle.pymark_core.specs.Marker.View.{tree_view};
 ghost use Rattle.pymark_core.specs.Marker.Depth.{is_deep};
 ghost use Rattle.pymark_core.specs.Marker.Grammar.{MarkerText, comparisons, has_misuse};
 ghost use Rattle.pymark_core.specs.Marker.Keys.{is_flagged, reads};
@@ -57,7 +57,7 @@ struct Parsed {
 }
 
 impl Model for Marker {
-    ghost use Rattle.pymark_core.specs.Inner.Coding.{marker_code};
+    ghost use Rattle.pymark_core.specs.Marker.Coding.{marker_code};
     ghost use Rattle.pymark_core.specs.Marker.Reading.{MarkerValue};
 
     ghost Value = { MarkerValue };
@@ -66,7 +66,7 @@ impl Model for Marker {
 
     ghost use Rattle.std.specs.Prelude.{◌≡◌, string_bytes};
     ghost use Rattle.pymark_core.specs.Marker.Keys.{is_flagged, reads};
-    ghost use Rattle.pymark_core.specs.Inner.View.{tree_view};
+    ghost use Rattle.pymark_core.specs.Marker.View.{tree_view};
     ghost use Rattle.pymark_core.specs.declared.marker.keys.Key.{Key};
 
     ghost view = { λ m. record {

@@ -31,7 +31,7 @@ pub struct Requirement {
 impl Model for Requirement {
     ghost use Rattle.std.specs.Coded.{codes};
     ghost use Rattle.std.specs.Prelude.{map, option_map, string_bytes};
-    ghost use Rattle.pymark_core.specs.Inner.Coding.{marker_code};
+    ghost use Rattle.pymark_core.specs.Marker.Coding.{marker_code};
     ghost use Rattle.pymark_core.specs.Requirement.Value.{RequirementValue};
 
     ghost Value = { RequirementValue };

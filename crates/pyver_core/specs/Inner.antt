@@ -6,7 +6,6 @@ pub mod HashLaws
 pub mod Limit
 pub mod Names
 pub mod Operand
-pub mod OrderLaws
 pub mod PartsRef
 pub mod Phase
 pub mod Releases

@@ -5,5 +5,6 @@ pub mod Hashing
 pub mod Normal
 pub mod Order
 pub mod OrderKey
+pub mod OrderLaws
 pub mod Parts
 pub mod Reading

@@ -49,7 +49,7 @@ impl Model for Editing {
     ghost use Rattle.std.specs.FinMap as map_of;
     ghost use Rattle.std.specs.Ordering.{nat_cmp};
     ghost use Rattle.pymark_core.specs.Environment.{environment_code};
-    ghost use Rattle.pymark_core.specs.Inner.Coding.{marker_code};
+    ghost use Rattle.pymark_core.specs.Marker.Coding.{marker_code};
     ghost use Rattle.pylock_core.specs.contracts.edit.Policy as policy;
     ghost use Rattle.pylock_program.specs.Inner.Editing.{At};
     ghost use Rattle.pylock_program.specs.Line.{line_limit};

@@ -32,7 +32,7 @@ pub struct Head {
 impl Model for Head {
     ghost use Rattle.pylock_readers.specs.Lock.{HeadValue};
     ghost use Rattle.std.specs.Coded.{codes};
-    ghost use Rattle.pymark_core.specs.Inner.Coding.{marker_code};
+    ghost use Rattle.pymark_core.specs.Marker.Coding.{marker_code};
 
     ghost Value = { HeadValue };
 

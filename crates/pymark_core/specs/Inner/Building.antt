@@ -11,7 +11,7 @@ use Rattle.pymark_core.specs.Marker.Reading.{Place, at_atom, at_operator, at_in,
 use Rattle.pymark_core.specs.Marker.Reading.{operand_of}
 use Rattle.pymark_core.specs.Marker.Token as token
 use Rattle.pymark_core.specs.Marker.Tree.{Atom}
-use Rattle.pymark_core.specs.Inner.View.{atom_view, conjunction_view}
+use Rattle.pymark_core.specs.Marker.View.{atom_view, conjunction_view}
 use Rattle.pymark_core.specs.declared.marker.keys.Key.{Key}
 use Rattle.pymark_core.specs.declared.marker.notes.Notes.{Notes}
 use Rattle.pymark_core.specs.declared.marker.builder.Builder.{Builder}

@@ -10,7 +10,7 @@ ghost use Rattle.pymark_core.specs.Marker.Reading.{behind_atom_start, behind_clo
 ghost use Rattle.pymark_core.specs.Marker.Reading.{behind_not, behind_right, empty_frame, end_at};
 ghost use Rattle.pymark_core.specs.Marker.Reading.{finish, frame_conjunction, frame_tree};
 ghost use Rattle.pymark_core.specs.Marker.Reading.{operand_of, start, step, word_operand};
-ghost use Rattle.pymark_core.specs.Inner.View.{atom_view, tree_view};
+ghost use Rattle.pymark_core.specs.Marker.View.{atom_view, tree_view};
 ghost use Rattle.pymark_core.specs.Variables.{variable_of};
 ghost use Rattle.pymark_core.specs.declared.operand.Operand.TheVariants.{Variable};
 

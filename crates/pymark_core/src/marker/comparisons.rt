@@ -3,7 +3,7 @@
 ghost use Rattle.std.specs.Prelude.{◌≡◌, ◌++◌, OnOk, map};
 ghost use Rattle.pymark_core.specs.Marker.Grammar.{atom_comparisons, comparisons};
 ghost use Rattle.pymark_core.specs.Marker.Grammar.{conjunction_comparisons};
-ghost use Rattle.pymark_core.specs.Inner.View.{atom_view, conjunction_view, tree_view};
+ghost use Rattle.pymark_core.specs.Marker.View.{atom_view, conjunction_view, tree_view};
 
 use super::tree::{Atom, Conjunction, Tree};
 use crate::comparison::Comparison;

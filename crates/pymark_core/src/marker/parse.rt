@@ -5,7 +5,7 @@ ghost use Rattle.pytext.specs.Agreement.{Gives};
 ghost use Rattle.pymark_core.specs.Inner.Building.{NotesOf};
 ghost use Rattle.pymark_core.specs.Marker.Grammar.{comparisons};
 ghost use Rattle.pymark_core.specs.Marker.Reading.{tree_text};
-ghost use Rattle.pymark_core.specs.Inner.View.{tree_view};
+ghost use Rattle.pymark_core.specs.Marker.View.{tree_view};
 
 use super::builder::{Builder, Stage};
 use super::error::MarkerError;

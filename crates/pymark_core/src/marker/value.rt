@@ -4,7 +4,7 @@ ghost use Rattle.std.specs.Prelude.{◌≡◌};
 ghost use Rattle.std.specs.Option.{option_copied};
 ghost use Rattle.pytext.specs.Agreement.{Gives};
 ghost use Rattle.pymark_core.specs.Marker.Value.{atom_value, conjunction_value, value_with};
-ghost use Rattle.pymark_core.specs.Inner.View.{atom_view, conjunction_view, tree_view};
+ghost use Rattle.pymark_core.specs.Marker.View.{atom_view, conjunction_view, tree_view};
 
 use super::tree::{Atom, Conjunction, Tree};
 use crate::environment::Environment;

@@ -8,7 +8,7 @@ ghost use Rattle.pyver_core.specs.Inner.PartsRef.{parts_of};
 ghost use Rattle.pyver_core.specs.Version.Order.{dev_cmp, phase_number, phase_rank, release_cmp};
 ghost use Rattle.pyver_core.specs.Version.Order.{version_cmp};
 ghost use Rattle.pyver_core.specs.Inner.Phase.{phase_of};
-ghost use Rattle.pyver_core.specs.Inner.OrderLaws.{version_total};
+ghost use Rattle.pyver_core.specs.Version.OrderLaws.{version_total};
 ghost use Rattle.pyver_core.specs.Version.Hashing.{without_trailing_zeros};
 
 use crate::version::{PartsRef, PreKind, Version};

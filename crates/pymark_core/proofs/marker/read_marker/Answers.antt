@@ -4,7 +4,7 @@ use Rattle.pytext.specs.White.{trimmed}
 use Rattle.std.proofs.lemmas.Result.{err_from_is_err_and}
 use Rattle.pymark_core.proofs.MarkerLemmas.{marker_deep, marker_misused, marker_refused, marker_taken}
 use Rattle.pymark_core.specs.Marker.Grammar.{has_misuse}
-use Rattle.pymark_core.specs.Inner.View.{tree_view}
+use Rattle.pymark_core.specs.Marker.View.{tree_view}
 use Rattle.pymark_core.proofs.marker.read_marker.Goals as goal
 
 pub returns-then-is_deep : goal.returns-then-is_deep

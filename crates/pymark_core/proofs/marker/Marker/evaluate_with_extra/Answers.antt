@@ -1,4 +1,4 @@
-use Rattle.pymark_core.specs.Inner.View.{tree_view}
+use Rattle.pymark_core.specs.Marker.View.{tree_view}
 use Rattle.pymark_core.proofs.ValueRefusals.{none_given}
 use Rattle.pymark_core.proofs.marker.Marker.evaluate_with_extra.Goals as goal
 

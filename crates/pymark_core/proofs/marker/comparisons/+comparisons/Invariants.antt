@@ -1,7 +1,7 @@
 use Rattle.std.proofs.Common.{◌≡◌, ◌+◌, ◌*◌, ◌++◌, drop, map}
 use Rattle.pymark_core.specs.Marker.Grammar.{comparisons, conjunction_comparisons}
 use Rattle.pymark_core.specs.Marker.Tree.{conjunction_of, tree_of}
-use Rattle.pymark_core.specs.Inner.View.{atom_view, conjunction_view, tree_view}
+use Rattle.pymark_core.specs.Marker.View.{atom_view, conjunction_view, tree_view}
 use Rattle.pymark_core.proofs.marker.comparisons.+comparisons.Given as goal
 
 abbrev pub invariant-push_conjunction-loop-atom : goal.invariant-push_conjunction-loop-atom

@@ -6,7 +6,7 @@ use Rattle.pymark_core.proofs.TokensLemmas.{front_less, turn, turn_bad, turn_end
 use Rattle.pymark_core.specs.Inner.Building.{place_view}
 use Rattle.pymark_core.specs.Inner.Next.{next_front}
 use Rattle.pymark_core.specs.Marker.Reading.{finish}
-use Rattle.pymark_core.specs.Inner.View.{tree_view}
+use Rattle.pymark_core.specs.Marker.View.{tree_view}
 use Rattle.pymark_core.specs.Inner.Front.{token_view}
 use Rattle.pymark_core.specs.declared.marker.error.MarkerError.TheVariants.{Syntax}
 use Rattle.pymark_core.proofs.marker.parse.read_tree.Goals as goal

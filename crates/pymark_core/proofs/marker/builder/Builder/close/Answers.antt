@@ -3,7 +3,7 @@ use Rattle.std.specs.Prelude.{ok_or}
 use Rattle.pymark_core.proofs.BuilderLemmas.{closed}
 use Rattle.pymark_core.specs.Marker.Reading.{frame_tree}
 use Rattle.pymark_core.specs.Inner.Building.{frame_view}
-use Rattle.pymark_core.specs.Inner.View.{atom_view}
+use Rattle.pymark_core.specs.Marker.View.{atom_view}
 use Rattle.pymark_core.specs.declared.marker.error.MarkerError.TheVariants.{Syntax}
 use Rattle.pymark_core.proofs.marker.builder.Builder.close.Goals as goal
 
