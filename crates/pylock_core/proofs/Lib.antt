@@ -10,3 +10,4 @@ pub mod KeptLemmas
 pub mod SessionLemmas
 pub mod AnswerLemmas
 pub mod AgainLemmas
+pub mod TagSetLemmas

@@ -78,12 +78,12 @@ gains_numbering old new name n m g more i = record {
 -- ---- what stands under the numbers
 
 -- the first of a longer list
-front : {X : Type 0} (xs : List X) (x d : X) (k : ℕ) → k < length xs → get_or (xs ++ x ∷ []) k d ≡ get_or xs k d
+pub front : {X : Type 0} (xs : List X) (x d : X) (k : ℕ) → k < length xs → get_or (xs ++ x ∷ []) k d ≡ get_or xs k d
 front [] x d k within = absurd (omega arith)
 front (y ∷ ys) x d zero within = refl
 front (y ∷ ys) x d (suc k) within = front ys x d k (omega arith)
 
-last : {X : Type 0} (xs : List X) (x d : X) (k : ℕ) → k ≡ length xs → get_or (xs ++ x ∷ []) k d ≡ x
+pub last : {X : Type 0} (xs : List X) (x d : X) (k : ℕ) → k ≡ length xs → get_or (xs ++ x ∷ []) k d ≡ x
 last [] x d zero is = refl
 last [] x d (suc k) is = absurd (omega (arith, is))
 last (y ∷ ys) x d zero is = absurd (omega (arith, is))

@@ -116,6 +116,7 @@ session_kept parts names kept s = record {
   members = λ q. kept.members q ∙ s.members q;
   index = s.index;
   living = s.living;
+  sets = s.sets;
 }
 
 pub shown_kept : (parts : Parts) (names : Names) → Kept parts.names names → shown (record parts { names = names }) ≡ shown parts

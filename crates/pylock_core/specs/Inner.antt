@@ -8,3 +8,4 @@ pub mod Parts
 pub mod Pass
 pub mod Rows
 pub mod Slated
+pub mod TagSets

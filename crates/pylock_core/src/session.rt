@@ -10,10 +10,12 @@ pub(crate) mod judgement;
 pub(crate) mod names;
 pub(crate) mod parts;
 pub(crate) mod pass;
+pub(crate) mod ranks;
 pub(crate) mod room;
 pub(crate) mod row;
 pub(crate) mod slated;
 pub(crate) mod start;
+pub(crate) mod tag_sets;
 pub(crate) mod verdict;
 
 ghost use Rattle.std.specs.Prelude.{◌≡◌, Ok, Err, IfOk, IfErr, OnOk, IsTrue, length};

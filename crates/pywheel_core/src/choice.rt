@@ -61,8 +61,10 @@ fn compatible<'a>(
     Some(Candidate { rank, place, wheel })
 }
 
-/// The rank of the wheel's best tag.
-fn best_rank(wheel: &WheelName, tags: &TagList) -> Option<usize>
+/// The rank of the wheel's best tag: the least position in the list of one of its tags (PEP 425,
+/// "Use"). `None` where none of its tags is in the list. It takes no memory and looks at each tag
+/// of the wheel once.
+pub fn best_rank(wheel: &WheelName, tags: &TagList) -> Option<usize>
     ensures { result ≡ rank_from None wheel.now.tags tags.now }
 {
     let mut best = None;

@@ -13,7 +13,7 @@ mod tag_list;
 mod tag_set;
 mod wheel;
 
-pub use choice::choose;
+pub use choice::{best_rank, choose};
 pub use error::{TagError, TagListError, WheelError};
 pub use tag::Tag;
 pub use tag_list::TagList;

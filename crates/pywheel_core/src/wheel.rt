@@ -152,8 +152,9 @@ impl WheelName {
         self.tag_set.as_str()
     }
 
-    /// The order of the build tags, in which none is least.
-    pub(crate) fn compare_builds(&self, other: &WheelName) -> Ordering
+    /// The order of the build tags, in which none is least (PEP 427, "File name convention"). It
+    /// takes no memory.
+    pub fn compare_builds(&self, other: &WheelName) -> Ordering
         ensures { result ≡ builds_cmp self.now.build other.now.build }
     {
         match (&self.build, &other.build) {

@@ -27,17 +27,10 @@ use Rattle.pylock_core.specs.declared.session.row.Row.{Row}
 -- what entries are judged by: what is given, and else what stands
 abbrev pub environment_by : Cause → Parts → EnvironmentValue
 environment_by (cause.Environment environment) parts = environment.now
-environment_by (cause.Tags tags) parts = parts.environment
 environment_by (cause.Policy policy) parts = parts.environment
-
-abbrev pub tags_by : Cause → Parts → List TagValue
-tags_by (cause.Environment environment) parts = parts.tags
-tags_by (cause.Tags tags) parts = tags.now
-tags_by (cause.Policy policy) parts = parts.tags
 
 abbrev pub policy_by : Cause → Parts → ℕ → Policy
 policy_by (cause.Environment environment) parts = policy_at parts.names.policies.items
-policy_by (cause.Tags tags) parts = policy_at parts.names.policies.items
 policy_by (cause.Policy policy) parts = λ name. policy
 
 -- the row of an entry that is judged again

@@ -10,6 +10,7 @@ use Rattle.pylock_readers.specs.Entry.{EntryValue}
 use Rattle.pylock_core.specs.Inner.Names.{IsNames, members_named, number_named, policies_in}
 use Rattle.pylock_core.specs.Inner.Names.{policy_at}
 use Rattle.pylock_core.specs.Inner.Rows.{in_rows}
+use Rattle.pylock_core.specs.Inner.TagSets.{AreSets}
 use Rattle.pylock_core.specs.Session.Judgement.{SessionValue, VerdictValue, and_head, entry_reads}
 use Rattle.pylock_core.specs.Session.Judgement.{head_reads, keys, numbers_where, verdict_of}
 use Rattle.pylock_readers.specs.Lock.{HeadValue}
@@ -116,3 +117,4 @@ pub record IsSession (parts : Parts) : Type 0 where
   pub members : AreMembers parts.names parts.entries.items
   pub index : IsIndex parts.index parts.head parts.entries.items
   pub living : AreLiving parts.living.items parts.entries.items
+  pub sets : AreSets parts.sets parts.entries.items

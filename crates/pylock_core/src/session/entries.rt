@@ -10,6 +10,7 @@ ghost use Rattle.pylock_core.specs.Inner.Names.{HasRoom};
 ghost use Rattle.pylock_core.specs.Inner.Parts.{IsJudged, IsNamed, IsSession, OfBoth, shown};
 ghost use Rattle.pylock_core.specs.Inner.Parts.{sources_of, state_of};
 ghost use Rattle.pylock_core.specs.Inner.Rows.{in_rows, passes};
+ghost use Rattle.pylock_core.specs.Inner.TagSets.{AreNumbers, names_in, set_number};
 ghost use Rattle.pylock_core.specs.Session.Judgement.{entry_reads, keys};
 ghost use Rattle.pylock_core.specs.Session.State.{entry_at};
 ghost use Rattle.pylock_core.specs.declared.edit.Edit.TheVariants as edit;
@@ -22,6 +23,7 @@ use crate::session::names::{move_member, number_of, reserve_member};
 use crate::session::parts::Parts;
 use crate::session::room::{push_within, put_at};
 use crate::session::row::{Row, SourceKinds};
+use crate::session::tag_sets::numbers_of;
 use crate::session::verdict::Verdict;
 use pylock_readers::Entry;
 use std::alloc::AllocError;
@@ -81,6 +83,7 @@ fn make_row(
     ensures session { IsSession parts.new }
     ensures shown { shown parts.new ≡ shown parts.old }
     ensures entries { parts.new.entries.items ≡ parts.old.entries.items }
+    ensures sets { parts.new.sets ≡ parts.old.sets }
 {
     let name = number_of(parts.alloc, &mut parts.names, entry.name())?;
     let verdict = Verdict::new(parts, number, entry, parts.names.policies[name], judged)?;
@@ -110,6 +113,7 @@ fn prepare(
     ensures session { IsSession parts.new }
     ensures shown { shown parts.new ≡ shown parts.old }
     ensures entries { parts.new.entries.items ≡ parts.old.entries.items }
+    ensures sets { parts.new.sets ≡ parts.old.sets }
 {
     let row = make_row(parts, number, entry, judged)?;
     reserve_each(&mut parts.index, &entry_keys(entry))?;
@@ -127,14 +131,21 @@ fn name_of(row: &Option<Row>) -> Option<usize>
     }
 }
 
-/// Writes an entry and its row, or none, at a place that is there. The lists of its keys and of its
-/// name have room.
-fn write_at(parts: &mut Parts, place: usize, row: Option<Row>, entry: Option<Entry>)
+/// Writes an entry, its row and the numbers of its wheels' tag sets, or none, at a place that is
+/// there. The lists of its keys and of its name have room.
+fn write_at(
+    parts: &mut Parts,
+    place: usize,
+    row: Option<Row>,
+    sets: Vec<usize>,
+    entry: Option<Entry>,
+)
     requires session { IsSession parts.old }
     requires within { place < length parts.old.entries.items }
     requires named { OfBoth (IsNamed parts.old.names) entry row }
     requires judged { OfBoth
         (IsJudged parts.old.environment parts.old.tags parts.old.names.policies.items) entry row }
+    requires sets { AreNumbers (set_number parts.old.sets) (names_in entry) sets.items }
     requires index { HaveRoom parts.old.index (map (λ key. passes (entry_reads key) entry) keys) 0 }
     requires name { IfSome row (λ row. HasRoom parts.old.names row.name) }
     requires living { IsSome entry → IsSome (slice_index_or parts.old.entries.items place None)
@@ -154,6 +165,7 @@ fn write_at(parts: &mut Parts, place: usize, row: Option<Row>, entry: Option<Ent
     change(&mut parts.living, number, stood, entry.is_some());
     put_at(&mut parts.rows, place, row);
     put_at(&mut parts.entries, place, entry);
+    put_at(&mut parts.sets.of_entries, place, sets);
 }
 
 /// Adds the entry after all others, with the next number. Where there is no memory for it, all that
@@ -166,13 +178,16 @@ pub(crate) fn append(parts: &mut Parts, entry: Entry, judged: &mut Judged) -> Re
     ensures kept { OnErr result (shown parts.new ≡ shown parts.old) }
 {
     let place = parts.entries.len();
+    let sets = numbers_of(parts.alloc, &mut parts.sets, entry.wheel_names())?;
     let row = prepare(parts, place as u32 + 1, &entry, judged)?;
     parts.entries.reserve(1)?;
     parts.rows.reserve(1)?;
     parts.living.reserve(1)?;
+    parts.sets.of_entries.reserve(1)?;
     push_within(&mut parts.rows, None);
     push_within(&mut parts.entries, None);
-    write_at(parts, place, Some(row), Some(entry));
+    push_within(&mut parts.sets.of_entries, Vec::new(parts.alloc));
+    write_at(parts, place, Some(row), sets, Some(entry));
     Ok(())
 }
 
@@ -201,8 +216,9 @@ pub(crate) fn put(
     ensures left { Leaves (edit.Put number entry) parts.old parts.new judged.old judged.new result }
 {
     let place = place_of(parts, number)?;
+    let sets = numbers_of(parts.alloc, &mut parts.sets, entry.wheel_names())?;
     let row = prepare(parts, number, &entry, judged)?;
-    write_at(parts, place, Some(row), Some(entry));
+    write_at(parts, place, Some(row), sets, Some(entry));
     Ok(())
 }
 
@@ -214,6 +230,6 @@ pub(crate) fn del(parts: &mut Parts, number: u32) -> Result<(), EditError>
         → Leaves (edit.Del number) parts.old parts.new judged judged result }
 {
     let place = place_of(parts, number)?;
-    write_at(parts, place, None, None);
+    write_at(parts, place, None, Vec::new(parts.alloc), None);
     Ok(())
 }

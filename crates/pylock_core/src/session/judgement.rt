@@ -1,13 +1,14 @@
 //! Judgements made again, of what reads a thing that changes and of nothing else.
 
-ghost use Rattle.std.specs.Prelude.{◌≡◌, ◌<◌, ◌++◌, ◌∷◌, [], Option, Some, None, IfOk, IfSome};
-ghost use Rattle.std.specs.Prelude.{IsSome, OnOk, length, map, if◌then◌else◌};
+ghost use Rattle.std.specs.Prelude.{◌≡◌, ◌<◌, ◌-◌, ◌++◌, ◌∷◌, [], Option, Some, None, IfOk};
+ghost use Rattle.std.specs.Prelude.{IfSome, IsSome, OnOk, length, map, slice_index_or};
+ghost use Rattle.std.specs.Prelude.{if◌then◌else◌};
 ghost use Rattle.pylock_core.specs.Inner.Again.{AllStand, after_head, fresh_row, has_head};
 ghost use Rattle.pylock_core.specs.Inner.Again.{environment_by, policy_by, row_anew, rows_anew};
-ghost use Rattle.pylock_core.specs.Inner.Again.{tags_by};
 ghost use Rattle.pylock_core.specs.Inner.Index.{list_at};
 ghost use Rattle.pylock_core.specs.Inner.Names.{policy_at};
 ghost use Rattle.pylock_core.specs.Inner.Parts.{IsJudged, IsSession, OfBoth, state_of};
+ghost use Rattle.pylock_core.specs.Inner.TagSets.{AreRanks};
 ghost use Rattle.pylock_core.specs.Session.Judgement.{Marked, OfTags, entry_reads, head_reads};
 ghost use Rattle.pylock_core.specs.Session.Judgement.{readers, verdict_of};
 ghost use Rattle.pylock_core.specs.Session.Steps.{head_fault};
@@ -15,6 +16,7 @@ ghost use Rattle.pylock_core.specs.Session.Steps.{head_fault};
 use crate::edit::Policy;
 use crate::session::judged::Judged;
 use crate::session::parts::Parts;
+use crate::session::ranks::Ranks;
 use crate::session::row::Row;
 use crate::session::verdict::{HeadVerdict, Verdict};
 use pylock_readers::Entry;
@@ -33,7 +35,6 @@ pub(crate) type Fresh = (usize, Option<Row>);
 #[derive(Clone, Copy)]
 enum Cause<'a> {
     Environment(&'a Environment),
-    Tags(&'a TagList),
     Policy(Policy),
 }
 
@@ -50,7 +51,7 @@ fn verdict_again(
     requires judged { IsJudged parts.now.environment parts.now.tags
         parts.now.names.policies.items entry.now row.now }
     ensures verdict { IfOk result (λ verdict. verdict
-        ≡ verdict_of entry.now (environment_by cause.now parts.now) (tags_by cause.now parts.now)
+        ≡ verdict_of entry.now (environment_by cause.now parts.now) parts.now.tags
         (policy_by cause.now parts.now row.now.name)) }
     ensures judged { OnOk result (judged.new ≡ judged.old ++ number ∷ []) }
 {
@@ -58,9 +59,6 @@ fn verdict_again(
     match cause {
         Cause::Environment(environment) => {
             kept.standing_anew(parts.alloc, number, entry, environment, judged)
-        }
-        Cause::Tags(tags) => {
-            kept.wheel_anew(number, entry, tags, parts.names.policies[row.name], judged)
         }
         Cause::Policy(policy) => kept.wheel_anew(number, entry, &parts.tags, *policy, judged),
     }
@@ -80,7 +78,7 @@ fn judged_row(
     requires judged { OfBoth (IsJudged parts.now.environment parts.now.tags
         parts.now.names.policies.items) entry.now row.now }
     ensures row { IfOk result (λ new. new ≡ row_anew (environment_by cause.now parts.now)
-        (tags_by cause.now parts.now) (policy_by cause.now parts.now) entry.now row.now) }
+        parts.now.tags (policy_by cause.now parts.now) entry.now row.now) }
     ensures judged { OnOk result (judged.new ≡ judged.old ++ number ∷ []) }
 {
     match (entry, row) {
@@ -103,7 +101,7 @@ fn again(
     requires session { IsSession parts.now }
     requires stand { AllStand parts.now.entries.items numbers.now }
     ensures fresh { IfOk result (λ fresh. fresh.items
-        ≡ map (fresh_row (environment_by cause.now parts.now) (tags_by cause.now parts.now)
+        ≡ map (fresh_row (environment_by cause.now parts.now) parts.now.tags
         (policy_by cause.now parts.now) parts.now.entries.items parts.now.rows.items) numbers.now) }
     ensures judged { OnOk result (judged.new ≡ judged.old ++ numbers.now) }
 {
@@ -189,7 +187,65 @@ pub(crate) fn judge_key(
     Ok((verdict, fresh))
 }
 
-/// Judges again the entries that have wheels, by these tags.
+/// The row of the entry of this number, judged again by these tags, with its place.
+fn ranked_row(
+    parts: &Parts,
+    tags: &TagList,
+    number: u32,
+    ranks: &mut Ranks,
+    judged: &mut Judged,
+) -> Result<Fresh, AllocError>
+    requires session { IsSession parts.now }
+    requires above { 0 < number }
+    requires stands { IsSome (slice_index_or parts.now.entries.items (number - 1) None) }
+    requires ranks { AreRanks parts.now.sets tags.now ranks.old }
+    ensures fresh { IfOk result (λ fresh. fresh
+        ≡ fresh_row parts.now.environment tags.now (policy_at parts.now.names.policies.items)
+        parts.now.entries.items parts.now.rows.items number) }
+    ensures judged { OnOk result (judged.new ≡ judged.old ++ number ∷ []) }
+    ensures ranks { AreRanks parts.now.sets tags.now ranks.new }
+{
+    let place = number as usize - 1;
+    let Some(row) = &parts.rows[place] else {
+        return Ok((place, None));
+    };
+    let policy = parts.names.policies[row.name];
+    let row = Row {
+        verdict: row
+            .verdict
+            .wheel_ranked(parts, number, tags, policy, ranks, judged)?,
+        name: row.name,
+        sources: row.sources,
+    };
+    Ok((place, Some(row)))
+}
+
+/// The rows of the entries of these numbers, judged again by these tags.
+fn ranked(
+    parts: &Parts,
+    tags: &TagList,
+    numbers: &[u32],
+    ranks: &mut Ranks,
+    judged: &mut Judged,
+) -> Result<Vec<Fresh>, AllocError>
+    requires session { IsSession parts.now }
+    requires stand { AllStand parts.now.entries.items numbers.now }
+    requires ranks { AreRanks parts.now.sets tags.now ranks.old }
+    ensures fresh { IfOk result (λ fresh. fresh.items
+        ≡ map (fresh_row parts.now.environment tags.now (policy_at parts.now.names.policies.items)
+        parts.now.entries.items parts.now.rows.items) numbers.now) }
+    ensures judged { OnOk result (judged.new ≡ judged.old ++ numbers.now) }
+{
+    let mut fresh = Vec::with_capacity(parts.alloc, numbers.len())?;
+    for number in numbers {
+        let row = ranked_row(parts, tags, *number, ranks, judged)?;
+        fresh.push(row)?;
+    }
+    Ok(fresh)
+}
+
+/// Judges again the entries that have wheels, by these tags. Each tag set of their wheels is ranked
+/// once. It takes the memory of a rank for each tag set, of the rows and of the list.
 pub(crate) fn judge_tags(
     parts: &Parts,
     tags: &TagList,
@@ -201,10 +257,12 @@ pub(crate) fn judge_tags(
     ensures judged { OnOk result (judged.new
         ≡ judged.old ++ readers OfTags (state_of parts.now)) }
 {
-    again(
+    let mut ranks = Ranks::none(parts.alloc, parts.sets.len())?;
+    ranked(
         parts,
-        &Cause::Tags(tags),
+        tags,
         parts.index[TAGS].as_slice(),
+        &mut ranks,
         judged,
     )
 }

@@ -1,9 +1,9 @@
 //! The names of a session: each has a number, and by the number its policy and its entries.
 
-ghost use Rattle.std.specs.Prelude.{◌≡◌, ℕ, ◌<◌, nat_eq, not, List, [], Some, None, IfOk, IfSome};
-ghost use Rattle.std.specs.Prelude.{OnOk, OnErr, IsSome, IsTrue, length, slice_set, string_bytes};
-ghost use Rattle.std.specs.Prelude.{if◌then◌else◌};
-ghost use Rattle.std.specs.BTreeMap.{Updates, get_by_text};
+ghost use Rattle.std.specs.Prelude.{◌≡◌, ℕ, ◌+◌, ◌<◌, nat_eq, not, List, [], Some, None, IfOk};
+ghost use Rattle.std.specs.Prelude.{IfSome, OnOk, OnErr, IsSome, IsTrue, length, slice_set};
+ghost use Rattle.std.specs.Prelude.{string_bytes, if◌then◌else◌};
+ghost use Rattle.std.specs.BTreeMap.{Updates, btree_map_len, get_by_text};
 ghost use Rattle.std.specs.String.{string_cmp};
 ghost use Rattle.pylock_core.specs.Inner.Index.{list_at, moved};
 ghost use Rattle.pylock_core.specs.Session.State.{Rises};
@@ -53,13 +53,15 @@ impl Names {
 }
 
 /// Gives the name this number.
-fn give_number(
+pub(crate) fn give_number(
     numbers: &mut BTreeMap<String, usize>,
     name: String,
     number: usize,
 ) -> Result<(), AllocError>
     ensures given { OnOk result (Updates string_cmp numbers.old numbers.new name (Some number)) }
     ensures err { OnErr result (numbers.new.entries ≡ numbers.old.entries) }
+    ensures len { OnOk result (get_by_text numbers.old (string_bytes name) ≡ None
+        → btree_map_len numbers.new ≡ btree_map_len numbers.old + 1) }
 {
     numbers.insert(name, number)?;
     Ok(())

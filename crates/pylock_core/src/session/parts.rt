@@ -13,6 +13,7 @@ use crate::session::judged::Judged;
 use crate::session::names::Names;
 use crate::session::pass::answer_of;
 use crate::session::row::Row;
+use crate::session::tag_sets::TagSets;
 use crate::session::verdict::HeadVerdict;
 use pylock_readers::{Entry, Head};
 use pymark_core::Environment;
@@ -31,6 +32,7 @@ pub(crate) struct Parts {
     /// The row of the entry of number k stands at place k - 1.
     pub(crate) rows: Vec<Option<Row>>,
     pub(crate) names: Names,
+    pub(crate) sets: TagSets,
     pub(crate) head: Head,
     pub(crate) head_verdict: HeadVerdict,
     pub(crate) environment: Environment,
@@ -49,6 +51,7 @@ impl Drop for Parts {
             index: _,
             rows: _,
             names: _,
+            sets: _,
             head: _,
             head_verdict: _,
             environment: _,

@@ -10,6 +10,7 @@ use crate::session::index::head_index;
 use crate::session::judged::Judged;
 use crate::session::names::Names;
 use crate::session::parts::Parts;
+use crate::session::tag_sets::TagSets;
 use crate::session::verdict::HeadVerdict;
 use pylock_readers::Head;
 use pymark_core::Environment;
@@ -42,6 +43,7 @@ pub(crate) fn without_entries(
     let living = Vec::with_capacity(alloc, room)?;
     let rows = Vec::with_capacity(alloc, room)?;
     let names = Names::with_capacity(alloc, room)?;
+    let sets = TagSets::with_capacity(alloc, room)?;
     let entries = Vec::with_capacity(alloc, room)?;
     let index = head_index(alloc, &head)?;
     Ok(Parts {
@@ -51,6 +53,7 @@ pub(crate) fn without_entries(
         index,
         rows,
         names,
+        sets,
         head,
         head_verdict,
         environment,

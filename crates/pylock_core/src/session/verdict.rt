@@ -1,7 +1,10 @@
 //! Verdicts on entries and on the head, which a session keeps. They are made here alone.
 
-ghost use Rattle.std.specs.Prelude.{◌≡◌, ◌++◌, ◌∷◌, [], IfOk, OnOk};
+ghost use Rattle.std.specs.Prelude.{◌≡◌, ◌<◌, ◌-◌, ◌++◌, ◌∷◌, [], None, IfOk, OnOk, length};
+ghost use Rattle.std.specs.Prelude.{slice_index_or};
 ghost use Rattle.std.specs.Option.{option_copied};
+ghost use Rattle.pylock_core.specs.Inner.Parts.{IsSession};
+ghost use Rattle.pylock_core.specs.Inner.TagSets.{AreRanks, best_under, names_in};
 ghost use Rattle.pylock_core.specs.Session.Judgement.{verdict_of};
 ghost use Rattle.pylock_core.specs.Session.Steps.{best_wheel, by_check, by_marker, by_standing};
 ghost use Rattle.pylock_core.specs.Session.Steps.{environments_check, head_fault};
@@ -13,6 +16,7 @@ use crate::answer::{FaultCode, Standing};
 use crate::edit::Policy;
 use crate::session::judged::Judged;
 use crate::session::parts::Parts;
+use crate::session::ranks::{Ranks, chosen_wheel};
 use pylock_readers::{Entry, Head};
 use pymark_core::{Environment, EvalFault, Marker, Var};
 use pyver_core::SpecifierSet;
@@ -112,6 +116,36 @@ impl Verdict {
         Ok(Verdict {
             standing: self.standing,
             best: best_wheel(entry, tags, policy),
+        })
+    }
+
+    /// The same by a new list of tags, in which these ranks of tag sets were found. Those that
+    /// weren't yet are found here.
+    pub(crate) fn wheel_ranked(
+        &self,
+        parts: &Parts,
+        number: u32,
+        tags: &TagList,
+        policy: Policy,
+        ranks: &mut Ranks,
+        judged: &mut Judged,
+    ) -> Result<Verdict, AllocError>
+        requires session { IsSession parts.now }
+        requires above { 0 < number }
+        requires within { number - 1 < length parts.now.entries.items }
+        requires ranks { AreRanks parts.now.sets tags.now ranks.old }
+        ensures verdict { IfOk result (λ verdict. verdict ≡ record {
+          standing = self.now.standing;
+          best = best_under policy
+              (names_in (slice_index_or parts.now.entries.items (number - 1) None)) tags.now;
+        }) }
+        ensures judged { OnOk result (judged.new ≡ judged.old ++ number ∷ []) }
+        ensures ranks { AreRanks parts.now.sets tags.now ranks.new }
+    {
+        judged.push(number)?;
+        Ok(Verdict {
+            standing: self.standing,
+            best: chosen_wheel(parts, number as usize - 1, tags, policy, ranks),
         })
     }
 

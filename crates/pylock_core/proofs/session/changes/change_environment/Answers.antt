@@ -28,4 +28,5 @@ returns-clause-session c =
       members = s.members;
       index = s.index;
       living = s.living;
+      sets = s.sets;
     }

@@ -53,6 +53,7 @@ returns-clause-session c =
       members = λ q. c.set_policy.ensures.members q ∙ s.members q;
       index = s.index;
       living = s.living;
+      sets = s.sets;
     }
 
 pub returns-clause-left : goal.returns-clause-left

@@ -26,4 +26,5 @@ returns-clause-session c =
       members = s.members;
       index = s.index;
       living = s.living;
+      sets = s.sets;
     }

@@ -1,10 +1,13 @@
 use Rattle.std.proofs.Common.{◌≡◌, ◌+◌, ◌∙◌, ◌<◌, ◌++◌, ◌∷◌, [], Some, None, Ok, length, set, refl, ap, sym, subst, arith}
 use Rattle.std.proofs.lemmas.List.{length-set}
 use Rattle.pylock_core.specs.Inner.Parts.{AreLiving, AreMembers, IsIndex, IsJudged, IsNamed, state_of}
+use Rattle.pylock_readers.specs.Entry.{wheel_names}
 use Rattle.pylock_core.specs.Inner.Rows.{in_rows}
+use Rattle.pylock_core.specs.Inner.TagSets.{AreNumbers, AreSets, set_number}
 use Rattle.pylock_core.specs.Session.State.{State, with_next}
 use Rattle.pylock_core.proofs.NameLemmas.{length_more}
 use Rattle.pylock_core.proofs.SessionLemmas.{next_state}
+use Rattle.pylock_core.proofs.TagSetLemmas.{session_sets, sets_wider}
 use Rattle.pylock_core.proofs.WriteLemmas.{index_wider, living_wider, members_wider, of_rows_wider, on_err, set_last, shown_room}
 use Rattle.pylock_core.proofs.session.entries.append.Goals as goal
 
@@ -25,7 +28,21 @@ write_at-requires-clause-session c =
       members = subst (AreMembers p.names) (sym entries) (members_wider p.names p.entries.items s.members);
       index = subst (IsIndex p.index p.head) (sym entries) (index_wider p.index p.head p.entries.items s.index);
       living = subst (AreLiving c.reserve-3.new.self.items) (sym entries) (living_wider c.reserve-3.new.self.items p.entries.items (c.in_ok-reserve-3.ensures.items ∙ s.living));
+      sets = subst (AreSets (record p.sets { of_entries = c.push_within-3.new.items })) (sym entries)
+          (sets_wider p.sets c.push_within-3.new.items c.new.result p.entries.items s.sets
+          (c.push_within-3.ensures.items ∙ ap (λ ls. ls ++ c.new.result ∷ []) c.in_ok-reserve-4.ensures.items) c.new.ensures.items);
     }
+
+pub write_at-requires-clause-sets : goal.write_at-requires-clause-sets
+write_at-requires-clause-sets c =
+    subst (λ ts. AreNumbers (set_number ts) (wheel_names c.args.entry) c.in_ok-sets.sets.items) (sym c.in_ok-row.ensures.sets)
+    (subst (λ ws. AreNumbers (set_number c.numbers_of.new.sets) ws c.in_ok-sets.sets.items) c.wheel_names.ensures c.in_ok-sets.ensures.numbers)
+
+pub prepare-requires : goal.prepare-requires
+prepare-requires c = session_sets c.args.parts.now c.numbers_of.new.sets c.in_ok-sets.ensures.kept c.in_ok-sets.ensures.lists c.requires.session
+
+pub returns-in_err-sets-clause-session : goal.returns-in_err-sets-clause-session
+returns-in_err-sets-clause-session c = session_sets c.args.parts.now c.numbers_of.new.sets c.in_err-sets.ensures.kept c.in_err-sets.ensures.lists c.requires.session
 
 pub write_at-requires-clause-within : goal.write_at-requires-clause-within
 write_at-requires-clause-within c =

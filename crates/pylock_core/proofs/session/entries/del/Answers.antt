@@ -1,7 +1,9 @@
 use Rattle.std.proofs.Common.{◌∙◌, ap, sym, arith}
 use Rattle.std.proofs.lemmas.List.{append-nil}
 use Rattle.pylock_core.specs.Inner.Parts.{state_of}
+use Rattle.pylock_core.specs.Inner.TagSets.{set_number}
 use Rattle.pylock_core.proofs.SessionLemmas.{accepted_there, some_within, without_row}
+use Rattle.pylock_core.proofs.TagSetLemmas.{no_numbers}
 use Rattle.pylock_core.proofs.WriteLemmas.{no_room}
 use Rattle.pylock_core.proofs.session.entries.del.Goals as goal
 
@@ -10,6 +12,9 @@ write_at-requires-clause-within c = some_within c.args.parts.now.entries.items c
 
 pub write_at-requires-clause-index : goal.write_at-requires-clause-index
 write_at-requires-clause-index c = no_room c.args.parts.now.index
+
+pub write_at-requires-clause-sets : goal.write_at-requires-clause-sets
+write_at-requires-clause-sets c = no_numbers (set_number c.args.parts.now.sets) c.new.result.items c.new.ensures.items
 
 pub returns-clause-left : goal.returns-clause-left
 returns-clause-left c = λ judged.

@@ -5,8 +5,10 @@ use Rattle.pylock_core.specs.Session.State.{Rises}
 use Rattle.pylock_core.specs.Inner.Names.{HasRoom, is_at}
 use Rattle.pylock_core.specs.Inner.Parts.{AreLiving, AreMembers, IsIndex, IsJudged, IsNamed, state_of}
 use Rattle.pylock_core.specs.Inner.Rows.{in_rows}
+use Rattle.pylock_core.specs.Inner.TagSets.{AreSets}
 use Rattle.pylock_core.proofs.SessionLemmas.{of_rows_set, session_even}
 use Rattle.pylock_core.proofs.WriteLemmas.{both_at, both_named_as, index_rises, index_written, living_rises, living_written, members_written, old_at, row_below, row_name, row_rises, row_room, rows_named_as}
+use Rattle.pylock_core.proofs.TagSetLemmas.{sets_written}
 use Rattle.pylock_core.proofs.session.entries.write_at.Goals as goal
 
 pub change_each-requires-clause-room : goal.change_each-requires-clause-room
@@ -38,6 +40,9 @@ change-requires-clause-rises c = living_rises c.args.parts.now.living.items c.ar
 pub put_at-requires : goal.put_at-requires
 put_at-requires c = let even = session_even c.args.parts.now c.requires.session in omega (arith, c.requires.within, even)
 
+pub put_at-requires-3 : goal.put_at-requires-3
+put_at-requires-3 c = omega (arith, c.requires.within, c.requires.session.sets.long)
+
 pub returns-clause-session : goal.returns-clause-session
 returns-clause-session c =
     let p = c.args.parts.now in
@@ -66,6 +71,7 @@ returns-clause-session c =
           s.index there c.keys_at-was.ensures c.keys_at-is.ensures (omega arith) c.requires.within c.change_each.ensures.long c.change_each.ensures.changed);
       living = subst (AreLiving c.change.new.numbers.items) (sym c.put_at-2.ensures) (living_written p.living.items c.change.new.numbers.items p.entries.items place (place + 1) c.is_some-stood.result c.is_some.result c.args.entry
           s.living (ap is_some (sym (old_at p.entries.items place c.index-3.result.now c.requires.within c.index-3.ensures)) ∙ sym c.is_some-stood.ensures) (sym c.is_some.ensures) (omega arith) c.requires.within c.change.ensures);
+      sets = subst (AreSets _) (sym c.put_at-2.ensures) (sets_written p.sets c.put_at-3.new.items c.args.sets p.entries.items place c.args.entry s.sets c.requires.within c.requires.sets c.put_at-3.ensures);
     }
 
 pub returns-clause-state : goal.returns-clause-state

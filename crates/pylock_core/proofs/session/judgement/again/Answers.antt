@@ -1,6 +1,6 @@
 use Rattle.std.proofs.Common.{◌∙◌, ◌-◌, ◌++◌, ◌∷◌, [], map, None, length, slice_index_or, ap, arith}
 use Rattle.std.proofs.lemmas.List.{get_or_default, drop_more}
-use Rattle.pylock_core.specs.Inner.Again.{environment_by, policy_by, row_anew, tags_by}
+use Rattle.pylock_core.specs.Inner.Again.{environment_by, policy_by, row_anew}
 use Rattle.pylock_core.specs.Inner.Parts.{IsJudged}
 use Rattle.pylock_core.proofs.AgainLemmas.{of_rows_at, one_more, row_within}
 use Rattle.pylock_core.proofs.SessionLemmas.{below_at, session_below, some_within}
@@ -36,7 +36,7 @@ loop-number-preserved c =
     let stands = c.requires.stand i c.loop-number-test.true in
     let entry = c.index.ensures ∙ get_or_default p.entries.items place c.index.result.now None (some_within p.entries.items place stands.1) in
     let row = c.index-in-loop-number.ensures ∙ get_or_default p.rows.items place c.index-in-loop-number.result.now None (row_within p place c.requires.session stands.1) in
-    let anew = c.in_ok-row.ensures.row ∙ (λ j. row_anew (environment_by c.args.cause.now p) (tags_by c.args.cause.now p) (policy_by c.args.cause.now p) (entry j) (row j)) in
+    let anew = c.in_ok-row.ensures.row ∙ (λ j. row_anew (environment_by c.args.cause.now p) p.tags (policy_by c.args.cause.now p) (entry j) (row j)) in
     let more = drop_more c.args.numbers.now i 0 c.loop-number-test.true in
     record {
       fresh = one_more _ _ _ _ _ (c.in_ok-push.ensures.items ∙ ap (λ r. c.loop-number.fresh.items ++ (place, r) ∷ []) anew) (ap (map _) more) c.loop-number.invariant.fresh;
