@@ -39,6 +39,9 @@
  * call runs at a time. A slot of a text, a set, a marker or an environment may
  * go to another thread; a session stays on the thread that made it.
  *
+ * PLANNED. Calls under PYLOCK_PLANNED are declared for what is to come: the
+ * library doesn't have them yet.
+ *
  * MEMORY is asked of malloc and realloc, and given back by free. PYLOCK_MEMORY
  * says that a request was refused; the call has then changed nothing. No call is
  * made from a signal handler, or from the forked child of a process with threads.
@@ -137,6 +140,7 @@ void pylock_text_free(pylock_text *text);
 
 /* ---- versions, sets and names (PEP 440, PEP 503) ---- */
 
+#ifdef PYLOCK_PLANNED
 /* A record of a version's parts: its normal form; its public part (without the
  * local one); its base release (epoch and release, as 1!2.0); the epoch; the
  * release, as 2.0; the pre-release, as a1; the number of the post-release; that of
@@ -144,6 +148,7 @@ void pylock_text_free(pylock_text *text);
  * PYLOCK_NOT_UTF8, PYLOCK_VERSION_*, PYLOCK_ROOM, PYLOCK_MEMORY. */
 int32_t pylock_version(const uint8_t *text, size_t length,
                        uint8_t *out, size_t room, size_t *needed);
+#endif
 
 /* Whether the set admits the version, of any phase: pre-releases count as others.
  * The set's text is judged first. PYLOCK_NOT_UTF8, PYLOCK_SET_*, PYLOCK_VERSION_*,
@@ -159,6 +164,7 @@ int32_t pylock_name(const uint8_t *text, size_t length,
 /* Whether the text is a name (PEP 508). PYLOCK_NOT_UTF8. */
 int32_t pylock_is_name(const uint8_t *text, size_t length, bool *is_name);
 
+#ifdef PYLOCK_PLANNED
 /* ---- requirements and wheel names (PEP 508, PEP 427) ---- */
 
 /* A record of a requirement's parts, as they are written: name; extras, joined by
@@ -171,6 +177,7 @@ int32_t pylock_requirement(const uint8_t *text, size_t length, pylock_text *reco
  * version; build as written, or absent; tags, joined by a space.
  * PYLOCK_NOT_UTF8, PYLOCK_WHEEL_*, PYLOCK_MEMORY. */
 int32_t pylock_wheel(const uint8_t *text, size_t length, pylock_text *record);
+#endif
 
 /* ---- specifier sets that are kept ---- */
 
@@ -202,12 +209,14 @@ void pylock_marker_free(pylock_marker *marker);
 /* An environment with nothing set and nothing asked for. PYLOCK_MEMORY. */
 int32_t pylock_environment_new(pylock_environment *environment);
 
+#ifdef PYLOCK_PLANNED
 /* The variables of an environment file (JSON with the members "environment" and
  * "tags"), with nothing asked for; the tags are judged and left out.
  * PYLOCK_ENVIRONMENT_REFUSED: `words` is then the line that pylock prints, as
  * "environment\tshape\n"; otherwise `words` stays. PYLOCK_MEMORY. */
 int32_t pylock_environment_read(pylock_environment *environment,
                                 const uint8_t *json, size_t length, pylock_text *words);
+#endif
 
 /* Gives a variable (as os_name) a text. PYLOCK_EMPTY, PYLOCK_NOT_UTF8,
  * PYLOCK_EDIT_VARIABLE, PYLOCK_MEMORY. */
@@ -232,6 +241,7 @@ int32_t pylock_environment_drop_group(pylock_environment *environment,
 
 void pylock_environment_free(pylock_environment *environment);
 
+#ifdef PYLOCK_PLANNED
 /* ---- a lock at once (PEP 751) ----
  *
  * `lock` has the bytes of a pylock.toml, `environment` those of an environment file.
@@ -333,6 +343,7 @@ int32_t pylock_session_explain(pylock_session *session, bool json,
 int32_t pylock_session_judged(pylock_session *session, pylock_text *numbers);
 
 void pylock_session_free(pylock_session *session);
+#endif
 
 #ifdef __cplusplus
 }
