@@ -1,0 +1,41 @@
+-- What a call leaves in a buffer, and what it answers of a slot.
+use Rattle.std.proofs.Common.{◌≡◌, ℕ, ℤ, pos, List, length, refl, sym, subst, if◌then◌else◌}
+use Rattle.std.specs.Prelude.{Option, Result, Ok, Err}
+use Rattle.pytext.specs.Agreement.{Gives}
+use Rattle.pylock_c.specs.Answer.{Edits, Tells, Writes, is_short, written as buffer_after}
+use Rattle.pylock_c.specs.Refusal.{number}
+use Rattle.pylock_c.specs.declared.object.Object.{Object}
+use Rattle.pylock_c.specs.declared.refusal.Refusal.{Refusal}
+use Rattle.pylock_c.specs.declared.refusal.Refusal.TheVariants.{Memory}
+
+pub writes_ok : {definition : Result (List ℕ) Refusal} {bytes old new : List ℕ} {needed : ℕ} {code : ℤ}
+    → definition ≡ Ok bytes → code ≡ (if is_short old bytes then pos 4 else pos 0)
+    → new ≡ buffer_after old (Ok bytes) → Writes definition old new needed (length bytes) code
+writes_ok {bytes = bytes} gives code buffer = (Ok bytes, gives, code, buffer, refl)
+
+pub writes_err : {definition : Result (List ℕ) Refusal} {old : List ℕ} {needed : ℕ} {code : ℤ} {refusal : Refusal}
+    → ((refusal ≡ Memory → ⊥) → definition ≡ Err refusal) → code ≡ number refusal
+    → Writes definition old old needed needed code
+writes_err {refusal = refusal} gives code = (Err refusal, gives, code, refl, refl)
+
+pub edited_ok : {definition : Result (Option Object) Refusal} {old new : Option Object}
+    → definition ≡ Ok new → Tells definition old new (pos 0)
+edited_ok {new = new} gives = (Ok new, gives, refl, refl)
+
+pub edited_err : {definition : Result (Option Object) Refusal} {old new : Option Object} {code : ℤ} {refusal : Refusal}
+    → ((refusal ≡ Memory → ⊥) → definition ≡ Err refusal) → code ≡ number refusal → new ≡ old
+    → Tells definition old new code
+edited_err {refusal = refusal} gives code same = (Err refusal, gives, code, same)
+
+-- the same where a slot was taken out and put back
+pub at_slot : (definition : Option Object → Result (Option Object) Refusal) {before old after new : Option Object}
+    {code code' : ℤ} → before ≡ old → new ≡ after → code' ≡ code
+    → Tells (definition before) before after code → Tells (definition old) old new code'
+at_slot definition {before = before} {after = after} {new = new} {code' = code'} was is same tells =
+    subst (λ (o : Option Object). Tells (definition o) o new code') was
+    (subst (λ (n : Option Object). Tells (definition before) before n code') (sym is)
+    (subst (λ (z : ℤ). Tells (definition before) before after z) (sym same) tells))
+
+pub ruleset written = (writes_ok, writes_err)
+
+pub ruleset told = (edited_ok, edited_err)

@@ -1,0 +1,4 @@
+pub mod AnswerLemmas
+pub mod KeptValues
+pub mod TextLemmas
+pub mod Values

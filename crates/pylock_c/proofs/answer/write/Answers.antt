@@ -1,0 +1,13 @@
+-- The code of a result that is refused.
+use Rattle.std.proofs.Common.{rules, subst, ℕ, List, Bor, Result}
+use Rattle.std.specs.Prelude.{Err}
+use Rattle.pytext.specs.Agreement.{Gives}
+use Rattle.std.proofs.Common.{refl}
+use Rattle.pylock_c.specs.declared.refusal.Refusal.{Refusal}
+use Rattle.pylock_c.specs.declared.refusal.Refusal.TheVariants.{Memory}
+use Rattle.pylock_c.proofs.answer.write.Goals as goal
+
+pub returns-in-Err : goal.returns-in-Err
+returns-in-Err c = λ definition gives.
+    let e = subst (λ (o : Result (Bor (List ℕ)) Refusal). Gives Memory (λ b. b.now) o definition) c.in-Err.is gives in
+    (Err c.in-Err.refusal, e, Prim.search rules, refl, refl)

@@ -1,0 +1,39 @@
+-- Markers of C.
+use Rattle.std.specs.Prelude.{ℕ, Bool, List, Option, Some, None, Result, Ok, Err}
+use Rattle.pytext.specs.Results.{◌>>=◌}
+use Rattle.pymark_core.specs.Environment.{EnvironmentValue}
+use Rattle.pymark_core.specs.Marker.Reading.{MarkerValue, marker_of}
+use Rattle.pymark_core.specs.Marker.Value.{marker_value}
+use Rattle.pylock_c.specs.Refusal.{evaluation_refusal, marker_refusal}
+use Rattle.pylock_c.specs.Sets.{refused_by}
+use Rattle.pylock_c.specs.Text.{text_of}
+use Rattle.pylock_c.specs.declared.object.Object.{Object}
+use Rattle.pylock_c.specs.declared.object.Object.TheVariants as kind
+use Rattle.pylock_c.specs.declared.refusal.Refusal.{Refusal}
+use Rattle.pylock_c.specs.declared.refusal.Refusal.TheVariants as refusal
+
+abbrev pub parsed : List ℕ → Result (Option Object) Refusal
+parsed bytes = do
+  text ← text_of bytes
+  marker ← refused_by marker_refusal (marker_of text)
+  Ok (Some (kind.Marker marker))
+
+abbrev pub marker_in : Option Object → Result MarkerValue Refusal
+marker_in (Some (kind.Marker marker)) = Ok marker
+marker_in other = Err refusal.Empty
+
+abbrev pub marker_text_in : Option Object → Result (List ℕ) Refusal
+marker_text_in object = do
+  marker ← marker_in object
+  Ok marker.text
+
+abbrev pub environment_in : Option Object → Result EnvironmentValue Refusal
+environment_in (Some (kind.Environment environment)) = Ok environment
+environment_in other = Err refusal.Empty
+
+-- the value of a kept marker in a kept environment
+abbrev pub value_in : Option Object → Option Object → Result Bool Refusal
+value_in marker environment = do
+  marker ← marker_in marker
+  environment ← environment_in environment
+  refused_by evaluation_refusal (marker_value environment marker.tree)

@@ -1,0 +1,70 @@
+-- Versions, specifier sets and names of C.
+use Rattle.std.specs.Prelude.{ℕ, Bool, List, Option, Some, None, Result, Ok, Err}
+use Rattle.std.specs.Result.{result_map_both}
+use Rattle.pytext.specs.Results.{◌>>=◌}
+use Rattle.pyver_core.specs.Name.{is_name, norm}
+use Rattle.pyver_core.specs.Parsed.{parsed_set, parsed_version}
+use Rattle.pyver_core.specs.Set.Admission.{admits_all}
+use Rattle.pyver_core.specs.Set.Normal.{set_text}
+use Rattle.pyver_core.specs.Version.Parts.{Parts}
+use Rattle.pyver_core.specs.declared.set.specifier.Specifier.{Specifier}
+use Rattle.pylock_c.specs.Refusal.{set_refusal, version_refusal}
+use Rattle.pylock_c.specs.Text.{text_of}
+use Rattle.pylock_c.specs.declared.object.Object.{Object}
+use Rattle.pylock_c.specs.declared.object.Object.TheVariants as kind
+use Rattle.pylock_c.specs.declared.refusal.Refusal.{Refusal}
+use Rattle.pylock_c.specs.declared.refusal.Refusal.TheVariants as refusal
+
+-- what a library reads, or its refusal as the call's
+abbrev pub refused_by : {V E : Type 0} → (E → Refusal) → Result V E → Result V Refusal
+refused_by refusal read = result_map_both (λ v. v) refusal read
+
+abbrev pub version_of : List ℕ → Result Parts Refusal
+version_of bytes = do
+  text ← text_of bytes
+  refused_by version_refusal (parsed_version text)
+
+abbrev pub set_of : List ℕ → Result (List Specifier) Refusal
+set_of bytes = do
+  text ← text_of bytes
+  refused_by set_refusal (parsed_set text)
+
+-- whether a set admits a version; the set's text is judged first
+abbrev pub admits_of : List ℕ → List ℕ → Result Bool Refusal
+admits_of set version = do
+  specifiers ← set_of set
+  parts ← version_of version
+  Ok (admits_all specifiers parts)
+
+-- the normal form of a name
+abbrev pub name_of : List ℕ → Result (List ℕ) Refusal
+name_of bytes = do
+  text ← text_of bytes
+  Ok (norm text)
+
+abbrev pub is_name_of : List ℕ → Result Bool Refusal
+is_name_of bytes = do
+  text ← text_of bytes
+  Ok (is_name text)
+
+-- ---- sets that are kept
+
+abbrev pub parsed : List ℕ → Result (Option Object) Refusal
+parsed bytes = do
+  specifiers ← set_of bytes
+  Ok (Some (kind.Set specifiers))
+
+abbrev pub set_in : Option Object → Result (List Specifier) Refusal
+set_in (Some (kind.Set specifiers)) = Ok specifiers
+set_in other = Err refusal.Empty
+
+abbrev pub set_text_in : Option Object → Result (List ℕ) Refusal
+set_text_in object = do
+  specifiers ← set_in object
+  Ok (set_text specifiers)
+
+abbrev pub admits_in : Option Object → List ℕ → Result Bool Refusal
+admits_in object version = do
+  specifiers ← set_in object
+  parts ← version_of version
+  Ok (admits_all specifiers parts)

@@ -1,0 +1,20 @@
+-- Texts of C, and kept texts.
+use Rattle.std.specs.Prelude.{ℕ, List, length, if◌then◌else◌, Option, Some, None, Result, Ok, Err}
+use Rattle.std.specs.Result.{result_map_both}
+use Rattle.std.specs.Str.{is_utf8}
+use Rattle.pylock_c.specs.declared.object.Object.{Object}
+use Rattle.pylock_c.specs.declared.object.Object.TheVariants as kind
+use Rattle.pylock_c.specs.declared.refusal.Refusal.{Refusal}
+use Rattle.pylock_c.specs.declared.refusal.Refusal.TheVariants as refusal
+
+-- the text that bytes are
+abbrev pub text_of : List ℕ → Result (List ℕ) Refusal
+text_of bytes = if is_utf8 bytes then Ok bytes else Err refusal.NotUtf8
+
+-- the bytes of a kept text
+abbrev pub text_in : Option Object → Result (List ℕ) Refusal
+text_in (Some (kind.Text text)) = Ok text.items
+text_in other = Err refusal.Empty
+
+abbrev pub text_length : Option Object → Result ℕ Refusal
+text_length object = result_map_both length (λ refusal. refusal) (text_in object)

@@ -1,0 +1,116 @@
+//! Outcomes as C sees them.
+
+ghost use Rattle.std.specs.Prelude.{◌≡◌, ◌++◌, ◌≤◌, ℕ, List, Option, Result, Some, drop, length};
+ghost use Rattle.pytext.specs.Agreement.{Gives};
+ghost use Rattle.pylock_c.specs.Answer.{Edits, Tells, Writes};
+ghost use Rattle.pylock_c.specs.Slot.{object};
+ghost use Rattle.pylock_c.specs.declared.object.Object.{Object as Kind};
+ghost use Rattle.pylock_c.specs.declared.refusal.Refusal.{Refusal as Refused};
+ghost use Rattle.pylock_c.specs.declared.refusal.Refusal.TheVariants.{Memory};
+
+use crate::object::Object;
+use crate::refusal::Refusal;
+use crate::slot::Slot;
+use std::alloc::{AllocError, Global};
+
+/// The code of a call that isn't refused.
+const OK: i32 = 0;
+
+/// The code of a call whose result is longer than its buffer.
+const ROOM: i32 = 4;
+
+/// Leaves the value at its place, and answers the code.
+pub(crate) fn tell<T: Drop>(outcome: Result<T, Refusal>, place: &mut T) -> i32
+    ensures { (definition : Result T Refused) → Gives Memory (λ x. x) outcome definition
+        → Tells definition place.old place.new result }
+{
+    match outcome {
+        Ok(value) => {
+            *place = value;
+            OK
+        }
+        Err(refusal) => refusal.number(),
+    }
+}
+
+/// Leaves the object in the slot, and answers the code.
+#[tactic(auto, using(crate::proofs::AnswerLemmas::told))]
+pub(crate) fn keep(alloc: Global, outcome: Result<Object, Refusal>, slot: &mut Slot) -> i32
+    ensures { (definition : Result (Option Kind) Refused)
+        → Gives Memory (λ kept. Some kept) outcome definition
+        → Tells definition (object slot.old) (object slot.new) result }
+{
+    match boxed(alloc, outcome) {
+        Ok(kept) => {
+            slot.put(alloc, Some(kept));
+            OK
+        }
+        Err(refusal) => refusal.number(),
+    }
+}
+
+fn boxed(alloc: Global, outcome: Result<Object, Refusal>) -> Result<Box<Object>, Refusal>
+    ensures { (definition : Result (Option Kind) Refused)
+        → Gives Memory (λ kept. Some kept) outcome definition
+        → Gives Memory (λ kept. Some kept.value) result definition }
+{
+    Ok(Box::new(alloc, outcome?)?)
+}
+
+/// The code of an edit.
+#[tactic(auto, using(crate::proofs::AnswerLemmas::told))]
+pub(crate) fn done(outcome: Result<(), Refusal>) -> i32
+    ensures { (definition : Result (Option Kind) Refused) (old new : Option Kind)
+        → Edits definition old new outcome → Tells definition old new result }
+{
+    match outcome {
+        Ok(()) => OK,
+        Err(refusal) => refusal.number(),
+    }
+}
+
+/// Writes the bytes into the buffer where they have room, leaves their number in `needed`, and
+/// answers the code.
+#[tactic(auto, using(crate::proofs::AnswerLemmas::written))]
+pub(crate) fn write(outcome: Result<&[u8], Refusal>, buffer: &mut [u8], needed: &mut usize) -> i32
+    ensures { (definition : Result (List ℕ) Refused)
+        → Gives Memory (λ bytes. bytes.now) outcome.entry definition
+        → Writes definition buffer.old buffer.new needed.old needed.new result }
+{
+    match outcome {
+        Ok(bytes) => {
+            *needed = bytes.len();
+            if buffer.len() < bytes.len() {
+                return ROOM;
+            }
+            fill(buffer, bytes);
+            OK
+        }
+        Err(refusal) => refusal.number(),
+    }
+}
+
+/// Writes bytes that the call made.
+pub(crate) fn write_made(
+    outcome: Result<Vec<u8>, Refusal>,
+    buffer: &mut [u8],
+    needed: &mut usize,
+) -> i32
+    ensures { (definition : Result (List ℕ) Refused)
+        → Gives Memory (λ bytes. bytes.items) outcome definition
+        → Writes definition buffer.old buffer.new needed.old needed.new result }
+{
+    match outcome {
+        Ok(bytes) => write(Ok(&bytes), buffer, needed),
+        Err(refusal) => write(Err(refusal), buffer, needed),
+    }
+}
+
+/// Puts the bytes at the front of the buffer.
+fn fill(buffer: &mut [u8], bytes: &[u8])
+    requires { length bytes.now ≤ length buffer.old }
+    ensures { buffer.new ≡ bytes.now ++ drop (length bytes.now) buffer.old }
+{
+    let (front, _rest) = buffer.split_at_mut(bytes.len());
+    front.copy_from_slice(bytes);
+}

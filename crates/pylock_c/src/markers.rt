@@ -1,0 +1,119 @@
+//! Markers (PEP 508).
+
+ghost use Rattle.std.specs.Prelude.{◌≡◌, None, Some, option_map};
+ghost use Rattle.pytext.specs.Agreement.{Gives};
+ghost use Rattle.pylock_c.specs.Answer.{Tells, Writes};
+ghost use Rattle.pylock_c.specs.Markers.{environment_in, marker_in, marker_text_in, parsed};
+ghost use Rattle.pylock_c.specs.Markers.{value_in};
+ghost use Rattle.pylock_c.specs.Slot.{object};
+ghost use Rattle.pylock_c.specs.declared.refusal.Refusal.TheVariants.{Memory};
+
+use crate::answer::{keep, tell, write};
+use crate::object::Object;
+use crate::refusal::Refusal;
+use crate::slot::Slot;
+use crate::text::text;
+use pymark_core::{Environment, Marker};
+use std::alloc::Global;
+
+fn parsed(alloc: Global, bytes: &[u8]) -> Result<Object, Refusal>
+    ensures { Gives Memory (λ kept. Some kept) result (parsed bytes.now) }
+{
+    Ok(Object::Marker(Marker::parse(alloc, text(bytes)?)?))
+}
+
+/// Reads a marker into its slot.
+#[unsafe(no_mangle)]
+pub extern "C" fn pylock_marker_parse(alloc: Global, marker: &mut Slot, text: &[u8]) -> i32
+    ensures { Tells (parsed text.now) (object marker.old) (object marker.new) result }
+{
+    keep(alloc, parsed(alloc, text), marker)
+}
+
+fn marker_in(kept: &Option<Box<Object>>) -> Result<&Marker, Refusal>
+    ensures { Gives Memory (λ marker. marker.now) result
+        (marker_in (option_map (λ kept. kept.value) kept.now)) }
+{
+    match kept.as_deref() {
+        Some(Object::Marker(marker)) => Ok(marker),
+        _ => Err(Refusal::Empty),
+    }
+}
+
+fn marker_text_in(kept: &Option<Box<Object>>) -> Result<&[u8], Refusal>
+    ensures { Gives Memory (λ text. text.now) result
+        (marker_text_in (option_map (λ kept. kept.value) kept.now)) }
+{
+    Ok(marker_in(kept)?.text().as_bytes())
+}
+
+/// The text of a marker.
+#[unsafe(no_mangle)]
+pub extern "C" fn pylock_marker_text(
+    alloc: Global,
+    marker: &mut Slot,
+    out: &mut [u8],
+    needed: &mut usize,
+) -> i32
+    ensures kept { object marker.new ≡ object marker.old }
+    ensures told { Writes (marker_text_in (object marker.old)) out.old out.new needed.old needed.new
+        result }
+{
+    let kept = marker.take(alloc);
+    let code = write(marker_text_in(&kept), out, needed);
+    marker.put(alloc, kept);
+    code
+}
+
+fn environment_in(kept: &Option<Box<Object>>) -> Result<&Environment, Refusal>
+    ensures { Gives Memory (λ environment. environment.now) result
+        (environment_in (option_map (λ kept. kept.value) kept.now)) }
+{
+    match kept.as_deref() {
+        Some(Object::Environment(environment)) => Ok(environment),
+        _ => Err(Refusal::Empty),
+    }
+}
+
+fn value_in(
+    alloc: Global,
+    marker: &Option<Box<Object>>,
+    environment: &Option<Box<Object>>,
+) -> Result<bool, Refusal>
+    ensures { Gives Memory (λ value. value) result
+        (value_in (option_map (λ kept. kept.value) marker.now)
+        (option_map (λ kept. kept.value) environment.now)) }
+{
+    let marker = marker_in(marker)?;
+    let environment = environment_in(environment)?;
+    Ok(marker.evaluate(alloc, environment)?)
+}
+
+/// The value of a marker in an environment.
+#[unsafe(no_mangle)]
+pub extern "C" fn pylock_marker_evaluate(
+    alloc: Global,
+    marker: &mut Slot,
+    environment: &mut Slot,
+    value: &mut bool,
+) -> i32
+    ensures marker { object marker.new ≡ object marker.old }
+    ensures environment { object environment.new ≡ object environment.old }
+    ensures told { Tells (value_in (object marker.old) (object environment.old)) value.old value.new
+        result }
+{
+    let kept = marker.take(alloc);
+    let judged_in = environment.take(alloc);
+    let code = tell(value_in(alloc, &kept, &judged_in), value);
+    marker.put(alloc, kept);
+    environment.put(alloc, judged_in);
+    code
+}
+
+/// Empties the slot.
+#[unsafe(no_mangle)]
+pub extern "C" fn pylock_marker_free(alloc: Global, marker: &mut Slot)
+    ensures { object marker.new ≡ None }
+{
+    let _kept = marker.take(alloc);
+}

@@ -1,0 +1,80 @@
+//! Texts of C, and kept texts.
+
+ghost use Rattle.std.specs.Prelude.{◌≡◌, None, option_map};
+ghost use Rattle.pytext.specs.Agreement.{Gives};
+ghost use Rattle.pylock_c.specs.Answer.{Tells, Writes};
+ghost use Rattle.pylock_c.specs.Slot.{object};
+ghost use Rattle.pylock_c.specs.declared.refusal.Refusal.TheVariants.{Memory};
+ghost use Rattle.pylock_c.specs.Text.{text_in, text_length, text_of};
+
+use crate::answer::{tell, write};
+use crate::object::Object;
+use crate::refusal::Refusal;
+use crate::slot::Slot;
+use std::alloc::Global;
+
+/// The text that the bytes are.
+#[tactic(auto, using(crate::proofs::TextLemmas::utf8_tests))]
+pub(crate) fn text(bytes: &[u8]) -> Result<&str, Refusal>
+    ensures { Gives Memory (λ text. text.now) result (text_of bytes.now) }
+{
+    match std::str::from_utf8(bytes) {
+        Ok(text) => Ok(text),
+        Err(_) => Err(Refusal::NotUtf8),
+    }
+}
+
+/// The bytes of a kept text.
+fn text_in(kept: &Option<Box<Object>>) -> Result<&[u8], Refusal>
+    ensures { Gives Memory (λ text. text.now) result
+        (text_in (option_map (λ kept. kept.value) kept.now)) }
+{
+    match kept.as_deref() {
+        Some(Object::Text(text)) => Ok(text),
+        _ => Err(Refusal::Empty),
+    }
+}
+
+fn text_length(kept: &Option<Box<Object>>) -> Result<usize, Refusal>
+    ensures { Gives Memory (λ length. length) result
+        (text_length (option_map (λ kept. kept.value) kept.now)) }
+{
+    Ok(text_in(kept)?.len())
+}
+
+/// The length of a kept text.
+#[unsafe(no_mangle)]
+pub extern "C" fn pylock_text_length(alloc: Global, text: &mut Slot, length: &mut usize) -> i32
+    ensures kept { object text.new ≡ object text.old }
+    ensures told { Tells (text_length (object text.old)) length.old length.new result }
+{
+    let kept = text.take(alloc);
+    let code = tell(text_length(&kept), length);
+    text.put(alloc, kept);
+    code
+}
+
+/// The bytes of a kept text.
+#[unsafe(no_mangle)]
+pub extern "C" fn pylock_text_copy(
+    alloc: Global,
+    text: &mut Slot,
+    out: &mut [u8],
+    needed: &mut usize,
+) -> i32
+    ensures kept { object text.new ≡ object text.old }
+    ensures told { Writes (text_in (object text.old)) out.old out.new needed.old needed.new result }
+{
+    let kept = text.take(alloc);
+    let code = write(text_in(&kept), out, needed);
+    text.put(alloc, kept);
+    code
+}
+
+/// Empties the slot.
+#[unsafe(no_mangle)]
+pub extern "C" fn pylock_text_free(alloc: Global, text: &mut Slot)
+    ensures { object text.new ≡ None }
+{
+    let _kept = text.take(alloc);
+}
