@@ -36,8 +36,7 @@
  *
  * THREADS. The library starts no thread and keeps no state between calls but in
  * slots. Calls with different slots may run at the same time. Of one slot one
- * call runs at a time. A slot of a text, a set, a marker or an environment may
- * go to another thread; a session stays on the thread that made it.
+ * call runs at a time, and a slot stays on the thread that filled it.
  *
  * PLANNED. Calls under PYLOCK_PLANNED are declared for what is to come: the
  * library doesn't have them yet.

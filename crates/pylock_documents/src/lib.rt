@@ -16,8 +16,6 @@ mod findings;
 mod plan;
 mod refused;
 mod source;
-#[cfg(test)]
-mod tests;
 
 pub use explain::explain_document;
 pub use files::files_document;

@@ -13,8 +13,6 @@ mod json;
 pub mod laws;
 mod list;
 mod object;
-#[cfg(test)]
-mod tests;
 mod written;
 
 pub use json::Json;

@@ -1,16 +1,20 @@
 //! Runs, replies and the program over readers and writers that fail or have no end; sources and
-//! sinks; and what happens where memory is refused. The worked examples stand in the data of
-//! `cases`.
+//! sinks; JSON documents; and what happens where memory is refused. The worked examples stand in
+//! the data of `cases`.
 #![tactic(auto)]
 
 #[cfg(test)]
 mod check;
+#[cfg(test)]
+mod documents;
 #[cfg(test)]
 mod failures;
 #[cfg(test)]
 mod fronts;
 #[cfg(test)]
 mod growths;
+#[cfg(test)]
+mod json;
 #[cfg(test)]
 mod memory;
 #[cfg(test)]

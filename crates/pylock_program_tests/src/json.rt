@@ -5,7 +5,7 @@ ghost use Rattle.std.specs.Option.{option_copied};
 ghost use Rattle.serde_json.specs.View.{view as data_of};
 ghost use Rattle.pylock_json.specs.Json.{maybe, numbered, object_of, texts_of, there};
 
-use crate::{Json, List, Object, document, push_document};
+use pylock_json::{Json, List, Object, document, push_document};
 use std::alloc::{AllocError, Global};
 use std::test::Fail;
 

@@ -1,8 +1,8 @@
 //! Documents beside the texts of another program (Python's `json`, with sorted keys), which stand
 //! here in several lines.
 
-use crate::{explain_document, files_document, plan_document, refused_document};
 use pylock_core::{Lock, Session, read_environment};
+use pylock_documents::{explain_document, files_document, plan_document, refused_document};
 use pylock_json::Object;
 use std::alloc::{AllocError, Global};
 use std::process::Abort;
