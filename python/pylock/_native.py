@@ -11,7 +11,7 @@ import os
 import sys
 import threading
 from ctypes import POINTER, byref, c_bool, c_char_p, c_int32, c_size_t, c_uint32, c_uint64, c_void_p
-from typing import Any, Callable, Dict, List, Optional, Tuple, Type
+from typing import Any, Callable, Dict, List, NamedTuple, Optional, Tuple, Type
 
 from ._errors import (
     InvalidEdit,
@@ -593,6 +593,36 @@ def files(lock: bytes, json: bool) -> Tuple[str, int]:
 def audit(lock: bytes, json: bool) -> Tuple[str, int]:
     """What `pylock audit` prints, and its status."""
     return _lock_report(_audit, lock, json)
+
+
+class Head(NamedTuple):
+    """The head of a lock: names in normal form, a specifier set and markers as texts."""
+
+    extras: Tuple[str, ...]
+    dependency_groups: Tuple[str, ...]
+    default_groups: Tuple[str, ...]
+    requires_python: Optional[str]
+    environments: Tuple[str, ...]
+
+
+def lock_head(lock: bytes) -> Head:
+    """The head of a lock that the library takes."""
+    try:
+        import tomllib
+    except ImportError:
+        from pip._vendor import tomli as tomllib
+    document = tomllib.loads(lock.decode("utf-8-sig"))
+
+    def names(key: str) -> Tuple[str, ...]:
+        return tuple(dict.fromkeys(name(text) for text in document.get(key, ())))
+
+    return Head(
+        names("extras"),
+        names("dependency-groups"),
+        names("default-groups"),
+        document.get("requires-python"),
+        tuple(document.get("environments", ())),
+    )
 
 
 # ---- sessions ----
