@@ -323,7 +323,6 @@ def _unescaped(field: str) -> Optional[str]:
 
 # ---- versions, sets and names ----
 
-_version_key = _call("version_key", *_TEXT, *_OUT, short=True)
 _version = _call("version", *_TEXT, *_OUT, short=True)
 _name = _call("name", *_TEXT, *_OUT, short=True)
 _is_name = _call("is_name", *_TEXT, *_FLAG, short=True)
@@ -340,7 +339,22 @@ def _done(scratch: _Scratch) -> None:
         _scratches.append(scratch)
 
 
-def version_key(text: str) -> bytes:
+def version(text: str) -> List[str]:
+    """The fields of a version: normal form, public part, base release, epoch, release, pre, post, dev, local."""
+    data = _bytes(text)
+    scratch = _scratch()
+    code = _version(data, len(data), scratch.out, scratch.room, scratch.needed_at)
+    if code == ROOM:
+        code = _roomy(_version, data, scratch)
+    if code:
+        _done(scratch)
+        raise _error(code, text, InvalidVersion)
+    record = scratch.view[: scratch.needed.value].decode()
+    _done(scratch)
+    return record.split("\t")
+
+
+def _key_of_library(text: str) -> bytes:
     """Bytes whose order is the order of versions."""
     try:
         data = text.encode()
@@ -359,19 +373,39 @@ def version_key(text: str) -> bytes:
     return key
 
 
-def version(text: str) -> List[str]:
-    """The fields of a version: normal form, public part, base release, epoch, release, pre, post, dev, local."""
-    data = _bytes(text)
-    scratch = _scratch()
-    code = _version(data, len(data), scratch.out, scratch.room, scratch.needed_at)
-    if code == ROOM:
-        code = _roomy(_version, data, scratch)
-    if code:
-        _done(scratch)
-        raise _error(code, text, InvalidVersion)
-    record = scratch.view[: scratch.needed.value].decode()
-    _done(scratch)
-    return record.split("\t")
+def _key_of_fields(text: str) -> bytes:
+    """Bytes whose order is the order of versions, worked out from the parts, for a library without that call.
+
+    A number is 16 bytes, the greatest first. The order of the parts is that of docs/FORMATS.md, "Order".
+    """
+    _, _, _, epoch, release, pre, post, dev, local = version(text)
+
+    def number(digits: str) -> bytes:
+        return int(digits).to_bytes(16, "big")
+
+    numbers = release.split(".")
+    while numbers and numbers[-1] == "0":
+        numbers.pop()
+    key = [number(epoch), *(b"\1" + number(digits) for digits in numbers), b"\0"]
+    if pre != "-":
+        letter = "rc" if pre[0] == "r" else pre[0]
+        key.append({"a": b"\1", "b": b"\2", "rc": b"\3"}[letter] + number(pre[len(letter) :]))
+    else:
+        key.append(b"\0" if dev != "-" and post == "-" else b"\4")
+    key.append(b"\0" if post == "-" else b"\1" + number(post))
+    key.append(b"\1" if dev == "-" else b"\0" + number(dev))
+    if local != "-":
+        for segment in local.split("."):
+            key.append(b"\2" + number(segment) if segment.isdigit() else b"\1" + segment.encode() + b"\0")
+    key.append(b"\0")
+    return b"".join(key)
+
+
+if hasattr(_library, "pylock_version_key"):
+    _version_key = _call("version_key", *_TEXT, *_OUT, short=True)
+    version_key = _key_of_library
+else:
+    version_key = _key_of_fields
 
 
 def name(text: str) -> str:

@@ -52,6 +52,12 @@ def _is_prerelease(item: UnparsedVersion) -> bool:
     return (item if isinstance(item, Version) else Version(item)).is_prerelease
 
 
+def _text_of(specifier: Specifier) -> str:
+    if isinstance(specifier, Specifier):
+        return specifier.text
+    raise TypeError("expected a str or Specifiers, not %s" % type(specifier).__name__)
+
+
 def _cut(specifier: str) -> Tuple[str, str]:
     """The operator and the operand of a specifier that is one."""
     for operator in _OPERATORS:
@@ -304,7 +310,7 @@ class SpecifierSet(_Judge):
         self, specifiers: Union[str, Iterable[Specifier]] = "", prereleases: Optional[bool] = None
     ) -> None:
         if not isinstance(specifiers, str):
-            specifiers = ",".join([str(specifier) for specifier in specifiers])
+            specifiers = ",".join([_text_of(specifier) for specifier in specifiers])
         self._kept = _native.set_parse(specifiers)
         self._text = specifiers
         self._forced = prereleases

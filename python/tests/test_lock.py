@@ -111,7 +111,7 @@ class Random(unittest.TestCase):
         "set": ["sys_platform linux", "sys_platform win32", "python_full_version 3.12.4", "os_name ", "os.name x", "sys_platform"],
         "unset": ["python_full_version", "os_name", "x"], "tags": ["", "py3-none-any", "cp312-cp312-any py3-none-any", "py3"],
         "policy": ["a wheel", "a source", "A any", "b wheel", "- any", "a both"],
-        "add": ['{name = "e", directory = {path = "e"}}', '{name = "a", version = "2", marker = "os_name == \'\'", sdist = {path = "s"}}', "5", '{name = "-"}'],
+        "add": ['{name = "e", directory = {path = "e"}}', '{name = "a", version = "2", marker = "sys_platform == \'win32\'", sdist = {path = "s"}}', "5", '{name = "-"}'],
         "del": ["1", "2", "6", "8", "0", "x"],
         "put": ['1 {name = "a", version = "1", sdist = {path = "a-1.tar.gz"}}', '3 {name = "c\\tc", directory = {path = "c"}}', '4 {name = "d", directory = {path = "-"}}', "9 5"],
         "show": [], "fly": ["x"],
