@@ -360,16 +360,20 @@ def _key_of_library(text: str) -> bytes:
         data = text.encode()
     except (UnicodeEncodeError, AttributeError):
         data = _bytes(text)
-    scratch = _scratch()
+    # the scratch is taken and put back here, not by calls: this is the dearest of the short paths
+    try:
+        scratch = _scratches.pop()
+    except IndexError:
+        scratch = _Scratch()
     code = _version_key(data, len(data), scratch.out, scratch.room, scratch.needed_at)
+    if code == ROOM:
+        code = _roomy(_version_key, data, scratch)
     if code:
-        if code == ROOM:
-            code = _roomy(_version_key, data, scratch)
-        if code:
-            _done(scratch)
-            raise _error(code, text, InvalidVersion)
+        _done(scratch)
+        raise _error(code, text, InvalidVersion)
     key = bytes(scratch.view[: scratch.needed.value])
-    _done(scratch)
+    if scratch.room <= _KEPT_ROOM:
+        _scratches.append(scratch)
     return key
 
 
