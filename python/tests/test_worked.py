@@ -225,6 +225,10 @@ class Worked(unittest.TestCase):
         for name, case, expected in self.rows(file, kind):
             lock = bytes_in(case["lock"]) if "lock" in case else HEAD + bytes_in(case.get("lines", ""))
             environment = bytes_in(case.get("environment", NOTHING.decode()))
+            if not expected.startswith("> "):
+                # a case of another file that has the same title
+                told_here = [block for block in self.expected[name] if block.startswith("> ")]
+                expected = told_here[0]
             for told in expected[2:].split("\n> "):
                 line, _, report = told.partition("\n")
                 if report == "refused by clap":
