@@ -7,6 +7,7 @@ code; which one and by which words stands in one table below.
 from __future__ import annotations
 
 import ctypes
+import functools
 import os
 import sys
 import threading
@@ -62,11 +63,23 @@ except OSError as error:
 
 
 def _call(name: str, *arguments: Any, short: bool = False, result: Any = c_int32) -> Any:
-    """The function of that name, of these arguments."""
-    function = getattr(_short if short else _library, "pylock_" + name)
+    """The function of that name, of these arguments; where the library lacks it, one that says so when it is called."""
+    try:
+        function = getattr(_short if short else _library, "pylock_" + name)
+    except AttributeError:
+        # what frees has nothing to free then
+        return functools.partial(_nothing if name.endswith("_free") else _lacks, name)
     function.argtypes = arguments
     function.restype = result
     return function
+
+
+def _lacks(name: str, *arguments: Any) -> int:
+    raise NotImplementedError("pylock: %s has no call pylock_%s" % (path, name))
+
+
+def _nothing(name: str, *arguments: Any) -> None:
+    return None
 
 
 abi = _call("abi", result=c_uint32)()
