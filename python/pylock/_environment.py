@@ -1,0 +1,150 @@
+"""Environments: the variables of markers, and the tags of wheels."""
+
+from __future__ import annotations
+
+import json
+from typing import Any, Dict, Iterable, Iterator, List, Mapping, NoReturn, Tuple
+
+from . import _native
+
+__all__ = ["Environment", "VARIABLES", "environment"]
+
+VARIABLES = (
+    "os_name", "sys_platform", "platform_machine", "platform_python_implementation", "platform_release",
+    "platform_system", "platform_version", "python_version", "python_full_version", "implementation_name",
+    "implementation_version",
+)
+"""The variables of markers."""
+
+
+def variables_text(variables: Mapping[str, str], tags: Iterable[str]) -> bytes:
+    """The environment as JSON."""
+    return json.dumps({"environment": dict(variables), "tags": list(tags)}).encode()
+
+
+class _Fixed(dict):  # type: ignore[type-arg]
+    """A dict that can't be changed: what the library keeps is what stands here."""
+
+    __slots__ = ()
+
+    def _refuse(self, *arguments: Any, **named: Any) -> NoReturn:
+        raise TypeError("an environment can't be changed")
+
+    __setitem__ = __delitem__ = __ior__ = clear = pop = popitem = setdefault = update = _refuse  # type: ignore
+
+    def __reduce_ex__(self, protocol: Any) -> NoReturn:
+        raise TypeError("an environment can't be copied or pickled")
+
+    __copy__ = __deepcopy__ = __reduce_ex__  # type: ignore[assignment]
+
+
+class Environment(_Fixed):
+    """The variables of markers and the tags of wheels, most wanted first, read once and kept.
+
+    >>> linux = Environment({"sys_platform": "linux", "python_version": "3.12"}, ["py3-none-any"])
+    >>> linux.variables["sys_platform"], linux.tags
+    ('linux', ('py3-none-any',))
+
+    It is a dict of the form of an environment file, so `json.dump` writes one:
+
+    >>> import json
+    >>> json.dumps(Environment({"os_name": "nt"}, []))
+    '{"environment": {"os_name": "nt"}, "tags": []}'
+
+    A variable that isn't given is unset. It can't be changed, and threads may share it. A text that is no tag is
+    refused as InvalidEnvironment.
+    """
+
+    __slots__ = ("_kept", "_json", "__weakref__")
+
+    def __init__(self, variables: Mapping[str, str], tags: Iterable[str] = ()) -> None:
+        if isinstance(tags, str):
+            raise TypeError("expected a list of tags, not a str")
+        tag_texts = tuple(str(tag) for tag in tags)
+        for name, value in variables.items():
+            if not isinstance(name, str) or not isinstance(value, str):
+                raise TypeError("variables are texts by their names: %r: %r" % (name, value))
+        self._json = variables_text(variables, tag_texts)
+        self._kept = _native.environment_read(self._json)
+        super().__init__(environment=_Fixed(variables), tags=tag_texts)
+
+    @classmethod
+    def read(cls, source: Any) -> Environment:
+        """The environment of a file, by its path or its bytes.
+
+        >>> Environment.read(b'{"environment": {"os_name": "nt"}, "tags": []}').variables["os_name"]
+        'nt'
+        """
+        content = read_source(source)
+        # judged first: what the library takes for an environment is one for `json` too
+        _native.environment_read(content)
+        document = json.loads(content.decode())
+        return cls(
+            {name: value for name, value in document["environment"].items() if isinstance(value, str)},
+            document["tags"],
+        )
+
+    @property
+    def variables(self) -> Mapping[str, str]:
+        """The variables that are set."""
+        return self["environment"]  # type: ignore[no-any-return]
+
+    @property
+    def tags(self) -> Tuple[str, ...]:
+        """The tags as they were given, most wanted first."""
+        return self["tags"]  # type: ignore[no-any-return]
+
+    def __repr__(self) -> str:
+        return "<Environment(%d variables, %d tags)>" % (len(self.variables), len(self.tags))
+
+    __hash__ = None  # type: ignore[assignment]
+
+
+def read_source(source: Any) -> bytes:
+    """The bytes that are given, or those of the file of a path."""
+    if isinstance(source, (bytes, bytearray, memoryview)):
+        return bytes(source)
+    if isinstance(source, int):
+        raise TypeError("expected a path or bytes, not int")
+    with open(source, "rb") as file:
+        return file.read()
+
+
+def environment_bytes(environment: Any) -> bytes:
+    """The JSON of an environment: a kept one, one as a mapping, or bytes."""
+    if isinstance(environment, Environment):
+        return environment._json
+    if isinstance(environment, (bytes, bytearray, memoryview)):
+        return bytes(environment)
+    if isinstance(environment, Mapping):
+        return json.dumps(environment).encode()
+    raise TypeError("expected an Environment, a mapping or bytes, not %s" % type(environment).__name__)
+
+
+def _sys_tags() -> Iterator[Any]:
+    """The tags of the running Python, by the library `packaging` or the copy of it in pip."""
+    try:
+        from packaging.tags import sys_tags
+    except ImportError:
+        try:
+            from pip._vendor.packaging.tags import sys_tags
+        except ImportError:
+            raise ImportError(
+                "pylock.environment: this Python has neither the library `packaging` nor a pip that brings it"
+            ) from None
+    return sys_tags()  # type: ignore[no-any-return]
+
+
+def environment() -> Environment:
+    """The environment of the running Python, as `tools/environment` writes it.
+
+    >>> import json
+    >>> sorted(json.loads(json.dumps(environment())))
+    ['environment', 'tags']
+
+    The variables are those of the standard library; the tags are asked of `packaging`, or of pip's copy of it: where
+    there is neither, ImportError is raised.
+    """
+    from .markers import running_variables
+
+    return Environment(running_variables(), (str(tag) for tag in _sys_tags()))

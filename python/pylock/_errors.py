@@ -1,0 +1,147 @@
+"""The exceptions. Each stands in the submodule where `packaging` has it, and at the top."""
+
+from __future__ import annotations
+
+from typing import Optional, Tuple, Union
+
+Place = Union[int, str, None]
+
+
+class Refusal(ValueError):
+    """A text, a lock or an edit is refused. `str` gives the message for a person.
+
+    `word` is the program's word for it, as `syntax` (docs/FORMATS.md); `place` says where, as the number of an
+    entry or the name of a key, and is None where the text as a whole is meant.
+    """
+
+    word: str
+    place: Place
+
+    def __init__(self, message: str, *, word: str = "", place: Place = None) -> None:
+        super().__init__(message)
+        self.word = word
+        self.place = place
+
+
+class InvalidVersion(Refusal):
+    """A text is no version (PEP 440).
+
+    >>> import pylock
+    >>> pylock.Version("1.x")
+    Traceback (most recent call last):
+        ...
+    pylock.version.InvalidVersion: Invalid version: '1.x'
+    """
+
+    __module__ = "pylock.version"
+
+
+class InvalidSpecifier(Refusal):
+    """A text is no specifier, or no set of them (PEP 440)."""
+
+    __module__ = "pylock.specifiers"
+
+
+class InvalidMarker(Refusal):
+    """A text is no marker (PEP 508). Its word is `syntax`, `too-deep` or `set-misuse`."""
+
+    __module__ = "pylock.markers"
+
+
+class MarkerFault(Refusal):
+    """A marker has no value in an environment. The words are those of the lock's answers, as `marker-number`."""
+
+    __module__ = "pylock.markers"
+
+
+class UndefinedEnvironmentName(MarkerFault):
+    """A marker reads a variable that the environment doesn't have (`marker-unset`)."""
+
+    __module__ = "pylock.markers"
+
+
+class UndefinedComparison(MarkerFault):
+    """A marker compares by `~=` or `===` what isn't a version (`marker-undefined`)."""
+
+    __module__ = "pylock.markers"
+
+
+class InvalidRequirement(Refusal):
+    """A text is no requirement (PEP 508). Its word is the first thing that is wrong, from the left."""
+
+    __module__ = "pylock.requirements"
+
+
+class InvalidName(Refusal):
+    """A text is no name of a distribution."""
+
+    __module__ = "pylock.utils"
+
+
+class InvalidWheelFilename(Refusal):
+    """A text is no file name of a wheel (PEP 427)."""
+
+    __module__ = "pylock.utils"
+
+
+class InvalidSdistFilename(Refusal):
+    """A text is no file name of an sdist."""
+
+    __module__ = "pylock.utils"
+
+
+class InvalidTag(Refusal):
+    """A text isn't of the form python-abi-platform (PEP 425)."""
+
+    __module__ = "pylock.tags"
+
+
+class InvalidLock(Refusal):
+    """Bytes are no `pylock.toml` (PEP 751). `words` are those that the program prints."""
+
+    __module__ = "pylock"
+
+    def __init__(self, message: str, *, word: str = "", place: Place = None, words: Tuple[str, ...] = ()) -> None:
+        super().__init__(message, word=word, place=place)
+        self.words = words
+
+
+class InvalidEnvironment(InvalidLock):
+    """An environment isn't of the form of docs/FORMATS.md. `words` are those that the program prints."""
+
+    __module__ = "pylock"
+
+
+class InvalidEdit(Refusal):
+    """An edit or an option is refused, and has changed nothing."""
+
+    __module__ = "pylock"
+
+
+class PlanFault(Refusal):
+    """A lock can't be installed in an environment: the first fault of the installation steps.
+
+    `id` is the number of the entry, 0 for the head of the lock; `name` its name, None for the head; `code` the
+    fault's word (`word` too), as `no-file`; `detail` what `explain` says of it, or None.
+    """
+
+    __module__ = "pylock"
+
+    def __init__(self, id: int, name: Optional[str], code: str, detail: Optional[str]) -> None:
+        where = "the head of the lock" if id == 0 else "entry %d (`%s`)" % (id, name)
+        super().__init__("%s: %s%s" % (where, code, "" if detail is None else ": " + detail), word=code, place=id)
+        self.args = (id, name, code, detail)
+        self.message = "%s: %s%s" % (where, code, "" if detail is None else ": " + detail)
+        self.id = id
+        self.name = name
+        self.code = code
+        self.detail = detail
+
+    def __str__(self) -> str:
+        return self.message
+
+
+class WrongThread(RuntimeError):
+    """A lock or a session is used on another thread than the one that made it."""
+
+    __module__ = "pylock"

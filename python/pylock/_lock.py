@@ -1,0 +1,462 @@
+"""Locks and sessions (PEP 751): what is to be installed from a `pylock.toml`."""
+
+from __future__ import annotations
+
+import json
+import threading
+from typing import Any, Dict, Iterable, List, Mapping, NamedTuple, NoReturn, Optional, Tuple, Union
+
+from . import _native
+from ._environment import Environment, environment_bytes, read_source
+from ._errors import InvalidEdit, PlanFault, WrongThread
+from .utils import canonicalize_name
+
+__all__ = ["Explanation", "Finding", "Lock", "Package", "Pick", "Session", "Verdict"]
+
+AnyEnvironment = Union[Environment, Mapping[str, Any], bytes]
+_NOTHING = b'{"environment": {}, "tags": []}'
+
+
+class Pick(NamedTuple):
+    """A source that a lock names: what an entry is installed from, or one of `Lock.files`.
+
+    `kind` is `vcs`, `directory`, `editable`, `archive`, `wheel` or `sdist`; `place` is the path, else the URL;
+    `revision` of a VCS its type and its commit. What the lock doesn't have is None, and `hashes` is then empty.
+    """
+
+    id: int
+    name: str
+    version: Optional[str]
+    kind: str
+    file: Optional[str]
+    place: str
+    url: Optional[str]
+    path: Optional[str]
+    hashes: Dict[str, str]
+    revision: Optional[Tuple[str, str]]
+    subdirectory: Optional[str]
+
+
+class Package(NamedTuple):
+    """An entry of a lock: its number from 1, its name in normal form, its version and all its sources."""
+
+    id: int
+    name: str
+    version: Optional[str]
+    sources: Tuple[Pick, ...]
+
+
+class Verdict(NamedTuple):
+    """What becomes of an entry, or of the head with the number 0 (docs/FORMATS.md, `explain`)."""
+
+    id: int
+    name: Optional[str]
+    version: Optional[str]
+    verdict: str
+    detail: Optional[str]
+
+
+class Explanation(NamedTuple):
+    """What becomes of the head and of each entry."""
+
+    head: Verdict
+    entries: List[Verdict]
+
+
+class Finding(NamedTuple):
+    """What a careful reader of the lock would want to be told (docs/FORMATS.md, `audit`)."""
+
+    id: int
+    name: Optional[str]
+    finding: str
+    detail: Optional[str]
+
+
+def _pick(source: Dict[str, Any]) -> Pick:
+    revision = source.get("revision")
+    return Pick(
+        source["id"],
+        source["name"],
+        source.get("version"),
+        source["kind"],
+        source.get("file"),
+        source["place"],
+        source.get("url"),
+        source.get("path"),
+        source.get("hashes", {}),
+        None if revision is None else (revision["type"], revision["commit"]),
+        source.get("subdirectory"),
+    )
+
+
+def _picks(text: str) -> List[Pick]:
+    """The plan of an answer; a fault is raised."""
+    document = json.loads(text)
+    fault = document.get("fault")
+    if fault is not None:
+        raise PlanFault(fault["id"], fault.get("name"), fault["code"], fault.get("detail"))
+    return [_pick(source) for source in document["plan"]]
+
+
+def _explanation(text: str) -> Explanation:
+    document = json.loads(text)
+    head = document["head"]
+    return Explanation(
+        Verdict(0, None, None, head["verdict"], head.get("detail")),
+        [
+            Verdict(entry["id"], entry["name"], entry.get("version"), entry["verdict"], entry.get("detail"))
+            for entry in document["entries"]
+        ],
+    )
+
+
+class _OfThread:
+    """What stays on the thread that made it, and is neither copied nor pickled."""
+
+    __slots__ = ("_thread",)
+
+    def _check(self) -> None:
+        if threading.get_ident() != self._thread:
+            raise WrongThread("a %s is used on the thread that made it alone" % type(self).__name__)
+
+    def _of_this_thread(self) -> None:
+        self._thread = threading.get_ident()
+
+    def __reduce_ex__(self, protocol: Any) -> NoReturn:
+        raise TypeError("a %s can't be copied or pickled" % type(self).__name__)
+
+    __copy__ = __deepcopy__ = __reduce_ex__  # type: ignore[assignment]
+
+
+class Session(_OfThread):
+    """A lock in an environment, edited and answered again. An edit judges again only what it touches.
+
+    >>> lock = b'''
+    ... lock-version = "1.0"
+    ... created-by = "me"
+    ... [[packages]]
+    ... name = "a"
+    ... marker = "os_name == 'nt'"
+    ... directory = { path = "./a" }
+    ... '''
+    >>> session = Session(lock, Environment({"os_name": "posix"}, []))
+    >>> session.answer()
+    []
+    >>> session.set("os_name", "nt")
+    1
+    >>> [pick.name for pick in session.answer()], session.judged
+    (['a'], (1,))
+
+    The lock and the environment are given as they are for `Lock.plan`. Each edit gives the number of entries, and the
+    head, that it judged; a refused one raises InvalidEdit and changes nothing. A session stays on its thread. It is
+    closed by `close`, or as a context manager.
+    """
+
+    __slots__ = ("_kept", "__weakref__")
+
+    def __init__(self, lock: Union[Lock, bytes], environment: AnyEnvironment) -> None:
+        self._of_this_thread()
+        content = lock._content if isinstance(lock, Lock) else read_bytes(lock)
+        self._kept = _native.session_start(content, environment_bytes(environment))
+
+    def _edit(self, edit: str, *arguments: Any) -> int:
+        self._check()
+        return _native.session_edit(self._kept, edit, *arguments)
+
+    def set(self, variable: str, value: str) -> int:
+        """Gives a variable of markers a text."""
+        return self._edit("set", variable, value)
+
+    def unset(self, variable: str) -> int:
+        """Leaves a variable of markers without a text."""
+        return self._edit("unset", variable)
+
+    def add_extra(self, name: str) -> int:
+        """Asks for an extra of the lock."""
+        return self._edit("add_extra", name)
+
+    def drop_extra(self, name: str) -> int:
+        """Asks for an extra no more."""
+        return self._edit("drop_extra", name)
+
+    def add_group(self, name: str) -> int:
+        """Asks for a dependency group of the lock."""
+        return self._edit("add_group", name)
+
+    def drop_group(self, name: str) -> int:
+        """Asks for a dependency group no more."""
+        return self._edit("drop_group", name)
+
+    def tags(self, tags: Iterable[str]) -> int:
+        """Puts these tags, most wanted first, in place of those that were there."""
+        if isinstance(tags, str):
+            raise TypeError("expected a list of tags, not a str")
+        texts = [str(tag) for tag in tags]
+        for text in texts:
+            if not text or "\n" in text:
+                raise InvalidEdit("Refused edit: %r (one of the tags is none)" % text, word="tag")
+        return self._edit("tags", "\n".join(texts))
+
+    def add(self, entry: str) -> int:
+        """Adds an entry behind all others, as `{name = "a", version = "1"}`: one table of TOML in a line."""
+        return self._edit("add", entry)
+
+    def put(self, number: int, entry: str) -> int:
+        """Puts an entry in place of that of a number."""
+        return self._edit("put", _number(number), entry)
+
+    def delete(self, number: int) -> int:
+        """Takes the entry of a number out. The number is never used again."""
+        return self._edit("del", _number(number))
+
+    def policy(self, name: str, policy: str) -> int:
+        """Says what packages of a name may be installed from: `any`, `wheel` (no sdist) or `source` (no wheel)."""
+        return self._edit("policy", name, policy)
+
+    def line(self, line: str) -> int:
+        """Makes the edit of a line, as `pylock select` reads it."""
+        return self._edit("line", line)
+
+    def answer(self) -> List[Pick]:
+        """What is to be installed; where there is a fault, PlanFault is raised."""
+        self._check()
+        return _picks(_native.session_answer(self._kept, True)[0])
+
+    def explain(self) -> Explanation:
+        """What becomes of the head and of each entry."""
+        self._check()
+        return _explanation(_native.session_explain(self._kept, True)[0])
+
+    @property
+    def judged(self) -> Tuple[int, ...]:
+        """The numbers that the last accepted edit judged, or the start where there was none; 0 is the head."""
+        self._check()
+        return tuple(_native.session_judged(self._kept))
+
+    def close(self) -> None:
+        """Gives the memory of the session back. Whatever else is asked of it raises ValueError then."""
+        self._check()
+        self._kept.close()
+
+    def __enter__(self) -> Session:
+        self._check()
+        return self
+
+    def __exit__(self, *error: Any) -> None:
+        self.close()
+
+
+def _number(number: int) -> int:
+    if not isinstance(number, int) or isinstance(number, bool):
+        raise TypeError("expected the number of an entry, not %s" % type(number).__name__)
+    return number
+
+
+def read_bytes(content: Any) -> bytes:
+    """Bytes that are given as such."""
+    if isinstance(content, (bytes, bytearray, memoryview)):
+        return bytes(content)
+    raise TypeError("expected a Lock or bytes, not %s" % type(content).__name__)
+
+
+class Lock(_OfThread):
+    """A lock: a valid `pylock.toml`.
+
+    >>> lock = Lock.read(b'''
+    ... lock-version = "1.0"
+    ... created-by = "me"
+    ... extras = ["Tests"]
+    ... [[packages]]
+    ... name = "a"
+    ... version = "1.0"
+    ... sdist = { url = "https://example.org/a-1.0.tar.gz", hashes = { sha256 = "00" } }
+    ... [[packages]]
+    ... name = "b"
+    ... marker = "'tests' in extras"
+    ... directory = { path = "./b" }
+    ... ''')
+    >>> lock.extras, [package.name for package in lock.packages]
+    (('tests',), ['a', 'b'])
+    >>> [(pick.name, pick.kind) for pick in lock.plan(Environment({}, []), extras=["tests"])]
+    [('a', 'sdist'), ('b', 'directory')]
+    >>> lock.plan(Environment({}, []), policies=[("a", "wheel")])
+    Traceback (most recent call last):
+        ...
+    pylock.PlanFault: entry 1 (`a`): no-file: wheels 0 sdist wheel
+
+    A lock stays on the thread that made it, and can't be copied or pickled.
+    """
+
+    __slots__ = ("_content", "_session", "_head", "_packages", "__weakref__")
+
+    def __init__(self, content: bytes) -> None:
+        self._of_this_thread()
+        self._content = read_bytes(content)
+        # the session on the environment that was asked for last, as it was started
+        self._session: Optional[Tuple[bytes, Session]] = (_NOTHING, Session(self._content, _NOTHING))
+        self._head: Any = None
+        self._packages: Optional[Tuple[Package, ...]] = None
+
+    @classmethod
+    def read(cls, source: Any) -> Lock:
+        """The lock of a file, by its path or its bytes. One that is refused raises InvalidLock."""
+        return cls(read_source(source))
+
+    # ---- what the lock says ----
+
+    @property
+    def packages(self) -> Tuple[Package, ...]:
+        """The entries, in order."""
+        self._check()
+        packages = self._packages
+        if packages is None:
+            sources: Dict[int, List[Pick]] = {}
+            for pick in self.files():
+                sources.setdefault(pick.id, []).append(pick)
+            packages = self._packages = tuple(
+                Package(entry.id, entry.name or "", entry.version, tuple(sources.get(entry.id, ())))
+                for entry in self._started(_NOTHING).explain().entries
+            )
+        return packages
+
+    def _head_of(self) -> Any:
+        self._check()
+        head = self._head
+        if head is None:
+            head = self._head = _native.lock_head(self._content)
+        return head
+
+    @property
+    def extras(self) -> Tuple[str, ...]:
+        """The extras that can be asked for, in normal form."""
+        return self._head_of().extras
+
+    @property
+    def dependency_groups(self) -> Tuple[str, ...]:
+        """The dependency groups that can be asked for, in normal form."""
+        return self._head_of().dependency_groups
+
+    @property
+    def default_groups(self) -> Tuple[str, ...]:
+        """The groups that are asked for where nothing is said, in normal form."""
+        return self._head_of().default_groups
+
+    @property
+    def requires_python(self) -> Any:
+        """The SpecifierSet of Pythons that the lock is for, or None."""
+        from .specifiers import SpecifierSet
+
+        text = self._head_of().requires_python
+        return None if text is None else SpecifierSet(text)
+
+    @property
+    def environments(self) -> Tuple[Any, ...]:
+        """The Markers of the environments that the lock is for; empty where it is for all."""
+        from .markers import Marker
+
+        return tuple(Marker(text) for text in self._head_of().environments)
+
+    # ---- what becomes of it ----
+
+    def _started(self, environment: bytes) -> Session:
+        """A session on the environment with nothing edited: the one that is kept, or a new one."""
+        kept = self._session
+        if kept is None or kept[0] != environment:
+            kept = self._session = (environment, Session(self._content, environment))
+        return kept[1]
+
+    def _edited(
+        self,
+        environment: AnyEnvironment,
+        extras: Iterable[str],
+        groups: Iterable[str],
+        policies: Iterable[Tuple[str, str]],
+        without_groups: Iterable[str],
+        all_extras: bool,
+        all_groups: bool,
+        default_groups: bool,
+        variables: Optional[Mapping[str, str]],
+    ) -> Session:
+        """A session with the edits that the options mean, in the order of the command line's table."""
+        self._check()
+        for names in (extras, groups, without_groups):
+            if isinstance(names, str):
+                raise TypeError("expected a list of names, not a str")
+        edits: List[Tuple[str, ...]] = []
+        if all_extras:
+            edits += [("add_extra", name) for name in self.extras]
+        edits += [("add_extra", name) for name in extras]
+        if not default_groups:
+            edits += [("drop_group", name) for name in self.default_groups]
+        if all_groups:
+            edits += [("add_group", name) for name in (*self.dependency_groups, *self.default_groups)]
+        edits += [("add_group", name) for name in groups]
+        edits += [("drop_group", name) for name in without_groups]
+        for name, policy in policies:
+            names = [package.name for package in self.packages] if name == ":all:" else [name]
+            edits += [("policy", each, policy) for each in names]
+        edits += [("set", name, value) for name, value in (variables or {}).items()]
+        session = self._started(environment_bytes(environment))
+        if edits:
+            # what is edited isn't kept for the next question
+            self._session = None
+            for edit in edits:
+                session._edit(*edit)
+        return session
+
+    def plan(
+        self,
+        environment: AnyEnvironment,
+        *,
+        extras: Iterable[str] = (),
+        groups: Iterable[str] = (),
+        policies: Iterable[Tuple[str, str]] = (),
+        without_groups: Iterable[str] = (),
+        all_extras: bool = False,
+        all_groups: bool = False,
+        default_groups: bool = True,
+        variables: Optional[Mapping[str, str]] = None,
+    ) -> List[Pick]:
+        """What is to be installed in the environment: an Environment, a mapping of its form, or the bytes of its JSON.
+
+        The options ask for more or less than the lock's defaults: extras; dependency groups, and these without some,
+        without the lock's default groups, or all of them; for packages of a name, or of `:all:`, the policy `any`,
+        `wheel` (no sdist) or `source` (no wheel), of which the last counts; and texts for variables of markers.
+
+        Raises PlanFault where the lock can't be installed so, InvalidEdit where an option is refused, and
+        InvalidEnvironment where the environment is.
+        """
+        return self._edited(
+            environment, extras, groups, policies, without_groups, all_extras, all_groups, default_groups, variables
+        ).answer()
+
+    def explain(
+        self,
+        environment: AnyEnvironment,
+        *,
+        extras: Iterable[str] = (),
+        groups: Iterable[str] = (),
+        policies: Iterable[Tuple[str, str]] = (),
+        without_groups: Iterable[str] = (),
+        all_extras: bool = False,
+        all_groups: bool = False,
+        default_groups: bool = True,
+        variables: Optional[Mapping[str, str]] = None,
+    ) -> Explanation:
+        """What becomes of the head and of each entry, with the options of `plan`."""
+        return self._edited(
+            environment, extras, groups, policies, without_groups, all_extras, all_groups, default_groups, variables
+        ).explain()
+
+    def files(self) -> List[Pick]:
+        """Every source that the lock names, whatever machine it is for."""
+        self._check()
+        return [_pick(source) for source in json.loads(_native.files(self._content, True)[0])["files"]]
+
+    def audit(self) -> List[Finding]:
+        """What a careful reader of the lock would want to be told, though it is valid."""
+        self._check()
+        return [
+            Finding(finding["id"], finding.get("name"), finding["finding"], finding.get("detail"))
+            for finding in json.loads(_native.audit(self._content, True)[0])["findings"]
+        ]

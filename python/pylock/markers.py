@@ -1,0 +1,309 @@
+"""Markers (PEP 508), with the names and meanings of `packaging.markers`.
+
+    >>> from pylock.markers import Marker
+    >>> Marker("python_version >= '3.8'").evaluate()
+    True
+
+What is different: a marker is refused where it has `os.name` or another old spelling of a variable, a backslash in a
+quoted text, more than 64 open parentheses, or `extras` and `dependency_groups` elsewhere than right of `in` or
+`not in`. Two texts are compared as versions where the left one is a version and the right one an operand, and as texts
+otherwise; `packaging` refuses a left one that isn't a version. Two variables are compared by their values. A marker
+can't be changed.
+"""
+
+from __future__ import annotations
+
+import functools
+import os
+import platform
+import re
+import sys
+from typing import Any, Dict, FrozenSet, Iterable, List, Mapping, Optional, Tuple, Union
+
+from . import _native
+from ._environment import Environment, variables_text
+from ._errors import InvalidMarker, InvalidName, MarkerFault, UndefinedComparison, UndefinedEnvironmentName
+from .utils import canonicalize_name
+
+__all__ = [
+    "InvalidMarker",
+    "Marker",
+    "MarkerFault",
+    "UndefinedComparison",
+    "UndefinedEnvironmentName",
+    "default_environment",
+]
+
+_WHITE = " \t\n\v\f\r"
+# a token of a marker that is one; the first group has the text of a quotation
+_TOKEN = re.compile(r"[ \t\n\v\f\r]*(?:[\"']|[()]|[=!<>~]+|[A-Za-z0-9_]+)")
+
+_Atom = Tuple[str, str, str]
+
+
+def default_environment() -> Dict[str, str]:
+    """The variables of the running Python.
+
+    >>> sorted(default_environment())[:3]
+    ['implementation_name', 'implementation_version', 'os_name']
+    """
+    info = sys.implementation.version
+    implementation_version = "%d.%d.%d" % info[:3]
+    if info.releaselevel != "final":
+        implementation_version += "%s%d" % (info.releaselevel[0], info.serial)
+    return {
+        "implementation_name": sys.implementation.name,
+        "implementation_version": implementation_version,
+        "os_name": os.name,
+        "platform_machine": platform.machine(),
+        "platform_release": platform.release(),
+        "platform_system": platform.system(),
+        "platform_version": platform.version(),
+        "python_full_version": platform.python_version(),
+        "platform_python_implementation": platform.python_implementation(),
+        "python_version": ".".join(platform.python_version_tuple()[:2]),
+        "sys_platform": sys.platform,
+    }
+
+
+def running_variables() -> Dict[str, str]:
+    """The variables of the running Python as markers read them.
+
+    A Python that is built from its repository is 3.13.0+, which is no version: it is read as 3.13.0+local.
+    """
+    variables = default_environment()
+    if variables["python_full_version"].endswith("+"):
+        variables["python_full_version"] += "local"
+    return variables
+
+
+@functools.lru_cache(maxsize=64)
+def _environment(
+    laid_over: FrozenSet[Tuple[str, str]], running: bool, extras: FrozenSet[str], groups: FrozenSet[str]
+) -> _native.KeptEnvironment:
+    """The variables, over those of the running Python where it is asked, kept for the next time."""
+    variables = running_variables() if running else {}
+    variables.update(laid_over)
+    kept = _native.environment_read(variables_text(variables, ()))
+    _native.environment_add(kept, sorted(extras), sorted(groups))
+    return kept
+
+
+_NONE: FrozenSet[Any] = frozenset()
+
+
+def _mapped(mapping: Optional[Mapping[str, Any]], running: bool) -> _native.KeptEnvironment:
+    """The environment of a mapping, whose sets `extras` and `dependency_groups` are asked for."""
+    if mapping is None:
+        return _environment(_NONE, running, _NONE, _NONE)
+    if not isinstance(mapping, Mapping):
+        raise TypeError("expected an Environment or a mapping, not %s" % type(mapping).__name__)
+    variables = []
+    sets: Dict[str, FrozenSet[str]] = {}
+    for name, value in mapping.items():
+        if name in ("extras", "dependency_groups"):
+            sets[name] = frozenset((value,) if isinstance(value, str) else value)
+        elif name != "extra":
+            if not isinstance(value, str):
+                raise TypeError("%s: expected a str, not %s" % (name, type(value).__name__))
+            variables.append((name, value))
+    return _environment(
+        frozenset(variables), running, sets.get("extras", _NONE), sets.get("dependency_groups", _NONE)
+    )
+
+
+# ---- the text of a marker that is one, in pieces ----
+
+
+def _tokens(text: str) -> List[str]:
+    """The tokens; of a quoted text with its signs."""
+    tokens = []
+    place, end = 0, len(text)
+    while place < end:
+        match = _TOKEN.match(text, place)
+        if match is None:
+            # white space at the end
+            break
+        token = match.group().lstrip(_WHITE)
+        place = match.end()
+        if token in "\"'":
+            close = text.index(token, place)
+            token = text[place - 1 : close + 1]
+            place = close + 1
+        tokens.append(token)
+    return tokens
+
+
+def _atoms(tokens: List[str], place: int) -> Tuple[List[Any], int]:
+    """Atoms with `and` and `or` between them, up to the end or a `)`: an atom is a list or a comparison."""
+    found: List[Any] = []
+    while True:
+        if tokens[place] == "(":
+            inner, place = _atoms(tokens, place + 1)
+            found.append(inner)
+            place += 1
+        else:
+            left, operator = tokens[place], tokens[place + 1]
+            place += 2
+            if operator == "not":
+                operator = "not in"
+                place += 1
+            found.append((left, operator, tokens[place]))
+            place += 1
+        if place == len(tokens) or tokens[place] == ")":
+            return found, place
+        found.append(tokens[place])
+        place += 1
+
+
+def _quoted(text: str) -> str:
+    """The text in quotation marks that it doesn't have itself."""
+    sign = "'" if '"' in text else '"'
+    if sign in text:
+        raise InvalidName("name is invalid: %r" % text, word="name")
+    return sign + text + sign
+
+
+def _operand(operand: str) -> str:
+    return _quoted(operand[1:-1]) if operand[0] in "\"'" else operand
+
+
+def _normal_extra(atom: _Atom) -> _Atom:
+    """The comparison, where it is one of `extra`, with the other side in normal form."""
+    left, operator, right = atom
+    if left == "extra" and right[0] in "\"'":
+        right = _quoted(canonicalize_name(right[1:-1]))
+    elif right == "extra" and left[0] in "\"'":
+        left = _quoted(canonicalize_name(left[1:-1]))
+    return left, operator, right
+
+
+def _format(marker: Any, outermost: bool = True) -> str:
+    """The text that `packaging` writes for it."""
+    if isinstance(marker, str):
+        return marker
+    if isinstance(marker, tuple):
+        left, operator, right = marker
+        return "%s %s %s" % (_operand(left), operator, _operand(right))
+    if len(marker) == 1:
+        return _format(marker[0], outermost)
+    inner = " ".join([_format(piece, False) for piece in marker])
+    return inner if outermost else "(%s)" % inner
+
+
+@functools.lru_cache(maxsize=256)
+def _with_extra(text: str, extra: str) -> _native.KeptMarker:
+    """The marker with the text of `extra` in its place, and in normal form what is compared with it."""
+
+    def replaced(marker: Any) -> Any:
+        if isinstance(marker, list):
+            return [replaced(piece) for piece in marker]
+        if isinstance(marker, tuple):
+            left, operator, right = _normal_extra(marker)
+            return tuple(value if operand == "extra" else operand for operand in (left, operator, right))
+        return marker
+
+    value = _quoted(canonicalize_name(extra))
+    return _native.marker_parse(_format(replaced(_atoms(_tokens(text), 0)[0])))
+
+
+class Marker:
+    """A marker.
+
+    >>> marker = Marker("python_version>='3.8' and (os_name=='posix' or extra=='Test_x')")
+    >>> str(marker)
+    'python_version >= "3.8" and (os_name == "posix" or extra == "Test_x")'
+    >>> marker.evaluate({"python_version": "3.12", "os_name": "nt"}, extra="test-x")
+    True
+    >>> Marker("os_name = 'nt'")
+    Traceback (most recent call last):
+        ...
+    pylock.markers.InvalidMarker: Invalid marker: "os_name = 'nt'"
+
+    `text` is the text as it was given; `str` writes it anew as `packaging` does, and markers are equal where that is.
+    """
+
+    __slots__ = ("_given", "_kept", "_string", "_reads_extra", "__weakref__")
+
+    def __init__(self, marker: str) -> None:
+        self._kept = _native.marker_parse(marker)
+        self._given = marker
+        self._string: Optional[str] = None
+        self._reads_extra: Optional[bool] = None if "extra" in marker else False
+
+    @property
+    def text(self) -> str:
+        """The text as it was given, without the white space round it."""
+        return self._given.strip(_WHITE)
+
+    def __str__(self) -> str:
+        string = self._string
+        if string is None:
+            atoms = _atoms(_tokens(self._given), 0)[0]
+            if isinstance(atoms[0], tuple):
+                atoms[0] = _normal_extra(atoms[0])
+            string = self._string = _format(atoms)
+        return string
+
+    def __repr__(self) -> str:
+        return "<Marker('%s')>" % self
+
+    def __hash__(self) -> int:
+        return hash(("Marker", str(self)))
+
+    def __eq__(self, other: object) -> bool:
+        if not isinstance(other, Marker):
+            return NotImplemented
+        return str(self) == str(other)
+
+    def __copy__(self) -> Marker:
+        return self
+
+    def __deepcopy__(self, memo: Any) -> Marker:
+        return self
+
+    def __reduce__(self) -> Tuple[Any, ...]:
+        return type(self), (self.text,)
+
+    def evaluate(
+        self, environment: Union[Environment, Mapping[str, Any], None] = None, *, extra: Optional[str] = None
+    ) -> bool:
+        """The value of the marker: in the running Python with the mapping laid over its variables, or in a kept
+        `Environment` as it is.
+
+        >>> Marker("sys_platform == 'win32'").evaluate({"sys_platform": "win32"})
+        True
+        >>> Marker("extra == 'tests'").evaluate(extra="Tests")
+        True
+
+        The operand `extra` is the text of `extra`, else of the mapping's `extra`, else empty, in normal form. The
+        mapping's `extras` and `dependency_groups` are sets of names. The variables of the running Python are read
+        once, and mappings that come again are kept for some time.
+
+        Raises UndefinedEnvironmentName where a variable isn't set, UndefinedComparison where `~=` or `===` compares
+        what isn't a version, and MarkerFault where a version has a number past 128 bits.
+        """
+        if isinstance(environment, Environment):
+            kept = environment._kept
+        else:
+            kept = _mapped(environment, True)
+            if extra is None and environment is not None:
+                extra = environment.get("extra")
+        reads_extra = self._reads_extra
+        if reads_extra is None:
+            reads_extra = self._reads_extra = "extra" in _tokens(self._given)
+        if reads_extra:
+            return _native.marker_evaluate(_with_extra(self._given, extra or ""), kept, self._given)
+        return _native.marker_evaluate(self._kept, kept, self._given)
+
+    def evaluate_exactly(self, environment: Union[Environment, Mapping[str, Any]]) -> bool:
+        """The value of the marker in exactly this environment, as the installation steps of a lock want it: nothing
+        stands under a mapping, and to read `extra` is a fault.
+
+        >>> Marker("os_name == 'nt'").evaluate_exactly({})
+        Traceback (most recent call last):
+            ...
+        pylock.markers.UndefinedEnvironmentName: Marker without a value: "os_name == 'nt'" (it reads a variable that isn't set)
+        """
+        kept = environment._kept if isinstance(environment, Environment) else _mapped(environment, False)
+        return _native.marker_evaluate(self._kept, kept, self._given)

@@ -1,0 +1,34 @@
+"""Runs the tests, and counts them in the last line as the other tests of the repository do."""
+
+import os
+import sys
+import time
+import unittest
+
+from support import HERE, reference
+
+
+def main():
+    start = time.monotonic()
+    library = reference()
+    print("python: Python %s, %s" % (
+        sys.version.split()[0], "%s %s" % (library.__name__, library.__version__) if library else "no packaging library",
+    ))
+    sys.stdout.flush()
+    loader = unittest.TestLoader()
+    names = sys.argv[1:]
+    tests = loader.loadTestsFromNames(names) if names else loader.discover(HERE, top_level_dir=HERE)
+    result = unittest.TextTestRunner(stream=sys.stdout, verbosity=2).run(tests)
+    # each row of a test that fails is in these lists: a test counts once
+    whole = {getattr(test, "test_case", test) for test, _ in result.failures + result.errors}
+    failed = len(whole)
+    skipped = len(result.skipped)
+    passed = result.testsRun - failed - skipped
+    print("python: %.0f seconds" % (time.monotonic() - start))
+    print("python: %d passed, %d failed%s" % (passed, failed, ", %d skipped" % skipped if skipped else ""))
+    return 1 if failed else 0
+
+
+if __name__ == "__main__":
+    sys.path.insert(0, HERE)
+    sys.exit(main())

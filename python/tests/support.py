@@ -1,0 +1,69 @@
+"""What the tests share: the library `packaging` where there is one, and the files of this repository."""
+
+import contextlib
+import importlib
+import os
+import sys
+
+HERE = os.path.dirname(os.path.abspath(__file__))
+PYTHON = os.path.dirname(HERE)
+TOP = os.path.dirname(PYTHON)
+if PYTHON not in sys.path and not os.environ.get("PYLOCK_INSTALLED"):
+    sys.path.insert(0, PYTHON)
+
+
+def reference():
+    """The library `packaging`, or the copy of it in pip; None where there is neither."""
+    for name in ("packaging", "pip._vendor.packaging"):
+        try:
+            found = importlib.import_module(name)
+            for part in ("version", "specifiers", "markers", "requirements", "utils", "tags"):
+                importlib.import_module("%s.%s" % (name, part))
+            return found
+        except ImportError:
+            continue
+    return None
+
+
+def release(library):
+    """The release of the library, as a tuple."""
+    return tuple(int(piece) for piece in library.__version__.split(".")[:2])
+
+
+def toml():
+    """A reader of TOML, or None: that of the standard library, or the copy in pip."""
+    for name in ("tomllib", "pip._vendor.tomli"):
+        try:
+            return importlib.import_module(name)
+        except ImportError:
+            continue
+    return None
+
+
+def program():
+    """The built program, or None."""
+    path = os.path.join(TOP, "crates", "pylock", "out", "pylock")
+    return path if os.access(path, os.X_OK) else None
+
+
+def text_of(*names):
+    """The text of a file of the repository."""
+    with open(os.path.join(TOP, *names), encoding="utf-8") as file:
+        return file.read()
+
+
+def bytes_of(*names):
+    """The bytes of a file of the repository."""
+    with open(os.path.join(TOP, *names), "rb") as file:
+        return file.read()
+
+
+@contextlib.contextmanager
+def refused(test, error, word=None, place=None):
+    """The block has to be refused by this error, with this word and place."""
+    with test.assertRaises(error) as caught:
+        yield caught
+    if word is not None:
+        test.assertEqual(caught.exception.word, word)
+    if place is not None:
+        test.assertEqual(caught.exception.place, place)

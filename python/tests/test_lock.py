@@ -1,0 +1,151 @@
+"""Locks, plans, sessions: every public call."""
+
+import json
+import random
+import subprocess
+import tempfile
+import unittest
+
+from support import program, refused
+from test_manners import LINUX, LOCK, linux
+from test_worked import answer
+
+import pylock
+
+
+class Locks(unittest.TestCase):
+    def test_head(self):
+        lock = pylock.Lock.read(LOCK)
+        self.assertEqual(lock.extras, ("x-y", "z"))
+        self.assertEqual(lock.dependency_groups, ("dev", "doc"))
+        self.assertEqual(lock.default_groups, ("main",))
+        self.assertEqual(lock.requires_python, pylock.SpecifierSet(">=3.8"))
+        self.assertEqual(lock.environments, (pylock.Marker("sys_platform == 'linux'"), pylock.Marker("sys_platform == 'win32'")))
+        bare = pylock.Lock.read(b'lock-version = "1.0"\ncreated-by = "t"\n')
+        self.assertEqual((bare.extras, bare.requires_python, bare.environments, bare.packages), ((), None, (), ()))
+
+    def test_packages(self):
+        packages = pylock.Lock.read(LOCK).packages
+        self.assertEqual([(one.id, one.name, one.version) for one in packages], [(1, "a", "1"), (2, "b", None), (3, "c", None), (4, "d", None)])
+        self.assertEqual([[pick.kind for pick in one.sources] for one in packages], [["wheel", "sdist"], ["editable"], ["vcs"], ["archive"]])
+
+    def test_plan(self):
+        lock = pylock.Lock.read(LOCK)
+        wheel = pylock.Pick(
+            1, "a", "1", "wheel", "a-1-py3-none-any.whl", "w/a-1-py3-none-any.whl", None, "w/a-1-py3-none-any.whl", {"sha256": "00"}, None, None
+        )
+        sdist = pylock.Pick(1, "a", "1", "sdist", "a-1.tar.gz", "https://h/a-1.tar.gz", "https://h/a-1.tar.gz", None, {}, None, None)
+        editable = pylock.Pick(2, "b", None, "editable", None, "b", None, "b", {}, None, "s")
+        vcs = pylock.Pick(3, "c", None, "vcs", None, "https://h/c.git", "https://h/c.git", None, {}, ("git", "f0"), None)
+        archive = pylock.Pick(4, "d", None, "archive", None, "d.zip", None, "d.zip", {}, None, None)
+        plain = {"environment": LINUX, "tags": ["py3-none-any"]}
+        for environment in (linux(), plain, json.dumps(plain).encode()):
+            self.assertEqual(lock.plan(environment), [wheel, vcs])
+        for options, picks in (
+            ({"extras": ["X.Y"]}, [wheel, editable, vcs]), ({"all_extras": True}, [wheel, editable, vcs]), ({"default_groups": False}, [wheel]),
+            ({"groups": ["DEV"]}, [wheel, vcs, archive]), ({"all_groups": True, "without_groups": ["main"]}, [wheel, archive]),
+            ({"policies": [("A", "source")]}, [sdist, vcs]), ({"policies": [(":all:", "source"), ("a", "wheel")]}, [wheel, vcs]),
+            ({"variables": {"sys_platform": "win32"}}, [wheel, vcs]),
+        ):
+            with self.subTest(str(options)):
+                self.assertEqual(lock.plan(linux(), **options), picks)
+                self.assertEqual(lock.plan(linux()), [wheel, vcs])
+        self.assertEqual(lock.plan(linux([])), [sdist, vcs])
+        self.assertEqual([pick.kind for pick in lock.files()], ["wheel", "sdist", "editable", "vcs", "archive"])
+
+    def test_faults(self):
+        lock = pylock.Lock.read(LOCK)
+        with self.assertRaises(pylock.PlanFault) as caught:
+            lock.plan(linux([]), policies=[("a", "wheel")])
+        fault = caught.exception
+        self.assertEqual((fault.id, fault.name, fault.code, fault.detail), (1, "a", "no-file", "wheels 1 sdist wheel"))
+        self.assertEqual(str(fault), "entry 1 (`a`): no-file: wheels 1 sdist wheel")
+        with self.assertRaises(pylock.PlanFault) as caught:
+            lock.plan(linux(), variables={"sys_platform": "darwin"})
+        fault = caught.exception
+        self.assertEqual((fault.id, fault.name, fault.code, fault.detail), (0, None, "no-environment", None))
+        self.assertEqual(str(fault), "the head of the lock: no-environment")
+
+    def test_explain(self):
+        told = pylock.Lock.read(LOCK).explain(linux(), extras=["x-y"])
+        self.assertEqual(told.head, pylock.Verdict(0, None, None, "ok", None))
+        self.assertEqual(
+            [(one.id, one.name, one.version, one.verdict, one.detail) for one in told.entries],
+            [(1, "a", "1", "wheel", "a-1-py3-none-any.whl py3-none-any"), (2, "b", None, "editable", "b"), (3, "c", None, "vcs", "https://h/c.git"),
+             (4, "d", None, "skipped", "'dev' in dependency_groups")],
+        )
+
+    def test_audit(self):
+        findings = pylock.Lock.read(LOCK).audit()
+        self.assertIn(pylock.Finding(4, "d", "no-hash", "archive d.zip"), findings)
+        self.assertTrue(all(finding.finding for finding in findings))
+
+    def test_session(self):
+        session = pylock.Session(pylock.Lock.read(LOCK), linux())
+        names = lambda: [pick.name for pick in session.answer()]
+        self.assertEqual((names(), session.judged), (["a", "c"], (0, 1, 2, 3, 4)))
+        for edit, judged, expected in (
+            (lambda: session.add_extra("x.y"), 1, ["a", "b", "c"]), (lambda: session.drop_extra("X-Y"), 1, ["a", "c"]),
+            (lambda: session.add_group("dev"), 2, ["a", "c", "d"]), (lambda: session.drop_group("main"), 2, ["a", "d"]),
+            (lambda: session.set("sys_platform", "win32"), 1, ["a", "d"]), (lambda: session.policy("A", "source"), 1, ["a", "d"]),
+            (lambda: session.tags([]), 1, ["a", "d"]), (lambda: session.tags(["py3-none-any", pylock.Tag("cp312", "cp312", "any")]), 1, ["a", "d"]),
+            (lambda: session.add('{name = "e", directory = {path = "e"}}'), 1, ["a", "d", "e"]),
+            (lambda: session.put(5, '{name = "f", directory = {path = "e"}}'), 1, ["a", "d", "f"]), (lambda: session.delete(5), 0, ["a", "d"]),
+            (lambda: session.line("policy a any"), 1, ["a", "d"]), (lambda: session.line("show"), 0, ["a", "d"]),
+        ):
+            self.assertEqual(edit(), judged)
+            self.assertEqual(names(), expected)
+        session.unset("python_full_version")
+        self.assertEqual(session.judged, (0,))
+        with self.assertRaises(pylock.PlanFault) as caught:
+            session.answer()
+        self.assertEqual((caught.exception.id, caught.exception.code), (0, "python-unknown"))
+        self.assertEqual(session.explain().head.verdict, "python-unknown")
+
+
+class Random(unittest.TestCase):
+    """A thousand edits beside `pylock select` on the same lines."""
+
+    WORDS = {
+        "extra+": ["x-y", "X.y", "z", "w", ""], "extra-": ["x-y", "z", "-"], "group+": ["dev", "doc", "main", "x"], "group-": ["Dev", "main", ""],
+        "set": ["sys_platform linux", "sys_platform win32", "python_full_version 3.12.4", "os_name ", "os.name x", "sys_platform"],
+        "unset": ["python_full_version", "os_name", "x"], "tags": ["", "py3-none-any", "cp312-cp312-any py3-none-any", "py3"],
+        "policy": ["a wheel", "a source", "A any", "b wheel", "- any", "a both"],
+        "add": ['{name = "e", directory = {path = "e"}}', '{name = "a", version = "2", marker = "sys_platform == \'win32\'", sdist = {path = "s"}}', "5", '{name = "-"}'],
+        "del": ["1", "2", "6", "8", "0", "x"],
+        "put": ['1 {name = "a", version = "1", sdist = {path = "a-1.tar.gz"}}', '3 {name = "c\\tc", directory = {path = "c"}}', '4 {name = "d", directory = {path = "-"}}', "9 5"],
+        "show": [], "fly": ["x"],
+    }
+
+    def lines(self):
+        dice = random.Random(751)
+        for _ in range(1000):
+            command = dice.choice(list(self.WORDS))
+            arguments = self.WORDS[command]
+            yield command + " " + dice.choice(arguments) if arguments else command
+
+    def test_beside_the_program(self):
+        if program() is None:
+            self.skipTest("crates/pylock/out/pylock isn't built")
+        lines = list(self.lines())
+        session = pylock.Session(LOCK, linux())
+        report = [answer(session)[0]]
+        for number, line in enumerate(lines, 1):
+            try:
+                session.line(line)
+                report.append(answer(session)[0])
+            except pylock.InvalidEdit as refusal:
+                report.append("refused %d\t%s\n" % (number, refusal.word))
+        with tempfile.NamedTemporaryFile() as lock, tempfile.NamedTemporaryFile() as environment:
+            lock.write(LOCK)
+            lock.flush()
+            environment.write(json.dumps(linux()).encode())
+            environment.flush()
+            printed = subprocess.run(
+                [program(), "select", lock.name, environment.name], input="".join(line + "\n" for line in lines).encode(), stdout=subprocess.PIPE
+            ).stdout.decode()
+        self.assertEqual("".join(report), printed)
+
+
+if __name__ == "__main__":
+    unittest.main()

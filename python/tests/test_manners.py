@@ -1,0 +1,314 @@
+"""Refusals, wrong types, copies, pickles, closing, and the end of the interpreter."""
+
+import copy
+import json
+import os
+import pickle
+import subprocess
+import sys
+import threading
+import unittest
+
+from support import PYTHON, refused
+
+import pylock
+from pylock import _native
+
+LOCK = b"""
+lock-version = "1.0"
+created-by = "t"
+extras = ["X_y", "x-y", "z"]
+dependency-groups = ["Dev", "doc"]
+default-groups = ["main"]
+requires-python = ">= 3.8"
+environments = ["sys_platform == 'linux'", "sys_platform == 'win32'"]
+packages = [
+    {name = "a", version = "1", wheels = [{path = "w/a-1-py3-none-any.whl", hashes = {sha256 = "00"}}], sdist = {url = "https://h/a-1.tar.gz"}},
+    {name = "b", marker = "'x-y' in extras", directory = {path = "b", editable = true, subdirectory = "s"}},
+    {name = "c", marker = "'main' in dependency_groups", vcs = {type = "git", url = "https://h/c.git", commit-id = "f0"}},
+    {name = "d", marker = "'dev' in dependency_groups", archive = {path = "d.zip"}},
+]
+"""
+LINUX = {"sys_platform": "linux", "python_full_version": "3.12.4"}
+
+
+def linux(tags=("py3-none-any",)):
+    return pylock.Environment(LINUX, tags)
+
+
+UNCHANGING = [
+    pylock.Version("1.0-RC1"),
+    pylock.Specifier(">= 1.0"),
+    pylock.Specifier(">=1.0", prereleases=True),
+    pylock.SpecifierSet(">=1.0, <2"),
+    pylock.SpecifierSet("", prereleases=False),
+    pylock.Marker("os_name=='nt' or extra == 'x'"),
+    pylock.Requirement("A_b[x] >=1 ; os_name == 'nt'"),
+    pylock.Tag("py3", "none", "any"),
+]
+
+
+class Refusals(unittest.TestCase):
+    def test_words(self):
+        for call, text, error, word in (
+            (pylock.Version, "1.x", pylock.InvalidVersion, "syntax"),
+            (pylock.Version, str(2**128), pylock.InvalidVersion, "number"),
+            (pylock.version_key, "x", pylock.InvalidVersion, "syntax"),
+            (pylock.SpecifierSet, ">=x", pylock.InvalidSpecifier, "syntax"),
+            (pylock.SpecifierSet, "<%d" % 2**128, pylock.InvalidSpecifier, "number"),
+            (pylock.Specifier, ">=1,<2", pylock.InvalidSpecifier, "syntax"),
+            (pylock.Marker, "os_name", pylock.InvalidMarker, "syntax"),
+            (pylock.Marker, "(" * 65, pylock.InvalidMarker, "too-deep"),
+            (pylock.Marker, "extras == 'a'", pylock.InvalidMarker, "set-misuse"),
+            (pylock.Requirement, "-a", pylock.InvalidRequirement, "name"),
+            (pylock.Requirement, "a[b", pylock.InvalidRequirement, "extras"),
+            (pylock.Requirement, "a x", pylock.InvalidRequirement, "specifier"),
+            (pylock.Requirement, "a @", pylock.InvalidRequirement, "url"),
+            (pylock.Requirement, "a ;", pylock.InvalidRequirement, "marker"),
+            (pylock.Requirement, "a @ u v", pylock.InvalidRequirement, "trailing"),
+            (pylock.parse_wheel_filename, "a.zip", pylock.InvalidWheelFilename, "extension"),
+            (pylock.parse_wheel_filename, "a.whl", pylock.InvalidWheelFilename, "parts"),
+            (pylock.parse_wheel_filename, "a__b-1-py3-none-any.whl", pylock.InvalidWheelFilename, "name"),
+            (pylock.parse_wheel_filename, "a-x-py3-none-any.whl", pylock.InvalidWheelFilename, "version"),
+            (pylock.parse_wheel_filename, "a-1-x-py3-none-any.whl", pylock.InvalidWheelFilename, "build"),
+            (pylock.parse_wheel_filename, "a-1-py3..py2-none-any.whl", pylock.InvalidWheelFilename, "tags"),
+            (pylock.parse_sdist_filename, "a-1.tar", pylock.InvalidSdistFilename, "extension"),
+            (pylock.parse_tag, "py3", pylock.InvalidTag, "tag"),
+        ):
+            with self.subTest(text[:40]):
+                with refused(self, error, word) as caught:
+                    call(text)
+                self.assertIsInstance(caught.exception, ValueError)
+                self.assertIsInstance(caught.exception, pylock.Refusal)
+                self.assertTrue(str(caught.exception))
+                again = pickle.loads(pickle.dumps(caught.exception))
+                self.assertEqual((type(again), str(again), again.word), (error, str(caught.exception), word))
+
+    def test_half_a_character(self):
+        for call, error in (
+            (pylock.Version, pylock.InvalidVersion), (pylock.SpecifierSet, pylock.InvalidSpecifier), (pylock.Marker, pylock.InvalidMarker),
+            (pylock.Requirement, pylock.InvalidRequirement), (pylock.parse_wheel_filename, pylock.InvalidWheelFilename),
+        ):
+            with refused(self, error, "syntax"):
+                call("1\ud800")
+        self.assertFalse(pylock.is_normalized_name("a\ud800"))
+
+    def test_locks(self):
+        with refused(self, pylock.InvalidLock, "entry", 1) as caught:
+            pylock.Lock.read(LOCK.replace(b"'x-y' in extras", b"x").replace(b'name = "a", version = "1"', b'name = "a", version = 1'))
+        self.assertEqual(caught.exception.words, ("entry", "1", "version"))
+        with refused(self, pylock.InvalidLock, "head", "extras") as caught:
+            pylock.Lock.read(LOCK.replace(b'["X_y"', b'["-"'))
+        self.assertEqual(caught.exception.words, ("head", "extras"))
+        with refused(self, pylock.InvalidLock, "not-text"):
+            pylock.Lock.read(b"\xff")
+        with refused(self, pylock.InvalidEnvironment, "tag", 2):
+            pylock.Environment({}, ["py3-none-any", "py3"])
+        with refused(self, pylock.InvalidEnvironment, "json"):
+            pylock.Environment.read(b"{")
+        with refused(self, pylock.InvalidEnvironment, "shape"):
+            pylock.Lock.read(LOCK).plan({"environment": {}})
+        with self.assertRaises(OSError):
+            pylock.Lock.read("/no/such/lock")
+
+    def test_options(self):
+        lock = pylock.Lock.read(LOCK)
+        for options, word in (
+            ({"extras": ["w"]}, "extra"), ({"groups": ["w"]}, "group"), ({"without_groups": ["w"]}, "group"),
+            ({"policies": [("-", "wheel")]}, "name"), ({"policies": [("a", "both")]}, "argument"), ({"variables": {"os.name": "x"}}, "variable"),
+        ):
+            with refused(self, pylock.InvalidEdit, word):
+                lock.plan(linux(), **options)
+            # a refused question leaves nothing behind
+            self.assertEqual([pick.name for pick in lock.plan(linux())], ["a", "c"])
+
+    def test_session_unchanged(self):
+        session = pylock.Session(LOCK, linux())
+        before = session.answer(), session.explain(), session.judged
+        for edit, word in (
+            (lambda: session.set("os.name", "x"), "variable"), (lambda: session.unset("x"), "variable"), (lambda: session.add_extra("w"), "extra"),
+            (lambda: session.drop_group("w"), "group"), (lambda: session.tags(["py3"]), "tag"), (lambda: session.tags([""]), "tag"),
+            (lambda: session.tags(["a-b-c\nd-e-f"]), "tag"), (lambda: session.add("5"), "toml"), (lambda: session.add('{name="-"}'), "entry"),
+            (lambda: session.put(9, '{name="a"}'), "no-entry"), (lambda: session.put(-1, '{name="a"}'), "no-entry"),
+            (lambda: session.delete(2**32 + 1), "no-entry"), (lambda: session.policy("a", "both"), "argument"),
+            (lambda: session.policy("-", "any"), "name"), (lambda: session.line("fly"), "command"), (lambda: session.line("del x"), "argument"),
+            (lambda: session.line(""), "command"), (lambda: session.line("show \ud800"), "syntax"),
+        ):
+            with refused(self, pylock.InvalidEdit, word):
+                edit()
+            self.assertEqual((session.answer(), session.explain(), session.judged), before)
+
+    def test_types(self):
+        for call in (pylock.Version, pylock.SpecifierSet, pylock.Marker, pylock.Requirement, pylock.canonicalize_name, pylock.parse_wheel_filename):
+            for wrong in (1, None, b"1"):
+                with self.subTest((call, wrong)), self.assertRaises(TypeError):
+                    call(wrong)
+        lock, session = pylock.Lock.read(LOCK), pylock.Session(LOCK, linux())
+        marker = pylock.Marker("os_name == 'nt'")
+        for call in (
+            lambda: 1 in pylock.SpecifierSet(">=1"), lambda: pylock.SpecifierSet(">=1").admits(None), lambda: pylock.Version("1") < "1",
+            lambda: lock.plan(5), lambda: lock.plan("x"), lambda: lock.plan(linux(), extras="x"), lambda: pylock.Lock.read(5),
+            lambda: pylock.Session("x", linux()), lambda: pylock.Session(LOCK, None), lambda: session.set(1, "x"), lambda: session.set("os_name", 1),
+            lambda: session.put("1", "x"), lambda: session.delete(True), lambda: session.tags("py3-none-any"), lambda: session.add(None),
+            lambda: marker.evaluate(5), lambda: marker.evaluate({"os_name": 5}), lambda: marker.evaluate(lock), lambda: marker.evaluate_exactly(session),
+            lambda: marker.evaluate(pylock.SpecifierSet("")), lambda: pylock.Environment({"os_name": 1}), lambda: pylock.Environment({}, "py3-none-any"),
+        ):
+            with self.assertRaises(TypeError):
+                call()
+
+
+class Copies(unittest.TestCase):
+    def test_unchanging(self):
+        for one in UNCHANGING:
+            with self.subTest(repr(one)):
+                self.assertIs(copy.copy(one), one)
+                self.assertIs(copy.deepcopy([one])[0], one)
+                for protocol in range(pickle.HIGHEST_PROTOCOL + 1):
+                    again = pickle.loads(pickle.dumps(one, protocol))
+                    self.assertEqual((again, type(again), str(again), hash(again)), (one, type(one), str(one), hash(one)))
+                with self.assertRaises(AttributeError):
+                    one.anything = 1
+        for one in (pylock.Specifier(">=1", True), pylock.SpecifierSet(">=1", False)):
+            self.assertEqual(pickle.loads(pickle.dumps(one)).prereleases, one.prereleases)
+            with self.assertRaises(AttributeError):
+                one.prereleases = None
+
+    def test_of_a_thread(self):
+        for one in (pylock.Lock.read(LOCK), pylock.Session(LOCK, linux()), linux()):
+            for call in (copy.copy, copy.deepcopy, pickle.dumps):
+                with self.subTest((type(one), call)), self.assertRaises(TypeError):
+                    call(one)
+
+    def test_environment_fixed(self):
+        environment = linux()
+        for change in (
+            lambda: environment.update({}), lambda: environment.__setitem__("tags", []), lambda: environment.pop("tags"), environment.clear,
+            lambda: environment.variables.update(os_name="x"), lambda: environment.setdefault("x", 1), lambda: environment.popitem(),
+            lambda: environment.__delitem__("tags"),
+        ):
+            with self.assertRaises(TypeError):
+                change()
+        self.assertEqual(json.loads(json.dumps(environment)), {"environment": LINUX, "tags": ["py3-none-any"]})
+        self.assertEqual(pylock.Environment.read(json.dumps(environment).encode()), environment)
+
+
+class Threads(unittest.TestCase):
+    def elsewhere(self, call):
+        """What a call raises on another thread."""
+        raised = []
+
+        def run():
+            try:
+                call()
+            except BaseException as error:
+                raised.append(error)
+
+        thread = threading.Thread(target=run)
+        thread.start()
+        thread.join()
+        return raised
+
+    def test_wrong_thread(self):
+        lock, session = pylock.Lock.read(LOCK), pylock.Session(LOCK, linux())
+        for call in (
+            lambda: lock.plan(linux()), lambda: lock.explain(linux()), lock.files, lock.audit, lambda: lock.packages, lambda: lock.extras,
+            session.answer, session.explain, lambda: session.judged, lambda: session.set("os_name", "x"), session.close,
+        ):
+            raised = self.elsewhere(call)
+            self.assertEqual([type(error) for error in raised], [pylock.WrongThread])
+        self.assertEqual(len(session.answer()), 2)
+
+    def test_let_go_elsewhere(self):
+        """A session that another thread lets go of is freed on its own thread, or after its end."""
+        holder = [pylock.Session(LOCK, linux())]
+        owner = holder[0]._kept.owner
+        self.assertEqual(self.elsewhere(holder.clear), [])
+        self.assertEqual(len(owner.graves), 1)
+        pylock.Session(LOCK, linux())
+        self.assertEqual(len(owner.graves), 0)
+        made = []
+        self.assertEqual(self.elsewhere(lambda: made.append(pylock.Session(LOCK, linux()))), [])
+        made.clear()
+
+    def test_shared(self):
+        versions = pylock.SpecifierSet(">=1.0,!=1.5.*,<3")
+        one = pylock.Version("1.4+x")
+        marker = pylock.Marker("python_version >= '3.8' and (sys_platform == 'linux' or extra == 'a')")
+        environment = pylock.Environment({"python_version": "3.12", "sys_platform": "linux"})
+        problems = []
+
+        def run(seed):
+            for turn in range(300):
+                text = "%d.%d" % (seed % 4, turn % 9)
+                expected = 1 <= seed % 4 < 3 and not (seed % 4 == 1 and turn % 9 == 5)
+                answers = (
+                    versions.contains(text), one in versions, marker.evaluate(environment), marker.evaluate({"sys_platform": "x%d" % (turn % 70)}, extra="b"),
+                    str(pylock.Version("%d.%d" % (seed, turn))), str(one), len(versions), str(marker),
+                )
+                if answers[:4] != (expected, True, True, False) or answers[4] != "%d.%d" % (seed, turn):
+                    problems.append((seed, turn, answers))
+
+        threads = [threading.Thread(target=run, args=(seed,)) for seed in range(8)]
+        for thread in threads:
+            thread.start()
+        for thread in threads:
+            thread.join()
+        self.assertEqual(problems, [])
+
+
+class Ends(unittest.TestCase):
+    def test_closed(self):
+        with pylock.Session(LOCK, linux()) as session:
+            self.assertEqual(len(session.answer()), 2)
+        for call in (session.answer, session.explain, lambda: session.judged, lambda: session.set("os_name", "x")):
+            with self.assertRaises(ValueError):
+                call()
+        session.close()
+
+    def test_another_kind(self):
+        """An object of another kind doesn't reach the library."""
+        marker, versions = pylock.Marker("os_name == 'nt'"), pylock.SpecifierSet(">=1")
+        with self.assertRaises(TypeError):
+            marker.evaluate(marker)
+        with self.assertRaises(TypeError):
+            marker.evaluate(versions)
+        with self.assertRaises(TypeError):
+            versions.contains(versions)
+
+    def run_python(self, text, **more):
+        environment = dict(os.environ, PYTHONPATH=PYTHON, **more)
+        return subprocess.run([sys.executable, "-W", "error", "-c", text], env=environment, stdout=subprocess.PIPE, stderr=subprocess.STDOUT)
+
+    def test_end_of_the_interpreter(self):
+        text = """
+import sys, threading, pylock
+kept = [pylock.Version("1"), pylock.SpecifierSet(">=1"), pylock.Marker("extra == 'x'"), pylock.Requirement("a"), pylock.Environment({}, []),
+        pylock.Lock.read(%r), pylock.Session(%r, pylock.environment())]
+kept[2].evaluate(extra="x")
+kept.append(kept)
+sys.modules["__main__"].cycle = sys
+class Late:
+    def __init__(self): self.version = pylock.Version
+    def __del__(self): self.version("1.0").release
+late = Late()
+sys.kept = kept
+sys.late = late
+thread = threading.Thread(target=lambda: kept.append(pylock.Session(%r, pylock.Environment({}, []))))
+thread.start(); thread.join()
+""" % (LOCK, LOCK, LOCK)
+        ended = self.run_python(text)
+        self.assertEqual((ended.returncode, ended.stdout), (0, b""))
+
+    def test_library_is_named(self):
+        """Without a library the import fails with a sentence; one that is none, too."""
+        if os.path.exists(os.path.join(PYTHON, "pylock", "libpylock" + _native.SUFFIX)):
+            self.skipTest("a library stands beside the module")
+        for named, words in (("", b"tools/library"), ("/no/such/library", b"can't be loaded")):
+            ended = self.run_python("import pylock", PYLOCK_LIBRARY=named)
+            self.assertEqual(ended.returncode, 1)
+            self.assertIn(b"ImportError: pylock:", ended.stdout)
+            self.assertIn(words, ended.stdout)
+
+
+if __name__ == "__main__":
+    unittest.main()

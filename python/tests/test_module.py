@@ -1,0 +1,129 @@
+"""The doctests, the example program, the public names, the installed module, and the command line."""
+
+import doctest
+import importlib
+import inspect
+import os
+import pkgutil
+import subprocess
+import sys
+import tempfile
+import unittest
+
+from support import HERE, PYTHON, TOP, bytes_of, reference, release, text_of
+
+import pylock
+from pylock import _native
+
+
+class Doctests(unittest.TestCase):
+    def test_doctests(self):
+        tried = 0
+        for module in pkgutil.iter_modules(pylock.__path__, "pylock."):
+            if module.name != "pylock.__main__":
+                results = doctest.testmod(importlib.import_module(module.name), optionflags=doctest.IGNORE_EXCEPTION_DETAIL)
+                self.assertEqual(results.failed, 0, module.name)
+                tried += results.attempted
+        results = doctest.testfile(os.path.join(TOP, "docs", "PYTHON.md"), module_relative=False, optionflags=doctest.ELLIPSIS)
+        self.assertEqual(results.failed, 0, "docs/PYTHON.md")
+        self.assertGreater(tried, 80)
+
+    def test_documented(self):
+        for name in pylock.__all__:
+            value = getattr(pylock, name)
+            if inspect.isclass(value) or inspect.isfunction(value):
+                self.assertTrue(value.__doc__, name)
+                for part, member in vars(value).items() if inspect.isclass(value) else ():
+                    if not part.startswith("_") and (inspect.isfunction(member) or isinstance(member, property)):
+                        self.assertTrue(member.__doc__, (name, part))
+
+    def test_names(self):
+        for part in ("version", "specifiers", "markers", "requirements", "utils", "tags"):
+            module = getattr(pylock, part)
+            for name in module.__all__:
+                self.assertIs(getattr(module, name), getattr(pylock, name), (part, name))
+        for error in (pylock.InvalidVersion, pylock.InvalidSpecifier, pylock.InvalidMarker, pylock.InvalidRequirement, pylock.InvalidWheelFilename):
+            self.assertIs(getattr(importlib.import_module(error.__module__), error.__name__), error)
+
+
+class Program(unittest.TestCase):
+    def run_as(self, library):
+        text = text_of("examples", "packaging_program.py").replace("from packaging.", "from %s." % library)
+        environment = dict(os.environ, PYTHONPATH=PYTHON)
+        return subprocess.run([sys.executable, "-c", text], env=environment, stdout=subprocess.PIPE, check=True).stdout.decode()
+
+    def test_same_output(self):
+        with open(os.path.join(HERE, "packaging_program.txt"), encoding="utf-8") as file:
+            expected = file.read()
+        self.assertEqual(self.run_as("pylock"), expected)
+        library = reference()
+        if library is not None and (22, 0) <= release(library) < (26, 0):
+            self.assertEqual(self.run_as(library.__name__), expected)
+
+
+class Installed(unittest.TestCase):
+    def test_install(self):
+        with tempfile.TemporaryDirectory() as folder:
+            python = os.path.join(folder, "bin", "python")
+            made = subprocess.run([sys.executable, "-m", "venv", folder], stdout=subprocess.PIPE, stderr=subprocess.STDOUT)
+            if made.returncode or not os.path.exists(python):
+                self.skipTest("no venv can be made")
+            environment = {name: value for name, value in os.environ.items() if name not in ("PYTHONPATH", "PYLOCK_LIBRARY")}
+            install = [python, "-m", "pip", "install", "--no-index", "--quiet", "--disable-pip-version-check", PYTHON]
+            done = subprocess.run(install, env=dict(environment, PYLOCK_LIBRARY=_native.path), stdout=subprocess.PIPE, stderr=subprocess.STDOUT)
+            self.assertEqual(done.returncode, 0, done.stdout)
+            text = "import pylock; print(pylock.__file__); print(pylock.Version('1.0-RC1')); print(len(pylock.environment().tags) > 0)"
+            ran = subprocess.run([python, "-I", "-c", text], env=environment, stdout=subprocess.PIPE, stderr=subprocess.STDOUT, cwd=folder)
+            lines = ran.stdout.decode().split("\n")
+            self.assertEqual((ran.returncode, lines[1:]), (0, ["1.0rc1", "True", ""]), ran.stdout)
+            self.assertIn(os.path.realpath(folder), os.path.realpath(lines[0]))
+            command = [python, "-m", "pylock", "plan", os.path.join(TOP, "examples", "pylock.toml"), os.path.join(TOP, "examples", "linux.json")]
+            ran = subprocess.run(command, env=environment, stdout=subprocess.PIPE)
+            self.assertEqual((ran.returncode, ran.stdout.split(b"\n")[0]), (0, b"plan 11"))
+            removed = subprocess.run([python, "-m", "pip", "uninstall", "-y", "-q", "pylock"], stdout=subprocess.PIPE, stderr=subprocess.STDOUT)
+            self.assertEqual(removed.returncode, 0)
+
+    def backend(self, call, **environment):
+        text = "import sys; sys.path.insert(0, 'backend'); import pylock_build; print(pylock_build.%s)" % call
+        return subprocess.run(
+            [sys.executable, "-c", text], cwd=PYTHON, env=dict(os.environ, **environment), stdout=subprocess.PIPE, stderr=subprocess.STDOUT
+        )
+
+    def test_backend(self):
+        with tempfile.TemporaryDirectory() as folder:
+            built = self.backend("build_wheel(%r)" % folder, PYLOCK_LIBRARY=_native.path, PYLOCK_PLATFORM="linux_x86_64")
+            self.assertEqual(built.stdout, b"pylock-1-py3-none-linux_x86_64.whl\n")
+            name, version, build, tags = pylock.parse_wheel_filename(built.stdout.decode().strip())
+            self.assertEqual((name, str(version), build), ("pylock", pylock.__version__, ()))
+            with open(os.path.join(folder, built.stdout.decode().strip()), "rb") as file:
+                first = file.read()
+            self.backend("build_wheel(%r)" % folder, PYLOCK_LIBRARY=_native.path, PYLOCK_PLATFORM="linux_x86_64")
+            with open(os.path.join(folder, built.stdout.decode().strip()), "rb") as file:
+                self.assertEqual(file.read(), first)
+            self.assertEqual(self.backend("build_sdist(%r)" % folder).stdout, b"pylock-1.tar.gz\n")
+            missing = self.backend("build_wheel(%r)" % folder, PYLOCK_LIBRARY=os.path.join(folder, "none"))
+            self.assertEqual(missing.returncode, 1)
+            self.assertIn(b"tools/library", missing.stdout)
+
+
+class Command(unittest.TestCase):
+    def run_command(self, *words):
+        environment = dict(os.environ, PYTHONPATH=PYTHON)
+        ran = subprocess.run([sys.executable, "-m", "pylock", *words], env=environment, stdout=subprocess.PIPE, stderr=subprocess.PIPE, cwd=TOP)
+        return ran.returncode, ran.stdout.decode(), ran.stderr.decode()
+
+    def test_command(self):
+        status, printed, told = self.run_command("audit", "examples/audited.toml")
+        self.assertEqual((status, printed, told), (1, text_of("examples", "audited.txt"), ""))
+        status, printed, told = self.run_command("plan", "/no/such/lock", "examples/linux.json")
+        self.assertEqual((status, printed, told), (3, "", "pylock: file: /no/such/lock: no such file or directory\n"))
+        status, printed, told = self.run_command("plan", "examples/linux.json", "examples/linux.json")
+        self.assertEqual((status, printed), (2, "lock\ttoml\n"))
+        self.assertTrue(told.startswith("pylock: examples/linux.json"), told)
+        status, printed, told = self.run_command("plan", "examples/pylock.toml", "examples/linux.json", "--extra", "tset", "--json")
+        self.assertEqual((status, printed), (1, '{"pylock":1,"refused":["extra","tset"]}\n'))
+        self.assertEqual(self.run_command("fly")[0], 2)
+
+
+if __name__ == "__main__":
+    unittest.main()
