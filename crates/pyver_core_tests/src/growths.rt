@@ -156,6 +156,7 @@ fn name_in_normal_form(rt: HostRuntime) -> Result<(), Fail> {
         assert_eq!(rt; name.as_str(), "a-b");
     }
     assert!(rt; is_name("A.-_B") && !is_name("-a") && !is_name(""));
+    assert!(rt; is_same_name("A.-_B", "a--b") && !is_same_name("A.-_B", "ab"));
     Ok(())
 }
 
@@ -188,12 +189,6 @@ fn name_form(rt: HostRuntime) {
             Err(_) => assert!(rt; text == "A.-_B"),
         }
     }
-}
-
-/// Names are compared without memory.
-#[test]
-fn names_compared(rt: HostRuntime) {
-    assert!(rt; is_same_name("A.-_B", "a--b") && !is_same_name("A.-_B", "ab"));
 }
 
 /// The calls of the version `1!2.0rc1.post3.dev4+ubuntu.1` that take no memory.
