@@ -1,7 +1,8 @@
 /* pylock: Python's packaging rules and the plan of a pylock.toml, for C.
  *
- * Link libpylock.a or libpylock.so (tools/library builds both). Every function
- * behind this header is proved; what a caller has to uphold is on this page.
+ * In development: tools/library is to build libpylock.a and libpylock.so, and the
+ * gate doesn't run it yet. Every function that the library has is proved; what a
+ * caller has to uphold is on this page.
  *
  * TEXTS are a pointer and a length in bytes, need no 0 byte at their end, and
  * are read only during the call. No pointer may be NULL, also where its length
