@@ -1,8 +1,7 @@
 /* pylock: Python's packaging rules and the plan of a pylock.toml, for C.
  *
- * In development: tools/library is to build libpylock.a and libpylock.so, and the
- * gate doesn't run it yet. Every function that the library has is proved; what a
- * caller has to uphold is on this page.
+ * tools/library builds libpylock.a and libpylock.so. Every function of the library
+ * is proved; what a caller has to uphold is on this page.
  *
  * TEXTS are a pointer and a length in bytes, need no 0 byte at their end, and
  * are read only during the call. No pointer may be NULL, also where its length
@@ -37,10 +36,9 @@
  *
  * THREADS. The library starts no thread and keeps no state between calls but in
  * slots. Calls with different slots may run at the same time. Of one slot one
- * call runs at a time, and a slot stays on the thread that filled it.
- *
- * PLANNED. Calls under PYLOCK_PLANNED are declared for what is to come: the
- * library doesn't have them yet.
+ * call runs at a time, which a lock sees to, or the start or the end of a thread.
+ * A slot of texts, sets, markers or environments may go from thread to thread; a
+ * slot of sessions stays on the thread that filled it.
  *
  * MEMORY is asked of malloc and realloc, and given back by free. PYLOCK_MEMORY
  * says that a request was refused; the call has then changed nothing. No call is
@@ -140,7 +138,12 @@ void pylock_text_free(pylock_text *text);
 
 /* ---- versions, sets and names (PEP 440, PEP 503) ---- */
 
-#ifdef PYLOCK_PLANNED
+/* The order key of a version: bytes whose order is that of versions, compared as
+ * memcmp does, and the shorter first where one begins with the other. Equal versions
+ * have one key. PYLOCK_NOT_UTF8, PYLOCK_VERSION_*, PYLOCK_ROOM, PYLOCK_MEMORY. */
+int32_t pylock_version_key(const uint8_t *text, size_t length,
+                           uint8_t *out, size_t room, size_t *needed);
+
 /* A record of a version's parts: its normal form; its public part (without the
  * local one); its base release (epoch and release, as 1!2.0); the epoch; the
  * release, as 2.0; the pre-release, as a1; the number of the post-release; that of
@@ -148,7 +151,6 @@ void pylock_text_free(pylock_text *text);
  * PYLOCK_NOT_UTF8, PYLOCK_VERSION_*, PYLOCK_ROOM, PYLOCK_MEMORY. */
 int32_t pylock_version(const uint8_t *text, size_t length,
                        uint8_t *out, size_t room, size_t *needed);
-#endif
 
 /* Whether the set admits the version, of any phase: pre-releases count as others.
  * The set's text is judged first. PYLOCK_NOT_UTF8, PYLOCK_SET_*, PYLOCK_VERSION_*,
@@ -164,7 +166,6 @@ int32_t pylock_name(const uint8_t *text, size_t length,
 /* Whether the text is a name (PEP 508). PYLOCK_NOT_UTF8. */
 int32_t pylock_is_name(const uint8_t *text, size_t length, bool *is_name);
 
-#ifdef PYLOCK_PLANNED
 /* ---- requirements and wheel names (PEP 508, PEP 427) ---- */
 
 /* A record of a requirement's parts, as they are written: name; extras, joined by
@@ -177,7 +178,6 @@ int32_t pylock_requirement(const uint8_t *text, size_t length, pylock_text *reco
  * version; build as written, or absent; tags, joined by a space.
  * PYLOCK_NOT_UTF8, PYLOCK_WHEEL_*, PYLOCK_MEMORY. */
 int32_t pylock_wheel(const uint8_t *text, size_t length, pylock_text *record);
-#endif
 
 /* ---- specifier sets that are kept ---- */
 
@@ -204,19 +204,26 @@ int32_t pylock_marker_text(pylock_marker *marker, uint8_t *out, size_t room, siz
 int32_t pylock_marker_evaluate(pylock_marker *marker, pylock_environment *environment,
                                bool *value);
 
+/* The same where the operand `extra` has this text, as in a package's metadata (PEP
+ * 685): what stands on its other side is compared with it as a name is.
+ * PYLOCK_EMPTY, PYLOCK_NOT_UTF8, PYLOCK_VALUE_* but for PYLOCK_VALUE_EXTRA,
+ * PYLOCK_MEMORY. */
+int32_t pylock_marker_evaluate_with_extra(pylock_marker *marker,
+                                          pylock_environment *environment,
+                                          const uint8_t *extra, size_t extra_length,
+                                          bool *value);
+
 void pylock_marker_free(pylock_marker *marker);
 
 /* An environment with nothing set and nothing asked for. PYLOCK_MEMORY. */
 int32_t pylock_environment_new(pylock_environment *environment);
 
-#ifdef PYLOCK_PLANNED
 /* The variables of an environment file (JSON with the members "environment" and
  * "tags"), with nothing asked for; the tags are judged and left out.
  * PYLOCK_ENVIRONMENT_REFUSED: `words` is then the line that pylock prints, as
  * "environment\tshape\n"; otherwise `words` stays. PYLOCK_MEMORY. */
 int32_t pylock_environment_read(pylock_environment *environment,
                                 const uint8_t *json, size_t length, pylock_text *words);
-#endif
 
 /* Gives a variable (as os_name) a text. PYLOCK_EMPTY, PYLOCK_NOT_UTF8,
  * PYLOCK_EDIT_VARIABLE, PYLOCK_MEMORY. */
@@ -241,7 +248,6 @@ int32_t pylock_environment_drop_group(pylock_environment *environment,
 
 void pylock_environment_free(pylock_environment *environment);
 
-#ifdef PYLOCK_PLANNED
 /* ---- a lock at once (PEP 751) ----
  *
  * `lock` has the bytes of a pylock.toml, `environment` those of an environment file.
@@ -262,15 +268,24 @@ int32_t pylock_files(const uint8_t *lock, size_t length,
 int32_t pylock_audit(const uint8_t *lock, size_t length,
                      bool json, pylock_text *out, int32_t *status);
 
-/* Why a lock or an environment is refused, in a sentence or more for a person,
- * without LF at the end; an empty text where it isn't refused. PYLOCK_MEMORY. */
+/* What a lock says of itself: a JSON document with the members "requires_python",
+ * left out where the lock has none, "environments" (the texts of markers), "extras",
+ * "groups" and "default_groups". PYLOCK_LOCK_REFUSED: `words` is then the line that
+ * pylock prints, as "lock\ttoml\n"; otherwise `words` stays. PYLOCK_MEMORY. */
+int32_t pylock_lock_head(const uint8_t *lock, size_t length,
+                         pylock_text *head, pylock_text *words);
+
+/* Why a lock or an environment is refused, in a line for a person, without LF; it
+ * begins with "lock:" or "environment:", a line and a column too where it can tell
+ * them. An empty text where it isn't refused. PYLOCK_MEMORY. */
 int32_t pylock_lock_message(const uint8_t *lock, size_t length, pylock_text *message);
 int32_t pylock_environment_message(const uint8_t *json, size_t length, pylock_text *message);
 
 /* ---- a session: a lock in an environment, edited and answered again ---- */
 
-/* The session on a lock and an environment. PYLOCK_LOCK_REFUSED (judged first) and
- * PYLOCK_ENVIRONMENT_REFUSED: `words` is then the line that pylock prints, as
+/* The session on the bytes of a pylock.toml and of an environment file.
+ * PYLOCK_LOCK_REFUSED (judged first) and PYLOCK_ENVIRONMENT_REFUSED leave the session
+ * as it was, and `words` is then the line that pylock prints, as
  * "lock\tentry\t3\tmarker\n"; otherwise `words` stays. PYLOCK_MEMORY. */
 int32_t pylock_session_start(pylock_session *session,
                              const uint8_t *lock, size_t lock_length,
@@ -278,7 +293,8 @@ int32_t pylock_session_start(pylock_session *session,
                              pylock_text *words);
 
 /* The edits. `*judged` is set to how many judgements the edit made. A refused edit
- * leaves the session as it was, and `*judged` too.
+ * leaves the session as it was, and `*judged` too. Of several things that are wrong,
+ * an empty slot is told first, then a text that isn't UTF-8.
  * All: PYLOCK_EMPTY, PYLOCK_NOT_UTF8 (of a text), PYLOCK_MEMORY. */
 
 /* Gives a variable a text, or leaves it without one. PYLOCK_EDIT_VARIABLE. */
@@ -288,26 +304,28 @@ int32_t pylock_session_set(pylock_session *session,
 int32_t pylock_session_unset(pylock_session *session,
                              const uint8_t *variable, size_t length, uint64_t *judged);
 
-/* Ask for an extra of the lock, or no more. PYLOCK_EDIT_EXTRA. */
+/* Ask for an extra of the lock, or no more. It counts by its normal form.
+ * PYLOCK_EDIT_EXTRA. */
 int32_t pylock_session_add_extra(pylock_session *session,
                                  const uint8_t *name, size_t length, uint64_t *judged);
 int32_t pylock_session_drop_extra(pylock_session *session,
                                   const uint8_t *name, size_t length, uint64_t *judged);
 
-/* Ask for a dependency group of the lock, or no more. PYLOCK_EDIT_GROUP. */
+/* Ask for a dependency group of the lock, or no more. It counts by its normal form.
+ * PYLOCK_EDIT_GROUP. */
 int32_t pylock_session_add_group(pylock_session *session,
                                  const uint8_t *name, size_t length, uint64_t *judged);
 int32_t pylock_session_drop_group(pylock_session *session,
                                   const uint8_t *name, size_t length, uint64_t *judged);
 
 /* Puts these tags in place of those that were there: one text, the best first, with
- * a LF between two; the empty text is no tags. PYLOCK_EDIT_TAG. */
+ * an LF between two and none at the end; the empty text is no tags. PYLOCK_EDIT_TAG. */
 int32_t pylock_session_tags(pylock_session *session,
                             const uint8_t *tags, size_t length, uint64_t *judged);
 
 /* Adds an entry behind all others, or puts one in place of that of a number: one
  * inline table of TOML, as { name = "a", version = "1" }. PYLOCK_EDIT_TOML,
- * PYLOCK_EDIT_ENTRY; add: PYLOCK_EDIT_TOO_MANY; put: PYLOCK_EDIT_NO_ENTRY. */
+ * PYLOCK_EDIT_ENTRY, and then add PYLOCK_EDIT_TOO_MANY, put PYLOCK_EDIT_NO_ENTRY. */
 int32_t pylock_session_add(pylock_session *session,
                            const uint8_t *entry, size_t length, uint64_t *judged);
 int32_t pylock_session_put(pylock_session *session, uint32_t number,
@@ -317,13 +335,14 @@ int32_t pylock_session_put(pylock_session *session, uint32_t number,
 int32_t pylock_session_del(pylock_session *session, uint32_t number, uint64_t *judged);
 
 /* The files that a package may be installed from: "any", "wheel" (no sdist) or
- * "source" (no wheel). PYLOCK_EDIT_ARGUMENT (of the word), PYLOCK_EDIT_NAME. */
+ * "source" (no wheel). PYLOCK_EDIT_ARGUMENT (of the word, judged first),
+ * PYLOCK_EDIT_NAME. */
 int32_t pylock_session_policy(pylock_session *session,
                               const uint8_t *name, size_t name_length,
                               const uint8_t *policy, size_t policy_length, uint64_t *judged);
 
 /* One edit line, as `pylock select` reads it, without its LF; `show` edits nothing and
- * sets `*judged` to 0. PYLOCK_EDIT_*. */
+ * sets `*judged` to 0. Its length is judged before its UTF-8. PYLOCK_EDIT_*. */
 int32_t pylock_session_line(pylock_session *session,
                             const uint8_t *line, size_t length, uint64_t *judged);
 
@@ -343,7 +362,6 @@ int32_t pylock_session_explain(pylock_session *session, bool json,
 int32_t pylock_session_judged(pylock_session *session, pylock_text *numbers);
 
 void pylock_session_free(pylock_session *session);
-#endif
 
 #ifdef __cplusplus
 }

@@ -8,20 +8,21 @@ from __future__ import annotations
 
 import argparse
 import json
+import os
 import sys
 from typing import Any, List, Optional, Sequence, Tuple
 
 from . import _native
 from ._environment import read_source
-from ._errors import InvalidEdit, InvalidLock, InvalidName, Refusal
-from .utils import canonicalize_name
+from ._errors import InvalidEdit, InvalidEnvironment, InvalidLock
+from ._lock import lock_head
 
 
 def _parser() -> argparse.ArgumentParser:
     parser = argparse.ArgumentParser(prog="python -m pylock", description=(__doc__ or "").split("\n\n")[0])
     commands = parser.add_subparsers(dest="command", metavar="COMMAND", required=True)
     for name, what in (("plan", "what is to be installed"), ("explain", "what becomes of each entry, and why")):
-        command = commands.add_parser(name, help=what, description=what)
+        command = commands.add_parser(name, help=what, description=what, allow_abbrev=False)
         command.add_argument("lock", metavar="LOCK", help="a pylock.toml")
         command.add_argument("environment", metavar="ENV", help="an environment, as tools/environment writes it")
         command.add_argument("--all-extras", action="store_true")
@@ -39,7 +40,7 @@ def _parser() -> argparse.ArgumentParser:
         ("files", "every source that the lock names"),
         ("audit", "what a careful reader of the lock would want to be told"),
     ):
-        command = commands.add_parser(name, help=what, description=what)
+        command = commands.add_parser(name, help=what, description=what, allow_abbrev=False)
         command.add_argument("lock", metavar="LOCK", help="a pylock.toml")
         command.add_argument("--json", action="store_true")
     return parser
@@ -53,7 +54,7 @@ def _edits(words: Any, lock: bytes) -> List[Tuple[str, str, Tuple[str, ...]]]:
     """Of each option the word, the text and the edit, in the order of the program's table."""
     edits: List[Tuple[str, str, Tuple[str, ...]]] = []
     if words.all_extras or words.no_default_groups or words.all_groups:
-        head = _native.lock_head(lock)
+        head = lock_head(lock)
         if words.all_extras:
             edits += [("all-extras", name, ("add_extra", name)) for name in head.extras]
     edits += [("extra", name, ("add_extra", name)) for name in words.extra]
@@ -107,9 +108,18 @@ def _refused(words: Sequence[str], as_json: bool) -> str:
     return "\t".join(words) + "\n"
 
 
+class _Unwritten(Exception):
+    """Standard output took not all."""
+
+
 def _print(text: str) -> None:
-    sys.stdout.buffer.write(text.encode())
-    sys.stdout.buffer.flush()
+    try:
+        sys.stdout.buffer.write(text.encode())
+        sys.stdout.buffer.flush()
+    except OSError:
+        # what is left would be tried, and told of, once more where the interpreter ends
+        os.dup2(os.open(os.devnull, os.O_WRONLY), sys.stdout.fileno())
+        raise _Unwritten from None
 
 
 def _tell(text: str) -> None:
@@ -143,12 +153,15 @@ def main(arguments: Optional[Sequence[str]] = None) -> int:
     try:
         return _report(words)
     except InvalidLock as error:
-        kind = "environment" if type(error) is not InvalidLock else "lock"
+        kind = "environment" if isinstance(error, InvalidEnvironment) else "lock"
         _print(_refused([kind, *error.words], words.json))
-        _tell("%s: %s" % (words.environment if kind == "environment" else words.lock, error))
+        # the message begins with the kind, where the program has the name of the file
+        _tell(getattr(words, kind) + str(error)[len(kind) :])
         return 2
     except OSError as error:
         _tell("file: %s: %s" % (error.filename, (error.strerror or "can't be read").lower()))
+    except _Unwritten:
+        _tell("write")
     except MemoryError:
         _tell("memory")
     return 3

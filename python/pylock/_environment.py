@@ -3,7 +3,7 @@
 from __future__ import annotations
 
 import json
-from typing import Any, Dict, Iterable, Iterator, List, Mapping, NoReturn, Tuple
+from typing import Any, Iterable, Iterator, Mapping, NoReturn, Tuple
 
 from . import _native
 
@@ -32,7 +32,7 @@ class _Fixed(dict):  # type: ignore[type-arg]
 
     __setitem__ = __delitem__ = __ior__ = clear = pop = popitem = setdefault = update = _refuse  # type: ignore
 
-    def __reduce_ex__(self, protocol: Any) -> NoReturn:
+    def __reduce_ex__(self, argument: Any = None) -> NoReturn:
         raise TypeError("an environment can't be copied or pickled")
 
     __copy__ = __deepcopy__ = __reduce_ex__  # type: ignore[assignment]

@@ -4,14 +4,20 @@ from __future__ import annotations
 
 import json
 import threading
-from typing import Any, Dict, Iterable, List, Mapping, NamedTuple, NoReturn, Optional, Tuple, Union
+from typing import (
+    TYPE_CHECKING, Any, Dict, Iterable, List, Mapping, NamedTuple, NoReturn, Optional, Tuple, TypedDict, Union,
+)
 
 from . import _native
 from ._environment import Environment, environment_bytes, read_source
 from ._errors import InvalidEdit, PlanFault, WrongThread
-from .utils import canonicalize_name
+from .markers import Marker
+from .specifiers import SpecifierSet
 
-__all__ = ["Explanation", "Finding", "Lock", "Package", "Pick", "Session", "Verdict"]
+if TYPE_CHECKING:
+    from typing_extensions import Unpack
+
+__all__ = ["Explanation", "Finding", "Lock", "Options", "Package", "Pick", "Session", "Verdict"]
 
 AnyEnvironment = Union[Environment, Mapping[str, Any], bytes]
 _NOTHING = b'{"environment": {}, "tags": []}'
@@ -35,6 +41,16 @@ class Pick(NamedTuple):
     hashes: Dict[str, str]
     revision: Optional[Tuple[str, str]]
     subdirectory: Optional[str]
+
+
+class Head(NamedTuple):
+    """The head of a lock: names in normal form, a specifier set and markers as they are written."""
+
+    extras: Tuple[str, ...]
+    dependency_groups: Tuple[str, ...]
+    default_groups: Tuple[str, ...]
+    requires_python: Optional[str]
+    environments: Tuple[str, ...]
 
 
 class Package(NamedTuple):
@@ -70,6 +86,36 @@ class Finding(NamedTuple):
     name: Optional[str]
     finding: str
     detail: Optional[str]
+
+
+class Options(TypedDict, total=False):
+    """The keyword arguments of `Lock.plan` and `Lock.explain`: what is asked for beside the lock's defaults.
+
+    Extras; dependency groups, and these without some, all of them, or without the lock's default groups; for packages
+    of a name, or of `:all:`, the policy `any`, `wheel` (no sdist) or `source` (no wheel), of which the last counts; and
+    texts for variables of markers.
+    """
+
+    extras: Iterable[str]
+    all_extras: bool
+    groups: Iterable[str]
+    without_groups: Iterable[str]
+    all_groups: bool
+    default_groups: bool
+    policies: Iterable[Tuple[str, str]]
+    variables: Mapping[str, str]
+
+
+def lock_head(lock: bytes) -> Head:
+    """The head of a lock. One that is refused raises InvalidLock."""
+    head = json.loads(_native.lock_head(lock))
+    return Head(
+        tuple(head["extras"]),
+        tuple(head["groups"]),
+        tuple(head["default_groups"]),
+        head.get("requires_python"),
+        tuple(head["environments"]),
+    )
 
 
 def _pick(source: Dict[str, Any]) -> Pick:
@@ -115,14 +161,14 @@ class _OfThread:
 
     __slots__ = ("_thread",)
 
-    def _check(self) -> None:
+    def _check_thread(self) -> None:
         if threading.get_ident() != self._thread:
             raise WrongThread("a %s is used on the thread that made it alone" % type(self).__name__)
 
-    def _of_this_thread(self) -> None:
+    def _keep_thread(self) -> None:
         self._thread = threading.get_ident()
 
-    def __reduce_ex__(self, protocol: Any) -> NoReturn:
+    def __reduce_ex__(self, argument: Any = None) -> NoReturn:
         raise TypeError("a %s can't be copied or pickled" % type(self).__name__)
 
     __copy__ = __deepcopy__ = __reduce_ex__  # type: ignore[assignment]
@@ -155,13 +201,13 @@ class Session(_OfThread):
     __slots__ = ("_kept", "__weakref__")
 
     def __init__(self, lock: Union[Lock, bytes], environment: AnyEnvironment) -> None:
-        self._of_this_thread()
-        content = lock._content if isinstance(lock, Lock) else read_bytes(lock)
+        self._keep_thread()
+        content = lock._content if isinstance(lock, Lock) else given_bytes(lock)
         self._kept = _native.session_start(content, environment_bytes(environment))
 
-    def _edit(self, edit: str, *arguments: Any) -> int:
-        self._check()
-        return _native.session_edit(self._kept, edit, *arguments)
+    def _edit(self, edit: str, *texts: str, number: Optional[int] = None) -> int:
+        self._check_thread()
+        return _native.session_edit(self._kept, edit, *texts, number=number)
 
     def set(self, variable: str, value: str) -> int:
         """Gives a variable of markers a text."""
@@ -203,43 +249,43 @@ class Session(_OfThread):
 
     def put(self, number: int, entry: str) -> int:
         """Puts an entry in place of that of a number."""
-        return self._edit("put", _number(number), entry)
+        return self._edit("put", entry, number=_number(number))
 
     def delete(self, number: int) -> int:
         """Takes the entry of a number out. The number is never used again."""
-        return self._edit("del", _number(number))
+        return self._edit("del", number=_number(number))
 
     def policy(self, name: str, policy: str) -> int:
         """Says what packages of a name may be installed from: `any`, `wheel` (no sdist) or `source` (no wheel)."""
         return self._edit("policy", name, policy)
 
     def line(self, line: str) -> int:
-        """Makes the edit of a line, as `pylock select` reads it."""
+        """Makes the edit of a line, as `pylock select` reads it, without its LF; `show` edits nothing."""
         return self._edit("line", line)
 
     def answer(self) -> List[Pick]:
         """What is to be installed; where there is a fault, PlanFault is raised."""
-        self._check()
+        self._check_thread()
         return _picks(_native.session_answer(self._kept, True)[0])
 
     def explain(self) -> Explanation:
         """What becomes of the head and of each entry."""
-        self._check()
+        self._check_thread()
         return _explanation(_native.session_explain(self._kept, True)[0])
 
     @property
     def judged(self) -> Tuple[int, ...]:
         """The numbers that the last accepted edit judged, or the start where there was none; 0 is the head."""
-        self._check()
+        self._check_thread()
         return tuple(_native.session_judged(self._kept))
 
     def close(self) -> None:
         """Gives the memory of the session back. Whatever else is asked of it raises ValueError then."""
-        self._check()
+        self._check_thread()
         self._kept.close()
 
     def __enter__(self) -> Session:
-        self._check()
+        self._check_thread()
         return self
 
     def __exit__(self, *error: Any) -> None:
@@ -252,8 +298,8 @@ def _number(number: int) -> int:
     return number
 
 
-def read_bytes(content: Any) -> bytes:
-    """Bytes that are given as such."""
+def given_bytes(content: Any) -> bytes:
+    """The bytes that are given; a path isn't read here."""
     if isinstance(content, (bytes, bytearray, memoryview)):
         return bytes(content)
     raise TypeError("expected a Lock or bytes, not %s" % type(content).__name__)
@@ -290,11 +336,11 @@ class Lock(_OfThread):
     __slots__ = ("_content", "_session", "_head", "_packages", "__weakref__")
 
     def __init__(self, content: bytes) -> None:
-        self._of_this_thread()
-        self._content = read_bytes(content)
+        self._keep_thread()
+        self._content = given_bytes(content)
+        self._head = lock_head(self._content)
         # the session on the environment that was asked for last, as it was started
-        self._session: Optional[Tuple[bytes, Session]] = (_NOTHING, Session(self._content, _NOTHING))
-        self._head: Any = None
+        self._session: Optional[Tuple[bytes, Session]] = None
         self._packages: Optional[Tuple[Package, ...]] = None
 
     @classmethod
@@ -307,7 +353,7 @@ class Lock(_OfThread):
     @property
     def packages(self) -> Tuple[Package, ...]:
         """The entries, in order."""
-        self._check()
+        self._check_thread()
         packages = self._packages
         if packages is None:
             sources: Dict[int, List[Pick]] = {}
@@ -319,42 +365,35 @@ class Lock(_OfThread):
             )
         return packages
 
-    def _head_of(self) -> Any:
-        self._check()
-        head = self._head
-        if head is None:
-            head = self._head = _native.lock_head(self._content)
-        return head
+    def _checked_head(self) -> Head:
+        self._check_thread()
+        return self._head
 
     @property
     def extras(self) -> Tuple[str, ...]:
         """The extras that can be asked for, in normal form."""
-        return self._head_of().extras
+        return self._checked_head().extras
 
     @property
     def dependency_groups(self) -> Tuple[str, ...]:
         """The dependency groups that can be asked for, in normal form."""
-        return self._head_of().dependency_groups
+        return self._checked_head().dependency_groups
 
     @property
     def default_groups(self) -> Tuple[str, ...]:
         """The groups that are asked for where nothing is said, in normal form."""
-        return self._head_of().default_groups
+        return self._checked_head().default_groups
 
     @property
-    def requires_python(self) -> Any:
-        """The SpecifierSet of Pythons that the lock is for, or None."""
-        from .specifiers import SpecifierSet
-
-        text = self._head_of().requires_python
+    def requires_python(self) -> Optional[SpecifierSet]:
+        """The Pythons that the lock is for, or None."""
+        text = self._checked_head().requires_python
         return None if text is None else SpecifierSet(text)
 
     @property
-    def environments(self) -> Tuple[Any, ...]:
-        """The Markers of the environments that the lock is for; empty where it is for all."""
-        from .markers import Marker
-
-        return tuple(Marker(text) for text in self._head_of().environments)
+    def environments(self) -> Tuple[Marker, ...]:
+        """The environments that the lock is for; empty where it is for all."""
+        return tuple(Marker(text) for text in self._checked_head().environments)
 
     # ---- what becomes of it ----
 
@@ -365,37 +404,33 @@ class Lock(_OfThread):
             kept = self._session = (environment, Session(self._content, environment))
         return kept[1]
 
-    def _edited(
-        self,
-        environment: AnyEnvironment,
-        extras: Iterable[str],
-        groups: Iterable[str],
-        policies: Iterable[Tuple[str, str]],
-        without_groups: Iterable[str],
-        all_extras: bool,
-        all_groups: bool,
-        default_groups: bool,
-        variables: Optional[Mapping[str, str]],
-    ) -> Session:
-        """A session with the edits that the options mean, in the order of the command line's table."""
-        self._check()
-        for names in (extras, groups, without_groups):
-            if isinstance(names, str):
-                raise TypeError("expected a list of names, not a str")
+    def _edits(self, options: Options) -> List[Tuple[str, ...]]:
+        """The edits that the options mean, in the order of the command line's table."""
+        for option, value in options.items():
+            if option not in Options.__annotations__:
+                raise TypeError("there is no option %r" % option)
+            if isinstance(value, str):
+                raise TypeError("%s: expected a list, not a str" % option)
         edits: List[Tuple[str, ...]] = []
-        if all_extras:
+        if options.get("all_extras"):
             edits += [("add_extra", name) for name in self.extras]
-        edits += [("add_extra", name) for name in extras]
-        if not default_groups:
+        edits += [("add_extra", name) for name in options.get("extras", ())]
+        if not options.get("default_groups", True):
             edits += [("drop_group", name) for name in self.default_groups]
-        if all_groups:
+        if options.get("all_groups"):
             edits += [("add_group", name) for name in (*self.dependency_groups, *self.default_groups)]
-        edits += [("add_group", name) for name in groups]
-        edits += [("drop_group", name) for name in without_groups]
-        for name, policy in policies:
+        edits += [("add_group", name) for name in options.get("groups", ())]
+        edits += [("drop_group", name) for name in options.get("without_groups", ())]
+        for name, policy in options.get("policies", ()):
             names = [package.name for package in self.packages] if name == ":all:" else [name]
             edits += [("policy", each, policy) for each in names]
-        edits += [("set", name, value) for name, value in (variables or {}).items()]
+        edits += [("set", name, value) for name, value in (options.get("variables") or {}).items()]
+        return edits
+
+    def _asked(self, environment: AnyEnvironment, options: Options) -> Session:
+        """A session with the options' edits."""
+        self._check_thread()
+        edits = self._edits(options)
         session = self._started(environment_bytes(environment))
         if edits:
             # what is edited isn't kept for the next question
@@ -404,58 +439,27 @@ class Lock(_OfThread):
                 session._edit(*edit)
         return session
 
-    def plan(
-        self,
-        environment: AnyEnvironment,
-        *,
-        extras: Iterable[str] = (),
-        groups: Iterable[str] = (),
-        policies: Iterable[Tuple[str, str]] = (),
-        without_groups: Iterable[str] = (),
-        all_extras: bool = False,
-        all_groups: bool = False,
-        default_groups: bool = True,
-        variables: Optional[Mapping[str, str]] = None,
-    ) -> List[Pick]:
+    def plan(self, environment: AnyEnvironment, **options: Unpack[Options]) -> List[Pick]:
         """What is to be installed in the environment: an Environment, a mapping of its form, or the bytes of its JSON.
-
-        The options ask for more or less than the lock's defaults: extras; dependency groups, and these without some,
-        without the lock's default groups, or all of them; for packages of a name, or of `:all:`, the policy `any`,
-        `wheel` (no sdist) or `source` (no wheel), of which the last counts; and texts for variables of markers.
+        The keyword arguments are those of `Options`.
 
         Raises PlanFault where the lock can't be installed so, InvalidEdit where an option is refused, and
         InvalidEnvironment where the environment is.
         """
-        return self._edited(
-            environment, extras, groups, policies, without_groups, all_extras, all_groups, default_groups, variables
-        ).answer()
+        return self._asked(environment, options).answer()
 
-    def explain(
-        self,
-        environment: AnyEnvironment,
-        *,
-        extras: Iterable[str] = (),
-        groups: Iterable[str] = (),
-        policies: Iterable[Tuple[str, str]] = (),
-        without_groups: Iterable[str] = (),
-        all_extras: bool = False,
-        all_groups: bool = False,
-        default_groups: bool = True,
-        variables: Optional[Mapping[str, str]] = None,
-    ) -> Explanation:
+    def explain(self, environment: AnyEnvironment, **options: Unpack[Options]) -> Explanation:
         """What becomes of the head and of each entry, with the options of `plan`."""
-        return self._edited(
-            environment, extras, groups, policies, without_groups, all_extras, all_groups, default_groups, variables
-        ).explain()
+        return self._asked(environment, options).explain()
 
     def files(self) -> List[Pick]:
         """Every source that the lock names, whatever machine it is for."""
-        self._check()
+        self._check_thread()
         return [_pick(source) for source in json.loads(_native.files(self._content, True)[0])["files"]]
 
     def audit(self) -> List[Finding]:
         """What a careful reader of the lock would want to be told, though it is valid."""
-        self._check()
+        self._check_thread()
         return [
             Finding(finding["id"], finding.get("name"), finding["finding"], finding.get("detail"))
             for finding in json.loads(_native.audit(self._content, True)[0])["findings"]

@@ -1,4 +1,4 @@
-"""The shared library `libpylock`, by `ctypes`: all of it is here, a function for each call of `include/pylock.h`.
+"""The shared library `libpylock`, by `ctypes`: all of it is here, a function for each call that the module makes.
 
 Texts go in as `str`, results come out as `str`, `bytes` or a kept object. A refused call raises the exception of its
 code; which one and by which words stands in one table below.
@@ -7,18 +7,18 @@ code; which one and by which words stands in one table below.
 from __future__ import annotations
 
 import ctypes
-import functools
 import os
 import sys
 import threading
-from ctypes import POINTER, byref, c_bool, c_char_p, c_int32, c_size_t, c_uint32, c_uint64, c_void_p
-from typing import Any, Callable, Dict, List, NamedTuple, Optional, Tuple, Type
+from ctypes import c_bool, c_char_p, c_int32, c_size_t, c_uint32, c_uint64, c_void_p
+from typing import Any, Callable, Dict, List, Optional, Tuple, Type, TypeVar
 
 from ._errors import (
     InvalidEdit,
     InvalidEnvironment,
     InvalidLock,
     InvalidMarker,
+    InvalidName,
     InvalidRequirement,
     InvalidSpecifier,
     InvalidVersion,
@@ -63,23 +63,11 @@ except OSError as error:
 
 
 def _call(name: str, *arguments: Any, short: bool = False, result: Any = c_int32) -> Any:
-    """The function of that name, of these arguments; where the library lacks it, one that says so when it is called."""
-    try:
-        function = getattr(_short if short else _library, "pylock_" + name)
-    except AttributeError:
-        # what frees has nothing to free then
-        return functools.partial(_nothing if name.endswith("_free") else _lacks, name)
+    """The function of that name, of these arguments."""
+    function = getattr(_short if short else _library, "pylock_" + name)
     function.argtypes = arguments
     function.restype = result
     return function
-
-
-def _lacks(name: str, *arguments: Any) -> int:
-    raise NotImplementedError("pylock: %s has no call pylock_%s" % (path, name))
-
-
-def _nothing(name: str, *arguments: Any) -> None:
-    return None
 
 
 abi = _call("abi", result=c_uint32)()
@@ -88,59 +76,11 @@ if abi != ABI:
 
 
 # Arguments: a text is a pointer and a length; results have room, and say how much they need. Addresses are handed over
-# as numbers, which costs less than references.
+# as such: `ctypes.byref` costs more.
 _TEXT = (c_char_p, c_size_t)
 _OUT = (c_void_p, c_size_t, c_void_p)
 _SLOT = (c_void_p,)
 _FLAG = (c_void_p,)
-
-
-class _Scratch:
-    """Room for a short result, and what else a call writes to."""
-
-    __slots__ = ("array", "view", "out", "room", "needed", "needed_at", "flag", "flag_at", "text", "text_at", "free")
-
-    def __init__(self, room: int = 4096) -> None:
-        self.needed = c_size_t()
-        self.needed_at = ctypes.addressof(self.needed)
-        self.flag = c_bool()
-        self.flag_at = ctypes.addressof(self.flag)
-        self.text = _Slot()
-        self.text_at = ctypes.addressof(self.text)
-        self.free = _text_free
-        self.resize(room)
-
-    def resize(self, room: int) -> None:
-        self.view = bytearray(room)
-        self.array = (ctypes.c_char * room).from_buffer(self.view)
-        self.out = ctypes.addressof(self.array)
-        self.room = room
-
-    def __del__(self) -> None:
-        self.free(self.text_at)
-
-
-class _Slot(ctypes.Structure):
-    _fields_ = [("kept", c_void_p), ("full", c_bool)]
-
-
-_text_length = _call("text_length", *_SLOT, c_void_p)
-_text_copy = _call("text_copy", *_SLOT, *_OUT)
-_text_free = _call("text_free", *_SLOT, result=None)
-
-# Scratches that no call is using. A list's pop and append are whole steps, so each thread, and whatever interrupts a
-# call on the same thread, gets one of its own.
-_scratches: List[_Scratch] = []
-
-# A scratch that has grown past this isn't kept, and a result past it is let go at once.
-_KEPT_ROOM = 1 << 16
-
-
-def _scratch() -> _Scratch:
-    try:
-        return _scratches.pop()
-    except IndexError:
-        return _Scratch()
 
 
 # ---- refusals ----
@@ -156,7 +96,7 @@ _REFUSALS: Dict[int, Tuple[Type[Refusal], str, str]] = {
     32: (InvalidMarker, "set-misuse", "extras and dependency_groups stand right of in or not in alone"),
     40: (UndefinedEnvironmentName, "marker-unset", "it reads a variable that isn't set"),
     41: (MarkerFault, "marker-extra", "it reads extra, which has no value here"),
-    42: (UndefinedComparison, "marker-undefined", "~= and === compare versions"),
+    42: (UndefinedComparison, "marker-undefined", "~= and === compare versions, and names have no order"),
     43: (MarkerFault, "marker-number", "a number is past 128 bits"),
     50: (InvalidRequirement, "name", "its name"),
     51: (InvalidRequirement, "extras", "its extras"),
@@ -191,6 +131,7 @@ _WHAT: Dict[Type[Refusal], str] = {
     UndefinedEnvironmentName: "Marker without a value",
     UndefinedComparison: "Marker without a value",
     MarkerFault: "Marker without a value",
+    InvalidName: "Invalid name",
     InvalidRequirement: "Invalid requirement",
     InvalidWheelFilename: "Invalid wheel filename",
     InvalidEdit: "Refused edit",
@@ -226,8 +167,16 @@ def _bytes(text: str) -> bytes:
 # ---- kept objects ----
 
 
+class _Slot(ctypes.Structure):
+    _fields_ = [("kept", c_void_p), ("full", c_bool)]
+
+
 class Kept:
-    """An object of the library in a slot of its own. One call at a time uses it: `lock` is held meanwhile."""
+    """An object of the library in a slot of its own. One call at a time uses it: `lock` is held meanwhile.
+
+    What interrupts a thread between two steps, as a signal's handler does, finds no call of that thread under way: so
+    a thread may take the lock again.
+    """
 
     __slots__ = ("slot", "at", "lock", "__weakref__")
 
@@ -237,7 +186,7 @@ class Kept:
     def __init__(self) -> None:
         self.slot = _Slot()
         self.at = ctypes.addressof(self.slot)
-        self.lock = threading.Lock()
+        self.lock = threading.RLock()
 
     def __del__(self) -> None:
         self.free(self.at)
@@ -245,6 +194,16 @@ class Kept:
     def close(self) -> None:
         with self.lock:
             self.free(self.at)
+
+
+class KeptText(Kept):
+    """A result of the library that has no small bound."""
+
+    __slots__ = ()
+    free = _call("text_free", *_SLOT, result=None)
+
+    def read(self) -> str:
+        return _written(_text_copy, (self.at,)).decode()
 
 
 class KeptSet(Kept):
@@ -305,21 +264,213 @@ class KeptSession(Kept):
 _owners = threading.local()
 
 
-# ---- results ----
+# ---- calls and their results ----
 
 
-def _kept_text(scratch: _Scratch) -> str:
-    """What the scratch's text holds, which is let go where it is long."""
-    code = _text_copy(scratch.text_at, scratch.out, scratch.room, scratch.needed_at)
+class _Scratch:
+    """What a call writes to: room for a short result, its length, and a truth value."""
+
+    __slots__ = ("array", "size", "out", "room", "needed", "needed_at", "flag", "flag_at")
+
+    def __init__(self) -> None:
+        self.needed = c_size_t()
+        self.needed_at = c_void_p(ctypes.addressof(self.needed))
+        self.flag = c_bool()
+        self.flag_at = c_void_p(ctypes.addressof(self.flag))
+        self.resize(4096)
+
+    def resize(self, size: int) -> None:
+        self.array = (ctypes.c_char * size)()
+        self.size = size
+        self.out = c_void_p(ctypes.addressof(self.array))
+        self.room = c_size_t(size)
+
+
+# Scratches that no call is using. A list's pop and append are whole steps, so each thread, and whatever interrupts a
+# call on the same thread, gets one of its own.
+_scratches: List[_Scratch] = []
+
+# A scratch that has grown past this isn't kept.
+_KEPT_SIZE = 1 << 16
+
+
+def _scratch() -> _Scratch:
+    try:
+        return _scratches.pop()
+    except IndexError:
+        return _Scratch()
+
+
+def _written(
+    call: Callable[..., int], arguments: Tuple[Any, ...], text: str = "", otherwise: Optional[Type[Refusal]] = None
+) -> bytes:
+    """What a call writes that has room for a short result; a refusal is one of `text`."""
+    scratch = _scratch()
+    code = call(*arguments, scratch.out, scratch.room, scratch.needed_at)
     if code == ROOM:
         scratch.resize(scratch.needed.value)
-        code = _text_copy(scratch.text_at, scratch.out, scratch.room, scratch.needed_at)
-    if code:
-        raise _error(code, "")
-    text = scratch.view[: scratch.needed.value].decode()
-    if scratch.room <= _KEPT_ROOM:
+        code = call(*arguments, scratch.out, scratch.room, scratch.needed_at)
+    result = b"" if code else scratch.array[: scratch.needed.value]
+    if scratch.size <= _KEPT_SIZE:
         _scratches.append(scratch)
-    return text
+    if code:
+        raise _error(code, text, otherwise)
+    return result
+
+
+def _told(
+    call: Callable[..., int], arguments: Tuple[Any, ...], text: str = "", otherwise: Optional[Type[Refusal]] = None
+) -> bool:
+    """What a call tells that answers true or false; a refusal is one of `text`."""
+    scratch = _scratch()
+    code = call(*arguments, scratch.flag_at)
+    told = scratch.flag.value
+    _scratches.append(scratch)
+    if code:
+        raise _error(code, text, otherwise)
+    return told
+
+
+_AnyKept = TypeVar("_AnyKept", bound=Kept)
+
+
+def _parsed(kind: Type[_AnyKept], call: Callable[..., int], text: str, otherwise: Type[Refusal]) -> _AnyKept:
+    """The object of this kind that a call makes of a text."""
+    data = _bytes(text)
+    kept = kind()
+    code = call(kept.at, data, len(data))
+    if code:
+        raise _error(code, text, otherwise)
+    return kept
+
+
+_text_copy = _call("text_copy", *_SLOT, *_OUT)
+
+
+# ---- versions and names ----
+
+_version = _call("version", *_TEXT, *_OUT, short=True)
+_version_key = _call("version_key", *_TEXT, *_OUT, short=True)
+_name = _call("name", *_TEXT, *_OUT, short=True)
+_is_name = _call("is_name", *_TEXT, *_FLAG, short=True)
+
+
+def version(text: str) -> List[str]:
+    """The fields of a version: normal form, public part, base release, epoch, release, pre, post, dev, local."""
+    data = _bytes(text)
+    return _written(_version, (data, len(data)), text, InvalidVersion).decode().split("\t")
+
+
+def version_key(text: str) -> bytes:
+    """Bytes whose order is the order of versions."""
+    # this is asked most often: what needs no room and isn't refused is done here in one step
+    try:
+        data = text.encode()
+    except (UnicodeEncodeError, AttributeError):
+        data = _bytes(text)
+    try:
+        scratch = _scratches.pop()
+    except IndexError:
+        scratch = _Scratch()
+    if _version_key(data, len(data), scratch.out, scratch.room, scratch.needed_at):
+        return _written(_version_key, (data, len(data)), text, InvalidVersion)
+    key = scratch.array[: scratch.needed.value]
+    _scratches.append(scratch)
+    return key
+
+
+def name(text: str) -> str:
+    """The normal form of a text as a name."""
+    data = _bytes(text)
+    return _written(_name, (data, len(data)), text, InvalidName).decode()
+
+
+def is_name(text: str) -> bool:
+    """Whether the text is a name."""
+    data = _bytes(text)
+    try:
+        return _told(_is_name, (data, len(data)), text, InvalidName)
+    except InvalidName:
+        return False
+
+
+# ---- specifier sets ----
+
+_set_parse = _call("set_parse", *_SLOT, *_TEXT)
+_set_text = _call("set_text", *_SLOT, *_OUT)
+_set_admits = _call("set_admits", *_SLOT, *_TEXT, *_FLAG)
+
+
+def set_parse(text: str) -> KeptSet:
+    """The specifier set of a text."""
+    return _parsed(KeptSet, _set_parse, text, InvalidSpecifier)
+
+
+def set_text(kept: KeptSet) -> str:
+    """The normal form of the set."""
+    with kept.lock:
+        return _written(_set_text, (kept.at,)).decode()
+
+
+def set_admits(kept: KeptSet, version: str) -> bool:
+    """Whether the set admits the version, of any phase."""
+    data = _bytes(version)
+    with kept.lock:
+        return _told(_set_admits, (kept.at, data, len(data)), version, InvalidVersion)
+
+
+# ---- markers and environments ----
+
+_marker_parse = _call("marker_parse", *_SLOT, *_TEXT)
+_marker_evaluate = _call("marker_evaluate", *_SLOT, *_SLOT, *_FLAG)
+_marker_evaluate_with_extra = _call("marker_evaluate_with_extra", *_SLOT, *_SLOT, *_TEXT, *_FLAG)
+_environment_read = _call("environment_read", *_SLOT, *_TEXT, *_SLOT)
+_environment_add_extra = _call("environment_add_extra", *_SLOT, *_TEXT)
+_environment_add_group = _call("environment_add_group", *_SLOT, *_TEXT)
+
+
+def marker_parse(text: str) -> KeptMarker:
+    """The marker of a text."""
+    return _parsed(KeptMarker, _marker_parse, text, InvalidMarker)
+
+
+def marker_evaluate(marker: KeptMarker, environment: KeptEnvironment, text: str) -> bool:
+    """The value of the marker in the environment. A marker's lock is taken before an environment's."""
+    with marker.lock, environment.lock:
+        return _told(_marker_evaluate, (marker.at, environment.at), text)
+
+
+def marker_evaluate_with_extra(marker: KeptMarker, environment: KeptEnvironment, extra: str, text: str) -> bool:
+    """The value of the marker in the environment, where the operand `extra` has this text."""
+    data = _bytes(extra)
+    with marker.lock, environment.lock:
+        return _told(_marker_evaluate_with_extra, (marker.at, environment.at, data, len(data)), text, InvalidName)
+
+
+def environment_read(json: bytes) -> KeptEnvironment:
+    """The environment of a JSON text, with nothing asked for."""
+    kept, words = KeptEnvironment(), KeptText()
+    code = _environment_read(kept.at, json, len(json), words.at)
+    if code:
+        raise _refused_input(code, words, b"", json)
+    return kept
+
+
+def environment_add(kept: KeptEnvironment, extras: List[str], groups: List[str]) -> None:
+    """Asks for the extras and the dependency groups."""
+    for call, names in ((_environment_add_extra, extras), (_environment_add_group, groups)):
+        for name in names:
+            data = _bytes(name)
+            with kept.lock:
+                code = call(kept.at, data, len(data))
+            if code:
+                raise _error(code, name, InvalidName)
+
+
+# ---- requirements and wheel names ----
+
+_requirement = _call("requirement", *_TEXT, *_SLOT)
+_wheel = _call("wheel", *_TEXT, *_SLOT)
 
 
 def _unescaped(field: str) -> Optional[str]:
@@ -334,263 +485,13 @@ def _unescaped(field: str) -> Optional[str]:
     return "\\".join(piece.replace("\\t", "\t").replace("\\n", "\n").replace("\\r", "\r") for piece in pieces)
 
 
-# ---- versions, sets and names ----
-
-_version = _call("version", *_TEXT, *_OUT, short=True)
-_name = _call("name", *_TEXT, *_OUT, short=True)
-_is_name = _call("is_name", *_TEXT, *_FLAG, short=True)
-
-
-def _roomy(call: Callable[..., int], data: bytes, scratch: _Scratch) -> int:
-    """The call again, with the room that it needs."""
-    scratch.resize(scratch.needed.value)
-    return call(data, len(data), scratch.out, scratch.room, scratch.needed_at)
-
-
-def _done(scratch: _Scratch) -> None:
-    if scratch.room <= _KEPT_ROOM:
-        _scratches.append(scratch)
-
-
-def version(text: str) -> List[str]:
-    """The fields of a version: normal form, public part, base release, epoch, release, pre, post, dev, local."""
-    data = _bytes(text)
-    scratch = _scratch()
-    code = _version(data, len(data), scratch.out, scratch.room, scratch.needed_at)
-    if code == ROOM:
-        code = _roomy(_version, data, scratch)
-    if code:
-        _done(scratch)
-        raise _error(code, text, InvalidVersion)
-    record = scratch.view[: scratch.needed.value].decode()
-    _done(scratch)
-    return record.split("\t")
-
-
-def _key_of_library(text: str) -> bytes:
-    """Bytes whose order is the order of versions."""
-    try:
-        data = text.encode()
-    except (UnicodeEncodeError, AttributeError):
-        data = _bytes(text)
-    # the scratch is taken and put back here, not by calls: this is the dearest of the short paths
-    try:
-        scratch = _scratches.pop()
-    except IndexError:
-        scratch = _Scratch()
-    code = _version_key(data, len(data), scratch.out, scratch.room, scratch.needed_at)
-    if code == ROOM:
-        code = _roomy(_version_key, data, scratch)
-    if code:
-        _done(scratch)
-        raise _error(code, text, InvalidVersion)
-    key = bytes(scratch.view[: scratch.needed.value])
-    if scratch.room <= _KEPT_ROOM:
-        _scratches.append(scratch)
-    return key
-
-
-def _key_of_fields(text: str) -> bytes:
-    """Bytes whose order is the order of versions, worked out from the parts, for a library without that call.
-
-    A number is 16 bytes, the greatest first. The order of the parts is that of docs/FORMATS.md, "Order".
-    """
-    _, _, _, epoch, release, pre, post, dev, local = version(text)
-
-    def number(digits: str) -> bytes:
-        return int(digits).to_bytes(16, "big")
-
-    numbers = release.split(".")
-    while numbers and numbers[-1] == "0":
-        numbers.pop()
-    key = [number(epoch), *(b"\1" + number(digits) for digits in numbers), b"\0"]
-    if pre != "-":
-        letter = "rc" if pre[0] == "r" else pre[0]
-        key.append({"a": b"\1", "b": b"\2", "rc": b"\3"}[letter] + number(pre[len(letter) :]))
-    else:
-        key.append(b"\0" if dev != "-" and post == "-" else b"\4")
-    key.append(b"\0" if post == "-" else b"\1" + number(post))
-    key.append(b"\1" if dev == "-" else b"\0" + number(dev))
-    if local != "-":
-        for segment in local.split("."):
-            key.append(b"\2" + number(segment) if segment.isdigit() else b"\1" + segment.encode() + b"\0")
-    key.append(b"\0")
-    return b"".join(key)
-
-
-if hasattr(_library, "pylock_version_key"):
-    _version_key = _call("version_key", *_TEXT, *_OUT, short=True)
-    version_key = _key_of_library
-else:
-    version_key = _key_of_fields
-
-
-def name(text: str) -> str:
-    """The normal form of a text as a name."""
-    data = _bytes(text)
-    scratch = _scratch()
-    code = _name(data, len(data), scratch.out, scratch.room, scratch.needed_at)
-    if code == ROOM:
-        code = _roomy(_name, data, scratch)
-    if code:
-        _done(scratch)
-        raise _error(code, text)
-    normal = scratch.view[: scratch.needed.value].decode()
-    _done(scratch)
-    return normal
-
-
-def is_name(text: str) -> bool:
-    """Whether the text is a name."""
-    data = _bytes(text)
-    scratch = _scratch()
-    code = _is_name(data, len(data), scratch.flag_at)
-    found = scratch.flag.value
-    _done(scratch)
-    if code == NOT_UTF8:
-        return False
-    if code:
-        raise _error(code, text)
-    return found
-
-
-# ---- specifier sets ----
-
-_set_parse = _call("set_parse", *_SLOT, *_TEXT)
-_set_text = _call("set_text", *_SLOT, *_OUT)
-_set_admits = _call("set_admits", *_SLOT, *_TEXT, *_FLAG)
-
-
-def set_parse(text: str) -> KeptSet:
-    """The specifier set of a text."""
-    try:
-        data = text.encode()
-    except (UnicodeEncodeError, AttributeError):
-        data = _bytes(text)
-    kept = KeptSet()
-    code = _set_parse(kept.at, data, len(data))
-    if code:
-        raise _error(code, text, InvalidSpecifier)
-    return kept
-
-
-def set_text(kept: KeptSet) -> str:
-    """The normal form of the set."""
-    scratch = _scratch()
-    with kept.lock:
-        code = _set_text(kept.at, scratch.out, scratch.room, scratch.needed_at)
-        if code == ROOM:
-            scratch.resize(scratch.needed.value)
-            code = _set_text(kept.at, scratch.out, scratch.room, scratch.needed_at)
-    if code:
-        raise _error(code, "")
-    text = scratch.view[: scratch.needed.value].decode()
-    _done(scratch)
-    return text
-
-
-def set_admits(kept: KeptSet, version: str) -> bool:
-    """Whether the set admits the version, of any phase."""
-    data = _bytes(version)
-    scratch = _scratch()
-    with kept.lock:
-        code = _set_admits(kept.at, data, len(data), scratch.flag_at)
-    admits = scratch.flag.value
-    _scratches.append(scratch)
-    if code:
-        raise _error(code, version, InvalidVersion)
-    return admits
-
-
-def set_admits_each(kept: KeptSet, versions: List[str]) -> List[bool]:
-    """Of each version, whether the set admits it."""
-    scratch = _scratch()
-    at, flag, flag_at = kept.at, scratch.flag, scratch.flag_at
-    answers = []
-    with kept.lock:
-        for version in versions:
-            data = _bytes(version)
-            code = _set_admits(at, data, len(data), flag_at)
-            if code:
-                raise _error(code, version, InvalidVersion)
-            answers.append(flag.value)
-    _scratches.append(scratch)
-    return answers
-
-
-# ---- markers and environments ----
-
-_marker_parse = _call("marker_parse", *_SLOT, *_TEXT)
-_marker_evaluate = _call("marker_evaluate", *_SLOT, *_SLOT, *_FLAG)
-_environment_read = _call("environment_read", *_SLOT, *_TEXT, *_SLOT)
-_environment_add_extra = _call("environment_add_extra", *_SLOT, *_TEXT)
-_environment_add_group = _call("environment_add_group", *_SLOT, *_TEXT)
-_environment_message = _call("environment_message", *_TEXT, *_SLOT)
-
-
-def marker_parse(text: str) -> KeptMarker:
-    """The marker of a text."""
-    try:
-        data = text.encode()
-    except (UnicodeEncodeError, AttributeError):
-        data = _bytes(text)
-    kept = KeptMarker()
-    code = _marker_parse(kept.at, data, len(data))
-    if code:
-        raise _error(code, text, InvalidMarker)
-    return kept
-
-
-def marker_evaluate(marker: KeptMarker, environment: KeptEnvironment, text: str) -> bool:
-    """The value of the marker in the environment. A marker's lock is taken before an environment's."""
-    scratch = _scratch()
-    with marker.lock, environment.lock:
-        code = _marker_evaluate(marker.at, environment.at, scratch.flag_at)
-    value = scratch.flag.value
-    _scratches.append(scratch)
-    if code:
-        raise _error(code, text)
-    return value
-
-
-def environment_read(json: bytes) -> KeptEnvironment:
-    """The environment of a JSON text, with nothing asked for."""
-    kept = KeptEnvironment()
-    scratch = _scratch()
-    code = _environment_read(kept.at, json, len(json), scratch.text_at)
-    if code == 71:
-        raise _refused_input(InvalidEnvironment, _kept_text(scratch), _message(_environment_message, json))
-    _scratches.append(scratch)
-    if code:
-        raise _error(code, "")
-    return kept
-
-
-def environment_add(kept: KeptEnvironment, extras: List[str], groups: List[str]) -> None:
-    """Asks for the extras and the dependency groups."""
-    for call, names in ((_environment_add_extra, extras), (_environment_add_group, groups)):
-        for name in names:
-            data = _bytes(name)
-            with kept.lock:
-                code = call(kept.at, data, len(data))
-            if code:
-                raise _error(code, name)
-
-
-# ---- requirements and wheel names ----
-
-_requirement = _call("requirement", *_TEXT, *_SLOT)
-_wheel = _call("wheel", *_TEXT, *_SLOT)
-
-
 def _record(call: Callable[..., int], text: str, otherwise: Type[Refusal]) -> List[Optional[str]]:
     data = _bytes(text)
-    scratch = _scratch()
-    code = call(data, len(data), scratch.text_at)
+    record = KeptText()
+    code = call(data, len(data), record.at)
     if code:
-        _scratches.append(scratch)
         raise _error(code, text, otherwise)
-    return [_unescaped(field) for field in _kept_text(scratch).split("\t")]
+    return [_unescaped(field) for field in record.read().split("\t")]
 
 
 def requirement(text: str) -> List[Optional[str]]:
@@ -607,33 +508,38 @@ def wheel(text: str) -> List[Optional[str]]:
 
 _files = _call("files", *_TEXT, c_bool, *_SLOT, c_void_p)
 _audit = _call("audit", *_TEXT, c_bool, *_SLOT, c_void_p)
+_lock_head = _call("lock_head", *_TEXT, *_SLOT, *_SLOT)
 _lock_message = _call("lock_message", *_TEXT, *_SLOT)
+_environment_message = _call("environment_message", *_TEXT, *_SLOT)
 
 
-def _message(call: Callable[..., int], data: bytes) -> str:
-    scratch = _scratch()
-    code = call(data, len(data), scratch.text_at)
+def _refused_input(code: int, words: KeptText, lock: bytes, environment: bytes) -> BaseException:
+    """The exception for a code of a call on a lock or an environment: it has the printed words without the first."""
+    error: Type[InvalidLock]
+    if code == 70:
+        error, call, data = InvalidLock, _lock_message, lock
+    elif code == 71:
+        error, call, data = InvalidEnvironment, _environment_message, environment
+    else:
+        return _error(code, "")
+    message = KeptText()
+    code = call(data, len(data), message.at)
     if code:
-        raise _error(code, "")
-    return _kept_text(scratch)
-
-
-def _refused_input(error: Type[InvalidLock], line: str, message: str) -> InvalidLock:
-    """The exception for a refused lock or environment: the printed words without the first, and the message."""
-    words = tuple(line.rstrip("\n").split("\t")[1:])
+        return _error(code, "")
+    printed = tuple(words.read().rstrip("\n").split("\t")[1:])
     place: Any = None
-    if len(words) > 1:
-        place = int(words[1]) if words[1].isdigit() else words[1]
-    return error(message or " ".join(words), word=words[0], place=place, words=words)
+    if len(printed) > 1:
+        place = int(printed[1]) if printed[1].isdigit() else printed[1]
+    return error(message.read(), word=printed[0], place=place, words=printed)
 
 
 def _lock_report(call: Callable[..., int], lock: bytes, json: bool) -> Tuple[str, int]:
-    scratch = _scratch()
+    report = KeptText()
     status = c_int32()
-    code = call(lock, len(lock), json, scratch.text_at, ctypes.addressof(status))
+    code = call(lock, len(lock), json, report.at, ctypes.addressof(status))
     if code:
         raise _error(code, "")
-    return _kept_text(scratch), status.value
+    return report.read(), status.value
 
 
 def files(lock: bytes, json: bool) -> Tuple[str, int]:
@@ -646,34 +552,13 @@ def audit(lock: bytes, json: bool) -> Tuple[str, int]:
     return _lock_report(_audit, lock, json)
 
 
-class Head(NamedTuple):
-    """The head of a lock: names in normal form, a specifier set and markers as texts."""
-
-    extras: Tuple[str, ...]
-    dependency_groups: Tuple[str, ...]
-    default_groups: Tuple[str, ...]
-    requires_python: Optional[str]
-    environments: Tuple[str, ...]
-
-
-def lock_head(lock: bytes) -> Head:
-    """The head of a lock that the library takes."""
-    try:
-        import tomllib
-    except ImportError:
-        from pip._vendor import tomli as tomllib
-    document = tomllib.loads(lock.decode("utf-8-sig"))
-
-    def names(key: str) -> Tuple[str, ...]:
-        return tuple(dict.fromkeys(name(text) for text in document.get(key, ())))
-
-    return Head(
-        names("extras"),
-        names("dependency-groups"),
-        names("default-groups"),
-        document.get("requires-python"),
-        tuple(document.get("environments", ())),
-    )
+def lock_head(lock: bytes) -> str:
+    """The head of a lock, as a JSON document."""
+    head, words = KeptText(), KeptText()
+    code = _lock_head(lock, len(lock), head.at, words.at)
+    if code:
+        raise _refused_input(code, words, lock, b"")
+    return head.read()
 
 
 # ---- sessions ----
@@ -699,48 +584,37 @@ _EDITS = {
 
 def session_start(lock: bytes, environment: bytes) -> KeptSession:
     """The session on a lock in an environment."""
-    kept = KeptSession()
-    scratch = _scratch()
-    code = _session_start(kept.at, lock, len(lock), environment, len(environment), scratch.text_at)
-    if code == 70:
-        raise _refused_input(InvalidLock, _kept_text(scratch), _message(_lock_message, lock))
-    if code == 71:
-        raise _refused_input(InvalidEnvironment, _kept_text(scratch), _message(_environment_message, environment))
-    _scratches.append(scratch)
+    kept, words = KeptSession(), KeptText()
+    code = _session_start(kept.at, lock, len(lock), environment, len(environment), words.at)
     if code:
-        raise _error(code, "")
+        raise _refused_input(code, words, lock, environment)
     return kept
 
 
-def session_edit(kept: KeptSession, edit: str, *arguments: Any) -> int:
-    """Makes an edit of texts, or of a number and texts; gives how many judgements it made."""
+def session_edit(kept: KeptSession, edit: str, *texts: str, number: Optional[int] = None) -> int:
+    """Makes an edit of texts, and of the number of an entry where it takes one; gives how many judgements it made."""
     words: List[Any] = []
-    for argument in arguments:
-        if isinstance(argument, int):
-            if not 0 <= argument < 1 << 32:
-                # no slot of the call can hold it, and no entry has it
-                raise _error(90, str(argument))
-            words.append(argument)
-        else:
-            data = _bytes(argument)
-            words += (data, len(data))
+    if number is not None:
+        if not 0 <= number < 1 << 32:
+            # no argument of the call can hold it, and no entry has it
+            raise _error(90, str(number))
+        words.append(number)
+    for text in texts:
+        data = _bytes(text)
+        words += (data, len(data))
     judged = c_uint64()
     with kept.lock:
         code = _EDITS[edit](kept.at, *words, ctypes.addressof(judged))
     if code:
-        raise _error(code, " ".join(str(argument) for argument in arguments), InvalidEdit)
+        raise _error(code, " ".join(texts if number is None else (str(number), *texts)), InvalidEdit)
     return judged.value
 
 
 def _session_report(call: Callable[..., int], kept: KeptSession, json: bool) -> Tuple[str, bool]:
-    scratch = _scratch()
+    report = KeptText()
     with kept.lock:
-        code = call(kept.at, json, scratch.text_at, scratch.flag_at)
-    if code:
-        _scratches.append(scratch)
-        raise _error(code, "")
-    is_plan = scratch.flag.value
-    return _kept_text(scratch), is_plan
+        is_plan = _told(call, (kept.at, json, report.at))
+    return report.read(), is_plan
 
 
 def session_answer(kept: KeptSession, json: bool) -> Tuple[str, bool]:
@@ -755,10 +629,9 @@ def session_explain(kept: KeptSession, json: bool) -> Tuple[str, bool]:
 
 def session_judged(kept: KeptSession) -> List[int]:
     """The numbers that the last accepted edit judged."""
-    scratch = _scratch()
+    numbers = KeptText()
     with kept.lock:
-        code = _session_judged(kept.at, scratch.text_at)
+        code = _session_judged(kept.at, numbers.at)
     if code:
-        _scratches.append(scratch)
         raise _error(code, "")
-    return [int(number) for number in _kept_text(scratch).split()]
+    return [int(number) for number in numbers.read().split()]

@@ -7,8 +7,8 @@
 What is different: a marker is refused where it has `os.name` or another old spelling of a variable, a backslash in a
 quoted text, more than 64 open parentheses, or `extras` and `dependency_groups` elsewhere than right of `in` or
 `not in`. Two texts are compared as versions where the left one is a version and the right one an operand, and as texts
-otherwise; `packaging` refuses a left one that isn't a version. Two variables are compared by their values. A marker
-can't be changed.
+otherwise; `packaging` refuses a left one that isn't a version. Two variables are compared by their values, and `extra`
+as a name alone. A marker can't be changed.
 """
 
 from __future__ import annotations
@@ -18,11 +18,11 @@ import os
 import platform
 import re
 import sys
-from typing import Any, Dict, FrozenSet, Iterable, List, Mapping, Optional, Tuple, Union
+from typing import Any, Dict, FrozenSet, List, Mapping, Optional, Tuple, Union
 
 from . import _native
 from ._environment import Environment, variables_text
-from ._errors import InvalidMarker, InvalidName, MarkerFault, UndefinedComparison, UndefinedEnvironmentName
+from ._errors import InvalidMarker, MarkerFault, UndefinedComparison, UndefinedEnvironmentName
 from .utils import canonicalize_name
 
 __all__ = [
@@ -157,10 +157,8 @@ def _atoms(tokens: List[str], place: int) -> Tuple[List[Any], int]:
 
 
 def _quoted(text: str) -> str:
-    """The text in quotation marks that it doesn't have itself."""
+    """The text, which has one kind of quotation marks at most, in those of the other."""
     sign = "'" if '"' in text else '"'
-    if sign in text:
-        raise InvalidName("name is invalid: %r" % text, word="name")
     return sign + text + sign
 
 
@@ -191,22 +189,6 @@ def _format(marker: Any, outermost: bool = True) -> str:
     return inner if outermost else "(%s)" % inner
 
 
-@functools.lru_cache(maxsize=256)
-def _with_extra(text: str, extra: str) -> _native.KeptMarker:
-    """The marker with the text of `extra` in its place, and in normal form what is compared with it."""
-
-    def replaced(marker: Any) -> Any:
-        if isinstance(marker, list):
-            return [replaced(piece) for piece in marker]
-        if isinstance(marker, tuple):
-            left, operator, right = _normal_extra(marker)
-            return tuple(value if operand == "extra" else operand for operand in (left, operator, right))
-        return marker
-
-    value = _quoted(canonicalize_name(extra))
-    return _native.marker_parse(_format(replaced(_atoms(_tokens(text), 0)[0])))
-
-
 class Marker:
     """A marker.
 
@@ -223,13 +205,12 @@ class Marker:
     `text` is the text as it was given; `str` writes it anew as `packaging` does, and markers are equal where that is.
     """
 
-    __slots__ = ("_given", "_kept", "_string", "_reads_extra", "__weakref__")
+    __slots__ = ("_given", "_kept", "_string", "__weakref__")
 
     def __init__(self, marker: str) -> None:
         self._kept = _native.marker_parse(marker)
         self._given = marker
         self._string: Optional[str] = None
-        self._reads_extra: Optional[bool] = None if "extra" in marker else False
 
     @property
     def text(self) -> str:
@@ -240,6 +221,7 @@ class Marker:
         string = self._string
         if string is None:
             atoms = _atoms(_tokens(self._given), 0)[0]
+            # as `packaging` has it: the name in the first comparison alone
             if isinstance(atoms[0], tuple):
                 atoms[0] = _normal_extra(atoms[0])
             string = self._string = _format(atoms)
@@ -276,12 +258,13 @@ class Marker:
         >>> Marker("extra == 'tests'").evaluate(extra="Tests")
         True
 
-        The operand `extra` is the text of `extra`, else of the mapping's `extra`, else empty, in normal form. The
-        mapping's `extras` and `dependency_groups` are sets of names. The variables of the running Python are read
-        once, and mappings that come again are kept for some time.
+        The operand `extra` is the text of `extra`, else of the mapping's `extra`, else empty; it is compared as a
+        name. The mapping's `extras` and `dependency_groups` are sets of names. The variables of the running Python
+        are read once, and mappings that come again are kept for some time.
 
         Raises UndefinedEnvironmentName where a variable isn't set, UndefinedComparison where `~=` or `===` compares
-        what isn't a version, and MarkerFault where a version has a number past 128 bits.
+        what isn't a version or `extra` stands beside another operator than `==`, `!=`, `in` and `not in`, and
+        MarkerFault where a version has a number past 128 bits.
         """
         if isinstance(environment, Environment):
             kept = environment._kept
@@ -289,12 +272,7 @@ class Marker:
             kept = _mapped(environment, True)
             if extra is None and environment is not None:
                 extra = environment.get("extra")
-        reads_extra = self._reads_extra
-        if reads_extra is None:
-            reads_extra = self._reads_extra = "extra" in _tokens(self._given)
-        if reads_extra:
-            return _native.marker_evaluate(_with_extra(self._given, extra or ""), kept, self._given)
-        return _native.marker_evaluate(self._kept, kept, self._given)
+        return _native.marker_evaluate_with_extra(self._kept, kept, extra or "", self._given)
 
     def evaluate_exactly(self, environment: Union[Environment, Mapping[str, Any]]) -> bool:
         """The value of the marker in exactly this environment, as the installation steps of a lock want it: nothing

@@ -16,7 +16,7 @@ it is made.
 from __future__ import annotations
 
 import re
-from typing import Any, FrozenSet, Iterable, Iterator, List, Optional, Tuple, TypeVar, Union
+from typing import Any, Iterable, Iterator, List, Optional, Tuple, TypeVar, Union
 
 from . import _native
 from ._errors import InvalidSpecifier, InvalidVersion
@@ -32,8 +32,6 @@ _WHITE = " \t\n\v\f\r"
 _OPERATORS = ("===", "~=", "==", "!=", "<=", ">=", "<", ">")
 # a text of these alone is a release, if it is a version at all
 _RELEASE = re.compile(r"[0-9.]*\Z").match
-# how many items of `filter` are judged at a time
-_AT_ONCE = 256
 
 
 def _given(item: UnparsedVersion) -> str:
@@ -58,36 +56,39 @@ def _text_of(specifier: Specifier) -> str:
     raise TypeError("expected a str or Specifiers, not %s" % type(specifier).__name__)
 
 
-def _cut(specifier: str) -> Tuple[str, str]:
-    """The operator and the operand of a specifier that is one."""
-    for operator in _OPERATORS:
-        if specifier.startswith(operator):
-            return operator, specifier[len(operator) :].strip(_WHITE)
-    raise AssertionError(specifier)
-
-
 class _Judge:
-    """What `Specifier` and `SpecifierSet` share: an object of the library that admits versions."""
+    """What `Specifier` and `SpecifierSet` share: specifiers, and an object of the library that admits versions."""
 
-    __slots__ = ("_forced",)
+    __slots__ = ("_text", "_kept", "_forced", "_asks", "_greater", "__weakref__")
 
-    _forced: Optional[bool]
+    def _hold(self, text: str, kept: Optional[_native.KeptSet], forced: Optional[bool]) -> None:
+        self._text = text
+        self._kept = kept
+        self._forced = forced
+        # whether the specifiers ask for pre-releases, and the operands of >: a tuple once they are known
+        self._asks: Optional[Tuple[Optional[bool]]] = None
+        self._greater: Optional[Tuple[str, ...]] = None
+
+    def _items(self) -> Tuple[Specifier, ...]:
+        """The specifiers."""
+        raise NotImplementedError
 
     def _kept_set(self) -> _native.KeptSet:
-        raise NotImplementedError
-
-    def _after(self) -> Tuple[str, ...]:
-        """The operands of `>`: `packaging` has a rule of its own for them (see `_passes`)."""
-        raise NotImplementedError
-
-    def _default(self) -> Optional[bool]:
-        """Whether the specifiers ask for pre-releases."""
-        raise NotImplementedError
+        kept = self._kept
+        if kept is None:
+            kept = self._kept = _native.set_parse(self._text)
+        return kept
 
     @property
     def prereleases(self) -> Optional[bool]:
         """Whether pre-releases are admitted: what was said where it was made, else what the specifiers ask for."""
-        return self._default() if self._forced is None else self._forced
+        if self._forced is not None:
+            return self._forced
+        asks = self._asks
+        if asks is None:
+            items = self._items()
+            asks = self._asks = (any(item._names_prerelease() for item in items) if items else None,)
+        return asks[0]
 
     def admits(self, version: UnparsedVersion) -> bool:
         """Whether the version is admitted by the order of versions alone, a pre-release as any other.
@@ -97,21 +98,22 @@ class _Judge:
         """
         return _native.set_admits(self._kept_set(), _given(version))
 
-    def _passes(self, items: List[UnparsedVersionVar]) -> List[bool]:
-        """Of each item, whether the specifiers of `packaging` let it through, pre-releases too.
+    def _passes(self, version: UnparsedVersion) -> bool:
+        """Whether the specifiers of `packaging` let the version through, a pre-release too.
 
         Of `>V` it refuses each version with a local part whose base release is that of V, also where its public part
         is greater.
         """
-        texts = [_given(item) for item in items]
-        answers = _native.set_admits_each(self._kept_set(), texts)
-        after = self._after()
-        if after:
-            for place, text in enumerate(texts):
-                if answers[place] and "+" in text:
-                    base = Version(Version(text).base_version)
-                    answers[place] = all(base != Version(Version(operand).base_version) for operand in after)
-        return answers
+        text = _given(version)
+        if not _native.set_admits(self._kept_set(), text):
+            return False
+        greater = self._greater
+        if greater is None:
+            greater = self._greater = tuple(item.version for item in self._items() if item.operator == ">")
+        if not greater or "+" not in text:
+            return True
+        base = Version(Version(text).base_version)
+        return all(base != Version(Version(operand).base_version) for operand in greater)
 
     def __contains__(self, item: UnparsedVersion) -> bool:
         return self.contains(item)
@@ -132,7 +134,42 @@ class _Judge:
             if not prereleases:
                 return False
             item = (item if isinstance(item, Version) else Version(item)).base_version
-        return self._passes([item])[0]
+        return self._passes(item)
+
+    def filter(
+        self, iterable: Iterable[UnparsedVersionVar], prereleases: Optional[bool] = None
+    ) -> Iterator[UnparsedVersionVar]:
+        """The versions that are admitted; pre-releases where these are.
+
+        >>> list(SpecifierSet(">=1.2.3").filter(["1.2", "1.3", "1.5a1"]))
+        ['1.3']
+        >>> list(SpecifierSet(">=1.2.3").filter(["1.2", "1.5a1"]))
+        []
+
+        The empty set and one specifier alone give pre-releases where there is nothing else:
+
+        >>> list(SpecifierSet("").filter(["1.5a1"])), list(Specifier(">=1.2.3").filter(["1.2", "1.5a1"]))
+        (['1.5a1'], ['1.5a1'])
+        """
+        asked = self.prereleases if prereleases is None else prereleases
+        falls_back = prereleases is None and (asked is None or isinstance(self, Specifier))
+        left_over: List[UnparsedVersionVar] = []
+        found = False
+        for item in iterable:
+            if not self._passes(item):
+                continue
+            if asked or not _is_prerelease(item):
+                found = True
+                yield item
+            elif falls_back:
+                left_over.append(item)
+        if not found:
+            yield from left_over
+
+    @property
+    def text(self) -> str:
+        """The text as it was given; of one specifier without white space."""
+        return self._text
 
     # ---- copies ----
 
@@ -143,21 +180,11 @@ class _Judge:
         return self
 
     def __reduce__(self) -> Tuple[Any, ...]:
-        return type(self), (self.text, self._forced)  # type: ignore[attr-defined]
+        return type(self), (self._text, self._forced)
 
     def __repr__(self) -> str:
         forced = "" if self._forced is None else ", prereleases=%r" % self._forced
         return "<%s(%r%s)>" % (type(self).__name__, str(self), forced)
-
-
-def _in_pieces(items: Iterable[UnparsedVersionVar]) -> Iterator[List[UnparsedVersionVar]]:
-    piece: List[UnparsedVersionVar] = []
-    for item in items:
-        piece.append(item)
-        if len(piece) == _AT_ONCE:
-            yield piece
-            piece = []
-    yield piece
 
 
 class Specifier(_Judge):
@@ -169,44 +196,36 @@ class Specifier(_Judge):
     True
     """
 
-    __slots__ = ("_spec", "_kept", "_canonical", "__weakref__")
+    __slots__ = ("_spec", "_canonical")
 
     def __init__(self, spec: str = "", prereleases: Optional[bool] = None) -> None:
         kept = _native.set_parse(spec)
         text = spec.strip(_WHITE)
         if not text or "," in text:
             raise InvalidSpecifier("Invalid specifier: %r (not one specifier)" % spec, word="syntax")
-        self._spec = _cut(text)
-        self._kept: Optional[_native.KeptSet] = kept
-        self._canonical: Optional[Tuple[str, str]] = None
-        self._forced = prereleases
+        self._cut(text, kept, prereleases)
 
     @classmethod
     def _of(cls, piece: str) -> Specifier:
         """The specifier of a piece of a set's text, which is one."""
         specifier = cls.__new__(cls)
-        specifier._spec = _cut(piece)
-        specifier._kept = None
-        specifier._canonical = None
-        specifier._forced = None
+        specifier._cut(piece, None, None)
         return specifier
 
-    def _kept_set(self) -> _native.KeptSet:
-        kept = self._kept
-        if kept is None:
-            kept = self._kept = _native.set_parse(self.text)
-        return kept
+    def _cut(self, text: str, kept: Optional[_native.KeptSet], forced: Optional[bool]) -> None:
+        """Cuts the text, which is a specifier, into operator and operand."""
+        operator = next(operator for operator in _OPERATORS if text.startswith(operator))
+        self._spec = operator, text[len(operator) :].strip(_WHITE)
+        self._canonical: Optional[Tuple[str, str]] = None
+        self._hold("%s%s" % self._spec, kept, forced)
 
-    def _after(self) -> Tuple[str, ...]:
-        return (self._spec[1],) if self._spec[0] == ">" else ()
+    def _items(self) -> Tuple[Specifier, ...]:
+        return (self,)
 
-    def _default(self) -> bool:
+    def _names_prerelease(self) -> bool:
+        """Whether it asks for pre-releases: its operand is one."""
         operator, operand = self._spec
-        if operator == "!=":
-            return False
-        if operator == "==" and operand.endswith(".*"):
-            return False
-        if _RELEASE(operand):
+        if operator == "!=" or operator == "==" and operand.endswith(".*") or _RELEASE(operand):
             return False
         try:
             return Version(operand).is_prerelease
@@ -232,11 +251,6 @@ class Specifier(_Judge):
         """
         return self._spec[1]
 
-    @property
-    def text(self) -> str:
-        """The specifier as it is written, without white space."""
-        return "%s%s" % self._spec
-
     def _canonical_spec(self) -> Tuple[str, str]:
         canonical = self._canonical
         if canonical is None:
@@ -246,7 +260,7 @@ class Specifier(_Judge):
         return canonical
 
     def __str__(self) -> str:
-        return "%s%s" % self._spec
+        return self._text
 
     def __hash__(self) -> int:
         return hash(self._canonical_spec())
@@ -260,31 +274,6 @@ class Specifier(_Judge):
         elif not isinstance(other, type(self)):
             return NotImplemented
         return self._canonical_spec() == other._canonical_spec()
-
-    def filter(
-        self, iterable: Iterable[UnparsedVersionVar], prereleases: Optional[bool] = None
-    ) -> Iterator[UnparsedVersionVar]:
-        """The versions that the specifier admits; pre-releases where these are admitted, or nothing else is.
-
-        >>> list(Specifier(">=1.2.3").filter(["1.2", "1.3", "1.5a1"]))
-        ['1.3']
-        >>> list(Specifier(">=1.2.3").filter(["1.2", "1.5a1"]))
-        ['1.5a1']
-        """
-        with_them = bool(prereleases or self.prereleases)
-        left_over: List[UnparsedVersionVar] = []
-        found = False
-        for piece in _in_pieces(iterable):
-            for item, passes in zip(piece, self._passes(piece)):
-                if not passes:
-                    continue
-                if with_them and prereleases is not False or not _is_prerelease(item):
-                    found = True
-                    yield item
-                elif prereleases is None:
-                    left_over.append(item)
-        if not found:
-            yield from left_over
 
 
 class SpecifierSet(_Judge):
@@ -304,23 +293,15 @@ class SpecifierSet(_Judge):
     a set, as in `packaging`: order and repetition don't count.
     """
 
-    __slots__ = ("_text", "_kept", "_specs", "_asks", "_greater", "__weakref__")
+    __slots__ = ("_specs",)
 
     def __init__(
         self, specifiers: Union[str, Iterable[Specifier]] = "", prereleases: Optional[bool] = None
     ) -> None:
         if not isinstance(specifiers, str):
             specifiers = ",".join([_text_of(specifier) for specifier in specifiers])
-        self._kept = _native.set_parse(specifiers)
-        self._text = specifiers
-        self._forced = prereleases
+        self._hold(specifiers, _native.set_parse(specifiers), prereleases)
         self._specs: Optional[Tuple[Specifier, ...]] = None
-        # whether the specifiers ask for pre-releases, and the operands of >: a tuple once they are known
-        self._asks: Optional[Tuple[Optional[bool]]] = None
-        self._greater: Optional[Tuple[str, ...]] = None
-
-    def _kept_set(self) -> _native.KeptSet:
-        return self._kept
 
     def _items(self) -> Tuple[Specifier, ...]:
         """The specifiers, of equal ones the first."""
@@ -330,27 +311,6 @@ class SpecifierSet(_Judge):
             specs = self._specs = tuple(dict.fromkeys(Specifier._of(piece) for piece in pieces if piece))
         return specs
 
-    def _after(self) -> Tuple[str, ...]:
-        greater = self._greater
-        if greater is None:
-            greater = ()
-            if ">" in self._text:
-                greater = tuple(spec.version for spec in self._items() if spec.operator == ">")
-            self._greater = greater
-        return greater
-
-    def _default(self) -> Optional[bool]:
-        asks = self._asks
-        if asks is None:
-            items = self._items()
-            asks = self._asks = (any(spec.prereleases for spec in items) if items else None,)
-        return asks[0]
-
-    @property
-    def text(self) -> str:
-        """The text as it was given."""
-        return self._text
-
     @property
     def normal_text(self) -> str:
         """The normal form: the specifiers in the order of the text, their versions in normal form.
@@ -358,7 +318,7 @@ class SpecifierSet(_Judge):
         >>> SpecifierSet(" >= 2.8.1 ,, == v1!2.0.* ").normal_text
         '>=2.8.1,==1!2.0.*'
         """
-        return _native.set_text(self._kept)
+        return _native.set_text(self._kept_set())
 
     def __str__(self) -> str:
         return ",".join(sorted(str(spec) for spec in self._items()))
@@ -388,34 +348,3 @@ class SpecifierSet(_Judge):
         if self._forced is not None and self._forced != forced:
             raise ValueError("Cannot combine SpecifierSets with True and False prerelease overrides.")
         return SpecifierSet(self._text + "," + other._text, forced)
-
-    def filter(
-        self, iterable: Iterable[UnparsedVersionVar], prereleases: Optional[bool] = None
-    ) -> Iterator[UnparsedVersionVar]:
-        """The versions that the set admits; pre-releases where these are admitted.
-
-        >>> list(SpecifierSet(">=1.2.3").filter(["1.2", "1.3", "1.5a1"]))
-        ['1.3']
-        >>> list(SpecifierSet(">=1.2.3").filter(["1.2", "1.5a1"]))
-        []
-
-        The empty set gives pre-releases where there is nothing else:
-
-        >>> list(SpecifierSet("").filter(["1.5a1"]))
-        ['1.5a1']
-        """
-        if prereleases is None:
-            prereleases = self.prereleases
-        left_over: List[UnparsedVersionVar] = []
-        found = False
-        for piece in _in_pieces(iterable):
-            for item, passes in zip(piece, self._passes(piece)):
-                if not passes:
-                    continue
-                if prereleases or not _is_prerelease(item):
-                    found = True
-                    yield item
-                elif prereleases is None:
-                    left_over.append(item)
-        if not found:
-            yield from left_over

@@ -1,59 +1,91 @@
-"""Measures the module beside `packaging`, or pip's copy of it; judges nothing: microseconds of each, and the ratio."""
+"""Measures the module beside `packaging`, or pip's copy of it, and judges nothing: the time of each, and the ratio.
 
+    PYLOCK_LIBRARY=out/libpylock.so python3 python/tests/speed.py
+
+Processor time of the process, in microseconds: here and there by turns, and of each the least of seven runs, as other
+work on the machine only adds to a time.
+"""
+
+import os
 import random
 import sys
 import time
 import timeit
 
-from support import reference
+from support import TOP, bytes_of, reference
 
 import pylock
 
-library = reference()
-P = {part: getattr(library, part) for part in ("version", "specifiers", "markers", "requirements", "utils")}
-print("Python", sys.version.split()[0], library.__name__, library.__version__)
+theirs = reference()
+TEXTS = 100_000
+ROUNDS = 7
 
 
-def best(f, n):
-    return min(timeit.repeat(f, number=n, repeat=3)) / n * 1e6
+def row(name, ours, other=None, count=2_000):
+    """Prints what a call takes here and there, of so many calls in each run."""
+    calls = [(ours, count)] + ([(other, max(count // 5, 1))] if other and theirs else [])
+    rounds = [[timeit.timeit(call, timer=time.process_time, number=times) / times for call, times in calls] for _ in range(ROUNDS)]
+    least = [min(times) * 1e6 for times in zip(*rounds)]
+    ratio = "%7.1f" % (least[1] / least[0]) if len(least) == 2 else ""
+    print("%-44s" % name, *["%12.2f" % time_of_call for time_of_call in least], ratio)
+    sys.stdout.flush()
 
 
-def row(name, a, b, n=2000):
-    x, y = best(a, n*5), best(b, n)
-    print("%-34s %8.2f %8.2f  %5.1f" % (name, x, y, y/x))
+def versions():
+    dice = random.Random(440)
+    texts = ["%d.%d.%d%s" % (dice.randrange(30), dice.randrange(30), dice.randrange(300), dice.choice(("", "", "", "rc1", ".post2", ".dev3")))
+             for _ in range(TEXTS)]
+    parse = theirs and theirs.version.Version
+    ours, others = pylock.parse_all(texts), [parse(text) for text in texts] if theirs else []
+    row("Version(text)", lambda: pylock.Version("1.2.3"), lambda: parse("1.2.3"), 20_000)
+    row("str(Version(text))", lambda: str(pylock.Version("1.2.3")), lambda: str(parse("1.2.3")), 10_000)
+    row("one < other", lambda: ours[0] < ours[1], lambda: others[0] < others[1], 50_000)
+    row("100,000 texts parsed", lambda: pylock.parse_all(texts), lambda: [parse(text) for text in texts], 1)
+    row("100,000 Versions sorted", lambda: sorted(ours), lambda: sorted(others), 1)
+    row("100,000 texts sorted", lambda: pylock.sorted_versions(texts), lambda: sorted(texts, key=parse), 1)
 
 
-row("Version('1.2.3')", lambda: pylock.Version("1.2.3"), lambda: P["version"].Version("1.2.3"))
-row("str(Version('1.2.3'))", lambda: str(pylock.Version("1.2.3")), lambda: str(P["version"].Version("1.2.3")))
-row("SpecifierSet('>=1.0,<2,!=1.5.*')", lambda: pylock.SpecifierSet(">=1.0,<2,!=1.5.*"), lambda: P["specifiers"].SpecifierSet(">=1.0,<2,!=1.5.*"))
-s, t = pylock.SpecifierSet(">=1.0,<2,!=1.5.*"), P["specifiers"].SpecifierSet(">=1.0,<2,!=1.5.*")
-a, b = pylock.Version("1.4"), P["version"].Version("1.4")
-row("version in set", lambda: a in s, lambda: b in t, 500)
-row("filter of 100 texts", lambda: list(s.filter(["1.4"]*100)), lambda: list(t.filter(["1.4"]*100)), 5)
-m = "python_version >= '3.8' and sys_platform == 'linux'"
-row("Marker(..)", lambda: pylock.Marker(m), lambda: P["markers"].Marker(m), 500)
-M, N = pylock.Marker(m), P["markers"].Marker(m)
-e = pylock.Environment(P["markers"].default_environment(), [])
-d = dict(P["markers"].default_environment(), extra="")
-row("evaluate in a kept environment", lambda: M.evaluate(e), lambda: N.evaluate(d), 500)
-row("evaluate()", lambda: M.evaluate(), lambda: N.evaluate(), 500)
-row("evaluate(mapping)", lambda: M.evaluate(d), lambda: N.evaluate(d), 500)
-r = "requests[security]>=2.8.1,==2.8.*; python_version < '2.7'"
-row("Requirement(..)", lambda: pylock.Requirement(r), lambda: P["requirements"].Requirement(r), 300)
-row("canonicalize_name", lambda: pylock.canonicalize_name("Foo.Bar_baz"), lambda: P["utils"].canonicalize_name("Foo.Bar_baz"))
-random.seed(1)
-texts = ["%d.%d.%d" % (random.randrange(30), random.randrange(30), random.randrange(300)) for _ in range(100000)]
+def sets():
+    text = ">=1.0,<2,!=1.5.*"
+    parse = theirs and theirs.specifiers.SpecifierSet
+    ours, others = pylock.SpecifierSet(text), theirs and parse(text)
+    version, other = pylock.Version("1.4"), theirs and theirs.version.Version("1.4")
+    row("SpecifierSet(text)", lambda: pylock.SpecifierSet(text), lambda: parse(text), 5_000)
+    row("version in set", lambda: version in ours, lambda: other in others, 5_000)
+    row("text in set", lambda: "1.4" in ours, lambda: "1.4" in others, 5_000)
+    row("filter of 100 texts", lambda: list(ours.filter(["1.4"] * 100)), lambda: list(others.filter(["1.4"] * 100)), 50)
 
 
-def clock(f):
-    best = float("inf")
-    for _ in range(2):
-        start = time.perf_counter()
-        f()
-        best = min(best, time.perf_counter() - start)
-    return best
+def markers():
+    text = "python_version >= '3.8' and sys_platform == 'linux'"
+    parse = theirs and theirs.markers.Marker
+    ours, others = pylock.Marker(text), theirs and parse(text)
+    variables = pylock.default_environment()
+    kept, mapping = pylock.Environment(variables, []), dict(variables, extra="")
+    row("Marker(text)", lambda: pylock.Marker(text), lambda: parse(text), 5_000)
+    row("evaluate in a kept environment", lambda: ours.evaluate(kept), lambda: others.evaluate(mapping), 5_000)
+    row("evaluate in a mapping that came before", lambda: ours.evaluate(mapping), lambda: others.evaluate(mapping), 5_000)
+    row("evaluate in the running Python", lambda: ours.evaluate(), lambda: others.evaluate(), 5_000)
 
 
-A, B = [pylock.Version(x) for x in texts], [P["version"].Version(x) for x in texts]
-print("sort 100,000 Versions        %.3f s  %.3f s" % (clock(lambda: sorted(A)), clock(lambda: sorted(B))))
-print("parse and sort 100,000 texts %.3f s  %.3f s" % (clock(lambda: pylock.sorted_versions(texts)), clock(lambda: sorted(texts, key=P["version"].Version))))
+def texts():
+    requirement = "requests[security]>=2.8.1,==2.8.*; python_version < '2.7'"
+    wheel = "numpy-2.2.1-cp312-cp312-manylinux_2_17_x86_64.manylinux2014_x86_64.whl"
+    row("Requirement(text)", lambda: pylock.Requirement(requirement), theirs and (lambda: theirs.requirements.Requirement(requirement)))
+    row("parse_wheel_filename", lambda: pylock.parse_wheel_filename(wheel), theirs and (lambda: theirs.utils.parse_wheel_filename(wheel)))
+    row("canonicalize_name", lambda: pylock.canonicalize_name("Foo.Bar_baz"), theirs and (lambda: theirs.utils.canonicalize_name("Foo.Bar_baz")))
+
+
+def plans():
+    lock, environment = bytes_of("examples", "pylock.toml"), pylock.Environment.read(os.path.join(TOP, "examples", "linux.json"))
+    session = pylock.Session(lock, environment)
+    row("the first plan of examples/pylock.toml", lambda: pylock.Lock.read(lock).plan(environment), count=20)
+    row("an edit of its session", lambda: (session.add_extra("science"), session.drop_extra("science")), count=500)
+    row("an answer of its session", session.answer, count=100)
+
+
+if __name__ == "__main__":
+    told = "%s %s" % (theirs.__name__, theirs.__version__) if theirs else "nothing"
+    print("Python %s, microseconds, beside %s" % (sys.version.split()[0], told))
+    for part in (versions, sets, markers, texts, plans):
+        part()

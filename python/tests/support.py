@@ -41,8 +41,8 @@ def toml():
 
 
 def program():
-    """The built program, or None."""
-    path = os.path.join(TOP, "crates", "pylock", "out", "pylock")
+    """The built program, or None: that which the variable PYLOCK names, or the repository's own."""
+    path = os.environ.get("PYLOCK") or os.path.join(TOP, "crates", "pylock", "out", "pylock")
     return path if os.access(path, os.X_OK) else None
 
 

@@ -243,6 +243,9 @@ class Agreement(unittest.TestCase):
 
     def test_requirements(self):
         for text in REQUIREMENTS:
+            if OLD and text == "a ()":
+                # refused before 22
+                continue
             ours, theirs = pylock.Requirement(text), packaging.requirements.Requirement(text)
             self.same(
                 text,
@@ -259,6 +262,9 @@ class Agreement(unittest.TestCase):
                 if theirs:
                     self.assertEqual(hash(ours[0]), hash(ours[1]))
         for text in NO_REQUIREMENTS:
+            if OLD and text == "a >=":
+                # taken before 22
+                continue
             self.same(text, asked(pylock.Requirement, text), asked(packaging.requirements.Requirement, text))
 
     def test_names(self):
@@ -323,7 +329,7 @@ class Agreement(unittest.TestCase):
             ours = getattr(pylock, part)
             missing = {name for name in names if not hasattr(ours, name)} - allowed
             with self.subTest(part):
-                self.assertLessEqual(missing, {"LegacySpecifier"} if OLD else set())
+                self.assertLessEqual(missing, {"LegacySpecifier", "VersionTypeVar"} if OLD else set())
 
 
 # What is asked, pylock's answer, the answer of packaging 24.1 ("refused" where it refuses)
@@ -340,6 +346,8 @@ DIFFERENCES = [
     ("two texts", lambda library: library.markers.Marker("'a' == 'a'").evaluate(), True, "refused"),
     ("two variables", lambda library: library.markers.Marker("os_name == sys_platform").evaluate(
         {"os_name": "sys_platform", "sys_platform": "x"}), False, True),
+    ("an extra that spells a version", lambda library: library.markers.Marker("extra == 'v1'").evaluate({"extra": "1"}), False, True),
+    ("an order of extras", lambda library: library.markers.Marker("extra >= 'a'").evaluate({"extra": "b"}), "refused", True),
     ("os.name", lambda library: str(library.markers.Marker("os.name == 'nt'")), "refused", 'os_name == "nt"'),
     ("python_implementation", lambda library: str(library.markers.Marker("python_implementation == 'x'")), "refused",
      'platform_python_implementation == "x"'),

@@ -92,6 +92,22 @@ class Refusals(unittest.TestCase):
             with refused(self, error, "syntax"):
                 call("1\ud800")
         self.assertFalse(pylock.is_normalized_name("a\ud800"))
+        with refused(self, pylock.InvalidName, "syntax"):
+            pylock.canonicalize_name("a\ud800")
+        with refused(self, pylock.InvalidName, "syntax"):
+            pylock.Marker("extra == 'a'").evaluate(extra="\ud800")
+        with refused(self, pylock.InvalidName, "syntax"):
+            pylock.Marker("'a' in extras").evaluate({"extras": ["\ud800"]})
+
+    def test_markers(self):
+        for text, error, word in (
+            ("os_name == 'nt'", pylock.UndefinedEnvironmentName, "marker-unset"), ("extra == 'a'", pylock.MarkerFault, "marker-extra"),
+            ("'a' ~= 'b'", pylock.UndefinedComparison, "marker-undefined"), ("'%d' < '1'" % 2**128, pylock.MarkerFault, "marker-number"),
+        ):
+            with refused(self, error, word):
+                pylock.Marker(text).evaluate_exactly({})
+        with refused(self, pylock.UndefinedComparison, "marker-undefined"):
+            pylock.Marker("extra < 'a'").evaluate(extra="b")
 
     def test_locks(self):
         with refused(self, pylock.InvalidLock, "entry", 1) as caught:
@@ -148,7 +164,8 @@ class Refusals(unittest.TestCase):
         for call in (
             lambda: 1 in pylock.SpecifierSet(">=1"), lambda: pylock.SpecifierSet(">=1").admits(None), lambda: pylock.Version("1") < "1",
             lambda: lock.plan(5), lambda: lock.plan("x"), lambda: lock.plan(linux(), extras="x"), lambda: pylock.Lock.read(5),
-            lambda: pylock.Session("x", linux()), lambda: pylock.Session(LOCK, None), lambda: session.set(1, "x"), lambda: session.set("os_name", 1),
+            lambda: lock.plan(linux(), extra=["x"]), lambda: lock.explain(linux(), policies="x"), lambda: lock.explain(linux(), []),
+            lambda: pylock.Session("x", linux()), lambda: pylock.Session(LOCK, None), lambda: session.set(1, "x"), lambda: session.set("os_name", 1), lambda: session.set("os_name", -1),
             lambda: session.put("1", "x"), lambda: session.delete(True), lambda: session.tags("py3-none-any"), lambda: session.add(None),
             lambda: marker.evaluate(5), lambda: marker.evaluate({"os_name": 5}), lambda: marker.evaluate(lock), lambda: marker.evaluate_exactly(session),
             lambda: marker.evaluate(pylock.SpecifierSet("")), lambda: pylock.Environment({"os_name": 1}), lambda: pylock.Environment({}, "py3-none-any"),
@@ -176,7 +193,7 @@ class Copies(unittest.TestCase):
     def test_of_a_thread(self):
         for one in (pylock.Lock.read(LOCK), pylock.Session(LOCK, linux()), linux()):
             for call in (copy.copy, copy.deepcopy, pickle.dumps):
-                with self.subTest((type(one), call)), self.assertRaises(TypeError):
+                with self.subTest((type(one), call)), self.assertRaisesRegex(TypeError, "can't be copied or pickled"):
                     call(one)
 
     def test_environment_fixed(self):

@@ -5,6 +5,7 @@ import importlib
 import inspect
 import os
 import pkgutil
+import re
 import subprocess
 import sys
 import tempfile
@@ -31,6 +32,9 @@ class Doctests(unittest.TestCase):
     def test_documented(self):
         for name in pylock.__all__:
             value = getattr(pylock, name)
+            # a function of its own before Python 3.10
+            if value is pylock.NormalizedName:
+                continue
             if inspect.isclass(value) or inspect.isfunction(value):
                 self.assertTrue(value.__doc__, name)
                 for part, member in vars(value).items() if inspect.isclass(value) else ():
@@ -44,6 +48,21 @@ class Doctests(unittest.TestCase):
                 self.assertIs(getattr(module, name), getattr(pylock, name), (part, name))
         for error in (pylock.InvalidVersion, pylock.InvalidSpecifier, pylock.InvalidMarker, pylock.InvalidRequirement, pylock.InvalidWheelFilename):
             self.assertIs(getattr(importlib.import_module(error.__module__), error.__name__), error)
+
+
+class Names(unittest.TestCase):
+    """The names that are no calls."""
+
+    def test_values(self):
+        self.assertEqual(set(pylock.VARIABLES), set(pylock.default_environment()))
+        pattern = re.compile(pylock.VERSION_PATTERN, re.VERBOSE | re.IGNORECASE)
+        for text in ("1.0", "v1!2.0-RC.1.post2.dev3+Abc_1"):
+            self.assertTrue(pattern.fullmatch(text), text)
+        self.assertEqual(pylock.NormalizedName("a"), "a")
+        self.assertEqual(pylock.parse_wheel_filename("a-1-2b-py3-none-any.whl")[2], (2, "b"))
+        self.assertEqual(set(pylock.Options.__annotations__), {
+            "extras", "all_extras", "groups", "without_groups", "all_groups", "default_groups", "policies", "variables",
+        })
 
 
 class Program(unittest.TestCase):
@@ -123,6 +142,16 @@ class Command(unittest.TestCase):
         status, printed, told = self.run_command("plan", "examples/pylock.toml", "examples/linux.json", "--extra", "tset", "--json")
         self.assertEqual((status, printed), (1, '{"pylock":1,"refused":["extra","tset"]}\n'))
         self.assertEqual(self.run_command("fly")[0], 2)
+        self.assertEqual(self.run_command("audit", "examples/audited.toml", "--js")[0], 2)
+
+    @unittest.skipUnless(os.path.exists("/dev/full"), "there is no /dev/full")
+    def test_full(self):
+        for words in (["files", "examples/pylock.toml"], ["plan", "examples/pylock.toml", "examples/linux.json", "--extra", "tset"]):
+            with open("/dev/full", "wb") as full:
+                ran = subprocess.run(
+                    [sys.executable, "-m", "pylock", *words], env=dict(os.environ, PYTHONPATH=PYTHON), stdout=full, stderr=subprocess.PIPE, cwd=TOP
+                )
+            self.assertEqual((ran.returncode, ran.stderr), (3, b"pylock: write\n"))
 
 
 if __name__ == "__main__":

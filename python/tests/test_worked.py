@@ -4,7 +4,7 @@ expected, and the example of the README."""
 import contextlib
 import io
 import os
-import sys
+import re
 import tempfile
 import unittest
 
@@ -17,6 +17,7 @@ from pylock import _native
 READER = toml()
 HEAD = b'lock-version = "1.0"\ncreated-by = "t"\n'
 NOTHING = b'{"environment":{},"tags":[]}'
+STATUS = re.compile(r"(^|\n)status [0-9]\Z")
 
 
 def bytes_in(value):
@@ -45,16 +46,22 @@ def title(case):
 
 
 def answers():
-    """What is expected under each title, those of one title in order."""
-    found = {}
-    kept = None
+    """What is expected under each title and kind of text, those of one title and kind in order.
+
+    One title may stand in several files: commands are told with their lines (`> `), a report with its status.
+    """
+    found, blocks, kept = {}, [], None
     for line in text_of("crates", "cases", "stdout").split("\n"):
         if line.startswith("-- "):
-            kept = found.setdefault(line[3:], [])
-            kept.append([])
-        elif kept:
-            kept[-1].append(line)
-    return {name: ["\n".join(lines).rstrip("\n") for lines in blocks] for name, blocks in found.items()}
+            name, kept = line[3:], []
+            blocks.append((name, kept))
+        elif kept is not None:
+            kept.append(line)
+    for name, lines in blocks:
+        text = "\n".join(lines).rstrip("\n")
+        kind = "commands" if text.startswith("> ") else "report" if STATUS.search(text) else "other"
+        found.setdefault((name, kind), []).append(text)
+    return found
 
 
 def field(text):
@@ -151,7 +158,7 @@ def select(lock, environment, lines):
         pieces.pop()
     for number, line in enumerate(pieces, 1):
         try:
-            session.line(line[:-1].decode("utf-8", "surrogateescape") if line.endswith(b"\r") else line.decode("utf-8", "surrogateescape"))
+            session.line(line.decode("utf-8", "surrogateescape"))
         except pylock.InvalidEdit as refusal:
             word = "text" if refusal.word == "syntax" else refusal.word
             report.append("refused %d\t%s\n" % (number, word))
@@ -183,22 +190,22 @@ class Worked(unittest.TestCase):
     def setUpClass(cls):
         cls.expected = answers()
 
-    def rows(self, file, kind):
-        """The cases of a kind with what is expected of them."""
+    def rows(self, file, kind, told):
+        """The cases of a kind with what is expected of them, told as commands or as a report."""
         cases = READER.loads(text_of("crates", "cases", "data", file))[kind]
         seen = {}
         for case in cases:
             name = title(case)
             place = seen[name] = seen.get(name, -1) + 1
-            blocks = self.expected.get(name)
+            blocks = self.expected.get((name, told))
             if blocks is None or "brief" in case:
-                # a title of several lines, or of a case that is told in brief
+                # a title of several lines, or of a case that is told otherwise or in brief
                 continue
             yield name, case, blocks[place] if len(blocks) > place else blocks[-1]
 
     def test_replies(self):
         count = 0
-        for name, case, expected in self.rows("replies.toml", "reply"):
+        for name, case, expected in self.rows("replies.toml", "reply", "report"):
             words = [bytes_in(case["long"]).decode() if word == "#" else word for word in case["words"]]
             if words[0] in ("files", "audit"):
                 continue
@@ -209,9 +216,7 @@ class Worked(unittest.TestCase):
 
     def test_runs(self):
         count = 0
-        for name, case, expected in self.rows("runs.toml", "run"):
-            if "RunFault" in expected or expected in ("Read", "Write", "Input", "Memory"):
-                continue
+        for name, case, expected in self.rows("runs.toml", "run", "report"):
             lock = bytes_in(case["lock"]) if "lock" in case else HEAD + bytes_in(case.get("lines", ""))
             environment = bytes_in(case.get("environment", NOTHING.decode()))
             with self.subTest(name):
@@ -222,13 +227,9 @@ class Worked(unittest.TestCase):
 
     def commands(self, file, kind, words_of):
         count = 0
-        for name, case, expected in self.rows(file, kind):
+        for name, case, expected in self.rows(file, kind, "commands"):
             lock = bytes_in(case["lock"]) if "lock" in case else HEAD + bytes_in(case.get("lines", ""))
             environment = bytes_in(case.get("environment", NOTHING.decode()))
-            if not expected.startswith("> "):
-                # a case of another file that has the same title
-                told_here = [block for block in self.expected[name] if block.startswith("> ")]
-                expected = told_here[0]
             for told in expected[2:].split("\n> "):
                 line, _, report = told.partition("\n")
                 if report == "refused by clap":

@@ -75,6 +75,154 @@ static void names(void)
     HOLDS(is_name);
 }
 
+/* how the keys of two versions compare: below 0, 0 or above */
+static int keys(const char *version, const char *other)
+{
+    uint8_t key[64], other_key[64];
+    size_t length = 0, other_length = 0;
+    IS(pylock_version_key(TEXT(version), key, sizeof key, &length), PYLOCK_OK);
+    IS(pylock_version_key(TEXT(other), other_key, sizeof other_key, &other_length), PYLOCK_OK);
+    int order = memcmp(key, other_key, length < other_length ? length : other_length);
+    return order ? order : (length > other_length) - (length < other_length);
+}
+
+static void version_keys(void)
+{
+    uint8_t out[16];
+    size_t needed = 77;
+    HOLDS(keys("1.0", "1.0.0") == 0);
+    HOLDS(keys("v1.0-RC-1", "1rc1") == 0);
+    HOLDS(keys("1.0.dev1", "1.0a1") < 0);
+    HOLDS(keys("1.0a1.dev1", "1.0a1") < 0);
+    HOLDS(keys("1.0rc2", "1.0") < 0);
+    HOLDS(keys("1.0", "1.0+a") < 0);
+    HOLDS(keys("1.0+a", "1.0+1") < 0);
+    HOLDS(keys("1.0+1", "1.0.post0") < 0);
+    HOLDS(keys("1.10", "1.9") > 0);
+    HOLDS(keys("1.256", "1.255") > 0);
+    HOLDS(keys("1!0", "99999999999999999999999999") > 0);
+    memset(out, '#', sizeof out);
+    IS(pylock_version_key(TEXT("1.0"), out, 3, &needed), PYLOCK_ROOM);
+    HOLDS(needed > 3 && out[0] == '#');
+    needed = 77;
+    IS(pylock_version_key(TEXT("1.x"), out, sizeof out, &needed), PYLOCK_VERSION_SYNTAX);
+    IS(pylock_version_key(TEXT("999999999999999999999999999999999999999999"), out, sizeof out,
+                          &needed),
+       PYLOCK_VERSION_NUMBER);
+    IS(pylock_version_key(TEXT("\xff"), out, sizeof out, &needed), PYLOCK_NOT_UTF8);
+    HOLDS(needed == 77 && out[0] == '#');
+}
+
+/* whether the record of the version's parts is this one */
+static bool version_is(const char *version, const char *record)
+{
+    uint8_t out[256];
+    size_t needed = 0;
+    IS(pylock_version(TEXT(version), out, sizeof out, &needed), PYLOCK_OK);
+    return same(out, needed, record);
+}
+
+static void versions(void)
+{
+    uint8_t out[32];
+    size_t needed = 77;
+    HOLDS(version_is("2", "2\t2\t2\t0\t2\t-\t-\t-\t-"));
+    HOLDS(version_is(" V1!2.0.0-Alpha.3-7.DEV+Abc_01.x2 ",
+                     "1!2.0.0a3.post7.dev0+abc.1.x2\t1!2.0.0a3.post7.dev0\t1!2.0.0\t1\t2.0.0\ta3"
+                     "\t7\t0\tabc.1.x2"));
+    HOLDS(version_is("1.0b2", "1.0b2\t1.0b2\t1.0\t0\t1.0\tb2\t-\t-\t-"));
+    HOLDS(version_is("1.0c02.post", "1.0rc2.post0\t1.0rc2.post0\t1.0\t0\t1.0\trc2\t0\t-\t-"));
+    HOLDS(version_is("0!340282366920938463463374607431768211455.dev1+5",
+                     "340282366920938463463374607431768211455.dev1+5"
+                     "\t340282366920938463463374607431768211455.dev1"
+                     "\t340282366920938463463374607431768211455\t0"
+                     "\t340282366920938463463374607431768211455\t-\t-\t1\t5"));
+    memset(out, '#', sizeof out);
+    IS(pylock_version(TEXT("2"), out, 16, &needed), PYLOCK_ROOM);
+    HOLDS(needed == 17 && out[0] == '#');
+    IS(pylock_version(TEXT("2"), out, 17, &needed), PYLOCK_OK);
+    HOLDS(same(out, needed, "2\t2\t2\t0\t2\t-\t-\t-\t-") && out[17] == '#');
+    needed = 77;
+    memset(out, '#', sizeof out);
+    IS(pylock_version(TEXT("2.-"), out, sizeof out, &needed), PYLOCK_VERSION_SYNTAX);
+    IS(pylock_version(TEXT("340282366920938463463374607431768211456"), out, sizeof out, &needed),
+       PYLOCK_VERSION_NUMBER);
+    IS(pylock_version(TEXT("\xff"), out, sizeof out, &needed), PYLOCK_NOT_UTF8);
+    HOLDS(needed == 77 && out[0] == '#');
+}
+
+/* the bytes of a kept text */
+static bool has(pylock_text *text, const char *wanted)
+{
+    uint8_t out[512];
+    size_t needed = 0, length = 0;
+    return pylock_text_length(text, &length) == PYLOCK_OK && length == strlen(wanted) &&
+           pylock_text_copy(text, out, sizeof out, &needed) == PYLOCK_OK &&
+           same(out, needed, wanted);
+}
+
+static void texts(void)
+{
+    pylock_text text = {0};
+    uint8_t out[16];
+    size_t needed = 77;
+    memset(out, '#', sizeof out);
+    IS(pylock_text_length(&text, &needed), PYLOCK_EMPTY);
+    IS(pylock_text_copy(&text, out, sizeof out, &needed), PYLOCK_EMPTY);
+    HOLDS(needed == 77);
+    pylock_text_free(&text);
+    IS(pylock_requirement(TEXT("a"), &text), PYLOCK_OK);
+    IS(pylock_text_copy(&text, out, 8, &needed), PYLOCK_ROOM);
+    HOLDS(needed == 9 && out[0] == '#');
+    IS(pylock_text_copy(&text, out, 9, &needed), PYLOCK_OK);
+    HOLDS(same(out, needed, "a\t-\t-\t-\t-") && out[9] == '#');
+    pylock_text_free(&text);
+    HOLDS(!text.full && !text.kept);
+    IS(pylock_text_length(&text, &needed), PYLOCK_EMPTY);
+}
+
+static void requirements(void)
+{
+    pylock_text record = {0};
+    IS(pylock_requirement(TEXT("-"), &record), PYLOCK_REQUIREMENT_NAME);
+    HOLDS(!record.full);
+    IS(pylock_requirement(TEXT("Foo_Bar [B, a,B] >= 1.0, != 2 ; os_name == '\t'"), &record),
+       PYLOCK_OK);
+    HOLDS(has(&record, "Foo_Bar\tB,a,B\t>=1.0,!=2\t-\tos_name == '\\t'"));
+    IS(pylock_requirement(TEXT("a @ b\\c"), &record), PYLOCK_OK);
+    HOLDS(has(&record, "a\t-\t-\tb\\\\c\t-"));
+    IS(pylock_requirement(TEXT("a[]"), &record), PYLOCK_OK);
+    HOLDS(has(&record, "a\t-\t-\t-\t-"));
+    IS(pylock_requirement(TEXT("a @ - ;os_name=='x'"), &record), PYLOCK_OK);
+    HOLDS(has(&record, "a\t-\t-\t\\-\tos_name=='x'"));
+    IS(pylock_requirement(TEXT("a[-]"), &record), PYLOCK_REQUIREMENT_EXTRAS);
+    IS(pylock_requirement(TEXT("a 1"), &record), PYLOCK_REQUIREMENT_SPECIFIER);
+    IS(pylock_requirement(TEXT("a @ "), &record), PYLOCK_REQUIREMENT_URL);
+    IS(pylock_requirement(TEXT("a; x"), &record), PYLOCK_REQUIREMENT_MARKER);
+    IS(pylock_requirement(TEXT("a @ b c"), &record), PYLOCK_REQUIREMENT_TRAILING);
+    IS(pylock_requirement(TEXT("a\xff"), &record), PYLOCK_NOT_UTF8);
+    HOLDS(has(&record, "a\t-\t-\t\\-\tos_name=='x'"));
+    pylock_text_free(&record);
+}
+
+static void wheels(void)
+{
+    pylock_text record = {0};
+    IS(pylock_wheel(TEXT("Foo_bar-1.0.0-1b-py2.PY3-none-any.whl"), &record), PYLOCK_OK);
+    HOLDS(has(&record, "Foo_bar\t1.0.0\t1b\tpy2-none-any py3-none-any"));
+    IS(pylock_wheel(TEXT("a-1_0-cp312-abi3-win32.whl"), &record), PYLOCK_WHEEL_VERSION);
+    IS(pylock_wheel(TEXT("a-1.0+X_2-cp312-abi3-win32.whl"), &record), PYLOCK_OK);
+    HOLDS(has(&record, "a\t1.0+x.2\t-\tcp312-abi3-win32"));
+    IS(pylock_wheel(TEXT("a-1-py3-none-any.zip"), &record), PYLOCK_WHEEL_EXTENSION);
+    IS(pylock_wheel(TEXT("a-1-py3-none.whl"), &record), PYLOCK_WHEEL_PARTS);
+    IS(pylock_wheel(TEXT("a__b-1-py3-none-any.whl"), &record), PYLOCK_WHEEL_NAME);
+    IS(pylock_wheel(TEXT("a-1-x-py3-none-any.whl"), &record), PYLOCK_WHEEL_BUILD);
+    IS(pylock_wheel(TEXT("a-1-py3-none-.whl"), &record), PYLOCK_WHEEL_TAGS);
+    IS(pylock_wheel(TEXT("a\xff"), &record), PYLOCK_NOT_UTF8);
+    HOLDS(has(&record, "a\t1.0+x.2\t-\tcp312-abi3-win32"));
+    pylock_text_free(&record);
+}
+
 static void sets(void)
 {
     pylock_set set = {0};
@@ -152,13 +300,351 @@ static void markers(void)
     pylock_environment_free(&environment);
 }
 
+static void extras(void)
+{
+    pylock_marker marker = {0};
+    pylock_environment environment = {0};
+    bool value = true;
+    IS(pylock_marker_evaluate_with_extra(&marker, &environment, TEXT("\xff"), &value),
+       PYLOCK_EMPTY);
+    IS(pylock_marker_parse(&marker, TEXT("extra == 'Sci-Ence'")), PYLOCK_OK);
+    IS(pylock_marker_evaluate_with_extra(&marker, &environment, TEXT("x"), &value), PYLOCK_EMPTY);
+    IS(pylock_environment_new(&environment), PYLOCK_OK);
+    IS(pylock_marker_evaluate(&marker, &environment, &value), PYLOCK_VALUE_EXTRA);
+    IS(pylock_marker_evaluate_with_extra(&marker, &environment, TEXT("\xff"), &value),
+       PYLOCK_NOT_UTF8);
+    HOLDS(value);
+    IS(pylock_marker_evaluate_with_extra(&marker, &environment, TEXT(""), &value), PYLOCK_OK);
+    HOLDS(!value);
+    IS(pylock_marker_evaluate_with_extra(&marker, &environment, TEXT("sci.ence"), &value),
+       PYLOCK_OK);
+    HOLDS(value);
+    IS(pylock_marker_parse(&marker, TEXT("extra < 'a'")), PYLOCK_OK);
+    IS(pylock_marker_evaluate_with_extra(&marker, &environment, TEXT("b"), &value),
+       PYLOCK_VALUE_UNDEFINED);
+    IS(pylock_marker_parse(&marker, TEXT("extra == 'a' or os_name == 'posix'")), PYLOCK_OK);
+    IS(pylock_marker_evaluate_with_extra(&marker, &environment, TEXT("a"), &value),
+       PYLOCK_VALUE_UNSET);
+    IS(pylock_marker_parse(&marker,
+                           TEXT("python_version > '999999999999999999999999999999999999999'")),
+       PYLOCK_OK);
+    IS(pylock_environment_set(&environment, TEXT("python_version"), TEXT("3.12")), PYLOCK_OK);
+    IS(pylock_marker_evaluate_with_extra(&marker, &environment, TEXT("a"), &value),
+       PYLOCK_VALUE_NUMBER);
+    HOLDS(value);
+    pylock_marker_free(&marker);
+    pylock_environment_free(&environment);
+}
+
+static const char LOCK[] = "lock-version = \"1.0\"\ncreated-by = \"me\"\nextras = [\"A_b\"]\n"
+                           "requires-python = \">= 3.8\"\n"
+                           "[[packages]]\nname = \"a\"\ndirectory = {path = \"a\"}\n"
+                           "[[packages]]\nname = \"b\"\nmarker = \"os_name == 'nt'\"\n"
+                           "directory = {path = \"b\"}\n";
+static const char POSIX[] = "{\"environment\": {\"os_name\": \"posix\", \"python_full_version\": "
+                            "\"3.12.1\"}, \"tags\": []}";
+
+static void answers(void)
+{
+    pylock_text out = {0}, words = {0};
+    pylock_environment environment = {0};
+    pylock_marker marker = {0};
+    uint8_t bytes[4];
+    size_t needed = 77;
+    int32_t status = 7;
+    bool value = false;
+    IS(pylock_plan(TEXT(LOCK), TEXT(POSIX), false, &out, &status), PYLOCK_OK);
+    HOLDS(status == 0 && has(&out, "plan 1\n1\ta\t-\tdirectory\t-\ta\t-\t-\t-\n"));
+    IS(pylock_text_copy(&out, bytes, sizeof bytes, &needed), PYLOCK_ROOM);
+    HOLDS(needed == 33);
+    IS(pylock_plan(TEXT(LOCK), TEXT(POSIX), true, &out, &status), PYLOCK_OK);
+    HOLDS(has(&out, "{\"plan\":[{\"id\":1,\"kind\":\"directory\",\"name\":\"a\",\"path\":\"a\","
+                    "\"place\":\"a\"}],\"pylock\":1}\n"));
+    IS(pylock_plan(TEXT(LOCK), TEXT("{\"environment\": {}, \"tags\": []}"), false, &out, &status),
+       PYLOCK_OK);
+    HOLDS(status == 1 && has(&out, "fault 0\tpython-unknown\n"));
+    IS(pylock_plan(TEXT("x"), TEXT("y"), false, &out, &status), PYLOCK_OK);
+    HOLDS(status == 2 && has(&out, "lock\ttoml\n"));
+    IS(pylock_plan(TEXT(LOCK), TEXT("\xff"), false, &out, &status), PYLOCK_OK);
+    HOLDS(status == 2 && has(&out, "environment\tjson\n"));
+    IS(pylock_explain(TEXT(LOCK), TEXT(POSIX), false, &out, &status), PYLOCK_OK);
+    HOLDS(status == 0 && has(&out, "head\tok\t-\n1\ta\t-\tdirectory\ta\n"
+                                   "2\tb\t-\tskipped\tos_name == 'nt'\n"));
+    IS(pylock_files(TEXT(LOCK), false, &out, &status), PYLOCK_OK);
+    HOLDS(status == 0 && has(&out, "files 2\n1\ta\t-\tdirectory\t-\ta\t-\t-\t-\n"
+                                   "2\tb\t-\tdirectory\t-\tb\t-\t-\t-\n"));
+    IS(pylock_audit(TEXT(LOCK), true, &out, &status), PYLOCK_OK);
+    HOLDS(status == 0 && has(&out, "{\"findings\":[],\"pylock\":1}\n"));
+    IS(pylock_lock_head(TEXT(LOCK), &out, &words), PYLOCK_OK);
+    HOLDS(!words.full &&
+          has(&out, "{\"default_groups\":[],\"environments\":[],\"extras\":[\"a-b\"],"
+                    "\"groups\":[],\"pylock\":1,\"requires_python\":\">=3.8\"}\n"));
+    IS(pylock_lock_head(TEXT("x"), &out, &words), PYLOCK_LOCK_REFUSED);
+    HOLDS(has(&words, "lock\ttoml\n") && !has(&out, ""));
+    IS(pylock_lock_message(TEXT("x"), &out), PYLOCK_OK);
+    HOLDS(!has(&out, ""));
+    IS(pylock_lock_message(TEXT(LOCK), &out), PYLOCK_OK);
+    HOLDS(has(&out, ""));
+    IS(pylock_environment_message(TEXT("[]"), &out), PYLOCK_OK);
+    HOLDS(!has(&out, ""));
+    IS(pylock_environment_message(TEXT(POSIX), &out), PYLOCK_OK);
+    HOLDS(has(&out, ""));
+    IS(pylock_environment_read(&environment, TEXT(POSIX), &words), PYLOCK_OK);
+    HOLDS(has(&words, "lock\ttoml\n"));
+    IS(pylock_environment_read(&environment, TEXT("[]"), &words), PYLOCK_ENVIRONMENT_REFUSED);
+    HOLDS(has(&words, "environment\tshape\n"));
+    IS(pylock_marker_parse(&marker, TEXT("python_full_version > '3.12.0'")), PYLOCK_OK);
+    IS(pylock_marker_evaluate(&marker, &environment, &value), PYLOCK_OK);
+    HOLDS(value);
+    pylock_text_free(&out);
+    IS(pylock_text_length(&out, &needed), PYLOCK_EMPTY);
+    pylock_text_free(&words);
+    pylock_marker_free(&marker);
+    pylock_environment_free(&environment);
+}
+
+/* ---- sessions ---- */
+
+#define EMPTY "lock-version = \"1.0\"\ncreated-by = \"c\"\n"
+static const char EDITED[] =
+    EMPTY "extras = [\"sci\"]\ndependency-groups = [\"test\"]\n"
+    "[[packages]]\nname = \"a\"\nversion = \"1\"\ndirectory = { path = \"a\" }\n"
+    "[[packages]]\nname = \"b\"\nversion = \"2\"\nmarker = \"'sci' in extras\"\n"
+    "directory = { path = \"b\" }\n"
+    "[[packages]]\nname = \"c\"\nversion = \"3\"\n"
+    "marker = \"'test' in dependency_groups and os_name == 'nt'\"\n"
+    "wheels = [{ name = \"c-3-py3-none-any.whl\", path = \"c.whl\" }]\n";
+static const char TAGGED[] =
+    "{\"environment\": {\"os_name\": \"posix\"}, \"tags\": [\"py3-none-any\"]}";
+
+#define ENTRY_A "1\ta\t1\tdirectory\t-\ta\t-\t-\t-\n"
+#define ENTRY_B "2\tb\t2\tdirectory\t-\tb\t-\t-\t-\n"
+#define ENTRY_C "3\tc\t3\twheel\tc-3-py3-none-any.whl\tc.whl\t-\t-\t-\n"
+#define ENTRY_D "4\td\t4\tdirectory\t-\td\t-\t-\t-\n"
+#define TEXT_D "{ name = \"D\", version = \"4\", directory = { path = \"d\" } }"
+
+/* the answer of a session, whether it is a plan, and what was judged last */
+static void stands(pylock_session *session, const char *answer, bool plan, const char *numbers)
+{
+    pylock_text text = {0};
+    bool is_plan = !plan;
+    IS(pylock_session_answer(session, false, &text, &is_plan), PYLOCK_OK);
+    HOLDS(has(&text, answer) && is_plan == plan);
+    IS(pylock_session_judged(session, &text), PYLOCK_OK);
+    HOLDS(has(&text, numbers));
+    pylock_text_free(&text);
+}
+
+static void empty_sessions(void)
+{
+    pylock_session session = {0};
+    pylock_text text = {0};
+    uint64_t judged = 77;
+    bool is_plan = true;
+    IS(pylock_session_set(&session, TEXT("\xff"), TEXT("x"), &judged), PYLOCK_EMPTY);
+    IS(pylock_session_unset(&session, TEXT("os_name"), &judged), PYLOCK_EMPTY);
+    IS(pylock_session_add_extra(&session, TEXT("sci"), &judged), PYLOCK_EMPTY);
+    IS(pylock_session_drop_extra(&session, TEXT("sci"), &judged), PYLOCK_EMPTY);
+    IS(pylock_session_add_group(&session, TEXT("test"), &judged), PYLOCK_EMPTY);
+    IS(pylock_session_drop_group(&session, TEXT("test"), &judged), PYLOCK_EMPTY);
+    IS(pylock_session_tags(&session, TEXT(""), &judged), PYLOCK_EMPTY);
+    IS(pylock_session_add(&session, TEXT(TEXT_D), &judged), PYLOCK_EMPTY);
+    IS(pylock_session_put(&session, 1, TEXT(TEXT_D), &judged), PYLOCK_EMPTY);
+    IS(pylock_session_del(&session, 1, &judged), PYLOCK_EMPTY);
+    IS(pylock_session_policy(&session, TEXT("a"), TEXT("any"), &judged), PYLOCK_EMPTY);
+    IS(pylock_session_line(&session, TEXT("show"), &judged), PYLOCK_EMPTY);
+    IS(pylock_session_answer(&session, false, &text, &is_plan), PYLOCK_EMPTY);
+    IS(pylock_session_explain(&session, true, &text, &is_plan), PYLOCK_EMPTY);
+    IS(pylock_session_judged(&session, &text), PYLOCK_EMPTY);
+    HOLDS(judged == 77 && is_plan && !text.full);
+    pylock_session_free(&session);
+    HOLDS(!session.full);
+}
+
+static void started_sessions(void)
+{
+    pylock_session session = {0};
+    pylock_text words = {0};
+    IS(pylock_session_start(&session, TEXT(EDITED), TEXT(TAGGED), &words), PYLOCK_OK);
+    HOLDS(session.full && !words.full);
+    IS(pylock_session_start(&session, TEXT("x"), TEXT("x"), &words), PYLOCK_LOCK_REFUSED);
+    HOLDS(has(&words, "lock\ttoml\n"));
+    IS(pylock_session_start(&session, TEXT(EMPTY "packages = [1]\n"), TEXT(TAGGED), &words),
+       PYLOCK_LOCK_REFUSED);
+    HOLDS(has(&words, "lock\tentry\t1\tnot-table\n"));
+    IS(pylock_session_start(&session, TEXT(EDITED), TEXT("{}"), &words),
+       PYLOCK_ENVIRONMENT_REFUSED);
+    HOLDS(has(&words, "environment\tshape\n"));
+    stands(&session, "plan 1\n" ENTRY_A, true, "0\t1\t2\t3");
+    IS(pylock_session_start(&session, TEXT(EMPTY), TEXT(TAGGED), &words), PYLOCK_OK);
+    HOLDS(has(&words, "environment\tshape\n"));
+    stands(&session, "plan 0\n", true, "0");
+    pylock_text_free(&words);
+    pylock_session_free(&session);
+    pylock_session_free(&session);
+    HOLDS(!session.full && !session.kept);
+}
+
+static void edited_sessions(pylock_session *session)
+{
+    uint64_t judged = 0;
+    IS(pylock_session_add_extra(session, TEXT("Sci"), &judged), PYLOCK_OK);
+    HOLDS(judged == 1);
+    stands(session, "plan 2\n" ENTRY_A ENTRY_B, true, "2");
+    IS(pylock_session_line(session, TEXT("show"), &judged), PYLOCK_OK);
+    HOLDS(judged == 0);
+    IS(pylock_session_line(session, TEXT("extra- sci\r"), &judged), PYLOCK_OK);
+    HOLDS(judged == 1);
+    stands(session, "plan 1\n" ENTRY_A, true, "2");
+    IS(pylock_session_line(session, TEXT("extra+ sci"), &judged), PYLOCK_OK);
+    IS(pylock_session_drop_extra(session, TEXT("SCI"), &judged), PYLOCK_OK);
+    IS(pylock_session_add_group(session, TEXT("test"), &judged), PYLOCK_OK);
+    HOLDS(judged == 1);
+    IS(pylock_session_set(session, TEXT("os_name"), TEXT("nt"), &judged), PYLOCK_OK);
+    stands(session, "plan 2\n" ENTRY_A ENTRY_C, true, "3");
+    IS(pylock_session_policy(session, TEXT("C"), TEXT("source"), &judged), PYLOCK_OK);
+    HOLDS(judged == 1);
+    stands(session, "fault 3\tno-file\n", false, "3");
+    IS(pylock_session_policy(session, TEXT("c"), TEXT("any"), &judged), PYLOCK_OK);
+    IS(pylock_session_tags(session, TEXT(""), &judged), PYLOCK_OK);
+    stands(session, "fault 3\tno-file\n", false, "3");
+    IS(pylock_session_tags(session, TEXT("cp312-cp312-any\npy3-none-any"), &judged), PYLOCK_OK);
+    stands(session, "plan 2\n" ENTRY_A ENTRY_C, true, "3");
+    IS(pylock_session_unset(session, TEXT("os_name"), &judged), PYLOCK_OK);
+    stands(session, "fault 3\tmarker-unset\n", false, "3");
+    IS(pylock_session_drop_group(session, TEXT("test"), &judged), PYLOCK_OK);
+    IS(pylock_session_set(session, TEXT("os_name"), TEXT(""), &judged), PYLOCK_OK);
+    IS(pylock_session_add(session, TEXT(TEXT_D), &judged), PYLOCK_OK);
+    stands(session, "plan 2\n" ENTRY_A ENTRY_D, true, "4");
+    IS(pylock_session_put(session, 1, TEXT("{ name = \"a\" }"), &judged), PYLOCK_OK);
+    stands(session, "fault 1\tno-file\n", false, "1");
+    judged = 77;
+    IS(pylock_session_del(session, 1, &judged), PYLOCK_OK);
+    HOLDS(judged == 0);
+    stands(session, "plan 1\n" ENTRY_D, true, "");
+}
+
+/* a refused edit leaves the session, and how many judgements the last one made */
+static void refused_edits(pylock_session *session)
+{
+    uint64_t judged = 77;
+    IS(pylock_session_set(session, TEXT("os"), TEXT("x"), &judged), PYLOCK_EDIT_VARIABLE);
+    IS(pylock_session_set(session, TEXT("os"), TEXT("\xff"), &judged), PYLOCK_NOT_UTF8);
+    IS(pylock_session_set(session, TEXT("\xff"), TEXT("x"), &judged), PYLOCK_NOT_UTF8);
+    IS(pylock_session_unset(session, TEXT("os"), &judged), PYLOCK_EDIT_VARIABLE);
+    IS(pylock_session_unset(session, TEXT("\xff"), &judged), PYLOCK_NOT_UTF8);
+    IS(pylock_session_add_extra(session, TEXT("test"), &judged), PYLOCK_EDIT_EXTRA);
+    IS(pylock_session_drop_extra(session, TEXT(""), &judged), PYLOCK_EDIT_EXTRA);
+    IS(pylock_session_add_extra(session, TEXT("\xff"), &judged), PYLOCK_NOT_UTF8);
+    IS(pylock_session_add_group(session, TEXT("sci"), &judged), PYLOCK_EDIT_GROUP);
+    IS(pylock_session_drop_group(session, TEXT("-"), &judged), PYLOCK_EDIT_GROUP);
+    IS(pylock_session_drop_group(session, TEXT("\xff"), &judged), PYLOCK_NOT_UTF8);
+    IS(pylock_session_tags(session, TEXT("py3-none-any\n"), &judged), PYLOCK_EDIT_TAG);
+    IS(pylock_session_tags(session, TEXT("py3 none any"), &judged), PYLOCK_EDIT_TAG);
+    IS(pylock_session_tags(session, TEXT("\xff"), &judged), PYLOCK_NOT_UTF8);
+    IS(pylock_session_add(session, TEXT(""), &judged), PYLOCK_EDIT_TOML);
+    IS(pylock_session_add(session, TEXT("{}"), &judged), PYLOCK_EDIT_ENTRY);
+    IS(pylock_session_add(session, TEXT("\xff"), &judged), PYLOCK_NOT_UTF8);
+    IS(pylock_session_put(session, 1, TEXT(TEXT_D), &judged), PYLOCK_EDIT_NO_ENTRY);
+    IS(pylock_session_put(session, 0, TEXT(TEXT_D), &judged), PYLOCK_EDIT_NO_ENTRY);
+    IS(pylock_session_put(session, 1, TEXT("x"), &judged), PYLOCK_EDIT_TOML);
+    IS(pylock_session_put(session, 4, TEXT("{ name = 1 }"), &judged), PYLOCK_EDIT_ENTRY);
+    IS(pylock_session_del(session, UINT32_MAX, &judged), PYLOCK_EDIT_NO_ENTRY);
+    IS(pylock_session_policy(session, TEXT("-"), TEXT("any"), &judged), PYLOCK_EDIT_NAME);
+    IS(pylock_session_policy(session, TEXT("-"), TEXT("all"), &judged), PYLOCK_EDIT_ARGUMENT);
+    IS(pylock_session_policy(session, TEXT("a"), TEXT("\xff"), &judged), PYLOCK_NOT_UTF8);
+    IS(pylock_session_line(session, TEXT(""), &judged), PYLOCK_EDIT_COMMAND);
+    IS(pylock_session_line(session, TEXT("del x"), &judged), PYLOCK_EDIT_ARGUMENT);
+    IS(pylock_session_line(session, TEXT("del 9"), &judged), PYLOCK_EDIT_NO_ENTRY);
+    IS(pylock_session_line(session, TEXT("set os x"), &judged), PYLOCK_EDIT_VARIABLE);
+    IS(pylock_session_line(session, TEXT("\xff"), &judged), PYLOCK_NOT_UTF8);
+    HOLDS(judged == 77);
+    stands(session, "plan 1\n" ENTRY_D, true, "");
+}
+
+static void explained(pylock_session *session)
+{
+    pylock_text text = {0};
+    bool is_plan = false;
+    IS(pylock_session_explain(session, false, &text, &is_plan), PYLOCK_OK);
+    HOLDS(is_plan &&
+          has(&text, "head\tok\t-\n"
+                     "2\tb\t2\tskipped\t'sci' in extras\n"
+                     "3\tc\t3\tskipped\t'test' in dependency_groups and os_name == 'nt'\n"
+                     "4\td\t4\tdirectory\td\n"));
+    is_plan = false;
+    IS(pylock_session_answer(session, true, &text, &is_plan), PYLOCK_OK);
+    HOLDS(is_plan &&
+          has(&text, "{\"plan\":[{\"id\":4,\"kind\":\"directory\",\"name\":\"d\",\"path\":\"d\","
+                     "\"place\":\"d\",\"version\":\"4\"}],\"pylock\":1}\n"));
+    pylock_text_free(&text);
+}
+
+/* lines that are too long */
+static void long_lines(pylock_session *session)
+{
+    static uint8_t line[1048577];
+    uint64_t judged = 77;
+    memset(line, ' ', sizeof line);
+    IS(pylock_session_line(session, line, sizeof line - 1, &judged), PYLOCK_EDIT_COMMAND);
+    IS(pylock_session_line(session, line, sizeof line, &judged), PYLOCK_EDIT_LONG);
+    line[0] = 0xff;
+    IS(pylock_session_line(session, line, sizeof line, &judged), PYLOCK_EDIT_LONG);
+    HOLDS(judged == 77);
+}
+
+/* The last number is given out. Not with refused growths, which would be too many, so it isn't
+   counted. */
+static void last_number(void)
+{
+    static const char head[] = EMPTY;
+    static const char entry[] = "[[packages]]\nname = \"a\"\n";
+    static char many[sizeof head + 100000 * sizeof entry];
+    pylock_session session = {0};
+    pylock_text words = {0};
+    uint64_t judged = 77;
+    size_t length = strlen(head);
+    if (may_refuse) return;
+    memcpy(many, head, sizeof head);
+    for (int i = 0; i < 100000; i++, length += strlen(entry))
+        memcpy(many + length, entry, sizeof entry);
+    if (pylock_session_start(&session, TEXT(many), TEXT(TAGGED), &words) != PYLOCK_OK ||
+        pylock_session_add(&session, TEXT(TEXT_D), &judged) != PYLOCK_EDIT_TOO_MANY ||
+        judged != 77)
+        holds(__LINE__, false);
+    pylock_session_free(&session);
+}
+
+static void sessions(void)
+{
+    pylock_session session = {0};
+    pylock_text words = {0};
+    empty_sessions();
+    started_sessions();
+    IS(pylock_session_start(&session, TEXT(EDITED), TEXT(TAGGED), &words), PYLOCK_OK);
+    edited_sessions(&session);
+    refused_edits(&session);
+    explained(&session);
+    long_lines(&session);
+    pylock_session_free(&session);
+    last_number();
+}
+
 int main(void)
 {
     may_refuse = getenv("REFUSE_GROWTH") != NULL;
     IS((int32_t)pylock_abi(), 1);
     names();
+    version_keys();
+    versions();
+    texts();
+    requirements();
+    wheels();
     sets();
     markers();
+    extras();
+    answers();
+    sessions();
     printf("calls: %d passed, %d failed\n", passed, failed);
     return failed ? 1 : 0;
 }

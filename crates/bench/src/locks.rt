@@ -36,6 +36,22 @@ pub(crate) fn time_read<R: Clock + Print + AllocGlobal>(
     Ok(print_whole(rt, "Lock::read", start, entries as u64)?)
 }
 
+/// The lock and the environment that the bytes are.
+pub(crate) fn read(
+    alloc: Global,
+    lock: &[u8],
+    environment: &[u8],
+) -> anyhow::Result<(Lock, Environment, TagList)> {
+    let lock = match Lock::read(alloc, lock) {
+        Ok(lock) => lock,
+        Err(error) => return Err(anyhow::anyhow!("the lock is refused: {error:?}")),
+    };
+    match read_environment(alloc, environment) {
+        Ok((environment, tags)) => Ok((lock, environment, tags)),
+        Err(error) => Err(anyhow::anyhow!("the environment is refused: {error:?}")),
+    }
+}
+
 /// Starts a session on what the bytes are, which judges the head and every entry: what an edit
 /// takes where everything is judged afresh. Neither the reading nor the freeing is timed.
 pub(crate) fn time_start<R: Clock + Print + AllocGlobal>(
@@ -43,14 +59,7 @@ pub(crate) fn time_start<R: Clock + Print + AllocGlobal>(
     lock: &[u8],
     environment: &[u8],
 ) -> anyhow::Result<()> {
-    let lock = match Lock::read(rt.alloc(), lock) {
-        Ok(lock) => lock,
-        Err(error) => return Err(anyhow::anyhow!("the lock is refused: {error:?}")),
-    };
-    let (environment, tags) = match read_environment(rt.alloc(), environment) {
-        Ok(read) => read,
-        Err(error) => return Err(anyhow::anyhow!("the environment is refused: {error:?}")),
-    };
+    let (lock, environment, tags) = read(rt.alloc(), lock, environment)?;
     let start = Instant::now(rt);
     let judged = start_session(rt.alloc(), lock, environment, tags);
     let start = start?;

@@ -2,6 +2,7 @@
 #![tactic(auto)]
 
 mod clock;
+mod growths;
 mod locks;
 mod markers;
 mod versions;
@@ -11,13 +12,15 @@ use std::alloc::AllocError;
 use std::{env, fs};
 
 const USAGE: &str =
-    "bench versions    nanoseconds for each parse, comparison and match of versions, beside semver
+    "bench versions    nanoseconds for each parse, with semver's, comparison and match of versions
 bench markers     nanoseconds for each parse and value of markers, and parse of requirements
 bench wheels      nanoseconds for each parse and choice of wheels
 bench toml FILE   milliseconds for reading a lock by toml alone, and letting go of it
 bench lock FILE   milliseconds for reading it as a lock, and letting go of it
 bench start FILE ENVIRONMENT
                   microseconds for starting a session on it, which judges everything
+bench growths FILE ENVIRONMENT STEPS
+                  nothing; tools/growths/run counts the growths of its steps
 ";
 
 fn main(rt: HostRuntime) -> anyhow::Result<()> {
@@ -36,6 +39,12 @@ fn main(rt: HostRuntime) -> anyhow::Result<()> {
             &rt,
             &fs::read(&rt, file.as_str())?,
             &fs::read(&rt, environment.as_str())?,
+        ),
+        [word, file, environment, steps] if word.as_str() == "growths" => growths::take_steps(
+            rt.alloc(),
+            &fs::read(&rt, file.as_str())?,
+            &fs::read(&rt, environment.as_str())?,
+            steps.as_str(),
         ),
         _ => Ok(rt.print(USAGE)?),
     }

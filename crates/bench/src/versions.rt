@@ -1,8 +1,7 @@
-//! Versions, beside the semantic versions of `semver`.
+//! Versions, and beside their parse that of the semantic versions of `semver`.
 
 use crate::clock::{ROUNDS, print_round};
 use pyver_core::{SpecifierSet, Version};
-use semver::VersionReq;
 use std::rt::Clock;
 use std::time::Instant;
 
@@ -12,19 +11,15 @@ const VERSIONS: [&str; 4] = ["1.2.3", "10.20.30rc1", "2.0.0a7+build.5", "0.11.0"
 /// The same versions as `semver` writes them.
 const SEMANTIC: [&str; 4] = ["1.2.3", "10.20.30-rc.1", "2.0.0-alpha.7+build.5", "0.11.0"];
 
-/// Versions to compare, and the same as `semver` writes them.
+/// Versions to compare.
 const NEAR: [&str; 4] = ["1.2.3", "1.2.3rc1", "1.2.4", "1.2.4a1"];
-
-const SEMANTIC_NEAR: [&str; 4] = ["1.2.3", "1.2.3-rc.1", "1.2.4", "1.2.4-alpha.1"];
 
 /// Times a million of each call.
 pub(crate) fn time_versions<R: Clock + Print + AllocGlobal>(rt: &R) -> anyhow::Result<()> {
     time_parse(rt)?;
     time_semantic_parse(rt)?;
     time_order(rt)?;
-    time_semantic_order(rt)?;
-    time_admits(rt)?;
-    time_semantic_admits(rt)
+    time_admits(rt)
 }
 
 fn time_parse<R: Clock + Print + AllocGlobal>(rt: &R) -> anyhow::Result<()> {
@@ -58,17 +53,6 @@ fn near<R: AllocGlobal>(rt: &R) -> anyhow::Result<[Version; 4]> {
     ])
 }
 
-fn semantic_near<R: AllocGlobal>(rt: &R) -> anyhow::Result<[semver::Version; 4]> {
-    let [a, b, c, d] = SEMANTIC_NEAR;
-    let alloc = rt.alloc();
-    Ok([
-        semver::Version::parse(alloc, a)?,
-        semver::Version::parse(alloc, b)?,
-        semver::Version::parse(alloc, c)?,
-        semver::Version::parse(alloc, d)?,
-    ])
-}
-
 fn time_order<R: Clock + Print + AllocGlobal>(rt: &R) -> anyhow::Result<()> {
     let versions = near(rt)?;
     let start = Instant::now(rt)?;
@@ -81,18 +65,6 @@ fn time_order<R: Clock + Print + AllocGlobal>(rt: &R) -> anyhow::Result<()> {
     Ok(print_round(rt, "Version <", start, seen)?)
 }
 
-fn time_semantic_order<R: Clock + Print + AllocGlobal>(rt: &R) -> anyhow::Result<()> {
-    let versions = semantic_near(rt)?;
-    let start = Instant::now(rt)?;
-    let mut seen = 0u64;
-    for i in 0..ROUNDS {
-        let left = &versions[(i % 4) as usize];
-        let right = &versions[(i / 4 % 4) as usize];
-        seen = seen.wrapping_add(u64::from(left < right));
-    }
-    Ok(print_round(rt, "semver::Version <", start, seen)?)
-}
-
 fn time_admits<R: Clock + Print + AllocGlobal>(rt: &R) -> anyhow::Result<()> {
     let versions = near(rt)?;
     let set = SpecifierSet::parse(rt.alloc(), ">=1.2.3,<2")?;
@@ -102,15 +74,4 @@ fn time_admits<R: Clock + Print + AllocGlobal>(rt: &R) -> anyhow::Result<()> {
         seen = seen.wrapping_add(u64::from(set.admits(&versions[(i % 4) as usize])));
     }
     Ok(print_round(rt, "SpecifierSet::admits", start, seen)?)
-}
-
-fn time_semantic_admits<R: Clock + Print + AllocGlobal>(rt: &R) -> anyhow::Result<()> {
-    let versions = semantic_near(rt)?;
-    let set = VersionReq::parse(rt.alloc(), ">=1.2.3, <2")?;
-    let start = Instant::now(rt)?;
-    let mut seen = 0u64;
-    for i in 0..ROUNDS {
-        seen = seen.wrapping_add(u64::from(set.matches(&versions[(i % 4) as usize])));
-    }
-    Ok(print_round(rt, "semver::VersionReq::matches", start, seen)?)
 }

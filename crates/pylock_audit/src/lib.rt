@@ -1,5 +1,22 @@
 //! What a careful reader of a lock would want to be told, though the lock is valid and the
-//! installation steps pass over it (PEP 751).
+//! installation steps pass over it (PEP 751): a weak hash, a password in a URL, a file name that
+//! leaves its folder, and some twenty more.
+//!
+//! It stands on `pylock_core`, for the lock, on `toml`, for the keys that a lock ignores, and on
+//! `pylock_messages`, for control characters. Begin with [`audit`], of the bytes of a lock. It
+//! gives the findings in order, or the refusal of the lock; each [`Found`] has the number of its
+//! entry, a [`FindingKind`] and a detail. `docs/FORMATS.md` has the table of findings, at `pylock
+//! audit`.
+//!
+//! What the program does with them, from `crates/pylock_program/src/reply.rt`:
+//!
+//! ```rust
+//! match audit(alloc, lock) {
+//!     Ok(found) => push_findings_in(alloc, out, form, found.as_slice()),
+//!     Err(LockError::Memory) => Err(AllocError),
+//!     Err(error) => push_unread(alloc, out, form, &error),
+//! }
+//! ```
 #![tactic(auto)]
 
 mod control;

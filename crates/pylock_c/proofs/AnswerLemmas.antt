@@ -1,8 +1,7 @@
 -- What a call leaves in a buffer, and what it answers of a slot.
 use Rattle.std.proofs.Common.{◌≡◌, ℕ, ℤ, pos, List, length, refl, sym, subst, if◌then◌else◌}
 use Rattle.std.specs.Prelude.{Option, Result, Ok, Err}
-use Rattle.pytext.specs.Agreement.{Gives}
-use Rattle.pylock_c.specs.Answer.{Edits, Tells, Writes, is_short, written as buffer_after}
+use Rattle.pylock_c.specs.Answer.{Tells, Writes, is_short, written as buffer_after}
 use Rattle.pylock_c.specs.Refusal.{number}
 use Rattle.pylock_c.specs.declared.object.Object.{Object}
 use Rattle.pylock_c.specs.declared.refusal.Refusal.{Refusal}
@@ -35,6 +34,18 @@ at_slot definition {before = before} {after = after} {new = new} {code' = code'}
     subst (λ (o : Option Object). Tells (definition o) o new code') was
     (subst (λ (n : Option Object). Tells (definition before) before n code') (sym is)
     (subst (λ (z : ℤ). Tells (definition before) before after z) (sym same) tells))
+
+-- an object in its slot, and a value at its place
+pub told_with : {T : Type 0} {definition : Result (Option Object × T) Refusal} {old new : Option Object} {before after : T}
+    → definition ≡ Ok (new, after) → Tells definition (old, before) (new, after) (pos 0)
+told_with {new = new} {after = after} gives = (Ok (new, after), gives, refl, refl)
+
+-- what a call told, by another name of its definition
+pub told_as : {X : Type 0} {definition wanted : Result X Refusal} {old new : X} {code code' : ℤ}
+    → definition ≡ wanted → code' ≡ code → Tells definition old new code → Tells wanted old new code'
+told_as {X = X} {definition = definition} {old = old} {new = new} {code' = code'} is same tells =
+    subst (λ (d : Result X Refusal). Tells d old new code') is
+    (subst (λ (z : ℤ). Tells definition old new z) (sym same) tells)
 
 pub ruleset written = (writes_ok, writes_err)
 

@@ -1,4 +1,7 @@
 pub mod AnswerLemmas
 pub mod KeptValues
+pub mod OpeningLemmas
+pub mod RecordLemmas
+pub mod SessionLemmas
 pub mod TextLemmas
 pub mod Values

@@ -1,6 +1,6 @@
 -- What a call answers and leaves behind.
 use Rattle.std.specs.Prelude.{◌≡◌, ℕ, ℤ, pos, ◌++◌, List, length, drop, nat_lt, Bool, if◌then◌else◌}
-use Rattle.std.specs.Prelude.{Option, Some, Result, Ok, Err}
+use Rattle.std.specs.Prelude.{Option, Result, Ok, Err}
 use Rattle.pytext.specs.Agreement.{Gives}
 use Rattle.pylock_c.specs.Refusal.{number}
 use Rattle.pylock_c.specs.declared.object.Object.{Object}

@@ -1,6 +1,7 @@
 -- The environments of C, in which markers are judged.
-use Rattle.std.specs.Prelude.{ℕ, List, Option, Some, Result, Ok, Err, ok_or}
+use Rattle.std.specs.Prelude.{ℕ, List, Option, Some, Result, Ok, ok_or}
 use Rattle.pytext.specs.Results.{◌>>=◌}
+use Rattle.pylock_program.specs.declared.line.refusal.LineRefusal.TheVariants as line
 use Rattle.pymark_core.specs.Environment.{EnvironmentValue, empty, with_extra, with_group}
 use Rattle.pymark_core.specs.Environment.{with_variable, without_extra, without_group}
 use Rattle.pymark_core.specs.Environment.{without_variable}
@@ -22,7 +23,7 @@ new_environment = Ok (Some (kind.Environment empty))
 abbrev pub variable_named : List ℕ → Result Var Refusal
 variable_named bytes = do
   text ← text_of bytes
-  ok_or (variable_of text) refusal.EditVariable
+  ok_or (variable_of text) (refusal.Edit line.Variable)
 
 -- the environment after it is changed by a text
 abbrev pub changed_by : (List ℕ → EnvironmentValue → EnvironmentValue) → List ℕ → EnvironmentValue

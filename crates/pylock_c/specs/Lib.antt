@@ -1,8 +1,15 @@
 pub mod Answer
+pub mod Answers
 pub mod Environments
 pub mod Kept
 pub mod Markers
+pub mod Opening
+pub mod Record
 pub mod Refusal
+pub mod Requirements
+pub mod Sessions
 pub mod Sets
 pub mod Slot
 pub mod Text
+pub mod Versions
+pub mod Wheels

@@ -1,9 +1,9 @@
 -- Markers of C.
-use Rattle.std.specs.Prelude.{ℕ, Bool, List, Option, Some, None, Result, Ok, Err}
+use Rattle.std.specs.Prelude.{ℕ, Bool, List, Option, Some, Result, Ok, Err}
 use Rattle.pytext.specs.Results.{◌>>=◌}
 use Rattle.pymark_core.specs.Environment.{EnvironmentValue}
 use Rattle.pymark_core.specs.Marker.Reading.{MarkerValue, marker_of}
-use Rattle.pymark_core.specs.Marker.Value.{marker_value}
+use Rattle.pymark_core.specs.Marker.Value.{marker_value, value_with}
 use Rattle.pylock_c.specs.Refusal.{evaluation_refusal, marker_refusal}
 use Rattle.pylock_c.specs.Sets.{refused_by}
 use Rattle.pylock_c.specs.Text.{text_of}
@@ -37,3 +37,11 @@ value_in marker environment = do
   marker ← marker_in marker
   environment ← environment_in environment
   refused_by evaluation_refusal (marker_value environment marker.tree)
+
+-- the same where the operand `extra` has this text (PEP 685)
+abbrev pub value_with_extra_in : Option Object → Option Object → List ℕ → Result Bool Refusal
+value_with_extra_in marker environment extra = do
+  marker ← marker_in marker
+  environment ← environment_in environment
+  text ← text_of extra
+  refused_by evaluation_refusal (value_with (Some text) environment marker.tree)

@@ -1,5 +1,7 @@
 -- The codes of `pylock.h`, and how what a library refuses refuses a call.
-use Rattle.std.specs.Prelude.{ℕ, ℤ, pos}
+use Rattle.std.specs.Prelude.{ℤ, pos}
+use Rattle.pylock_program.specs.declared.line.refusal.LineRefusal.{LineRefusal}
+use Rattle.pylock_program.specs.declared.line.refusal.LineRefusal.TheVariants as line
 use Rattle.pymark_core.specs.declared.fault.EvalFault.{EvalFault}
 use Rattle.pymark_core.specs.declared.fault.EvalFault.TheVariants as fault
 use Rattle.pymark_core.specs.declared.marker.error.MarkerError.{MarkerError}
@@ -14,6 +16,23 @@ use Rattle.pywheel_core.specs.declared.error.WheelError.{WheelError}
 use Rattle.pywheel_core.specs.declared.error.WheelError.TheVariants as wheel
 use Rattle.pylock_c.specs.declared.refusal.Refusal.{Refusal}
 use Rattle.pylock_c.specs.declared.refusal.Refusal.TheVariants as refusal
+
+-- of an edit that is refused
+abbrev pub edit_number : LineRefusal → ℤ
+edit_number line.Memory = pos 1
+edit_number line.Text = pos 2
+edit_number line.Long = pos 80
+edit_number line.Command = pos 81
+edit_number line.Argument = pos 82
+edit_number line.Variable = pos 83
+edit_number line.Extra = pos 84
+edit_number line.Group = pos 85
+edit_number line.Tag = pos 86
+edit_number line.Toml = pos 87
+edit_number line.Entry = pos 88
+edit_number line.TooMany = pos 89
+edit_number line.NoEntry = pos 90
+edit_number line.Name = pos 91
 
 -- the code of a refusal; 0 is that of a call that isn't refused, and 4 that of a buffer that is too
 -- small
@@ -44,7 +63,9 @@ number refusal.WheelName = pos 62
 number refusal.WheelVersion = pos 63
 number refusal.WheelBuild = pos 64
 number refusal.WheelTags = pos 65
-number refusal.EditVariable = pos 83
+number refusal.Lock = pos 70
+number refusal.Environment = pos 71
+number (refusal.Edit refused) = edit_number refused
 
 abbrev pub version_refusal : VersionError → Refusal
 version_refusal version.Syntax = refusal.VersionSyntax
@@ -86,3 +107,9 @@ wheel_refusal wheel.Version = refusal.WheelVersion
 wheel_refusal wheel.Build = refusal.WheelBuild
 wheel_refusal wheel.Tags = refusal.WheelTags
 wheel_refusal wheel.Memory = refusal.Memory
+
+-- of a line: want of memory and a text that isn't UTF-8 are told as of any call
+abbrev pub line_refusal : LineRefusal → Refusal
+line_refusal line.Memory = refusal.Memory
+line_refusal line.Text = refusal.NotUtf8
+line_refusal refused = refusal.Edit refused

@@ -1,5 +1,5 @@
 -- Texts of C, and kept texts.
-use Rattle.std.specs.Prelude.{ℕ, List, length, if◌then◌else◌, Option, Some, None, Result, Ok, Err}
+use Rattle.std.specs.Prelude.{ℕ, List, length, if◌then◌else◌, Option, Some, Result, Ok, Err}
 use Rattle.std.specs.Result.{result_map_both}
 use Rattle.std.specs.Str.{is_utf8}
 use Rattle.pylock_c.specs.declared.object.Object.{Object}
@@ -13,8 +13,12 @@ text_of bytes = if is_utf8 bytes then Ok bytes else Err refusal.NotUtf8
 
 -- the bytes of a kept text
 abbrev pub text_in : Option Object → Result (List ℕ) Refusal
-text_in (Some (kind.Text text)) = Ok text.items
+text_in (Some (kind.Text bytes)) = Ok bytes
 text_in other = Err refusal.Empty
 
 abbrev pub text_length : Option Object → Result ℕ Refusal
 text_length object = result_map_both length (λ refusal. refusal) (text_in object)
+
+-- a text that a call keeps
+abbrev pub kept_text : Result (List ℕ) Refusal → Result (Option Object) Refusal
+kept_text read = result_map_both (λ bytes. Some (kind.Text bytes)) (λ refusal. refusal) read

@@ -14,7 +14,7 @@ use crate::slot::Slot;
 use std::alloc::{AllocError, Global};
 
 /// The code of a call that isn't refused.
-const OK: i32 = 0;
+pub(crate) const OK: i32 = 0;
 
 /// The code of a call whose result is longer than its buffer.
 const ROOM: i32 = 4;
@@ -47,6 +47,40 @@ pub(crate) fn keep(alloc: Global, outcome: Result<Object, Refusal>, slot: &mut S
         }
         Err(refusal) => refusal.number(),
     }
+}
+
+/// Leaves the object in the slot and the value at its place, and answers the code.
+#[tactic(auto, using(crate::proofs::AnswerLemmas::told_with))]
+pub(crate) fn keep_with<T: Drop>(
+    alloc: Global,
+    outcome: Result<(Object, T), Refusal>,
+    slot: &mut Slot,
+    place: &mut T,
+) -> i32
+    ensures { (definition : Result (Option Kind × T) Refused)
+        → Gives Memory (λ told. (Some told.0, told.1)) outcome definition
+        → Tells definition (object slot.old, place.old) (object slot.new, place.new) result }
+{
+    match boxed_with(alloc, outcome) {
+        Ok((kept, value)) => {
+            slot.put(alloc, Some(kept));
+            *place = value;
+            OK
+        }
+        Err(refusal) => refusal.number(),
+    }
+}
+
+fn boxed_with<T: Drop>(
+    alloc: Global,
+    outcome: Result<(Object, T), Refusal>,
+) -> Result<(Box<Object>, T), Refusal>
+    ensures { (definition : Result (Option Kind × T) Refused)
+        → Gives Memory (λ told. (Some told.0, told.1)) outcome definition
+        → Gives Memory (λ told. (Some told.0.value, told.1)) result definition }
+{
+    let (object, value) = outcome?;
+    Ok((Box::new(alloc, object)?, value))
 }
 
 fn boxed(alloc: Global, outcome: Result<Object, Refusal>) -> Result<Box<Object>, Refusal>

@@ -17,6 +17,7 @@ use crate::object::Object;
 use crate::refusal::Refusal;
 use crate::slot::Slot;
 use crate::text::text;
+use pylock_program::LineRefusal;
 use pymark_core::{Environment, Var};
 use std::alloc::Global;
 
@@ -39,7 +40,7 @@ pub(crate) fn variable(bytes: &[u8]) -> Result<Var, Refusal>
 {
     match Var::of(text(bytes)?) {
         Some(variable) => Ok(variable),
-        None => Err(Refusal::EditVariable),
+        None => Err(Refusal::Edit(LineRefusal::Variable)),
     }
 }
 

@@ -4,7 +4,7 @@ ghost use Rattle.std.specs.Prelude.{◌≡◌, None, Some, option_map};
 ghost use Rattle.pytext.specs.Agreement.{Gives};
 ghost use Rattle.pylock_c.specs.Answer.{Tells, Writes};
 ghost use Rattle.pylock_c.specs.Markers.{environment_in, marker_in, marker_text_in, parsed};
-ghost use Rattle.pylock_c.specs.Markers.{value_in};
+ghost use Rattle.pylock_c.specs.Markers.{value_in, value_with_extra_in};
 ghost use Rattle.pylock_c.specs.Slot.{object};
 ghost use Rattle.pylock_c.specs.declared.refusal.Refusal.TheVariants.{Memory};
 
@@ -105,6 +105,44 @@ pub extern "C" fn pylock_marker_evaluate(
     let kept = marker.take(alloc);
     let judged_in = environment.take(alloc);
     let code = tell(value_in(alloc, &kept, &judged_in), value);
+    marker.put(alloc, kept);
+    environment.put(alloc, judged_in);
+    code
+}
+
+fn value_with_extra_in(
+    alloc: Global,
+    marker: &Option<Box<Object>>,
+    environment: &Option<Box<Object>>,
+    extra: &[u8],
+) -> Result<bool, Refusal>
+    ensures { Gives Memory (λ value. value) result
+        (value_with_extra_in (option_map (λ kept. kept.value) marker.now)
+        (option_map (λ kept. kept.value) environment.now) extra.now) }
+{
+    let marker = marker_in(marker)?;
+    let environment = environment_in(environment)?;
+    Ok(marker.evaluate_with_extra(alloc, environment, text(extra)?)?)
+}
+
+/// The value of a marker in an environment where the operand `extra` has a text.
+#[unsafe(no_mangle)]
+pub extern "C" fn pylock_marker_evaluate_with_extra(
+    alloc: Global,
+    marker: &mut Slot,
+    environment: &mut Slot,
+    extra: &[u8],
+    value: &mut bool,
+) -> i32
+    ensures marker { object marker.new ≡ object marker.old }
+    ensures environment { object environment.new ≡ object environment.old }
+    ensures told { Tells
+        (value_with_extra_in (object marker.old) (object environment.old) extra.now)
+        value.old value.new result }
+{
+    let kept = marker.take(alloc);
+    let judged_in = environment.take(alloc);
+    let code = tell(value_with_extra_in(alloc, &kept, &judged_in, extra), value);
     marker.put(alloc, kept);
     environment.put(alloc, judged_in);
     code

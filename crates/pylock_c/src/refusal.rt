@@ -3,9 +3,10 @@
 ghost use Rattle.std.specs.Prelude.{◌≡◌};
 ghost use Rattle.pylock_c.specs.Refusal.{evaluation_refusal, marker_refusal};
 ghost use Rattle.pylock_c.specs.Refusal.{requirement_refusal, set_refusal, version_refusal};
-ghost use Rattle.pylock_c.specs.Refusal.{number, wheel_refusal};
+ghost use Rattle.pylock_c.specs.Refusal.{edit_number, line_refusal, number, wheel_refusal};
 ghost use Rattle.pylock_c.specs.declared.refusal.Refusal.TheVariants.{Memory};
 
+use pylock_program::LineRefusal;
 use pymark_core::{EvalFault, MarkerError, RequirementError};
 use pyver_core::{SpecifierError, VersionError};
 use pywheel_core::WheelError;
@@ -66,8 +67,12 @@ pub enum Refusal {
     WheelBuild,
     /// The wheel's tags are wrong.
     WheelTags,
-    /// No variable of markers has the name.
-    EditVariable,
+    /// The lock is refused.
+    Lock,
+    /// The environment is refused.
+    Environment,
+    /// An edit is refused.
+    Edit(LineRefusal),
 }
 
 impl Refusal {
@@ -102,8 +107,32 @@ impl Refusal {
             Refusal::WheelVersion => 63,
             Refusal::WheelBuild => 64,
             Refusal::WheelTags => 65,
-            Refusal::EditVariable => 83,
+            Refusal::Lock => 70,
+            Refusal::Environment => 71,
+            Refusal::Edit(refusal) => edit_number(refusal),
         }
+    }
+}
+
+/// The code of an edit that is refused.
+fn edit_number(refusal: LineRefusal) -> i32
+    ensures { result ≡ edit_number refusal }
+{
+    match refusal {
+        LineRefusal::Memory => 1,
+        LineRefusal::Text => 2,
+        LineRefusal::Long => 80,
+        LineRefusal::Command => 81,
+        LineRefusal::Argument => 82,
+        LineRefusal::Variable => 83,
+        LineRefusal::Extra => 84,
+        LineRefusal::Group => 85,
+        LineRefusal::Tag => 86,
+        LineRefusal::Toml => 87,
+        LineRefusal::Entry => 88,
+        LineRefusal::TooMany => 89,
+        LineRefusal::NoEntry => 90,
+        LineRefusal::Name => 91,
     }
 }
 
@@ -202,6 +231,18 @@ impl From<WheelError> for Refusal {
             WheelError::Build => Refusal::WheelBuild,
             WheelError::Tags => Refusal::WheelTags,
             WheelError::Memory => Refusal::Memory,
+        }
+    }
+}
+
+impl From<LineRefusal> for Refusal {
+    ghost from_gives = { λ error refusal. refusal ≡ line_refusal error };
+
+    fn from(error: LineRefusal) -> Refusal {
+        match error {
+            LineRefusal::Memory => Refusal::Memory,
+            LineRefusal::Text => Refusal::NotUtf8,
+            refused => Refusal::Edit(refused),
         }
     }
 }

@@ -1,14 +1,15 @@
 //! Texts of C, and kept texts.
 
-ghost use Rattle.std.specs.Prelude.{◌≡◌, None, option_map};
+ghost use Rattle.std.specs.Prelude.{◌≡◌, ℕ, List, None, Result, Some, option_map};
 ghost use Rattle.pytext.specs.Agreement.{Gives};
 ghost use Rattle.pylock_c.specs.Answer.{Tells, Writes};
 ghost use Rattle.pylock_c.specs.Slot.{object};
+ghost use Rattle.pylock_c.specs.declared.refusal.Refusal.{Refusal as Refused};
 ghost use Rattle.pylock_c.specs.declared.refusal.Refusal.TheVariants.{Memory};
-ghost use Rattle.pylock_c.specs.Text.{text_in, text_length, text_of};
+ghost use Rattle.pylock_c.specs.Text.{kept_text, text_in, text_length, text_of};
 
-use crate::answer::{tell, write};
-use crate::object::Object;
+use crate::answer::{keep, tell, write};
+use crate::object::{Bytes, Object};
 use crate::refusal::Refusal;
 use crate::slot::Slot;
 use std::alloc::Global;
@@ -24,13 +25,30 @@ pub(crate) fn text(bytes: &[u8]) -> Result<&str, Refusal>
     }
 }
 
+/// Leaves a text in the slot, and answers the code.
+pub(crate) fn keep_text(alloc: Global, outcome: Result<Vec<u8>, Refusal>, slot: &mut Slot) -> i32
+    ensures { (definition : Result (List ℕ) Refused)
+        → Gives Memory (λ bytes. bytes.items) outcome definition
+        → Tells (kept_text definition) (object slot.old) (object slot.new) result }
+{
+    keep(alloc, as_object(outcome), slot)
+}
+
+fn as_object(outcome: Result<Vec<u8>, Refusal>) -> Result<Object, Refusal>
+    ensures { (definition : Result (List ℕ) Refused)
+        → Gives Memory (λ bytes. bytes.items) outcome definition
+        → Gives Memory (λ kept. Some kept) result (kept_text definition) }
+{
+    Ok(Object::Text(Bytes::new(outcome?)))
+}
+
 /// The bytes of a kept text.
 fn text_in(kept: &Option<Box<Object>>) -> Result<&[u8], Refusal>
     ensures { Gives Memory (λ text. text.now) result
         (text_in (option_map (λ kept. kept.value) kept.now)) }
 {
     match kept.as_deref() {
-        Some(Object::Text(text)) => Ok(text),
+        Some(Object::Text(text)) => Ok(text.as_slice()),
         _ => Err(Refusal::Empty),
     }
 }

@@ -98,7 +98,22 @@ impl From<clap::Error> for CommandError {
 /// The version of the program, which stands on the first line of a run without words too.
 const VERSION: &str = "1";
 
-const ABOUT: &str = "Selects from a lock what an installer installs";
+const ABOUT: &str = "\
+Tells exactly what a pylock.toml installs in an environment, and why
+
+Example:
+  $ pylock plan pylock.toml env.json --extra science
+  plan 12
+  ..
+
+plan prints a line for each package to install. explain prints what becomes of
+each entry of the lock, and why. env.json is the environment of a Python: its
+marker variables and its wheel tags. Each command has --help; without a command
+pylock prints its name and version.
+
+Status: 0, an answer; 1, a fault, a finding or a refused text; 2, the lock, the
+environment or the command line is refused; 3, standard error says why it ended
+early.";
 
 /// A text that a subcommand takes: its name in capitals, and what stands behind it in the help.
 #[derive(Clone, Copy)]
@@ -117,19 +132,31 @@ struct Usage {
 
 const PLAN: Usage = Usage {
     name: "plan",
-    about: "Print the plan of a lock, with extras, groups and files asked for",
+    about: "Print what a lock installs in an environment",
     reply: "\
-Prints plan K and then K lines, or fault ID, TAB and CODE, as select does. An
-option that is refused prints refused, TAB, the option, TAB and its text. For
-example:
-  pylock plan pylock.toml env.json --extra=test --only-binary :all:
-  pylock plan pylock.toml env.json --all-extras --no-default-groups --all-groups
+Example, with spaces for the TABs:
+  $ pylock plan pylock.toml env.json --extra science --only-binary :all:
+  plan 12
+  1  acme-service  -  editable  -  .  -  -  -
+  ..
 
-Options count in the order of the list above; of --only-binary and --no-binary
-the last that names a package counts, and :all: names each. An option with a
-text may stand again. A text that begins with - is given as --extra=TEXT. Tags
-come from ENV alone. --only-binary :all: leaves VCS sources, directories and
-archives, which are built all the same.
+Prints plan K and then K lines, one for each package to install. A line has
+nine fields with TAB between them: the entry's number, name, version, kind of
+source, file name, path or URL, hashes, VCS commit and subdirectory. An absent
+field is -. The lines are for programs: a field may hold any character of the
+lock but TAB and LF, which are written \\t and \\n.
+
+Where the lock can't be installed so, it prints fault ID, TAB and CODE instead.
+ID is the number of the entry at fault, or 0 for the head of the lock. The help
+of explain says what CODE means. Standard error tells the reason.
+
+The options count in the order of the list above. Of --only-binary and
+--no-binary the last that names a package counts, and :all: names each package.
+An option with a text may stand again; a text that begins with - is given as
+--extra=TEXT. Tags come from ENV alone: --set doesn't change them.
+--only-binary :all: leaves VCS sources, directories and archives, which are
+built all the same. A refused option prints refused, TAB, the option, TAB and
+its text.
 
 Status: 0, a plan; 1, a fault or a refused option; 2, the lock, the environment
 or the command line is refused; 3, a file can't be read, the output failed or
@@ -140,39 +167,57 @@ const EXPLAIN: Usage = Usage {
     name: "explain",
     about: "Print what becomes of each entry of a lock, and why",
     reply: "\
-Judges each entry for itself, so all faults are seen at once. The first line is
-that of the lock's head: head, then ok or a code, then DETAIL. A line for each
-entry follows: ID NAME VERSION VERDICT DETAIL. A TAB stands between each two
-fields, and an absent field is -. For example, with spaces for the TABs:
-  pylock explain pylock.toml env.json --extra=test
+Example, with spaces for the TABs:
+  $ pylock explain pylock.toml env.json
+  head  ok  -
+  ..
   7  colorama  0.4.6  skipped  sys_platform == 'win32'
+  ..
+
+Judges the head of the lock and each entry for itself, so all faults are seen
+at once. The first line is head, ok or a code, and DETAIL. Then each entry has
+a line: ID NAME VERSION VERDICT DETAIL. TAB stands between two fields, and an
+absent field is -. The options are those of plan, and mean the same.
 
 VERDICT is one of these, and DETAIL is what stands in parentheses:
-  skipped         the marker is false (the marker)
-  marker-unset    the marker reads a variable without a text (both)
-  marker-extra, marker-undefined, marker-number
-                  the marker has another fault (the marker)
-  python-unknown  the version of Python isn't known (requires-python)
-  python-not-met  requires-python doesn't admit it (requires-python)
-  ambiguous       an earlier entry of this name is active too (its number)
-  sources         there are sources of several kinds (the kinds)
-  no-file         no file may be taken (its wheels, its sdist and the policy)
+  skipped           its marker is false (the marker)
+  marker-unset      its marker reads a variable without a text (both)
+  marker-extra      its marker reads extra, which no lock gives (the marker)
+  marker-undefined  its marker has ~= or === where no versions are compared (the
+                    marker)
+  marker-number     its marker compares a number past 128 bits (the marker)
+  python-unknown    the version of Python isn't known (requires-python)
+  python-not-met    requires-python doesn't admit the Python (requires-python)
+  no-environment    of the head: none of the lock's environments is true
+  ambiguous         an earlier entry of its name applies too (its number)
+  sources           it has sources of several kinds (the kinds)
+  no-file           no file may be taken (its wheels, its sdist and the policy)
   vcs, directory, editable, archive, wheel, sdist
-                  the source that is installed (a file name, or a place; of a
-                  wheel its best tag too)
+                    what is installed (a file name, or a place; of a wheel its
+                    best tag too)
 
-The options are those of plan, and mean the same.
-
-Status: 0, the answer is a plan; 1, it is a fault, or an option is refused;
-2, the lock, the environment or the command line is refused; 3, a file can't be
-read, the output failed or memory ran out.",
+Status: 0, the answer of plan is a plan; 1, it is a fault, or an option is
+refused; 2, the lock, the environment or the command line is refused; 3, a file
+can't be read, the output failed or memory ran out.",
 };
 
 const SELECT: Usage = Usage {
     name: "select",
     about: "Print what a lock installs, and print it again after each edit",
     reply: "\
-Edits come as lines on standard input:
+Example, with spaces for the TABs:
+  $ printf 'extra+ science\\nfly\\n' | pylock select pylock.toml env.json
+  plan 11
+  ..
+  plan 12
+  ..
+  refused 2  command
+
+Prints the answer, as plan does. Then it reads edits as lines from standard
+input and answers each: by the answer as it is then, or by refused N, TAB and a
+word, where line N is refused and changes nothing. The last answer counts.
+
+The edits:
   show                print the answer again
   set NAME VALUE      give a marker variable a text: set python_version 3.12
   unset NAME          leave it without one: unset platform_release
@@ -211,13 +256,16 @@ const FILES: Usage = Usage {
     name: "files",
     about: "Print every source that a lock names, whatever machine it is for",
     reply: "\
-Prints files K and then K lines, one for each source of each entry, with a TAB
-between each two fields: the entry's number, name, version, kind of source,
-file name, place, hashes, VCS commit and subdirectory. For example:
-  pylock files pylock.toml
+Example:
+  $ pylock files pylock.toml
+  files 109
+  ..
 
-The lines are for programs. A field may hold any character of the lock but TAB
-and LF, which are written \\t and \\n.
+Prints files K and then K lines, one for each source of each entry. A line has
+the nine fields of a line of plan: the entry's number, name, version, kind of
+source, file name, path or URL, hashes, VCS commit and subdirectory. An absent
+field is -. The lines are for programs: a field may hold any character of the
+lock but TAB and LF, which are written \\t and \\n.
 
 Status: 0, the lines; 2, the lock or the command line is refused; 3, a file
 can't be read, the output failed or memory ran out.",
@@ -225,41 +273,52 @@ can't be read, the output failed or memory ran out.",
 
 const AUDIT: Usage = Usage {
     name: "audit",
-    about: "Print what a careful reader of a lock would want to be told",
+    about: "Print what a careful reader of a lock should know",
     reply: "\
-Prints findings K and then K lines, one for each finding, with a TAB between
-each two fields: the entry's number (0 for the lock's head), name, FINDING and
-DETAIL. An absent field is -. For example:
-  pylock audit pylock.toml
+Example, with spaces for the TABs:
+  $ pylock audit audited.toml
+  findings 22
+  0  -  lock-version  1.1
+  ..
+  17  requests  credentials  wheels 1 url
+  ..
+
+Prints findings K and then K lines, one for each finding: ID NAME FINDING
+DETAIL, with TAB between two fields. ID is the entry's number, or 0 for the
+head of the lock, and an absent field is -. A lock with findings is valid all
+the same.
 
 FINDING is one of these:
-  lock-version       the lock's version isn't 1.0
-  unknown-key        PEP 751 doesn't name the key
-  no-packages        the key packages is absent
-  name-form          a name isn't in normal form
-  version            the version is none by PEP 440
-  marker-extra       the marker asks for extra, which no lock gives
-  undeclared-name    the marker asks for an extra or a group that the lock
-                     doesn't declare
-  no-source          an entry has no source
-  several-sources    an entry has sources of several kinds
-  no-hash            a file has no hash
-  weak-hash          a file has hashes, and none is of a strong algorithm
-  odd-hash           a hash has a , or a = in it
-  bad-hash           a hash is too short or too long, or isn't hex
-  no-wheel-name      the file name of a wheel can't be read
-  other-name         a file is of another package
-  other-version      a file is of another version
-  same-file-name     two files have the same name
-  unsafe-file-name, unsafe-subdirectory
-                     a name or a path climbs out of its folder
-  not-https          a URL isn't one of https
-  credentials        a URL holds a user or a password
-  moving-commit      a commit isn't a full hash
-  control-character  a text has a control character
+  lock-version        the lock's version isn't 1.0
+  unknown-key         PEP 751 doesn't name the key
+  no-packages         the key packages is absent
+  name-form           the name isn't in normal form
+  version             the version is none by PEP 440
+  marker-extra        the marker reads extra, so it is a fault everywhere
+  undeclared-name     the marker asks for an extra or a group that the lock
+                      doesn't declare
+  no-source           the entry has no source
+  several-sources     the entry has sources of several kinds
+  no-hash             an archive, a wheel or an sdist has no hash
+  weak-hash           it has hashes, and none is of a strong algorithm
+  odd-hash            a hash has a , or a = in it
+  bad-hash            a hash isn't of its algorithm's number of 0 to 9, a to f
+  no-wheel-name       the file name of a wheel is absent or can't be read
+  other-name          a file is of another package
+  other-version       a wheel is of another version
+  same-file-name      an earlier wheel of the entry has the file name
+  unsafe-file-name    the file name of a wheel or an sdist has a /, a \\ or a
+                      control character, or is . or ..
+  unsafe-subdirectory the path begins with / or \\, has : as its second
+                      character, or has .. as a part
+  not-https           a URL isn't of https or file, nor that of a VCS by ssh
+  credentials         a URL has an @ in front of its host; one of ssh only where
+                      a password stands there
+  moving-commit       a commit of git or hg isn't a full hash
+  control-character   a text has a control character
 
-What stands in a URL before the @ is shown as ***, and control characters as
-\\u{..}.
+DETAIL shows what stands in front of such an @ as ***, and control characters
+as \\u{..}.
 
 Status: 0, nothing was found; 1, something was; 2, the lock or the command line
 is refused; 3, a file can't be read, the output failed or memory ran out.",
@@ -269,7 +328,12 @@ const VERSION_OF: Usage = Usage {
     name: "version",
     about: "Print the normal form of a version (PEP 440)",
     reply: "\
+Example:
+  $ pylock version v1.0-RC.1
+  1.0rc1
+
 Prints the normal form, or refused, TAB and one of the words syntax and number.
+
 Status: 0, it is a version; 1, it is refused; 2, the command line is refused;
 3, the output failed or memory ran out.",
 };
@@ -283,8 +347,13 @@ const MATCH: Usage = Usage {
     name: "match",
     about: "Print whether a specifier set admits a version (PEP 440)",
     reply: "\
+Example:
+  $ pylock match '>=2.8.1, ==2.8.*' 2.8.3
+  true
+
 Prints true or false, or refused, TAB and one of the words set-syntax,
 set-number, version-syntax and version-number.
+
 Status: 0, an answer; 1, a text is refused; 2, the command line is refused;
 3, the output failed or memory ran out.",
 };
@@ -303,7 +372,12 @@ const NAME: Usage = Usage {
     name: "name",
     about: "Print the normal form of a name (PEP 503)",
     reply: "\
+Example:
+  $ pylock name Foo__Bar
+  foo-bar
+
 Prints the normal form, or refused, TAB and the word name.
+
 Status: 0, it is a name; 1, it is refused; 2, the command line is refused;
 3, the output failed or memory ran out.",
 };
@@ -317,10 +391,16 @@ const MARKER: Usage = Usage {
     name: "marker",
     about: "Print whether a marker holds in an environment (PEP 508)",
     reply: "\
-Prints true or false; or fault, TAB and one of the codes marker-unset,
-marker-extra, marker-undefined and marker-number; or refused, TAB and one of
-the words too-deep, syntax and set-misuse; or the refusal of the environment,
-as select does.
+Example:
+  $ pylock marker 'os_name == \"posix\"' env.json
+  true
+
+Prints true or false, with no extra and no group asked for; or fault, TAB and
+one of the codes marker-unset, marker-extra, marker-undefined and
+marker-number, which the help of explain tells; or refused, TAB and one of the
+words too-deep, syntax and set-misuse; or the refusal of the environment, as
+select does.
+
 Status: 0, an answer; 1, a fault or a refused text; 2, the environment or the
 command line is refused; 3, a file can't be read, the output failed or memory
 ran out.",
@@ -335,9 +415,14 @@ const REQUIREMENT: Usage = Usage {
     name: "requirement",
     about: "Print the parts of a requirement (PEP 508)",
     reply: "\
-Prints name, extras, specifier set, URL and marker, with a TAB between each
-two; or refused, TAB and one of the words name, extras, specifier, url, marker
-and trailing.
+Example, with spaces for the TABs:
+  $ pylock requirement 'requests[security] >= 2.8.1'
+  requests  security  >=2.8.1  -  -
+
+Prints name, extras, specifier set, URL and marker, with TAB between two; an
+absent part is -. Or prints refused, TAB and one of the words name, extras,
+specifier, url, marker and trailing.
+
 Status: 0, it is a requirement; 1, it is refused; 2, the command line is
 refused; 3, the output failed or memory ran out.",
 };
@@ -351,8 +436,14 @@ const WHEEL: Usage = Usage {
     name: "wheel",
     about: "Print the parts of a wheel's file name (PEP 427)",
     reply: "\
-Prints name, version, build and tags, with a TAB between each two; or refused,
-TAB and one of the words extension, parts, name, version, build and tags.
+Example, with spaces for the TABs:
+  $ pylock wheel numpy-2.2.1-cp312-cp312-win_amd64.whl
+  numpy  2.2.1  -  cp312-cp312-win_amd64
+
+Prints name, version, build and tags, with TAB between two; an absent build is
+-. Or prints refused, TAB and one of the words extension, parts, name, version,
+build and tags.
+
 Status: 0, it is the name of a wheel; 1, it is refused; 2, the command line is
 refused; 3, the output failed or memory ran out.",
 };

@@ -1,4 +1,20 @@
-//! The command line of `pylock`, read by `clap`: from words to a task.
+//! The command line of `pylock`, read by `clap`: from words to a task. The help texts stand here
+//! too.
+//!
+//! It stands on `clap`, and knows nothing of locks: `pylock_program` does what the task says. Begin
+//! with [`command`], of the words, of which the first is the program's name. It gives the [`Task`],
+//! whose texts are lent from the words. Where clap refuses the words, or they ask for help or the
+//! version, its error has the text, the stream and the status.
+//!
+//! The task of some words, from `crates/cases/src/words.rt`:
+//!
+//! ```rust
+//! match command(alloc, words) {
+//!     Ok(task) => format!(in alloc; "{:?}", task),
+//!     Err(CommandError::Refused(error)) => format!(in alloc; "refused {}", error.exit_code()),
+//!     Err(CommandError::Memory) => String::from_str(alloc, "memory"),
+//! }
+//! ```
 #![tactic(auto)]
 
 mod choice;

@@ -1,6 +1,31 @@
-//! What is installed from the lock file of the Python packaging specifications (`pylock.toml`,
-//! PEP 751): the session on a lock, its edits, and the answer of the installation steps; and the
-//! readers that it stands on.
+//! What is installed from the lock file of the Python packaging specifications (`pylock.toml`, PEP
+//! 751): the session on a lock, its edits, and the answer of the installation steps.
+//!
+//! It is for whoever writes an installer: a lock and an environment go in, a plan or the fault with
+//! its entry comes out. It stands on `pylock_readers`, whose items it gives too, and on what is
+//! below.
+//!
+//! Begin with [`Lock::read`], [`read_environment`] and [`Session::start`]. [`Session::answer`] is
+//! the plan. [`Session::edit`] changes the environment, what is asked for, a policy or an entry,
+//! and judges again exactly what the edit touches; a refused edit leaves the session as it was.
+//! [`Session::fates`] tells what becomes of each entry.
+//!
+//! A session, from `crates/pylock_program_tests/src/documents.rt`:
+//!
+//! ```rust
+//! let lock = Lock::read(alloc, lock.as_bytes())?;
+//! let (environment, tags) = read_environment(alloc, environment.as_bytes())?;
+//! Ok(Session::start(alloc, lock, environment, tags)?)
+//! ```
+//!
+//! Its answer as text, from `crates/pylock_core_tests/src/sessions.rt`:
+//!
+//! ```rust
+//! match session.answer()? {
+//!     Answer::Fault { id, code } => format!(in alloc; "fault {id} {code:?}"),
+//!     Answer::Plan(plan) => plan_text(alloc, &plan),
+//! }
+//! ```
 #![tactic(auto)]
 
 mod answer;

@@ -155,7 +155,7 @@ fn named(alloc: Global, word: &str, text: &str) -> Option<Edit> {
 }
 
 /// The edit of a step, where memory allows it.
-pub(super) fn edit(alloc: Global, word: &str, number: u32, text: &str) -> Option<Edit> {
+fn edit(alloc: Global, word: &str, number: u32, text: &str) -> Option<Edit> {
     match word {
         "unset python_full_version" => Some(Edit::Unset(Var::PythonFullVersion)),
         "tags" => Some(Edit::Tags(TagList::parse(alloc, &[]).ok()?)),

@@ -1,5 +1,5 @@
 //! Tests of locks and sessions that take more than one text and what it gives: long lists of edits,
-//! and memory that is refused or counted. The worked examples are the cases of `crates/cases`.
+//! and memory that is refused. The worked examples are the cases of `crates/cases`.
 #![tactic(auto)]
 
 #[cfg(test)]
@@ -8,8 +8,6 @@ mod calls;
 mod edit_growths;
 #[cfg(test)]
 mod edits;
-#[cfg(test)]
-mod growth_counts;
 #[cfg(test)]
 mod growths;
 #[cfg(test)]

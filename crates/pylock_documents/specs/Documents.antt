@@ -5,7 +5,9 @@ use Rattle.std.specs.List.{flat_map}
 use Rattle.std.specs.Option.{option_map_or}
 use Rattle.serde_json.specs.Data.{Data}
 use Rattle.pylock_json.specs.Json.{Row, list_of, maybe, numbered, object_of, texts_of, there}
+use Rattle.pyver_core.specs.Set.Normal.{set_text}
 use Rattle.pylock_readers.specs.Entry.{EntryValue}
+use Rattle.pylock_readers.specs.Lock.{HeadValue}
 use Rattle.pylock_core.specs.Session.Fates.{fates}
 use Rattle.pylock_core.specs.Session.Picks.{source_in, sources}
 use Rattle.pylock_core.specs.Session.State.{State, entry_at}
@@ -121,3 +123,14 @@ found_rows found =
 abbrev pub findings_rows : List FoundValue → List Row
 findings_rows found =
     (codes "findings", Some (list_of (map (λ one. object_of (found_rows one)) found))) ∷ []
+
+-- ---- the head of a lock
+
+abbrev pub lock_head_rows : HeadValue → List Row
+lock_head_rows head =
+    (codes "requires_python", maybe (option_map set_text head.requires_python))
+    ∷ (codes "environments", Some (texts_of (map (λ m. m.text) head.environments)))
+    ∷ (codes "extras", Some (texts_of head.extras))
+    ∷ (codes "groups", Some (texts_of head.groups))
+    ∷ (codes "default_groups", Some (texts_of head.default_groups))
+    ∷ []

@@ -3,8 +3,16 @@
 //! lines have, each field under a name of its own, and of a fault its reason too. A field that is
 //! absent is left out.
 //!
-//! Each call gives an [`Object`](pylock_json::Object); its text is that of `pylock_json`'s
-//! `document`.
+//! It stands on `pylock_core`, `pylock_reasons`, `pylock_audit` and `pylock_json`. Begin with
+//! [`plan_document`]. Each call gives an [`Object`](pylock_json::Object); its text is that of
+//! `pylock_json`'s `document`.
+//!
+//! The files of a lock, from `crates/pylock_program_tests/src/documents.rt`:
+//!
+//! ```rust
+//! let lock = Lock::read(alloc, LOCK.as_bytes())?;
+//! let object = files_document(alloc, lock.entries())?;
+//! ```
 //!
 //! Its `specs/` has the definitions: `Source` says which members the object of a source has, and
 //! `Documents` says which those of each document are.
@@ -13,6 +21,7 @@
 mod explain;
 mod files;
 mod findings;
+mod head;
 mod plan;
 mod refused;
 mod source;
@@ -20,5 +29,6 @@ mod source;
 pub use explain::explain_document;
 pub use files::files_document;
 pub use findings::findings_document;
+pub use head::head_document;
 pub use plan::plan_document;
 pub use refused::refused_document;

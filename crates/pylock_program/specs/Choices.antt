@@ -26,6 +26,8 @@ use Rattle.pylock_program.specs.Text.Explain.{explain_text}
 use Rattle.pylock_program.specs.Text.Field.{field, line_of}
 use Rattle.pylock_program.specs.Text.Json.{json_text, option_json, refusal_json}
 use Rattle.pylock_program.specs.Text.Refusal.{refusal_text}
+use Rattle.pylock_program.specs.declared.choices.View.{View}
+use Rattle.pylock_program.specs.declared.choices.View.TheVariants.{Plan, Explain}
 use Rattle.pylock_program.specs.declared.report.opening.OpenError.{OpenError}
 
 -- ---- the edits that an option means
@@ -102,6 +104,10 @@ plan_shown Json state = json_text (answer_rows state (answer state))
 abbrev pub explain_shown : Form → State → List ℕ
 explain_shown Lines state = explain_text state
 explain_shown Json state = json_text (explain_rows state)
+
+abbrev pub view_shown : View → Form → State → List ℕ
+view_shown Plan = plan_shown
+view_shown Explain = explain_shown
 
 -- what is printed of the state after the options, or the first option that is refused
 abbrev pub chosen_report : Form → (State → List ℕ) → Result State Choice → Report

@@ -4,7 +4,6 @@ pub mod Writes
 pub mod Faults
 pub mod Edited
 pub mod Hashes
-pub mod Reply
 pub mod Chosen
 pub mod Pieces
 pub mod Plain

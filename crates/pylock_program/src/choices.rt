@@ -14,12 +14,11 @@ ghost use Rattle.pylock_program.specs.Choices.{explain_shown, option_shown, plan
 ghost use Rattle.pylock_program.specs.Choices.{refusal_shown};
 ghost use Rattle.pylock_program.specs.Choices.{plan_report, policies, refused_option};
 ghost use Rattle.pylock_program.specs.Choices.{report_after};
-ghost use Rattle.pylock_program.specs.Choices.{set_variable};
+ghost use Rattle.pylock_program.specs.Choices.{set_variable, view_shown};
 ghost use Rattle.pylock_core.specs.Session.Steps.{answer};
-ghost use Rattle.pylock_program.specs.Inner.Chosen.{chosen, made, view_shown};
-ghost use Rattle.pylock_program.specs.Inner.Reply.{Pushes};
+ghost use Rattle.pylock_program.specs.Inner.Chosen.{chosen, made};
 ghost use Rattle.pylock_program.specs.Report.{is_plan, opened};
-ghost use Rattle.pylock_program.specs.Report.Print.{Prints};
+ghost use Rattle.pylock_program.specs.Report.Print.{Prints, Pushes};
 
 use crate::document::Document;
 use crate::line::commands::label;
@@ -42,12 +41,12 @@ use pymark_core::Var;
 use pyver_core::{Label, is_name};
 use std::alloc::{AllocError, Global};
 
-/// What is printed of the state after the options.
+/// What is printed of a session as it stands.
 #[derive(Clone, Copy)]
-enum View {
-    /// The answer.
+pub enum View {
+    /// The answer, as `plan` prints it.
     Plan,
-    /// What becomes of each entry.
+    /// What becomes of the head and of each entry, as `explain` prints it.
     Explain,
 }
 
@@ -72,7 +71,7 @@ pub fn plan<W: Sink, N: Sink>(
         (W.value writer.old) (W.value writer.new) result }
 {
     let mut out = Vec::new(alloc);
-    let status = push_view(alloc, &mut out, View::Plan, form, lock, env, choices, notes)?;
+    let status = push_report(alloc, &mut out, View::Plan, form, lock, env, choices, notes)?;
     print(&out, status, writer)
 }
 
@@ -96,7 +95,7 @@ pub fn explain<W: Sink, N: Sink>(
         (W.value writer.old) (W.value writer.new) result }
 {
     let mut out = Vec::new(alloc);
-    let status = push_view(
+    let status = push_report(
         alloc,
         &mut out,
         View::Explain,
@@ -110,7 +109,7 @@ pub fn explain<W: Sink, N: Sink>(
 }
 
 /// Pushes what is printed, and answers the status.
-fn push_view<N: Sink>(
+fn push_report<N: Sink>(
     alloc: Global,
     out: &mut Vec<u8>,
     view: View,
@@ -127,14 +126,15 @@ fn push_view<N: Sink>(
         Ok(session) => push_chosen(alloc, out, view, form, session, lock.path, choices, notes),
         Err(OpenError::Memory) => Err(AllocError),
         Err(refusal) => {
-            push_refusal_in(alloc, out, form, &refusal)?;
+            push_open_error(alloc, out, form, &refusal)?;
             Ok(2)
         }
     }
 }
 
-/// Pushes a refused lock or environment.
-fn push_refusal_in(
+/// Pushes what is printed of a refused lock or environment: its line, or the JSON document of the
+/// line's words, each with an LF at its end. Takes memory for the document.
+pub fn push_open_error(
     alloc: Global,
     out: &mut Vec<u8>,
     form: Form,
@@ -168,7 +168,7 @@ fn push_chosen<N: Sink>(
         tell_refused(alloc, notes, lock, choice);
         return Ok(1);
     }
-    let is_plan = push_session(alloc, out, view, form, &session)?;
+    let is_plan = push_view(alloc, out, view, form, &session)?;
     tell_notes(alloc, notes, &session, choices);
     if matches!(view, View::Plan) && !is_plan {
         tell_fault(alloc, notes, &session);
@@ -176,8 +176,10 @@ fn push_chosen<N: Sink>(
     Ok(if is_plan { 0 } else { 1 })
 }
 
-/// Pushes what is printed of the session, and answers whether its answer is a plan.
-fn push_session(
+/// Pushes what `plan` or `explain` prints of the session as it stands, and answers whether its
+/// answer is a plan. It changes nothing, and takes memory for the answer, for what becomes of each
+/// entry where that is asked for, and for a document.
+pub fn push_view(
     alloc: Global,
     out: &mut Vec<u8>,
     view: View,

@@ -5,7 +5,6 @@ ghost use Rattle.std.specs.Prelude.{[], codes, map, string_bytes};
 ghost use Rattle.std.specs.List.{join_by};
 ghost use Rattle.pyver_core.specs.Name.{norm};
 ghost use Rattle.pywheel_core.specs.Tag.{tag_text};
-ghost use Rattle.pylock_program.specs.Inner.Reply.{Pushes};
 ghost use Rattle.pylock_program.specs.Reply.{reply, reply_of, version_answer, match_answer};
 ghost use Rattle.pylock_program.specs.Reply.{admits_answer, audit_answer, files_answer};
 ghost use Rattle.pylock_program.specs.Reply.{files_shown, found_answer, unread_lock};
@@ -14,7 +13,7 @@ ghost use Rattle.pylock_program.specs.Reply.{value_answer};
 ghost use Rattle.pylock_program.specs.Reply.{requirement_answer, requirement_line, names_text};
 ghost use Rattle.pylock_program.specs.Reply.{specifiers_text, wheel_answer, wheel_line};
 ghost use Rattle.pylock_program.specs.Reply.{refused, faulty};
-ghost use Rattle.pylock_program.specs.Report.Print.{Prints};
+ghost use Rattle.pylock_program.specs.Report.Print.{Prints, Pushes};
 ghost use Rattle.pylock_program.specs.Text.Field.{field, line_of};
 
 pub mod queries;
@@ -50,7 +49,8 @@ pub fn query<W: Sink>(alloc: Global, query: Query<'_>, writer: &mut W) -> Result
     print(&out, status, writer)
 }
 
-fn push_reply(alloc: Global, out: &mut Vec<u8>, query: Query<'_>) -> Result<u8, AllocError>
+/// Pushes the reply of a one-shot command, and answers the status of `query`.
+pub fn push_reply(alloc: Global, out: &mut Vec<u8>, query: Query<'_>) -> Result<u8, AllocError>
     ensures { Pushes out.old.items out.new.items (reply query.entry) result }
 {
     match query {

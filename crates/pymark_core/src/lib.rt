@@ -1,5 +1,29 @@
 //! Markers, the environments that they are judged in, and requirements of Python packages (PEP
 //! 508).
+//!
+//! It is for whoever asks whether `python_version >= "3.8"` holds, or reads `requests[security] >=
+//! 2` into its parts. It stands on `pyver_core`, `pytext` and `thiserror`.
+//!
+//! Begin with [`Marker::parse`] and [`Marker::evaluate`]. An [`Environment`] has a text for each
+//! variable that is set, and the extras and groups that are asked for. A marker that can't be
+//! judged is a fault, and the first one in the text is told ([`EvalFault`]). [`Marker::reads`] says
+//! what a marker looks at, so that it isn't judged again for nothing. [`Requirement::parse`] reads
+//! a requirement.
+//!
+//! What a marker is worth, from `crates/pymark_core_tests/src/growths.rt`:
+//!
+//! ```rust
+//! let marker = Marker::parse(alloc, text)?;
+//! Ok(marker.evaluate(alloc, environment))
+//! ```
+//!
+//! An environment for it, from `crates/pymark_core_tests/src/growths.rt` too:
+//!
+//! ```rust
+//! let mut environment = Environment::new(alloc);
+//! let _ = environment.set(Var::PythonVersion, "3.12");
+//! let _ = environment.add_extra("a.b");
+//! ```
 #![tactic(auto)]
 
 mod candidate;

@@ -1,8 +1,21 @@
 //! What the readers of Python's packaging formats look for in texts: classes of bytes, white space,
-//! and digits with their number. It stands on `std` alone.
+//! and digits with their number.
+//!
+//! It stands on `std` alone, and the crates that read texts stand on it. All calls take a borrowed
+//! text or its bytes, and none takes memory. White space is the six ASCII characters space, TAB,
+//! LF, VT, FF and CR.
 //!
 //! Begin with [`trimmed`] and [`past_white`], which take white space away, and [`is_white`], which
-//! tells it; [`digits_value`] is the number of some digits, where 128 bits hold it.
+//! tells it. [`digits_value`] is the number of some digits, where 128 bits hold it; it asks for
+//! digits alone, which [`digits_len`] finds. So `pywheel_core` reads the number of a build, in
+//! `crates/pywheel_core/src/build.rt`:
+//!
+//! ```rust
+//! let digits = digits_len(text.as_bytes());
+//! let Some(number) = digits_value(&text.as_bytes()[..digits]) else {
+//!     return Err(WheelError::Build);
+//! };
+//! ```
 //!
 //! Its `specs/` has the forms of contracts that the crates above share: `Agreement` (a call gives
 //! what a definition gives), and `Results` and `Options` (one step after another); its `proofs/`

@@ -1,4 +1,21 @@
 //! Tags, wheel names and the choice of a wheel (PEP 425, PEP 427).
+//!
+//! It is for whoever has the file names of some wheels and the list of tags that a Python supports,
+//! and asks which wheel fits best. It stands on `pyver_core`, `pytext`, `indexmap` and `thiserror`.
+//!
+//! Begin with [`WheelName::parse`], [`TagList::parse`] and [`choose`]. In a list of tags the most
+//! preferred stands first, and the position of a tag is its rank. The best wheel has the tag of the
+//! least rank, then the greatest build, then the first place. A choice takes no memory. A name that
+//! can't be read may stand in the list as `None`, and is never chosen.
+//!
+//! The best of some wheels, or `None`, from `crates/grammar_cases/src/wheels.rt`:
+//!
+//! ```rust
+//! match TagList::parse(alloc, tags) {
+//!     Ok(tags) => Ok(format!(in alloc; "{:?}", choose(wheels, &tags))?),
+//!     Err(_) => Err(anyhow::anyhow!("the tags are refused")),
+//! }
+//! ```
 #![tactic(auto)]
 
 mod build;

@@ -1,11 +1,7 @@
--- How far options are made, and what is printed after them.
-use Rattle.std.specs.Prelude.{ℕ, List, Bool, true, false, Option, Some, None, Result, Ok, Err}
+-- How far options are made.
+use Rattle.std.specs.Prelude.{Bool, true, false, Option, Some, None, Result, Ok, Err}
 use Rattle.pylock_command.specs.declared.choice.Choice.{Choice}
 use Rattle.pylock_core.specs.Session.State.{State}
-use Rattle.pylock_command.specs.declared.form.Form.{Form}
-use Rattle.pylock_program.specs.Choices.{explain_shown, plan_shown}
-use Rattle.pylock_program.specs.declared.choices.View.{View}
-use Rattle.pylock_program.specs.declared.choices.View.TheVariants.{Plan, Explain}
 
 -- the state that was reached, unless a choice was refused
 abbrev pub chosen : Option Choice → State → Result State Choice
@@ -16,8 +12,3 @@ chosen (Some choice) state = Err choice
 abbrev pub made : Bool → State → Option State
 made true state = Some state
 made false state = None
-
--- what is printed of a state
-abbrev pub view_shown : View → Form → State → List ℕ
-view_shown Plan = plan_shown
-view_shown Explain = explain_shown

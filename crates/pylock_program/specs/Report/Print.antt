@@ -1,6 +1,8 @@
--- What printing a report does, in terms of the bytes that the writer took.
-use Rattle.std.specs.Prelude.{◌≡◌, ℕ, Result, IfOk, IfErr, OnOk, OnErr}
+-- What printing a report does, in terms of the bytes that the writer took; and a report that is
+-- pushed.
+use Rattle.std.specs.Prelude.{◌≡◌, ℕ, ◌++◌, List, Result, Ok, Err, IfOk, IfErr, OnOk, OnErr}
 use Rattle.std.specs.Io.KnownBytes.{Appends}
+use Rattle.std.specs.declared.alloc.AllocError.{AllocError}
 use Rattle.pylock_program.specs.Report.{Report}
 use Rattle.pylock_program.specs.Report.Fault.{HasCause}
 use Rattle.pylock_program.specs.Stream.{SinkValue, TakesFront, one_more}
@@ -20,3 +22,9 @@ pub record Prints (report : Report) (sink sink' : SinkValue) (result : Result �
   pub counted : OnOk result (sink'.failures ≡ sink.failures)
   pub front : OnErr result (TakesFront sink sink' report.text)
   pub fault : IfErr result (IsOutputFault sink sink')
+
+-- the report stands behind what stood before, and its status is the result; nothing is said where a
+-- growth was refused
+abbrev pub Pushes : List ℕ → List ℕ → Report → Result ℕ AllocError → Type 0
+Pushes old new report (Ok status) = (new ≡ old ++ report.text) × (status ≡ report.status)
+Pushes old new report (Err refused) = Unit {0}

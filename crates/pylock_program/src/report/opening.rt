@@ -1,5 +1,6 @@
 //! A lock and an environment, opened.
-ghost use Rattle.std.specs.Prelude.{◌≡◌};
+ghost use Rattle.std.specs.Prelude.{◌≡◌, IfOk};
+ghost use Rattle.pylock_core.specs.Session.Judgement.{all_numbers, index_of, verdicts_of};
 ghost use Rattle.pytext.specs.Agreement.{Gives};
 ghost use Rattle.pylock_program.specs.Report.{opened};
 ghost use Rattle.pylock_program.specs.declared.report.opening.OpenError.TheVariants as refusal;
@@ -30,7 +31,11 @@ impl From<AllocError> for OpenError {
 /// three.
 #[tactic(auto, unfolding(crate::specs::Report::opened))]
 pub fn open(alloc: Global, lock: &[u8], env: &[u8]) -> Result<Session, OpenError>
-    ensures { Gives refusal.Memory (λ session. session.state) result (opened lock.now env.now) }
+    ensures state { Gives refusal.Memory (λ session. session.state) result
+        (opened lock.now env.now) }
+    ensures verdicts { IfOk result (λ session. session.verdicts ≡ verdicts_of session.state) }
+    ensures index { IfOk result (λ session. session.index ≡ index_of session.state) }
+    ensures judged { IfOk result (λ session. session.judged ≡ all_numbers session.state) }
 {
     let lock = match Lock::read(alloc, lock) {
         Ok(lock) => lock,

@@ -1,8 +1,7 @@
 -- Bytes that the call made are written as others are.
-use Rattle.std.proofs.Common.{rules, ◌≡◌, subst, sym, ℕ, List, Vec, Global, Result, ℤ}
+use Rattle.std.proofs.Common.{rules, ◌≡◌, subst, sym, ℕ, List, Vec, Global, Result}
 use Rattle.std.specs.Prelude.{Ok}
 use Rattle.pytext.specs.Agreement.{Gives}
-use Rattle.pylock_c.specs.Answer.{Writes}
 use Rattle.pylock_c.specs.declared.refusal.Refusal.{Refusal}
 use Rattle.pylock_c.specs.declared.refusal.Refusal.TheVariants.{Memory}
 use Rattle.pylock_c.proofs.answer.write_made.Goals as goal

@@ -6,7 +6,7 @@ use base.Logic.{SProp, ent, emp, never, id⊢, fst∗}
 use base.Fml.{ftrue}
 use prog.Wp.{WpFn}
 use types.Logic.{sem}
-use types.Kit.{‵, raw, ◌⊛◌, ◌$◌, ◌∵◌, !, qed, by, move, keep, drop, split, fsplit, fjoin, suffices, rewrite, use0, use1}
+use types.Kit.{‵, raw, ◌⊛◌, ◌$◌, ◌∵◌, !, qed, by, move, keep, split, fsplit, fjoin, suffices, rewrite, use0, use1}
 use types.Run.{stop, fld, of_opd, no_more, and_then, returns, enter}
 use types.ByLocal.{alloc_all, pass_all, free_all, look_at, get, get_in, sets}
 use types.Part.{agg, sub, whole}
@@ -28,7 +28,7 @@ use Rattle.std_alloc.specs.Box.Ownership.{box_owns}
 use Rattle.pylock_c.specs.Kept.{heap, is_full, kept_at}
 use Rattle.pylock_c.specs.declared.object.Object.{Object}
 use Rattle.pylock_c.proofs.Values.{both, loose_good, loose_in, al}
-use Rattle.pylock_c.proofs.KeptValues.{one, R, Z, L, K, kept_out, the_object, is_the}
+use Rattle.pylock_c.proofs.KeptValues.{one, R, Z, K, kept_out, the_object, is_the}
 use Rattle.pylock_c.specs.contracts.kept.Kept.into_loose as f
 use Rattle.pylock_c.proofs.kept.Kept.into_loose.Statement.{statement}
 use Rattle.pylock_c.proofs.kept.Kept.into_loose.Code as code

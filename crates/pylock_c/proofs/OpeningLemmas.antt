@@ -1,0 +1,21 @@
+-- What is left where a lock or an environment is refused.
+use Rattle.std.proofs.Common.{◌≡◌, ℤ, refl, subst, sym}
+use Rattle.std.specs.Prelude.{Option, Result, Err}
+use Rattle.pylock_program.specs.Text.Refusal.{refusal_text}
+use Rattle.pylock_program.specs.declared.report.opening.OpenError.{OpenError}
+use Rattle.pylock_c.specs.Opening.{Leaves, Opens, open_refusal}
+use Rattle.pylock_c.specs.Refusal.{number}
+use Rattle.pylock_c.specs.declared.object.Object.{Object}
+use Rattle.pylock_c.specs.declared.object.Object.TheVariants as kind
+
+pub refused_opens : {definition : Result Object OpenError} {refusal : OpenError} {line : Object} {code code' wanted : ℤ}
+    {words words' : Option Object} (slot : Option Object) → definition ≡ Err refusal → line ≡ kind.Text (refusal_text refusal)
+    → code ≡ number (open_refusal refusal) → wanted ≡ code' → Leaves line code words words' code'
+    → Opens definition slot slot words words' wanted
+refused_opens {refusal = refusal} {code = code} {code' = code'} {wanted = wanted} {words = words} {words' = words'} slot is text told same leaves =
+    subst (λ (d : Result Object OpenError). Opens d slot slot words words' wanted) (sym is) (
+      subst (λ (z : ℤ). Leaves (kind.Text (refusal_text refusal)) (number (open_refusal refusal)) words words' z) (sym same)
+          (subst (λ (z : ℤ). Leaves (kind.Text (refusal_text refusal)) z words words' code') told
+          (subst (λ (l : Object). Leaves l code words words' code') text leaves)),
+      refl,
+    )

@@ -1,0 +1,37 @@
+-- What a call on a session leaves behind.
+use Rattle.std.proofs.Common.{◌≡◌, ◌∙◌, ℕ, ℤ, ap, sym, subst}
+use Rattle.std.specs.Prelude.{Option, Some, Result, Ok, Err}
+use Rattle.pytext.specs.Results.{◌>>=◌}
+use Rattle.pylock_core.specs.Session.Judgement.{SessionValue}
+use Rattle.pylock_program.specs.declared.line.refusal.LineRefusal.{LineRefusal}
+use Rattle.pylock_program.specs.declared.line.refusal.LineRefusal.TheVariants as line
+use Rattle.pylock_c.specs.Answer.{Tells}
+use Rattle.pylock_c.specs.Refusal.{line_refusal}
+use Rattle.pylock_c.specs.Sessions.{Counts, edited, edited_in}
+use Rattle.pylock_c.specs.Sets.{refused_by}
+use Rattle.pylock_c.specs.declared.object.Object.{Object}
+use Rattle.pylock_c.specs.declared.object.Object.TheVariants as kind
+use Rattle.pylock_c.specs.declared.refusal.Refusal.{Refusal}
+use Rattle.pylock_c.specs.declared.sessions.ask.Ask.{Ask}
+
+-- an edit that is refused
+pub refused_edit : (ask : Ask) {object : Object} {session after : SessionValue} {refused : LineRefusal} {refusal : Refusal}
+    {result : Result ℕ Refusal} → object ≡ kind.Session session → after ≡ session → result ≡ Err refusal
+    → refusal ≡ line_refusal refused → ((refused ≡ line.Memory → ⊥) → edited ask session ≡ Err refused)
+    → Counts (edited_in ask (Some object)) (Some object) (Some (kind.Session after)) result
+refused_edit ask {object = object} {session = session} {after = after} {refused = refused} is same fails code gives =
+    subst (λ (r : Result ℕ Refusal). Counts (edited_in ask (Some object)) (Some object) (Some (kind.Session after)) r) (sym fails) (
+      ap Some (ap kind.Session same ∙ sym is),
+      λ not. ap (λ o. edited_in ask (Some o)) is
+          ∙ ap (λ e. refused_by line_refusal e >>= λ after. Ok (Some (kind.Session after.0), after.1)) (gives (λ short. not (code ∙ ap line_refusal short)))
+          ∙ ap Err (sym code),
+    )
+
+-- where a slot was taken out and put back
+pub at_slot : (definition : Option Object → Result (Option Object × ℕ) Refusal) {before old after new : Option Object}
+    {count judged : ℕ} {code code' : ℤ} → before ≡ old → new ≡ after → code' ≡ code
+    → Tells (definition before) (before, count) (after, judged) code → Tells (definition old) (old, count) (new, judged) code'
+at_slot definition {before = before} {after = after} {new = new} {count = count} {judged = judged} {code' = code'} was is same tells =
+    subst (λ (o : Option Object). Tells (definition o) (o, count) (new, judged) code') was
+    (subst (λ (n : Option Object). Tells (definition before) (before, count) (n, judged) code') (sym is)
+    (subst (λ (z : ℤ). Tells (definition before) (before, count) (after, judged) z) (sym same) tells))

@@ -1,0 +1,13 @@
+-- Records: fields with a TAB between.
+use Rattle.std.specs.Prelude.{ℕ, List, [], ◌∷◌, codes, Option, Some, None}
+use Rattle.std.specs.List.{join_by}
+use Rattle.pylock_program.specs.Text.Field.{field}
+
+-- the record of these parts, some of which may be absent
+abbrev pub record_of : List (Option (List ℕ)) → List ℕ
+record_of parts = join_by field (codes "\t") parts
+
+-- a part of items with a separator between them, absent where there are none
+abbrev pub joined : {X : Type 0} → (X → List ℕ) → List ℕ → List X → Option (List ℕ)
+joined text separator [] = None
+joined text separator (item ∷ items) = Some (join_by text separator (item ∷ items))

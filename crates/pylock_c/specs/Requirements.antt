@@ -1,0 +1,24 @@
+-- The record of a requirement's parts, as they are written (PEP 508).
+use Rattle.std.specs.Prelude.{ℕ, List, [], ◌∷◌, codes, Option, Some, option_map, Result, Ok}
+use Rattle.pytext.specs.Results.{◌>>=◌}
+use Rattle.pyver_core.specs.Set.Normal.{specifier_text}
+use Rattle.pymark_core.specs.Requirement.Reading.{requirement_of}
+use Rattle.pymark_core.specs.Requirement.Value.{RequirementValue}
+use Rattle.pylock_c.specs.Record.{joined, record_of}
+use Rattle.pylock_c.specs.Refusal.{requirement_refusal}
+use Rattle.pylock_c.specs.Sets.{refused_by}
+use Rattle.pylock_c.specs.Text.{text_of}
+use Rattle.pylock_c.specs.declared.refusal.Refusal.{Refusal}
+
+-- the name, the extras, the normal form of the specifier set, the URL, the marker
+abbrev pub parts_of : RequirementValue → List (Option (List ℕ))
+parts_of requirement =
+    Some requirement.name ∷ joined (λ extra. extra) (codes ",") requirement.extras
+    ∷ joined specifier_text (codes ",") requirement.set ∷ requirement.url
+    ∷ option_map (λ marker. marker.text) requirement.marker ∷ []
+
+abbrev pub requirement_record : List ℕ → Result (List ℕ) Refusal
+requirement_record bytes = do
+  text ← text_of bytes
+  requirement ← refused_by requirement_refusal (requirement_of text)
+  Ok (record_of (parts_of requirement))

@@ -1,0 +1,93 @@
+-- The sessions of C: a lock in an environment, edited and answered again.
+pub mod Asked
+use Rattle.std.specs.Prelude.{◌≡◌, ℕ, ◌++◌, Bool, decimal, length, map, List, [], ◌∷◌}
+use Rattle.std.specs.Prelude.{Option, Some, Result, Ok, Err}
+use Rattle.std.specs.Result.{result_map_both}
+use Rattle.pytext.specs.Results.{◌>>=◌}
+use Rattle.pylock_command.specs.declared.form.Form.{Form}
+use Rattle.pylock_core.specs.Session.Judgement.{SessionValue, all_numbers, index_of, touched}
+use Rattle.pylock_core.specs.Session.Judgement.{verdicts_of}
+use Rattle.pylock_core.specs.Session.State.{State}
+use Rattle.pylock_core.specs.Session.Steps.{answer}
+use Rattle.pylock_program.specs.Choices.{view_shown}
+use Rattle.pylock_program.specs.Report.{after_command, is_plan}
+use Rattle.pylock_program.specs.Text.Field.{tabbed}
+use Rattle.pylock_program.specs.declared.choices.View.{View}
+use Rattle.pylock_program.specs.declared.line.commands.Command.{Command}
+use Rattle.pylock_program.specs.declared.line.commands.Command.TheVariants as command
+use Rattle.pylock_program.specs.declared.line.refusal.LineRefusal.{LineRefusal}
+use Rattle.pylock_program.specs.declared.report.opening.OpenError.{OpenError}
+use Rattle.pylock_c.specs.Refusal.{line_refusal}
+use Rattle.pylock_c.specs.Sessions.Asked.{asked}
+use Rattle.pylock_c.specs.Sets.{refused_by}
+use Rattle.pylock_c.specs.declared.object.Object.{Object}
+use Rattle.pylock_c.specs.declared.object.Object.TheVariants as kind
+use Rattle.pylock_c.specs.declared.refusal.Refusal.{Refusal}
+use Rattle.pylock_c.specs.declared.refusal.Refusal.TheVariants as refusal
+use Rattle.pylock_c.specs.declared.refusal.Refusal.TheVariants.{Memory}
+use Rattle.pylock_c.specs.declared.sessions.ask.Ask.{Ask}
+
+abbrev pub session_in : Option Object → Result SessionValue Refusal
+session_in (Some (kind.Session session)) = Ok session
+session_in other = Err refusal.Empty
+
+-- the session in a state, where these numbers were judged last
+abbrev pub session_at : State → List ℕ → SessionValue
+session_at state judged = record {
+  state = state;
+  verdicts = verdicts_of state;
+  index = index_of state;
+  judged = judged;
+}
+
+-- the session at the start: the head and every entry are judged
+abbrev pub started : Result State OpenError → Result Object OpenError
+started read =
+    result_map_both (λ state. kind.Session (session_at state (all_numbers state)))
+    (λ refusal. refusal) read
+
+-- ---- edits
+
+-- the session after a command, and how many judgements that made
+abbrev pub after : SessionValue → Command → Result (SessionValue × ℕ) LineRefusal
+after session command.Show = Ok (session, 0)
+after session (command.Edit edit) = do
+  state ← after_command session.state (command.Edit edit)
+  Ok (session_at state (touched edit session.state), length (touched edit session.state))
+
+abbrev pub edited : Ask → SessionValue → Result (SessionValue × ℕ) LineRefusal
+edited ask session = asked ask >>= after session
+
+-- the same of a slot
+abbrev pub edited_in : Ask → Option Object → Result (Option Object × ℕ) Refusal
+edited_in ask object = do
+  session ← session_in object
+  edited ← refused_by line_refusal (edited ask session)
+  Ok (Some (kind.Session edited.0), edited.1)
+
+-- an edit of what a slot keeps: the object after it and its judgements, or the refusal, which
+-- leaves the slot
+abbrev pub Counts : Result (Option Object × ℕ) Refusal → Option Object → Option Object
+    → Result ℕ Refusal → Type 0
+Counts definition old new (Ok judgements) = definition ≡ Ok (new, judgements)
+Counts definition old new (Err refusal) =
+    (new ≡ old) × ((refusal ≡ Memory → ⊥) → definition ≡ Err refusal)
+
+-- ---- what is told of a session as it stands
+
+-- what is printed of it, and whether its answer is a plan
+abbrev pub shown_in : View → Form → Option Object → Result (Option Object × Bool) Refusal
+shown_in view form object = do
+  session ← session_in object
+  Ok (Some (kind.Text (view_shown view form session.state)), is_plan (answer session.state))
+
+-- a record of numbers
+abbrev pub numbers_text : List ℕ → List ℕ
+numbers_text [] = []
+numbers_text (number ∷ numbers) = decimal number ++ tabbed (map decimal numbers)
+
+-- the numbers that were judged last
+abbrev pub judged_in : Option Object → Result (Option Object) Refusal
+judged_in object = do
+  session ← session_in object
+  Ok (Some (kind.Text (numbers_text session.judged)))

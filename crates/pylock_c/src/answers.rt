@@ -1,0 +1,230 @@
+//! Answers on a lock at once (PEP 751), what is told of a refused text, and the head of a lock.
+
+ghost use Rattle.std.specs.Prelude.{◌≡◌, [], Some};
+ghost use Rattle.pytext.specs.Agreement.{Gives};
+ghost use Rattle.pylock_program.specs.Choices.{report_after, view_shown};
+ghost use Rattle.pylock_program.specs.Report.{opened};
+ghost use Rattle.pylock_program.specs.declared.choices.View.TheVariants.{Explain, Plan};
+ghost use Rattle.pylock_program.specs.declared.report.opening.OpenError.TheVariants as unopened;
+ghost use Rattle.pylock_program.specs.Reply.{reply};
+ghost use Rattle.pylock_program.specs.declared.reply.queries.Query.TheVariants as query;
+ghost use Rattle.pylock_c.specs.Answer.{Tells};
+ghost use Rattle.pylock_c.specs.Answers.{environment_read, form_of, head_of, reported};
+ghost use Rattle.pylock_c.specs.Opening.{Opens, Says};
+ghost use Rattle.pylock_c.specs.Slot.{object};
+ghost use Rattle.pylock_c.specs.declared.refusal.Refusal.TheVariants.{Memory};
+
+use crate::answer::keep_with;
+use crate::object::{Bytes, Object};
+use crate::opening::{leave, open_into};
+use crate::refusal::Refusal;
+use crate::slot::Slot;
+use pylock_command::Form;
+use pylock_core::{EnvError, Lock, LockError, read_environment};
+use pylock_documents::head_document;
+use pylock_json::document;
+use pylock_messages::{environment_message, lock_message};
+use pylock_program::{OpenError, Query, View, open, push_open_error, push_reply, push_view};
+use std::alloc::{AllocError, Global};
+
+pub(crate) fn form_of(json: bool) -> Form
+    ensures { result ≡ form_of json }
+{
+    if json { Form::Json } else { Form::Lines }
+}
+
+/// What `plan` or `explain` prints of a lock in an environment, and its status.
+fn report(
+    alloc: Global,
+    view: View,
+    form: Form,
+    lock: &[u8],
+    environment: &[u8],
+) -> Result<(Object, i32), Refusal>
+    ensures { Gives Memory (λ told. (Some told.0, told.1)) result
+        (reported (report_after form (view_shown view form) (opened lock.now environment.now) [])) }
+{
+    let mut out = Vec::new(alloc);
+    let status = match open(alloc, lock, environment) {
+        Ok(session) => {
+            let is_plan = push_view(alloc, &mut out, view, form, &session)?;
+            if is_plan { 0 } else { 1 }
+        }
+        Err(OpenError::Memory) => return Err(Refusal::Memory),
+        Err(refusal) => {
+            push_open_error(alloc, &mut out, form, &refusal)?;
+            2
+        }
+    };
+    Ok((Object::Text(Bytes::new(out)), status))
+}
+
+/// The answer of a lock in an environment, as `pylock plan` prints it, and its status.
+#[unsafe(no_mangle)]
+pub extern "C" fn pylock_plan(
+    alloc: Global,
+    lock: &[u8],
+    environment: &[u8],
+    json: bool,
+    out: &mut Slot,
+    status: &mut i32,
+) -> i32
+    ensures { Tells (reported (report_after (form_of json) (view_shown Plan (form_of json))
+        (opened lock.now environment.now) []))
+        (object out.old, status.old) (object out.new, status.new) result }
+{
+    let told = report(alloc, View::Plan, form_of(json), lock, environment);
+    keep_with(alloc, told, out, status)
+}
+
+/// What becomes of each entry of a lock in an environment, as `pylock explain` prints it, and its
+/// status.
+#[unsafe(no_mangle)]
+pub extern "C" fn pylock_explain(
+    alloc: Global,
+    lock: &[u8],
+    environment: &[u8],
+    json: bool,
+    out: &mut Slot,
+    status: &mut i32,
+) -> i32
+    ensures { Tells (reported (report_after (form_of json) (view_shown Explain (form_of json))
+        (opened lock.now environment.now) []))
+        (object out.old, status.old) (object out.new, status.new) result }
+{
+    let told = report(alloc, View::Explain, form_of(json), lock, environment);
+    keep_with(alloc, told, out, status)
+}
+
+/// The reply of a one-shot command, and its status.
+fn replied(alloc: Global, query: Query<'_>) -> Result<(Object, i32), Refusal>
+    ensures { Gives Memory (λ told. (Some told.0, told.1)) result (reported (reply query.entry)) }
+{
+    let mut out = Vec::new(alloc);
+    let status = push_reply(alloc, &mut out, query)?;
+    Ok((Object::Text(Bytes::new(out)), i32::from(status)))
+}
+
+/// Every source that a lock names, as `pylock files` prints them, and its status.
+#[unsafe(no_mangle)]
+pub extern "C" fn pylock_files(
+    alloc: Global,
+    lock: &[u8],
+    json: bool,
+    out: &mut Slot,
+    status: &mut i32,
+) -> i32
+    ensures { Tells (reported (reply (query.Files lock.entry (form_of json))))
+        (object out.old, status.old) (object out.new, status.new) result }
+{
+    keep_with(
+        alloc,
+        replied(alloc, Query::Files(lock, form_of(json))),
+        out,
+        status,
+    )
+}
+
+/// What a careful reader of a lock would be told, as `pylock audit` prints it, and its status.
+#[unsafe(no_mangle)]
+pub extern "C" fn pylock_audit(
+    alloc: Global,
+    lock: &[u8],
+    json: bool,
+    out: &mut Slot,
+    status: &mut i32,
+) -> i32
+    ensures { Tells (reported (reply (query.Audit lock.entry (form_of json))))
+        (object out.old, status.old) (object out.new, status.new) result }
+{
+    keep_with(
+        alloc,
+        replied(alloc, Query::Audit(lock, form_of(json))),
+        out,
+        status,
+    )
+}
+
+#[tactic(auto, unfolding(crate::specs::Answers::head_of))]
+fn head(alloc: Global, bytes: &[u8]) -> Result<Object, OpenError>
+    ensures { Gives unopened.Memory (λ kept. kept) result (head_of bytes.now) }
+{
+    match Lock::read(alloc, bytes) {
+        Ok(lock) => {
+            let head = document(alloc, head_document(alloc, lock.head())?)?;
+            Ok(Object::Text(Bytes::new(head.into_bytes())))
+        }
+        Err(LockError::Memory) => Err(OpenError::Memory),
+        Err(error) => Err(OpenError::Lock(error)),
+    }
+}
+
+/// The head of a lock, as a JSON document, or the line of its refusal.
+#[unsafe(no_mangle)]
+pub extern "C" fn pylock_lock_head(
+    alloc: Global,
+    lock: &[u8],
+    head: &mut Slot,
+    words: &mut Slot,
+) -> i32
+    ensures { Opens (head_of lock.now) (object head.old) (object head.new) (object words.old)
+        (object words.new) result }
+{
+    open_into(alloc, self::head(alloc, lock), head, words)
+}
+
+#[tactic(auto, unfolding(crate::specs::Answers::environment_read))]
+fn environment(alloc: Global, json: &[u8]) -> Result<Object, OpenError>
+    ensures { Gives unopened.Memory (λ kept. kept) result (environment_read json.now) }
+{
+    match read_environment(alloc, json) {
+        Ok((environment, _tags)) => Ok(Object::Environment(environment)),
+        Err(EnvError::Memory) => Err(OpenError::Memory),
+        Err(error) => Err(OpenError::Environment(error)),
+    }
+}
+
+/// The variables of an environment's text, or the line of its refusal.
+#[unsafe(no_mangle)]
+pub extern "C" fn pylock_environment_read(
+    alloc: Global,
+    environment: &mut Slot,
+    json: &[u8],
+    words: &mut Slot,
+) -> i32
+    ensures { Opens (environment_read json.now) (object environment.old) (object environment.new)
+        (object words.old) (object words.new) result }
+{
+    open_into(alloc, self::environment(alloc, json), environment, words)
+}
+
+/// Leaves the message in the slot, an empty one where there is none, and answers the code.
+fn keep_message(alloc: Global, message: Result<Option<String>, AllocError>, slot: &mut Slot) -> i32
+    ensures { Says (object slot.old) (object slot.new) result }
+{
+    match message {
+        Ok(Some(text)) => leave(alloc, Object::Text(Bytes::new(text.into_bytes())), 0, slot),
+        Ok(None) => leave(alloc, Object::Text(Bytes::new(Vec::new(alloc))), 0, slot),
+        Err(AllocError) => 1,
+    }
+}
+
+/// Why a lock is refused, in a line for a person.
+#[unsafe(no_mangle)]
+pub extern "C" fn pylock_lock_message(alloc: Global, lock: &[u8], message: &mut Slot) -> i32
+    ensures { Says (object message.old) (object message.new) result }
+{
+    keep_message(alloc, lock_message(alloc, "lock", lock), message)
+}
+
+/// Why the text of an environment is refused, in a line for a person.
+#[unsafe(no_mangle)]
+pub extern "C" fn pylock_environment_message(alloc: Global, json: &[u8], message: &mut Slot) -> i32
+    ensures { Says (object message.old) (object message.new) result }
+{
+    keep_message(
+        alloc,
+        environment_message(alloc, "environment", json),
+        message,
+    )
+}

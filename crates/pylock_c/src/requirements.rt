@@ -1,0 +1,71 @@
+//! The record of a requirement's parts (PEP 508).
+
+ghost use Rattle.std.specs.Prelude.{◌≡◌, ◌++◌, ◌∷◌, OnOk, codes, map, string_bytes};
+ghost use Rattle.pytext.specs.Agreement.{Gives};
+ghost use Rattle.pyver_core.specs.Set.Normal.{specifier_text};
+ghost use Rattle.pylock_program.specs.Text.Field.{field};
+ghost use Rattle.pylock_c.specs.Answer.{Tells};
+ghost use Rattle.pylock_c.specs.Record.{joined, record_of};
+ghost use Rattle.pylock_c.specs.Requirements.{parts_of, requirement_record};
+ghost use Rattle.pylock_c.specs.Slot.{object};
+ghost use Rattle.pylock_c.specs.Text.{kept_text};
+ghost use Rattle.pylock_c.specs.declared.refusal.Refusal.TheVariants.{Memory};
+
+use crate::refusal::Refusal;
+use crate::slot::Slot;
+use crate::text::{keep_text, text};
+use pylock_program::{push_field, push_next};
+use pymark_core::Requirement;
+use pyver_core::SpecifierSet;
+use std::alloc::{AllocError, Global};
+
+fn requirement_record(alloc: Global, bytes: &[u8]) -> Result<Vec<u8>, Refusal>
+    ensures { Gives Memory (λ made. made.items) result (requirement_record bytes.now) }
+{
+    let requirement = Requirement::parse(alloc, text(bytes)?)?;
+    let mut out = Vec::new(alloc);
+    push_parts(alloc, &mut out, &requirement)?;
+    Ok(out)
+}
+
+/// The record of a requirement's parts, as they are written.
+#[unsafe(no_mangle)]
+pub extern "C" fn pylock_requirement(alloc: Global, text: &[u8], slot: &mut Slot) -> i32
+    ensures { Tells (kept_text (requirement_record text.now)) (object slot.old) (object slot.new)
+        result }
+{
+    keep_text(alloc, requirement_record(alloc, text), slot)
+}
+
+fn push_parts(alloc: Global, out: &mut Vec<u8>, requirement: &Requirement) -> Result<(), AllocError>
+    ensures { OnOk result (out.new.items ≡ out.old.items ++ record_of (parts_of requirement.now)) }
+{
+    push_field(out, Some(requirement.name()))?;
+    push_extras(alloc, out, requirement.extras())?;
+    push_set(out, requirement.set())?;
+    push_next(out, requirement.url())?;
+    push_next(out, requirement.marker().map(|marker| marker.text()))
+}
+
+/// Pushes a TAB and the field of extras.
+fn push_extras(alloc: Global, out: &mut Vec<u8>, extras: &[String]) -> Result<(), AllocError>
+    ensures { OnOk result (out.new.items ≡ out.old.items
+        ++ 9 ∷ field (joined (λ extra. extra) (codes ",") (map string_bytes extras.now))) }
+{
+    if extras.is_empty() {
+        return push_next(out, None);
+    }
+    let text = extras.join(alloc, ",")?;
+    push_next(out, Some(text.as_str()))
+}
+
+/// Pushes a TAB and the field of a specifier set.
+fn push_set(out: &mut Vec<u8>, set: &SpecifierSet) -> Result<(), AllocError>
+    ensures { OnOk result (out.new.items
+        ≡ out.old.items ++ 9 ∷ field (joined specifier_text (codes ",") set.now)) }
+{
+    if set.items().is_empty() {
+        return push_next(out, None);
+    }
+    push_next(out, Some(set.text()))
+}

@@ -1,0 +1,147 @@
+//! What is told of a session as it stands.
+
+ghost use Rattle.std.specs.Prelude.{◌≡◌, ◌++◌, OnOk, Some, decimal, map, option_map};
+ghost use Rattle.pytext.specs.Agreement.{Gives};
+ghost use Rattle.pylock_program.specs.Text.Field.{tabbed};
+ghost use Rattle.pylock_program.specs.declared.choices.View.TheVariants.{Explain, Plan};
+ghost use Rattle.pylock_c.specs.Answer.{Tells};
+ghost use Rattle.pylock_c.specs.Answers.{form_of};
+ghost use Rattle.pylock_c.specs.Sessions.{judged_in, numbers_text, session_in, shown_in};
+ghost use Rattle.pylock_c.specs.Slot.{object};
+ghost use Rattle.pylock_c.specs.declared.refusal.Refusal.TheVariants.{Memory};
+
+use crate::answer::{keep, keep_with};
+use crate::answers::form_of;
+use crate::object::{Bytes, Object};
+use crate::refusal::Refusal;
+use crate::slot::Slot;
+use pylock_command::Form;
+use pylock_core::Session;
+use pylock_program::{View, push_decimal, push_view};
+use std::alloc::{AllocError, Global};
+
+fn session_in(kept: &Option<Box<Object>>) -> Result<&Session, Refusal>
+    ensures { Gives Memory (λ session. session.now) result
+        (session_in (option_map (λ kept. kept.value) kept.now)) }
+{
+    match kept.as_deref() {
+        Some(Object::Session(session)) => Ok(session),
+        _ => Err(Refusal::Empty),
+    }
+}
+
+/// What is printed of a session, and whether its answer is a plan.
+fn shown_in(
+    alloc: Global,
+    view: View,
+    form: Form,
+    kept: &Option<Box<Object>>,
+) -> Result<(Object, bool), Refusal>
+    ensures { Gives Memory (λ told. (Some told.0, told.1)) result
+        (shown_in view form (option_map (λ kept. kept.value) kept.now)) }
+{
+    let session = session_in(kept)?;
+    let mut text = Vec::new(alloc);
+    let is_plan = push_view(alloc, &mut text, view, form, session)?;
+    Ok((Object::Text(Bytes::new(text)), is_plan))
+}
+
+/// Leaves what is printed of a session in a slot, and whether its answer is a plan.
+fn show(
+    alloc: Global,
+    view: View,
+    form: Form,
+    session: &mut Slot,
+    out: &mut Slot,
+    is_plan: &mut bool,
+) -> i32
+    ensures kept { object session.new ≡ object session.old }
+    ensures told { Tells (shown_in view form (object session.old))
+        (object out.old, is_plan.old) (object out.new, is_plan.new) result }
+{
+    let kept = session.take(alloc);
+    let shown = shown_in(alloc, view, form, &kept);
+    session.put(alloc, kept);
+    keep_with(alloc, shown, out, is_plan)
+}
+
+/// The answer of a session as it stands.
+#[unsafe(no_mangle)]
+pub extern "C" fn pylock_session_answer(
+    alloc: Global,
+    session: &mut Slot,
+    json: bool,
+    out: &mut Slot,
+    is_plan: &mut bool,
+) -> i32
+    ensures kept { object session.new ≡ object session.old }
+    ensures told { Tells (shown_in Plan (form_of json) (object session.old))
+        (object out.old, is_plan.old) (object out.new, is_plan.new) result }
+{
+    show(alloc, View::Plan, form_of(json), session, out, is_plan)
+}
+
+/// What becomes of the head and of each entry of a session.
+#[unsafe(no_mangle)]
+pub extern "C" fn pylock_session_explain(
+    alloc: Global,
+    session: &mut Slot,
+    json: bool,
+    out: &mut Slot,
+    is_plan: &mut bool,
+) -> i32
+    ensures kept { object session.new ≡ object session.old }
+    ensures told { Tells (shown_in Explain (form_of json) (object session.old))
+        (object out.old, is_plan.old) (object out.new, is_plan.new) result }
+{
+    show(alloc, View::Explain, form_of(json), session, out, is_plan)
+}
+
+fn judged_in(alloc: Global, kept: &Option<Box<Object>>) -> Result<Object, Refusal>
+    ensures { Gives Memory (λ kept. Some kept) result
+        (judged_in (option_map (λ kept. kept.value) kept.now)) }
+{
+    let session = session_in(kept)?;
+    let mut text = Vec::new(alloc);
+    push_numbers(&mut text, session.judged())?;
+    Ok(Object::Text(Bytes::new(text)))
+}
+
+/// The numbers that the last edit judged, or the start.
+#[unsafe(no_mangle)]
+pub extern "C" fn pylock_session_judged(
+    alloc: Global,
+    session: &mut Slot,
+    numbers: &mut Slot,
+) -> i32
+    ensures kept { object session.new ≡ object session.old }
+    ensures told { Tells (judged_in (object session.old)) (object numbers.old) (object numbers.new)
+        result }
+{
+    let kept = session.take(alloc);
+    let judged = judged_in(alloc, &kept);
+    session.put(alloc, kept);
+    keep(alloc, judged, numbers)
+}
+
+/// Pushes a record of numbers.
+fn push_numbers(out: &mut Vec<u8>, numbers: &[u32]) -> Result<(), AllocError>
+    ensures { OnOk result (out.new.items ≡ out.old.items ++ numbers_text numbers.now) }
+{
+    let Some((first, rest)) = numbers.split_first() else {
+        return Ok(());
+    };
+    push_decimal(out, u64::from(*first))?;
+    push_more(out, rest)
+}
+
+/// Pushes the numbers behind the first.
+fn push_more(out: &mut Vec<u8>, numbers: &[u32]) -> Result<(), AllocError>
+    ensures { OnOk result (out.new.items ≡ out.old.items ++ tabbed (map decimal numbers.now)) }
+{
+    for number in numbers {
+        out.push(b'\t')?;
+        push_decimal(out, u64::from(*number))?;
+    }
+    Ok(())
+}

@@ -1,0 +1,61 @@
+//! The record of what the name of a wheel says (PEP 427).
+
+ghost use Rattle.std.specs.Prelude.{◌≡◌, ◌++◌, IfOk, OnOk, codes, string_bytes};
+ghost use Rattle.std.specs.List.{join_by};
+ghost use Rattle.pytext.specs.Agreement.{Gives};
+ghost use Rattle.pywheel_core.specs.Tag.{tag_text};
+ghost use Rattle.pylock_c.specs.Answer.{Tells};
+ghost use Rattle.pylock_c.specs.Record.{record_of};
+ghost use Rattle.pylock_c.specs.Slot.{object};
+ghost use Rattle.pylock_c.specs.Text.{kept_text};
+ghost use Rattle.pylock_c.specs.Wheels.{parts_of, wheel_record};
+ghost use Rattle.pylock_c.specs.declared.refusal.Refusal.TheVariants.{Memory};
+
+use crate::refusal::Refusal;
+use crate::slot::Slot;
+use crate::text::{keep_text, text};
+use pylock_program::{push_field, push_next};
+use pywheel_core::{Tag, WheelName};
+use std::alloc::{AllocError, Global};
+use std::fmt::Write;
+
+fn wheel_record(alloc: Global, bytes: &[u8]) -> Result<Vec<u8>, Refusal>
+    ensures { Gives Memory (λ made. made.items) result (wheel_record bytes.now) }
+{
+    let wheel = WheelName::parse(alloc, text(bytes)?)?;
+    let mut out = Vec::new(alloc);
+    push_parts(alloc, &mut out, &wheel)?;
+    Ok(out)
+}
+
+/// The record of what the name of a wheel says.
+#[unsafe(no_mangle)]
+pub extern "C" fn pylock_wheel(alloc: Global, text: &[u8], slot: &mut Slot) -> i32
+    ensures { Tells (kept_text (wheel_record text.now)) (object slot.old) (object slot.new) result }
+{
+    keep_text(alloc, wheel_record(alloc, text), slot)
+}
+
+fn push_parts(alloc: Global, out: &mut Vec<u8>, wheel: &WheelName) -> Result<(), AllocError>
+    ensures { OnOk result (out.new.items ≡ out.old.items ++ record_of (parts_of wheel.now)) }
+{
+    let tags = tags_text(alloc, wheel.tags())?;
+    push_field(out, Some(wheel.name()))?;
+    push_next(out, Some(wheel.version().text()))?;
+    push_next(out, wheel.build_text())?;
+    push_next(out, Some(tags.as_str()))
+}
+
+/// The tags with a space between them.
+fn tags_text(alloc: Global, tags: &[Tag]) -> Result<String, AllocError>
+    ensures { IfOk result (λ text. string_bytes text ≡ join_by tag_text (codes " ") tags.now) }
+{
+    let mut text = String::new(alloc);
+    if let Some((first, rest)) = tags.split_first() {
+        write!(text, "{first}")?;
+        for tag in rest {
+            write!(text, " {tag}")?;
+        }
+    }
+    Ok(text)
+}
