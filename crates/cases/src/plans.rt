@@ -3,7 +3,8 @@
 use crate::runs::{Inputs, ended, read_inputs};
 use case_files::texts;
 use pylock_command::command;
-use pylock_program::{Pieces, ToWrite, perform};
+use pylock_program::perform;
+use pylock_run::{Pieces, ToWrite};
 use std::alloc::{AllocError, Global};
 use toml::Table;
 

@@ -3,7 +3,8 @@
 use crate::runs::{brief, ended};
 use case_files::{text, texts};
 use pylock_command::Form;
-use pylock_program::{Query, ToWrite, query};
+use pylock_program::{Query, query};
+use pylock_run::ToWrite;
 use std::alloc::{AllocError, Global};
 use toml::Table;
 

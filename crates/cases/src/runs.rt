@@ -3,7 +3,8 @@
 use crate::files;
 use case_files::bytes;
 use pylock_command::Task;
-use pylock_program::{FileFault, Files, Pieces, Room, ToWrite, perform, run};
+use pylock_program::perform;
+use pylock_run::{FileFault, Files, Pieces, Room, ToWrite, run};
 use std::alloc::{AllocError, Global};
 use std::fmt::Debug;
 use toml::Table;

@@ -3,10 +3,8 @@
 #![tactic(auto)]
 
 use pylock_command::{CommandError, Task, command};
-use pylock_program::{
-    Failure, FileFault, Files, FromRead, ToWrite, open_fault, perform, read_file, terminal_note,
-    words_failure,
-};
+use pylock_program::{Failure, perform, terminal_note, words_failure};
+use pylock_run::{FileFault, Files, FromRead, ToWrite, open_fault, read_file};
 use std::io::IsTerminal;
 use std::process::ExitCode;
 use std::{env, fs};

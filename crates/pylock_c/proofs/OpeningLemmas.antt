@@ -1,8 +1,8 @@
 -- What is left where a lock or an environment is refused.
 use Rattle.std.proofs.Common.{◌≡◌, ℤ, refl, subst, sym}
 use Rattle.std.specs.Prelude.{Option, Result, Err}
-use Rattle.pylock_program.specs.Text.Refusal.{refusal_text}
-use Rattle.pylock_program.specs.declared.report.opening.OpenError.{OpenError}
+use Rattle.pylock_run.specs.Text.Refusal.{refusal_text}
+use Rattle.pylock_run.specs.declared.report.opening.OpenError.{OpenError}
 use Rattle.pylock_c.specs.Opening.{Leaves, Opens, open_refusal}
 use Rattle.pylock_c.specs.Refusal.{number}
 use Rattle.pylock_c.specs.declared.object.Object.{Object}

@@ -3,8 +3,8 @@ use Rattle.std.proofs.Common.{◌≡◌, ◌∙◌, ℕ, ℤ, ap, sym, subst}
 use Rattle.std.specs.Prelude.{Option, Some, Result, Ok, Err}
 use Rattle.pytext.specs.Results.{◌>>=◌}
 use Rattle.pylock_core.specs.Session.Judgement.{SessionValue}
-use Rattle.pylock_program.specs.declared.line.refusal.LineRefusal.{LineRefusal}
-use Rattle.pylock_program.specs.declared.line.refusal.LineRefusal.TheVariants as line
+use Rattle.pylock_run.specs.declared.line.refusal.LineRefusal.{LineRefusal}
+use Rattle.pylock_run.specs.declared.line.refusal.LineRefusal.TheVariants as line
 use Rattle.pylock_c.specs.Answer.{Tells}
 use Rattle.pylock_c.specs.Refusal.{line_refusal}
 use Rattle.pylock_c.specs.Sessions.{Counts, edited, edited_in}

@@ -6,10 +6,10 @@ use Rattle.pylock_command.specs.declared.form.Form.TheVariants.{Json, Lines}
 use Rattle.pylock_readers.specs.Environment.{env_of}
 use Rattle.pylock_readers.specs.Lock.Reading.{lock_of}
 use Rattle.pylock_documents.specs.Documents.{lock_head_rows}
-use Rattle.pylock_program.specs.Report.{Report, refused_by}
+use Rattle.pylock_run.specs.Report.{Report, refused_by}
 use Rattle.pylock_program.specs.Text.Json.{json_text}
-use Rattle.pylock_program.specs.declared.report.opening.OpenError.{OpenError}
-use Rattle.pylock_program.specs.declared.report.opening.OpenError.TheVariants as unopened
+use Rattle.pylock_run.specs.declared.report.opening.OpenError.{OpenError}
+use Rattle.pylock_run.specs.declared.report.opening.OpenError.TheVariants as unopened
 use Rattle.pylock_c.specs.declared.object.Object.{Object}
 use Rattle.pylock_c.specs.declared.object.Object.TheVariants as kind
 use Rattle.pylock_c.specs.declared.refusal.Refusal.{Refusal}

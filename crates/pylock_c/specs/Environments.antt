@@ -1,7 +1,7 @@
 -- The environments of C, in which markers are judged.
 use Rattle.std.specs.Prelude.{ℕ, List, Option, Some, Result, Ok, ok_or}
 use Rattle.pytext.specs.Results.{◌>>=◌}
-use Rattle.pylock_program.specs.declared.line.refusal.LineRefusal.TheVariants as line
+use Rattle.pylock_run.specs.declared.line.refusal.LineRefusal.TheVariants as line
 use Rattle.pymark_core.specs.Environment.{EnvironmentValue, empty, with_extra, with_group}
 use Rattle.pymark_core.specs.Environment.{with_variable, without_extra, without_group}
 use Rattle.pymark_core.specs.Environment.{without_variable}

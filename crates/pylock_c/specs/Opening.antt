@@ -1,9 +1,9 @@
 -- What a call leaves that reads a lock or an environment: an object in one slot, or the words of
 -- the refusal in another.
 use Rattle.std.specs.Prelude.{◌≡◌, ◌⊎◌, ℕ, ℤ, pos, List, Option, Some, Result, Ok, Err}
-use Rattle.pylock_program.specs.Text.Refusal.{refusal_text}
-use Rattle.pylock_program.specs.declared.report.opening.OpenError.{OpenError}
-use Rattle.pylock_program.specs.declared.report.opening.OpenError.TheVariants as unopened
+use Rattle.pylock_run.specs.Text.Refusal.{refusal_text}
+use Rattle.pylock_run.specs.declared.report.opening.OpenError.{OpenError}
+use Rattle.pylock_run.specs.declared.report.opening.OpenError.TheVariants as unopened
 use Rattle.pylock_c.specs.Refusal.{number}
 use Rattle.pylock_c.specs.declared.object.Object.{Object}
 use Rattle.pylock_c.specs.declared.object.Object.TheVariants as kind

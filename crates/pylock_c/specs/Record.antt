@@ -1,7 +1,7 @@
 -- Records: fields with a TAB between.
 use Rattle.std.specs.Prelude.{ℕ, List, [], ◌∷◌, codes, Option, Some, None}
 use Rattle.std.specs.List.{join_by}
-use Rattle.pylock_program.specs.Text.Field.{field}
+use Rattle.pylock_run.specs.Text.Field.{field}
 
 -- the record of these parts, some of which may be absent
 abbrev pub record_of : List (Option (List ℕ)) → List ℕ

@@ -1,7 +1,7 @@
 -- The codes of `pylock.h`, and how what a library refuses refuses a call.
 use Rattle.std.specs.Prelude.{ℤ, pos}
-use Rattle.pylock_program.specs.declared.line.refusal.LineRefusal.{LineRefusal}
-use Rattle.pylock_program.specs.declared.line.refusal.LineRefusal.TheVariants as line
+use Rattle.pylock_run.specs.declared.line.refusal.LineRefusal.{LineRefusal}
+use Rattle.pylock_run.specs.declared.line.refusal.LineRefusal.TheVariants as line
 use Rattle.pymark_core.specs.declared.fault.EvalFault.{EvalFault}
 use Rattle.pymark_core.specs.declared.fault.EvalFault.TheVariants as fault
 use Rattle.pymark_core.specs.declared.marker.error.MarkerError.{MarkerError}

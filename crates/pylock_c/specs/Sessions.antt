@@ -10,13 +10,13 @@ use Rattle.pylock_core.specs.Session.Judgement.{verdicts_of}
 use Rattle.pylock_core.specs.Session.State.{State}
 use Rattle.pylock_core.specs.Session.Steps.{answer}
 use Rattle.pylock_program.specs.Choices.{view_shown}
-use Rattle.pylock_program.specs.Report.{after_command, is_plan}
-use Rattle.pylock_program.specs.Text.Field.{tabbed}
+use Rattle.pylock_run.specs.Report.{after_command, is_plan}
+use Rattle.pylock_run.specs.Text.Field.{tabbed}
 use Rattle.pylock_program.specs.declared.choices.View.{View}
-use Rattle.pylock_program.specs.declared.line.commands.Command.{Command}
-use Rattle.pylock_program.specs.declared.line.commands.Command.TheVariants as command
-use Rattle.pylock_program.specs.declared.line.refusal.LineRefusal.{LineRefusal}
-use Rattle.pylock_program.specs.declared.report.opening.OpenError.{OpenError}
+use Rattle.pylock_run.specs.declared.line.commands.Command.{Command}
+use Rattle.pylock_run.specs.declared.line.commands.Command.TheVariants as command
+use Rattle.pylock_run.specs.declared.line.refusal.LineRefusal.{LineRefusal}
+use Rattle.pylock_run.specs.declared.report.opening.OpenError.{OpenError}
 use Rattle.pylock_c.specs.Refusal.{line_refusal}
 use Rattle.pylock_c.specs.Sessions.Asked.{asked}
 use Rattle.pylock_c.specs.Sets.{refused_by}

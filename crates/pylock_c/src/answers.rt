@@ -3,9 +3,9 @@
 ghost use Rattle.std.specs.Prelude.{◌≡◌, [], Some};
 ghost use Rattle.pytext.specs.Agreement.{Gives};
 ghost use Rattle.pylock_program.specs.Choices.{report_after, view_shown};
-ghost use Rattle.pylock_program.specs.Report.{opened};
+ghost use Rattle.pylock_run.specs.Report.{opened};
 ghost use Rattle.pylock_program.specs.declared.choices.View.TheVariants.{Explain, Plan};
-ghost use Rattle.pylock_program.specs.declared.report.opening.OpenError.TheVariants as unopened;
+ghost use Rattle.pylock_run.specs.declared.report.opening.OpenError.TheVariants as unopened;
 ghost use Rattle.pylock_program.specs.Reply.{reply};
 ghost use Rattle.pylock_program.specs.declared.reply.queries.Query.TheVariants as query;
 ghost use Rattle.pylock_c.specs.Answer.{Tells};
@@ -24,7 +24,8 @@ use pylock_core::{EnvError, Lock, LockError, read_environment};
 use pylock_documents::head_document;
 use pylock_json::document;
 use pylock_messages::{environment_message, lock_message};
-use pylock_program::{OpenError, Query, View, open, push_open_error, push_reply, push_view};
+use pylock_program::{Query, View, push_open_error, push_reply, push_view};
+use pylock_run::{OpenError, open};
 use std::alloc::{AllocError, Global};
 
 pub(crate) fn form_of(json: bool) -> Form

@@ -17,7 +17,7 @@ use crate::object::Object;
 use crate::refusal::Refusal;
 use crate::slot::Slot;
 use crate::text::text;
-use pylock_program::LineRefusal;
+use pylock_run::LineRefusal;
 use pymark_core::{Environment, Var};
 use std::alloc::Global;
 

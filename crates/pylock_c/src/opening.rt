@@ -2,9 +2,9 @@
 
 ghost use Rattle.std.specs.Prelude.{◌≡◌, ◌⊎◌, ℤ, IfOk, Result, Some};
 ghost use Rattle.pytext.specs.Agreement.{Gives};
-ghost use Rattle.pylock_program.specs.Text.Refusal.{refusal_text};
-ghost use Rattle.pylock_program.specs.declared.report.opening.OpenError.{OpenError as Unopened};
-ghost use Rattle.pylock_program.specs.declared.report.opening.OpenError.TheVariants.{Memory};
+ghost use Rattle.pylock_run.specs.Text.Refusal.{refusal_text};
+ghost use Rattle.pylock_run.specs.declared.report.opening.OpenError.{OpenError as Unopened};
+ghost use Rattle.pylock_run.specs.declared.report.opening.OpenError.TheVariants.{Memory};
 ghost use Rattle.pylock_c.specs.Opening.{Leaves, Opens, open_refusal};
 ghost use Rattle.pylock_c.specs.Slot.{object};
 ghost use Rattle.pylock_c.specs.declared.object.Object.{Object as Kind};
@@ -14,7 +14,8 @@ use crate::object::{Bytes, Object};
 use crate::refusal::Refusal;
 use crate::slot::Slot;
 use pylock_command::Form;
-use pylock_program::{OpenError, push_open_error};
+use pylock_program::push_open_error;
+use pylock_run::OpenError;
 use std::alloc::{AllocError, Global};
 
 /// Leaves the object in its slot, or the line of the refusal in that of the words, and answers the

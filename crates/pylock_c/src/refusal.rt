@@ -6,7 +6,7 @@ ghost use Rattle.pylock_c.specs.Refusal.{requirement_refusal, set_refusal, versi
 ghost use Rattle.pylock_c.specs.Refusal.{edit_number, line_refusal, number, wheel_refusal};
 ghost use Rattle.pylock_c.specs.declared.refusal.Refusal.TheVariants.{Memory};
 
-use pylock_program::LineRefusal;
+use pylock_run::LineRefusal;
 use pymark_core::{EvalFault, MarkerError, RequirementError};
 use pyver_core::{SpecifierError, VersionError};
 use pywheel_core::WheelError;

@@ -3,7 +3,7 @@
 ghost use Rattle.std.specs.Prelude.{◌≡◌, ◌++◌, ◌∷◌, OnOk, codes, map, string_bytes};
 ghost use Rattle.pytext.specs.Agreement.{Gives};
 ghost use Rattle.pyver_core.specs.Set.Normal.{specifier_text};
-ghost use Rattle.pylock_program.specs.Text.Field.{field};
+ghost use Rattle.pylock_run.specs.Text.Field.{field};
 ghost use Rattle.pylock_c.specs.Answer.{Tells};
 ghost use Rattle.pylock_c.specs.Record.{joined, record_of};
 ghost use Rattle.pylock_c.specs.Requirements.{parts_of, requirement_record};
@@ -14,7 +14,7 @@ ghost use Rattle.pylock_c.specs.declared.refusal.Refusal.TheVariants.{Memory};
 use crate::refusal::Refusal;
 use crate::slot::Slot;
 use crate::text::{keep_text, text};
-use pylock_program::{push_field, push_next};
+use pylock_run::{push_field, push_next};
 use pymark_core::Requirement;
 use pyver_core::SpecifierSet;
 use std::alloc::{AllocError, Global};

@@ -2,9 +2,9 @@
 
 ghost use Rattle.std.specs.Prelude.{◌≡◌, ℕ, None, OnErr, Option, Result, Some, option_map};
 ghost use Rattle.pytext.specs.Agreement.{Gives};
-ghost use Rattle.pylock_program.specs.Report.{opened};
-ghost use Rattle.pylock_program.specs.declared.line.refusal.LineRefusal.TheVariants as line;
-ghost use Rattle.pylock_program.specs.declared.report.opening.OpenError.TheVariants as unopened;
+ghost use Rattle.pylock_run.specs.Report.{opened};
+ghost use Rattle.pylock_run.specs.declared.line.refusal.LineRefusal.TheVariants as line;
+ghost use Rattle.pylock_run.specs.declared.report.opening.OpenError.TheVariants as unopened;
 ghost use Rattle.pylock_c.specs.Answer.{Tells};
 ghost use Rattle.pylock_c.specs.Opening.{Opens};
 ghost use Rattle.pylock_c.specs.Sessions.{Counts, edited, edited_in, started};
@@ -25,7 +25,7 @@ use crate::sessions::ask::Ask;
 use crate::sessions::commands::command;
 use crate::slot::Slot;
 use pylock_core::Session;
-use pylock_program::{Command, LineRefusal, OpenError, open};
+use pylock_run::{Command, LineRefusal, OpenError, open};
 use std::alloc::Global;
 
 /// The session on a lock and an environment.

@@ -14,7 +14,7 @@ ghost use Rattle.pylock_c.specs.declared.refusal.Refusal.TheVariants.{Memory};
 use crate::refusal::Refusal;
 use crate::slot::Slot;
 use crate::text::{keep_text, text};
-use pylock_program::{push_field, push_next};
+use pylock_run::{push_field, push_next};
 use pywheel_core::{Tag, WheelName};
 use std::alloc::{AllocError, Global};
 use std::fmt::Write;

@@ -5,9 +5,9 @@ use Rattle.std.specs.Prelude.{codes}
 use Rattle.pylock_readers.specs.Entry.{EntryValue}
 use Rattle.pylock_core.specs.Session.Picks.{SourceValue, OfVcs, OfDirectory, OfArchive, OfSdist, source_in}
 use Rattle.pylock_core.specs.declared.answer.PickSource.TheVariants as source
-use Rattle.pylock_program.specs.Inner.Picked.{picked_fields}
+use Rattle.pylock_run.specs.Text.Picked.{picked_fields}
 use Rattle.pylock_program.specs.Text.Files.{each_source, where_there}
-use Rattle.pylock_program.specs.Text.Plan.{archive_fields, directory_fields, file_fields, source_line, vcs_fields}
+use Rattle.pylock_run.specs.Text.Plan.{archive_fields, directory_fields, file_fields, source_line, vcs_fields}
 
 made_there : {X : Type 0} (made : X → SourceValue) (fields : X → List (List ℕ)) → ((x : X) → picked_fields (made x) ≡ fields x)
     → (o : Option X) → where_there picked_fields (option_map made o) ≡ where_there fields o

@@ -1,12 +1,2 @@
-pub mod LineLemmas
-pub mod EditingLemmas
-pub mod TextLemmas
 pub mod FilesLemmas
-pub mod PlainText
-pub mod ReadLemmas
-pub mod WriteLemmas
-pub mod RunLemmas
-pub mod ReportLemmas
 pub mod ReplyLemmas
-pub mod PieceLemmas
-pub mod CountLemmas

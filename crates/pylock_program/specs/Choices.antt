@@ -21,14 +21,14 @@ use Rattle.pylock_core.specs.declared.edit.Policy.TheVariants.{Wheel, Source}
 use Rattle.pylock_command.specs.declared.form.Form.{Form}
 use Rattle.pylock_command.specs.declared.form.Form.TheVariants.{Lines, Json}
 use Rattle.pylock_documents.specs.Documents.{answer_rows, explain_rows}
-use Rattle.pylock_program.specs.Report.{Report, is_plan, standing_text}
+use Rattle.pylock_run.specs.Report.{Report, is_plan, standing_text}
 use Rattle.pylock_program.specs.Text.Explain.{explain_text}
-use Rattle.pylock_program.specs.Text.Field.{field, line_of}
+use Rattle.pylock_run.specs.Text.Field.{field, line_of}
 use Rattle.pylock_program.specs.Text.Json.{json_text, option_json, refusal_json}
-use Rattle.pylock_program.specs.Text.Refusal.{refusal_text}
+use Rattle.pylock_run.specs.Text.Refusal.{refusal_text}
 use Rattle.pylock_program.specs.declared.choices.View.{View}
 use Rattle.pylock_program.specs.declared.choices.View.TheVariants.{Plan, Explain}
-use Rattle.pylock_program.specs.declared.report.opening.OpenError.{OpenError}
+use Rattle.pylock_run.specs.declared.report.opening.OpenError.{OpenError}
 
 -- ---- the edits that an option means
 

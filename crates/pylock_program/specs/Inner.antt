@@ -1,10 +1,2 @@
 -- What serves the contracts of private functions alone.
-pub mod Editing
-pub mod Writes
-pub mod Faults
-pub mod Edited
-pub mod Hashes
 pub mod Chosen
-pub mod Pieces
-pub mod Plain
-pub mod Picked

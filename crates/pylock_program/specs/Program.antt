@@ -5,23 +5,20 @@ use Rattle.pylock_command.specs.declared.command_line.Task.{Task}
 use Rattle.pylock_command.specs.declared.command_line.Task.TheVariants as task
 use Rattle.pylock_program.specs.Choices.{explain_report, plan_report}
 use Rattle.pylock_program.specs.Reply.{audit_answer, files_answer, marker_answer, reply, reply_of}
-use Rattle.pylock_program.specs.Report.{Report, opened}
-use Rattle.pylock_program.specs.Report.Print.{Prints}
-use Rattle.pylock_program.specs.Report.Run.{IsRun}
-use Rattle.pylock_program.specs.Stream.{SourceValue, SinkValue}
+use Rattle.pylock_run.specs.Files.{Reads}
+use Rattle.pylock_run.specs.Report.{Report, opened}
+use Rattle.pylock_run.specs.Report.Print.{Prints}
+use Rattle.pylock_run.specs.Report.Run.{IsRun}
+use Rattle.pylock_run.specs.Stream.{SourceValue, SinkValue}
 use Rattle.pylock_program.specs.declared.program.Failure.{Failure}
 use Rattle.pylock_program.specs.declared.program.Failure.TheVariants.{NotText, File, Read, Write}
 use Rattle.pylock_program.specs.declared.program.Failure.TheVariants.{Input, NamedFile}
 use Rattle.pylock_program.specs.declared.program.Failure.TheVariants.{Memory}
 use Rattle.pylock_program.specs.declared.reply.queries.Query.TheVariants as query
-use Rattle.pylock_program.specs.declared.report.fault.RunFault.{RunFault}
-use Rattle.pylock_program.specs.declared.report.fault.RunFault.TheVariants as run
-use Rattle.pylock_program.specs.declared.stream.whole.FileFault.{FileFault}
-use Rattle.pylock_program.specs.declared.stream.whole.FileFault.TheVariants as file
-
--- the most bytes of a file
-abbrev pub most_file_bytes : ℕ
-most_file_bytes = 268435456
+use Rattle.pylock_run.specs.declared.report.fault.RunFault.{RunFault}
+use Rattle.pylock_run.specs.declared.report.fault.RunFault.TheVariants as run
+use Rattle.pylock_run.specs.declared.stream.whole.FileFault.{FileFault}
+use Rattle.pylock_run.specs.declared.stream.whole.FileFault.TheVariants as file
 
 -- how the program ends where a run, a query or the reading of a file stops
 abbrev pub run_failure : RunFault → Failure
@@ -92,10 +89,6 @@ LeadsTo failure outcome (Ok bytes) source source' sink sink' result =
     outcome bytes source source' sink sink' result
 LeadsTo failure outcome (Err fault) source source' sink sink' result =
     (result ≡ Err (failure fault)) × (source' ≡ source) × (sink' ≡ sink)
-
--- what a read of the file at a path may give
-abbrev pub Reads : Type 1
-Reads = List ℕ → Result (List ℕ) FileFault → Type 0
 
 -- the file at a path is read first
 pub record OpensOr (failure : FileFault → Failure) (gives : Reads) (path : List ℕ)

@@ -40,13 +40,13 @@ use Rattle.pylock_readers.specs.Entry.{EntryValue}
 use Rattle.pylock_audit.specs.Audit.{findings_of}
 use Rattle.pylock_audit.specs.Finding.{FoundValue}
 use Rattle.pylock_documents.specs.Documents.{files_rows, findings_rows}
-use Rattle.pylock_program.specs.Report.{Report}
+use Rattle.pylock_run.specs.Report.{Report}
 use Rattle.pylock_program.specs.Text.Audit.{findings_text}
 use Rattle.pylock_program.specs.Text.Json.{json_text, lock_json}
-use Rattle.pylock_program.specs.Text.Field.{field, line_of}
+use Rattle.pylock_run.specs.Text.Field.{field, line_of}
 use Rattle.pylock_reasons.specs.Words.{fault_word}
 use Rattle.pylock_program.specs.Text.Files.{files_text}
-use Rattle.pylock_program.specs.Text.Refusal.{environment_text, lock_text}
+use Rattle.pylock_run.specs.Text.Refusal.{environment_text, lock_text}
 use Rattle.pylock_program.specs.declared.reply.queries.Query.{Query}
 use Rattle.pylock_program.specs.declared.reply.queries.Query.TheVariants as query
 

@@ -1,9 +1,6 @@
--- The printed text.
+-- The printed text, beside the lines of an answer and of a refusal.
 pub mod Audit
 pub mod Explain
-pub mod Field
 pub mod Files
 pub mod Json
-pub mod Plan
-pub mod Refusal
 pub mod Safe

@@ -17,26 +17,21 @@ ghost use Rattle.pylock_program.specs.Choices.{report_after};
 ghost use Rattle.pylock_program.specs.Choices.{set_variable, view_shown};
 ghost use Rattle.pylock_core.specs.Session.Steps.{answer};
 ghost use Rattle.pylock_program.specs.Inner.Chosen.{chosen, made};
-ghost use Rattle.pylock_program.specs.Report.{is_plan, opened};
-ghost use Rattle.pylock_program.specs.Report.Print.{Prints, Pushes};
+ghost use Rattle.pylock_run.specs.Report.{is_plan, opened};
+ghost use Rattle.pylock_run.specs.Report.Print.{Prints, Pushes};
 
 use crate::document::Document;
-use crate::line::commands::label;
 use crate::notes::fault::tell_fault;
 use crate::notes::options::{tell_notes, tell_refused};
-use crate::report::editing::push_standing;
-use crate::report::fault::RunFault;
-use crate::report::opening::{OpenError, open};
-use crate::report::print::print;
-use crate::stream::Sink;
 use crate::text::explain::push_explained;
-use crate::text::field::push_next;
 use crate::text::json::{push_option_json, push_refusal_json};
-use crate::text::refusal::push_refusal;
 use pylock_command::{Choice, Form};
 use pylock_core::{Answer, Edit, EditError, Policy, Session};
 use pylock_documents::{explain_document, plan_document};
 use pylock_json::push_document;
+use pylock_run::{
+    OpenError, RunFault, Sink, label, open, print, push_next, push_refusal, push_standing,
+};
 use pymark_core::Var;
 use pyver_core::{Label, is_name};
 use std::alloc::{AllocError, Global};

@@ -5,9 +5,8 @@ pub(crate) mod file;
 pub(crate) mod options;
 pub(crate) mod refusal;
 
-use crate::stream::Sink;
-use crate::stream::writer::write_all;
 use pylock_messages::push_visible;
+use pylock_run::{Sink, write_all};
 use std::alloc::{AllocError, Global};
 
 /// Writes `pylock: ` and the text, in which each control character stands as its number. Where

@@ -1,21 +1,19 @@
 //! What the program does with its task, and how it ends.
 
-ghost use Rattle.std.specs.Prelude.{◌≡◌, ◌≢◌, Err, IfErr, IfOk};
+ghost use Rattle.std.specs.Prelude.{◌≡◌, ◌≢◌, Err};
 ghost use Rattle.std.specs.Option.{option_copied};
 ghost use Rattle.std.specs.Result.{result_map_both};
-ghost use Rattle.pylock_program.specs.Program.{most_file_bytes, failure_message, failure_status};
+ghost use Rattle.pylock_program.specs.Program.{failure_message, failure_status};
 ghost use Rattle.pylock_program.specs.Program.{GivesNamed, Opens, OpensNamed};
-ghost use Rattle.pylock_program.specs.Program.{Performs, Reads, Replies, Runs, Tells};
+ghost use Rattle.pylock_program.specs.Program.{Performs, Replies, Runs, Tells};
 ghost use Rattle.pylock_program.specs.Program.{greeting, terminal_note, told};
 ghost use Rattle.pylock_program.specs.Reply.{audit_answer, files_answer, marker_answer, reply};
 ghost use Rattle.pylock_program.specs.Reply.{reply_of};
 ghost use Rattle.pylock_program.specs.Choices.{explain_report, plan_report};
-ghost use Rattle.pylock_program.specs.Report.{opened};
-ghost use Rattle.pylock_program.specs.Report.Print.{Prints};
-ghost use Rattle.pylock_program.specs.Stream.{SourceValue};
-ghost use Rattle.pylock_program.specs.Stream.Whole.{GivesAll, IsCause};
+ghost use Rattle.pylock_run.specs.Report.{opened};
+ghost use Rattle.pylock_run.specs.Report.Print.{Prints};
+ghost use Rattle.pylock_run.specs.Stream.{SourceValue};
 ghost use Rattle.pylock_program.specs.declared.program.Failure.TheVariants as failure;
-ghost use Rattle.pylock_program.specs.declared.stream.whole.FileFault.TheVariants as file_fault;
 
 use crate::choices::{explain, plan};
 use crate::document::Document;
@@ -23,17 +21,10 @@ use crate::notes::file::tell_file;
 use crate::notes::refusal::{tell_environment_refusal, tell_lock_refusal, tell_refusal};
 use crate::reply::queries::Query;
 use crate::reply::query;
-use crate::report::fault::RunFault;
-use crate::report::print::print;
-use crate::report::run::run_whole;
-use crate::stream::whole::{FileFault, read_whole};
-use crate::stream::{Sink, Source};
 use pylock_command::{Choice, Form, Task};
+use pylock_run::{FileFault, Files, RunFault, Sink, Source, print, read_both, run_whole};
 use std::alloc::Global;
 use std::io::ErrorKind;
-
-/// The most bytes that a file has.
-pub const FILE_BYTES: u64 = 268_435_456;
 
 const GREETING: &[u8] = b"pylock 1\n";
 
@@ -133,42 +124,6 @@ pub fn words_failure(kind: ErrorKind) -> Failure
     }
 }
 
-/// Why a file can't be read that can't be opened.
-pub fn open_fault(kind: ErrorKind) -> FileFault
-    ensures missing { kind ≡ ErrorKind.NotFound → result ≡ file_fault.Missing }
-    ensures permission { kind ≡ ErrorKind.PermissionDenied → result ≡ file_fault.Permission }
-    ensures memory { kind ≡ ErrorKind.OutOfMemory → result ≡ file_fault.Memory }
-    ensures other { kind ≢ ErrorKind.NotFound → kind ≢ ErrorKind.PermissionDenied
-        → kind ≢ ErrorKind.OutOfMemory → result ≡ file_fault.Read }
-{
-    match kind {
-        ErrorKind::NotFound => FileFault::Missing,
-        ErrorKind::PermissionDenied => FileFault::Permission,
-        ErrorKind::OutOfMemory => FileFault::Memory,
-        _ => FileFault::Read,
-    }
-}
-
-/// Where files are read.
-pub trait Files {
-    // What a read of the file at a path may give.
-    ghost read_gives: { Self → Reads };
-
-    /// All bytes of the file at this path.
-    fn read(&self, path: &str) -> Result<Vec<u8>, FileFault>
-        ensures { read_gives self.now path.now
-            (result_map_both (λ bytes. bytes.items) (λ fault. fault) result) };
-}
-
-/// All bytes of a file, as `read_whole` says, of which there may be 268,435,456.
-pub fn read_file<R: Source>(alloc: Global, file: &mut R) -> Result<Vec<u8>, FileFault>
-    ensures all { IfOk result (λ bytes. GivesAll most_file_bytes
-        (R.value file.old) (R.value file.new) bytes.items) }
-    ensures fault { IfErr result (IsCause most_file_bytes (R.value file.old) (R.value file.new)) }
-{
-    read_whole(alloc, file, FILE_BYTES)
-}
-
 /// Does the task on the files, standard input and standard output, and answers the status of the
 /// program. Of two files the lock is read first, and both before either is judged. The
 /// memory of a session isn't given back but left to the system, for the program ends then. What a
@@ -244,8 +199,7 @@ fn select<F: Files, R: Source, W: Sink, N: Sink>(
         (λ lock. Opens (F.read_gives files.now) environment.now (Runs lock))
         (R.value reader.old) (R.value reader.new) (W.value writer.old) (W.value writer.new) result }
 {
-    let lock_bytes = files.read(lock)?;
-    let bytes = files.read(environment)?;
+    let (lock_bytes, bytes) = read_both(files, lock, environment)?;
     let end = run_whole(alloc, &lock_bytes, &bytes, true, reader, writer);
     let lock = Document {
         path: lock,

@@ -13,26 +13,25 @@ ghost use Rattle.pylock_program.specs.Reply.{value_answer};
 ghost use Rattle.pylock_program.specs.Reply.{requirement_answer, requirement_line, names_text};
 ghost use Rattle.pylock_program.specs.Reply.{specifiers_text, wheel_answer, wheel_line};
 ghost use Rattle.pylock_program.specs.Reply.{refused, faulty};
-ghost use Rattle.pylock_program.specs.Report.Print.{Prints, Pushes};
-ghost use Rattle.pylock_program.specs.Text.Field.{field, line_of};
+ghost use Rattle.pylock_run.specs.Report.Print.{Prints, Pushes};
+ghost use Rattle.pylock_run.specs.Text.Field.{field, line_of};
 
 pub mod queries;
 
 use crate::reply::queries::Query;
-use crate::report::fault::RunFault;
-use crate::report::print::print;
-use crate::stream::Sink;
 use crate::text::audit::push_findings;
-use crate::text::field::{push_field, push_last_word, push_next};
 use crate::text::files::push_files;
 use crate::text::json::push_lock_json;
-use crate::text::refusal::{push_environment_error, push_lock_error};
 use pylock_audit::{Found, audit};
 use pylock_command::Form;
 use pylock_core::{Entry, EnvError, FaultCode, Lock, LockError, read_environment};
 use pylock_documents::{files_document, findings_document};
 use pylock_json::push_document;
 use pylock_reasons::{fault_word, tag_text};
+use pylock_run::{
+    RunFault, Sink, print, push_environment_error, push_field, push_last_word, push_lock_error,
+    push_next,
+};
 use pymark_core::{Environment, EvalFault, Marker, MarkerError, Requirement, RequirementError};
 use pyver_core::{SpecifierError, SpecifierSet, Version, VersionError, is_name, normal_name};
 use pywheel_core::{Tag, WheelError, WheelName};

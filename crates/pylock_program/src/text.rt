@@ -1,10 +1,7 @@
-//! The printed text, pushed onto the bytes that stand before it.
+//! The printed text, beside the lines of an answer and of a refusal.
 
 pub(crate) mod audit;
 pub(crate) mod explain;
-pub mod field;
 pub(crate) mod files;
 pub(crate) mod json;
-pub mod plan;
-pub mod refusal;
 mod safe;

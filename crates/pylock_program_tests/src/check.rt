@@ -1,7 +1,7 @@
 //! What the tests share. What makes a room asserts nothing while it has it: it lends what is
 //! written to what asserts and has nothing to drop.
 
-use pylock_program::{FileFault, Files, Room, RunFault, Source, run};
+use pylock_run::{FileFault, Files, Room, RunFault, Source, run};
 use std::alloc::{AllocError, Global};
 use std::io;
 use std::io::Read;

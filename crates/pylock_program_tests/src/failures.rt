@@ -1,7 +1,7 @@
 //! Runs whose reads and writes fail in turn.
 
 use crate::check::{ENVIRONMENT, LOCK, ROOM, check_end, check_front};
-use pylock_program::{Pieces, Room, RunFault, run};
+use pylock_run::{Pieces, Room, RunFault, run};
 use std::alloc::AllocError;
 use std::process::Abort;
 use std::test::Fail;

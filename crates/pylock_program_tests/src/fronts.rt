@@ -1,7 +1,7 @@
 //! Every front of a lock is read or refused, and every front of an environment refused.
 
 use crate::check::{ENVIRONMENT, HEAD, LOCK, ROOM};
-use pylock_program::{Pieces, Room, RunFault, run};
+use pylock_run::{Pieces, Room, RunFault, run};
 use std::alloc::{AllocError, Global};
 use std::process::Abort;
 use std::test::Fail;

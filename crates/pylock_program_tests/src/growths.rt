@@ -7,9 +7,8 @@ use pylock_command::{Choice, CommandError, Form, Task, command};
 use pylock_core::{
     Answer, Edit, EditError, Entry, EnvError, Lock, LockError, Session, read_environment,
 };
-use pylock_program::{
-    Document, FileFault, Pieces, Query, Room, explain, plan, query, read_whole, run,
-};
+use pylock_program::{Document, Query, explain, plan, query};
+use pylock_run::{FileFault, Pieces, Room, read_whole, run};
 use std::alloc::Global;
 use std::process::Abort;
 

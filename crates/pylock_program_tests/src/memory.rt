@@ -3,7 +3,8 @@
 
 use crate::check::{ENVIRONMENT, HEAD, Shelf};
 use pylock_command::Task;
-use pylock_program::{Pieces, Room, perform, run};
+use pylock_program::perform;
+use pylock_run::{Pieces, Room, run};
 use std::alloc::{AllocError, Global};
 use std::process::Abort;
 use std::test::Fail;

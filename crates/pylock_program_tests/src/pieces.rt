@@ -2,7 +2,7 @@
 //! most lines and of one more, and without end.
 
 use crate::check::{ENVIRONMENT, HEAD, Narrow, ROOM, check_run};
-use pylock_program::{FromRead, IoFault, Pieces, Room, RunFault, Source, run};
+use pylock_run::{FromRead, IoFault, Pieces, Room, RunFault, Source, run};
 use std::alloc::{AllocError, Global};
 use std::process::Abort;
 use std::test::Fail;

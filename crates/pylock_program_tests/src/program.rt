@@ -2,9 +2,8 @@
 
 use crate::check::{ENVIRONMENT, HEAD, Shelf, check_bytes};
 use pylock_command::{Form, Task};
-use pylock_program::{
-    Failure, FileFault, Pieces, Room, RunFault, open_fault, perform, read_file, words_failure,
-};
+use pylock_program::{Failure, perform, words_failure};
+use pylock_run::{FileFault, Pieces, Room, RunFault, open_fault, read_file};
 use std::alloc::{AllocError, Global};
 use std::io::ErrorKind;
 use std::process::Abort;

@@ -1,7 +1,8 @@
 //! Replies to a writer that fails.
 
 use crate::check::check_front;
-use pylock_program::{Query, Room, RunFault, query};
+use pylock_program::{Query, query};
+use pylock_run::{Room, RunFault};
 use std::alloc::AllocError;
 use std::process::Abort;
 use std::test::Fail;

@@ -2,7 +2,7 @@
 //! reading of a whole source.
 
 use crate::check::Narrow;
-use pylock_program::{
+use pylock_run::{
     FileFault, FromRead, IoFault, Pieces, Room, Sink, Source, ToWrite, read_whole, write_all,
 };
 use std::alloc::{AllocError, Global};

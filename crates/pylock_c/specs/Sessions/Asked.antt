@@ -5,13 +5,13 @@ use Rattle.std.specs.Str.{is_utf8}
 use Rattle.pytext.specs.Results.{◌>>=◌}
 use Rattle.pylock_core.specs.declared.edit.Edit.{Edit}
 use Rattle.pylock_core.specs.declared.edit.Edit.TheVariants as edit
-use Rattle.pylock_program.specs.Line.{command_of, is_lf}
-use Rattle.pylock_program.specs.Line.Commands.{edited, entry_argument, name_or, policy_argument}
-use Rattle.pylock_program.specs.Line.Commands.{tags_argument, variable_argument}
-use Rattle.pylock_program.specs.declared.line.commands.Command.{Command}
-use Rattle.pylock_program.specs.declared.line.commands.Command.TheVariants as command
-use Rattle.pylock_program.specs.declared.line.refusal.LineRefusal.{LineRefusal}
-use Rattle.pylock_program.specs.declared.line.refusal.LineRefusal.TheVariants as line
+use Rattle.pylock_run.specs.Line.{command_of, is_lf}
+use Rattle.pylock_run.specs.Line.Commands.{edited, entry_argument, name_or, policy_argument}
+use Rattle.pylock_run.specs.Line.Commands.{tags_argument, variable_argument}
+use Rattle.pylock_run.specs.declared.line.commands.Command.{Command}
+use Rattle.pylock_run.specs.declared.line.commands.Command.TheVariants as command
+use Rattle.pylock_run.specs.declared.line.refusal.LineRefusal.{LineRefusal}
+use Rattle.pylock_run.specs.declared.line.refusal.LineRefusal.TheVariants as line
 use Rattle.pylock_readers.specs.Entry.{EntryValue}
 use Rattle.pywheel_core.specs.Tag.{TagValue}
 use Rattle.pylock_c.specs.declared.sessions.ask.Ask.{Ask}

@@ -5,13 +5,13 @@ ghost use Rattle.std.specs.List.{slice_split};
 ghost use Rattle.pytext.specs.Agreement.{Gives};
 ghost use Rattle.pylock_c.specs.Sessions.Asked.{asked, entry_in, policy_asked, set_asked};
 ghost use Rattle.pylock_c.specs.Sessions.Asked.{tag_texts, tags_in, text_argument, unset_asked};
-ghost use Rattle.pylock_program.specs.Line.{is_lf};
-ghost use Rattle.pylock_program.specs.Line.Commands.{policy_argument, variable_argument};
-ghost use Rattle.pylock_program.specs.declared.line.refusal.LineRefusal.TheVariants.{Memory};
+ghost use Rattle.pylock_run.specs.Line.{is_lf};
+ghost use Rattle.pylock_run.specs.Line.Commands.{policy_argument, variable_argument};
+ghost use Rattle.pylock_run.specs.declared.line.refusal.LineRefusal.TheVariants.{Memory};
 
 use crate::sessions::ask::Ask;
 use pylock_core::{Edit, Entry, Policy};
-use pylock_program::{Command, LineRefusal, read_line};
+use pylock_run::{Command, LineRefusal, read_line};
 use pymark_core::Var;
 use pyver_core::{Label, is_name};
 use pywheel_core::TagList;

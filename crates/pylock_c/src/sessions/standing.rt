@@ -2,7 +2,7 @@
 
 ghost use Rattle.std.specs.Prelude.{◌≡◌, ◌++◌, OnOk, Some, decimal, map, option_map};
 ghost use Rattle.pytext.specs.Agreement.{Gives};
-ghost use Rattle.pylock_program.specs.Text.Field.{tabbed};
+ghost use Rattle.pylock_run.specs.Text.Field.{tabbed};
 ghost use Rattle.pylock_program.specs.declared.choices.View.TheVariants.{Explain, Plan};
 ghost use Rattle.pylock_c.specs.Answer.{Tells};
 ghost use Rattle.pylock_c.specs.Answers.{form_of};
@@ -17,7 +17,8 @@ use crate::refusal::Refusal;
 use crate::slot::Slot;
 use pylock_command::Form;
 use pylock_core::Session;
-use pylock_program::{View, push_decimal, push_view};
+use pylock_program::{View, push_view};
+use pylock_run::push_decimal;
 use std::alloc::{AllocError, Global};
 
 fn session_in(kept: &Option<Box<Object>>) -> Result<&Session, Refusal>

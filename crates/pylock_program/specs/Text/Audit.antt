@@ -3,7 +3,7 @@ use Rattle.std.specs.Prelude.{ℕ, ◌++◌, List, [], ◌∷◌, codes, decimal
 use Rattle.std.specs.List.{flat_map}
 use Rattle.pylock_audit.specs.Finding.{FoundValue}
 use Rattle.pylock_audit.specs.Words.{finding_word}
-use Rattle.pylock_program.specs.Text.Field.{field, line_of}
+use Rattle.pylock_run.specs.Text.Field.{field, line_of}
 use Rattle.pylock_program.specs.Text.Safe.{safe_field}
 
 -- number, name, finding, detail

@@ -11,7 +11,7 @@ use Rattle.pylock_core.specs.Session.State.{State, entry_at}
 use Rattle.pylock_core.specs.Session.Steps.{head_fault}
 use Rattle.pylock_core.specs.declared.answer.FaultCode.{FaultCode}
 use Rattle.pylock_core.specs.declared.fate.Fate.{Fate}
-use Rattle.pylock_program.specs.Text.Field.{field, line_of}
+use Rattle.pylock_run.specs.Text.Field.{field, line_of}
 use Rattle.pylock_program.specs.Text.Safe.{safe_field}
 use Rattle.pylock_reasons.specs.Reasons.{detail, head_detail}
 use Rattle.pylock_reasons.specs.Words.{fault_word, verdict_word}

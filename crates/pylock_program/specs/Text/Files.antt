@@ -3,8 +3,8 @@ use Rattle.std.specs.Prelude.{ℕ, ◌+◌, ◌++◌, List, [], ◌∷◌, Optio
 use Rattle.std.specs.Prelude.{length, map}
 use Rattle.std.specs.List.{flat_map}
 use Rattle.pylock_readers.specs.Entry.{EntryValue}
-use Rattle.pylock_program.specs.Text.Plan.{archive_fields, directory_fields, file_fields}
-use Rattle.pylock_program.specs.Text.Plan.{source_line, vcs_fields}
+use Rattle.pylock_run.specs.Text.Plan.{archive_fields, directory_fields, file_fields}
+use Rattle.pylock_run.specs.Text.Plan.{source_line, vcs_fields}
 
 -- the fields of a source, where there is one
 abbrev pub where_there : {A : Type 0} → (A → List (List ℕ)) → Option A → List (List (List ℕ))

@@ -7,9 +7,9 @@ use Rattle.pylock_documents.specs.Documents.{refused_rows}
 use Rattle.pylock_json.specs.Json.{Row, document_text, members_of}
 use Rattle.pylock_readers.specs.declared.error.EnvError.{EnvError}
 use Rattle.pylock_readers.specs.declared.error.LockError.{LockError}
-use Rattle.pylock_program.specs.Text.Refusal.{environment_words, lock_words}
-use Rattle.pylock_program.specs.declared.report.opening.OpenError.{OpenError}
-use Rattle.pylock_program.specs.declared.report.opening.OpenError.TheVariants as open_error
+use Rattle.pylock_run.specs.Text.Refusal.{environment_words, lock_words}
+use Rattle.pylock_run.specs.declared.report.opening.OpenError.{OpenError}
+use Rattle.pylock_run.specs.declared.report.opening.OpenError.TheVariants as open_error
 
 -- a document of these members
 abbrev pub json_text : List Row → List ℕ

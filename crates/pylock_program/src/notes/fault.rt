@@ -1,9 +1,9 @@
 //! What a person is told of a fault.
 
 use crate::notes::tell_made;
-use crate::stream::Sink;
 use pylock_core::{Answer, Fate, FaultCode, Session};
 use pylock_reasons::{detail, fault_word, head_detail, verdict_word};
+use pylock_run::Sink;
 use std::alloc::{AllocError, Global};
 
 /// Tells where the fault of the answer is, and why, if the answer is one.

@@ -1,8 +1,7 @@
 //! What a person is told of a file that can't be read.
 
 use crate::notes::tell_made;
-use crate::stream::Sink;
-use crate::stream::whole::FileFault;
+use pylock_run::{FileFault, Sink};
 use std::alloc::Global;
 
 /// Tells which file can't be read, and why.

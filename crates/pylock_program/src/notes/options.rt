@@ -2,9 +2,9 @@
 
 use crate::choices::{around_equals, option_text, option_word};
 use crate::notes::{tell, tell_made};
-use crate::stream::Sink;
 use pylock_command::Choice;
 use pylock_core::Session;
+use pylock_run::Sink;
 use pymark_core::Var;
 use pyver_core::{is_name, normal_name};
 use std::alloc::{AllocError, Global};

@@ -2,9 +2,8 @@
 
 use crate::document::Document;
 use crate::notes::tell;
-use crate::report::fault::RunFault;
-use crate::stream::Sink;
 use pylock_messages::{environment_message, lock_message};
+use pylock_run::{RunFault, Sink};
 use std::alloc::Global;
 
 /// Where a call on these files ended with the status of a refusal, tells where the lock is wrong,

@@ -4,9 +4,9 @@ ghost use Rattle.std.specs.Prelude.{◌≡◌, ◌++◌, OnOk};
 ghost use Rattle.std.specs.List.{flat_map};
 ghost use Rattle.pylock_program.specs.Text.Audit.{finding_line, findings_text};
 
-use crate::text::field::{push_decimal, push_next, push_word};
 use crate::text::safe::push_next_safe;
 use pylock_audit::Found;
+use pylock_run::{push_decimal, push_next, push_word};
 use std::alloc::AllocError;
 
 /// Pushes `findings K` and a line for each finding.

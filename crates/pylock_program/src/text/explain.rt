@@ -4,17 +4,17 @@ ghost use Rattle.std.specs.Prelude.{◌≡◌, ◌++◌, ◌∷◌, [], IfOk, On
 ghost use Rattle.std.specs.List.{flat_map};
 ghost use Rattle.std.specs.Option.{option_copied};
 ghost use Rattle.pylock_core.specs.Session.Steps.{answer};
-ghost use Rattle.pylock_program.specs.Report.{is_plan};
+ghost use Rattle.pylock_run.specs.Report.{is_plan};
 ghost use Rattle.pylock_program.specs.Text.Explain.{entry_line, explain_text, fate_text};
 ghost use Rattle.pylock_program.specs.Text.Explain.{head_text};
 ghost use Rattle.pylock_program.specs.Text.Explain.{verdict_line};
-ghost use Rattle.pylock_program.specs.Text.Field.{line_of};
+ghost use Rattle.pylock_run.specs.Text.Field.{line_of};
 ghost use Rattle.pylock_program.specs.Text.Safe.{safe_field};
 
-use crate::text::field::{push_decimal, push_next, push_word};
 use crate::text::safe::push_next_safe;
 use pylock_core::{Answer, Entry, Fate, Session};
 use pylock_reasons::{detail, fault_word, head_detail, verdict_word};
+use pylock_run::{push_decimal, push_next, push_word};
 use std::alloc::{AllocError, Global};
 
 /// Pushes the lines of the head and of each entry, and answers whether the answer is a plan. Takes

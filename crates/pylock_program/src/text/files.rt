@@ -3,13 +3,12 @@
 ghost use Rattle.std.specs.Prelude.{◌≡◌, ◌++◌, IfOk, OnOk, codes, map, option_map};
 ghost use Rattle.std.specs.List.{flat_map};
 ghost use Rattle.pylock_core.specs.Session.Picks.{lent_source};
-ghost use Rattle.pylock_program.specs.Inner.Picked.{picked_fields};
+ghost use Rattle.pylock_run.specs.Text.Picked.{picked_fields};
 ghost use Rattle.pylock_program.specs.Text.Files.{each_source, files_text, lines_from, where_there};
-ghost use Rattle.pylock_program.specs.Text.Plan.{file_fields, source_line};
+ghost use Rattle.pylock_run.specs.Text.Plan.{file_fields, source_line};
 
-use crate::text::field::push_decimal;
-use crate::text::plan::push_source_line;
 use pylock_core::{Entry, PickSource, PickedSource};
+use pylock_run::{push_decimal, push_source_line};
 use std::alloc::{AllocError, Global};
 use std::marker::Model;
 
@@ -26,8 +25,8 @@ struct Named<'a> {
 impl<'a> Model for Named<'a> {
     ghost use Rattle.std.specs.Prelude.{List, ℕ};
     ghost use Rattle.pylock_core.specs.Session.Picks.{lent_source};
-    ghost use Rattle.pylock_program.specs.Inner.Picked.{picked_fields};
-    ghost use Rattle.pylock_program.specs.Text.Plan.{source_line};
+    ghost use Rattle.pylock_run.specs.Text.Picked.{picked_fields};
+    ghost use Rattle.pylock_run.specs.Text.Plan.{source_line};
 
     ghost Value = { List ℕ };
 

@@ -5,12 +5,11 @@ ghost use Rattle.pylock_program.specs.Text.Json.{environment_json, lock_json, op
 ghost use Rattle.pylock_program.specs.Text.Json.{refusal_json, refused_json};
 
 use crate::choices::{option_text, option_word};
-use crate::report::opening::OpenError;
-use crate::text::refusal::{entry_word, head_word};
 use pylock_command::Choice;
 use pylock_core::{EnvError, LockError};
 use pylock_documents::refused_document;
 use pylock_json::push_document;
+use pylock_run::{OpenError, entry_word, head_word};
 use std::alloc::{AllocError, Global};
 
 /// Pushes the document of a refusal, of these words.

@@ -1,8 +1,8 @@
 -- The line of a refusal is left in the words.
 use Rattle.std.proofs.Common.{rules, subst, Result}
 use Rattle.pytext.specs.Agreement.{Gives}
-use Rattle.pylock_program.specs.declared.report.opening.OpenError.{OpenError as Unopened}
-use Rattle.pylock_program.specs.declared.report.opening.OpenError.TheVariants.{Memory}
+use Rattle.pylock_run.specs.declared.report.opening.OpenError.{OpenError as Unopened}
+use Rattle.pylock_run.specs.declared.report.opening.OpenError.TheVariants.{Memory}
 use Rattle.pylock_c.specs.Slot.{object}
 use Rattle.pylock_c.specs.declared.object.Object.{Object as Kind}
 use Rattle.pylock_c.proofs.OpeningLemmas.{refused_opens}

@@ -2,7 +2,7 @@ use Rattle.std.proofs.Common.{◌≡◌, ◌++◌, ◌∷◌, ◌∙◌, ap, sym
 use Rattle.std.specs.Prelude.{◌==◌}
 use Rattle.std.specs.List.{join_by}
 use Rattle.pyver_core.specs.Name.{norm}
-use Rattle.pylock_program.specs.Text.Field.{field}
+use Rattle.pylock_run.specs.Text.Field.{field}
 use Rattle.pylock_program.specs.Reply.{names_text}
 use Rattle.pylock_program.proofs.ReplyLemmas.{joined_alike, some_names}
 use Rattle.pylock_program.proofs.reply.push_extras.Goals as goal

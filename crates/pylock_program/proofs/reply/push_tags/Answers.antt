@@ -1,7 +1,7 @@
 use Rattle.std.proofs.Common.{◌≡◌, ◌++◌, ◌∷◌, ◌∙◌, ap, subst, OnOk, Some, codes, string_bytes}
 use Rattle.std.specs.List.{join_by}
 use Rattle.pywheel_core.specs.Tag.{tag_text}
-use Rattle.pylock_program.specs.Text.Field.{field}
+use Rattle.pylock_run.specs.Text.Field.{field}
 use Rattle.pylock_program.proofs.ReplyLemmas.{joined_alike}
 use Rattle.pylock_program.proofs.reply.push_tags.Goals as goal
 

@@ -1,6 +1,6 @@
 use Rattle.std.proofs.Common.{◌≡◌, ◌++◌, map, take}
 use Rattle.std.specs.Prelude.{decimal}
-use Rattle.pylock_program.specs.Text.Field.{tabbed}
+use Rattle.pylock_run.specs.Text.Field.{tabbed}
 use Rattle.pylock_c.proofs.sessions.standing.push_more.Given as goal
 
 abbrev pub invariant-loop-number : goal.invariant-loop-number

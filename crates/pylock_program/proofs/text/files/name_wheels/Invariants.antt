@@ -1,5 +1,5 @@
 use Rattle.std.proofs.Common.{◌≡◌, ◌++◌, codes, map, take}
-use Rattle.pylock_program.specs.Text.Plan.{file_fields, source_line}
+use Rattle.pylock_run.specs.Text.Plan.{file_fields, source_line}
 use Rattle.pylock_program.proofs.text.files.name_wheels.Given as goal
 
 abbrev pub invariant-loop-wheel : goal.invariant-loop-wheel

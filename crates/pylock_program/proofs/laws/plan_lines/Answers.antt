@@ -1,5 +1,0 @@
-use Rattle.pylock_program.proofs.CountLemmas.{plan_text_lines}
-use Rattle.pylock_program.proofs.laws.plan_lines.Goals as goal
-
-pub returns : goal.returns
-returns c state plan is = plan_text_lines state plan (c.picks_stand.ensures state plan is)

@@ -1,8 +1,0 @@
-use Rattle.std.proofs.lemmas.Result.{err_from_is_err_and}
-use Rattle.pylock_program.proofs.ReadLemmas.{IsCause-after}
-use Rattle.pylock_program.proofs.stream.whole.read_pieces.Goals as goal
-
-pub returns-in_err-read_piece-clause-fault : goal.returns-in_err-read_piece-clause-fault
-returns-in_err-read_piece-clause-fault g c =
-    let error = err_from_is_err_and c.from_residual.result c.from_residual.ensures.1 in
-    rw (error.1, error.2) (IsCause-after _ _ _ _ _ _ _ c.pieces.invariant c.pieces.bytes.ok.0 c.in_err-read_piece.ensures.fault)

@@ -1,7 +1,0 @@
-use Rattle.std.proofs.Common.{◌≡◌, take}
-use Rattle.std.specs.List.{list_all}
-use Rattle.pylock_program.specs.Inner.Plain.{is_ordinary}
-use Rattle.pylock_program.proofs.text.field.are_ordinary.Given as goal
-
-abbrev pub invariant-loop-byte : goal.invariant-loop-byte
-invariant-loop-byte l = l.ordinary ≡ list_all is_ordinary (take l.byte-index l.bytes)

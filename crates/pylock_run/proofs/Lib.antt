@@ -1,0 +1,10 @@
+pub mod LineLemmas
+pub mod EditingLemmas
+pub mod TextLemmas
+pub mod PlainText
+pub mod ReadLemmas
+pub mod WriteLemmas
+pub mod RunLemmas
+pub mod ReportLemmas
+pub mod PieceLemmas
+pub mod CountLemmas

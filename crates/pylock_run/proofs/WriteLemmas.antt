@@ -1,0 +1,117 @@
+-- How far the write loop has come, and texts that are written in parts.
+use Rattle.std.proofs.Common.{◌≡◌, ℕ, ◌+◌, ◌-◌, ◌≤◌, List, [], ◌++◌, length, take, drop, refl, sym, ap, ◌∙◌, subst, append_assoc, append-nil, take-append-drop, length-drop, arith}
+use Rattle.std.proofs.KnownBytes.{Appends-nil, Appends-trans, Appends-kept}
+use Rattle.std.proofs.Math.Seq.{take-add}
+use Rattle.std.specs.Io.KnownBytes.{Appends, Keeps}
+use Rattle.pylock_run.specs.Inner.Writes.{Writes, Pours}
+use Rattle.pylock_run.specs.Stream.{SinkValue, TakesFront}
+
+-- the first bytes of the text were written, and no call failed
+pub record Wrote (old new : SinkValue) (text : List ℕ) (done : ℕ) : Type 0 where
+  pub within : done ≤ length text
+  pub writes : Writes old new (take done text)
+
+pub Writes-trans : (old mid new : SinkValue) (xs ys : List ℕ) → Writes old mid xs → Writes mid new ys → Writes old new (xs ++ ys)
+Writes-trans old mid new xs ys before after = record {
+  held = Appends-trans old.held mid.held new.held xs ys before.held after.held;
+  counted = after.counted ∙ before.counted;
+}
+
+pub within_more : (done taken size left : ℕ) → done ≤ size → left ≡ size - done → taken ≤ left → done + taken ≤ size
+within_more done taken size left before rest bound = omega arith
+
+-- what is left of a text has no more bytes than it
+pub Wrote-within : (old mid : SinkValue) (text part : List ℕ) (done taken : ℕ)
+    → Wrote old mid text done → part ≡ drop done text → taken ≤ length part → done + taken ≤ length text
+Wrote-within old mid text part done taken before left bound =
+    within_more done taken (length text) (length part) before.within (ap length left ∙ length-drop done text) bound
+
+-- the next bytes of a text behind those that were written
+next_held : (old mid new : SinkValue) (text part : List ℕ) (done taken : ℕ)
+    → Wrote old mid text done → part ≡ drop done text → Appends mid.held new.held (take taken part)
+    → Appends old.held new.held (take (done + taken) text)
+next_held old mid new text part done taken before left step =
+    subst (Appends old.held new.held) (ap (λ bs. take done text ++ take taken bs) left ∙ sym (take-add done taken text))
+    (Appends-trans old.held mid.held new.held (take done text) (take taken part) before.writes.held step)
+
+-- a call took more of what was left
+pub Wrote-more : (old mid new : SinkValue) (text part : List ℕ) (done taken : ℕ)
+    → Wrote old mid text done → part ≡ drop done text → taken ≤ length part → Appends mid.held new.held (take taken part)
+    → new.failures ≡ mid.failures → Wrote old new text (done + taken)
+Wrote-more old mid new text part done taken before left bound step same = record {
+  within = Wrote-within old mid text part done taken before left bound;
+  writes = record {
+    held = next_held old mid new text part done taken before left step;
+    counted = same ∙ before.writes.counted;
+  };
+}
+
+-- whatever the last call took, a front of the text was written
+pub Wrote-front : (old mid new : SinkValue) (text part : List ℕ) (done taken : ℕ)
+    → Wrote old mid text done → part ≡ drop done text → Appends mid.held new.held (take taken part) → TakesFront old new text
+Wrote-front old mid new text part done taken before left step = record {
+  front = take (done + taken) text;
+  back = drop (done + taken) text;
+  whole = sym (take-append-drop (done + taken) text);
+  held = next_held old mid new text part done taken before left step;
+}
+
+-- the last call took nothing
+pub Wrote-front_same : (old mid new : SinkValue) (text : List ℕ) (done : ℕ) → Wrote old mid text done → Keeps mid.held new.held → TakesFront old new text
+Wrote-front_same old mid new text done before same = record {
+  front = take done text;
+  back = drop done text;
+  whole = sym (take-append-drop done text);
+  held = Appends-kept old.held mid.held new.held (take done text) before.writes.held same;
+}
+
+-- a text in parts
+
+-- what stood in hand was written
+pub Pours-flush : (old new : SinkValue) (text out : List ℕ) → Writes old new text → out ≡ [] → Pours old new text out
+Pours-flush old new text out writes empty = record { written = text; whole = sym (append-nil text) ∙ ap (λ o. text ++ o) (sym empty); writes = writes }
+
+-- more text, part of which was written after that
+pub Pours-more : (old mid new : SinkValue) (text out more last : List ℕ) → Pours old mid text out → Pours mid new (out ++ more) last
+    → Pours old new (text ++ more) last
+Pours-more old mid new text out more last before after = record {
+  written = before.written ++ after.written;
+  whole = ap (λ t. t ++ more) before.whole ∙ append_assoc before.written out more ∙ ap (λ t. before.written ++ t) after.whole
+      ∙ sym (append_assoc before.written after.written last);
+  writes = Writes-trans old mid new before.written after.written before.writes after.writes;
+}
+
+-- all of it was written in the end
+pub Pours-all : (old mid new : SinkValue) (text out : List ℕ) → Pours old mid text out → Writes mid new out → Writes old new text
+Pours-all old mid new text out before last =
+    subst (Writes old new) (sym before.whole) (Writes-trans old mid new before.written out before.writes last)
+
+-- a front of it was
+pub front_more : (old new : SinkValue) (text more : List ℕ) → TakesFront old new text → TakesFront old new (text ++ more)
+front_more old new text more written = record {
+  front = written.front;
+  back = written.back ++ more;
+  whole = ap (λ t. t ++ more) written.whole ∙ append_assoc written.front written.back more;
+  held = written.held;
+}
+
+pub front_after : (old mid new : SinkValue) (text out more : List ℕ) → Pours old mid text out → TakesFront mid new (out ++ more)
+    → TakesFront old new (text ++ more)
+front_after old mid new text out more before after = record {
+  front = before.written ++ after.front;
+  back = after.back;
+  whole = ap (λ t. t ++ more) before.whole ∙ append_assoc before.written out more ∙ ap (λ t. before.written ++ t) after.whole
+      ∙ sym (append_assoc before.written after.front after.back);
+  held = Appends-trans old.held mid.held new.held before.written after.front before.writes.held after.held;
+}
+
+pub front_none : (sink : SinkValue) (text : List ℕ) → TakesFront sink sink text
+front_none sink text = record { front = []; back = text; whole = refl; held = Appends-nil sink.held }
+
+pub front_same : (old new : SinkValue) (text other : List ℕ) → text ≡ other → TakesFront old new text → TakesFront old new other
+front_same old new text other same written = record { front = written.front; back = written.back; whole = sym same ∙ written.whole; held = written.held }
+
+pub front_after_all : (old mid new : SinkValue) (text out : List ℕ) → Pours old mid text out → TakesFront mid new out → TakesFront old new text
+front_after_all old mid new text out before after =
+    front_same old new (text ++ []) text (append-nil text)
+    (front_after old mid new text out [] before (front_same mid new out (out ++ []) (sym (append-nil out)) after))

@@ -1,0 +1,85 @@
+-- The editing of a session byte by byte: what `report` says of the lines, as a run has it in hand
+-- after a part of the input.
+use Rattle.std.specs.Prelude.{ℕ, ◌+◌, ◌==◌, ◌++◌, ◌||◌, Bool, false, if◌then◌else◌, length, take}
+use Rattle.std.specs.Prelude.{min}
+use Rattle.std.specs.Prelude.{List, [], ◌∷◌, Result, Ok, Err}
+use Rattle.std.specs.Result.{is_err}
+use Rattle.pylock_core.specs.Session.State.{State}
+use Rattle.pylock_core.specs.Session.Steps.{answer}
+use Rattle.pylock_run.specs.declared.line.refusal.LineRefusal.{LineRefusal}
+use Rattle.pylock_run.specs.Report.{is_plan, after_line, state_after, line_text}
+use Rattle.pylock_run.specs.Line.{line_limit}
+
+-- what is kept of a line: enough to tell that it is too long
+unfoldable pub kept : List ℕ → List ℕ
+kept line = take (line_limit + 1) line
+
+-- the state of the session, whether its last answer was a plan, the number of ended lines, whether
+-- one of them was refused, and what is kept of the line that is being read
+pub record At : Type 0 where
+  pub state : State
+  pub plan : Bool
+  pub ended : ℕ
+  pub refused : Bool
+  pub line : List ℕ
+
+-- before the first byte of the input
+abbrev pub start : State → At
+start state = record {
+  state = state;
+  plan = is_plan (answer state);
+  ended = 0;
+  refused = false;
+  line = [];
+}
+
+-- whether the last answer is a plan, after a line
+abbrev pub plan_after : Bool → Result State LineRefusal → Bool
+plan_after plan (Ok state) = is_plan (answer state)
+plan_after plan (Err refused) = plan
+
+-- the line ends
+unfoldable pub end_line : At → At
+end_line at = record {
+  state = state_after at.state at.line;
+  plan = plan_after at.plan (after_line at.state at.line);
+  ended = at.ended + 1;
+  refused = at.refused || is_err (after_line at.state at.line);
+  line = [];
+}
+
+unfoldable pub end_text : At → List ℕ
+end_text at = line_text at.state (at.ended + 1) at.line
+
+-- a byte of a line, which is no LF
+abbrev pub keep_byte : At → ℕ → At
+keep_byte at b = record at { line = kept (at.line ++ b ∷ []) }
+
+-- a part of the input
+abbrev pub bytes_done : At → List ℕ → At
+bytes_done at [] = at
+bytes_done at (b ∷ bs) = bytes_done (if b == 10 then end_line at else keep_byte at b) bs
+
+abbrev pub bytes_text : At → List ℕ → List ℕ
+bytes_text at [] = []
+bytes_text at (b ∷ bs) =
+    if b == 10 then end_text at ++ bytes_text (end_line at) bs else bytes_text (keep_byte at b) bs
+
+-- the end of the input, where a line without LF counts if it is not empty
+abbrev pub finish : At → List ℕ → At
+finish at [] = at
+finish at (b ∷ line) = end_line at
+
+abbrev pub finish_text : At → List ℕ → List ℕ
+finish_text at [] = []
+finish_text at (b ∷ line) = end_text at
+
+abbrev pub finished : At → At
+finished at = finish at at.line
+
+abbrev pub finished_text : At → List ℕ
+finished_text at = finish_text at at.line
+
+-- the lines so far, with the one that is being read
+abbrev pub lines_begun : At → ℕ
+lines_begun at = at.ended + min 1 (length at.line)

@@ -1,0 +1,53 @@
+-- What follows the command of a line: its argument, absent where no space follows the command.
+use Rattle.std.specs.Prelude.{ℕ, ◌==◌, ◌&&◌, not, false, nat_le, Bool, length}
+use Rattle.std.specs.Prelude.{List, [], ◌∷◌, if◌then◌else◌, Option, Some, None, filter, Result, Ok}
+use Rattle.std.specs.Prelude.{Err}
+use Rattle.std.specs.Option.{ok_or}
+use Rattle.std.specs.List.{before_first, after_first, list_any, list_all, slice_split}
+use Rattle.std.specs.Char.{is_ascii_digit}
+use Rattle.std.specs.Str.Parse.{digits_value}
+use Rattle.pylock_run.specs.declared.line.refusal.LineRefusal.{LineRefusal}
+use Rattle.pylock_run.specs.declared.line.refusal.LineRefusal.TheVariants as refusal
+
+abbrev pub is_space : ℕ → Bool
+is_space b = b == 32
+
+-- the argument, which has to be there
+abbrev pub given : Option (List ℕ) → Result (List ℕ) LineRefusal
+given argument = ok_or argument refusal.Argument
+
+-- a text that isn't empty
+abbrev pub filled : List ℕ → Result (List ℕ) LineRefusal
+filled [] = Err refusal.Argument
+filled (b ∷ bs) = Ok (b ∷ bs)
+
+-- what stands before and behind the first space, which has to be there
+abbrev pub around_space : List ℕ → Result (List ℕ × List ℕ) LineRefusal
+around_space text =
+    if list_any is_space text
+    then Ok (before_first is_space text, after_first is_space text)
+    else Err refusal.Argument
+
+-- an entry's number: one to six digits, the first not `0`
+abbrev pub is_entry_number : List ℕ → Bool
+is_entry_number [] = false
+is_entry_number (first ∷ rest) =
+    not (first == 48) && nat_le (length (first ∷ rest)) 6 && list_all is_ascii_digit (first ∷ rest)
+
+abbrev pub entry_number : List ℕ → Option ℕ
+entry_number text = if is_entry_number text then Some (digits_value 10 text) else None
+
+abbrev pub number_argument : List ℕ → Result ℕ LineRefusal
+number_argument text = ok_or (entry_number text) refusal.Argument
+
+-- the pieces between the spaces that aren't empty
+abbrev pub is_filled : List ℕ → Bool
+is_filled text = not (length text == 0)
+
+abbrev pub pieces : List ℕ → List (List ℕ)
+pieces text = filter is_filled (slice_split is_space text)
+
+-- the pieces of an argument, none where it is absent
+abbrev pub pieces_of : Option (List ℕ) → List (List ℕ)
+pieces_of None = []
+pieces_of (Some text) = pieces text

@@ -1,0 +1,53 @@
+//! Runs of pylock: edit lines, the lines of an answer and of a refusal, and the edits of a session
+//! by all of an input, over sources and sinks of bytes.
+//!
+//! It stands on `pylock_core`, whose sessions it edits, and on the words of `pylock_reasons`. The
+//! host gives it a [`Source`] of bytes and a [`Sink`]; so it runs over memory too ([`Pieces`],
+//! [`Room`]), where its contracts say each byte.
+//!
+//! Begin with [`run`], whose contract is the headline of `docs/CONTRACTS.md`: the first answer, and
+//! an answer after each edit line. [`open`] starts the session of a lock and an environment, and
+//! [`read_line`] reads one line. The commands that stand on this are in `pylock_program`.
+//!
+//! A run over an input in memory, from `crates/cases/src/runs.rt`:
+//!
+//! ```rust
+//! let mut text = Vec::new(alloc);
+//! let mut reader = Pieces::new(input, PIECE, None);
+//! let mut writer = ToWrite::new(&mut text);
+//! let end = run(
+//!     alloc,
+//!     &inputs.lock,
+//!     &inputs.environment,
+//!     &mut reader,
+//!     &mut writer,
+//! );
+//! ```
+#![tactic(auto)]
+
+mod files;
+pub mod laws;
+mod line;
+mod report;
+mod stream;
+mod text;
+
+pub use files::{FILE_BYTES, Files, open_fault, read_both, read_file};
+pub use line::commands::{Command, label};
+pub use line::refusal::LineRefusal;
+pub use line::{LINE_LIMIT, read_line};
+pub use report::editing::push_standing;
+pub use report::fault::RunFault;
+pub use report::opening::{OpenError, open};
+pub use report::print::print;
+pub use report::run::{run, run_whole};
+pub use stream::memory::{Pieces, Room};
+pub use stream::whole::{FileFault, read_whole};
+pub use stream::wrapper::{FromRead, ToWrite};
+pub use stream::writer::write_all;
+pub use stream::{IoFault, Sink, Source};
+pub use text::field::{push_decimal, push_field, push_last_word, push_next, push_word};
+pub use text::plan::push_source_line;
+pub use text::refusal::{
+    entry_word, head_word, push_environment_error, push_lock_error, push_refusal,
+};

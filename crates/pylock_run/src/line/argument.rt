@@ -1,0 +1,101 @@
+//! What follows the command of a line: its argument.
+
+ghost use Rattle.std.specs.Prelude.{◌≡◌, ◌++◌, ◌∷◌, [], Ok, OnOk, filter, map};
+ghost use Rattle.std.specs.Option.{option_copied};
+ghost use Rattle.pytext.specs.Agreement.{Gives};
+ghost use Rattle.pylock_run.specs.Line.Argument.{given, filled, around_space, number_argument};
+ghost use Rattle.pylock_run.specs.Line.Argument.{entry_number};
+ghost use Rattle.pylock_run.specs.Line.Argument.{is_entry_number, is_filled, pieces, pieces_of};
+
+use crate::line::refusal::LineRefusal;
+use pytext::are_digits;
+use std::alloc::{AllocError, Global};
+
+/// The argument, which has to be there.
+pub fn given<'a>(argument: Option<&'a str>) -> Result<&'a str, LineRefusal>
+    ensures { Gives LineRefusal.Memory (λ text. text.now) result
+        (given (option_copied argument.entry)) }
+{
+    argument.ok_or(LineRefusal::Argument)
+}
+
+/// A text that isn't empty.
+pub fn filled(text: &str) -> Result<&str, LineRefusal>
+    ensures { Gives LineRefusal.Memory (λ text. text.now) result (filled text.now) }
+{
+    if text.is_empty() {
+        return Err(LineRefusal::Argument);
+    }
+    Ok(text)
+}
+
+/// What stands before and behind the first space, which has to be there.
+pub fn around_space(text: &str) -> Result<(&str, &str), LineRefusal>
+    ensures { Gives LineRefusal.Memory (λ cut. (cut.0.now, cut.1.now)) result
+        (around_space text.now) }
+{
+    match text.split_once(' ') {
+        Some((front, back)) => Ok((front, back)),
+        None => Err(LineRefusal::Argument),
+    }
+}
+
+/// The number of an entry.
+pub fn number_argument(text: &str) -> Result<u32, LineRefusal>
+    ensures { Gives LineRefusal.Memory (λ number. number) result (number_argument text.now) }
+{
+    parse_entry_number(text).ok_or(LineRefusal::Argument)
+}
+
+/// An entry's number: one to six digits, the first not `0`.
+fn parse_entry_number(id: &str) -> Option<u32>
+    ensures { result ≡ entry_number id.now }
+{
+    if !is_entry_number(id.as_bytes()) {
+        return None;
+    }
+    id.parse().ok()
+}
+
+fn is_entry_number(digits: &[u8]) -> bool
+    ensures { result ≡ is_entry_number digits.now }
+{
+    let Some(first) = digits.first() else {
+        return false;
+    };
+    *first != b'0' && digits.len() <= 6 && are_digits(digits)
+}
+
+/// The pieces of an argument between its spaces, without the empty ones; none where it is absent.
+pub fn pieces_of<'a>(alloc: Global, argument: Option<&'a str>) -> Result<Vec<&'a str>, LineRefusal>
+    ensures { Gives LineRefusal.Memory (λ texts. map (λ text. text.now) texts.items) result
+        (Ok (pieces_of (option_copied argument.entry))) }
+{
+    match argument {
+        None => Ok(Vec::new(alloc)),
+        Some(text) => pieces(alloc, text),
+    }
+}
+
+/// The pieces of a text between its spaces, without the empty ones.
+fn pieces(alloc: Global, text: &str) -> Result<Vec<&str>, LineRefusal>
+    ensures { Gives LineRefusal.Memory (λ texts. map (λ text. text.now) texts.items) result
+        (Ok (pieces text.now)) }
+{
+    let mut texts = Vec::new(alloc);
+    for piece in text.split(' ') {
+        push_filled(&mut texts, piece)?;
+    }
+    Ok(texts)
+}
+
+/// Pushes a piece that isn't empty.
+fn push_filled<'a>(texts: &mut Vec<&'a str>, piece: &'a str) -> Result<(), AllocError>
+    ensures { OnOk result (map (λ text. text.now) texts.new.items
+        ≡ map (λ text. text.now) texts.old.items ++ filter is_filled (piece.now ∷ [])) }
+{
+    if !piece.is_empty() {
+        texts.push(piece)?;
+    }
+    Ok(())
+}

@@ -1,0 +1,212 @@
+//! The commands of an input.
+
+ghost use Rattle.std.specs.Prelude.{◌≡◌, IfOk};
+ghost use Rattle.std.specs.Option.{option_copied};
+ghost use Rattle.pytext.specs.Agreement.{Gives};
+ghost use Rattle.pylock_run.specs.Line.Commands.{variable_argument, entry_argument};
+ghost use Rattle.pylock_run.specs.Line.Commands.{policy_argument, name_after};
+ghost use Rattle.pylock_run.specs.Line.Commands.{show_after, set_after, unset_after};
+ghost use Rattle.pylock_run.specs.Line.Commands.{add_extra_after};
+ghost use Rattle.pylock_run.specs.Line.Commands.{drop_extra_after, add_group_after};
+ghost use Rattle.pylock_run.specs.Line.Commands.{drop_group_after};
+ghost use Rattle.pylock_run.specs.Line.Commands.{tags_after, add_after, put_after, del_after};
+ghost use Rattle.pylock_run.specs.Line.Commands.{policy_after, edit_after, command_after};
+
+use crate::line::argument::{around_space, filled, given, number_argument, pieces_of};
+use crate::line::refusal::LineRefusal;
+use pylock_core::{Edit, Entry, Policy};
+use pymark_core::Var;
+use pyver_core::{Label, is_name};
+use pywheel_core::TagList;
+use std::alloc::{AllocError, Global};
+
+/// What a line asks for.
+#[derive(Drop)]
+pub enum Command {
+    /// The answer as it stands.
+    Show,
+    /// An edit of the session.
+    Edit(Edit),
+}
+
+/// What a command's word and its argument ask for. It takes memory for what the edit holds.
+#[tactic(auto, unfolding(crate::specs::Line::Commands::command_after))]
+pub fn read_command(
+    alloc: Global,
+    word: &str,
+    argument: Option<&str>,
+) -> Result<Command, LineRefusal>
+    ensures { Gives LineRefusal.Memory (λ c. c) result
+        (command_after word.now (option_copied argument.entry)) }
+{
+    if word == "show" {
+        return show(argument);
+    }
+    let edit = edit(alloc, word, argument)?;
+    Ok(Command::Edit(edit))
+}
+
+fn show(argument: Option<&str>) -> Result<Command, LineRefusal>
+    ensures { Gives LineRefusal.Memory (λ c. c) result (show_after (option_copied argument.entry)) }
+{
+    match argument {
+        None => Ok(Command::Show),
+        Some(_) => Err(LineRefusal::Argument),
+    }
+}
+
+#[tactic(auto, unfolding(crate::specs::Line::Commands::edit_after))]
+fn edit(alloc: Global, word: &str, argument: Option<&str>) -> Result<Edit, LineRefusal>
+    ensures { Gives LineRefusal.Memory (λ e. e) result
+        (edit_after word.now (option_copied argument.entry)) }
+{
+    match word {
+        "set" => set(alloc, argument),
+        "unset" => unset(argument),
+        "extra+" => add_extra(alloc, argument),
+        "extra-" => drop_extra(alloc, argument),
+        "group+" => add_group(alloc, argument),
+        "group-" => drop_group(alloc, argument),
+        "tags" => tags(alloc, argument),
+        "add" => add(alloc, argument),
+        "put" => put(alloc, argument),
+        "del" => del(argument),
+        "policy" => policy(alloc, argument),
+        _ => Err(LineRefusal::Command),
+    }
+}
+
+#[tactic(auto, unfolding(crate::specs::Line::Commands::set_after))]
+fn set(alloc: Global, argument: Option<&str>) -> Result<Edit, LineRefusal>
+    ensures { Gives LineRefusal.Memory (λ e. e) result (set_after (option_copied argument.entry)) }
+{
+    let (name, value) = around_space(given(argument)?)?;
+    let variable = variable_argument(name)?;
+    Ok(Edit::Set(variable, label(alloc, value)?))
+}
+
+#[tactic(auto, unfolding(crate::specs::Line::Commands::unset_after))]
+fn unset(argument: Option<&str>) -> Result<Edit, LineRefusal>
+    ensures { Gives LineRefusal.Memory (λ e. e) result
+        (unset_after (option_copied argument.entry)) }
+{
+    let variable = variable_argument(filled(given(argument)?)?)?;
+    Ok(Edit::Unset(variable))
+}
+
+#[tactic(auto, unfolding(crate::specs::Line::Commands::add_extra_after))]
+fn add_extra(alloc: Global, argument: Option<&str>) -> Result<Edit, LineRefusal>
+    ensures { Gives LineRefusal.Memory (λ e. e) result
+        (add_extra_after (option_copied argument.entry)) }
+{
+    Ok(Edit::AddExtra(name(alloc, LineRefusal::Extra, argument)?))
+}
+
+#[tactic(auto, unfolding(crate::specs::Line::Commands::drop_extra_after))]
+fn drop_extra(alloc: Global, argument: Option<&str>) -> Result<Edit, LineRefusal>
+    ensures { Gives LineRefusal.Memory (λ e. e) result
+        (drop_extra_after (option_copied argument.entry)) }
+{
+    Ok(Edit::DropExtra(name(alloc, LineRefusal::Extra, argument)?))
+}
+
+#[tactic(auto, unfolding(crate::specs::Line::Commands::add_group_after))]
+fn add_group(alloc: Global, argument: Option<&str>) -> Result<Edit, LineRefusal>
+    ensures { Gives LineRefusal.Memory (λ e. e) result
+        (add_group_after (option_copied argument.entry)) }
+{
+    Ok(Edit::AddGroup(name(alloc, LineRefusal::Group, argument)?))
+}
+
+#[tactic(auto, unfolding(crate::specs::Line::Commands::drop_group_after))]
+fn drop_group(alloc: Global, argument: Option<&str>) -> Result<Edit, LineRefusal>
+    ensures { Gives LineRefusal.Memory (λ e. e) result
+        (drop_group_after (option_copied argument.entry)) }
+{
+    Ok(Edit::DropGroup(name(alloc, LineRefusal::Group, argument)?))
+}
+
+#[tactic(auto, unfolding(crate::specs::Line::Commands::tags_after))]
+fn tags(alloc: Global, argument: Option<&str>) -> Result<Edit, LineRefusal>
+    ensures { Gives LineRefusal.Memory (λ e. e) result (tags_after (option_copied argument.entry)) }
+{
+    let texts = pieces_of(alloc, argument)?;
+    Ok(Edit::Tags(TagList::parse(alloc, &texts)?))
+}
+
+#[tactic(auto, unfolding(crate::specs::Line::Commands::add_after))]
+fn add(alloc: Global, argument: Option<&str>) -> Result<Edit, LineRefusal>
+    ensures { Gives LineRefusal.Memory (λ e. e) result (add_after (option_copied argument.entry)) }
+{
+    let text = filled(given(argument)?)?;
+    Ok(Edit::Add(Entry::read_text(alloc, text)?))
+}
+
+#[tactic(auto, unfolding(crate::specs::Line::Commands::put_after))]
+fn put(alloc: Global, argument: Option<&str>) -> Result<Edit, LineRefusal>
+    ensures { Gives LineRefusal.Memory (λ e. e) result (put_after (option_copied argument.entry)) }
+{
+    let (id, text) = around_space(given(argument)?)?;
+    let number = number_argument(id)?;
+    let text = filled(text)?;
+    Ok(Edit::Put(number, Entry::read_text(alloc, text)?))
+}
+
+#[tactic(auto, unfolding(crate::specs::Line::Commands::del_after))]
+fn del(argument: Option<&str>) -> Result<Edit, LineRefusal>
+    ensures { Gives LineRefusal.Memory (λ e. e) result (del_after (option_copied argument.entry)) }
+{
+    let number = number_argument(given(argument)?)?;
+    Ok(Edit::Del(number))
+}
+
+#[tactic(auto, unfolding(crate::specs::Line::Commands::policy_after))]
+fn policy(alloc: Global, argument: Option<&str>) -> Result<Edit, LineRefusal>
+    ensures { Gives LineRefusal.Memory (λ e. e) result
+        (policy_after (option_copied argument.entry)) }
+{
+    let (name, word) = around_space(given(argument)?)?;
+    let policy = policy_argument(word)?;
+    if !is_name(name) {
+        return Err(LineRefusal::Name);
+    }
+    Ok(Edit::Policy(label(alloc, name)?, policy))
+}
+
+/// The variable of markers that has this name.
+fn variable_argument(name: &str) -> Result<Var, LineRefusal>
+    ensures { Gives LineRefusal.Memory (λ v. v) result (variable_argument name.now) }
+{
+    Var::of(name).ok_or(LineRefusal::Variable)
+}
+
+fn policy_argument(word: &str) -> Result<Policy, LineRefusal>
+    ensures { Gives LineRefusal.Memory (λ p. p) result (policy_argument word.now) }
+{
+    match word {
+        "any" => Ok(Policy::Any),
+        "wheel" => Ok(Policy::Wheel),
+        "source" => Ok(Policy::Source),
+        _ => Err(LineRefusal::Argument),
+    }
+}
+
+/// The argument, which has to be a name.
+#[tactic(auto, unfolding(crate::specs::Line::Commands::name_after))]
+fn name(alloc: Global, unknown: LineRefusal, argument: Option<&str>) -> Result<Label, LineRefusal>
+    ensures { Gives LineRefusal.Memory (λ l. l) result
+        (name_after unknown (option_copied argument.entry)) }
+{
+    let text = filled(given(argument)?)?;
+    if !is_name(text) {
+        return Err(unknown);
+    }
+    Ok(label(alloc, text)?)
+}
+
+/// The text, as edits hold it.
+pub fn label(alloc: Global, text: &str) -> Result<Label, AllocError>
+    ensures { IfOk result (λ label. label ≡ text.now) }
+{
+    Ok(Label::new(String::from_str(alloc, text)?))
+}

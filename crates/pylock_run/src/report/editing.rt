@@ -1,0 +1,220 @@
+//! The editing of a session by the bytes of the input, in whatever pieces they come.
+
+ghost use Rattle.std.specs.Prelude.{◌≡◌, ◌++◌, ◌<◌, ◌≤◌, ◌+◌, not, ◌&&◌, if◌then◌else◌, length};
+ghost use Rattle.std.specs.Prelude.{take};
+ghost use Rattle.std.specs.Prelude.{Ok, Err, OnOk, IfOk, IfErr, OnErr};
+ghost use Rattle.pylock_core.specs.Session.Steps.{answer};
+ghost use Rattle.std.specs.List.{position};
+ghost use Rattle.pytext.specs.Agreement.{Gives};
+ghost use Rattle.pylock_run.specs.Line.{is_lf};
+ghost use Rattle.pylock_run.specs.Report.{is_plan, after_line, standing_text};
+ghost use Rattle.pylock_run.specs.Report.Run.{most_lines};
+ghost use Rattle.pylock_run.specs.Inner.Editing.{start, kept, end_line, end_text, bytes_done};
+ghost use Rattle.pylock_run.specs.Inner.Editing.{bytes_text};
+ghost use Rattle.pylock_run.specs.Inner.Editing.{finished, finished_text, lines_begun};
+ghost use Rattle.pylock_run.specs.Inner.Faults.{IsTakeFault};
+
+use crate::line::commands::Command;
+use crate::line::refusal::LineRefusal;
+use crate::line::{LINE_LIMIT, read_line};
+use crate::report::fault::RunFault;
+use crate::text::plan::push_answer;
+use crate::text::refusal::push_refused;
+use pylock_core::{Answer, Session};
+use std::alloc::{AllocError, Global};
+use std::marker::Model;
+
+/// The most lines that an input has.
+pub const LINES: u64 = 1_000_000;
+
+/// A session, and how far its editing has come.
+pub struct Editing {
+    alloc: Global,
+    session: Session,
+    /// Whether the last answer was a plan.
+    plan: bool,
+    /// How many lines have ended.
+    ended: u64,
+    /// Whether one of them was refused.
+    refused: bool,
+    /// What is kept of the line that is being read: of one that is too long, `LINE_LIMIT + 1`
+    /// bytes.
+    line: Vec<u8>,
+}
+
+impl Model for Editing {
+    ghost use Rattle.std.specs.Prelude.{◌≤◌, ◌+◌, min, vec_len};
+    ghost use Rattle.std.specs.Cmp.Lexicographic.{slice_cmp};
+    ghost use Rattle.std.specs.Coded.{codes, coded_list, coded_ℕ};
+    ghost use Rattle.std.specs.FinMap as map_of;
+    ghost use Rattle.std.specs.Ordering.{nat_cmp};
+    ghost use Rattle.pymark_core.specs.Environment.{environment_code};
+    ghost use Rattle.pymark_core.specs.Marker.Coding.{marker_code};
+    ghost use Rattle.pylock_core.specs.contracts.edit.Policy as policy;
+    ghost use Rattle.pylock_run.specs.Inner.Editing.{At};
+    ghost use Rattle.pylock_run.specs.Line.{line_limit};
+    ghost use Rattle.pylock_run.specs.Report.Run.{most_lines};
+
+    ghost Value = { At };
+
+    ghost coded = { Prim.hlevel (
+      codes,
+      marker_code,
+      environment_code,
+      map_of.code {R = slice_cmp nat_cmp} (coded_list coded_ℕ) policy.the_row.coded,
+    ) };
+
+    ghost view = { λ e. record {
+      state = e.session.state;
+      plan = e.plan;
+      ended = e.ended;
+      refused = e.refused;
+      line = e.line.items;
+    } };
+
+    ghost invariant = { λ e. (vec_len e.line ≤ line_limit + 1)
+        × (e.ended + min 1 (vec_len e.line) ≤ most_lines) };
+}
+
+impl Drop for Editing {
+    fn drop(self) {
+        let Editing {
+            alloc: _,
+            session: _,
+            plan: _,
+            ended: _,
+            refused: _,
+            line: _,
+        } = self;
+    }
+}
+
+impl Editing {
+    /// Pushes the first answer.
+    pub fn start(alloc: Global, session: Session, out: &mut Vec<u8>) -> Result<Editing, AllocError>
+        ensures editing { IfOk result (λ editing. editing ≡ start session.state) }
+        ensures text { OnOk result (out.new.items ≡ out.old.items ++ standing_text session.state) }
+    {
+        let plan = push_standing(&session, out)?;
+        Ok(Editing {
+            alloc,
+            session,
+            plan,
+            ended: 0,
+            refused: false,
+            line: Vec::new(alloc),
+        })
+    }
+
+    /// Takes the bytes up to the first LF and that LF, or all bytes where there is none, and
+    /// answers how many. Where a line ends, what it prints is pushed.
+    pub fn take(&mut self, bytes: &[u8], out: &mut Vec<u8>) -> Result<usize, RunFault>
+        requires { 0 < length bytes.now }
+        ensures some { IfOk result (λ count. (0 < count) × (count ≤ length bytes.now)) }
+        ensures editing { IfOk result (λ count. self.new
+            ≡ bytes_done self.old (take count bytes.now)) }
+        ensures text { IfOk result (λ count. out.new.items
+            ≡ out.old.items ++ bytes_text self.old (take count bytes.now)) }
+        ensures fault { IfErr result (IsTakeFault self.old.ended) }
+    {
+        if self.ended == LINES {
+            return Err(RunFault::Input);
+        }
+        match line_end(bytes) {
+            Some(place) => {
+                self.keep(&bytes[..place])?;
+                self.end_line(out)?;
+                Ok(place + 1)
+            }
+            None => {
+                self.keep(bytes)?;
+                Ok(bytes.len())
+            }
+        }
+    }
+
+    /// The end of the input, where a line without LF counts if it is not empty.
+    pub fn finish(&mut self, out: &mut Vec<u8>) -> Result<(), AllocError>
+        ensures editing { OnOk result (self.new ≡ finished self.old) }
+        ensures text { OnOk result (out.new.items ≡ out.old.items ++ finished_text self.old) }
+        ensures within { lines_begun self.old ≤ most_lines }
+    {
+        if self.line.is_empty() {
+            return Ok(());
+        }
+        self.end_line(out)
+    }
+
+    /// The status of the run: 0 where the last answer was a plan and no line was refused.
+    pub fn status(&self) -> u8
+        ensures { result ≡ (if self.now.plan && not self.now.refused then 0 else 1) }
+    {
+        if self.plan && !self.refused { 0 } else { 1 }
+    }
+
+    /// Keeps more bytes of the line, as far as they are needed to tell that it is too long.
+    #[tactic(auto, using(crate::proofs::EditingLemmas::kept_room))]
+    fn keep(&mut self, bytes: &[u8]) -> Result<(), AllocError>
+        requires { self.old.ended < most_lines }
+        ensures { OnOk result (self.new
+            ≡ record self.old { line = kept (self.old.line ++ bytes.now) }) }
+    {
+        let room = LINE_LIMIT + 1 - self.line.len();
+        let count = bytes.len().min(room);
+        self.line.extend_from_slice(&bytes[..count])
+    }
+
+    /// Ends the line, and pushes the answer after it or its refusal.
+    #[tactic(auto, unfolding(crate::specs::Inner::Editing::end_line))]
+    fn end_line(&mut self, out: &mut Vec<u8>) -> Result<(), AllocError>
+        requires { self.old.ended < most_lines }
+        ensures editing { OnOk result (self.new ≡ end_line self.old) }
+        ensures text { OnOk result (out.new.items ≡ out.old.items ++ end_text self.old) }
+    {
+        let outcome = obey(self.alloc, &mut self.session, &self.line);
+        self.ended += 1;
+        self.line.clear();
+        match outcome {
+            Ok(()) => self.plan = push_standing(&self.session, out)?,
+            Err(LineRefusal::Memory) => return Err(AllocError),
+            Err(refusal) => {
+                self.refused = true;
+                push_refused(out, self.ended, refusal)?;
+            }
+        }
+        Ok(())
+    }
+}
+
+/// Does what the line says.
+#[tactic(auto, unfolding(crate::specs::Report::after_line))]
+fn obey(alloc: Global, session: &mut Session, line: &[u8]) -> Result<(), LineRefusal>
+    ensures obeyed { Gives LineRefusal.Memory (λ _. session.new.state) result
+        (after_line session.old.state line.now) }
+    ensures unchanged { OnErr result (session.new ≡ session.old) }
+{
+    match read_line(alloc, line)? {
+        Command::Show => {}
+        Command::Edit(edit) => {
+            session.edit(edit)?;
+        }
+    }
+    Ok(())
+}
+
+/// Pushes the answer as it stands, and answers whether it is a plan.
+pub fn push_standing(session: &Session, out: &mut Vec<u8>) -> Result<bool, AllocError>
+    ensures plan { IfOk result (λ plan. plan ≡ is_plan (answer session.now.state)) }
+    ensures text { OnOk result (out.new.items ≡ out.old.items ++ standing_text session.now.state) }
+{
+    let answer = session.answer()?;
+    push_answer(out, session, &answer)?;
+    Ok(matches!(answer, Answer::Plan(_)))
+}
+
+/// Where the first LF stands.
+fn line_end(bytes: &[u8]) -> Option<usize>
+    ensures { result ≡ position is_lf bytes.now }
+{
+    bytes.iter().position(|b| *b == b'\n')
+}

@@ -1,0 +1,50 @@
+//! A lock and an environment, opened.
+ghost use Rattle.std.specs.Prelude.{◌≡◌, IfOk};
+ghost use Rattle.pylock_core.specs.Session.Judgement.{all_numbers, index_of, verdicts_of};
+ghost use Rattle.pytext.specs.Agreement.{Gives};
+ghost use Rattle.pylock_run.specs.Report.{opened};
+ghost use Rattle.pylock_run.specs.declared.report.opening.OpenError.TheVariants as refusal;
+
+use pylock_core::{EnvError, Lock, LockError, Session, read_environment};
+use std::alloc::{AllocError, Global};
+
+/// Why there is nothing to edit: the lock's refusal, and then the environment's.
+#[derive(Drop)]
+pub enum OpenError {
+    /// The lock is refused.
+    Lock(LockError),
+    /// The environment is refused.
+    Environment(EnvError),
+    /// A growth was refused.
+    Memory,
+}
+
+impl From<AllocError> for OpenError {
+    ghost from_gives = { λ _ error. error ≡ refusal.Memory };
+
+    fn from(_refused: AllocError) -> OpenError {
+        OpenError::Memory
+    }
+}
+
+/// Reads the lock and then the environment, and starts the session on both. It takes memory for all
+/// three.
+#[tactic(auto, unfolding(crate::specs::Report::opened))]
+pub fn open(alloc: Global, lock: &[u8], env: &[u8]) -> Result<Session, OpenError>
+    ensures state { Gives refusal.Memory (λ session. session.state) result
+        (opened lock.now env.now) }
+    ensures verdicts { IfOk result (λ session. session.verdicts ≡ verdicts_of session.state) }
+    ensures index { IfOk result (λ session. session.index ≡ index_of session.state) }
+    ensures judged { IfOk result (λ session. session.judged ≡ all_numbers session.state) }
+{
+    let lock = match Lock::read(alloc, lock) {
+        Ok(lock) => lock,
+        Err(LockError::Memory) => return Err(OpenError::Memory),
+        Err(error) => return Err(OpenError::Lock(error)),
+    };
+    match read_environment(alloc, env) {
+        Ok((environment, tags)) => Ok(Session::start(alloc, lock, environment, tags)?),
+        Err(EnvError::Memory) => Err(OpenError::Memory),
+        Err(error) => Err(OpenError::Environment(error)),
+    }
+}

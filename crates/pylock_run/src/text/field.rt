@@ -1,0 +1,142 @@
+//! The fields of a line.
+
+ghost use Rattle.std.specs.Prelude.{◌≡◌, ◌++◌, ◌∷◌, ◌<◌, ◌≤◌, [], OnOk, IsTrue, decimal, true};
+ghost use Rattle.std.specs.List.{list_all};
+ghost use Rattle.std.specs.Option.{option_copied};
+ghost use Rattle.pylock_run.specs.Inner.Plain.{is_ordinary};
+ghost use Rattle.pylock_run.specs.Text.Field.{escape, escaped, field, line_of};
+
+use itoa::Buffer;
+use std::alloc::AllocError;
+
+/// Pushes the decimal digits of a number.
+pub fn push_decimal(out: &mut Vec<u8>, number: u64) -> Result<(), AllocError>
+    ensures { OnOk result (out.new.items ≡ out.old.items ++ decimal number) }
+{
+    let mut digits = Buffer::new();
+    out.extend_from_slice(digits.format(number).as_bytes())
+}
+
+/// Pushes a field: a text, or one that is absent.
+pub fn push_field(out: &mut Vec<u8>, text: Option<&str>) -> Result<(), AllocError>
+    ensures { OnOk result (out.new.items ≡ out.old.items ++ field (option_copied text.entry)) }
+{
+    match text {
+        None => out.extend_from_slice(b"-")?,
+        Some("-") => out.extend_from_slice(b"\\-")?,
+        Some(text) => push_escaped(out, text)?,
+    }
+    Ok(())
+}
+
+/// Pushes a text with its escapes.
+#[tactic(auto, using(crate::proofs::PlainText::plain_stands))]
+pub fn push_escaped(out: &mut Vec<u8>, text: &str) -> Result<(), AllocError>
+    ensures { OnOk result (out.new.items ≡ out.old.items ++ escaped text.now) }
+{
+    if is_plain_text(text.as_bytes()) {
+        out.extend_from_slice(text.as_bytes())?;
+        Ok(())
+    } else {
+        push_escapes(out, text.as_bytes())
+    }
+}
+
+/// Whether the text is seen at once to stand in a field as it is, as nearly each does. Of a longer
+/// text whole chunks are tested, the last of which may lie over the one before it.
+fn is_plain_text(text: &[u8]) -> bool
+    ensures { IsTrue result → list_all is_ordinary text.now ≡ true }
+{
+    match text.len() {
+        32.. => are_plain_chunks::<32>(text),
+        16..32 => are_plain_chunks::<16>(text),
+        8..16 => are_plain_chunks::<8>(text),
+        4..8 => are_plain_chunks::<4>(text),
+        _ => are_ordinary(text),
+    }
+}
+
+/// The same for a text of at least `N` bytes, by chunks of `N`.
+fn are_plain_chunks<const N: usize>(text: &[u8]) -> bool
+    requires { (0 < N) × (N ≤ 32) }
+    ensures { IsTrue result → list_all is_ordinary text.now ≡ true }
+{
+    let (chunks, rest) = text.as_chunks::<N>();
+    for chunk in chunks {
+        if !are_ordinary(chunk) {
+            return false;
+        }
+    }
+    if rest.is_empty() {
+        return true;
+    }
+    match text.last_chunk::<N>() {
+        Some(last) => are_ordinary(last),
+        None => false,
+    }
+}
+
+fn are_ordinary(bytes: &[u8]) -> bool
+    ensures { result ≡ list_all is_ordinary bytes.now }
+{
+    let mut ordinary = true;
+    for byte in bytes {
+        ordinary &= is_ordinary(*byte);
+    }
+    ordinary
+}
+
+/// Both tests are made of each byte, so that many bytes are tested at once.
+fn is_ordinary(byte: u8) -> bool
+    ensures { result ≡ is_ordinary byte }
+{
+    (byte > 13) & (byte != b'\\')
+}
+
+fn push_escapes(out: &mut Vec<u8>, text: &[u8]) -> Result<(), AllocError>
+    ensures { OnOk result (out.new.items ≡ out.old.items ++ escaped text.now) }
+{
+    for byte in text {
+        push_escape(out, *byte)?;
+    }
+    Ok(())
+}
+
+fn push_escape(out: &mut Vec<u8>, byte: u8) -> Result<(), AllocError>
+    ensures { OnOk result (out.new.items ≡ out.old.items ++ escape byte) }
+{
+    match byte {
+        b'\t' => out.extend_from_slice(b"\\t")?,
+        b'\n' => out.extend_from_slice(b"\\n")?,
+        b'\r' => out.extend_from_slice(b"\\r")?,
+        b'\\' => out.extend_from_slice(b"\\\\")?,
+        _ => out.push(byte)?,
+    }
+    Ok(())
+}
+
+/// Pushes a TAB and a field.
+pub fn push_next(out: &mut Vec<u8>, text: Option<&str>) -> Result<(), AllocError>
+    ensures { OnOk result (out.new.items ≡ out.old.items ++ 9 ∷ field (option_copied text.entry)) }
+{
+    out.push(b'\t')?;
+    push_field(out, text)
+}
+
+/// Pushes a TAB, a word and the LF of its line.
+pub fn push_last_word(out: &mut Vec<u8>, word: &[u8]) -> Result<(), AllocError>
+    ensures { OnOk result (out.new.items ≡ out.old.items ++ line_of [] (word.now ∷ [])) }
+{
+    out.push(b'\t')?;
+    out.extend_from_slice(word)?;
+    out.push(b'\n')?;
+    Ok(())
+}
+
+/// Pushes a TAB and a word.
+pub fn push_word(out: &mut Vec<u8>, word: &[u8]) -> Result<(), AllocError>
+    ensures { OnOk result (out.new.items ≡ out.old.items ++ 9 ∷ word.now) }
+{
+    out.push(b'\t')?;
+    out.extend_from_slice(word)
+}

@@ -1,0 +1,203 @@
+//! Answers: the lines of a plan, or a fault.
+
+ghost use Rattle.std.specs.Prelude.{◌≡◌, ◌++◌, ◌∷◌, [], Some, OnOk, option_map, string_bytes};
+ghost use Rattle.std.specs.List.{flat_map};
+ghost use Rattle.std.specs.Option.{option_map_or};
+ghost use Rattle.pylock_readers.specs.Text.{text_pairs};
+ghost use Rattle.pylock_core.specs.Session.Picks.{lent_source};
+ghost use Rattle.pylock_core.specs.declared.answer.Answer.TheVariants.{Plan};
+ghost use Rattle.pylock_run.specs.Inner.Hashes.{escaped_hash, more_hashes};
+ghost use Rattle.pylock_run.specs.Text.Picked.{picked_fields};
+ghost use Rattle.pylock_run.specs.Text.Field.{field, tabbed};
+ghost use Rattle.pylock_run.specs.Text.Plan.{hashes_text, revision, vcs_fields};
+ghost use Rattle.pylock_run.specs.Text.Plan.{directory_fields};
+ghost use Rattle.pylock_run.specs.Text.Plan.{archive_fields, file_fields};
+ghost use Rattle.pylock_run.specs.Text.Plan.{plan_line, pick_text, answer_text, fault_text};
+ghost use Rattle.pylock_run.specs.Text.Plan.{source_line};
+
+use crate::text::field::{push_decimal, push_escaped, push_last_word, push_next};
+use pylock_core::{
+    Answer, Archive, Directory, DistributionFile, Entry, FaultCode, Pick, PickedSource, Session,
+    Vcs,
+};
+use pylock_reasons::{directory_word, fault_word};
+use std::alloc::AllocError;
+
+fn push_hash(out: &mut Vec<u8>, hash: &(String, String)) -> Result<(), AllocError>
+    ensures { OnOk result (out.new.items
+        ≡ out.old.items ++ escaped_hash (string_bytes hash.now.0, string_bytes hash.now.1)) }
+{
+    let (algorithm, value) = hash;
+    push_escaped(out, algorithm.as_str())?;
+    out.push(b'=')?;
+    push_escaped(out, value.as_str())
+}
+
+/// Pushes a TAB and the field of the hashes.
+fn push_hashes(out: &mut Vec<u8>, hashes: &[(String, String)]) -> Result<(), AllocError>
+    ensures { OnOk result (out.new.items
+        ≡ out.old.items ++ 9 ∷ field (hashes_text (text_pairs hashes.now))) }
+{
+    let Some((first, rest)) = hashes.split_first() else {
+        return push_next(out, None);
+    };
+    out.push(b'\t')?;
+    push_hash(out, first)?;
+    push_more_hashes(out, rest)
+}
+
+fn push_more_hashes(out: &mut Vec<u8>, hashes: &[(String, String)]) -> Result<(), AllocError>
+    ensures { OnOk result (out.new.items ≡ out.old.items ++ more_hashes (text_pairs hashes.now)) }
+{
+    for hash in hashes {
+        out.push(b',')?;
+        push_hash(out, hash)?;
+    }
+    Ok(())
+}
+
+/// Pushes a TAB and the field of the revision.
+#[tactic(auto, using(crate::proofs::TextLemmas::field_revision))]
+fn push_revision(out: &mut Vec<u8>, vcs: &Vcs) -> Result<(), AllocError>
+    ensures { OnOk result (out.new.items ≡ out.old.items ++ 9 ∷ field (Some (revision vcs.now))) }
+{
+    out.push(b'\t')?;
+    push_escaped(out, vcs.kind())?;
+    out.push(b'@')?;
+    push_escaped(out, vcs.commit_id())
+}
+
+fn push_vcs(out: &mut Vec<u8>, vcs: &Vcs) -> Result<(), AllocError>
+    ensures { OnOk result (out.new.items ≡ out.old.items ++ tabbed (vcs_fields vcs.now)) }
+{
+    out.extend_from_slice(b"\tvcs\t-")?;
+    push_next(out, Some(vcs.place()))?;
+    out.extend_from_slice(b"\t-")?;
+    push_revision(out, vcs)?;
+    push_next(out, vcs.subdirectory())
+}
+
+fn push_directory(out: &mut Vec<u8>, directory: &Directory) -> Result<(), AllocError>
+    ensures { OnOk result (out.new.items
+        ≡ out.old.items ++ tabbed (directory_fields directory.now)) }
+{
+    out.push(b'\t')?;
+    out.extend_from_slice(directory_word(directory).as_bytes())?;
+    out.extend_from_slice(b"\t-")?;
+    push_next(out, Some(directory.place()))?;
+    out.extend_from_slice(b"\t-\t-")?;
+    push_next(out, directory.subdirectory())
+}
+
+fn push_archive(out: &mut Vec<u8>, archive: &Archive) -> Result<(), AllocError>
+    ensures { OnOk result (out.new.items ≡ out.old.items ++ tabbed (archive_fields archive.now)) }
+{
+    out.extend_from_slice(b"\tarchive\t-")?;
+    push_next(out, Some(archive.place()))?;
+    push_hashes(out, archive.hashes())?;
+    out.extend_from_slice(b"\t-")?;
+    push_next(out, archive.subdirectory())
+}
+
+/// Pushes the fields of a wheel or of an sdist.
+fn push_file(out: &mut Vec<u8>, kind: &[u8], file: &DistributionFile) -> Result<(), AllocError>
+    ensures { OnOk result (out.new.items
+        ≡ out.old.items ++ tabbed (file_fields kind.now file.now)) }
+{
+    out.push(b'\t')?;
+    out.extend_from_slice(kind)?;
+    push_next(out, file.file_name())?;
+    push_next(out, Some(file.place()))?;
+    push_hashes(out, file.hashes())?;
+    out.extend_from_slice(b"\t-\t-")?;
+    Ok(())
+}
+
+/// Pushes the fields of a source, which stands in its entry and so is never left out.
+fn push_source(out: &mut Vec<u8>, source: Option<PickedSource<'_>>) -> Result<(), AllocError>
+    ensures { OnOk result (out.new.items ≡ out.old.items
+        ++ tabbed (option_map_or picked_fields (option_map lent_source source.entry) [])) }
+{
+    match source {
+        Some(PickedSource::Vcs(vcs)) => push_vcs(out, vcs),
+        Some(PickedSource::Directory(directory)) => push_directory(out, directory),
+        Some(PickedSource::Archive(archive)) => push_archive(out, archive),
+        Some(PickedSource::Wheel(wheel)) => push_file(out, b"wheel", wheel),
+        Some(PickedSource::Sdist(sdist)) => push_file(out, b"sdist", sdist),
+        None => Ok(()),
+    }
+}
+
+/// Pushes the line of a source of an entry, which has this number.
+pub fn push_source_line(
+    out: &mut Vec<u8>,
+    number: u64,
+    entry: &Entry,
+    source: Option<PickedSource<'_>>,
+) -> Result<(), AllocError>
+    ensures { OnOk result (out.new.items ≡ out.old.items ++ source_line number entry.now
+        (option_map_or picked_fields (option_map lent_source source.entry) [])) }
+{
+    push_decimal(out, number)?;
+    push_next(out, Some(entry.name()))?;
+    push_next(out, entry.version())?;
+    push_source(out, source)?;
+    out.push(b'\n')?;
+    Ok(())
+}
+
+#[tactic(auto, using(crate::proofs::TextLemmas::picked_source))]
+fn push_plan_line(out: &mut Vec<u8>, pick: &Pick, entry: &Entry) -> Result<(), AllocError>
+    ensures { OnOk result (out.new.items
+        ≡ out.old.items ++ plan_line pick.now.id pick.now.source entry.now) }
+{
+    push_source_line(out, u64::from(pick.id), entry, pick.source.of(entry))
+}
+
+fn push_pick(out: &mut Vec<u8>, session: &Session, pick: &Pick) -> Result<(), AllocError>
+    ensures { OnOk result (out.new.items ≡ out.old.items ++ pick_text session.now.state pick.now) }
+{
+    match session.entry(pick.id) {
+        Some(entry) => push_plan_line(out, pick, entry),
+        None => Ok(()),
+    }
+}
+
+fn push_picks(out: &mut Vec<u8>, session: &Session, picks: &[Pick]) -> Result<(), AllocError>
+    ensures { OnOk result (out.new.items
+        ≡ out.old.items ++ flat_map (pick_text session.now.state) picks.now) }
+{
+    for pick in picks {
+        push_pick(out, session, pick)?;
+    }
+    Ok(())
+}
+
+/// Pushes an answer on the state of its session.
+pub fn push_answer(out: &mut Vec<u8>, session: &Session, answer: &Answer) -> Result<(), AllocError>
+    ensures { OnOk result (out.new.items
+        ≡ out.old.items ++ answer_text session.now.state answer.now) }
+{
+    match answer {
+        Answer::Plan(plan) => push_plan(out, session, plan.picks()),
+        Answer::Fault { id, code } => push_fault(out, *id, *code),
+    }
+}
+
+fn push_plan(out: &mut Vec<u8>, session: &Session, picks: &[Pick]) -> Result<(), AllocError>
+    ensures { OnOk result (out.new.items
+        ≡ out.old.items ++ answer_text session.now.state (Plan picks.now)) }
+{
+    out.extend_from_slice(b"plan ")?;
+    push_decimal(out, picks.len() as u64)?;
+    out.push(b'\n')?;
+    push_picks(out, session, picks)
+}
+
+fn push_fault(out: &mut Vec<u8>, id: u32, code: FaultCode) -> Result<(), AllocError>
+    ensures { OnOk result (out.new.items ≡ out.old.items ++ fault_text id code) }
+{
+    out.extend_from_slice(b"fault ")?;
+    push_decimal(out, u64::from(id))?;
+    push_last_word(out, fault_word(code).as_bytes())
+}
