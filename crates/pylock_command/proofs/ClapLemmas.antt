@@ -2,16 +2,12 @@
 use Rattle.std.proofs.Common.{◌≡◌, ◌||◌, Bool, false, not, List, [], ◌∷◌, Option, None, Some, refl, true, inl, inr, is_some, subst, sym, ap, ◌∙◌}
 use Rattle.std.proofs.lemmas.Bool.{and_parts}
 use Rattle.std.proofs.lemmas.List.Elements.{All-cons, All-nil}
-use Rattle.std.specs.Prelude.{IfOk, Result, Ok, Err}
-use Rattle.std.specs.declared.alloc.AllocError.{AllocError}
 use Rattle.clap.proofs.WalkLemmas.{first_value-rows}
 use Rattle.clap.specs.Words.{Row, Text, first_of, first_value, found_of, rows_of, subcommand_rows_of}
 use Rattle.clap.proofs.OnLiterals.{clap_on_literals}
-use Rattle.clap.specs.Words.{AddsSubcommand, App, HasKind, HasMatchesOf, IsAmong, Rule, app_of, built, fault_of, is_simple, is_simple_and_free, kind_of, subcommand_of, with_rule, with_subcommand}
+use Rattle.clap.specs.Words.{App, HasKind, HasMatchesOf, IsAmong, built, fault_of, is_simple, is_simple_and_free, kind_of, subcommand_of}
 use Rattle.clap.specs.Faults.{is_free_app}
 use Rattle.clap.specs.declared.error.kind.ErrorKind.TheVariants.{MissingRequiredArgument, OutOfMemory}
-use Rattle.clap.specs.declared.builder.command.Command.{Command}
-use Rattle.clap.specs.declared.builder.command.Command.TheViews.{out-Command}
 use Rattle.clap.specs.declared.error.Error.{Error}
 use Rattle.pylock_command.specs.CommandLine.{HasTexts, HaveTexts, IsRefusal, IsTask, Keeps, is_lacking, lacks, lacks_plain_text, pylock_app}
 use Rattle.pylock_command.specs.declared.command_line.CommandError.{CommandError}
@@ -104,22 +100,3 @@ module _ (app : App) (is : app ≡ pylock_app) (words : List Text) where
       let kind : HasKind (fault_of pylock_app words) error = subst P is (kinds is_free) in
       let among : IsAmong (kind_of error) (fault_of pylock_app words) = elim kind [ inl memory ↦ absurd (kept.1 memory) | inr kinds ↦ kinds ] in
       rw kept.0 (kept.1, inl among)
-
--- what is added to a command that is this one is added to this one
-pub added-to : (result : Result Command AllocError) (step : App → App) (one other : App) → one ≡ other → IfOk result (λ c. app_of c ≡ step one)
-    → IfOk result (λ c. app_of c ≡ step other)
-added-to result step one other same added = subst (λ app. IfOk result (λ c. app_of c ≡ step app)) same added
-
--- the same of one more option
-pub ruled-more : (rule : Rule) (new one other : App) → one ≡ other → new ≡ with_rule one rule → new ≡ with_rule other rule
-ruled-more rule new one other same added = added ∙ ap (λ (app : App). with_rule app rule) same
-
-pub ruled-to : (result : Result Command AllocError) (rule : Rule) (one other : App) → one ≡ other → IfOk result (λ c. app_of c ≡ with_rule one rule)
-    → IfOk result (λ c. app_of c ≡ with_rule other rule)
-ruled-to result rule = added-to result (λ app. with_rule app rule)
-
--- the command with one more subcommand, of which this is known
-pub subcommand-added : (result : Result Command AllocError) (old sub : Command) (app : App) → IfOk result (λ c. AddsSubcommand old sub c)
-    → (out-Command sub).has_globals ≡ false → app_of sub ≡ app → IfOk result (λ c. app_of c ≡ with_subcommand (app_of old) app.top)
-subcommand-added (Err error) old sub app added local is = tt
-subcommand-added (Ok new) old sub app added local is = added.shape local ∙ ap (λ (a : App). with_subcommand (app_of old) a.top) is
