@@ -41,12 +41,3 @@ fn plan_text(alloc: Global, plan: &Plan) -> Result<String, AllocError> {
     }
     Ok(text)
 }
-
-/// What becomes of each entry: a line for each, with its number.
-pub(super) fn fates(alloc: Global, session: &Session) -> Result<String, AllocError> {
-    let mut text = String::new(alloc);
-    for (number, fate) in &session.fates()? {
-        write!(text, "{number} {fate:?}\n")?;
-    }
-    Ok(text)
-}
