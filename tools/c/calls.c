@@ -278,6 +278,7 @@ static void markers(void)
     IS(pylock_marker_evaluate(&marker, &environment, &value), PYLOCK_VALUE_UNSET);
     IS(pylock_environment_set(&environment, TEXT("os"), TEXT("posix")), PYLOCK_EDIT_VARIABLE);
     IS(pylock_environment_set(&environment, TEXT("os_name"), TEXT("\xff")), PYLOCK_NOT_UTF8);
+    IS(pylock_environment_set(&environment, TEXT("os"), TEXT("\xff")), PYLOCK_NOT_UTF8);
     IS(pylock_environment_set(&environment, TEXT("os_name"), TEXT("posix")), PYLOCK_OK);
     IS(pylock_marker_evaluate(&marker, &environment, &value), PYLOCK_OK);
     HOLDS(!value);

@@ -1,4 +1,5 @@
 pub mod Audit
+pub mod Document
 pub mod Entry
 pub mod Finding
 pub mod Hash

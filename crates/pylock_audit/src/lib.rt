@@ -2,11 +2,11 @@
 //! installation steps pass over it (PEP 751): a weak hash, a password in a URL, a file name that
 //! leaves its folder, and some twenty more.
 //!
-//! It stands on `pylock_core`, for the lock, on `toml`, for the keys that a lock ignores, and on
-//! `pylock_messages`, for control characters. Begin with [`audit`], of the bytes of a lock. It
-//! gives the findings in order, or the refusal of the lock; each [`Found`] has the number of its
-//! entry, a [`FindingKind`] and a detail. `docs/FORMATS.md` has the table of findings, at `pylock
-//! audit`.
+//! It stands on `pylock_core`, for the lock, on `toml`, for the keys that a lock ignores, on
+//! `pylock_messages`, for control characters, and on `pylock_json`. Begin with [`audit`], of the
+//! bytes of a lock. It gives the findings in order, or the refusal of the lock; each [`Found`] has
+//! the number of its entry, a [`FindingKind`] and a detail. [`findings_document`] makes JSON of
+//! them. `docs/FORMATS.md` has the table of findings, at `pylock audit`.
 //!
 //! What the program does with them, from `crates/pylock_program/src/reply.rt`:
 //!
@@ -20,6 +20,7 @@
 #![tactic(auto)]
 
 mod control;
+mod document;
 mod entry;
 mod files;
 mod finding;
@@ -31,5 +32,6 @@ mod source;
 mod unsafe_text;
 mod url;
 
+pub use document::findings_document;
 pub use finding::{Finding, FindingKind, Found};
 pub use findings::audit;

@@ -21,9 +21,7 @@ new_environment = Ok (Some (kind.Environment empty))
 
 -- the variable of markers that has this name
 abbrev pub variable_named : List ℕ → Result Var Refusal
-variable_named bytes = do
-  text ← text_of bytes
-  ok_or (variable_of text) (refusal.Edit line.Variable)
+variable_named name = ok_or (variable_of name) (refusal.Edit line.Variable)
 
 -- the environment after it is changed by a text
 abbrev pub changed_by : (List ℕ → EnvironmentValue → EnvironmentValue) → List ℕ → EnvironmentValue
@@ -32,13 +30,16 @@ changed_by with bytes environment = do
   text ← text_of bytes
   Ok (with text environment)
 
--- the environment after a change
+-- the environment after a change, whose texts are judged as texts first, from the left
 abbrev pub changed : Change → EnvironmentValue → Result EnvironmentValue Refusal
 changed (change.Set name bytes) environment = do
-  variable ← variable_named name.now
-  changed_by (with_variable variable) bytes.now environment
+  name ← text_of name.now
+  text ← text_of bytes.now
+  variable ← variable_named name
+  Ok (with_variable variable text environment)
 changed (change.Unset name) environment = do
-  variable ← variable_named name.now
+  name ← text_of name.now
+  variable ← variable_named name
   Ok (without_variable variable environment)
 changed (change.AddExtra name) environment = changed_by with_extra name.now environment
 changed (change.DropExtra name) environment = changed_by without_extra name.now environment

@@ -35,13 +35,11 @@ pub extern "C" fn pylock_environment_new(alloc: Global, environment: &mut Slot) 
     keep(alloc, new_environment(alloc), environment)
 }
 
-pub(crate) fn variable(bytes: &[u8]) -> Result<Var, Refusal>
-    ensures { Gives Memory (λ variable. variable) result (variable_named bytes.now) }
+/// The variable of markers that has this name.
+fn variable(name: &str) -> Result<Var, Refusal>
+    ensures { Gives Memory (λ variable. variable) result (variable_named name.now) }
 {
-    match Var::of(text(bytes)?) {
-        Some(variable) => Ok(variable),
-        None => Err(Refusal::Edit(LineRefusal::Variable)),
-    }
+    Var::of(name).ok_or(Refusal::Edit(LineRefusal::Variable))
 }
 
 fn set(environment: &mut Environment, name: &[u8], bytes: &[u8]) -> Result<(), Refusal>
@@ -49,8 +47,9 @@ fn set(environment: &mut Environment, name: &[u8], bytes: &[u8]) -> Result<(), R
         (changed (change.Set name.entry bytes.entry) environment.old) }
     ensures err { OnErr result (environment.new ≡ environment.old) }
 {
-    let variable = variable(name)?;
-    environment.set(variable, text(bytes)?)?;
+    let name = text(name)?;
+    let text = text(bytes)?;
+    environment.set(variable(name)?, text)?;
     Ok(())
 }
 
@@ -59,7 +58,7 @@ fn unset(environment: &mut Environment, name: &[u8]) -> Result<(), Refusal>
         (changed (change.Unset name.entry) environment.old) }
     ensures err { OnErr result (environment.new ≡ environment.old) }
 {
-    environment.unset(variable(name)?);
+    environment.unset(variable(text(name)?)?);
     Ok(())
 }
 

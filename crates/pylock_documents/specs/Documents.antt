@@ -17,8 +17,6 @@ use Rattle.pylock_core.specs.declared.answer.Answer.TheVariants.{Plan, Fault}
 use Rattle.pylock_core.specs.declared.answer.FaultCode.{FaultCode}
 use Rattle.pylock_core.specs.declared.answer.Pick.{Pick}
 use Rattle.pylock_core.specs.declared.fate.Fate.{Fate}
-use Rattle.pylock_audit.specs.Finding.{FoundValue}
-use Rattle.pylock_audit.specs.Words.{finding_word}
 use Rattle.pylock_reasons.specs.Reasons.{detail, head_detail}
 use Rattle.pylock_reasons.specs.Words.{fault_word, verdict_word}
 use Rattle.pylock_documents.specs.Source.{entry_rows, source_data}
@@ -109,20 +107,6 @@ explain_rows state =
 
 abbrev pub refused_rows : List (List ℕ) → List Row
 refused_rows words = (codes "refused", Some (texts_of words)) ∷ []
-
--- ---- audit
-
-abbrev pub found_rows : FoundValue → List Row
-found_rows found =
-    (codes "id", numbered found.number)
-    ∷ (codes "name", maybe found.name)
-    ∷ (codes "finding", there (finding_word found.finding.kind))
-    ∷ (codes "detail", maybe found.finding.detail)
-    ∷ []
-
-abbrev pub findings_rows : List FoundValue → List Row
-findings_rows found =
-    (codes "findings", Some (list_of (map (λ one. object_of (found_rows one)) found))) ∷ []
 
 -- ---- the head of a lock
 

@@ -3,7 +3,7 @@
 //! lines have, each field under a name of its own, and of a fault its reason too. A field that is
 //! absent is left out.
 //!
-//! It stands on `pylock_core`, `pylock_reasons`, `pylock_audit` and `pylock_json`. Begin with
+//! It stands on `pylock_core`, `pylock_reasons` and `pylock_json`. Begin with
 //! [`plan_document`]. Each call gives an [`Object`](pylock_json::Object); its text is that of
 //! `pylock_json`'s `document`.
 //!
@@ -20,7 +20,6 @@
 
 mod explain;
 mod files;
-mod findings;
 mod head;
 mod plan;
 mod refused;
@@ -28,7 +27,6 @@ mod source;
 
 pub use explain::explain_document;
 pub use files::files_document;
-pub use findings::findings_document;
 pub use head::head_document;
 pub use plan::plan_document;
 pub use refused::refused_document;

@@ -38,8 +38,9 @@ use Rattle.pylock_command.specs.declared.form.Form.{Form}
 use Rattle.pylock_command.specs.declared.form.Form.TheVariants.{Lines, Json}
 use Rattle.pylock_readers.specs.Entry.{EntryValue}
 use Rattle.pylock_audit.specs.Audit.{findings_of}
+use Rattle.pylock_audit.specs.Document.{findings_rows}
 use Rattle.pylock_audit.specs.Finding.{FoundValue}
-use Rattle.pylock_documents.specs.Documents.{files_rows, findings_rows}
+use Rattle.pylock_documents.specs.Documents.{files_rows}
 use Rattle.pylock_run.specs.Report.{Report}
 use Rattle.pylock_program.specs.Text.Audit.{findings_text}
 use Rattle.pylock_program.specs.Text.Json.{json_text, lock_json}

@@ -30,7 +30,7 @@ use pylock_core::{Answer, Edit, EditError, Policy, Session};
 use pylock_documents::{explain_document, plan_document};
 use pylock_json::push_document;
 use pylock_run::{
-    OpenError, RunFault, Sink, label, open, print, push_next, push_refusal, push_standing,
+    OpenError, RunFault, Sink, open, print, push_next, push_refusal, push_standing, text_label,
 };
 use pymark_core::Var;
 use pyver_core::{Label, is_name};
@@ -388,7 +388,7 @@ fn each_policy(
     let mut edits = Vec::with_capacity(alloc, session.entries().len())?;
     for entry in session.entries() {
         if let Some(entry) = entry {
-            edits.push(Edit::Policy(label(alloc, entry.name())?, policy))?;
+            edits.push(Edit::Policy(text_label(alloc, entry.name())?, policy))?;
         }
     }
     Ok(Some(edits))
@@ -403,7 +403,7 @@ fn set_variable(alloc: Global, text: &str) -> Result<Option<Vec<Edit>>, AllocErr
         return Ok(None);
     };
     match Var::of(name) {
-        Some(variable) => one(alloc, Edit::Set(variable, label(alloc, value)?)),
+        Some(variable) => one(alloc, Edit::Set(variable, text_label(alloc, value)?)),
         None => Ok(None),
     }
 }
@@ -422,7 +422,7 @@ fn name_of(alloc: Global, text: &str) -> Result<Option<Label>, AllocError>
     if !is_name(text) {
         return Ok(None);
     }
-    Ok(Some(label(alloc, text)?))
+    Ok(Some(text_label(alloc, text)?))
 }
 
 fn one(alloc: Global, edit: Edit) -> Result<Option<Vec<Edit>>, AllocError>

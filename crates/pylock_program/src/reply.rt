@@ -22,10 +22,10 @@ use crate::reply::queries::Query;
 use crate::text::audit::push_findings;
 use crate::text::files::push_files;
 use crate::text::json::push_lock_json;
-use pylock_audit::{Found, audit};
+use pylock_audit::{Found, audit, findings_document};
 use pylock_command::Form;
 use pylock_core::{Entry, EnvError, FaultCode, Lock, LockError, read_environment};
-use pylock_documents::{files_document, findings_document};
+use pylock_documents::files_document;
 use pylock_json::push_document;
 use pylock_reasons::{fault_word, tag_text};
 use pylock_run::{

@@ -58,7 +58,7 @@ pub fn read_both<F: Files>(
     second: &str,
 ) -> Result<(Vec<u8>, Vec<u8>), FileFault>
     ensures { ReadsBoth (F.read_gives files.now) first.now second.now
-        (result_map_both (λ both. both.0.items, both.1.items) (λ fault. fault) result) }
+        (result_map_both (λ both. (both.0.items, both.1.items)) (λ fault. fault) result) }
 {
     let first = files.read(first)?;
     let second = files.read(second)?;

@@ -33,7 +33,7 @@ mod stream;
 mod text;
 
 pub use files::{FILE_BYTES, Files, open_fault, read_both, read_file};
-pub use line::commands::{Command, label};
+pub use line::commands::{Command, policy_argument, text_label, variable_argument};
 pub use line::refusal::LineRefusal;
 pub use line::{LINE_LIMIT, read_line};
 pub use report::editing::push_standing;

@@ -6,7 +6,8 @@ use Rattle.std.specs.BTreeSet.{BTreeSet, UpdatesBy, contains_text}
 use Rattle.std.specs.Cmp.Lexicographic.{nat_list_cmp_total, nat_list_eq_equiv, slice_cmp}
 use Rattle.std.specs.FinSet as set
 use Rattle.std.specs.FinSet.{slice_cmp-IsAntisymmetric, nat_cmp-IsAntisymmetric}
-use Rattle.std.specs.List.{AllZip, list_any}
+use Rattle.std.specs.List.{AllByRecursion, AllZip, list_any}
+use Rattle.std.specs.List.Sorted.{IsStrictlySortedBy}
 use Rattle.std.specs.Ordering.{eq_by_cmp, is_eq, nat_cmp}
 use Rattle.std.specs.Str.{bytes_eq}
 use Rattle.std.specs.String.{string_bytes, string_cmp}
@@ -54,6 +55,16 @@ module _ {Y : Type 0} (s n : BTreeSet (String Y)) (k : List ℕ) where
   pub seen-taken : UpdatesBy string_cmp (λ x. slice_cmp nat_cmp k (string_bytes x)) s n false → seen n ≡ set.remove (seen s) k
   seen-taken u = set.same_set nat_list_cmp_total (slice_cmp-IsAntisymmetric nat_cmp-IsAntisymmetric) _ _
       (λ q. after false u q ∙ and_taken (eq_by_cmp (slice_cmp nat_cmp) q k) (set.contains (seen s) q) ∙ sym (set.contains-remove nat_list_cmp_total (seen s) k q))
+
+each_mapped : {X Z : Type 0} (P : Z → Type 0) (f : X → Z) (xs : List X) → AllByRecursion (λ x. P (f x)) xs → AllByRecursion P (map f xs)
+each_mapped P f [] each = tt
+each_mapped P f (x ∷ xs) each = (each.0, each_mapped P f xs each.1)
+
+-- texts in order are so by their bytes
+pub bytes_rise : {Y : Type 0} (ks : List (String Y)) → IsStrictlySortedBy string_cmp ks → IsStrictlySortedBy (slice_cmp nat_cmp) (map string_bytes ks)
+unfolding IsStrictlySortedBy
+bytes_rise [] rise = tt
+bytes_rise (k ∷ ks) rise = (each_mapped (λ text. slice_cmp nat_cmp (string_bytes k) text ≡ Less) string_bytes ks rise.0, bytes_rise ks rise.1)
 
 -- the empty set has no text
 pub nothing_in : (q : List ℕ) → false ≡ set.contains {R = slice_cmp nat_cmp} set.empty q

@@ -6,6 +6,7 @@ use Rattle.std.specs.Prelude.{slice_index_or, slice_set, refl}
 use Rattle.std.specs.Cmp.Lexicographic.{slice_cmp}
 use Rattle.std.specs.Coded.{Coded, code_by, coded×, coded_ℕ, coded_list, coded_option}
 use Rattle.std.specs.FinSet as set
+use Rattle.std.specs.List.Sorted.{IsStrictlySortedBy}
 use Rattle.std.specs.Ordering.{nat_cmp}
 use Rattle.pyver_core.specs.Name.{norm}
 use Rattle.pymark_core.specs.Variables.{place}
@@ -21,6 +22,11 @@ texts_code = set.code (coded_list coded_ℕ)
 -- each is in normal form
 abbrev pub AreNormal : Texts → Type 0
 AreNormal names = (name : List ℕ) → IsTrue (set.contains names name) → norm name ≡ name
+
+-- these are the names of the set, each once, in the order of their bytes
+pub record AreNamesOf (texts : Texts) (names : List (List ℕ)) : Type 0 where
+  pub whole : set.from_list names ≡ texts
+  pub rise : IsStrictlySortedBy (slice_cmp nat_cmp) names
 
 -- `variables` has the text of each variable at its place, and the sets hold normal names
 pub record EnvironmentValue : Type 0 where

@@ -1,3 +1,4 @@
 pub mod Grammar
 pub mod Reading
+pub mod Text
 pub mod Value

@@ -6,12 +6,13 @@ ghost use Rattle.std.specs.Prelude.{OnOk, Some};
 ghost use Rattle.std.specs.FinSet as set;
 ghost use Rattle.pyver_core.specs.Name.{norm};
 ghost use Rattle.pyver_core.specs.Parsed.{parsed_version};
-ghost use Rattle.pymark_core.specs.Environment.{empty, has_extra, has_group, variable_in};
+ghost use Rattle.pymark_core.specs.Environment.{AreNamesOf, empty, has_extra, has_group};
+ghost use Rattle.pymark_core.specs.Environment.{variable_in};
 ghost use Rattle.pymark_core.specs.Environment.{with_extra, with_group, with_variable};
 ghost use Rattle.pymark_core.specs.Environment.{without_extra, without_group, without_variable};
 
 use crate::candidate::{Candidate, SharedText};
-use crate::names::SharedNames;
+use crate::names::{Names, SharedNames};
 use crate::variable::Var;
 use pyver_core::{Version, VersionError};
 use std::alloc::{AllocError, Global};
@@ -182,6 +183,22 @@ impl Environment {
         ensures normal { IsTrue result → norm name.now ≡ name.now }
     {
         self.groups.has(name)
+    }
+
+    /// The extras that are asked for, in normal form and in the order of their bytes. It takes no
+    /// memory.
+    pub fn extras(&self) -> Names<'_>
+        ensures { AreNamesOf self.now.extras result }
+    {
+        self.extras.iter()
+    }
+
+    /// The groups that are asked for, in normal form and in the order of their bytes. It takes no
+    /// memory.
+    pub fn groups(&self) -> Names<'_>
+        ensures { AreNamesOf self.now.groups result }
+    {
+        self.groups.iter()
     }
 
     /// An environment with the same variables and sets. The two share the texts of the variables

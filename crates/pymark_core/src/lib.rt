@@ -41,6 +41,7 @@ pub use comparison::Comparison;
 pub use environment::Environment;
 pub use fault::EvalFault;
 pub use marker::{Key, Marker, MarkerError, Reads};
+pub use names::Names;
 pub use operand::{Comparator, Operand};
 pub use requirement::{Requirement, RequirementError};
 pub use variable::Var;

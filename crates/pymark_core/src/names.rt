@@ -1,12 +1,14 @@
-//! Sets of normal names.
+//! Sets of normal names, and what goes over them.
 
 ghost use Rattle.std.specs.Prelude.{◌≡◌, false, not, IfOk, IsTrue, OnErr};
 ghost use Rattle.std.specs.FinSet as set;
+ghost use Rattle.std.specs.Iterator.{YieldsFirstBy, item_count};
 ghost use Rattle.pyver_core.specs.Name.{norm};
+ghost use Rattle.pymark_core.specs.Environment.{AreNamesOf};
 
 use pyver_core::NormalName;
 use std::alloc::{AllocError, Global};
-use std::collections::BTreeSet;
+use std::collections::{BTreeSet, btree_set};
 use std::marker::Model;
 use std::sync::Arc;
 
@@ -61,6 +63,15 @@ impl NameSet {
     {
         self.names.insert(name.into_string())?;
         Ok(())
+    }
+
+    /// The names, lent.
+    pub(crate) fn iter(&self) -> Names<'_>
+        ensures { AreNamesOf self.now result }
+    {
+        Names {
+            rest: Some(self.names.iter()),
+        }
     }
 
     /// Takes a name out.
@@ -126,6 +137,16 @@ impl SharedNames {
         }
     }
 
+    /// The names, lent.
+    pub(crate) fn iter(&self) -> Names<'_>
+        ensures { AreNamesOf self.now result }
+    {
+        match &self.names {
+            Some(names) => names.iter(),
+            None => Names { rest: None },
+        }
+    }
+
     /// Puts the normal form of the text in, and answers whether it was out. A name that is in takes
     /// the memory of its normal form alone.
     pub(crate) fn add(&mut self, alloc: Global, name: &str) -> Result<bool, AllocError>
@@ -175,5 +196,45 @@ impl Clone for SharedNames {
         Ok(SharedNames {
             names: self.names.clone()?,
         })
+    }
+}
+
+/// The names of a set, lent one by one, each once, in the order of their bytes. It takes no memory.
+///
+/// Contracts see the list of those that are left.
+pub struct Names<'a> {
+    /// None is the empty set.
+    rest: Option<btree_set::Iter<'a, String>>,
+}
+
+impl<'a> Model for Names<'a> {
+    ghost use Rattle.std.specs.Prelude.{List, ℕ, [], map, option_map, string_bytes, unwrap_or};
+    ghost use Rattle.std.specs.Coded.{coded_list, coded_ℕ};
+
+    ghost Value = { List (List ℕ) };
+
+    ghost coded = { coded_list (coded_list coded_ℕ) };
+
+    ghost view = { λ names. unwrap_or (option_map (map string_bytes) names.rest) [] };
+}
+
+impl Drop for Names<'_> {
+    fn drop(self) {
+        let Names { rest: _ } = self;
+    }
+}
+
+impl<'a> Iterator for Names<'a> {
+    type Item = &'a str;
+
+    ghost next_gives = { YieldsFirstBy (λ name. name.now) (λ rest. rest) };
+
+    ghost remaining = { item_count (λ rest. rest) };
+
+    fn next(&mut self) -> Option<&'a str> {
+        match &mut self.rest {
+            Some(rest) => Some(rest.next()?.as_str()),
+            None => None,
+        }
     }
 }

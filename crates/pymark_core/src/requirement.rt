@@ -2,6 +2,7 @@
 
 mod error;
 mod parts;
+mod text;
 
 ghost use Rattle.std.specs.Prelude.{◌≡◌, ◌≢◌, IfErr, IfOk, map, option_map, string_bytes};
 ghost use Rattle.pytext.specs.Agreement.{Gives};

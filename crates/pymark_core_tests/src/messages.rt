@@ -1,6 +1,6 @@
-//! What is printed of markers, of variables and of refusals.
+//! What is printed of markers, of requirements, of variables and of refusals.
 
-use pymark_core::{Marker, MarkerError, RequirementError, Var};
+use pymark_core::{Marker, MarkerError, Requirement, RequirementError, Var};
 use std::alloc::AllocError;
 use std::fmt::Display;
 use std::process::Abort;
@@ -107,4 +107,33 @@ fn check_quoted<R: Abort + AllocGlobal>(rt: &R, marker: &Marker) -> Result<(), A
 fn a_marker_is_quoted(rt: HostRuntime) -> Result<(), Fail> {
     let marker = Marker::parse(rt.alloc(), "os_name == 'nt'")?;
     check_quoted(&rt, &marker).map_err(Fail::from)
+}
+
+/// What is printed is read back as what prints alike.
+fn check_printed<R: Abort + AllocGlobal>(rt: &R, text: &str, wanted: &str) -> Result<(), Fail> {
+    let requirement = Requirement::parse(rt.alloc(), text)?;
+    let printed = requirement.to_string(rt.alloc())?;
+    check_text(rt, &printed, wanted);
+    let again = Requirement::parse(rt.alloc(), printed.as_str())?;
+    check_text(rt, &again.to_string(rt.alloc())?, wanted);
+    Ok(())
+}
+
+#[test]
+fn a_requirement_prints_its_parts(rt: HostRuntime) -> Result<(), Fail> {
+    for (text, printed) in [
+        ("A.b", "A.b"),
+        ("a ( >= 1.0RC1 , < 2 )", "a>=1.0rc1,<2"),
+        ("a[ b , C ]", "a[b,C]"),
+        ("a ; 'x' in extras ", "a; 'x' in extras"),
+        ("a[] == 1.* ; os_name == 'nt'", "a==1.*; os_name == 'nt'"),
+        ("a @ https://b.c/d;e", "a @ https://b.c/d;e"),
+        (
+            "a [b] @ file:c ;os_name == 'nt'",
+            "a[b] @ file:c ; os_name == 'nt'",
+        ),
+    ] {
+        check_printed(&rt, text, printed)?;
+    }
+    Ok(())
 }

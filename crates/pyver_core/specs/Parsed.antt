@@ -6,7 +6,7 @@ use Rattle.pyver_core.specs.Version.Parts.{Parts}
 use Rattle.pyver_core.specs.Version.Reading.{version_of}
 use Rattle.pytext.specs.Results.{◌>>=◌}
 use Rattle.pyver_core.specs.Set.Grammar.{set_numbers, specifier_numbers}
-use Rattle.pyver_core.specs.Set.Reading.{operand_of, set_of}
+use Rattle.pyver_core.specs.Set.Reading.{operand_of, set_of, specifier_of}
 use Rattle.pyver_core.specs.declared.set.error.SpecifierError.{SpecifierError}
 use Rattle.pyver_core.specs.declared.set.error.SpecifierError.TheVariants as specifier
 use Rattle.pyver_core.specs.declared.version.error.VersionError.{VersionError}
@@ -28,6 +28,12 @@ parsed_version text = do
 unfoldable pub parsed_operand : Operator → List ℕ → Result Specifier SpecifierError
 parsed_operand operator text = do
   s ← ok_or (operand_of operator text) specifier.Syntax
+  within_limit specifier.NumberTooLarge (specifier_numbers s) s
+
+-- the specifier that a text writes, with its operator
+unfoldable pub parsed_specifier : List ℕ → Result Specifier SpecifierError
+parsed_specifier text = do
+  s ← ok_or (specifier_of text) specifier.Syntax
   within_limit specifier.NumberTooLarge (specifier_numbers s) s
 
 -- the specifiers that a text writes, with commas between them

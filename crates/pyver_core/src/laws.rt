@@ -6,7 +6,8 @@ ghost use Rattle.std.specs.Cmp.Lexicographic.{slice_cmp};
 ghost use Rattle.std.specs.Char.{to_ascii_lowercase};
 ghost use Rattle.std.specs.List.{list_all};
 ghost use Rattle.std.specs.Ordering.{nat_cmp, ordering_then};
-ghost use Rattle.pyver_core.specs.Parsed.{parsed_operand, parsed_set, parsed_version};
+ghost use Rattle.pyver_core.specs.Parsed.{parsed_operand, parsed_set, parsed_specifier};
+ghost use Rattle.pyver_core.specs.Parsed.{parsed_version};
 ghost use Rattle.pyver_core.specs.Version.FromParts.{version_from};
 ghost use Rattle.pyver_core.specs.Version.Parts.{Parts};
 ghost use Rattle.pytext.specs.Bytes.{is_separator, starts};
@@ -127,5 +128,7 @@ pub fn answers_want_no_memory()
     ensures set { (text : List ℕ) → parsed_set text ≡ Err SpecifierError.Memory → ⊥ }
     ensures operand { (operator : Operator) (text : List ℕ)
         → parsed_operand operator text ≡ Err SpecifierError.Memory → ⊥ }
+    ensures specifier { (text : List ℕ)
+        → parsed_specifier text ≡ Err SpecifierError.Memory → ⊥ }
     ensures parts { (p : Parts) → version_from p ≡ Err PartsError.Memory → ⊥ }
 {}

@@ -1,6 +1,6 @@
 //! Specifier sets (PEP 440, "Version specifiers").
 
-ghost use Rattle.std.specs.Prelude.{◌≡◌, IfOk};
+ghost use Rattle.std.specs.Prelude.{◌≡◌, [], IfOk};
 ghost use Rattle.std.specs.Cmp.{partial_equiv_from_equiv};
 ghost use Rattle.pyver_core.specs.Inner.EqualityLaws.{set_equivalence};
 ghost use Rattle.pyver_core.specs.Set.Equality.{set_eq};
@@ -45,15 +45,28 @@ impl Model for SpecifierSet {
 }
 
 impl SpecifierSet {
-    /// The set of these specifiers.
-    pub(crate) fn from_items(
-        alloc: Global,
-        items: Vec<Specifier>,
-    ) -> Result<SpecifierSet, AllocError>
-        ensures { IfOk result (λ set. set ≡ items.items) }
+    /// The set without a specifier, which admits every version. It takes no memory.
+    pub fn empty(alloc: Global) -> SpecifierSet
+        ensures { result ≡ [] }
     {
-        let text = set_text(alloc, &items)?;
-        Ok(SpecifierSet { items, text })
+        SpecifierSet {
+            items: Vec::new(alloc),
+            text: String::new(alloc),
+        }
+    }
+
+    /// The set of these specifiers, in this order. It takes memory for the normal form.
+    pub fn from_specifiers(
+        alloc: Global,
+        specifiers: Vec<Specifier>,
+    ) -> Result<SpecifierSet, AllocError>
+        ensures { IfOk result (λ set. set ≡ specifiers.items) }
+    {
+        let text = set_text(alloc, &specifiers)?;
+        Ok(SpecifierSet {
+            items: specifiers,
+            text,
+        })
     }
 
     /// The specifiers in the order in which they were written.

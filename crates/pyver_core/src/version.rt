@@ -3,7 +3,8 @@
 ghost use Rattle.std.specs.Prelude.{◌≡◌, ◌≢◌, [], IfOk};
 ghost use Rattle.pyver_core.specs.Inner.PartsRef.{parts_of};
 ghost use Rattle.pyver_core.specs.Version.Normal.{normal};
-ghost use Rattle.pyver_core.specs.Version.Parts.{is_postrelease, is_prerelease};
+ghost use Rattle.pyver_core.specs.Version.Parts.{base_release, is_postrelease, is_prerelease};
+ghost use Rattle.pyver_core.specs.Version.Parts.{public_part};
 
 mod error;
 mod from_parts;
@@ -125,6 +126,38 @@ impl Version {
         ensures { result ≡ is_postrelease self.now }
     {
         self.parts.post.is_some()
+    }
+
+    /// The version without its local part (PEP 440, "Local version identifiers"). It takes memory
+    /// for the release and the normal form.
+    pub fn public_part(&self, alloc: Global) -> Result<Version, AllocError>
+        ensures { IfOk result (λ public. public ≡ public_part self.now) }
+    {
+        let parts = VersionParts {
+            epoch: self.epoch(),
+            release: Vec::from_slice(alloc, self.release())?,
+            pre: self.pre(),
+            post: self.post(),
+            dev: self.dev(),
+            local: Vec::new(alloc),
+        };
+        Version::with_parts(alloc, parts)
+    }
+
+    /// The version of the epoch and the release alone. It takes memory for the release and the
+    /// normal form.
+    pub fn base_release(&self, alloc: Global) -> Result<Version, AllocError>
+        ensures { IfOk result (λ base. base ≡ base_release self.now) }
+    {
+        let parts = VersionParts {
+            epoch: self.epoch(),
+            release: Vec::from_slice(alloc, self.release())?,
+            pre: None,
+            post: None,
+            dev: None,
+            local: Vec::new(alloc),
+        };
+        Version::with_parts(alloc, parts)
     }
 }
 

@@ -7,6 +7,7 @@ use pyver_core::{
     NormalForm, NormalName, Operator, PartsError, Specifier, SpecifierError, SpecifierSet, Version,
     VersionError, VersionParts, is_name, is_same_name, normal_name,
 };
+use std::alloc::Global;
 use std::process::Abort;
 use std::test::Fail;
 
@@ -52,10 +53,58 @@ fn version_copy(rt: HostRuntime) {
     }
 }
 
+fn check_shorter<R: Abort + AllocGlobal>(rt: &R, version: &Version) {
+    if let Ok(public) = version.public_part(rt.alloc()) {
+        assert_eq!(rt; public.text(), "1!2.0rc1.post3.dev4");
+    }
+    if let Ok(base) = version.base_release(rt.alloc()) {
+        assert_eq!(rt; base.text(), "1!2.0");
+    }
+}
+
+#[test]
+fn version_public_part_and_base_release(rt: HostRuntime) {
+    if let Ok(version) = Version::parse(rt.alloc(), "1!2.0RC1.post3.dev4+Ubuntu.01") {
+        check_shorter(&rt, &version);
+    }
+}
+
 #[test]
 fn specifier_set_parse(rt: HostRuntime) {
     match SpecifierSet::parse(rt.alloc(), ">= 2.8.1, == v1!2.0.*, ===x, != 1+a") {
         Ok(set) => assert_eq!(rt; set.text(), ">=2.8.1,==1!2.0.*,===x,!=1+a"),
+        Err(error) => assert!(rt; matches!(error, SpecifierError::Memory), "{error:?}"),
+    }
+}
+
+#[test]
+fn specifier_parse(rt: HostRuntime) {
+    match Specifier::parse(rt.alloc(), " >= 1.0RC1 ") {
+        Ok(specifier) => assert!(rt; is_at_least(&specifier, "1.0rc1")),
+        Err(error) => assert!(rt; matches!(error, SpecifierError::Memory), "{error:?}"),
+    }
+}
+
+fn is_at_least(specifier: &Specifier, text: &str) -> bool {
+    match specifier {
+        Specifier::AtLeast(version) => version.text() == text,
+        _ => false,
+    }
+}
+
+/// The set of specifiers that are read one by one.
+fn set_of(alloc: Global, texts: &[&str]) -> Result<SpecifierSet, SpecifierError> {
+    let mut specifiers = Vec::new(alloc);
+    for text in texts {
+        specifiers.push(Specifier::parse(alloc, text)?)?;
+    }
+    Ok(SpecifierSet::from_specifiers(alloc, specifiers)?)
+}
+
+#[test]
+fn specifier_set_from_specifiers(rt: HostRuntime) {
+    match set_of(rt.alloc(), &[">= 2.8.1", "== v1!2.0.*"]) {
+        Ok(set) => assert_eq!(rt; set.text(), ">=2.8.1,==1!2.0.*"),
         Err(error) => assert!(rt; matches!(error, SpecifierError::Memory), "{error:?}"),
     }
 }
@@ -217,6 +266,12 @@ fn check_copied_order<R: Abort>(rt: &R, set: &SpecifierSet, older: &Version, new
     }
 }
 
+fn check_empty<R: Abort + AllocGlobal>(rt: &R, version: &Version) {
+    let set = SpecifierSet::empty(rt.alloc());
+    assert!(rt; set.items().is_empty() && set.text().is_empty());
+    assert!(rt; set.admits(version));
+}
+
 /// Where the values were made, no growth is left that could be refused.
 #[test]
 fn order_without_memory(rt: HostRuntime) {
@@ -225,6 +280,7 @@ fn order_without_memory(rt: HostRuntime) {
     let newer = Version::parse(rt.alloc(), "1.10.0.0.0.0.0+x.2");
     if let (Ok(set), Ok(older), Ok(newer)) = (set, older, newer) {
         check_copied_order(&rt, &set, &older, &newer);
+        check_empty(&rt, &newer);
     }
 }
 

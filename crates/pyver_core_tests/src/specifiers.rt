@@ -1,5 +1,6 @@
 //! The parts of a prefix, and the operator at the front of a text.
 
+use crate::texts::answers;
 use pyver_core::{Operator, Specifier, SpecifierSet};
 use std::process::Abort;
 use std::test::Fail;
@@ -19,6 +20,15 @@ fn a_prefix_has_an_epoch_and_numbers(rt: HostRuntime) -> Result<(), Fail> {
     let set = SpecifierSet::parse(rt.alloc(), "==2!1.0.*")?;
     assert!(rt; is_prefix(set.items(), 2, &[1, 0]));
     Ok(())
+}
+
+/// A clause alone: no set of two, and nothing but white space neither.
+#[test]
+fn texts_that_are_no_specifier(rt: HostRuntime) {
+    for text in ["", " ", "1.0", ">=", ">=1,<2", ">=1,", "=== a b", ">= 1+a"] {
+        let refused = Specifier::parse(rt.alloc(), text);
+        assert!(rt; answers(rt.alloc(), refused, "set-syntax"), "{text}");
+    }
 }
 
 fn check_front<R: Abort>(rt: &R, text: &str, cut: Option<(Operator, &str)>) {

@@ -1,18 +1,16 @@
 //! What an edit of C asks for.
 
-ghost use Rattle.std.specs.Prelude.{◌≡◌, IfErr, IfOk, map};
+ghost use Rattle.std.specs.Prelude.{◌≡◌, IfOk, map};
 ghost use Rattle.std.specs.List.{slice_split};
 ghost use Rattle.pytext.specs.Agreement.{Gives};
 ghost use Rattle.pylock_c.specs.Sessions.Asked.{asked, entry_in, policy_asked, set_asked};
 ghost use Rattle.pylock_c.specs.Sessions.Asked.{tag_texts, tags_in, text_argument, unset_asked};
 ghost use Rattle.pylock_run.specs.Line.{is_lf};
-ghost use Rattle.pylock_run.specs.Line.Commands.{policy_argument, variable_argument};
 ghost use Rattle.pylock_run.specs.declared.line.refusal.LineRefusal.TheVariants.{Memory};
 
 use crate::sessions::ask::Ask;
-use pylock_core::{Edit, Entry, Policy};
-use pylock_run::{Command, LineRefusal, read_line};
-use pymark_core::Var;
+use pylock_core::{Edit, Entry};
+use pylock_run::{Command, LineRefusal, policy_argument, read_line, text_label, variable_argument};
 use pyver_core::{Label, is_name};
 use pywheel_core::TagList;
 use std::alloc::{AllocError, Global};
@@ -52,14 +50,7 @@ fn text(bytes: &[u8]) -> Result<&str, LineRefusal>
 fn label(alloc: Global, bytes: &[u8]) -> Result<Label, LineRefusal>
     ensures { Gives Memory (λ label. label) result (text_argument bytes.now) }
 {
-    held(alloc, text(bytes)?)
-}
-
-fn held(alloc: Global, text: &str) -> Result<Label, LineRefusal>
-    ensures ok { IfOk result (λ label. label ≡ text.now) }
-    ensures err { IfErr result (λ refusal. refusal ≡ Memory) }
-{
-    Ok(Label::new(String::from_str(alloc, text)?))
+    Ok(text_label(alloc, text(bytes)?)?)
 }
 
 fn set(alloc: Global, name: &[u8], value: &[u8]) -> Result<Edit, LineRefusal>
@@ -67,20 +58,14 @@ fn set(alloc: Global, name: &[u8], value: &[u8]) -> Result<Edit, LineRefusal>
 {
     let name = text(name)?;
     let value = text(value)?;
-    let variable = variable(name)?;
-    Ok(Edit::Set(variable, held(alloc, value)?))
+    let variable = variable_argument(name)?;
+    Ok(Edit::Set(variable, text_label(alloc, value)?))
 }
 
 fn unset(name: &[u8]) -> Result<Edit, LineRefusal>
     ensures { Gives Memory (λ edit. edit) result (unset_asked name.now) }
 {
-    Ok(Edit::Unset(variable(text(name)?)?))
-}
-
-fn variable(name: &str) -> Result<Var, LineRefusal>
-    ensures { Gives Memory (λ variable. variable) result (variable_argument name.now) }
-{
-    Var::of(name).ok_or(LineRefusal::Variable)
+    Ok(Edit::Unset(variable_argument(text(name)?)?))
 }
 
 fn tags(alloc: Global, bytes: &[u8]) -> Result<TagList, LineRefusal>
@@ -117,20 +102,9 @@ fn policy(alloc: Global, name: &[u8], word: &[u8]) -> Result<Edit, LineRefusal>
     ensures { Gives Memory (λ edit. edit) result (policy_asked name.now word.now) }
 {
     let name = text(name)?;
-    let policy = policy_of(text(word)?)?;
+    let policy = policy_argument(text(word)?)?;
     if !is_name(name) {
         return Err(LineRefusal::Name);
     }
-    Ok(Edit::Policy(held(alloc, name)?, policy))
-}
-
-fn policy_of(word: &str) -> Result<Policy, LineRefusal>
-    ensures { Gives Memory (λ policy. policy) result (policy_argument word.now) }
-{
-    match word {
-        "any" => Ok(Policy::Any),
-        "wheel" => Ok(Policy::Wheel),
-        "source" => Ok(Policy::Source),
-        _ => Err(LineRefusal::Argument),
-    }
+    Ok(Edit::Policy(text_label(alloc, name)?, policy))
 }

@@ -82,7 +82,7 @@ fn set(alloc: Global, argument: Option<&str>) -> Result<Edit, LineRefusal>
 {
     let (name, value) = around_space(given(argument)?)?;
     let variable = variable_argument(name)?;
-    Ok(Edit::Set(variable, label(alloc, value)?))
+    Ok(Edit::Set(variable, text_label(alloc, value)?))
 }
 
 #[tactic(auto, unfolding(crate::specs::Line::Commands::unset_after))]
@@ -170,17 +170,18 @@ fn policy(alloc: Global, argument: Option<&str>) -> Result<Edit, LineRefusal>
     if !is_name(name) {
         return Err(LineRefusal::Name);
     }
-    Ok(Edit::Policy(label(alloc, name)?, policy))
+    Ok(Edit::Policy(text_label(alloc, name)?, policy))
 }
 
-/// The variable of markers that has this name.
-fn variable_argument(name: &str) -> Result<Var, LineRefusal>
+/// The variable of markers that has this name; another name is refused as `Variable`.
+pub fn variable_argument(name: &str) -> Result<Var, LineRefusal>
     ensures { Gives LineRefusal.Memory (λ v. v) result (variable_argument name.now) }
 {
     Var::of(name).ok_or(LineRefusal::Variable)
 }
 
-fn policy_argument(word: &str) -> Result<Policy, LineRefusal>
+/// The policy of a word, `any`, `wheel` or `source`; another word is refused as `Argument`.
+pub fn policy_argument(word: &str) -> Result<Policy, LineRefusal>
     ensures { Gives LineRefusal.Memory (λ p. p) result (policy_argument word.now) }
 {
     match word {
@@ -201,11 +202,11 @@ fn name(alloc: Global, unknown: LineRefusal, argument: Option<&str>) -> Result<L
     if !is_name(text) {
         return Err(unknown);
     }
-    Ok(label(alloc, text)?)
+    Ok(text_label(alloc, text)?)
 }
 
-/// The text, as edits hold it.
-pub fn label(alloc: Global, text: &str) -> Result<Label, AllocError>
+/// The text, as edits hold it. It takes memory for a copy.
+pub fn text_label(alloc: Global, text: &str) -> Result<Label, AllocError>
     ensures { IfOk result (λ label. label ≡ text.now) }
 {
     Ok(Label::new(String::from_str(alloc, text)?))

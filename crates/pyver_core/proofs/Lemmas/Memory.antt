@@ -5,9 +5,9 @@ use Rattle.pyver_core.specs.Version.FromParts.{is_segment, version_from}
 use Rattle.pyver_core.specs.Version.Grammar.{has_large, numbers}
 use Rattle.pyver_core.specs.Version.Parts.{Parts}
 use Rattle.pyver_core.specs.Version.Reading.{version_of}
-use Rattle.pyver_core.specs.Parsed.{parsed_operand, parsed_set, parsed_version, within_limit}
+use Rattle.pyver_core.specs.Parsed.{parsed_operand, parsed_set, parsed_specifier, parsed_version, within_limit}
 use Rattle.pyver_core.specs.Set.Grammar.{set_numbers, specifier_numbers}
-use Rattle.pyver_core.specs.Set.Reading.{operand_of, set_of}
+use Rattle.pyver_core.specs.Set.Reading.{operand_of, set_of, specifier_of}
 use Rattle.pyver_core.specs.declared.set.error.SpecifierError.TheVariants as specifier
 use Rattle.pyver_core.specs.declared.set.specifier.Operator.{Operator}
 use Rattle.pyver_core.specs.declared.version.error.VersionError.TheVariants as version
@@ -33,6 +33,11 @@ pub operand_wants_none : (operator : Operator) (text : List ℕ) → Never speci
 unfolding parsed_operand
 operand_wants_none operator text =
     never_outcome specifier.Memory specifier.Syntax specifier.NumberTooLarge specifier_numbers (operand_of operator text) (λ e. cc e) (λ e. cc e)
+
+pub specifier_wants_none : (text : List ℕ) → Never specifier.Memory (parsed_specifier text)
+unfolding parsed_specifier
+specifier_wants_none text =
+    never_outcome specifier.Memory specifier.Syntax specifier.NumberTooLarge specifier_numbers (specifier_of text) (λ e. cc e) (λ e. cc e)
 
 pub parts_want_none : (parts : Parts) → Never made.Memory (version_from parts)
 parts_want_none parts =

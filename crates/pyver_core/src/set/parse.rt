@@ -43,7 +43,7 @@ fn set_from_text(alloc: Global, text: &str) -> Result<SpecifierSet, SpecifierErr
     ensures { Gives SpecifierError.Memory (λ set. set) result (parsed_set text.now) }
 {
     let items = read_items(alloc, text)?;
-    Ok(SpecifierSet::from_items(alloc, items)?)
+    Ok(SpecifierSet::from_specifiers(alloc, items)?)
 }
 
 /// The specifiers of a set. A number past the limit is answered only once the whole text was read.

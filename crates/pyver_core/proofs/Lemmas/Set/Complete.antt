@@ -140,7 +140,7 @@ operand_again (Arbitrary label) text h = rw (arbitrary_again text label h) refl
 
 -- ---- specifiers and sets
 
-specifier_again : (piece : List ℕ) (s : Specifier) → IsSpecifier piece s → specifier_of piece ≡ Some s
+pub specifier_again : (piece : List ℕ) (s : Specifier) → IsSpecifier piece s → specifier_of piece ≡ Some s
 unfolding specifier_of
 specifier_again piece s is =
     let o = operator_of s in

@@ -212,7 +212,7 @@ operand_takes operator.Arbitrary text s e =
 
 -- ---- specifiers and sets
 
-specifier_takes : (piece : List ℕ) (s : Specifier) → specifier_of piece ≡ Some s → IsSpecifier piece s
+pub specifier_takes : (piece : List ℕ) (s : Specifier) → specifier_of piece ≡ Some s → IsSpecifier piece s
 unfolding specifier_of
 specifier_takes piece s e =
     let w = white_takes piece in

@@ -1,8 +1,8 @@
 use Rattle.std.proofs.Common.{◌≡◌, map, take}
 use Rattle.serde_json.specs.View.{view as data_of}
 use Rattle.pylock_json.specs.Json.{object_of}
-use Rattle.pylock_documents.specs.Documents.{found_rows}
-use Rattle.pylock_documents.proofs.findings.findings_list.Given as goal
+use Rattle.pylock_audit.specs.Document.{found_rows}
+use Rattle.pylock_audit.proofs.document.findings_list.Given as goal
 
 -- the findings so far are in the list
 abbrev pub invariant-loop-one : goal.invariant-loop-one

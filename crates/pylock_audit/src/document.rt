@@ -1,11 +1,11 @@
-//! What is found in a lock.
+//! The findings as a JSON document.
 
 ghost use Rattle.std.specs.Prelude.{◌≡◌, IfOk, map};
 ghost use Rattle.serde_json.specs.View.{members_view, view as data_of};
 ghost use Rattle.pylock_json.specs.Json.{members_of, object_of};
-ghost use Rattle.pylock_documents.specs.Documents.{findings_rows, found_rows};
+ghost use Rattle.pylock_audit.specs.Document.{findings_rows, found_rows};
 
-use pylock_audit::Found;
+use crate::finding::Found;
 use pylock_json::{Json, List, Object};
 use std::alloc::{AllocError, Global};
 
