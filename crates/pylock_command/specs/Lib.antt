@@ -1,3 +1,4 @@
 pub mod Choices
 pub mod CommandLine
+pub mod Commands
 pub mod Form

@@ -1,12 +1,12 @@
 //! The options of `plan` and `explain`: what clap is told of them, and what it found.
 ghost use Rattle.std.specs.Prelude.{◌≡◌, ◌++◌, List, false, map, IfOk, OnOk, Some, None};
-ghost use Rattle.clap.specs.Words.{app_of, found_of, rows_of, rule_of, with_rule};
-ghost use Rattle.clap.specs.declared.builder.command.Command.TheViews.{out-Command as fields_of};
+ghost use Rattle.clap.specs.Words.{found_of, rows_of, rule_of, with_rule};
 ghost use Rattle.pylock_command.specs.Choices.{AreChoices, AreOnFiles, Written, extra_rules};
 ghost use Rattle.pylock_command.specs.Choices.{flag_of, flag_rule, group_rules, has_flag};
 ghost use Rattle.pylock_command.specs.Choices.{on_extras, on_groups, other_rules, text_rule};
 ghost use Rattle.pylock_command.specs.Choices.{texts_at, texts_of, with_choices, with_rules};
 ghost use Rattle.pylock_command.specs.Choices.{written};
+ghost use Rattle.pylock_command.specs.Commands.{Adds, IsLocal};
 
 use crate::choice::Choice;
 use clap::{Arg, ArgAction, ArgMatches, Command};
@@ -15,29 +15,32 @@ use std::alloc::{AllocError, Global};
 /// The command, which takes the options of `plan` and `explain` too.
 pub(crate) fn with_choices<'a>(
     alloc: Global,
-    command: Command<'a>,
+    command: Result<Command<'a>, AllocError>,
 ) -> Result<Command<'a>, AllocError>
-    requires local { (fields_of command).has_globals ≡ false }
-    ensures app { IfOk result (λ c. app_of c ≡ with_choices (app_of command.entry)) }
-    ensures local { IfOk result (λ c. (fields_of c).has_globals ≡ false) }
+    requires local { IsLocal command }
+    ensures app { Adds with_choices command.entry result }
+    ensures local { IsLocal result }
 {
-    let command = with_extra_options(alloc, command)?;
-    let command = with_group_options(alloc, command)?;
+    let command = with_extra_options(alloc, command);
+    let command = with_group_options(alloc, command);
     with_other_options(alloc, command)
 }
 
 /// Adds the options on extras.
-fn with_extra_options<'a>(alloc: Global, command: Command<'a>) -> Result<Command<'a>, AllocError>
-    requires local { (fields_of command).has_globals ≡ false }
-    ensures app { IfOk result (λ c. app_of c ≡ with_rules (app_of command.entry) extra_rules) }
-    ensures local { IfOk result (λ c. (fields_of c).has_globals ≡ false) }
+fn with_extra_options<'a>(
+    alloc: Global,
+    command: Result<Command<'a>, AllocError>,
+) -> Result<Command<'a>, AllocError>
+    requires local { IsLocal command }
+    ensures app { Adds (λ app. with_rules app extra_rules) command.entry result }
+    ensures local { IsLocal result }
 {
     let command = with_flag(
         alloc,
         command,
         "all-extras",
         "Ask for each extra of the lock",
-    )?;
+    );
     with_option(
         alloc,
         command,
@@ -48,30 +51,33 @@ fn with_extra_options<'a>(alloc: Global, command: Command<'a>) -> Result<Command
 }
 
 /// Adds the options on dependency groups.
-fn with_group_options<'a>(alloc: Global, command: Command<'a>) -> Result<Command<'a>, AllocError>
-    requires local { (fields_of command).has_globals ≡ false }
-    ensures app { IfOk result (λ c. app_of c ≡ with_rules (app_of command.entry) group_rules) }
-    ensures local { IfOk result (λ c. (fields_of c).has_globals ≡ false) }
+fn with_group_options<'a>(
+    alloc: Global,
+    command: Result<Command<'a>, AllocError>,
+) -> Result<Command<'a>, AllocError>
+    requires local { IsLocal command }
+    ensures app { Adds (λ app. with_rules app group_rules) command.entry result }
+    ensures local { IsLocal result }
 {
     let command = with_flag(
         alloc,
         command,
         "no-default-groups",
         "Leave out the default groups",
-    )?;
+    );
     let command = with_flag(
         alloc,
         command,
         "all-groups",
         "Ask for each group of the lock",
-    )?;
+    );
     let command = with_option(
         alloc,
         command,
         "group",
         "NAME",
         "Ask for a group of the lock: --group test",
-    )?;
+    );
     with_option(
         alloc,
         command,
@@ -82,10 +88,13 @@ fn with_group_options<'a>(alloc: Global, command: Command<'a>) -> Result<Command
 }
 
 /// Adds the options on files and on marker variables.
-fn with_other_options<'a>(alloc: Global, command: Command<'a>) -> Result<Command<'a>, AllocError>
-    requires local { (fields_of command).has_globals ≡ false }
-    ensures app { IfOk result (λ c. app_of c ≡ with_rules (app_of command.entry) other_rules) }
-    ensures local { IfOk result (λ c. (fields_of c).has_globals ≡ false) }
+fn with_other_options<'a>(
+    alloc: Global,
+    command: Result<Command<'a>, AllocError>,
+) -> Result<Command<'a>, AllocError>
+    requires local { IsLocal command }
+    ensures app { Adds (λ app. with_rules app other_rules) command.entry result }
+    ensures local { IsLocal result }
 {
     let command = with_option(
         alloc,
@@ -93,14 +102,14 @@ fn with_other_options<'a>(alloc: Global, command: Command<'a>) -> Result<Command
         "only-binary",
         "NAME",
         "Take wheels alone: --only-binary numpy, or :all:",
-    )?;
+    );
     let command = with_option(
         alloc,
         command,
         "no-binary",
         "NAME",
         "Take no wheels: --no-binary numpy, or :all:",
-    )?;
+    );
     with_option(
         alloc,
         command,
@@ -113,32 +122,45 @@ fn with_other_options<'a>(alloc: Global, command: Command<'a>) -> Result<Command
 /// The command with one more option, which takes no text.
 pub(crate) fn with_flag<'a>(
     alloc: Global,
-    command: Command<'a>,
+    command: Result<Command<'a>, AllocError>,
     name: &'static str,
     help: &'static str,
 ) -> Result<Command<'a>, AllocError>
-    requires local { (fields_of command).has_globals ≡ false }
-    ensures app { IfOk result (λ c. app_of c
-        ≡ with_rule (app_of command.entry) (flag_rule name.now)) }
-    ensures local { IfOk result (λ c. (fields_of c).has_globals ≡ false) }
+    requires local { IsLocal command }
+    ensures app { Adds (λ app. with_rule app (flag_rule name.now)) command.entry result }
+    ensures local { IsLocal result }
 {
-    command.arg(flag(alloc, name, help))
+    with_argument(command, flag(alloc, name, help))
 }
 
 /// The command with one more option, which takes a text.
 fn with_option<'a>(
     alloc: Global,
-    command: Command<'a>,
+    command: Result<Command<'a>, AllocError>,
     name: &'static str,
     value: &'static str,
     help: &'static str,
 ) -> Result<Command<'a>, AllocError>
-    requires local { (fields_of command).has_globals ≡ false }
-    ensures app { IfOk result (λ c. app_of c
-        ≡ with_rule (app_of command.entry) (text_rule name.now)) }
-    ensures local { IfOk result (λ c. (fields_of c).has_globals ≡ false) }
+    requires local { IsLocal command }
+    ensures app { Adds (λ app. with_rule app (text_rule name.now)) command.entry result }
+    ensures local { IsLocal result }
 {
-    command.arg(option(alloc, name, value, help))
+    with_argument(command, option(alloc, name, value, help))
+}
+
+/// The command with one more argument, unless memory ran out. Each step on the way to a command
+/// takes what the one before it gave, and this function alone looks into it: a `?` at each step
+/// would have the command's drop in every proof.
+pub(crate) fn with_argument<'a>(
+    command: Result<Command<'a>, AllocError>,
+    argument: Arg<'a>,
+) -> Result<Command<'a>, AllocError>
+    requires local { IsLocal command }
+    requires plain { argument.global ≡ false }
+    ensures app { Adds (λ app. with_rule app (rule_of argument.entry)) command.entry result }
+    ensures local { IsLocal result }
+{
+    command?.arg(argument)
 }
 
 /// An option without a text.

@@ -2,20 +2,21 @@
 ghost use Rattle.std.specs.Prelude.{◌≡◌, [], map, codes, false, true, Some, IfOk, IfErr, OnOk};
 ghost use Rattle.std.specs.Prelude.{IfSome, IfNone};
 ghost use Rattle.clap.specs.Words.{app_of, fault_of, found_of, new_app, rows_of, rule_of};
-ghost use Rattle.clap.specs.Words.{subcommand_of, subcommand_rows_of, with_rule};
+ghost use Rattle.clap.specs.Words.{subcommand_of, subcommand_rows_of, with_rule, with_subcommand};
 ghost use Rattle.clap.specs.declared.builder.command.Command.TheViews.{out-Command as fields_of};
 ghost use Rattle.pylock_command.specs.Choices.{AreChoices};
 ghost use Rattle.pylock_command.specs.CommandLine.{HaveTexts, IsRefusal, IsTask, chosen_app};
 ghost use Rattle.pylock_command.specs.CommandLine.{is_lacking, lacks_path, lacks_plain_text};
 ghost use Rattle.pylock_command.specs.CommandLine.{lacks_text, lock_app};
-ghost use Rattle.pylock_command.specs.CommandLine.{one_text, paths, place_rule, pylock_app};
+ghost use Rattle.pylock_command.specs.CommandLine.{one_text, paths, place_rule, pylock_app, top_app};
 ghost use Rattle.pylock_command.specs.CommandLine.{two_texts, with_chosen, with_chosen_commands};
 ghost use Rattle.pylock_command.specs.CommandLine.{with_first, with_further, with_lock};
 ghost use Rattle.pylock_command.specs.CommandLine.{with_one, with_two};
+ghost use Rattle.pylock_command.specs.Commands.{Adds, IsCommand, IsLocal};
 ghost use Rattle.pylock_command.specs.Form.{form_of};
 
 use crate::choice::Choice;
-use crate::choices::{choices_of, with_choices};
+use crate::choices::{choices_of, with_argument, with_choices};
 use crate::form::{Form, form_of, with_json};
 use clap::error::ErrorKind;
 use clap::{Arg, ArgMatches, Command};
@@ -457,77 +458,87 @@ const WHEEL_TEXT: Text = Text {
 /// the options of `plan`, and `--json`.
 fn with_chosen<'a>(
     alloc: Global,
-    pylock: Command<'a>,
+    pylock: Result<Command<'a>, AllocError>,
     usage: Usage,
 ) -> Result<Command<'a>, AllocError>
-    ensures { IfOk result (λ c. app_of c ≡ with_chosen (app_of pylock.entry) usage.name.now) }
+    ensures { Adds (λ app. with_chosen app usage.name.now) pylock.entry result }
 {
-    pylock.subcommand(chosen(alloc, usage)?)
+    with_subcommand(pylock?, chosen(alloc, usage))
 }
 
 /// The command `pylock` with one more subcommand, which takes the path of the lock and `--json`.
 fn with_lock<'a>(
     alloc: Global,
-    pylock: Command<'a>,
+    pylock: Result<Command<'a>, AllocError>,
     usage: Usage,
 ) -> Result<Command<'a>, AllocError>
-    ensures { IfOk result (λ c. app_of c ≡ with_lock (app_of pylock.entry) usage.name.now) }
+    ensures { Adds (λ app. with_lock app usage.name.now) pylock.entry result }
 {
-    pylock.subcommand(lock_command(alloc, usage)?)
+    with_subcommand(pylock?, lock_command(alloc, usage))
 }
 
 /// The command `pylock` with one more subcommand, which takes one text.
 fn with_one_text<'a>(
     alloc: Global,
-    pylock: Command<'a>,
+    pylock: Result<Command<'a>, AllocError>,
     usage: Usage,
     text: Text,
 ) -> Result<Command<'a>, AllocError>
-    ensures { IfOk result (λ c. app_of c
-        ≡ with_one (app_of pylock.entry) usage.name.now text.id.now) }
+    ensures { Adds (λ app. with_one app usage.name.now text.id.now) pylock.entry result }
 {
-    pylock.subcommand(one_text(alloc, usage, text)?)
+    with_subcommand(pylock?, one_text(alloc, usage, text))
 }
 
 /// The command `pylock` with one more subcommand, which takes two texts.
 fn with_two_texts<'a>(
     alloc: Global,
-    pylock: Command<'a>,
+    pylock: Result<Command<'a>, AllocError>,
     usage: Usage,
     first: Text,
     second: Text,
 ) -> Result<Command<'a>, AllocError>
-    ensures { IfOk result (λ c. app_of c
-        ≡ with_two (app_of pylock.entry) usage.name.now first.id.now second.id.now) }
+    ensures { Adds (λ app. with_two app usage.name.now first.id.now second.id.now)
+        pylock.entry result }
 {
-    pylock.subcommand(two_texts(alloc, usage, first, second)?)
+    with_subcommand(pylock?, two_texts(alloc, usage, first, second))
+}
+
+/// The command `pylock` with one more subcommand.
+fn with_subcommand<'a>(
+    pylock: Command<'a>,
+    subcommand: Result<Command<'a>, AllocError>,
+) -> Result<Command<'a>, AllocError>
+    requires { IsLocal subcommand }
+    ensures { Adds (λ app. with_subcommand (app_of pylock.entry) app.top) subcommand.entry result }
+{
+    pylock.subcommand(subcommand?)
 }
 
 /// A subcommand that takes the paths of lock and environment, the options of `plan`, and `--json`.
 fn chosen<'a>(alloc: Global, usage: Usage) -> Result<Command<'a>, AllocError>
-    ensures app { IfOk result (λ c. app_of c ≡ chosen_app usage.name.now) }
-    ensures local { IfOk result (λ c. (fields_of c).has_globals ≡ false) }
+    ensures app { IsCommand (chosen_app usage.name.now) result }
+    ensures local { IsLocal result }
 {
-    let command = two_texts(alloc, usage, LOCK, ENV)?;
-    let command = with_choices(alloc, command)?;
+    let command = two_texts(alloc, usage, LOCK, ENV);
+    let command = with_choices(alloc, command);
     with_json(alloc, command)
 }
 
 /// A subcommand that takes the path of the lock and `--json`.
 fn lock_command<'a>(alloc: Global, usage: Usage) -> Result<Command<'a>, AllocError>
-    ensures app { IfOk result (λ c. app_of c ≡ lock_app usage.name.now) }
-    ensures local { IfOk result (λ c. (fields_of c).has_globals ≡ false) }
+    ensures app { IsCommand (lock_app usage.name.now) result }
+    ensures local { IsLocal result }
 {
-    let command = one_text(alloc, usage, LOCK)?;
+    let command = one_text(alloc, usage, LOCK);
     with_json(alloc, command)
 }
 
 /// A subcommand that takes one text.
 fn one_text<'a>(alloc: Global, usage: Usage, text: Text) -> Result<Command<'a>, AllocError>
-    ensures app { IfOk result (λ c. app_of c ≡ one_text usage.name.now text.id.now) }
-    ensures local { IfOk result (λ c. (fields_of c).has_globals ≡ false) }
+    ensures app { IsCommand (one_text usage.name.now text.id.now) result }
+    ensures local { IsLocal result }
 {
-    with_text(alloc, without_texts(alloc, usage), text)
+    with_text(alloc, Ok(without_texts(alloc, usage)), text)
 }
 
 /// A subcommand that takes two texts.
@@ -537,11 +548,10 @@ fn two_texts<'a>(
     first: Text,
     second: Text,
 ) -> Result<Command<'a>, AllocError>
-    ensures app { IfOk result (λ c. app_of c
-        ≡ two_texts usage.name.now first.id.now second.id.now) }
-    ensures local { IfOk result (λ c. (fields_of c).has_globals ≡ false) }
+    ensures app { IsCommand (two_texts usage.name.now first.id.now second.id.now) result }
+    ensures local { IsLocal result }
 {
-    let command = one_text(alloc, usage, first)?;
+    let command = one_text(alloc, usage, first);
     with_text(alloc, command, second)
 }
 
@@ -556,13 +566,16 @@ fn without_texts<'a>(alloc: Global, usage: Usage) -> Command<'a>
 }
 
 /// The command, which takes one more text.
-fn with_text<'a>(alloc: Global, command: Command<'a>, text: Text) -> Result<Command<'a>, AllocError>
-    requires local { (fields_of command).has_globals ≡ false }
-    ensures app { IfOk result (λ c. app_of c
-        ≡ with_rule (app_of command.entry) (place_rule text.id.now)) }
-    ensures local { IfOk result (λ c. (fields_of c).has_globals ≡ false) }
+fn with_text<'a>(
+    alloc: Global,
+    command: Result<Command<'a>, AllocError>,
+    text: Text,
+) -> Result<Command<'a>, AllocError>
+    requires local { IsLocal command }
+    ensures app { Adds (λ app. with_rule app (place_rule text.id.now)) command.entry result }
+    ensures local { IsLocal result }
 {
-    command.arg(argument(alloc, text))
+    with_argument(command, argument(alloc, text))
 }
 
 /// The argument that a text is to clap.
@@ -574,43 +587,57 @@ fn argument<'a>(alloc: Global, text: Text) -> Arg<'a>
 }
 
 /// Adds the run, the commands on the lock alone, and those on versions and names.
-fn with_first<'a>(alloc: Global, pylock: Command<'a>) -> Result<Command<'a>, AllocError>
-    ensures { IfOk result (λ c. app_of c ≡ with_first (app_of pylock.entry)) }
+fn with_first<'a>(
+    alloc: Global,
+    pylock: Result<Command<'a>, AllocError>,
+) -> Result<Command<'a>, AllocError>
+    ensures { Adds with_first pylock.entry result }
 {
-    let pylock = with_two_texts(alloc, pylock, SELECT, LOCK, ENV)?;
-    let pylock = with_lock(alloc, pylock, FILES)?;
-    let pylock = with_lock(alloc, pylock, AUDIT)?;
-    let pylock = with_one_text(alloc, pylock, VERSION_OF, VERSION_TEXT)?;
-    let pylock = with_two_texts(alloc, pylock, MATCH, SET, SET_VERSION)?;
+    let pylock = with_two_texts(alloc, pylock, SELECT, LOCK, ENV);
+    let pylock = with_lock(alloc, pylock, FILES);
+    let pylock = with_lock(alloc, pylock, AUDIT);
+    let pylock = with_one_text(alloc, pylock, VERSION_OF, VERSION_TEXT);
+    let pylock = with_two_texts(alloc, pylock, MATCH, SET, SET_VERSION);
     with_one_text(alloc, pylock, NAME, NAME_TEXT)
 }
 
 /// Adds the commands on markers, requirements and wheels.
-fn with_further<'a>(alloc: Global, pylock: Command<'a>) -> Result<Command<'a>, AllocError>
-    ensures { IfOk result (λ c. app_of c ≡ with_further (app_of pylock.entry)) }
+fn with_further<'a>(
+    alloc: Global,
+    pylock: Result<Command<'a>, AllocError>,
+) -> Result<Command<'a>, AllocError>
+    ensures { Adds with_further pylock.entry result }
 {
-    let pylock = with_two_texts(alloc, pylock, MARKER, MARKER_TEXT, ENV)?;
-    let pylock = with_one_text(alloc, pylock, REQUIREMENT, REQUIREMENT_TEXT)?;
+    let pylock = with_two_texts(alloc, pylock, MARKER, MARKER_TEXT, ENV);
+    let pylock = with_one_text(alloc, pylock, REQUIREMENT, REQUIREMENT_TEXT);
     with_one_text(alloc, pylock, WHEEL, WHEEL_TEXT)
 }
 
 /// Adds the commands with the options of `plan`.
-fn with_chosen_commands<'a>(alloc: Global, pylock: Command<'a>) -> Result<Command<'a>, AllocError>
-    ensures { IfOk result (λ c. app_of c ≡ with_chosen_commands (app_of pylock.entry)) }
+fn with_chosen_commands<'a>(
+    alloc: Global,
+    pylock: Result<Command<'a>, AllocError>,
+) -> Result<Command<'a>, AllocError>
+    ensures { Adds with_chosen_commands pylock.entry result }
 {
-    let pylock = with_chosen(alloc, pylock, PLAN)?;
+    let pylock = with_chosen(alloc, pylock, PLAN);
     with_chosen(alloc, pylock, EXPLAIN)
 }
 
 /// The command `pylock` with its subcommands.
-#[tactic(auto, unfolding(crate::specs::CommandLine::pylock_app))]
 fn pylock_command<'a>(alloc: Global) -> Result<Command<'a>, AllocError>
-    ensures { IfOk result (λ c. app_of c ≡ pylock_app) }
+    ensures { IsCommand pylock_app result }
 {
-    let pylock = Command::new(alloc, "pylock").about(ABOUT).version(VERSION);
-    let pylock = with_chosen_commands(alloc, pylock)?;
-    let pylock = with_first(alloc, pylock)?;
+    let pylock = with_chosen_commands(alloc, Ok(bare_command(alloc)));
+    let pylock = with_first(alloc, pylock);
     with_further(alloc, pylock)
+}
+
+/// The command `pylock` without its subcommands.
+fn bare_command<'a>(alloc: Global) -> Command<'a>
+    ensures { app_of result ≡ top_app }
+{
+    Command::new(alloc, "pylock").about(ABOUT).version(VERSION)
 }
 
 /// The task that clap's matches give: none where a subcommand lacks a text.

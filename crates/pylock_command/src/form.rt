@@ -1,7 +1,7 @@
 //! In which form an answer is printed, and the flag that asks for it.
-ghost use Rattle.std.specs.Prelude.{◌≡◌, false, IfOk};
-ghost use Rattle.clap.specs.Words.{app_of, found_of, rows_of};
-ghost use Rattle.clap.specs.declared.builder.command.Command.TheViews.{out-Command as fields_of};
+ghost use Rattle.std.specs.Prelude.{◌≡◌};
+ghost use Rattle.clap.specs.Words.{found_of, rows_of};
+ghost use Rattle.pylock_command.specs.Commands.{Adds, IsLocal};
 ghost use Rattle.pylock_command.specs.Form.{form_of, with_json};
 
 use crate::choices::{has_flag, with_flag};
@@ -18,10 +18,13 @@ pub enum Form {
 }
 
 /// The command, which takes the flag `--json` too.
-pub(crate) fn with_json<'a>(alloc: Global, command: Command<'a>) -> Result<Command<'a>, AllocError>
-    requires local { (fields_of command).has_globals ≡ false }
-    ensures app { IfOk result (λ c. app_of c ≡ with_json (app_of command.entry)) }
-    ensures local { IfOk result (λ c. (fields_of c).has_globals ≡ false) }
+pub(crate) fn with_json<'a>(
+    alloc: Global,
+    command: Result<Command<'a>, AllocError>,
+) -> Result<Command<'a>, AllocError>
+    requires local { IsLocal command }
+    ensures app { Adds with_json command.entry result }
+    ensures local { IsLocal result }
 {
     with_flag(
         alloc,
