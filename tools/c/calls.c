@@ -1,6 +1,7 @@
 /* Calls each function of the library for C: answers, refusals, buffers that are too small, empty
-   slots, texts that are no UTF-8. The last line counts. With REFUSE_GROWTH (tools/growths/refuse.c)
-   a call may answer PYLOCK_MEMORY; it has changed nothing then, so it is made again. */
+   slots, texts that are no UTF-8. With the word `edits` it makes edits of each kind in two sessions
+   instead. The last line counts. With REFUSE_GROWTH (tools/growths/refuse.c) a call may answer
+   PYLOCK_MEMORY; it has changed nothing then, so it is made again. */
 #include "pylock.h"
 
 #include <stdio.h>
@@ -404,6 +405,70 @@ static void answers(void)
     pylock_environment_free(&environment);
 }
 
+/* a lock, an entry and an environment, with each key that takes memory */
+static const char KEYED[] =
+    "lock-version = \"1.0\"\ncreated-by = \"t\"\nenvironments = [\"os_name == 'posix'\"]\n"
+    "requires-python = \">=3.9\"\nextras = [\"a\", \"A\"]\ndependency-groups = [\"dev\"]\n"
+    "default-groups = [\"main\"]\npackages = [\n"
+    "{name=\"A_a\", version=\"1\", marker=\"os_name == 'posix'\", requires-python=\">=3.9\", "
+    "sdist={url=\"https://h/a%2B1.tar.gz\", hashes={sha256=\"00\"}}, "
+    "wheels=[{path=\"w/a-1-py3-none-any.whl\"}]},\n"
+    "{name=\"b\", marker=\"os_name == 'posix'\", requires-python=\">=3.9\", "
+    "vcs={type=\"git\", commit-id=\"f0\", url=\"u\"}}]\n";
+#define SOURCED "{name=\"A_a\", marker=\"os_name == 'nt'\", requires-python=\"<4\", " \
+                "archive={path=\"p\", hashes={sha256=\"00\"}}, " \
+                "directory={path=\"d\", editable=true, subdirectory=\"s\"}, " \
+                "wheels=[{url=\"h/a-1-py3-none-any.whl\"}, {name=\"n\", path=\"p\"}]}"
+static const char NT[] =
+    "{\"environment\":{\"os_name\":\"nt\",\"python_full_version\":\"3.12.0\"},"
+    "\"tags\":[\"py3-none-any\",\"PY3-none-any\",\"py2-none-any\"]}";
+
+static void reads(void)
+{
+    pylock_text out = {0}, words = {0};
+    pylock_environment environment = {0};
+    pylock_marker marker = {0};
+    int32_t status = 7;
+    bool value = false;
+    IS(pylock_lock_head(TEXT(KEYED), &out, &words), PYLOCK_OK);
+    HOLDS(has(&out, "{\"default_groups\":[\"main\"],\"environments\":[\"os_name == 'posix'\"],"
+                    "\"extras\":[\"a\"],\"groups\":[\"dev\"],\"pylock\":1,"
+                    "\"requires_python\":\">=3.9\"}\n"));
+    IS(pylock_files(TEXT(KEYED), false, &out, &status), PYLOCK_OK);
+    HOLDS(has(&out, "files 3\n"
+                    "1\ta-a\t1\twheel\ta-1-py3-none-any.whl\tw/a-1-py3-none-any.whl\t-\t-\t-\n"
+                    "1\ta-a\t1\tsdist\ta+1.tar.gz\thttps://h/a%2B1.tar.gz\tsha256=00\t-\t-\n"
+                    "2\tb\t-\tvcs\t-\tu\t-\tgit@f0\t-\n"));
+    IS(pylock_explain(TEXT(KEYED), TEXT(NT), false, &out, &status), PYLOCK_OK);
+    HOLDS(has(&out, "head\tno-environment\t-\n1\ta-a\t1\tskipped\tos_name == 'posix'\n"
+                    "2\tb\t-\tskipped\tos_name == 'posix'\n"));
+    IS(pylock_explain(TEXT(KEYED),
+                      TEXT("{\"environment\":{\"os_name\":\"posix\",\"python_full_version\":"
+                           "\"3.8\"},\"tags\":[]}"),
+                      false, &out, &status),
+       PYLOCK_OK);
+    HOLDS(has(&out, "head\tpython-not-met\t>=3.9\n1\ta-a\t1\tpython-not-met\t>=3.9\n"
+                    "2\tb\t-\tpython-not-met\t>=3.9\n"));
+    IS(pylock_files(TEXT("lock-version = \"1.0\"\ncreated-by = \"t\"\npackages = [" SOURCED "]\n"),
+                    false, &out, &status),
+       PYLOCK_OK);
+    HOLDS(has(&out, "files 4\n1\ta-a\t-\teditable\t-\td\t-\t-\ts\n"
+                    "1\ta-a\t-\tarchive\t-\tp\tsha256=00\t-\t-\n"
+                    "1\ta-a\t-\twheel\ta-1-py3-none-any.whl\th/a-1-py3-none-any.whl\t-\t-\t-\n"
+                    "1\ta-a\t-\twheel\tn\tp\t-\t-\t-\n"));
+    IS(pylock_environment_read(&environment, TEXT(NT), &words), PYLOCK_OK);
+    IS(pylock_marker_parse(&marker, TEXT("os_name == 'nt' and python_full_version == '3.12.0'")),
+       PYLOCK_OK);
+    IS(pylock_marker_evaluate(&marker, &environment, &value), PYLOCK_OK);
+    HOLDS(value);
+    IS(pylock_marker_parse(&marker, TEXT("sys_platform == 'x'")), PYLOCK_OK);
+    IS(pylock_marker_evaluate(&marker, &environment, &value), PYLOCK_VALUE_UNSET);
+    HOLDS(!words.full);
+    pylock_text_free(&out);
+    pylock_marker_free(&marker);
+    pylock_environment_free(&environment);
+}
+
 /* ---- sessions ---- */
 
 #define EMPTY "lock-version = \"1.0\"\ncreated-by = \"c\"\n"
@@ -594,6 +659,46 @@ static void long_lines(pylock_session *session)
     HOLDS(judged == 77);
 }
 
+/* the same entry, and each of its sources alone, as texts of edits */
+static void read_entries(void)
+{
+    pylock_session session = {0};
+    pylock_text text = {0};
+    uint64_t judged = 77;
+    bool is_plan = false;
+    IS(pylock_session_start(&session, TEXT(EMPTY), TEXT(NT), &text), PYLOCK_OK);
+    IS(pylock_session_add(&session, TEXT(SOURCED), &judged), PYLOCK_OK);
+    IS(pylock_session_explain(&session, false, &text, &is_plan), PYLOCK_OK);
+    HOLDS(has(&text, "head\tok\t-\n1\ta-a\t-\tsources\tdirectory,archive,wheel\n"));
+    IS(pylock_session_set(&session, TEXT("python_full_version"), TEXT("4"), &judged), PYLOCK_OK);
+    IS(pylock_session_explain(&session, false, &text, &is_plan), PYLOCK_OK);
+    HOLDS(has(&text, "head\tok\t-\n1\ta-a\t-\tpython-not-met\t<4\n"));
+    IS(pylock_session_set(&session, TEXT("os_name"), TEXT("posix"), &judged), PYLOCK_OK);
+    IS(pylock_session_explain(&session, false, &text, &is_plan), PYLOCK_OK);
+    HOLDS(has(&text, "head\tok\t-\n1\ta-a\t-\tskipped\tos_name == 'nt'\n"));
+    IS(pylock_session_put(&session, 1,
+                          TEXT("{name=\"A_a\", directory={path=\"d\", editable=true, "
+                               "subdirectory=\"s\"}}"),
+                          &judged),
+       PYLOCK_OK);
+    stands(&session, "plan 1\n1\ta-a\t-\teditable\t-\td\t-\t-\ts\n", true, "1");
+    IS(pylock_session_put(&session, 1,
+                          TEXT("{name=\"a\", archive={path=\"p\", hashes={sha256=\"00\"}}}"),
+                          &judged),
+       PYLOCK_OK);
+    stands(&session, "plan 1\n1\ta\t-\tarchive\t-\tp\tsha256=00\t-\t-\n", true, "1");
+    IS(pylock_session_put(&session, 1,
+                          TEXT("{name=\"a\", wheels=[{name=\"n\", path=\"p\"}, "
+                               "{url=\"h/a-1-py2-none-any.whl\"}]}"),
+                          &judged),
+       PYLOCK_OK);
+    stands(&session,
+           "plan 1\n1\ta\t-\twheel\ta-1-py2-none-any.whl\th/a-1-py2-none-any.whl\t-\t-\t-\n", true,
+           "1");
+    pylock_text_free(&text);
+    pylock_session_free(&session);
+}
+
 /* The last number is given out. Not with refused growths, which would be too many, so it isn't
    counted. */
 static void last_number(void)
@@ -622,6 +727,7 @@ static void sessions(void)
     pylock_text words = {0};
     empty_sessions();
     started_sessions();
+    read_entries();
     IS(pylock_session_start(&session, TEXT(EDITED), TEXT(TAGGED), &words), PYLOCK_OK);
     edited_sessions(&session);
     refused_edits(&session);
@@ -631,9 +737,200 @@ static void sessions(void)
     last_number();
 }
 
-int main(void)
+/* ---- edits of each kind ---- */
+
+/* what a session shows: the numbers judged last, what becomes of each entry, and the answer */
+struct shown {
+    char judged[16], entries[256], answer[256];
+};
+
+/* a call that has to succeed, and isn't counted */
+#define MUST(call) \
+    do { \
+        int32_t code = (call); \
+        if (gave_up(code)) code = (call); \
+        if (code != PYLOCK_OK) is(__LINE__, code, PYLOCK_OK); \
+    } while (0)
+
+/* moves a text into room that is all zeros, where it is to be shorter */
+static void move(pylock_text *text, char *out, size_t room)
 {
-    may_refuse = getenv("REFUSE_GROWTH") != NULL;
+    size_t needed = 0;
+    MUST(pylock_text_copy(text, (uint8_t *)out, room - 1, &needed));
+    pylock_text_free(text);
+}
+
+static void show(pylock_session *session, struct shown *shown)
+{
+    pylock_text text = {0};
+    bool is_plan = false;
+    memset(shown, 0, sizeof *shown);
+    MUST(pylock_session_judged(session, &text));
+    move(&text, shown->judged, sizeof shown->judged);
+    MUST(pylock_session_explain(session, false, &text, &is_plan));
+    move(&text, shown->entries, sizeof shown->entries);
+    MUST(pylock_session_answer(session, false, &text, &is_plan));
+    move(&text, shown->answer, sizeof shown->answer);
+}
+
+enum kind { START, SET, UNSET, EXTRA, NO_EXTRA, GROUP, NO_GROUP, TAGS, POLICY, ADD, PUT, DEL };
+
+/* An edit of a variable, a name or a number, and what the session shows after it: the numbers judged
+   by it, a digit each; the names of the entries 1 to 4, a letter each, and - where none is; and the
+   answer. */
+struct step {
+    enum kind kind;
+    const char *name;
+    uint32_t number;
+    const char *text, *judged, *names, *answer;
+};
+
+static int32_t make(pylock_session *session, const struct step *step, uint64_t *judged)
+{
+    switch (step->kind) {
+    case START: break;
+    case SET: return pylock_session_set(session, TEXT(step->name), TEXT(step->text), judged);
+    case UNSET: return pylock_session_unset(session, TEXT(step->name), judged);
+    case EXTRA: return pylock_session_add_extra(session, TEXT(step->name), judged);
+    case NO_EXTRA: return pylock_session_drop_extra(session, TEXT(step->name), judged);
+    case GROUP: return pylock_session_add_group(session, TEXT(step->name), judged);
+    case NO_GROUP: return pylock_session_drop_group(session, TEXT(step->name), judged);
+    case TAGS: return pylock_session_tags(session, TEXT(step->text), judged);
+    case POLICY: return pylock_session_policy(session, TEXT(step->name), TEXT(step->text), judged);
+    case ADD: return pylock_session_add(session, TEXT(step->text), judged);
+    case PUT: return pylock_session_put(session, step->number, TEXT(step->text), judged);
+    case DEL: return pylock_session_del(session, step->number, judged);
+    }
+    return -1;
+}
+
+/* whether the record has just these numbers, a digit each */
+static bool are_numbers(const char *record, const char *digits)
+{
+    size_t count = strlen(digits);
+    if (strlen(record) != (count ? 2 * count - 1 : 0)) return false;
+    for (size_t i = 0; i < count; i++)
+        if (record[2 * i] != digits[i]) return false;
+    return true;
+}
+
+/* whether the entries, whose lines stand behind that of the head, have these names */
+static bool are_named(const char *lines, const char *names)
+{
+    char found[] = "----";
+    const char *end = strchr(lines, '\n');
+    for (; end && end[1]; end = strchr(end + 1, '\n')) {
+        if (end[1] < '1' || end[1] > '4' || end[2] != '\t' || end[4] != '\t') return false;
+        found[end[1] - '1'] = end[3];
+    }
+    return strcmp(found, names) == 0;
+}
+
+/* Makes the edit of a step, a second time where a growth of it was refused: it has changed nothing
+   then of what the session showed before it. */
+static void take(pylock_session *session, const struct step *step, struct shown *shown)
+{
+    struct shown left;
+    uint64_t judged = 77;
+    int32_t code = make(session, step, &judged);
+    if (gave_up(code)) {
+        show(session, &left);
+        if (judged != 77 || memcmp(&left, shown, sizeof left) != 0) holds(__LINE__, false);
+        code = make(session, step, &judged);
+    }
+    is(__LINE__, code, PYLOCK_OK);
+    HOLDS(judged == strlen(step->judged));
+}
+
+static void take_each(const char *lock, const char *environment, const struct step *steps,
+                      size_t count)
+{
+    pylock_session session = {0};
+    pylock_text words = {0};
+    struct shown shown;
+    IS(pylock_session_start(&session, TEXT(lock), TEXT(environment), &words), PYLOCK_OK);
+    for (size_t i = 0; i < count; i++) {
+        int before = failed;
+        if (steps[i].kind != START) take(&session, &steps[i], &shown);
+        show(&session, &shown);
+        HOLDS(are_numbers(shown.judged, steps[i].judged));
+        HOLDS(are_named(shown.entries, steps[i].names));
+        HOLDS(strcmp(shown.answer, steps[i].answer) == 0);
+        if (failed > before)
+            printf("step %d: judged %s\n%s%s", (int)i, shown.judged, shown.entries, shown.answer);
+    }
+    pylock_session_free(&session);
+}
+
+#define WHEEL_A "1\ta\t-\twheel\ta-1-py3-none-any.whl\ta-1-py3-none-any.whl\t-\t-\t-\n"
+#define SDIST_A "1\ta\t-\tsdist\ta-1.tar.gz\ta-1.tar.gz\t-\t-\t-\n"
+#define FOLDER_A "1\ta\t-\tdirectory\t-\ta\t-\t-\t-\n"
+#define FOLDER_B "2\tb\t-\tdirectory\t-\tb\t-\t-\t-\n"
+#define FOLDER_C "3\tc\t-\tdirectory\t-\tc\t-\t-\t-\n"
+#define FOLDER_D "4\td\t-\tdirectory\t-\td\t-\t-\t-\n"
+#define VCS_E "4\te\t-\tvcs\t-\tu\t-\tgit@f\t-\n"
+#define PYTHON "python_full_version"
+
+/* each kind of edit, each after those before it */
+static const struct step SOURCE_STEPS[] = {
+    {START, "", 0, "", "0123", "abc-", "plan 1\n" WHEEL_A},
+    {EXTRA, "x", 0, "", "2", "abc-", "plan 2\n" WHEEL_A FOLDER_B},
+    {GROUP, "dev", 0, "", "3", "abc-", "plan 3\n" WHEEL_A FOLDER_B FOLDER_C},
+    {SET, PYTHON, 0, "3.8", "3", "abc-", "fault 3\tpython-not-met\n"},
+    {UNSET, PYTHON, 0, "", "3", "abc-", "fault 3\tpython-unknown\n"},
+    {NO_GROUP, "dev", 0, "", "3", "abc-", "plan 2\n" WHEEL_A FOLDER_B},
+    {TAGS, "", 0, "", "1", "abc-", "plan 2\n" SDIST_A FOLDER_B},
+    {POLICY, "A", 0, "wheel", "1", "abc-", "fault 1\tno-file\n"},
+    {POLICY, "a", 0, "source", "1", "abc-", "plan 2\n" SDIST_A FOLDER_B},
+    {POLICY, "zz", 0, "wheel", "", "abc-", "plan 2\n" SDIST_A FOLDER_B},
+    {ADD, "", 0, "{name=\"d\", directory={path=\"d\"}}", "4", "abcd",
+     "plan 3\n" SDIST_A FOLDER_B FOLDER_D},
+    {PUT, "", 4,
+     "{name=\"e\", marker=\"os_name == 'nt'\", vcs={type=\"git\", commit-id=\"f\", url=\"u\"}}",
+     "4", "abce", "plan 2\n" SDIST_A FOLDER_B},
+    {SET, "os_name", 0, "nt", "4", "abce", "plan 3\n" SDIST_A FOLDER_B VCS_E},
+    {NO_EXTRA, "x", 0, "", "2", "abce", "plan 2\n" SDIST_A VCS_E},
+    {DEL, "", 4, "", "", "abc-", "plan 1\n" SDIST_A},
+};
+
+/* edits where an extra and a group are asked for, and the head reads python_full_version */
+static const struct step ASKED_STEPS[] = {
+    {START, "", 0, "", "0123", "abc-", "plan 1\n" FOLDER_A},
+    {EXTRA, "x", 0, "", "2", "abc-", "plan 2\n" FOLDER_A FOLDER_B},
+    {GROUP, "g", 0, "", "3", "abc-", "plan 3\n" FOLDER_A FOLDER_B FOLDER_C},
+    {SET, PYTHON, 0, "3.13.0", "03", "abc-", "plan 3\n" FOLDER_A FOLDER_B FOLDER_C},
+    {SET, PYTHON, 0, "3.8.1", "03", "abc-", "fault 0\tpython-not-met\n"},
+    {UNSET, PYTHON, 0, "", "03", "abc-", "fault 0\tpython-unknown\n"},
+    {SET, PYTHON, 0, "3.9", "03", "abc-", "plan 3\n" FOLDER_A FOLDER_B FOLDER_C},
+    {SET, "os_name", 0, "nt", "1", "abc-", "plan 2\n" FOLDER_B FOLDER_C},
+    {NO_EXTRA, "X", 0, "", "2", "abc-", "plan 1\n" FOLDER_C},
+    {NO_GROUP, "G", 0, "", "3", "abc-", "plan 0\n"},
+    {DEL, "", 1, "", "", "-bc-", "plan 0\n"},
+};
+
+#define STEPS(steps) (steps), sizeof(steps) / sizeof *(steps)
+#define AT_POSIX "{\"environment\":{\"os_name\":\"posix\",\"python_full_version\":\"3.12.0\"},"
+
+static void edits(void)
+{
+    take_each(EMPTY "extras = [\"x\"]\ndependency-groups = [\"dev\"]\npackages = ["
+                    "{name=\"a\", sdist={path=\"a-1.tar.gz\"}, "
+                    "wheels=[{path=\"a-1-py3-none-any.whl\"}]}, "
+                    "{name=\"b\", marker=\"'x' in extras\", directory={path=\"b\"}}, "
+                    "{name=\"c\", marker=\"'dev' in dependency_groups\", "
+                    "requires-python=\">=3.9\", directory={path=\"c\"}}]\n",
+              AT_POSIX "\"tags\":[\"py3-none-any\"]}", STEPS(SOURCE_STEPS));
+    take_each(EMPTY "requires-python = \">=3.9\"\nextras = [\"x\"]\ndependency-groups = [\"g\"]\n"
+                    "packages = [{name=\"a\", marker=\"os_name == 'posix'\", "
+                    "directory={path=\"a\"}}, "
+                    "{name=\"b\", marker=\"'x' in extras\", directory={path=\"b\"}}, "
+                    "{name=\"c\", marker=\"'g' in dependency_groups\", "
+                    "requires-python=\">=3.9\", directory={path=\"c\"}}]\n",
+              AT_POSIX "\"tags\":[]}", STEPS(ASKED_STEPS));
+}
+
+static void calls(void)
+{
     IS((int32_t)pylock_abi(), 1);
     names();
     version_keys();
@@ -645,7 +942,17 @@ int main(void)
     markers();
     extras();
     answers();
+    reads();
     sessions();
+}
+
+int main(int count, char **words)
+{
+    may_refuse = getenv("REFUSE_GROWTH") != NULL;
+    if (count > 1 && strcmp(words[1], "edits") == 0)
+        edits();
+    else
+        calls();
     printf("calls: %d passed, %d failed\n", passed, failed);
     return failed ? 1 : 0;
 }

@@ -10,7 +10,7 @@
 //! and judges again exactly what the edit touches; a refused edit leaves the session as it was.
 //! [`Session::fates`] tells what becomes of each entry.
 //!
-//! A session, from `crates/pylock_program_tests/src/documents.rt`:
+//! A session, from `crates/pylock_core_tests/src/sessions.rt`:
 //!
 //! ```rust
 //! let lock = Lock::read(alloc, lock.as_bytes())?;
@@ -18,7 +18,7 @@
 //! Ok(Session::start(alloc, lock, environment, tags)?)
 //! ```
 //!
-//! Its answer as text, from `crates/pylock_core_tests/src/sessions.rt`:
+//! Its answer as text, from `crates/pylock_core_tests/src/sessions.rt` too:
 //!
 //! ```rust
 //! match session.answer()? {

@@ -14,7 +14,7 @@ pub(super) const TAG_LISTS: [&[&str]; 4] = [
     &["py3-none-any", "cp312-cp312-linux_x86_64"],
 ];
 
-pub(super) fn label(alloc: Global, text: &str) -> Result<Label, AllocError> {
+fn label(alloc: Global, text: &str) -> Result<Label, AllocError> {
     Ok(Label::new(String::from_str(alloc, text)?))
 }
 

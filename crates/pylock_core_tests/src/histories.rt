@@ -368,10 +368,7 @@ fn started(alloc: Global, state: &State) -> Result<Session, Fail> {
     let lines = format!(in alloc; "{HEAD}{packages}")?;
     let members = members(alloc, state)?;
     let tags = tag_items(alloc, state.tags)?;
-    match session(alloc, lines.as_str(), members.as_str(), tags.as_str())? {
-        Some(session) => Ok(session),
-        None => Err(Fail::from("the lock or the environment is refused")),
-    }
+    session(alloc, lines.as_str(), members.as_str(), tags.as_str())
 }
 
 /// Makes an edit that has to be accepted.

@@ -1,15 +1,12 @@
-//! Tests of locks and sessions that take more than one text and what it gives: long lists of edits,
-//! and memory that is refused. The worked examples are the cases of `crates/cases`.
+//! Tests of locks and sessions that take more than one text and what it gives, as long lists of
+//! edits. The worked examples are the cases of `crates/cases`; `tools/c-library` refuses each growth
+//! of a session's edits in turn.
 #![tactic(auto)]
 
 #[cfg(test)]
 mod calls;
 #[cfg(test)]
-mod edit_growths;
-#[cfg(test)]
 mod edits;
-#[cfg(test)]
-mod growths;
 #[cfg(test)]
 mod histories;
 #[cfg(test)]

@@ -1,6 +1,7 @@
 //! Sessions from texts, and their answers as text.
 use pylock_core::{Answer, Lock, Plan, Session, read_environment};
 use std::alloc::{AllocError, Global};
+use std::test::Fail;
 
 /// A lock with these lines behind its first two.
 pub(super) fn with_head(alloc: Global, text: &str) -> Result<String, AllocError> {
@@ -13,16 +14,12 @@ pub(super) fn session(
     lines: &str,
     members: &str,
     tags: &str,
-) -> Result<Option<Session>, AllocError> {
+) -> Result<Session, Fail> {
     let lock = with_head(alloc, lines)?;
     let environment = format!(in alloc; "{{\"environment\":{{{members}}},\"tags\":[{tags}]}}")?;
-    let Ok(lock) = Lock::read(alloc, lock.as_bytes()) else {
-        return Ok(None);
-    };
-    let Ok((environment, tags)) = read_environment(alloc, environment.as_bytes()) else {
-        return Ok(None);
-    };
-    Ok(Some(Session::start(alloc, lock, environment, tags)?))
+    let lock = Lock::read(alloc, lock.as_bytes())?;
+    let (environment, tags) = read_environment(alloc, environment.as_bytes())?;
+    Ok(Session::start(alloc, lock, environment, tags)?)
 }
 
 /// The answer as `plan` with the number and source of each pick, or `fault` with its number and
@@ -38,15 +35,6 @@ fn plan_text(alloc: Global, plan: &Plan) -> Result<String, AllocError> {
     let mut text = String::from_str(alloc, "plan")?;
     for pick in plan.picks() {
         write!(text, " {} {:?}", pick.id, pick.source)?;
-    }
-    Ok(text)
-}
-
-/// What becomes of each entry: a line for each, with its number.
-pub(super) fn fates(alloc: Global, session: &Session) -> Result<String, AllocError> {
-    let mut text = String::new(alloc);
-    for (number, fate) in &session.fates()? {
-        write!(text, "{number} {fate:?}\n")?;
     }
     Ok(text)
 }

@@ -7,11 +7,13 @@
 //! [`plan_document`]. Each call gives an [`Object`](pylock_json::Object); its text is that of
 //! `pylock_json`'s `document`.
 //!
-//! The files of a lock, from `crates/pylock_program_tests/src/documents.rt`:
+//! The files of a lock, as lines or as a document, from `crates/pylock_program/src/reply.rt`:
 //!
 //! ```rust
-//! let lock = Lock::read(alloc, LOCK.as_bytes())?;
-//! let object = files_document(alloc, lock.entries())?;
+//! match form {
+//!     Form::Lines => push_files(alloc, out, entries)?,
+//!     Form::Json => push_document(alloc, out, files_document(alloc, entries)?)?,
+//! }
 //! ```
 //!
 //! Its `specs/` has the definitions: `Source` says which members the object of a source has, and

@@ -13,12 +13,6 @@ pub(crate) const HEAD: &str = "lock-version = \"1.0\"\ncreated-by = \"t\"\n";
 /// The environment with nothing set.
 pub(crate) const ENVIRONMENT: &str = "{\"environment\":{},\"tags\":[]}";
 
-/// A lock of two entries.
-pub(crate) const LOCK: &str =
-    "lock-version = \"1.0\"\ncreated-by = \"t\"\npackages = [{name=\"B_b\", version=\"1.0\", \
-        directory={path=\"./b\"}}, {name=\"a\", version=\"2\", \
-        sdist={url=\"https://h/a-2.tar.gz\", hashes={sha256=\"00\"}}}]\n";
-
 /// How much a run writes at most, and is given at once.
 pub(crate) const ROOM: usize = 65_536;
 
@@ -77,26 +71,12 @@ pub(crate) fn check_bytes<R: Abort>(rt: &R, bytes: &[u8], wanted: &[u8]) {
 }
 
 /// What a call answers, and the text that it writes.
-pub(crate) type End<'a> = (Result<u8, RunFault>, &'a [u8]);
+type End<'a> = (Result<u8, RunFault>, &'a [u8]);
 
 /// The call ended as it should.
-pub(crate) fn check_end<R: Abort>(rt: &R, end: End<'_>, wanted: End<'_>) {
+fn check_end<R: Abort>(rt: &R, end: End<'_>, wanted: End<'_>) {
     assert_eq!(rt; end.0, wanted.0);
     assert_eq!(rt; end.1, wanted.1);
-}
-
-/// The fault is that, and what is written is a front of the text.
-pub(crate) fn check_front<R: Abort>(rt: &R, end: End<'_>, fault: RunFault, text: &[u8], at: u64) {
-    assert_eq!(rt; end.0, Err(fault), "{at}");
-    assert!(rt; text.starts_with(end.1), "{at}");
-}
-
-/// Where a growth was refused, a front of the text is written; else the call ended as it should.
-pub(crate) fn check_growth<R: Abort>(rt: &R, end: End<'_>, wanted: End<'_>) {
-    match end.0 {
-        Ok(_) => check_end(rt, end, wanted),
-        Err(_) => check_front(rt, end, RunFault::Memory, wanted.1, 0),
-    }
 }
 
 /// A run over what the reader gives ends so.

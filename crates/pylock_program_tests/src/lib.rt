@@ -1,18 +1,10 @@
-//! Runs, replies and the program over readers and writers that fail or have no end; sources and
-//! sinks; JSON documents; and what happens where memory is refused. The worked examples stand in
-//! the data of `cases`.
+//! Runs and the program over readers, writers and files that fail or have no end; sources and
+//! sinks; and JSON documents. The worked examples stand in the data of `cases`. `tools/program` has
+//! the reads and the writes of the built program fail in turn, and refuses its growths.
 #![tactic(auto)]
 
 #[cfg(test)]
 mod check;
-#[cfg(test)]
-mod documents;
-#[cfg(test)]
-mod failures;
-#[cfg(test)]
-mod fronts;
-#[cfg(test)]
-mod growths;
 #[cfg(test)]
 mod json;
 #[cfg(test)]
@@ -21,7 +13,5 @@ mod memory;
 mod pieces;
 #[cfg(test)]
 mod program;
-#[cfg(test)]
-mod replies;
 #[cfg(test)]
 mod stream;

@@ -9,73 +9,33 @@ use std::io::ErrorKind;
 use std::process::Abort;
 use std::test::Fail;
 
-fn check_answer<R: Abort>(rt: &R, answer: Result<u8, Failure>, wanted: Result<u8, Failure>) {
-    assert_eq!(rt; answer, wanted);
+fn check_answer<R: Abort>(rt: &R, answer: Result<u8, Failure>, failure: Failure) {
+    assert_eq!(rt; answer, Err(failure));
 }
 
-/// A task on an empty lock and on no input, with the write of that number failing, ends so.
+/// A task on an empty lock fails so, and prints nothing.
 fn check_task<R: Abort + AllocGlobal>(
     rt: &R,
     task: Task<'_>,
-    fail_at: Option<u64>,
-    wanted: Result<u8, Failure>,
-    text: &str,
+    failure: Failure,
 ) -> Result<(), AllocError> {
     let mut notes = Room::new(rt.alloc(), 1_000, 1_000, None)?;
-    check_noted(rt, task, fail_at, wanted, text, &mut notes)
+    check_noted(rt, task, failure, &mut notes)
 }
 
 /// The same; what a person is told goes to `notes`.
 fn check_noted<R: Abort + AllocGlobal>(
     rt: &R,
     task: Task<'_>,
-    fail_at: Option<u64>,
-    wanted: Result<u8, Failure>,
-    text: &str,
+    failure: Failure,
     notes: &mut Room,
 ) -> Result<(), AllocError> {
     let shelf = Shelf::new(rt.alloc(), HEAD.as_bytes(), ENVIRONMENT.as_bytes());
     let mut reader = Pieces::new(b"", 1, None);
-    let mut room = Room::new(rt.alloc(), 100, 4, fail_at)?;
+    let mut room = Room::new(rt.alloc(), 100, 4, None)?;
     let answer = perform(rt.alloc(), task, &shelf, &mut reader, &mut room, notes);
-    check_answer(rt, answer, wanted);
-    check_bytes(rt, room.bytes(), text.as_bytes());
-    Ok(())
-}
-
-#[test]
-fn greets(rt: HostRuntime) -> Result<(), Fail> {
-    check_task(&rt, Task::Bare, None, Ok(0), "pylock 1\n")?;
-    check_task(&rt, Task::Bare, Some(2), Err(Failure::Write), "pylo")?;
-    Ok(())
-}
-
-/// What `audit` prints of a lock without entries.
-const AUDITED: &str = "findings 1\n0\t-\tno-packages\t-\n";
-
-#[test]
-fn reads_both_files(rt: HostRuntime) -> Result<(), Fail> {
-    for (task, status, text) in [
-        (Task::Select("lock", "environment"), 0, "plan 0\n"),
-        (Task::Select("environment", "lock"), 2, "lock\ttoml\n"),
-        (Task::Select("lock", "lock"), 2, "environment\tjson\n"),
-        (
-            Task::Plan("lock", "environment", Vec::new(rt.alloc()), Form::Lines),
-            0,
-            "plan 0\n",
-        ),
-        (
-            Task::Explain("lock", "environment", Vec::new(rt.alloc()), Form::Lines),
-            0,
-            "head\tok\t-\n",
-        ),
-        (Task::Files("lock", Form::Lines), 0, "files 0\n"),
-        (Task::Audit("lock", Form::Lines), 1, AUDITED),
-        (Task::Marker("'a' == 'a'", "environment"), 0, "true\n"),
-        (Task::Marker("'a' == 'a'", "lock"), 2, "environment\tjson\n"),
-    ] {
-        check_task(&rt, task, None, Ok(status), text)?;
-    }
+    check_answer(rt, answer, failure);
+    check_bytes(rt, room.bytes(), b"");
     Ok(())
 }
 
@@ -107,7 +67,7 @@ fn refuses_either_file(rt: HostRuntime) -> Result<(), Fail> {
         (Task::Audit("absent", Form::Json), Failure::NamedFile),
         (Task::Marker("'a' == 'a'", "large"), Failure::File),
     ] {
-        check_task(&rt, task, None, Err(failure), "")?;
+        check_task(&rt, task, failure)?;
     }
     Ok(())
 }
@@ -125,15 +85,8 @@ fn tells_which_file(rt: HostRuntime) -> Result<(), Fail> {
         ("\u{1b}[m", "pylock: file: \\u{1b}[m: can't be read\n"),
     ] {
         let mut notes = Room::new(rt.alloc(), 100, 7, None)?;
-        let failure = Err(Failure::NamedFile);
-        check_noted(
-            &rt,
-            Task::Files(path, Form::Lines),
-            None,
-            failure,
-            "",
-            &mut notes,
-        )?;
+        let task = Task::Files(path, Form::Lines);
+        check_noted(&rt, task, Failure::NamedFile, &mut notes)?;
         check_bytes(&rt, notes.bytes(), line.as_bytes());
     }
     Ok(())
@@ -142,30 +95,9 @@ fn tells_which_file(rt: HostRuntime) -> Result<(), Fail> {
 #[test]
 fn tells_nothing_where_a_note_fails(rt: HostRuntime) -> Result<(), Fail> {
     let mut notes = Room::new(rt.alloc(), 100, 100, Some(1))?;
-    let failure = Err(Failure::NamedFile);
-    check_noted(
-        &rt,
-        Task::Audit("missing", Form::Lines),
-        None,
-        failure,
-        "",
-        &mut notes,
-    )?;
+    let task = Task::Audit("missing", Form::Lines);
+    check_noted(&rt, task, Failure::NamedFile, &mut notes)?;
     check_bytes(&rt, notes.bytes(), b"");
-    Ok(())
-}
-
-#[test]
-fn replies(rt: HostRuntime) -> Result<(), Fail> {
-    for (task, status, text) in [
-        (Task::Version("1.0-rc1"), 0, "1.0rc1\n"),
-        (Task::Match("<2", "1"), 0, "true\n"),
-        (Task::Name("A_b"), 0, "a-b\n"),
-        (Task::Requirement("-a"), 1, "refused\tname\n"),
-        (Task::Wheel("a.whl"), 1, "refused\tparts\n"),
-    ] {
-        check_task(&rt, task, None, Ok(status), text)?;
-    }
     Ok(())
 }
 
