@@ -3,7 +3,7 @@
 //! leaves what was there, or answers just what it answers with ample memory.
 
 use pymark_core::{
-    Environment, EvalFault, Key, Marker, MarkerError, Names, Requirement, RequirementError, Var,
+    Environment, EvalFault, Key, Marker, MarkerError, Requirement, RequirementError, Var,
 };
 use std::alloc::Global;
 use std::process::Abort;
@@ -50,33 +50,26 @@ fn environment_groups(rt: HostRuntime) {
     check_groups(&rt, &mut environment);
 }
 
-/// Whether these are the names, in this order.
-fn are_names(names: Names<'_>, wanted: &[&str]) -> bool {
-    let mut left = wanted;
-    for name in names {
-        match left.split_first() {
-            Some((first, rest)) if *first == name => left = rest,
-            _ => return false,
-        }
-    }
-    left.is_empty()
-}
-
-/// The names are lent without memory.
+/// The names are lent without memory, in their order.
 fn check_names<R: Abort>(rt: &R, environment: &Environment) {
-    assert!(rt; are_names(environment.extras(), &["a-c", "b"]));
-    assert!(rt; are_names(environment.groups(), &[]));
+    let mut extras = environment.extras();
+    assert_eq!(rt; extras.next(), Some("a-c"));
+    assert_eq!(rt; extras.next(), Some("b"));
+    assert_eq!(rt; extras.next(), None);
+    for name in environment.extras() {
+        assert!(rt; environment.has_extra(name));
+    }
+    assert_eq!(rt; environment.groups().next(), None);
 }
 
 #[test]
 fn environment_names(rt: HostRuntime) {
     let mut environment = Environment::new(rt.alloc());
-    assert!(rt; are_names(environment.extras(), &[]));
     if environment.add_extra("B").is_ok() && environment.add_extra("A_c").is_ok() {
         check_names(&rt, &environment);
     }
     if environment.add_group("G").is_ok() {
-        assert!(rt; are_names(environment.groups(), &["g"]));
+        assert_eq!(rt; environment.groups().next(), Some("g"));
     }
 }
 
