@@ -1,7 +1,8 @@
 //! Environments, call by call; and the names of variables.
 
+use crate::told::filled;
 use case_files::{text, texts};
-use pymark_core::{Environment, Var};
+use pymark_core::{Environment, Names, Var};
 use std::alloc::{AllocError, Global};
 use toml::{Table, Value};
 
@@ -93,13 +94,20 @@ fn answer(alloc: Global, environment: &mut Environment, call: &str) -> anyhow::R
     let (word, rest) = call.split_once(' ').unwrap_or((call, ""));
     match word {
         "set" | "unset" | "ask_nothing" => {
-            change(environment, rest)?;
+            change(alloc, environment, rest)?;
             Ok(String::from_str(alloc, "done")?)
         }
+        "extras" => names(alloc, environment.extras()),
+        "groups" => names(alloc, environment.groups()),
         "get" => Ok(format!(in alloc; "{:?}", environment.get(variable(rest)?))?),
         "version" => Ok(String::from_str(alloc, version(environment, variable(rest)?))?),
-        _ => Ok(ask(environment, word, rest)?.to_string(alloc)?),
+        _ => Ok(ask_again(environment, word, rest)?.to_string(alloc)?),
     }
+}
+
+fn names(alloc: Global, names: Names<'_>) -> anyhow::Result<String> {
+    let names: Vec<&str> = names.collect(alloc)?;
+    Ok(format!(in alloc; "{names:?}")?)
 }
 
 fn variable(name: &str) -> anyhow::Result<Var> {
@@ -110,9 +118,9 @@ fn variable(name: &str) -> anyhow::Result<Var> {
 }
 
 /// Gives a variable the text behind its name, or leaves it without one; or asks for nothing.
-fn change(environment: &mut Environment, rest: &str) -> anyhow::Result<()> {
+fn change(alloc: Global, environment: &mut Environment, rest: &str) -> anyhow::Result<()> {
     match rest.split_once(' ') {
-        Some((name, text)) => Ok(environment.set(variable(name)?, text)?),
+        Some((name, text)) => set(alloc, environment, variable(name)?, text),
         None if rest.is_empty() => {
             environment.ask_nothing();
             Ok(())
@@ -124,12 +132,39 @@ fn change(environment: &mut Environment, rest: &str) -> anyhow::Result<()> {
     }
 }
 
+/// Gives the variable the text. Where there is no memory for that, it has to be left as it was.
+fn set(
+    alloc: Global,
+    environment: &mut Environment,
+    variable: Var,
+    text: &str,
+) -> anyhow::Result<()> {
+    let before = format!(in alloc; "{:?}", environment.get(variable))?;
+    if let Err(refusal) = environment.set(variable, text) {
+        let left = format!(in alloc; "{:?}", environment.get(variable))?;
+        if left.as_str() != before.as_str() {
+            return Err(anyhow::anyhow!("a refused text changes the variable"));
+        }
+        return Err(refusal.into());
+    }
+    Ok(())
+}
+
 /// The text of the version that the variable spells.
-fn version(environment: &Environment, variable: Var) -> &str {
+pub(crate) fn version(environment: &Environment, variable: Var) -> &str {
     match environment.version(variable) {
         Some(Ok(version)) => version.text(),
         Some(Err(_)) => "no version",
         None => "no text",
+    }
+}
+
+/// What a call with a name answers. A refused one is made again: had it changed anything, it would
+/// answer something else.
+fn ask_again(environment: &mut Environment, word: &str, name: &str) -> anyhow::Result<bool> {
+    match ask(environment, word, name) {
+        Ok(answer) => Ok(answer),
+        Err(_) => ask(environment, word, name),
     }
 }
 
@@ -146,9 +181,13 @@ fn ask(environment: &mut Environment, word: &str, name: &str) -> anyhow::Result<
     }
 }
 
-/// The variable of a name, and its name.
+/// The variable of a name, and its name, filled up too.
 pub(crate) fn tell_variable(alloc: Global, case: &Table) -> anyhow::Result<String> {
     let name = text(alloc, case, "variable")?;
     let variable = Var::of(name.as_str());
-    Ok(format!(in alloc; "{variable:?}, {:?}", variable.map(Var::name))?)
+    let mut told = format!(in alloc; "{variable:?}, {:?}", variable.map(Var::name))?;
+    if let Some(variable) = variable {
+        write!(told, " {}", filled(alloc, &variable)?)?;
+    }
+    Ok(told)
 }

@@ -7,6 +7,7 @@ mod markers;
 mod names;
 mod requirements;
 mod sets;
+mod still;
 mod tags;
 mod told;
 mod versions;
@@ -24,10 +25,16 @@ impl Answers for Cases {
         match kind {
             "admission" => sets::admit_alone(alloc, case),
             "choice" => wheels::pick(alloc, case),
+            "clause" => sets::read(alloc, case),
+            "different" => versions::count(alloc, case),
             "environment" => environments::tell(alloc, case),
             "equality" => sets::compare(alloc, case),
+            "from_parts" => versions::make(alloc, case),
+            "front" => sets::cut(alloc, case),
             "items" => sets::tell_items(alloc, case),
+            "joined" => sets::join(alloc, case),
             "key" => versions::tell_key(alloc, case),
+            "label" => versions::give_back(alloc, case),
             "long_name" => names::measure(alloc, case),
             "long_set" => sets::measure(alloc, case),
             "long_version" => versions::measure(alloc, case),
@@ -40,9 +47,15 @@ impl Answers for Cases {
             "parts" => versions::tell_parts(alloc, case),
             "reads" => markers::tell_reads(alloc, case),
             "requirement" => requirements::tell(alloc, case),
+            "requirement_text" => requirements::print(alloc, case),
             "same_name" => names::compare(alloc, case),
             "set" => sets::tell(alloc, case),
             "specifier" => sets::make(alloc, case),
+            "still_environment" => still::ask(alloc, case),
+            "still_marker" => still::judge(alloc, case),
+            "still_name" => still::lend(alloc, case),
+            "still_version" => still::compare(alloc, case),
+            "still_wheels" => still::pick(alloc, case),
             "tag" => tags::tell(alloc, case),
             "tags" => tags::tell_list(alloc, case),
             "variable" => environments::tell_variable(alloc, case),

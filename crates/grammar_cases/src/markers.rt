@@ -1,7 +1,7 @@
 //! Markers: what they are worth, and what they read.
 
 use crate::environments::set_all;
-use crate::told::printed;
+use crate::told::{filled, printed, refused};
 use case_files::{text, texts};
 use pymark_core::{Environment, EvalFault, Key, Marker, Reads, Var};
 use std::alloc::{AllocError, Global};
@@ -12,7 +12,7 @@ pub(crate) fn judge(alloc: Global, case: &Table) -> anyhow::Result<String> {
     let marker = text(alloc, case, "marker")?;
     let mut environment = Environment::new(alloc);
     set_all(&mut environment, alloc, case)?;
-    Ok(judged(alloc, &environment, None, marker.as_str())?)
+    judged(alloc, &environment, None, marker.as_str())
 }
 
 /// The same of each of `markers`, with its text.
@@ -51,10 +51,10 @@ fn judged(
     environment: &Environment,
     extra: Option<&str>,
     text: &str,
-) -> Result<String, AllocError> {
+) -> anyhow::Result<String> {
     match Marker::parse(alloc, text) {
         Ok(marker) => value(alloc, environment, extra, &marker),
-        Err(refusal) => format!(in alloc; "{refusal:?}"),
+        Err(refusal) => refused(alloc, &refusal),
     }
 }
 
@@ -65,13 +65,13 @@ fn value(
     environment: &Environment,
     extra: Option<&str>,
     marker: &Marker,
-) -> Result<String, AllocError> {
-    let value = evaluate(alloc, environment, extra, marker);
+) -> anyhow::Result<String> {
+    let value = evaluate(alloc, environment, extra, marker)?;
     let copied = copied_value(alloc, environment, extra, marker)?;
     if copied == value {
-        return format!(in alloc; "{value:?}");
+        return Ok(format!(in alloc; "{value:?}")?);
     }
-    format!(in alloc; "{value:?}, but its copy {copied:?}")
+    Ok(format!(in alloc; "{value:?}, but its copy {copied:?}")?)
 }
 
 fn copied_value(
@@ -79,26 +79,31 @@ fn copied_value(
     environment: &Environment,
     extra: Option<&str>,
     marker: &Marker,
-) -> Result<Result<bool, EvalFault>, AllocError> {
-    let environment = environment.copy()?;
+) -> anyhow::Result<Result<bool, EvalFault>> {
+    let environment = environment.clone()?;
     let copy = marker.clone()?;
-    Ok(evaluate(alloc, &environment, extra, &copy))
+    evaluate(alloc, &environment, extra, &copy)
 }
 
-/// The value of the marker, where `extra` has this text or none.
-fn evaluate(
+/// The value of the marker, where `extra` has this text or none. Want of memory is no answer: it
+/// ends the program.
+pub(crate) fn evaluate(
     alloc: Global,
     environment: &Environment,
     extra: Option<&str>,
     marker: &Marker,
-) -> Result<bool, EvalFault> {
-    match extra {
+) -> anyhow::Result<Result<bool, EvalFault>> {
+    let value = match extra {
         Some(extra) => marker.evaluate_with_extra(alloc, environment, extra),
         None => marker.evaluate(alloc, environment),
+    };
+    if value == Err(EvalFault::Memory) {
+        return Err(anyhow::anyhow!("memory"));
     }
+    Ok(value)
 }
 
-/// The text of `marker`, and the keys that it reads.
+/// The text of `marker`, in quotes and filled up too, and the keys that it reads.
 pub(crate) fn tell_reads(alloc: Global, case: &Table) -> anyhow::Result<String> {
     let text = text(alloc, case, "marker")?;
     let marker = Marker::parse(alloc, text.as_str())?;
@@ -110,6 +115,7 @@ fn reads(alloc: Global, marker: &Marker) -> Result<String, AllocError> {
     if told.as_str() != marker.text() {
         told.push_str("\nbut its text is another")?;
     }
+    write!(told, "\n{marker:?} {}", filled(alloc, marker)?)?;
     push_keys(&mut told, marker.reads())?;
     if !is_copied(marker)? {
         told.push_str("\nbut not its copy")?;

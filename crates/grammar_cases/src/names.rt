@@ -2,7 +2,7 @@
 
 use crate::told::measured;
 use case_files::text;
-use pyver_core::{NormalForm, is_name, is_same_name, normal_name};
+use pyver_core::{NormalForm, NormalName, is_name, is_same_name, normal_name};
 use std::alloc::{AllocError, Global};
 use toml::Table;
 
@@ -11,15 +11,29 @@ pub(crate) fn tell(alloc: Global, case: &Table) -> anyhow::Result<String> {
     let text = text(alloc, case, "text")?;
     let normal = normal_name(alloc, text.as_str())?;
     let mut told = format!(in alloc; "{}, {normal:?}", is_name(text.as_str()))?;
-    push_form(&mut told, alloc, text.as_str(), normal.as_str())?;
+    push_forms(&mut told, alloc, text.as_str(), normal.as_str())?;
     Ok(told)
 }
 
-/// The form that is lent where the text has it, where that is another.
-fn push_form(told: &mut String, alloc: Global, text: &str, normal: &str) -> Result<(), AllocError> {
+/// The form that is lent where the text has it, the name that is made, and the name that the text
+/// itself may become, where they are others.
+fn push_forms(
+    told: &mut String,
+    alloc: Global,
+    text: &str,
+    normal: &str,
+) -> Result<(), AllocError> {
     let form = NormalForm::of(alloc, text)?;
-    if form.as_str() != normal {
-        write!(told, ", but its form {:?}", form.as_str())?;
+    push_other(told, form.as_str(), normal)?;
+    let name = NormalName::new(alloc, text)?;
+    push_other(told, name.as_str(), normal)?;
+    let name = NormalName::from_string(alloc, String::from_str(alloc, text)?)?;
+    push_other(told, name.into_string().as_str(), normal)
+}
+
+fn push_other(told: &mut String, text: &str, normal: &str) -> Result<(), AllocError> {
+    if text != normal {
+        write!(told, ", but {text:?} too")?;
     }
     Ok(())
 }

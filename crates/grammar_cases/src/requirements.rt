@@ -1,5 +1,6 @@
 //! Requirements.
 
+use crate::told::{printed, refused};
 use case_files::text;
 use pymark_core::{Marker, Requirement};
 use std::alloc::{AllocError, Global};
@@ -10,8 +11,24 @@ pub(crate) fn tell(alloc: Global, case: &Table) -> anyhow::Result<String> {
     let text = text(alloc, case, "requirement")?;
     match Requirement::parse(alloc, text.as_str()) {
         Ok(requirement) => Ok(told(alloc, &requirement)?),
-        Err(refusal) => Ok(format!(in alloc; "{refusal:?}")?),
+        Err(refusal) => refused(alloc, &refusal),
     }
+}
+
+/// What is printed of `requirement`, and of that text where it is another.
+pub(crate) fn print(alloc: Global, case: &Table) -> anyhow::Result<String> {
+    let text = text(alloc, case, "requirement")?;
+    let printed = text_of(alloc, text.as_str())?;
+    let again = text_of(alloc, printed.as_str())?;
+    if again.as_str() == printed.as_str() {
+        return Ok(printed);
+    }
+    Ok(format!(in alloc; "{printed}, but of that {again}")?)
+}
+
+fn text_of(alloc: Global, text: &str) -> anyhow::Result<String> {
+    let requirement = Requirement::parse(alloc, text)?;
+    Ok(printed(alloc, &requirement)?)
 }
 
 fn told(alloc: Global, requirement: &Requirement) -> Result<String, AllocError> {

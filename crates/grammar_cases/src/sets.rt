@@ -1,7 +1,7 @@
 //! Specifiers and sets of them: their texts, and what they admit.
 
-use crate::told::{measured, printed, told};
-use case_files::text;
+use crate::told::{measured, printed, refused, told};
+use case_files::{text, texts};
 use pyver_core::{Operator, Specifier, SpecifierSet, Version};
 use std::alloc::{AllocError, Global};
 use toml::Table;
@@ -9,10 +9,10 @@ use toml::Table;
 /// The normal text of `set`, or why it is refused.
 pub(crate) fn tell(alloc: Global, case: &Table) -> anyhow::Result<String> {
     let text = text(alloc, case, "set")?;
-    Ok(told(alloc, SpecifierSet::parse(alloc, text.as_str()))?)
+    told(alloc, SpecifierSet::parse(alloc, text.as_str()))
 }
 
-/// The specifiers of `set`, each with its operator before it.
+/// The specifiers of `set`, each with its operator before it, and a prefix with its parts behind it.
 pub(crate) fn tell_items(alloc: Global, case: &Table) -> anyhow::Result<String> {
     let text = text(alloc, case, "set")?;
     let set = SpecifierSet::parse(alloc, text.as_str())?;
@@ -22,10 +22,22 @@ pub(crate) fn tell_items(alloc: Global, case: &Table) -> anyhow::Result<String> 
 fn items(alloc: Global, specifiers: &[Specifier]) -> Result<String, AllocError> {
     let mut items = String::new(alloc);
     for specifier in specifiers {
+        let operator = printed(alloc, &specifier.operator())?;
         let printed = printed(alloc, specifier)?;
-        writeln!(items, "{}  {printed}", specifier.operator())?;
+        writeln!(items, "{operator}  {printed}")?;
+        push_prefix(&mut items, specifier)?;
     }
     Ok(items)
+}
+
+fn push_prefix(items: &mut String, specifier: &Specifier) -> Result<(), AllocError> {
+    match specifier {
+        Specifier::EqualPrefix(prefix) | Specifier::NotEqualPrefix(prefix) => {
+            let (epoch, release) = (prefix.epoch(), prefix.release());
+            writeln!(items, "epoch {epoch}, release {release:?}")
+        }
+        _ => Ok(()),
+    }
 }
 
 /// How many specifiers the long `set` has, and what is to be seen of its text; or why it is
@@ -34,7 +46,7 @@ pub(crate) fn measure(alloc: Global, case: &Table) -> anyhow::Result<String> {
     let text = text(alloc, case, "set")?;
     match SpecifierSet::parse(alloc, text.as_str()) {
         Ok(set) => measured_set(alloc, case, &set, text.as_str()),
-        Err(refusal) => Ok(format!(in alloc; "{refusal:?}")?),
+        Err(refusal) => refused(alloc, &refusal),
     }
 }
 
@@ -76,7 +88,7 @@ fn admits(alloc: Global, set: &str, version: &Version) -> anyhow::Result<String>
     Ok(set.admits(version).to_string(alloc)?)
 }
 
-/// Whether the sets `left` and `right` are equal.
+/// Whether the set `left` and a copy of the set `right` are equal.
 pub(crate) fn compare(alloc: Global, case: &Table) -> anyhow::Result<String> {
     let left = text(alloc, case, "left")?;
     let right = text(alloc, case, "right")?;
@@ -87,7 +99,7 @@ pub(crate) fn compare(alloc: Global, case: &Table) -> anyhow::Result<String> {
 fn are_equal(alloc: Global, left: &str, right: &str) -> anyhow::Result<bool> {
     let left = SpecifierSet::parse(alloc, left)?;
     let right = SpecifierSet::parse(alloc, right)?;
-    Ok(left == right)
+    Ok(left == right.clone()?)
 }
 
 /// The specifier of `operator` and `operand`, or why it is refused.
@@ -101,7 +113,7 @@ pub(crate) fn make(alloc: Global, case: &Table) -> anyhow::Result<String> {
 }
 
 fn made(alloc: Global, operator: Operator, operand: &str) -> anyhow::Result<String> {
-    Ok(told(alloc, Specifier::new(alloc, operator, operand))?)
+    told(alloc, Specifier::new(alloc, operator, operand))
 }
 
 /// Whether the specifier of `operator` and `operand` admits `version`.
@@ -124,6 +136,28 @@ fn admits_alone(
 ) -> anyhow::Result<String> {
     let specifier = Specifier::new(alloc, operator, operand)?;
     Ok(specifier.admits(version).to_string(alloc)?)
+}
+
+/// The specifier that `text` writes, or why it is refused.
+pub(crate) fn read(alloc: Global, case: &Table) -> anyhow::Result<String> {
+    let text = text(alloc, case, "text")?;
+    told(alloc, Specifier::parse(alloc, text.as_str()))
+}
+
+/// The set of the specifiers that `specifiers` write.
+pub(crate) fn join(alloc: Global, case: &Table) -> anyhow::Result<String> {
+    let mut specifiers = Vec::new(alloc);
+    for text in texts(alloc, case, "specifiers")? {
+        specifiers.push(Specifier::parse(alloc, text)?)?;
+    }
+    let set = SpecifierSet::from_specifiers(alloc, specifiers)?;
+    Ok(printed(alloc, &set)?)
+}
+
+/// The operator at the front of `text`, with what stands behind it.
+pub(crate) fn cut(alloc: Global, case: &Table) -> anyhow::Result<String> {
+    let text = text(alloc, case, "text")?;
+    Ok(format!(in alloc; "{:?}", Operator::at_front(text.as_str()))?)
 }
 
 /// The operator of a sign.

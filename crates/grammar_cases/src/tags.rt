@@ -2,7 +2,7 @@
 
 use crate::told::printed;
 use case_files::{text, texts};
-use pywheel_core::{Tag, TagList};
+use pywheel_core::{Tag, TagError, TagList, TagListError};
 use std::alloc::{AllocError, Global};
 use toml::Table;
 
@@ -11,6 +11,7 @@ pub(crate) fn tell(alloc: Global, case: &Table) -> anyhow::Result<String> {
     let text = text(alloc, case, "tag")?;
     match Tag::parse(alloc, text.as_str()) {
         Ok(tag) => Ok(parts(alloc, &tag)?),
+        Err(TagError::Memory) => Err(anyhow::anyhow!("memory")),
         Err(refusal) => Ok(format!(in alloc; "{refusal:?}")?),
     }
 }
@@ -26,13 +27,14 @@ fn parts(alloc: Global, tag: &Tag) -> Result<String, AllocError> {
 }
 
 /// How many tags the list of `tags` has, or why it is refused; and the rank of each of `ranks`, or
-/// the tags where none is asked for.
+/// the tags of a copy where none is asked for.
 pub(crate) fn tell_list(alloc: Global, case: &Table) -> anyhow::Result<String> {
     let text = text(alloc, case, "tags")?;
     let ranks = texts(alloc, case, "ranks")?;
     let tags = tag_texts(alloc, text.as_str())?;
     match TagList::parse(alloc, &tags) {
         Ok(tags) => told(alloc, &tags, &ranks),
+        Err(TagListError::Memory) => Err(anyhow::anyhow!("memory")),
         Err(refusal) => Ok(format!(in alloc; "{refusal:?}")?),
     }
 }
@@ -48,7 +50,7 @@ pub(crate) fn tag_texts(alloc: Global, text: &str) -> Result<Vec<&str>, AllocErr
 fn told(alloc: Global, tags: &TagList, ranks: &[&str]) -> anyhow::Result<String> {
     let mut told = format!(in alloc; "{} tags, empty {}\n", tags.len(), tags.is_empty())?;
     if ranks.is_empty() {
-        push_tags(&mut told, tags.tags())?;
+        push_tags(&mut told, tags.clone()?.tags())?;
     }
     for text in ranks {
         push_rank(&mut told, alloc, tags, text)?;
@@ -63,10 +65,11 @@ fn push_tags(told: &mut String, tags: &[Tag]) -> Result<(), AllocError> {
     Ok(())
 }
 
-/// The rank of a tag in the list, with that in its copy where it is another.
+/// The rank of a tag in the list, with that of its copy in a copy of the list where it is another.
 fn push_rank(told: &mut String, alloc: Global, tags: &TagList, text: &str) -> anyhow::Result<()> {
-    let Ok(tag) = Tag::parse(alloc, text) else {
-        return Err(anyhow::anyhow!("the tag is refused"));
+    let tag = match Tag::parse(alloc, text) {
+        Ok(tag) => tag,
+        Err(refusal) => return Err(anyhow::anyhow!("the tag is refused: {refusal:?}")),
     };
     let rank = tags.rank(&tag);
     writeln!(told, "{tag} {rank:?}")?;
@@ -79,5 +82,5 @@ fn push_rank(told: &mut String, alloc: Global, tags: &TagList, text: &str) -> an
 
 fn copied_rank(tags: &TagList, tag: &Tag) -> Result<Option<usize>, AllocError> {
     let copy = tags.clone()?;
-    Ok(copy.rank(tag))
+    Ok(copy.rank(&tag.clone()?))
 }

@@ -1,19 +1,20 @@
-//! Versions: their texts, their parts and their order.
+//! Versions: their texts, their parts, versions of parts, and their order.
 
-use crate::told::{measured, printed, told};
+use crate::told::{measured, printed, refused, told};
 use case_files::{text, texts};
-use pyver_core::Version;
+use pyver_core::{Label, LocalPart, Version, VersionParts};
 use std::alloc::{AllocError, Global};
 use std::cmp::Ordering;
+use std::collections::HashSet;
 use toml::Table;
 
 /// The normal text of `version`, or why it is refused.
 pub(crate) fn tell(alloc: Global, case: &Table) -> anyhow::Result<String> {
     let text = text(alloc, case, "version")?;
-    Ok(told(alloc, Version::parse(alloc, text.as_str()))?)
+    told(alloc, Version::parse(alloc, text.as_str()))
 }
 
-/// The parts of `version`.
+/// The parts of `version`, its text, and what is left of it as a public version and as a release.
 pub(crate) fn tell_parts(alloc: Global, case: &Table) -> anyhow::Result<String> {
     let text = text(alloc, case, "version")?;
     let version = Version::parse(alloc, text.as_str())?;
@@ -35,16 +36,23 @@ fn parts(alloc: Global, version: &Version) -> Result<String, AllocError> {
         "pre-release {is_prerelease}, post-release {is_postrelease}"
     )?;
     writeln!(parts, "text {}", version.text())?;
+    push_shorter(&mut parts, alloc, version)?;
     Ok(parts)
 }
 
-/// How many numbers and segments the long `version` has, and what is to be seen of its text; or why
-/// it is refused.
+fn push_shorter(parts: &mut String, alloc: Global, version: &Version) -> Result<(), AllocError> {
+    let public = version.public_part(alloc)?;
+    let base = version.base_release(alloc)?;
+    writeln!(parts, "public {public}, base {base}")
+}
+
+/// How many numbers and segments the long `version` has, whether its text is read as the version
+/// again, and what is to be seen of the text; or why it is refused.
 pub(crate) fn measure(alloc: Global, case: &Table) -> anyhow::Result<String> {
     let text = text(alloc, case, "version")?;
     match Version::parse(alloc, text.as_str()) {
         Ok(version) => measured_version(alloc, case, &version, text.as_str()),
-        Err(refusal) => Ok(format!(in alloc; "{refusal:?}")?),
+        Err(refusal) => refused(alloc, &refusal),
     }
 }
 
@@ -56,8 +64,77 @@ fn measured_version(
 ) -> anyhow::Result<String> {
     let printed = printed(alloc, version)?;
     let measured = measured(alloc, case, printed.as_str(), given)?;
+    let is_read = is_read_back(alloc, version, printed.as_str())?;
     let (numbers, segments) = (version.release().len(), version.local().len());
-    Ok(format!(in alloc; "{numbers} numbers, {segments} segments, {measured}")?)
+    Ok(format!(in alloc;
+        "{numbers} numbers, {segments} segments, read back {is_read}, {measured}"
+    )?)
+}
+
+/// Whether what the version prints is its text, and spells an equal version.
+fn is_read_back(alloc: Global, version: &Version, printed: &str) -> anyhow::Result<bool> {
+    let read = Version::parse(alloc, printed)?;
+    Ok(read == *version && printed == version.text())
+}
+
+/// What `long_version` says of the version that is made of a copy of the parts of `version`: with
+/// the text `label` before the other segments of the local part, and without a number in the
+/// release, where the case says so. Or why no version has them.
+pub(crate) fn make(alloc: Global, case: &Table) -> anyhow::Result<String> {
+    let text = text(alloc, case, "version")?;
+    let version = Version::parse(alloc, text.as_str())?;
+    let parts = parts_of(alloc, case, &version)?;
+    made(alloc, case, &parts, text.as_str())
+}
+
+fn made(alloc: Global, case: &Table, parts: &VersionParts, given: &str) -> anyhow::Result<String> {
+    match Version::from_parts(alloc, parts.clone()?) {
+        Ok(version) => measured_version(alloc, case, &version, given),
+        Err(refusal) => refused(alloc, &refusal),
+    }
+}
+
+fn parts_of(alloc: Global, case: &Table, version: &Version) -> anyhow::Result<VersionParts> {
+    let mut release = Vec::new(alloc);
+    if case.get("no_release").is_none() {
+        release.extend_from_slice(version.release())?;
+    }
+    let local = local_of(alloc, case, version.local())?;
+    Ok(VersionParts {
+        epoch: version.epoch(),
+        release,
+        pre: version.pre(),
+        post: version.post(),
+        dev: version.dev(),
+        local,
+    })
+}
+
+fn local_of(alloc: Global, case: &Table, segments: &[LocalPart]) -> anyhow::Result<Vec<LocalPart>> {
+    let mut local = Vec::new(alloc);
+    if case.get("label").is_some() {
+        let label = text(alloc, case, "label")?;
+        local.push(LocalPart::Text(Label::new(label)))?;
+    }
+    for segment in segments {
+        local.push(segment.clone()?)?;
+    }
+    Ok(local)
+}
+
+/// The text that a label of `label` gives back.
+pub(crate) fn give_back(alloc: Global, case: &Table) -> anyhow::Result<String> {
+    let label = Label::new(text(alloc, case, "label")?);
+    Ok(label.into_string())
+}
+
+/// How many of `versions` a set that hashes them has.
+pub(crate) fn count(alloc: Global, case: &Table) -> anyhow::Result<String> {
+    let mut versions = HashSet::new(alloc);
+    for text in texts(alloc, case, "versions")? {
+        versions.insert(Version::parse(alloc, text)?)?;
+    }
+    Ok(versions.len().to_string(alloc)?)
 }
 
 /// How each of `versions` compares with the next.

@@ -1,7 +1,7 @@
 //! The names of wheels, and the choice of a wheel.
 
 use crate::tags::tag_texts;
-use crate::told::{measured, printed};
+use crate::told::{measured, printed, refused};
 use case_files::{text, texts};
 use pywheel_core::{Tag, TagList, WheelName, choose};
 use std::alloc::{AllocError, Global};
@@ -13,7 +13,7 @@ pub(crate) fn tell(alloc: Global, case: &Table) -> anyhow::Result<String> {
     let text = text(alloc, case, "wheel")?;
     match WheelName::parse(alloc, text.as_str()) {
         Ok(wheel) => Ok(said(alloc, &wheel)?),
-        Err(refusal) => Ok(refusal.to_string(alloc)?),
+        Err(refusal) => refused(alloc, &refusal),
     }
 }
 
@@ -36,7 +36,7 @@ pub(crate) fn print(alloc: Global, case: &Table) -> anyhow::Result<String> {
     let text = text(alloc, case, "wheel")?;
     match WheelName::parse(alloc, text.as_str()) {
         Ok(wheel) => Ok(text_of(alloc, &wheel)?),
-        Err(refusal) => Ok(refusal.to_string(alloc)?),
+        Err(refusal) => refused(alloc, &refusal),
     }
 }
 
@@ -51,7 +51,7 @@ pub(crate) fn measure(alloc: Global, case: &Table) -> anyhow::Result<String> {
     let text = text(alloc, case, "wheel")?;
     match WheelName::parse(alloc, text.as_str()) {
         Ok(wheel) => measured_wheel(alloc, case, &wheel, text.as_str()),
-        Err(refusal) => Ok(refusal.to_string(alloc)?),
+        Err(refusal) => refused(alloc, &refusal),
     }
 }
 
@@ -94,7 +94,7 @@ pub(crate) fn pick(alloc: Global, case: &Table) -> anyhow::Result<String> {
     Ok(picked(alloc, &wheels, &tags)?)
 }
 
-fn wheels(alloc: Global, names: &[&str]) -> anyhow::Result<Vec<Option<WheelName>>> {
+pub(crate) fn wheels(alloc: Global, names: &[&str]) -> anyhow::Result<Vec<Option<WheelName>>> {
     let mut wheels = Vec::new(alloc);
     for name in names {
         if name.is_empty() {
@@ -109,6 +109,6 @@ fn wheels(alloc: Global, names: &[&str]) -> anyhow::Result<Vec<Option<WheelName>
 fn picked(alloc: Global, wheels: &[Option<WheelName>], tags: &[&str]) -> anyhow::Result<String> {
     match TagList::parse(alloc, tags) {
         Ok(tags) => Ok(format!(in alloc; "{:?}", choose(wheels, &tags))?),
-        Err(_) => Err(anyhow::anyhow!("the tags are refused")),
+        Err(refusal) => Err(anyhow::anyhow!("the tags are refused: {refusal:?}")),
     }
 }

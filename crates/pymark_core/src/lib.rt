@@ -10,19 +10,25 @@
 //! what a marker looks at, so that it isn't judged again for nothing. [`Requirement::parse`] reads
 //! a requirement.
 //!
-//! What a marker is worth, from `crates/pymark_core_tests/src/growths.rt`:
+//! What a marker is worth, where `extra` has a text or none, from
+//! `crates/grammar_cases/src/markers.rt`:
 //!
 //! ```rust
-//! let marker = Marker::parse(alloc, text)?;
-//! Ok(marker.evaluate(alloc, environment))
+//! let value = match extra {
+//!     Some(extra) => marker.evaluate_with_extra(alloc, environment, extra),
+//!     None => marker.evaluate(alloc, environment),
+//! };
 //! ```
 //!
-//! An environment for it, from `crates/pymark_core_tests/src/growths.rt` too:
+//! The variables of an environment, from `crates/bench/src/markers.rt`:
 //!
 //! ```rust
-//! let mut environment = Environment::new(alloc);
-//! let _ = environment.set(Var::PythonVersion, "3.12");
-//! let _ = environment.add_extra("a.b");
+//! for (variable, text) in [
+//!     (Var::PythonVersion, "3.12"),
+//!     ..
+//! ] {
+//!     environment.set(variable, text)?;
+//! }
 //! ```
 #![tactic(auto)]
 

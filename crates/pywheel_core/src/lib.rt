@@ -13,7 +13,7 @@
 //! ```rust
 //! match TagList::parse(alloc, tags) {
 //!     Ok(tags) => Ok(format!(in alloc; "{:?}", choose(wheels, &tags))?),
-//!     Err(_) => Err(anyhow::anyhow!("the tags are refused")),
+//!     Err(refusal) => Err(anyhow::anyhow!("the tags are refused: {refusal:?}")),
 //! }
 //! ```
 #![tactic(auto)]
