@@ -12,7 +12,7 @@ pub(crate) fn tell(alloc: Global, case: &Table) -> anyhow::Result<String> {
     told(alloc, SpecifierSet::parse(alloc, text.as_str()))
 }
 
-/// The specifiers of `set`, each with its operator before it, and a prefix with its parts behind it.
+/// The specifiers of `set`, each with its operator before it, and a prefix with its parts behind.
 pub(crate) fn tell_items(alloc: Global, case: &Table) -> anyhow::Result<String> {
     let text = text(alloc, case, "set")?;
     let set = SpecifierSet::parse(alloc, text.as_str())?;

@@ -7,8 +7,8 @@ ghost use Rattle.clap.specs.declared.builder.command.Command.TheViews.{out-Comma
 ghost use Rattle.pylock_command.specs.Choices.{AreChoices};
 ghost use Rattle.pylock_command.specs.CommandLine.{HaveTexts, IsRefusal, IsTask, chosen_app};
 ghost use Rattle.pylock_command.specs.CommandLine.{is_lacking, lacks_path, lacks_plain_text};
-ghost use Rattle.pylock_command.specs.CommandLine.{lacks_text, lock_app};
-ghost use Rattle.pylock_command.specs.CommandLine.{one_text, paths, place_rule, pylock_app, top_app};
+ghost use Rattle.pylock_command.specs.CommandLine.{lacks_text, lock_app, one_text, paths};
+ghost use Rattle.pylock_command.specs.CommandLine.{place_rule, pylock_app, top_app};
 ghost use Rattle.pylock_command.specs.CommandLine.{two_texts, with_chosen, with_chosen_commands};
 ghost use Rattle.pylock_command.specs.CommandLine.{with_first, with_further, with_lock};
 ghost use Rattle.pylock_command.specs.CommandLine.{with_one, with_two};

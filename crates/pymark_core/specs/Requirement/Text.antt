@@ -1,5 +1,5 @@
--- What is printed of a requirement (PEP 508, "Grammar"): its name, its extras in brackets, its URL or
--- its specifier set, and its marker.
+-- What is printed of a requirement (PEP 508, "Grammar"): its name, its extras in brackets, its URL
+-- or its specifier set, and its marker.
 use Rattle.std.specs.Prelude.{ℕ, List, [], ◌∷◌, ◌++◌, codes, Option, Some, None}
 use Rattle.std.specs.List.{flat_map}
 use Rattle.pyver_core.specs.Set.Normal.{set_text}

@@ -18,10 +18,10 @@ impl Specifier {
     /// The specifier that the text writes, such as `>=1.0` (PEP 440, "Version specifiers"): an
     /// operator, which is the longest that stands there, and its operand.
     ///
-    /// White space (TAB, LF, VT, FF, CR, space) may stand round each of them. A text with a comma is
-    /// no specifier, and neither is one of white space alone: both are refused as `Syntax`.
-    /// `NumberTooLarge` is answered only to a text that follows the grammar, so `Syntax` comes first.
-    /// A refusal as `Syntax` takes no memory; a specifier takes that of its operand.
+    /// White space (TAB, LF, VT, FF, CR, space) may stand round each of them. A text with a comma
+    /// is no specifier, and neither is one of white space alone: both are refused as `Syntax`.
+    /// `NumberTooLarge` is answered only to a text that follows the grammar, so `Syntax` comes
+    /// first. A refusal as `Syntax` takes no memory; a specifier takes that of its operand.
     pub fn parse(alloc: Global, text: &str) -> Result<Specifier, SpecifierError>
         ensures ok { IfOk result (λ s. IsSpecifier text.now s) }
         ensures fits { IfOk result (λ s. IsTrue (has_large (specifier_numbers s)) → ⊥) }
