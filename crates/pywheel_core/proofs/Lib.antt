@@ -3,6 +3,7 @@ pub mod Choosing
 pub mod Counting
 pub mod Cuts
 pub mod Firsts
+pub mod HalvesLemmas
 pub mod Listing
 pub mod Lowering
 pub mod Memory
@@ -10,5 +11,6 @@ pub mod NameBytes
 pub mod Naming
 pub mod NamingParts
 pub mod Pieces
+pub mod ReadTableLemmas
 pub mod Versions
 pub mod WheelTags

@@ -222,7 +222,7 @@ joined_is : (name spelling : List ℕ) (build : Option (List ℕ)) (p a q : List
 joined_is name spelling None p a q = refl
 joined_is name spelling (Some b) p a q = refl
 
-name_taken : (name : List ℕ) → is_wheel_name name ≡ true → name_in name ≡ Ok name
+pub name_taken : (name : List ℕ) → is_wheel_name name ≡ true → name_in name ≡ Ok name
 unfolding name_in
 name_taken name e = rw e refl
 

@@ -3,6 +3,7 @@
 pub mod Build
 pub mod Cut
 pub mod Grammar
+pub mod Halves
 pub mod Name
 pub mod Reading
 pub mod Value

@@ -10,7 +10,7 @@ ghost use Rattle.pywheel_core.specs.Inner.Places.{places_of};
 ghost use Rattle.pytext.specs.Bytes.{is_word_byte};
 ghost use Rattle.pywheel_core.specs.Tag.{is_tag, is_tag_part};
 ghost use Rattle.pywheel_core.specs.Texts.{cut_at, three_parts};
-ghost use Rattle.pywheel_core.specs.Wheel.Cut.{built, parts_of, stem_of, unbuilt};
+ghost use Rattle.pywheel_core.specs.Wheel.Cut.{built, end_of, parts_of, stem_of, unbuilt};
 
 use crate::place::Place;
 use pytext::is_word_byte;
@@ -36,7 +36,7 @@ pub(crate) struct StemParts<'a> {
 }
 
 /// What stands behind a version: a build tag or none, and the last three parts, whole and cut.
-type End<'a> = (Option<&'a str>, &'a str, TagSet<'a>);
+pub(crate) type End<'a> = (Option<&'a str>, &'a str, TagSet<'a>);
 
 /// The text in lower case, to be shared.
 pub(crate) fn lowercase(alloc: Global, text: &str) -> Result<RcStr, AllocError>
@@ -48,7 +48,7 @@ pub(crate) fn lowercase(alloc: Global, text: &str) -> Result<RcStr, AllocError>
 }
 
 /// What stands before the first `-`, and what stands after it.
-fn cut(text: &str) -> Option<(&str, &str)>
+pub(crate) fn cut(text: &str) -> Option<(&str, &str)>
     ensures { option_map (λ x. (x.0.now, x.1.now)) result ≡ cut_at 45 text.now }
 {
     text.split_once('-')
@@ -102,6 +102,18 @@ fn built(text: &str) -> Option<End<'_>>
     Some((Some(build), rest, set))
 }
 
+/// What stands behind the version.
+pub(crate) fn end_parts(text: &str) -> Option<End<'_>>
+    ensures end { option_map (λ x. (option_map (λ b. b.now) x.0, x.1.now)) result
+        ≡ end_of text.now }
+    ensures set { IfSome result (λ x. three_parts 45 x.1.now ≡ Some (set_of x.2)) }
+{
+    match unbuilt(text) {
+        Some(end) => Some(end),
+        None => built(text),
+    }
+}
+
 /// The five or six parts before `.whl`.
 #[tactic(auto, unfolding(crate::specs::Wheel::Cut::parts_of))]
 pub(crate) fn stem_parts(stem: &str) -> Option<StemParts<'_>>
@@ -110,10 +122,7 @@ pub(crate) fn stem_parts(stem: &str) -> Option<StemParts<'_>>
 {
     let (name, rest) = cut(stem)?;
     let (version, rest) = cut(rest)?;
-    let (build, tag_set, set) = match unbuilt(rest) {
-        Some(end) => end,
-        None => built(rest)?,
-    };
+    let (build, tag_set, set) = end_parts(rest)?;
     Some(StemParts {
         name,
         version,

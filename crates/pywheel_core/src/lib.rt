@@ -6,7 +6,8 @@
 //! Begin with [`WheelName::parse`], [`TagList::parse`] and [`choose`]. In a list of tags the most
 //! preferred stands first, and the position of a tag is its rank. The best wheel has the tag of the
 //! least rank, then the greatest build, then the first place. A choice takes no memory. A name that
-//! can't be read may stand in the list as `None`, and is never chosen.
+//! can't be read may stand in the list as `None`, and is never chosen. Whoever reads the names of
+//! many wheels does it by a [`WheelReader`], which reads what they have in common once.
 //!
 //! The best of some wheels, or `None`, from `crates/grammar_cases/src/wheels.rt`:
 //!
@@ -23,8 +24,10 @@ mod choice;
 mod cut;
 mod display;
 mod error;
+mod halves;
 pub mod laws;
 mod place;
+mod reader;
 mod tag;
 mod tag_list;
 mod tag_set;
@@ -32,6 +35,7 @@ mod wheel;
 
 pub use choice::{best_rank, choose};
 pub use error::{TagError, TagListError, WheelError};
+pub use reader::WheelReader;
 pub use tag::Tag;
 pub use tag_list::TagList;
 pub use wheel::WheelName;

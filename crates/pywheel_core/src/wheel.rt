@@ -17,54 +17,36 @@ ghost use Rattle.pywheel_core.specs.Wheel.Reading.{wheel_of};
 use crate::build::BuildTag;
 use crate::cut::{StemParts, stem, stem_parts};
 use crate::error::WheelError;
+use crate::halves::{NameEnd, NameHead};
 use crate::tag::Tag;
 use crate::tag_set::read_tag_set;
 use pyver_core::{Version, VersionError};
 use std::alloc::{AllocError, Global};
 use std::cmp::Ordering;
 use std::marker::Model;
-use std::rc::RcStr;
+use std::rc::Rc;
 
 /// The name of a wheel: what its file name says.
 ///
-/// Kept in a list of optional names it takes 304 bytes, of which more than two thirds are its
-/// version's; 56 for each tag; 40 and the text of the compressed tag set, which the tags share; the
-/// text of the name; and what the version takes besides, 88 for `2.2.1`. Counted, these are 603
-/// bytes for `numpy-2.2.1-cp312-cp312-manylinux_2_17_x86_64.manylinux2014_x86_64.whl`, 70 bytes
-/// with two tags, and 687 with what the allocator of the C library adds to each piece.
+/// Its two halves are shared: with its copies, and with other names that one
+/// [`WheelReader`](crate::WheelReader) read and that have the same text there.
 pub struct WheelName {
-    name: String,
-    version: Version,
-    build: Option<Box<BuildTag>>,
-    tag_set: RcStr,
-    tags: Vec<Tag>,
+    pub(crate) head: Rc<NameHead>,
+    pub(crate) end: Rc<NameEnd>,
 }
 
 impl Model for WheelName {
-    ghost use Rattle.std.specs.Prelude.{option_map, string_bytes};
-    ghost use Rattle.std.specs.Rc.{rc_str_bytes};
+    ghost use Rattle.pywheel_core.specs.Wheel.Halves.{wheel_with};
     ghost use Rattle.pywheel_core.specs.Wheel.Value.{WheelValue};
 
     ghost Value = { WheelValue };
 
-    ghost view = { λ w. record {
-      name = string_bytes w.name;
-      version = w.version;
-      build = option_map (λ b. b.value) w.build;
-      tag_set = rc_str_bytes w.tag_set;
-      tags = w.tags.items;
-    } };
+    ghost view = { λ w. wheel_with w.head.value w.end.value };
 }
 
 impl Drop for WheelName {
     fn drop(self) {
-        let WheelName {
-            name: _,
-            version: _,
-            build: _,
-            tag_set: _,
-            tags: _,
-        } = self;
+        let WheelName { head: _, end: _ } = self;
     }
 }
 
@@ -95,27 +77,28 @@ impl WheelName {
         let version = read_version(alloc, parts.version)?;
         let build = read_build(alloc, parts.build)?;
         let (tag_set, tags) = read_tag_set(alloc, parts.tag_set, &parts.set)?;
-        Ok(WheelName {
-            name,
-            version,
+        let head = Rc::new(alloc, NameHead { name, version })?;
+        let end = NameEnd {
             build,
             tag_set,
             tags,
-        })
+        };
+        let end = Rc::new(alloc, end)?;
+        Ok(WheelName { head, end })
     }
 
     /// The name as written. It takes no memory.
     pub fn name(&self) -> &str
         ensures { result.now ≡ self.now.name }
     {
-        self.name.as_str()
+        self.head.name.as_str()
     }
 
     /// The version. It takes no memory.
     pub fn version(&self) -> &Version
         ensures { result.now ≡ self.now.version }
     {
-        &self.version
+        &self.head.version
     }
 
     /// The build tag, where there is one: the number of the digits in front, and what stands after
@@ -124,7 +107,7 @@ impl WheelName {
         ensures number { option_map (λ b. b.0) result ≡ option_map build_number self.now.build }
         ensures rest { option_map (λ b. b.1.now) result ≡ option_map build_rest self.now.build }
     {
-        let build = self.build.as_ref()?;
+        let build = self.end.build.as_ref()?;
         Some((build.number(), build.rest()))
     }
 
@@ -132,7 +115,7 @@ impl WheelName {
     pub fn build_text(&self) -> Option<&str>
         ensures { option_map (λ b. b.now) result ≡ self.now.build }
     {
-        let build = self.build.as_ref()?;
+        let build = self.end.build.as_ref()?;
         Some(build.as_str())
     }
 
@@ -141,7 +124,7 @@ impl WheelName {
     pub fn tags(&self) -> &[Tag]
         ensures { result.now ≡ self.now.tags }
     {
-        &self.tags
+        &self.end.tags
     }
 
     /// The compressed tag set that stands for the tags, in lower case (PEP 425, "Compressed Tag
@@ -149,7 +132,7 @@ impl WheelName {
     pub fn tag_set(&self) -> &str
         ensures { result.now ≡ self.now.tag_set }
     {
-        self.tag_set.as_str()
+        self.end.tag_set.as_str()
     }
 
     /// The order of the build tags, in which none is least (PEP 427, "File name convention"). It
@@ -157,7 +140,7 @@ impl WheelName {
     pub fn compare_builds(&self, other: &WheelName) -> Ordering
         ensures { result ≡ builds_cmp self.now.build other.now.build }
     {
-        match (&self.build, &other.build) {
+        match (&self.end.build, &other.end.build) {
             (None, None) => Ordering::Equal,
             (None, Some(_)) => Ordering::Less,
             (Some(_), None) => Ordering::Greater,
@@ -166,18 +149,14 @@ impl WheelName {
     }
 }
 
-/// A copy takes memory for the name, the version, the build tag and the list of the tags, whose
-/// text it shares.
+/// A copy shares both halves. It takes no memory but for the counts of those that share.
 impl Clone for WheelName {
     ghost is_clone = { λ wheel copy. copy ≡ wheel };
 
     fn clone(&self) -> Result<WheelName, AllocError> {
         Ok(WheelName {
-            name: self.name.clone()?,
-            version: self.version.clone()?,
-            build: self.build.clone()?,
-            tag_set: self.tag_set.clone()?,
-            tags: self.tags.clone()?,
+            head: self.head.clone()?,
+            end: self.end.clone()?,
         })
     }
 }
@@ -203,7 +182,7 @@ fn read_name(alloc: Global, name: &str) -> Result<String, WheelError>
 }
 
 #[tactic(auto, using(crate::proofs::NameBytes::name_is))]
-fn is_wheel_name(name: &str) -> bool
+pub(crate) fn is_wheel_name(name: &str) -> bool
     ensures { result ≡ is_wheel_name name.now }
 {
     !name.is_empty() && are_name_bytes(name.as_bytes())
@@ -243,12 +222,12 @@ fn read_version(alloc: Global, text: &str) -> Result<Version, WheelError>
 }
 
 /// The build tag, where there is one.
-fn read_build(alloc: Global, build: Option<&str>) -> Result<Option<Box<BuildTag>>, WheelError>
-    ensures { Gives WheelError.Memory (λ b. option_map (λ x. x.value) b) result
+pub(crate) fn read_build(alloc: Global, build: Option<&str>) -> Result<Option<BuildTag>, WheelError>
+    ensures { Gives WheelError.Memory (λ b. b) result
         (build_in (option_map (λ b. b.now) build.entry)) }
 {
     match build {
-        Some(build) => Ok(Some(Box::new(alloc, BuildTag::parse(alloc, build)?)?)),
+        Some(build) => Ok(Some(BuildTag::parse(alloc, build)?)),
         None => Ok(None),
     }
 }

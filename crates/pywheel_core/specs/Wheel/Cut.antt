@@ -26,6 +26,10 @@ built text = do
   build ← cut_at 45 text
   if is_some (three_parts 45 build.1) then Some (Some build.0, build.1) else None
 
+-- what stands behind the version: the build tag or none, and the tag set
+abbrev pub end_of : List ℕ → Option (Option (List ℕ) × List ℕ)
+end_of text = either (unbuilt text) (built text)
+
 -- the five or six parts, with `-` between them
 unfoldable pub parts_of : List ℕ → Option WheelParts
 parts_of stem = do
