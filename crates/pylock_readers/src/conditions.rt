@@ -1,5 +1,6 @@
 //! The conditions of entries: markers and specifier sets. Most entries of a lock have one of a few
-//! texts, so each text is read once, and entries share what was read.
+//! texts, so each text is read once, and entries share what was read. The names of wheels have
+//! their halves in common, so their reader stands beside them.
 ghost use Rattle.std.specs.Prelude.{◌≡◌, ℕ, List, Result, string_bytes};
 ghost use Rattle.pytext.specs.Agreement.{Gives};
 ghost use Rattle.pyver_core.specs.Parsed.{parsed_set};
@@ -11,6 +12,7 @@ ghost use Rattle.pylock_readers.specs.declared.field.FieldError.TheVariants as f
 use crate::field::FieldError;
 use pymark_core::{Marker, MarkerError};
 use pyver_core::{SpecifierError, SpecifierSet};
+use pywheel_core::WheelReader;
 use std::alloc::Global;
 use std::collections::BTreeMap;
 use std::marker::Model;
@@ -124,10 +126,11 @@ impl<T: Condition> Shared<T> {
     }
 }
 
-/// The markers and specifier sets that were read so far.
+/// The markers and specifier sets that were read so far, and the reader of the names of wheels.
 pub(crate) struct Conditions {
     pub(crate) markers: Shared<Marker>,
     pub(crate) sets: Shared<Rc<SpecifierSet>>,
+    pub(crate) wheels: WheelReader,
 }
 
 impl Drop for Conditions {
@@ -135,6 +138,7 @@ impl Drop for Conditions {
         let Conditions {
             markers: _,
             sets: _,
+            wheels: _,
         } = self;
     }
 }
@@ -145,6 +149,7 @@ impl Conditions {
         Conditions {
             markers: Shared::new(alloc),
             sets: Shared::new(alloc),
+            wheels: WheelReader::new(alloc),
         }
     }
 }

@@ -56,7 +56,7 @@ pub(crate) fn read_entry(
     let version = read_version(take(&mut table, "version"))?;
     let marker = take(&mut table, "marker");
     let requires_python = take(&mut table, "requires-python");
-    let sources = Sources::read(alloc, table)?;
+    let sources = Sources::read(alloc, table, &mut conditions.wheels)?;
     let marker = read_marker(alloc, marker, conditions)?;
     let requires_python = read_requires_python(alloc, requires_python, conditions)?;
     Ok(Entry {

@@ -12,6 +12,7 @@ use crate::entry::vcs::Vcs;
 use crate::entry::wheels::Wheels;
 use crate::error::{EntryError, EntryKey};
 use crate::field::{FieldError, optional, or_refused, take};
+use pywheel_core::WheelReader;
 use std::alloc::Global;
 use std::marker::Model;
 use toml::{Table, Value};
@@ -66,7 +67,11 @@ impl Drop for Sources {
 #[tactic(auto, using(crate::proofs::kept), unfolding(crate::specs::Entry::Reading::sources_in))]
 impl Sources {
     /// The sources of the table of an entry.
-    pub(crate) fn read(alloc: Global, mut table: Table) -> Result<Sources, EntryError>
+    pub(crate) fn read(
+        alloc: Global,
+        mut table: Table,
+        names: &mut WheelReader,
+    ) -> Result<Sources, EntryError>
         ensures { Gives EntryError.Memory (λ s. s) result (sources_in
             (get_member (codes "vcs") (table_view table))
             (get_member (codes "directory") (table_view table))
@@ -78,7 +83,7 @@ impl Sources {
         let directory = read_source(alloc, EntryKey::Directory, take(&mut table, "directory"))?;
         let archive = read_source(alloc, EntryKey::Archive, take(&mut table, "archive"))?;
         let sdist = read_source(alloc, EntryKey::Sdist, take(&mut table, "sdist"))?;
-        let wheels = read_wheels(alloc, take(&mut table, "wheels"))?;
+        let wheels = read_wheels(alloc, take(&mut table, "wheels"), names)?;
         Ok(Sources {
             vcs,
             directory,
@@ -102,9 +107,13 @@ fn read_source<S: Source>(
     or_refused(EntryError::Key(key), optional(field, read))
 }
 
-fn read_wheels(alloc: Global, field: Option<Value>) -> Result<Wheels, EntryError>
+fn read_wheels(
+    alloc: Global,
+    field: Option<Value>,
+    names: &mut WheelReader,
+) -> Result<Wheels, EntryError>
     ensures { Gives EntryError.Memory (λ w. w) result (wheels_in (option_map view field)) }
 {
-    let wheels = Wheels::read(alloc, field);
+    let wheels = Wheels::read(alloc, field, names);
     or_refused(EntryError::Key(EntryKey::Wheels), wheels)
 }

@@ -9,7 +9,7 @@ ghost use Rattle.pylock_readers.specs.Entry.Sources.{file_of, files_in};
 use crate::entry::file::{DistributionFile, WheelFile};
 use crate::entry::sources::Source;
 use crate::field::{FieldError, items};
-use pywheel_core::{WheelError, WheelName};
+use pywheel_core::{WheelError, WheelName, WheelReader};
 use std::alloc::{AllocError, Global};
 use std::marker::Model;
 use toml::Value;
@@ -39,12 +39,16 @@ impl Drop for Wheels {
 
 impl Wheels {
     /// The wheels of the key `wheels`; none where it is absent.
-    pub(crate) fn read(alloc: Global, field: Option<Value>) -> Result<Wheels, FieldError>
+    pub(crate) fn read(
+        alloc: Global,
+        field: Option<Value>,
+        names: &mut WheelReader,
+    ) -> Result<Wheels, FieldError>
         ensures { Gives FieldError.Memory (λ w. w) result (files_in (option_map view field)) }
     {
         let values = items(alloc, field)?;
         let files = read_files(alloc, values)?;
-        let names = read_names(alloc, &files)?;
+        let names = read_names(alloc, &files, names)?;
         Ok(Wheels { files, names })
     }
 
@@ -75,23 +79,27 @@ fn read_files(alloc: Global, values: Vec<Value>) -> Result<Vec<WheelFile>, Field
     Ok(files)
 }
 
-fn read_names(alloc: Global, files: &[WheelFile]) -> Result<Vec<Option<WheelName>>, AllocError>
+fn read_names(
+    alloc: Global,
+    files: &[WheelFile],
+    reader: &mut WheelReader,
+) -> Result<Vec<Option<WheelName>>, AllocError>
     ensures { IfOk result (λ names. names.items ≡ map wheel_name files.now) }
 {
     let mut names = Vec::with_capacity(alloc, files.len())?;
     for file in files {
-        names.push(read_name(alloc, file)?)?;
+        names.push(read_name(file, reader)?)?;
     }
     Ok(names)
 }
 
-fn read_name(alloc: Global, file: &WheelFile) -> Result<Option<WheelName>, AllocError>
+fn read_name(file: &WheelFile, reader: &mut WheelReader) -> Result<Option<WheelName>, AllocError>
     ensures { IfOk result (λ name. name ≡ wheel_name file.now) }
 {
     let Some(name) = file.file_name() else {
         return Ok(None);
     };
-    match WheelName::parse(alloc, name) {
+    match reader.read(name) {
         Ok(name) => Ok(Some(name)),
         Err(WheelError::Memory) => Err(AllocError),
         Err(_) => Ok(None),
