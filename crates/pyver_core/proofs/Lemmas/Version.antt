@@ -1,6 +1,7 @@
 pub mod Complete
 pub mod Decimal
 pub mod FirstBytes
+pub mod Fronts
 pub mod FromParts
 pub mod Hashes
 pub mod InTurn

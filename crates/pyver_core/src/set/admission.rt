@@ -3,13 +3,13 @@
 ghost use Rattle.std.specs.Prelude.{◌≡◌, ◌==◌, length, nat_eq};
 ghost use Rattle.std.specs.List.{list_all, starts_with};
 ghost use Rattle.pyver_core.specs.Inner.PartsRef.{parts_of};
-ghost use Rattle.pyver_core.specs.Version.Order.{is_before, is_same, with_zeros};
+ghost use Rattle.pyver_core.specs.Version.Order.{is_same, with_zeros};
 ghost use Rattle.pyver_core.specs.Set.Admission.{admits, has_base_of, has_local, is_above};
 ghost use Rattle.pyver_core.specs.Set.Admission.{is_at_least, is_at_most, is_below, is_compatible};
 ghost use Rattle.pyver_core.specs.Set.Admission.{matches, matches_prefix};
 
 use crate::set::Specifier;
-use crate::version::{PartsRef, Version, compare};
+use crate::version::{PartsRef, Version, compare, compare_public, compare_to_public};
 
 impl Specifier {
     /// Whether the specifier admits the version. It takes no memory.
@@ -35,12 +35,6 @@ impl Specifier {
     }
 }
 
-fn is_before(left: &PartsRef<'_>, right: &PartsRef<'_>) -> bool
-    ensures { result ≡ is_before (parts_of left.now) (parts_of right.now) }
-{
-    compare(left, right).is_lt()
-}
-
 fn is_same(left: &PartsRef<'_>, right: &PartsRef<'_>) -> bool
     ensures { result ≡ is_same (parts_of left.now) (parts_of right.now) }
 {
@@ -56,11 +50,10 @@ fn has_local(version: &Version) -> bool
 fn matches(operand: &Version, version: &Version) -> bool
     ensures { result ≡ matches operand.now version.now }
 {
-    let parts = version.parts();
     if has_local(operand) {
-        is_same(&parts, &operand.parts())
+        version == operand
     } else {
-        is_same(&parts.public_part(), &operand.parts())
+        compare_public(version, operand).is_eq()
     }
 }
 
@@ -100,13 +93,13 @@ fn has_base_of(operand: &Version, version: &Version) -> bool
 fn is_at_most(operand: &Version, version: &Version) -> bool
     ensures { result ≡ is_at_most operand.now version.now }
 {
-    !is_before(&operand.parts(), &version.parts().public_part())
+    !compare_to_public(operand, version).is_lt()
 }
 
 fn is_at_least(operand: &Version, version: &Version) -> bool
     ensures { result ≡ is_at_least operand.now version.now }
 {
-    !is_before(&version.parts().public_part(), &operand.parts())
+    !compare_public(version, operand).is_lt()
 }
 
 fn is_below(operand: &Version, version: &Version) -> bool
@@ -121,7 +114,7 @@ fn is_above(operand: &Version, version: &Version) -> bool
 {
     operand < version
         && !(!operand.is_postrelease() && version.is_postrelease() && has_base_of(operand, version))
-        && !(has_local(version) && is_same(&version.parts().public_part(), &operand.parts()))
+        && !(has_local(version) && compare_public(version, operand).is_eq())
 }
 
 fn is_compatible(operand: &Version, version: &Version) -> bool

@@ -10,6 +10,7 @@ ghost use Rattle.pyver_core.specs.Version.Order.{version_cmp};
 ghost use Rattle.pyver_core.specs.Inner.Phase.{phase_of};
 ghost use Rattle.pyver_core.specs.Version.OrderLaws.{version_total};
 ghost use Rattle.pyver_core.specs.Version.Hashing.{without_trailing_zeros};
+ghost use Rattle.pyver_core.specs.Version.Parts.{public_part};
 
 use crate::version::{PartsRef, PreKind, Version};
 use std::cmp::Ordering;
@@ -27,12 +28,52 @@ pub(crate) fn compare(left: &PartsRef<'_>, right: &PartsRef<'_>) -> Ordering
         .then(left.local.cmp(right.local))
 }
 
-/// Compares releases as if the shorter one ended in as many zeros as it lacks.
-#[tactic(auto, using(crate::specs::Inner::Releases::release_cmp_without_zeros))]
+/// Compares the version without its local part with the operand.
+#[tactic(auto, using(crate::proofs::Lemmas::Version::Fronts::fronts_decide))]
+pub(crate) fn compare_public(version: &Version, operand: &Version) -> Ordering
+    ensures { result ≡ version_cmp (public_part version.now) operand.now }
+{
+    match compare_fronts(version, operand) {
+        Ordering::Equal => compare(&version.parts().public_part(), &operand.parts()),
+        decided => decided,
+    }
+}
+
+/// Compares the operand with the version without its local part.
+#[tactic(auto, using(crate::proofs::Lemmas::Version::Fronts::fronts_decide))]
+pub(crate) fn compare_to_public(operand: &Version, version: &Version) -> Ordering
+    ensures { result ≡ version_cmp operand.now (public_part version.now) }
+{
+    match compare_fronts(operand, version) {
+        Ordering::Equal => compare(&operand.parts(), &version.parts().public_part()),
+        decided => decided,
+    }
+}
+
+/// Compares the epochs and then the releases. Where they differ the parts behind them don't count,
+/// and those aren't looked at: so do most versions.
+fn compare_fronts(left: &Version, right: &Version) -> Ordering
+    ensures { result ≡ ordering_then (nat_cmp left.now.epoch right.now.epoch)
+        (release_cmp left.now.release right.now.release) }
+{
+    match left.epoch().cmp(&right.epoch()) {
+        Ordering::Equal => compare_releases(left.release(), right.release()),
+        decided => decided,
+    }
+}
+
+/// Compares releases as if the shorter one ended in as many zeros as it lacks. Zeros are looked at
+/// only behind what the two have alike.
 fn compare_releases(left: &[u128], right: &[u128]) -> Ordering
     ensures { result ≡ release_cmp left.now right.now }
 {
-    without_trailing_zeros(left).cmp(without_trailing_zeros(right))
+    let both = left.len().min(right.len());
+    let (left_front, left) = left.split_at(both);
+    let (right_front, right) = right.split_at(both);
+    match left_front.cmp(right_front) {
+        Ordering::Equal => without_trailing_zeros(left).cmp(without_trailing_zeros(right)),
+        decided => decided,
+    }
 }
 
 /// A release without the zeros at its end.
@@ -124,7 +165,11 @@ impl Ord for Version {
 
     ghost matches_eq = { λ v w. refl };
 
+    #[tactic(auto, using(crate::proofs::Lemmas::Version::Fronts::fronts_decide))]
     fn cmp(&self, other: &Version) -> Ordering {
-        compare(&self.parts(), &other.parts())
+        match compare_fronts(self, other) {
+            Ordering::Equal => compare(&self.parts(), &other.parts()),
+            decided => decided,
+        }
     }
 }

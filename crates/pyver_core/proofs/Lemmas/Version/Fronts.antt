@@ -1,0 +1,48 @@
+-- Where the epochs and the releases of two versions differ, they decide.
+use Rattle.std.proofs.Common.{◌≡◌, ◌≢◌, ℕ, zero, suc, ◌-◌, ◌≤◌, List, [], ◌∷◌, length, take, drop, refl, sym, ◌∙◌, ap, arith}
+use Rattle.std.specs.Ordering.{nat_cmp, ordering_then}
+use Rattle.std.specs.Cmp.Lexicographic.{slice_cmp}
+use Rattle.std.specs.declared.cmp.Ordering.{Ordering}
+use Rattle.std.specs.declared.cmp.Ordering.TheVariants.{Less, Equal, Greater}
+use Rattle.pyver_core.specs.Version.Order.{release_cmp, version_cmp}
+use Rattle.pyver_core.specs.Version.Parts.{Parts}
+
+decided : (a b rest : Ordering) → ordering_then a b ≢ Equal → ordering_then a (ordering_then b rest) ≡ ordering_then a b
+decided Less b rest other = refl
+decided Equal Less rest other = refl
+decided Equal Equal rest other = absurd (other refl)
+decided Equal Greater rest other = refl
+decided Greater b rest other = refl
+
+pub fronts_decide : (v w : Parts) (front : Ordering)
+    → front ≡ ordering_then (nat_cmp v.epoch w.epoch) (release_cmp v.release w.release)
+    → front ≢ Equal → front ≡ version_cmp v w
+unfolding version_cmp
+fronts_decide v w front is other =
+    is ∙ sym (decided (nat_cmp v.epoch w.epoch) (release_cmp v.release w.release) _ (λ same. other (is ∙ same)))
+
+joined : (a b rest : Ordering) → ordering_then (ordering_then a b) rest ≡ ordering_then a (ordering_then b rest)
+joined Less b rest = refl
+joined Equal b rest = refl
+joined Greater b rest = refl
+
+-- one number of each release, and then the rest
+one_of_each : (x : ℕ) (xs : List ℕ) (y : ℕ) (ys : List ℕ)
+    → release_cmp (x ∷ xs) (y ∷ ys) ≡ ordering_then (nat_cmp x y) (release_cmp xs ys)
+unfolding release_cmp
+one_of_each x xs y ys =
+    let a : length (y ∷ ys) - length (x ∷ xs) ≡ length ys - length xs = omega arith in
+    let b : length (x ∷ xs) - length (y ∷ ys) ≡ length xs - length ys = omega arith in
+    rw (a, b) refl
+
+-- the first numbers of two releases decide before the rest
+pub release_cmp_fronts : (n : ℕ) (a b : List ℕ) → n ≤ length a → n ≤ length b
+    → release_cmp a b
+    ≡ ordering_then (slice_cmp nat_cmp (take n a) (take n b)) (release_cmp (drop n a) (drop n b))
+release_cmp_fronts zero a b left right = refl
+release_cmp_fronts (suc n) [] b left right = absurd (omega arith)
+release_cmp_fronts (suc n) (x ∷ a) [] left right = absurd (omega arith)
+release_cmp_fronts (suc n) (x ∷ a) (y ∷ b) left right =
+    one_of_each x a y b
+    ∙ ap (ordering_then (nat_cmp x y)) (release_cmp_fronts n a b (omega arith) (omega arith))
+    ∙ sym (joined (nat_cmp x y) (slice_cmp nat_cmp (take n a) (take n b)) (release_cmp (drop n a) (drop n b)))
