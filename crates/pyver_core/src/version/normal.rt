@@ -10,6 +10,7 @@ ghost use Rattle.pyver_core.specs.Version.Normal.{normal, post_text, pre_text, r
 ghost use Rattle.pyver_core.specs.Version.Normal.{segment_text};
 
 use crate::version::{LocalPart, PartsRef, PreKind, Version};
+use itoa::Buffer;
 use std::alloc::{AllocError, Global};
 use std::fmt;
 use std::fmt::Write;
@@ -37,7 +38,7 @@ fn push_number(text: &mut String, number: u128) -> Result<(), AllocError>
     ensures { OnOk result (string_bytes text.new ≡ string_bytes text.old ++ decimal_text number) }
 {
     match u64::try_from(number) {
-        Ok(short) => write!(text, "{short}"),
+        Ok(short) => text.push_str(Buffer::new().format(short)),
         Err(_) => write!(text, "{number}"),
     }
 }
