@@ -48,6 +48,14 @@ impl Judged {
         }
     }
 
+    /// Makes room for so many more numbers.
+    pub(crate) fn reserve(&mut self, more: usize) -> Result<(), AllocError>
+        ensures { self.new ≡ self.old }
+    {
+        self.numbers.reserve(more)?;
+        Ok(())
+    }
+
     /// Tells one more number.
     pub(crate) fn push(&mut self, number: u32) -> Result<(), AllocError>
         ensures { OnOk result (self.new ≡ self.old ++ number ∷ []) }

@@ -106,6 +106,7 @@ fn again(
     ensures judged { OnOk result (judged.new ≡ judged.old ++ numbers.now) }
 {
     let mut fresh = Vec::with_capacity(parts.alloc, numbers.len())?;
+    judged.reserve(numbers.len())?;
     for number in numbers {
         let place = *number as usize - 1;
         let row = judged_row(
@@ -237,6 +238,7 @@ fn ranked(
     ensures judged { OnOk result (judged.new ≡ judged.old ++ numbers.now) }
 {
     let mut fresh = Vec::with_capacity(parts.alloc, numbers.len())?;
+    judged.reserve(numbers.len())?;
     for number in numbers {
         let row = ranked_row(parts, tags, *number, ranks, judged)?;
         fresh.push(row)?;

@@ -206,16 +206,28 @@ fn standing(alloc: Global, entry: &Entry, environment: &Environment) -> Result<S
         Some(marker) => marker_standing(alloc, marker, environment)?,
         None => Standing::Active,
     };
-    Ok(after_check(marked, python_check(entry.requires_python(), environment)))
+    Ok(after_marker(marked, entry.requires_python(), environment))
 }
 
-/// How an entry stands that stands so by its marker and has this fault or none of its Python check.
-fn after_check(marked: Standing, check: Option<FaultCode>) -> Standing
-    ensures { result ≡ by_standing marked Skipped Faulty (by_check check) }
+/// How an entry stands that stands so by its marker and has this set to check or none. The check is
+/// made only where the marker leaves the entry active.
+fn after_marker(marked: Standing, set: Option<&SpecifierSet>, environment: &Environment) -> Standing
+    ensures { result ≡ by_standing marked Skipped Faulty
+        (by_check (python_check (option_copied set.entry) environment.now)) }
 {
-    match (marked, check) {
-        (Standing::Active, Some(code)) => Standing::Faulty(code),
+    match marked {
+        Standing::Active => by_check(python_check(set, environment)),
         _ => marked,
+    }
+}
+
+/// How an entry stands by the fault or none of its Python check.
+fn by_check(fault: Option<FaultCode>) -> Standing
+    ensures { result ≡ by_check fault }
+{
+    match fault {
+        Some(code) => Standing::Faulty(code),
+        None => Standing::Active,
     }
 }
 
