@@ -20,6 +20,7 @@ use crate::line::{LINE_LIMIT, read_line};
 use crate::report::fault::RunFault;
 use crate::text::plan::push_answer;
 use crate::text::refusal::push_refused;
+use memchr::memchr;
 use pylock_core::{Answer, Session};
 use std::alloc::{AllocError, Global};
 use std::marker::Model;
@@ -216,5 +217,5 @@ pub fn push_standing(session: &Session, out: &mut Vec<u8>) -> Result<bool, Alloc
 fn line_end(bytes: &[u8]) -> Option<usize>
     ensures { result ≡ position is_lf bytes.now }
 {
-    bytes.iter().position(|b| *b == b'\n')
+    memchr(b'\n', bytes)
 }
