@@ -1,4 +1,5 @@
 mod IndexLemmas
+mod JudgedMarkersLemmas
 pub mod NameLemmas
 pub mod PassLemmas
 pub mod FateLemmas

@@ -3,6 +3,7 @@ pub mod Again
 pub mod Edits
 pub mod Fates
 pub mod Index
+pub mod JudgedMarkers
 pub mod Names
 pub mod Parts
 pub mod Pass

@@ -6,6 +6,7 @@ pub(crate) mod entries;
 pub(crate) mod fates;
 pub(crate) mod index;
 pub(crate) mod judged;
+pub(crate) mod judged_markers;
 pub(crate) mod judgement;
 pub(crate) mod names;
 pub(crate) mod parts;

@@ -12,13 +12,14 @@ pub(crate) mod tree;
 mod value;
 
 ghost use Rattle.std.specs.Fmt.{padded};
-ghost use Rattle.std.specs.Prelude.{◌≡◌, IfOk, IsErrOf, Some, false, map, string_bytes, true};
+ghost use Rattle.std.specs.Prelude.{◌≡◌, ◌<◌, IfOk, IsErrOf, IsTrue, Some, false, map};
+ghost use Rattle.std.specs.Prelude.{string_bytes, true};
 ghost use Rattle.pytext.specs.Agreement.{Gives};
 ghost use Rattle.pymark_core.specs.Marker.View.{tree_view};
 ghost use Rattle.pymark_core.specs.Marker.Depth.{is_deep};
 ghost use Rattle.pymark_core.specs.Marker.Grammar.{MarkerText, comparisons, has_misuse};
 ghost use Rattle.pymark_core.specs.Marker.Keys.{is_flagged, reads};
-ghost use Rattle.pymark_core.specs.Marker.Reading.{marker_of};
+ghost use Rattle.pymark_core.specs.Marker.Reading.{marker_of, tree_text};
 ghost use Rattle.pymark_core.specs.Marker.Tree.{Tree};
 ghost use Rattle.pymark_core.specs.Marker.Value.{marker_value, value_with};
 ghost use Rattle.pytext.specs.White.{trimmed};
@@ -54,6 +55,10 @@ struct Parsed {
     text: String,
     tree: Tree,
     keys: Reads,
+    /// Whether the text was given without white space round it, so that the tree is the text's own.
+    is_bare: bool,
+    /// The bytes of the text, mixed.
+    mixed: u32,
 }
 
 impl Model for Marker {
@@ -64,8 +69,9 @@ impl Model for Marker {
 
     ghost coded = { marker_code };
 
-    ghost use Rattle.std.specs.Prelude.{◌≡◌, string_bytes};
+    ghost use Rattle.std.specs.Prelude.{◌≡◌, IsTrue, Some, string_bytes};
     ghost use Rattle.pymark_core.specs.Marker.Keys.{is_flagged, reads};
+    ghost use Rattle.pymark_core.specs.Marker.Reading.{tree_text};
     ghost use Rattle.pymark_core.specs.Marker.View.{tree_view};
     ghost use Rattle.pymark_core.specs.declared.marker.keys.Key.{Key};
 
@@ -74,8 +80,10 @@ impl Model for Marker {
       tree = tree_view m.parsed.value.tree;
     } };
 
-    ghost invariant = { λ m. (key : Key)
-        → is_flagged m.parsed.value.keys key ≡ reads key (tree_view m.parsed.value.tree) };
+    ghost invariant = { λ m. ((key : Key)
+        → is_flagged m.parsed.value.keys key ≡ reads key (tree_view m.parsed.value.tree))
+        × (IsTrue m.parsed.value.is_bare → tree_text (string_bytes m.parsed.value.text)
+        ≡ Some (tree_view m.parsed.value.tree)) };
 }
 
 impl Drop for Marker {
@@ -151,6 +159,26 @@ impl Marker {
         tree_value(alloc, environment, Some(extra), &self.parsed.tree)
     }
 
+    /// Whether the markers are seen at once to be the same, as two of one text are. `false` says
+    /// nothing. It takes no memory.
+    pub fn is_seen_same(&self, other: &Marker) -> bool
+        ensures { IsTrue result → self.now ≡ other.now }
+    {
+        self.parsed.mixed == other.parsed.mixed
+            && self.parsed.is_bare
+            && other.parsed.is_bare
+            && self.parsed.text.as_str() == other.parsed.text.as_str()
+    }
+
+    /// A number below `count`, the same for markers of one text: where a small table has room for
+    /// what is known of them. It takes no memory.
+    pub fn slot(&self, count: u32) -> u32
+        requires { 0 < count }
+        ensures { result < count }
+    {
+        self.parsed.mixed % count
+    }
+
     /// The comparisons of the marker, in the order in which they stand in its text. It takes memory
     /// for their list.
     pub fn comparisons(&self, alloc: Global) -> Result<Vec<&Comparison>, AllocError>
@@ -209,14 +237,35 @@ fn read_marker(alloc: Global, text: &str) -> Result<Marker, MarkerError>
     if notes.misuse {
         return Err(MarkerError::SetMisuse);
     }
-    let text = String::from_str(alloc, trimmed(text))?;
+    let bare = trimmed(text);
+    let is_bare = bare == text;
+    let mixed = mix(bare);
+    let text = String::from_str(alloc, bare)?;
     let keys = notes.reads;
-    Ok(share(alloc, Parsed { text, tree, keys })?)
+    let parsed = Parsed {
+        text,
+        tree,
+        keys,
+        is_bare,
+        mixed,
+    };
+    Ok(share(alloc, parsed)?)
+}
+
+/// The bytes of the text, mixed (FNV-1a, by Fowler, Noll and Vo).
+fn mix(text: &str) -> u32 {
+    let mut mixed = 0x811C_9DC5u32;
+    for byte in text.as_bytes() {
+        mixed = (mixed ^ u32::from(*byte)).wrapping_mul(0x0100_0193);
+    }
+    mixed
 }
 
 /// The marker of what was read.
 fn share(alloc: Global, parsed: Parsed) -> Result<Marker, AllocError>
-    requires { (key : Key) → is_flagged parsed.keys key ≡ reads key (tree_view parsed.tree) }
+    requires keys { (key : Key) → is_flagged parsed.keys key ≡ reads key (tree_view parsed.tree) }
+    requires bare { IsTrue parsed.is_bare
+        → tree_text (string_bytes parsed.text) ≡ Some (tree_view parsed.tree) }
     ensures { IfOk result (λ m. m ≡ record {
       text = string_bytes parsed.text;
       tree = tree_view parsed.tree;

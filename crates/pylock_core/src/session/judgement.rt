@@ -15,6 +15,7 @@ ghost use Rattle.pylock_core.specs.Session.Steps.{head_fault};
 
 use crate::edit::Policy;
 use crate::session::judged::Judged;
+use crate::session::judged_markers::JudgedMarkers;
 use crate::session::parts::Parts;
 use crate::session::ranks::Ranks;
 use crate::session::row::Row;
@@ -38,52 +39,68 @@ enum Cause<'a> {
     Policy(Policy),
 }
 
+impl<'a> Cause<'a> {
+    /// The environment that entries are judged again in.
+    fn environment(&self, parts: &'a Parts) -> &'a Environment
+        ensures { result.now ≡ environment_by self.now parts.entry.now }
+    {
+        match self {
+            Cause::Environment(environment) => environment,
+            Cause::Policy(_) => &parts.environment,
+        }
+    }
+}
+
 /// The verdict on the entry of this number, of which this row stands, judged again.
-fn verdict_again(
-    parts: &Parts,
+fn verdict_again<'a>(
+    parts: &'a Parts,
     cause: &Cause,
     number: u32,
-    entry: &Entry,
+    entry: &'a Entry,
     row: &Row,
+    markers: &mut JudgedMarkers<'a>,
     judged: &mut Judged,
 ) -> Result<Verdict, AllocError>
     requires below { row.now.name < length parts.now.names.policies.items }
+    requires markers { markers.old ≡ environment_by cause.now parts.now }
     requires judged { IsJudged parts.now.environment parts.now.tags
         parts.now.names.policies.items entry.now row.now }
     ensures verdict { IfOk result (λ verdict. verdict
         ≡ verdict_of entry.now (environment_by cause.now parts.now) parts.now.tags
         (policy_by cause.now parts.now row.now.name)) }
     ensures judged { OnOk result (judged.new ≡ judged.old ++ number ∷ []) }
+    ensures markers { markers.new ≡ markers.old }
 {
     let kept = &row.verdict;
     match cause {
-        Cause::Environment(environment) => {
-            kept.standing_anew(parts.alloc, number, entry, environment, judged)
-        }
+        Cause::Environment(_) => kept.standing_anew(parts.alloc, number, entry, markers, judged),
         Cause::Policy(policy) => kept.wheel_anew(number, entry, &parts.tags, *policy, judged),
     }
 }
 
 /// The row of the entry of this number, judged again.
-fn judged_row(
-    parts: &Parts,
+fn judged_row<'a>(
+    parts: &'a Parts,
     cause: &Cause,
     number: u32,
-    entry: &Option<Entry>,
+    entry: &'a Option<Entry>,
     row: &Option<Row>,
+    markers: &mut JudgedMarkers<'a>,
     judged: &mut Judged,
 ) -> Result<Option<Row>, AllocError>
     requires entry { IsSome entry.now }
     requires below { IfSome row.now (λ row. row.name < length parts.now.names.policies.items) }
+    requires markers { markers.old ≡ environment_by cause.now parts.now }
     requires judged { OfBoth (IsJudged parts.now.environment parts.now.tags
         parts.now.names.policies.items) entry.now row.now }
     ensures row { IfOk result (λ new. new ≡ row_anew (environment_by cause.now parts.now)
         parts.now.tags (policy_by cause.now parts.now) entry.now row.now) }
     ensures judged { OnOk result (judged.new ≡ judged.old ++ number ∷ []) }
+    ensures markers { markers.new ≡ markers.old }
 {
     match (entry, row) {
         (Some(entry), Some(row)) => Ok(Some(Row {
-            verdict: verdict_again(parts, cause, number, entry, row, judged)?,
+            verdict: verdict_again(parts, cause, number, entry, row, markers, judged)?,
             name: row.name,
             sources: row.sources,
         })),
@@ -92,9 +109,9 @@ fn judged_row(
 }
 
 /// The rows of the entries of these numbers, judged again.
-fn again(
-    parts: &Parts,
-    cause: &Cause,
+fn again<'a>(
+    parts: &'a Parts,
+    cause: &Cause<'a>,
     numbers: &[u32],
     judged: &mut Judged,
 ) -> Result<Vec<Fresh>, AllocError>
@@ -107,6 +124,7 @@ fn again(
 {
     let mut fresh = Vec::with_capacity(parts.alloc, numbers.len())?;
     judged.reserve(numbers.len())?;
+    let mut markers = JudgedMarkers::none(cause.environment(parts));
     for number in numbers {
         let place = *number as usize - 1;
         let row = judged_row(
@@ -115,6 +133,7 @@ fn again(
             *number,
             &parts.entries[place],
             &parts.rows[place],
+            &mut markers,
             judged,
         )?;
         fresh.push((place, row))?;

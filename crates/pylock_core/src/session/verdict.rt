@@ -15,6 +15,7 @@ ghost use Rattle.pylock_core.specs.declared.answer.Standing.TheVariants.{Skipped
 use crate::answer::{FaultCode, Standing};
 use crate::edit::Policy;
 use crate::session::judged::Judged;
+use crate::session::judged_markers::JudgedMarkers;
 use crate::session::parts::Parts;
 use crate::session::ranks::{Ranks, chosen_wheel};
 use pylock_readers::{Entry, Head};
@@ -75,23 +76,26 @@ impl Verdict {
         })
     }
 
-    /// Judges again how the entry of this number stands, and keeps its best wheel. The number goes
-    /// onto the list.
-    pub(crate) fn standing_anew(
+    /// Judges again how the entry of this number stands in the environment of these markers, and
+    /// keeps its best wheel. The number goes onto the list.
+    pub(crate) fn standing_anew<'a>(
         &self,
         alloc: Global,
         number: u32,
-        entry: &Entry,
-        environment: &Environment,
+        entry: &'a Entry,
+        markers: &mut JudgedMarkers<'a>,
         judged: &mut Judged,
     ) -> Result<Verdict, AllocError>
-        ensures verdict { IfOk result (λ verdict. verdict
-            ≡ record { standing = standing entry.now environment.now; best = self.now.best }) }
+        ensures verdict { IfOk result (λ verdict. verdict ≡ record {
+          standing = standing entry.entry.now markers.old;
+          best = self.now.best;
+        }) }
         ensures judged { OnOk result (judged.new ≡ judged.old ++ number ∷ []) }
+        ensures markers { markers.new ≡ markers.old }
     {
         judged.push(number)?;
         Ok(Verdict {
-            standing: standing(alloc, entry, environment)?,
+            standing: standing_in(alloc, entry, markers)?,
             best: self.best,
         })
     }
@@ -209,6 +213,22 @@ fn standing(alloc: Global, entry: &Entry, environment: &Environment) -> Result<S
     Ok(after_marker(marked, entry.requires_python(), environment))
 }
 
+/// The same in the environment of these markers, of which none that is known is judged again.
+fn standing_in<'a>(
+    alloc: Global,
+    entry: &'a Entry,
+    markers: &mut JudgedMarkers<'a>,
+) -> Result<Standing, AllocError>
+    ensures standing { IfOk result (λ found. found ≡ standing entry.entry.now markers.old) }
+    ensures markers { markers.new ≡ markers.old }
+{
+    let standing = match entry.marker() {
+        Some(marker) => markers.standing(alloc, marker)?,
+        None => Standing::Active,
+    };
+    Ok(after_marker(standing, entry.requires_python(), markers.environment()))
+}
+
 /// How an entry stands that stands so by its marker and has this set to check or none. The check is
 /// made only where the marker leaves the entry active.
 fn after_marker(marked: Standing, set: Option<&SpecifierSet>, environment: &Environment) -> Standing
@@ -232,7 +252,7 @@ fn by_check(fault: Option<FaultCode>) -> Standing
 }
 
 /// How an entry stands by its marker.
-fn marker_standing(
+pub(crate) fn marker_standing(
     alloc: Global,
     marker: &Marker,
     environment: &Environment,

@@ -19,6 +19,9 @@ judged_row-requires-clause-below c =
     let stands = c.requires.stand c.loop-number.number-index c.loop-number-test.true in
     below_at (length p.names.policies.items) p.rows.items place c.index-in-loop-number.result.now (session_below p c.requires.session) (row_within p place c.requires.session stands.1) c.index-in-loop-number.ensures
 
+pub judged_row-requires-clause-markers : goal.judged_row-requires-clause-markers
+judged_row-requires-clause-markers c = c.loop-number.invariant.markers
+
 pub judged_row-requires-clause-judged : goal.judged_row-requires-clause-judged
 judged_row-requires-clause-judged c =
     let p = c.args.parts.now in
@@ -40,5 +43,6 @@ loop-number-preserved c =
     let more = drop_more c.args.numbers.now i 0 c.loop-number-test.true in
     record {
       fresh = one_more _ _ _ _ _ (c.in_ok-push.ensures.items ∙ ap (λ r. c.loop-number.fresh.items ++ (place, r) ∷ []) anew) (ap (map _) more) c.loop-number.invariant.fresh;
+      markers = c.in_ok-row.ensures.markers ∙ c.loop-number.invariant.markers;
       judged = one_more _ _ _ _ _ c.in_ok-row.ensures.judged more c.loop-number.invariant.judged;
     }

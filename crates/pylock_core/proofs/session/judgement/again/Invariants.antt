@@ -8,5 +8,6 @@ invariant-loop-number l =
     let anew = fresh_row (environment_by l.cause l.parts) l.parts.tags (policy_by l.cause l.parts) l.parts.entries.items l.parts.rows.items in
     record {
       fresh : l.fresh.items ++ map anew (drop l.number-index l.numbers) ≡ map anew l.numbers;
+      markers : l.markers ≡ environment_by l.cause l.parts;
       judged : l.judged ++ drop l.number-index l.numbers ≡ l.fn.judged ++ l.numbers;
     }
