@@ -2,6 +2,7 @@ pub mod LineLemmas
 pub mod EditingLemmas
 pub mod TextLemmas
 pub mod PlainText
+pub mod FileLines
 pub mod ReadLemmas
 pub mod WriteLemmas
 pub mod RunLemmas

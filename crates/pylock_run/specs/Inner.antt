@@ -3,6 +3,7 @@ pub mod Editing
 pub mod Writes
 pub mod Faults
 pub mod Edited
+pub mod FileLine
 pub mod Hashes
 pub mod Pieces
 pub mod Plain

@@ -1,5 +1,6 @@
 //! The printed text, pushed onto the bytes that stand before it.
 
 pub mod field;
+mod plain;
 pub mod plan;
 pub mod refusal;

@@ -44,7 +44,8 @@ pub fn push_escaped(out: &mut Vec<u8>, text: &str) -> Result<(), AllocError>
 
 /// Whether the text is seen at once to stand in a field as it is, as nearly each does. Of a longer
 /// text whole chunks are tested, the last of which may lie over the one before it.
-fn is_plain_text(text: &[u8]) -> bool
+#[inline(never)]
+pub(crate) fn is_plain_text(text: &[u8]) -> bool
     ensures { IsTrue result → list_all is_ordinary text.now ≡ true }
 {
     match text.len() {
@@ -93,6 +94,7 @@ fn is_ordinary(byte: u8) -> bool
     (byte > 13) & (byte != b'\\')
 }
 
+#[inline(never)]
 fn push_escapes(out: &mut Vec<u8>, text: &[u8]) -> Result<(), AllocError>
     ensures { OnOk result (out.new.items ≡ out.old.items ++ escaped text.now) }
 {

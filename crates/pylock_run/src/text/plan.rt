@@ -16,6 +16,7 @@ ghost use Rattle.pylock_run.specs.Text.Plan.{plan_line, pick_text, answer_text, 
 ghost use Rattle.pylock_run.specs.Text.Plan.{source_line};
 
 use crate::text::field::{push_decimal, push_escaped, push_last_word, push_next};
+use crate::text::plain::push_plain_file;
 use pylock_core::{
     Answer, Archive, Directory, DistributionFile, Entry, FaultCode, Pick, PickedSource, Session,
     Vcs,
@@ -130,6 +131,27 @@ fn push_source(out: &mut Vec<u8>, source: Option<PickedSource<'_>>) -> Result<()
 
 /// Pushes the line of a source of an entry, which has this number.
 pub fn push_source_line(
+    out: &mut Vec<u8>,
+    number: u64,
+    entry: &Entry,
+    source: Option<PickedSource<'_>>,
+) -> Result<(), AllocError>
+    ensures { OnOk result (out.new.items ≡ out.old.items ++ source_line number entry.now
+        (option_map_or picked_fields (option_map lent_source source.entry) [])) }
+{
+    let done = match source {
+        Some(PickedSource::Wheel(wheel)) => push_plain_file(out, number, entry, b"wheel", wheel)?,
+        Some(PickedSource::Sdist(sdist)) => push_plain_file(out, number, entry, b"sdist", sdist)?,
+        _ => false,
+    };
+    if done {
+        return Ok(());
+    }
+    push_line_parts(out, number, entry, source)
+}
+
+/// Pushes the line part by part, whatever its texts are.
+fn push_line_parts(
     out: &mut Vec<u8>,
     number: u64,
     entry: &Entry,
