@@ -8,5 +8,6 @@ pub mod Names
 pub mod Operand
 pub mod PartsRef
 pub mod Phase
+pub mod Plain
 pub mod Releases
 pub mod SpecifierDraft

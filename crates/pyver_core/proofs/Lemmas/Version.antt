@@ -11,6 +11,7 @@ pub mod NormalForm
 pub mod OrderKey
 pub mod OrderZeros
 pub mod Phases
+pub mod Plain
 pub mod Sound
 pub mod TrailingZeros
 pub mod TwoNumbers

@@ -1,14 +1,15 @@
 //! Versions from their texts.
 
-ghost use Rattle.std.specs.Prelude.{◌≡◌, IfOk, IsErrOf};
+ghost use Rattle.std.specs.Prelude.{◌≡◌, IfOk, IsErrOf, Ok};
 ghost use Rattle.pytext.specs.Agreement.{Gives};
+ghost use Rattle.pyver_core.specs.Inner.Plain.{IsPlain, IsShort, plain_parts};
 ghost use Rattle.pyver_core.specs.Version.Grammar.{Spells, IsLarge};
 ghost use Rattle.pyver_core.specs.Parsed.{parsed_version};
 ghost use Rattle.pyver_core.specs.Version.Parts.{Parts};
 
-use super::reading::read_version;
-use crate::version::{Version, VersionError};
-use std::alloc::Global;
+use super::reading::{Plain, read_plain, read_version};
+use crate::version::{Version, VersionError, VersionParts};
+use std::alloc::{AllocError, Global};
 
 impl Version {
     /// The version that the text spells (PEP 440, "Version scheme").
@@ -28,7 +29,34 @@ impl Version {
         // The same, over the one answer of the grammar.
         ensures exact { Gives VersionError.Memory (λ v. v) result (parsed_version text.now) }
     {
-        version_from_bytes(alloc, text.as_bytes())
+        version_from_text(alloc, text)
+    }
+
+    /// The version of which the text is the normal form.
+    fn from_plain(alloc: Global, text: &str, plain: &Plain) -> Result<Version, AllocError>
+        requires short { IsShort plain.now.release }
+        requires plain { IsPlain text.now (plain_parts plain.now) }
+        ensures { IfOk result (λ v. v ≡ plain_parts plain.now) }
+    {
+        let parts = VersionParts {
+            epoch: 0,
+            release: Vec::from_slice(alloc, plain.release.numbers())?,
+            pre: plain.pre,
+            post: plain.post,
+            dev: plain.dev,
+            local: Vec::new(alloc),
+        };
+        let text = String::from_str(alloc, text)?;
+        Ok(Version { parts, text })
+    }
+}
+
+fn version_from_text(alloc: Global, text: &str) -> Result<Version, VersionError>
+    ensures { Gives VersionError.Memory (λ v. v) result (parsed_version text.now) }
+{
+    match read_plain(text.as_bytes()) {
+        Some(plain) => Ok(Version::from_plain(alloc, text, &plain)?),
+        None => version_from_bytes(alloc, text.as_bytes()),
     }
 }
 

@@ -57,7 +57,7 @@ local_spells : (ss : List LocalPart) → list_all is_segment ss ≡ true → IsL
 local_spells [] e = refl
 local_spells (s ∷ ss) e = (segment_text s, flat_map dotted_segment ss, refl, segment_spells s (and_parts _ _ e).0, segments_spell ss (and_parts _ _ e).1)
 
-release_spells : (n : ℕ) (ns : List ℕ) → IsRelease (release_text (n ∷ ns)) (n ∷ ns)
+pub release_spells : (n : ℕ) (ns : List ℕ) → IsRelease (release_text (n ∷ ns)) (n ∷ ns)
 release_spells n ns = (decimal_text n, flat_map dotted_number ns, refl, number_spelt n, dotted_spelt ns)
 
 spelt_segment : (run : List ℕ) (s : LocalPart) → IsSegment run s → is_segment s ≡ true

@@ -11,7 +11,7 @@ pub returns : goal.returns
 unfolding parsed_version
 returns c =
     let text = c.args.text.now in
-    let exact = rw c.as_bytes.ensures.value at c.version_from_bytes.ensures in
-    let x = answers (Spells text) numbers Memory Syntax NumberTooLarge (version_of text) c.version_from_bytes.result (λ e. cc e) (λ e. cc e) (λ e. cc e)
+    let exact = c.version_from_text.ensures in
+    let x = answers (Spells text) numbers Memory Syntax NumberTooLarge (version_of text) c.version_from_text.result (λ e. cc e) (λ e. cc e) (λ e. cc e)
     (version_takes text) (version_again text) exact in
     record { ok = x.ok; fits = x.fits; syntax = x.syntax; large = x.large; exact = exact }
