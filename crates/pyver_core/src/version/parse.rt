@@ -1,8 +1,8 @@
 //! Versions from their texts.
 
-ghost use Rattle.std.specs.Prelude.{◌≡◌, IfOk, IsErrOf, Ok};
+ghost use Rattle.std.specs.Prelude.{◌≡◌, ◌≤◌, IfOk, IsErrOf, length};
 ghost use Rattle.pytext.specs.Agreement.{Gives};
-ghost use Rattle.pyver_core.specs.Inner.Plain.{IsPlain, IsShort, plain_parts};
+ghost use Rattle.pyver_core.specs.Inner.Plain.{IsPlain, plain_parts};
 ghost use Rattle.pyver_core.specs.Version.Grammar.{Spells, IsLarge};
 ghost use Rattle.pyver_core.specs.Parsed.{parsed_version};
 ghost use Rattle.pyver_core.specs.Version.Parts.{Parts};
@@ -33,14 +33,19 @@ impl Version {
     }
 
     /// The version of which the text is the normal form.
-    fn from_plain(alloc: Global, text: &str, plain: &Plain) -> Result<Version, AllocError>
-        requires short { IsShort plain.now.release }
-        requires plain { IsPlain text.now (plain_parts plain.now) }
-        ensures { IfOk result (λ v. v ≡ plain_parts plain.now) }
+    fn from_plain(
+        alloc: Global,
+        text: &str,
+        room: &[u128],
+        plain: &Plain,
+    ) -> Result<Version, AllocError>
+        requires within { plain.now.count ≤ length room.now }
+        requires plain { IsPlain text.now (plain_parts room.now plain.now) }
+        ensures { IfOk result (λ v. v ≡ plain_parts room.now plain.now) }
     {
         let parts = VersionParts {
             epoch: 0,
-            release: Vec::from_slice(alloc, plain.release.numbers())?,
+            release: Vec::from_slice(alloc, &room[..plain.count])?,
             pre: plain.pre,
             post: plain.post,
             dev: plain.dev,
@@ -51,11 +56,15 @@ impl Version {
     }
 }
 
+/// The most numbers of a release that is read in one look at the text.
+const MOST_NUMBERS: usize = 4;
+
 fn version_from_text(alloc: Global, text: &str) -> Result<Version, VersionError>
     ensures { Gives VersionError.Memory (λ v. v) result (parsed_version text.now) }
 {
-    match read_plain(text.as_bytes()) {
-        Some(plain) => Ok(Version::from_plain(alloc, text, &plain)?),
+    let mut room = [0; MOST_NUMBERS];
+    match read_plain(text.as_bytes(), &mut room) {
+        Some(plain) => Ok(Version::from_plain(alloc, text, &room, &plain)?),
         None => version_from_bytes(alloc, text.as_bytes()),
     }
 }

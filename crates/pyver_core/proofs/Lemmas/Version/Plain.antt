@@ -1,5 +1,5 @@
 -- Texts that are the normal form of the parts that they spell.
-use Rattle.std.proofs.Common.{◌≡◌, ◌≢◌, ℕ, ◌+◌, ◌*◌, ◌/◌, ◌%◌, ◌^◌, ◌<◌, ◌≤◌, false, List, [], ◌∷◌, ◌++◌, length, get_or, take, drop, Bor, Option, Some, None, Ok, refl, sym, subst, ap, ◌∙◌, append_assoc, arith}
+use Rattle.std.proofs.Common.{◌≡◌, ◌≢◌, ℕ, ◌+◌, ◌*◌, ◌/◌, ◌%◌, ◌^◌, ◌<◌, ◌≤◌, false, List, [], ◌∷◌, ◌++◌, length, get_or, set, take, drop, Bor, Option, Some, None, Ok, refl, sym, subst, ap, ◌∙◌, append_assoc, arith}
 use Rattle.std.specs.Prelude.{IfSome, flat_map}
 use Rattle.std.specs.Fmt.{decimal}
 use Rattle.std.proofs.lemmas.Bool.Decides.{nat_tests}
@@ -98,3 +98,14 @@ parts_fit release pre post dev a b c d =
     let d3 = number_in_pre pre ++ d2 in
     more_fit (0 ∷ []) (release ++ d3) refl (more_fit release d3 a (more_fit (number_in_pre pre) d2 b
     (more_fit (number_in post) d1 c (more_fit (number_in dev) [] d refl))))
+
+-- ---- the first number of a release
+
+pub first_alone : (text room : List ℕ) (n : ℕ) (rest : List ℕ) → 1 ≤ length room → text ≡ decimal_text n ++ rest
+    → text ≡ release_text (take 1 (set room 0 n)) ++ rest
+first_alone text [] n rest some is = absurd (omega arith)
+first_alone text (m ∷ room) n rest some is = is ∙ ap (λ t. t ++ rest) (sym (append-nil (decimal_text n)))
+
+pub first_fits : (room : List ℕ) (n : ℕ) → 1 ≤ length room → has_large (n ∷ []) ≡ false → has_large (take 1 (set room 0 n)) ≡ false
+first_fits [] n some fits = absurd (omega arith)
+first_fits (m ∷ room) n some fits = fits

@@ -1,86 +1,71 @@
 //! Versions that stand in their texts in normal form, as nearly each does: one look at the text
 //! reads them.
 
-ghost use Rattle.std.specs.Prelude.{◌≡◌, ◌<◌, false, [], ◌∷◌, ◌++◌, IfSome};
-ghost use Rattle.pyver_core.specs.Inner.Plain.{IsPlain, IsShort, plain_parts, short_release};
+ghost use Rattle.std.specs.Prelude.{◌≡◌, ◌<◌, ◌≤◌, false, [], ◌∷◌, ◌++◌, IfSome, length, take};
+ghost use Rattle.pyver_core.specs.Inner.Plain.{IsPlain, plain_parts};
 ghost use Rattle.pyver_core.specs.Version.Grammar.{has_large, number_in, number_in_pre, numbers};
 ghost use Rattle.pyver_core.specs.Version.Normal.{decimal_text, dev_text, dotted_number};
 ghost use Rattle.pyver_core.specs.Version.Normal.{post_text, pre_text, release_text};
 
 use crate::version::PreKind;
 
-/// The most numbers of a release that is read so.
-const MOST_NUMBERS: usize = 4;
-
 /// A number past this is read in the other way.
 const LARGE: u64 = 1_000_000_000_000;
 
-/// The numbers of a release, of which there are few.
-#[derive(Clone, Copy)]
-pub(crate) struct ShortRelease {
-    numbers: [u128; MOST_NUMBERS],
-    count: usize,
-}
-
-impl ShortRelease {
-    ghost use Rattle.pyver_core.specs.Inner.Plain.{IsShort, short_release};
-
-    /// The numbers.
-    pub(crate) fn numbers(&self) -> &[u128]
-        requires { IsShort self.now }
-        ensures { result.now ≡ short_release self.now }
-    {
-        &self.numbers[..self.count]
-    }
-}
-
-/// The parts of a version that has neither an epoch nor a local part. It holds no memory.
+/// The parts of a version that has neither an epoch nor a local part, but for the numbers of its
+/// release, which stand in a room apart. It holds no memory.
 #[derive(Clone, Copy)]
 pub(crate) struct Plain {
-    pub(crate) release: ShortRelease,
+    pub(crate) count: usize,
     pub(crate) pre: Option<(PreKind, u128)>,
     pub(crate) post: Option<u128>,
     pub(crate) dev: Option<u128>,
 }
 
-/// The parts of which the text is the normal form. There may be such parts where this finds none.
-pub(crate) fn read_plain(bytes: &[u8]) -> Option<Plain>
-    ensures short { IfSome result (λ p. IsShort p.release) }
-    ensures plain { IfSome result (λ p. IsPlain bytes.now (plain_parts p)) }
-    ensures fits { IfSome result (λ p. has_large (numbers (plain_parts p)) ≡ false) }
+/// The parts of which the text is the normal form; the room is for the numbers of the release.
+/// There may be such parts where this finds none.
+pub(crate) fn read_plain(bytes: &[u8], room: &mut [u128]) -> Option<Plain>
+    requires { 1 ≤ length room.old }
+    ensures room { length room.new ≡ length room.old }
+    ensures within { IfSome result (λ p. p.count ≤ length room.new) }
+    ensures plain { IfSome result (λ p. IsPlain bytes.now (plain_parts room.new p)) }
+    ensures fits { IfSome result (λ p. has_large (numbers (plain_parts room.new p)) ≡ false) }
 {
-    let (release, rest) = short_release(bytes)?;
+    let (count, rest) = read_release(bytes, room)?;
     let (pre, rest) = plain_pre(rest)?;
     let (post, rest) = plain_post(rest)?;
     let (dev, rest) = plain_dev(rest)?;
     rest.is_empty().then_some(Plain {
-        release,
+        count,
         pre,
         post,
         dev,
     })
 }
 
-/// A release of few numbers, and the text behind it.
-fn short_release(bytes: &[u8]) -> Option<(ShortRelease, &[u8])>
-    ensures short { IfSome result (λ x. IsShort x.0) }
+/// Puts the numbers of a release in the room: how many these are, and the text behind them.
+fn read_release<'a>(bytes: &'a [u8], room: &mut [u128]) -> Option<(usize, &'a [u8])>
+    requires { 1 ≤ length room.old }
+    ensures room { length room.new ≡ length room.old }
+    ensures some { IfSome result (λ x. 1 ≤ x.0) }
+    ensures within { IfSome result (λ x. x.0 ≤ length room.new) }
     ensures text { IfSome result (λ x. bytes.now
-        ≡ release_text (short_release x.0) ++ x.1.now) }
-    ensures fits { IfSome result (λ x. has_large (short_release x.0) ≡ false) }
+        ≡ release_text (take x.0 room.new) ++ x.1.now) }
+    ensures fits { IfSome result (λ x. has_large (take x.0 room.new) ≡ false) }
 {
     let (first, behind) = plain_number(bytes)?;
-    let mut numbers = [first, 0, 0, 0];
+    room[0] = first;
     let mut count = 1;
     let mut rest = behind;
     while let Some((next, after)) = plain_dotted(rest) {
-        if count == MOST_NUMBERS {
+        if count == room.len() {
             return None;
         }
-        numbers[count] = next;
+        room[count] = next;
         count += 1;
         rest = after;
     }
-    Some((ShortRelease { numbers, count }, rest))
+    Some((count, rest))
 }
 
 /// A dot and a number, and the text behind it.
