@@ -13,17 +13,21 @@ use crate::version::{push_epoch, push_release};
 use std::alloc::{AllocError, Global};
 use std::fmt;
 
+/// The room that a normal form begins with, which nearly each keeps to.
+const USUAL_LENGTH: usize = 24;
+
 /// The normal form of a set of these specifiers.
 pub(crate) fn set_text(alloc: Global, specifiers: &[Specifier]) -> Result<String, AllocError>
     ensures { IfOk result (λ text. string_bytes text ≡ set_text specifiers.now) }
 {
-    let mut text = String::new(alloc);
-    if let Some((first, rest)) = specifiers.split_first() {
-        push_specifier(&mut text, first)?;
-        for specifier in rest {
-            text.push_str(",")?;
-            push_specifier(&mut text, specifier)?;
-        }
+    let Some((first, rest)) = specifiers.split_first() else {
+        return Ok(String::new(alloc));
+    };
+    let mut text = String::with_capacity(alloc, USUAL_LENGTH)?;
+    push_specifier(&mut text, first)?;
+    for specifier in rest {
+        text.push(',')?;
+        push_specifier(&mut text, specifier)?;
     }
     Ok(text)
 }
