@@ -1,6 +1,6 @@
 //! The normal form of a version, written from its parts (PEP 440, "Normalization").
 
-ghost use Rattle.std.specs.Prelude.{◌≡◌, ◌++◌, IfOk, OnOk, Some, string_bytes};
+ghost use Rattle.std.specs.Prelude.{◌≡◌, ◌<◌, ◌++◌, IfOk, OnOk, Some, string_bytes};
 ghost use Rattle.std.specs.Fmt.{padded};
 ghost use Rattle.std.specs.List.{flat_map};
 ghost use Rattle.pyver_core.specs.Inner.PartsRef.{parts_of};
@@ -38,9 +38,19 @@ fn push_number(text: &mut String, number: u128) -> Result<(), AllocError>
     ensures { OnOk result (string_bytes text.new ≡ string_bytes text.old ++ decimal_text number) }
 {
     match u64::try_from(number) {
+        Ok(short) if short < 10 => push_digit(text, short as u8),
         Ok(short) => text.push_str(Buffer::new().format(short)),
         Err(_) => write!(text, "{number}"),
     }
+}
+
+/// Writes a number of one digit, as most are.
+#[tactic(auto, using(crate::proofs::Lemmas::Version::Decimal::digit_is_text))]
+fn push_digit(text: &mut String, digit: u8) -> Result<(), AllocError>
+    requires { digit < 10 }
+    ensures { OnOk result (string_bytes text.new ≡ string_bytes text.old ++ decimal_text digit) }
+{
+    text.push(char::from(b'0' + digit))
 }
 
 /// Writes the epoch where it isn't 0.
@@ -71,7 +81,7 @@ fn push_dotted(text: &mut String, numbers: &[u128]) -> Result<(), AllocError>
         ≡ string_bytes text.old ++ flat_map dotted_number numbers.now) }
 {
     for number in numbers {
-        text.push_str(".")?;
+        text.push('.')?;
         push_number(text, *number)?;
     }
     Ok(())
