@@ -1,6 +1,6 @@
 -- Texts cut at a byte: what std's words say, in the words of `cut_at` and `pieces_at`.
-use Rattle.std.proofs.Common.{◌≡◌, ℕ, suc, ◌+◌, ◌-◌, ◌<◌, true, false, ◌==◌, bytes_eq, codes, List, [], ◌∷◌, ◌++◌, length, take, drop, Option, Some, None, option_map, MatchOption, Bor, refl, sym, subst, ap, ◌∙◌, inl, inr, arith}
-use Rattle.std.proofs.lemmas.Bool.Decides.{Decides-eqb}
+use Rattle.std.proofs.Common.{◌≡◌, ℕ, suc, ◌+◌, ◌-◌, ◌<◌, true, false, ◌==◌, bytes_eq, codes, List, [], ◌∷◌, ◌++◌, length, get_or, take, drop, Option, Some, None, option_map, MatchOption, Bor, refl, sym, subst, ap, ◌∙◌, inl, inr, arith}
+use Rattle.std.proofs.lemmas.Bool.Decides.{Decides-eqb, nat_tests}
 use Rattle.std.proofs.lemmas.List.{append_assoc, append_cancel_left, take-append-drop}
 use Rattle.std.proofs.lemmas.List.Elements.{All-cons}
 use Rattle.std.proofs.lemmas.List.Splits.{length-slice_split, slice_split_at, slice_split_none}
@@ -8,7 +8,12 @@ use Rattle.std.proofs.lemmas.Option.{same_Some}
 use Rattle.std.proofs.lemmas.List.{length-append}
 use Rattle.std.specs.Cmp.Lexicographic.{bytes_decides}
 use Rattle.std.specs.Str.Pattern.{FindsTextSuffix, StripsSuffix}
-use Rattle.std.specs.List.{All, after_first, before_first, list_any, position_or_len}
+use Rattle.std.specs.List.{All, after_first, before_first, list_any, position_or_len, prefix_len}
+use Rattle.std.specs.Str.{IsCharBoundary, IsUtf8}
+use Rattle.std.proofs.lemmas.List.Sums.{prefix_len_stops}
+use Rattle.std.proofs.lemmas.Str.{IsCharBoundary-after_ascii}
+use Rattle.pytext.proofs.Boundaries.{boundary_before}
+use Rattle.pywheel_core.specs.Inner.Cut.{is_undashed}
 use Rattle.pytext.proofs.Options.{option_sight}
 use Rattle.std.proofs.lemmas.Bool.{cases_Bool, or_parts}
 use Rattle.pywheel_core.specs.Texts.{before_cut, cut_at, pieces_at}
@@ -155,3 +160,36 @@ one_piece s h = elim (option_sight (cut_at 46 s)) [
 
 pub one_place : (start : ℕ) (s : List ℕ) → length (pieces s) ≡ 1 → places_from start (pieces s) ≡ record { start = start; end = start + length s } ∷ []
 one_place start s h = ap (places_from start) (one_piece s h)
+
+-- ---- the first `-`
+
+pub cut_there : (s : List ℕ) → prefix_len is_undashed s < length s
+    → cut_at 45 s ≡ Some (take (prefix_len is_undashed s) s, drop (prefix_len is_undashed s + 1) s)
+cut_there [] h = absurd (omega arith)
+cut_there (b ∷ s) h =
+    let n = prefix_len is_undashed s in
+    let one : suc n ≡ 1 + n = omega arith in
+    let two : suc (n + 1) ≡ 1 + n + 1 = omega arith in
+    elim (cases_Bool (b == 45)) [
+      | inl e ↦ rw e refl
+      | inr e ↦ let h2 = rw e at h in rw e (ap (option_map (before_cut b)) (cut_there s (omega (arith, h2))) ∙ (λ i. Some (take (one i) (b ∷ s), drop (two i) (b ∷ s))))
+    ]
+
+pub cut_nowhere : (s : List ℕ) → prefix_len is_undashed s ≡ length s → cut_at 45 s ≡ None
+cut_nowhere [] h = refl
+cut_nowhere (b ∷ s) h = elim (cases_Bool (b == 45)) [
+  | inl e ↦ let h2 = rw e at h in absurd (omega (arith, h2))
+  | inr e ↦ let h2 = rw e at h in rw e (ap (option_map (before_cut b)) (cut_nowhere s (omega (arith, h2))))
+]
+
+undashed-ascii : (b : ℕ) → is_undashed b ≡ false → b < 128
+undashed-ascii b e = grind (arith, nat_tests)
+
+-- the text may be cut before it, and behind it
+pub before_dash : (s : List ℕ) → IsCharBoundary s (prefix_len is_undashed s)
+before_dash s = boundary_before is_undashed undashed-ascii s
+
+pub behind_dash : (s : List ℕ) → IsUtf8 s → prefix_len is_undashed s < length s → IsCharBoundary s (prefix_len is_undashed s + 1)
+behind_dash s utf8 h =
+    let n = prefix_len is_undashed s in
+    IsCharBoundary-after_ascii s n utf8 h (undashed-ascii (get_or s n 0) (prefix_len_stops is_undashed s 0 h))

@@ -1,4 +1,5 @@
 -- What serves contracts inside the crate alone.
+pub mod Cut
 pub mod Lent
 pub mod Pieces
 pub mod Places

@@ -1,11 +1,12 @@
 //! Texts cut at `-`: the parts of a tag, of a compressed tag set and of a wheel's name.
 
 ghost use Rattle.std.specs.Prelude.{◌≡◌, ◌+◌, Some, length, option_map, IfOk};
-ghost use Rattle.std.specs.List.{list_all};
+ghost use Rattle.std.specs.List.{list_all, prefix_len};
 ghost use Rattle.std.specs.Option.{IfSome};
 ghost use Rattle.std.specs.Rc.{rc_str_bytes};
 ghost use Rattle.std.specs.Str.{str_to_ascii_lowercase};
 ghost use Rattle.pywheel_core.specs.Inner.Lent.{IsCut, set_of, wheel_parts};
+ghost use Rattle.pywheel_core.specs.Inner.Cut.{is_undashed};
 ghost use Rattle.pywheel_core.specs.Inner.Places.{places_of};
 ghost use Rattle.pytext.specs.Bytes.{is_word_byte};
 ghost use Rattle.pywheel_core.specs.Tag.{is_tag, is_tag_part};
@@ -51,7 +52,18 @@ pub(crate) fn lowercase(alloc: Global, text: &str) -> Result<RcStr, AllocError>
 pub(crate) fn cut(text: &str) -> Option<(&str, &str)>
     ensures { option_map (λ x. (x.0.now, x.1.now)) result ≡ cut_at 45 text.now }
 {
-    text.split_once('-')
+    let place = undashed_len(text.as_bytes());
+    if place == text.len() {
+        return None;
+    }
+    Some((&text[..place], &text[place + 1..]))
+}
+
+/// How many bytes stand before the first `-`: all where there is none.
+fn undashed_len(bytes: &[u8]) -> usize
+    ensures { result ≡ prefix_len is_undashed bytes.now }
+{
+    bytes.iter().take_while(|byte| **byte != b'-').count()
 }
 
 /// The three parts of a text with two `-`.
