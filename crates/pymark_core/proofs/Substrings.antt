@@ -1,12 +1,16 @@
 -- A text stands in another where that is something before it, itself, and something behind it.
-use Rattle.std.proofs.Common.{◌≡◌, ℕ, Bool, true, false, ◌||◌, List, [], ◌∷◌, ◌++◌, length, take, drop, nat_eq, ◌∙◌, ap, refl, sym, subst}
-use Rattle.std.proofs.lemmas.List.{take-append-drop}
+use Rattle.std.proofs.Common.{◌≡◌, ℕ, ◌+◌, arith, Option, Some, None, Bool, true, false, ◌||◌, List, [], ◌∷◌, ◌++◌, length, take, drop, nat_eq, ◌∙◌, ap, refl, sym, subst}
+use Rattle.std.proofs.lemmas.List.{length-append, take-append-drop}
 use Rattle.std.proofs.lemmas.Slice.Eq.{bytes_eq-Decides}
 use Rattle.std.proofs.Math.Bool.{or-true}
+use Rattle.std.proofs.lemmas.Bool.{true≢false}
+use Rattle.std.specs.Option.{is_some}
 use Rattle.std.proofs.Math.Logic.{◌↔◌}
-use Rattle.std.proofs.Math.Seq.{take-append_seam}
+use Rattle.std.proofs.Math.Seq.{drop_at, take-append_seam}
 use Rattle.std.specs.List.{starts_with}
 use Rattle.std.specs.Str.Iter.{HasSubslice}
+use Rattle.memchr.specs.Find.{FindsNeedle}
+use Rattle.memchr.proofs.lemmas.MatchLemmas.{OccursAt-from_part, OccursAt-split}
 use Rattle.pymark_core.specs.Marker.Value.{is_substring}
 
 at_front : (s x : List ℕ) → starts_with nat_eq s x ≡ true → s ≡ x ++ drop (length x) s
@@ -45,3 +49,19 @@ substring_is r x y is =
     same r (is_substring x y)
     (λ true_is. let at = is.0 true_is in subst (λ t. is_substring x t ≡ true) (sym at.2) (stands at.0 at.1 x))
     (λ stands_in. is.1 (found_in x y stands_in))
+
+-- what a search finds, stands in the text
+pub finds_substring : (y x : List ℕ) (at : Option ℕ) → FindsNeedle y x 0 at → (is_some at ≡ true) ↔ HasSubslice y x
+finds_substring y x (Some k) found = (
+  λ _. (take k y, drop (k + length x) y, sym (take-append-drop k y) ∙ ap (λ l. take k y ++ l) (OccursAt-split y x k found.1)),
+  λ _. refl,
+)
+finds_substring y x None none = (
+  λ e. absurd (true≢false (sym e)),
+  λ h.
+      let whole : length y ≡ length h.0 + (length x + length h.1) =
+      ap length h.2 ∙ length-append h.0 (x ++ h.1) ∙ ap (λ n. length h.0 + n) (length-append x h.1) in
+      let part : take (length x) (drop (length h.0) y) ≡ x =
+      ap (λ l. take (length x) (drop (length h.0) l)) h.2 ∙ ap (take (length x)) (drop_at h.0 (x ++ h.1) (length h.0) refl) ∙ take-append_seam x h.1 in
+      absurd (none (length h.0) (omega arith) (omega arith) (OccursAt-from_part y x (length h.0) (omega arith) part)),
+)

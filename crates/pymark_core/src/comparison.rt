@@ -19,6 +19,7 @@ use crate::environment::Environment;
 use crate::fault::EvalFault;
 use crate::operand::{Comparator, Operand};
 use crate::variable::Var;
+use memchr::memmem;
 use pyver_core::{
     Label, NormalForm, Operator, Specifier, SpecifierError, VersionError, is_same_name, normal_name,
 };
@@ -421,11 +422,25 @@ fn is_group(alloc: Global, environment: &Environment, left: &Candidate) -> Resul
     }
 }
 
+/// From this length on a text is searched many bytes at a time, after a look at what is searched.
+const LONG: usize = 96;
+
 /// Whether the first text stands somewhere in the second.
 fn is_substring(part: &str, whole: &str) -> bool
     ensures { result ≡ is_substring part.now whole.now }
 {
-    whole.contains(part)
+    if whole.len() < LONG {
+        whole.contains(part)
+    } else {
+        is_far_in(part.as_bytes(), whole.as_bytes())
+    }
+}
+
+/// The same of the bytes of a long text.
+fn is_far_in(part: &[u8], whole: &[u8]) -> bool
+    ensures { result ≡ is_substring part.now whole.now }
+{
+    memmem::find(whole, part).is_some()
 }
 
 /// The text on the left against the operand on the right, by an operator of specifiers.
