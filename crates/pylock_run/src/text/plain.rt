@@ -1,5 +1,5 @@
-//! The line of a wheel or an sdist whose texts stand in their fields as they are, as those of nearly
-//! each do: its room is made at once, and then its parts are put in their places.
+//! The line of a wheel or an sdist whose texts stand in their fields as they are, as nearly all do:
+//! its room is made at once, and then its parts are put in their places.
 
 ghost use Rattle.std.specs.Prelude.{◌≡◌, ◌++◌, ◌∷◌, ◌+◌, ◌≤◌, length, take, false};
 ghost use Rattle.std.specs.Prelude.{IfSome, IfOk, OnOk, IsTrue};
