@@ -6,7 +6,8 @@ use std::alloc::AllocError;
 
 /// What stands at the head of a lock that lets every current Python pass.
 const OPEN_HEAD: &str = "lock-version = \"1.0\"
-environments = [\"sys_platform == 'linux'\", \"sys_platform == 'win32'\", \"sys_platform == 'darwin'\"]
+environments = [\"sys_platform == 'linux'\", \"sys_platform == 'win32'\", \
+\"sys_platform == 'darwin'\"]
 requires-python = \">=3.8\"
 extras = [\"speed\", \"security\"]
 dependency-groups = [\"docs\", \"test\"]
