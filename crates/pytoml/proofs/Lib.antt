@@ -1,0 +1,10 @@
+pub mod Results
+pub mod Rings
+pub mod Tables
+pub mod Levels
+pub mod Lanes
+pub mod Runs
+pub mod Steps
+pub mod Strings
+pub mod Lines
+pub mod Keys

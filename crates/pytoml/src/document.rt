@@ -1,0 +1,117 @@
+//! Documents, a line at a time.
+ghost use Rattle.std.specs.Prelude.{◌≡◌, ◌<◌, ◌≤◌, IfOk, Some, length};
+ghost use Rattle.toml_parser.specs.Reading.{key_view};
+ghost use Rattle.toml.specs.View.{table_view, view};
+ghost use Rattle.toml.specs.Parse.{header_key, parse_document, parse_value};
+ghost use Rattle.toml.specs.Parse as spec;
+ghost use Rattle.pytoml.specs.Inner.{Reads, Shortens};
+ghost use Rattle.pytoml.specs.Draft.{Adds, array_header};
+
+use crate::draft::Draft;
+use crate::fault::Unread;
+use crate::key::key_equals;
+use crate::text::{past_blank, past_ws};
+use crate::value::value;
+use std::alloc::Global;
+use toml::{Table, Value};
+use toml_parser::text::{byte_at, first, skip};
+use toml_parser::{Key, RECURSION_LIMIT, dotted_key};
+
+/// The table that the text is, where the short way knows its shape.
+pub(crate) fn document(alloc: Global, s: &str) -> Result<Table, Unread>
+    ensures { IfOk result (λ table. parse_document s.now ≡ Some (table_view table)) }
+{
+    let mut draft = Draft::new(alloc);
+    let mut rest = past_mark(s);
+    'lines: loop {
+        let start = past_blank(rest);
+        if start.is_empty() {
+            return draft.finish();
+        }
+        rest = line(alloc, start, &mut draft)?;
+    }
+}
+
+/// The value that the text is, where the short way knows its shape.
+pub(crate) fn whole_value(alloc: Global, s: &str) -> Result<Value, Unread>
+    ensures { IfOk result (λ value. parse_value s.now ≡ Some (view value)) }
+{
+    let (value, rest) = value(alloc, past_mark(s), RECURSION_LIMIT)?;
+    if rest.is_empty() {
+        Ok(value)
+    } else {
+        Err(Unread::Shape)
+    }
+}
+
+/// Without a byte order mark.
+fn past_mark(s: &str) -> &str
+    ensures rest { result.now ≡ spec.skip_bom s.now }
+    ensures within { length result.now ≤ length s.now }
+{
+    if first(s) == 0xEF && byte_at(s, 1) == 0xBB && byte_at(s, 2) == 0xBF {
+        &s[3..]
+    } else {
+        s
+    }
+}
+
+/// Adds what a line says, and gives what follows it.
+fn line<'a>(alloc: Global, s: &'a str, draft: &mut Draft) -> Result<&'a str, Unread>
+    ensures adds { Adds draft.old draft.new result (spec.line s.now) }
+    ensures shorter { IfOk result (λ rest. length rest.now < length s.now) }
+{
+    let rest = expression(alloc, s, draft)?;
+    let end = past_ws(rest);
+    if end.is_empty() || matches!(first(end), b'#' | b'\n' | b'\r') {
+        Ok(rest)
+    } else {
+        Err(Unread::Shape)
+    }
+}
+
+fn expression<'a>(alloc: Global, s: &'a str, draft: &mut Draft) -> Result<&'a str, Unread>
+    ensures adds { Adds draft.old draft.new result (spec.expression s.now) }
+    ensures shorter { IfOk result (λ rest. length rest.now < length s.now) }
+{
+    if first(s) == b'[' && byte_at(s, 1) == b'[' {
+        array_header(alloc, skip(s, 2), draft)
+    } else if first(s) == b'[' {
+        let (key, rest) = header_key(alloc, skip(s, 1))?;
+        draft.open_table(alloc, key)?;
+        Ok(rest)
+    } else {
+        let (key, at_value) = key_equals(alloc, s)?;
+        let (value, rest) = value(alloc, at_value, RECURSION_LIMIT)?;
+        draft.put(key, value)?;
+        Ok(rest)
+    }
+}
+
+/// The rest of a header in double brackets.
+fn array_header<'a>(alloc: Global, s: &'a str, draft: &mut Draft) -> Result<&'a str, Unread>
+    ensures adds { Adds draft.old draft.new result (array_header s.now) }
+    ensures shorter { IfOk result (λ rest. length rest.now < length s.now) }
+{
+    let (key, rest) = header_key(alloc, s)?;
+    if first(rest) != b']' {
+        return Err(Unread::Shape);
+    }
+    draft.open_element(alloc, key)?;
+    Ok(skip(rest, 1))
+}
+
+/// The key of a header and its first closing bracket.
+fn header_key(alloc: Global, s: &str) -> Result<(Key, &str), Unread>
+    ensures value { Reads key_view result (header_key s.now) }
+    ensures shorter { Shortens s.now result }
+{
+    let (key, rest) = match dotted_key(alloc, past_ws(s)) {
+        Ok(read) => read,
+        Err(refusal) => return Err(Unread::of(refusal)),
+    };
+    if first(rest) != b']' {
+        return Err(Unread::Shape);
+    }
+    Ok((key, skip(rest, 1)))
+}

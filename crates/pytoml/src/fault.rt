@@ -1,0 +1,44 @@
+//! Why a text gives no table.
+ghost use Rattle.std.specs.Prelude.{◌≡◌};
+ghost use Rattle.pytoml.specs.declared.fault.Unread.TheVariants as unread;
+
+use std::alloc::AllocError;
+use toml_parser::ParseError;
+
+/// Why a text is refused.
+#[derive(Clone, Copy, Debug, PartialEq, Eq, thiserror::Error)]
+pub enum TomlError {
+    /// It is not TOML 1.1.
+    #[error("not TOML")]
+    Syntax,
+    /// Memory was refused.
+    #[error("out of memory")]
+    Memory,
+}
+
+/// Why the short way gives nothing.
+#[derive(Drop)]
+pub(crate) enum Unread {
+    /// The text is refused, or is of a shape that the short way doesn't know.
+    Shape,
+    /// Memory was refused.
+    Memory,
+}
+
+impl<E: Into<AllocError> + Drop> From<E> for Unread {
+    ghost from_gives = { λ _ e. e ≡ unread.Memory };
+
+    fn from(_refused: E) -> Unread {
+        Unread::Memory
+    }
+}
+
+impl Unread {
+    /// What a refusal of `toml_parser` is to the short way.
+    pub(crate) fn of(refusal: ParseError) -> Unread {
+        match refusal {
+            ParseError::OutOfMemory => Unread::Memory,
+            ParseError::At(..) => Unread::Shape,
+        }
+    }
+}
