@@ -12,6 +12,7 @@ use crate::entry::sources::Sources;
 use crate::error::{EntryError, EntryKey};
 use crate::field::{into_name, into_text, optional, optional_text, or_refused, take};
 use pymark_core::Marker;
+use pytoml::{TomlError, read_value};
 use pyver_core::SpecifierSet;
 use std::alloc::Global;
 use std::rc::Rc;
@@ -35,9 +36,9 @@ impl Entry {
 fn toml_value(alloc: Global, text: &str) -> Result<Value, EntryError>
     ensures { Gives EntryError.Memory view result (toml_value text.now) }
 {
-    match Value::from_str(alloc, text) {
+    match read_value(alloc, text) {
         Ok(value) => Ok(value),
-        Err(fault) if fault.is_memory() => Err(EntryError::Memory),
+        Err(TomlError::Memory) => Err(EntryError::Memory),
         Err(_) => Err(EntryError::Toml),
     }
 }

@@ -13,6 +13,7 @@ use crate::lock::head::Head;
 use crate::lock::packages::read_packages;
 use crate::text::as_text;
 use pytext::is_number;
+use pytoml::{TomlError, read_table};
 use std::alloc::Global;
 use toml::{Table, Value};
 
@@ -44,9 +45,9 @@ pub fn read_document(alloc: Global, bytes: &[u8]) -> Result<Table, LockError>
 fn document(alloc: Global, text: &str) -> Result<Table, LockError>
     ensures { Gives LockError.Memory table_view result (document_of text.now) }
 {
-    match toml::table_from_str(alloc, text) {
+    match read_table(alloc, text) {
         Ok(table) => Ok(table),
-        Err(fault) if fault.is_memory() => Err(LockError::Memory),
+        Err(TomlError::Memory) => Err(LockError::Memory),
         Err(_) => Err(LockError::Toml),
     }
 }
