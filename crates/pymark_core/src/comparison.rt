@@ -459,13 +459,30 @@ fn value_by(
     match right {
         Right::Text(text, specifier) => judge(left, operator, text.as_str(), specifier),
         Right::Variable(variable) => {
-            let text = variable_candidate(environment, *variable)?.text();
-            let specifier = read_operand(alloc, operator, text)?;
-            judge(left, operator, text, &specifier)
+            value_by_variable(alloc, environment, left, operator, *variable)
         }
         Right::Extra => Err(EvalFault::Extra),
         Right::Extras | Right::Groups => Err(EvalFault::Undefined),
     }
+}
+
+/// The same of a variable on the right, whose text is read here. It stands alone, so that other
+/// comparisons don't make room for a specifier.
+#[inline(never)]
+fn value_by_variable(
+    alloc: Global,
+    environment: &Environment,
+    left: &Candidate,
+    operator: Operator,
+    right: Var,
+) -> Result<bool, EvalFault>
+    ensures { Gives EvalFault.Memory (λ b. b) result
+        (text_value None environment.now false left.now (Comparator.By operator)
+        (Operand.Variable right)) }
+{
+    let text = variable_candidate(environment, right)?.text();
+    let specifier = read_operand(alloc, operator, text)?;
+    judge(left, operator, text, &specifier)
 }
 
 /// The left text against the right one, which reads as this specifier.
