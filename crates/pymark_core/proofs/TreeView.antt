@@ -11,8 +11,8 @@ use Rattle.pymark_core.specs.declared.marker.tree.Atom.TheVariants.{Leaf, Group,
 use Rattle.pymark_core.specs.declared.marker.tree.Joined.{Joined}
 use Rattle.std.specs.Global.{Box}
 
-pub view_leaf : (c : ComparisonValue) → atom_view (Leaf c) ≡ tree.leaf c
-view_leaf c = ap atom_view (sym (rolls-Leaf c)) ∙ fold-roll-Atom tree.Atom atom_step (layer.Leaf c)
+pub view_leaf : (b : Box ComparisonValue) → atom_view (Leaf b) ≡ tree.leaf b.value
+view_leaf b = ap atom_view (sym (rolls-Leaf b)) ∙ fold-roll-Atom tree.Atom atom_step (layer.Leaf b)
 
 pub view_group : (b : Box (Joined (Joined Atom))) → atom_view (Group b) ≡ tree.group (tree_view b.value)
 view_group b = ap atom_view (sym (rolls-Group b)) ∙ fold-roll-Atom tree.Atom atom_step (layer.Group b) ∙ simp map-map

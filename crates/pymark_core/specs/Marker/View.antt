@@ -16,7 +16,7 @@ joined_tree j = tree_of (map joined_conjunction j.front.items) (joined_conjuncti
 
 -- one layer of an atom, with what its inner atoms are seen as in their place
 abbrev pub atom_step : Atom-F tree.Atom → tree.Atom
-atom_step (Leaf comparison) = tree.leaf comparison
+atom_step (Leaf comparison) = tree.leaf comparison.value
 atom_step (Group inner) = tree.group (joined_tree inner.value)
 
 abbrev pub atom_view : Atom → tree.Atom

@@ -172,7 +172,7 @@ fn right_operand(
     let right = operand(alloc, token)?;
     notes.add(&left, comparator, &right);
     let comparison = Comparison::new(alloc, left, comparator, right)?;
-    Ok(Stage::Rest(Atom::Leaf(comparison)))
+    Ok(Stage::Rest(Atom::Leaf(Box::new(alloc, comparison)?)))
 }
 
 impl Builder {

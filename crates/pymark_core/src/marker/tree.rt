@@ -14,8 +14,8 @@ pub(crate) struct Joined<T> {
 /// A comparison, or a marker in parentheses.
 #[derive(Drop)]
 pub(crate) enum Atom {
-    /// A comparison.
-    Leaf(Comparison),
+    /// A comparison, in memory of its own, so that the tree moves as a few words.
+    Leaf(Box<Comparison>),
     /// A marker in parentheses.
     Group(Box<Tree>),
 }
