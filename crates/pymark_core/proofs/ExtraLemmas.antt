@@ -1,5 +1,5 @@
 -- Where `extra` is no operand, the text that it has doesn't count.
-use Rattle.std.proofs.Common.{◌≡◌, ℕ, Bool, true, false, not, ◌||◌, ◌&&◌, List, ◌++◌, Option, Some, None, Result, Ok, Err, ◌∙◌, ap, refl, sym}
+use Rattle.std.proofs.Common.{◌≡◌, ℕ, Bool, true, false, not, ◌||◌, ◌&&◌, List, ◌++◌, Some, None, Result, Ok, Err, ◌∙◌, ap, refl, sym}
 use Rattle.std.proofs.lemmas.List.Folds.{list_any-append}
 use Rattle.std.specs.List.{list_any}
 use Rattle.pytext.specs.Results.{◌>>=◌}

@@ -19,5 +19,6 @@ pub mod Texts
 pub mod TokenLemmas
 pub mod TokensLemmas
 pub mod TreeView
+pub mod TripleLemmas
 pub mod Turns
 pub mod ValueRefusals

@@ -21,7 +21,7 @@ at_front s x is =
 before : (b : ℕ) (s x : List ℕ) → HasSubslice s x → HasSubslice (b ∷ s) x
 before b s x found = (b ∷ found.0, found.1, ap (λ t. b ∷ t) found.2)
 
-found_in : (x y : List ℕ) → is_substring x y ≡ true → HasSubslice y x
+pub found_in : (x y : List ℕ) → is_substring x y ≡ true → HasSubslice y x
 found_in x [] is = ([], drop (length x) [], at_front [] x is)
 found_in x (b ∷ rest) is =
     elim (starts_with nat_eq (b ∷ rest) x) as (λ t. starts_with nat_eq (b ∷ rest) x ≡ t → (t || is_substring x rest) ≡ true → HasSubslice (b ∷ rest) x) [

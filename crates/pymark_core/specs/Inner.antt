@@ -4,3 +4,4 @@ pub mod Nesting
 pub mod Next
 pub mod ReadingComplete
 pub mod Source
+pub mod Triples

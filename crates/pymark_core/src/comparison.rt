@@ -14,7 +14,7 @@ ghost use Rattle.pymark_core.specs.Marker.Value.{names_value, operand_text, oper
 ghost use Rattle.pymark_core.specs.Marker.Value.{text_value, texts_value};
 ghost use Rattle.pyver_core.specs.Parsed.{parsed_operand};
 
-use crate::candidate::Candidate;
+use crate::candidate::{Candidate, SharedText};
 use crate::environment::Environment;
 use crate::fault::EvalFault;
 use crate::operand::{Comparator, Operand};
@@ -362,13 +362,30 @@ fn has_in(
     match right {
         Operand::Text(whole) => Ok(is_substring(left.text(), whole.as_str())),
         Operand::Variable(variable) => {
-            let whole = variable_candidate(environment, *variable)?;
-            Ok(is_substring(left.text(), whole.text()))
+            let whole = variable_shared(environment, *variable)?;
+            Ok(is_in_shared(left.text(), whole))
         }
         Operand::Extra => Err(EvalFault::Extra),
         Operand::Extras => Ok(is_extra(alloc, environment, left)?),
         Operand::Groups => Ok(is_group(alloc, environment, left)?),
     }
+}
+
+/// The text of a variable, as environments share it.
+fn variable_shared(environment: &Environment, variable: Var) -> Result<&SharedText, EvalFault>
+    ensures { Gives EvalFault.Memory (λ shared. shared.now) result
+        (operand_text None environment.now (Operand.Variable variable)) }
+{
+    environment
+        .shared(variable)
+        .ok_or(EvalFault::Unset(variable))
+}
+
+/// Whether the text stands somewhere in a variable's.
+fn is_in_shared(part: &str, whole: &SharedText) -> bool
+    ensures { result ≡ is_substring part.now whole.now }
+{
+    !whole.lacks(part) && is_substring(part, whole.candidate().text())
 }
 
 /// Whether the name is in the operand, where `extra` has this text.

@@ -41,6 +41,7 @@ mod marker;
 mod names;
 mod operand;
 mod requirement;
+mod triples;
 mod variable;
 
 pub use comparison::Comparison;
