@@ -1,6 +1,6 @@
 -- The depth of a text, one byte after another.
 use Rattle.std.proofs.Common.{◌≡◌, ℕ, ◌+◌, ◌-◌, ◌<◌, ◌≤◌, Bool, true, false, cond, ◌||◌, List, [], ◌∷◌, map, Option, Some, None, refl, sym, ap, ◌∙◌, add_assoc, arith, eq-eqb}
-use Rattle.std.specs.Prelude.{count_by, nat_lt}
+use Rattle.std.specs.Prelude.{count_by, if◌then◌else◌, nat_lt, ◌==◌}
 use Rattle.std.specs.List.{list_any, sum_by}
 use Rattle.pymark_core.specs.Marker.Depth.{fronts, is_closing, is_deep, is_opening, open_count, outside_behind}
 use Rattle.std.proofs.lemmas.Bool.{le-ltb, lt-ltb, ne_eqb}
@@ -95,3 +95,28 @@ deep_end n le = ap (deep_behind n.opened n.closed) (none_outside n.quote) ∙ rw
 pub deep_whole : (text : List ℕ) → deep_from (record { quote = None; opened = 0; closed = 0 }) text ≡ is_deep text
 unfolding deep_from
 deep_whole text = deep_start (outside_behind None text)
+
+-- ---- a text in which few are opened
+
+-- no more are opened outside quotations than in the text
+outside_opens : (quote : Option ℕ) (text : List ℕ) → count_by is_opening (outside_behind quote text) ≤ count_by is_opening text
+outside_opens None [] = omega arith
+outside_opens (Some q) [] = omega arith
+outside_opens None (b ∷ rest) =
+    elim (is_quote b) as (λ t. count_by is_opening (cond t (outside_behind (Some b) rest) (b ∷ outside_behind None rest)) ≤ count_by is_opening (b ∷ rest)) [
+      | true ↦ omega (arith, outside_opens (Some b) rest, counted is_opening 0 b rest)
+      | false ↦ omega (arith, outside_opens None rest, counted is_opening 0 b rest, counted is_opening 0 b (outside_behind None rest))
+    ]
+outside_opens (Some q) (b ∷ rest) = omega (arith, outside_opens (if b == q then None else Some q) rest, counted is_opening 0 b rest)
+
+none_deep : (opened closed : ℕ) (out : List ℕ) → opened + count_by is_opening out ≤ closed + 64 → deep_behind opened closed out ≡ false
+none_deep opened closed [] le = rw (le-ltb 64 ((opened + 0) - (closed + 0)) (omega (arith, le))) refl
+none_deep opened closed (b ∷ out) le =
+    let step = counted is_opening opened b out in
+    deep_more opened closed b out
+    ∙ ap (λ t. t || deep_behind (opened + cond (is_opening b) 1 0) (closed + cond (is_closing b) 1 0) out) (at_most opened closed (omega (arith, le)))
+    ∙ none_deep (opened + cond (is_opening b) 1 0) (closed + cond (is_closing b) 1 0) out (omega (arith, le, step))
+
+pub few_opened : (text : List ℕ) → count_by is_opening text ≤ 64 → is_deep text ≡ false
+few_opened text le =
+    sym (deep_start (outside_behind None text)) ∙ none_deep 0 0 (outside_behind None text) (omega (arith, le, outside_opens None text))

@@ -1,7 +1,7 @@
 //! How deep the parentheses of a text are nested.
 
-ghost use Rattle.std.specs.Prelude.{◌≡◌, ◌+◌, ◌<◌, ◌≤◌, ◌^◌, ◌∷◌, ℕ, List};
-ghost use Rattle.pymark_core.specs.Marker.Depth.{is_deep};
+ghost use Rattle.std.specs.Prelude.{◌≡◌, ◌+◌, ◌<◌, ◌≤◌, ◌^◌, ◌∷◌, ℕ, List, count_by};
+ghost use Rattle.pymark_core.specs.Marker.Depth.{is_deep, is_opening};
 ghost use Rattle.pymark_core.specs.Inner.Nesting.{deep_from};
 
 /// The number of parentheses that may be open at one place.
@@ -45,8 +45,23 @@ impl Nesting {
 }
 
 /// Whether more than 64 parentheses are open at some place of the text, quoted texts passed over.
-#[tactic(auto, using(crate::proofs::DepthLemmas::deep_here, crate::proofs::DepthLemmas::deep_end))]
+/// Few texts have as many at all, and counting them is quick.
+#[tactic(auto, using(crate::proofs::DepthLemmas::few_opened))]
 pub(super) fn is_deep(text: &str) -> bool
+    ensures { result ≡ is_deep text.now }
+{
+    opening_count(text) > DEPTH_LIMIT && is_nested_deep(text)
+}
+
+fn opening_count(text: &str) -> usize
+    ensures { result ≡ count_by is_opening text.now }
+{
+    text.as_bytes().iter().filter(|b| **b == b'(').count()
+}
+
+/// The same, by a look at what stands before each byte.
+#[tactic(auto, using(crate::proofs::DepthLemmas::deep_here, crate::proofs::DepthLemmas::deep_end))]
+fn is_nested_deep(text: &str) -> bool
     ensures { result ≡ is_deep text.now }
 {
     let mut nesting = Nesting {

@@ -3,7 +3,7 @@ use Rattle.std.proofs.lemmas.List.{drop_more, drop_all}
 use Rattle.pymark_core.specs.Marker.Depth.{is_deep}
 use Rattle.pymark_core.specs.Inner.Nesting.{deep_from}
 use Rattle.pymark_core.proofs.DepthLemmas.{deep_end, deep_here, deep_whole}
-use Rattle.pymark_core.proofs.marker.depth.is_deep.Goals as goal
+use Rattle.pymark_core.proofs.marker.depth.is_nested_deep.Goals as goal
 
 pub loop-byte-init : goal.loop-byte-init
 loop-byte-init c = (omega arith, omega arith, omega arith, deep_whole _)

@@ -1,7 +1,7 @@
 use Rattle.std.proofs.Common.{◌≡◌, ◌+◌, ◌≤◌, drop}
 use Rattle.pymark_core.specs.Marker.Depth.{is_deep}
 use Rattle.pymark_core.specs.Inner.Nesting.{deep_from}
-use Rattle.pymark_core.proofs.marker.depth.is_deep.Given as goal
+use Rattle.pymark_core.proofs.marker.depth.is_nested_deep.Given as goal
 
 -- what is left decides as the whole text does
 abbrev pub invariant-loop-byte : goal.invariant-loop-byte
