@@ -6,7 +6,7 @@ ghost use Rattle.pytext.specs.Agreement.{Gives};
 ghost use Rattle.pyver_core.specs.Name.{norm};
 ghost use Rattle.pymark_core.specs.Environment.{has_extra, has_group};
 ghost use Rattle.pymark_core.specs.Marker.Compared.{IsRead, ReadsAs, comparator_of, left_operand};
-ghost use Rattle.pymark_core.specs.Marker.Compared.{right_of, right_operand};
+ghost use Rattle.pymark_core.specs.Marker.Compared.{right_of, right_operand, unboxed};
 ghost use Rattle.pymark_core.specs.Marker.Asked.{extra_asked, group_asked, has_extra as asks_extra};
 ghost use Rattle.pymark_core.specs.Marker.Asked.{is_extra, quoted_text};
 ghost use Rattle.pymark_core.specs.Marker.Value.{comparison_value, is_in, is_substring};
@@ -38,8 +38,9 @@ pub struct Comparison {
 /// What stands left of an operator.
 #[derive(Drop)]
 enum Left {
-    /// A quoted text, with the version that it spells.
-    Text(Candidate),
+    /// A quoted text, with the version that it spells. Few comparisons have one, so it has memory
+    /// of its own.
+    Text(Box<Candidate>),
     Variable(Var),
     Extra,
     Extras,
@@ -57,8 +58,9 @@ enum Test {
 /// What stands right of an operator of specifiers.
 #[derive(Drop)]
 enum Right {
-    /// A quoted text, with what it reads as there.
-    Text(Label, Result<Specifier, SpecifierError>),
+    /// A quoted text, with what it reads as there. Few texts read as a specifier, so it has memory
+    /// of its own.
+    Text(Label, Result<Box<Specifier>, SpecifierError>),
     Variable(Var),
     Extra,
     Extras,
@@ -253,7 +255,10 @@ fn read_left(alloc: Global, operand: Operand, right: &Operand) -> Result<Left, A
     ensures { IfOk result (λ left. left_operand left ≡ operand) }
 {
     Ok(match operand {
-        Operand::Text(text) => Left::Text(read_text(alloc, text.into_string(), right)?),
+        Operand::Text(text) => {
+            let candidate = read_text(alloc, text.into_string(), right)?;
+            Left::Text(Box::new(alloc, candidate)?)
+        }
         Operand::Variable(variable) => Left::Variable(variable),
         Operand::Extra => Left::Extra,
         Operand::Extras => Left::Extras,
@@ -306,12 +311,13 @@ fn read_operand(
     alloc: Global,
     operator: Operator,
     text: &str,
-) -> Result<Result<Specifier, SpecifierError>, AllocError>
-    ensures { IfOk result (λ read. read ≡ parsed_operand operator text.now) }
+) -> Result<Result<Box<Specifier>, SpecifierError>, AllocError>
+    ensures { IfOk result (λ read. parsed_operand operator text.now ≡ unboxed read) }
 {
     match Specifier::new(alloc, operator, text) {
+        Ok(specifier) => Ok(Ok(Box::new(alloc, specifier)?)),
         Err(SpecifierError::Memory) => Err(AllocError),
-        read => Ok(read),
+        Err(refused) => Ok(Err(refused)),
     }
 }
 
@@ -507,9 +513,9 @@ fn judge(
     left: &Candidate,
     operator: Operator,
     right: &str,
-    specifier: &Result<Specifier, SpecifierError>,
+    specifier: &Result<Box<Specifier>, SpecifierError>,
 ) -> Result<bool, EvalFault>
-    requires { parsed_operand operator right.now ≡ specifier.now }
+    requires { parsed_operand operator right.now ≡ unboxed specifier.now }
     ensures { result ≡ operator_value operator left.now right.now }
 {
     match (left.version(), specifier) {

@@ -1,7 +1,10 @@
 -- What the code keeps of a comparison, seen as the comparison.
-use Rattle.std.specs.Prelude.{◌≡◌}
+use Rattle.std.specs.Global.{Box}
+use Rattle.std.specs.Prelude.{◌≡◌, Result, Ok, Err}
 use Rattle.pyver_core.specs.Parsed.{parsed_operand}
 use Rattle.pyver_core.specs.declared.set.specifier.Operator.{Operator}
+use Rattle.pyver_core.specs.declared.set.specifier.Specifier.{Specifier}
+use Rattle.pyver_core.specs.declared.set.error.SpecifierError.{SpecifierError}
 use Rattle.pymark_core.specs.declared.comparison.Left.{Left}
 use Rattle.pymark_core.specs.declared.comparison.Left.TheVariants as left
 use Rattle.pymark_core.specs.declared.comparison.Right.{Right}
@@ -15,7 +18,7 @@ use Rattle.pymark_core.specs.declared.operand.Operand.TheVariants.{Text, Variabl
 use Rattle.pymark_core.specs.declared.operand.Operand.TheVariants.{Groups}
 
 abbrev pub left_operand : Left → Operand
-left_operand (left.Text text) = Text text
+left_operand (left.Text text) = Text text.value
 left_operand (left.Variable v) = Variable v
 left_operand left.Extra = Extra
 left_operand left.Extras = Extras
@@ -38,9 +41,14 @@ right_of (test.By operator right) = right_operand right
 right_of (test.In right) = right
 right_of (test.NotIn right) = right
 
+-- what a text reads as, where a specifier stands in memory of its own
+abbrev pub unboxed : Result (Box Specifier) SpecifierError → Result Specifier SpecifierError
+unboxed (Ok specifier) = Ok specifier.value
+unboxed (Err refused) = Err refused
+
 -- a text right of an operator of specifiers is kept with what it reads as there
 abbrev pub ReadsAs : Operator → Right → Type 0
-ReadsAs operator (right.Text text specifier) = parsed_operand operator text ≡ specifier
+ReadsAs operator (right.Text text specifier) = parsed_operand operator text ≡ unboxed specifier
 ReadsAs operator right = Unit {0}
 
 abbrev pub IsRead : Test → Type 0
