@@ -99,7 +99,7 @@ impl Marker {
     /// place, quoted texts passed over, whatever else it is; then `Syntax` to every text that isn't
     /// a marker; then `SetMisuse` to a marker in which `extras` or `dependency_groups` stands
     /// anywhere but right of `in` or `not in`. It takes time linear in the text, no recursion, and
-    /// memory for the text, for its quoted texts and for lists of its parts.
+    /// memory for the text, for its comparisons, for their quoted texts and for lists of its parts.
     pub fn parse(alloc: Global, text: &str) -> Result<Marker, MarkerError>
         ensures ok { IfOk result (λ m. MarkerText text.now m.tree) }
         ensures trimmed { IfOk result (λ m. m.text ≡ trimmed text.now) }
