@@ -6,6 +6,7 @@ pub mod Firsts
 pub mod HalvesLemmas
 pub mod Listing
 pub mod Lowering
+pub mod MarksLemmas
 pub mod Memory
 pub mod NameBytes
 pub mod Naming

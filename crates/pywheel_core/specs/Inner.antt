@@ -1,5 +1,6 @@
 -- What serves contracts inside the crate alone.
 pub mod Cut
 pub mod Lent
+pub mod Marks
 pub mod Pieces
 pub mod Places

@@ -26,6 +26,7 @@ mod display;
 mod error;
 mod halves;
 pub mod laws;
+mod marks;
 mod place;
 mod reader;
 mod tag;

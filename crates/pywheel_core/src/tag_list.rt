@@ -1,33 +1,38 @@
 //! Lists of tags in the order of preference (PEP 425, "Use").
 
-ghost use Rattle.std.specs.Prelude.{◌≡◌, ◌==◌, length, map};
+ghost use Rattle.std.specs.Prelude.{◌≡◌, ◌==◌, [], Err, IfOk, OnErr, OnOk, length, map};
 ghost use Rattle.pytext.specs.Agreement.{Gives};
-ghost use Rattle.pywheel_core.specs.Tag.{at_place, rank_of, tag_of, tags_of};
+ghost use Rattle.pywheel_core.specs.Tag.{at_place, rank_of, tag_of, tags_of, with_tag};
 
 use crate::error::{TagError, TagListError};
+use crate::marks::Marks;
 use crate::tag::Tag;
 use indexmap::IndexSet;
 use std::alloc::{AllocError, Global};
+use std::fmt;
 use std::marker::Model;
 
 /// Distinct tags, the most preferred first (PEP 425, "Use"). A tag's rank is its position.
-#[derive(Debug)]
 pub struct TagList {
     tags: IndexSet<Tag>,
+    marks: Marks,
 }
 
 impl Model for TagList {
     ghost use Rattle.std.specs.Prelude.{List};
+    ghost use Rattle.pywheel_core.specs.Inner.Marks.{AreMarked};
     ghost use Rattle.pywheel_core.specs.Tag.{TagValue};
 
     ghost Value = { List TagValue };
 
     ghost view = { λ l. l.tags.keys };
+
+    ghost invariant = { λ l. AreMarked l.marks l.tags.keys };
 }
 
 impl Drop for TagList {
     fn drop(self) {
-        let TagList { tags: _ } = self;
+        let TagList { tags: _, marks: _ } = self;
     }
 }
 
@@ -38,17 +43,41 @@ impl TagList {
     pub fn parse(alloc: Global, texts: &[&str]) -> Result<TagList, TagListError>
         ensures { Gives TagListError.Memory (λ l. l) result (tags_of (map (λ t. t.now) texts.now)) }
     {
-        let mut tags = IndexSet::with_capacity(alloc, texts.len())?;
+        let mut list = TagList::with_capacity(alloc, texts.len())?;
         for (i, text) in texts.iter().enumerate() {
-            tags.insert_full(parse_at(alloc, i + 1, text)?)?;
+            list.add(parse_at(alloc, i + 1, text)?)?;
         }
-        Ok(TagList { tags })
+        Ok(list)
+    }
+
+    /// An empty list with room for so many tags.
+    fn with_capacity(alloc: Global, room: usize) -> Result<TagList, TagListError>
+        ensures empty { IfOk result (λ list. list ≡ []) }
+        ensures memory { OnErr result (result ≡ Err TagListError.Memory) }
+    {
+        Ok(TagList {
+            tags: IndexSet::with_capacity(alloc, room)?,
+            marks: Marks::none(alloc)?,
+        })
+    }
+
+    /// Puts the tag behind the others, where it isn't among them.
+    fn add(&mut self, tag: Tag) -> Result<(), TagListError>
+        ensures added { OnOk result (self.new ≡ with_tag self.old tag) }
+        ensures memory { OnErr result (result ≡ Err TagListError.Memory) }
+    {
+        self.marks.add(&tag);
+        self.tags.insert_full(tag)?;
+        Ok(())
     }
 
     /// The position of the tag, from 0, among the distinct tags. It takes no memory.
     pub fn rank(&self, tag: &Tag) -> Option<usize>
         ensures { result ≡ rank_of tag.now self.now }
     {
+        if !self.marks.may_have(tag) {
+            return None;
+        }
         self.tags.get_index_of(tag)
     }
 
@@ -81,7 +110,14 @@ impl Clone for TagList {
     fn clone(&self) -> Result<TagList, AllocError> {
         Ok(TagList {
             tags: self.tags.clone()?,
+            marks: self.marks.clone()?,
         })
+    }
+}
+
+impl fmt::Debug for TagList {
+    fn fmt<W: fmt::Write>(&self, f: &mut fmt::Formatter<W>) -> fmt::Result {
+        f.debug_struct("TagList").field("tags", &self.tags).finish()
     }
 }
 
