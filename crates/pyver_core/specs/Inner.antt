@@ -9,5 +9,6 @@ pub mod Operand
 pub mod PartsRef
 pub mod Phase
 pub mod Plain
+pub mod PlainOperand
 pub mod Releases
 pub mod SpecifierDraft

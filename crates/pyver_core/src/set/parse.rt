@@ -9,7 +9,7 @@ ghost use Rattle.pyver_core.specs.Set.Grammar.{IsLargeSet, SetText, specifier_nu
 ghost use Rattle.pyver_core.specs.Inner.SpecifierDraft.{draft_specifier};
 ghost use Rattle.pyver_core.specs.declared.set.specifier.Specifier.{Specifier};
 
-use super::reading::{SpecifierDraft, read_specifier};
+use super::reading::{SpecifierDraft, read_plain_specifier, read_specifier};
 use crate::set::{Specifier, SpecifierError, SpecifierSet};
 use crate::version::VersionError;
 use pytext::is_blank;
@@ -54,6 +54,10 @@ fn read_items(alloc: Global, text: &str) -> Result<Vec<Specifier>, SpecifierErro
     let mut is_large = false;
     for piece in text.split(',') {
         if is_blank(piece.as_bytes()) {
+            continue;
+        }
+        if let Some(specifier) = read_plain_specifier(alloc, piece)? {
+            items.push(specifier)?;
             continue;
         }
         let Some(draft) = read_specifier(piece) else {

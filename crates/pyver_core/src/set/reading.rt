@@ -3,5 +3,7 @@
 mod draft;
 mod operand;
 mod operator;
+mod plain;
 
 pub(crate) use draft::{SpecifierDraft, read_operand, read_specifier};
+pub(crate) use plain::{read_plain_operand, read_plain_specifier};

@@ -1,9 +1,9 @@
 //! Versions from their texts.
 
-ghost use Rattle.std.specs.Prelude.{◌≡◌, ◌≤◌, IfOk, IsErrOf, length};
+ghost use Rattle.std.specs.Prelude.{◌≡◌, ◌≤◌, IfOk, IfSome, IsErrOf, false, length};
 ghost use Rattle.pytext.specs.Agreement.{Gives};
 ghost use Rattle.pyver_core.specs.Inner.Plain.{IsPlain, plain_parts};
-ghost use Rattle.pyver_core.specs.Version.Grammar.{Spells, IsLarge};
+ghost use Rattle.pyver_core.specs.Version.Grammar.{Spells, IsLarge, has_large, numbers};
 ghost use Rattle.pyver_core.specs.Parsed.{parsed_version};
 ghost use Rattle.pyver_core.specs.Version.Parts.{Parts};
 
@@ -30,6 +30,25 @@ impl Version {
         ensures exact { Gives VersionError.Memory (λ v. v) result (parsed_version text.now) }
     {
         version_from_text(alloc, text)
+    }
+
+    /// The version of which the text is the normal form, where one look at the text finds it, and
+    /// where its release has so many numbers. A text where none is found takes no memory.
+    pub(crate) fn parse_plain(
+        alloc: Global,
+        text: &str,
+        least: usize,
+    ) -> Result<Option<Version>, AllocError>
+        ensures { IfOk result (λ found. IfSome found (λ v. IsPlain text.now v
+            × (has_large (numbers v) ≡ false) × (least ≤ length v.release))) }
+    {
+        let mut room = [0; MOST_NUMBERS];
+        match read_plain(text.as_bytes(), &mut room) {
+            Some(plain) if plain.count >= least => {
+                Ok(Some(Version::from_plain(alloc, text, &room, &plain)?))
+            }
+            _ => Ok(None),
+        }
     }
 
     /// The version of which the text is the normal form.

@@ -59,11 +59,15 @@ local_is : (ss : List LocalPart) → ss ≡ [] → IsLocal (local_text ss) ss
 local_is [] none = refl
 local_is (s ∷ ss) none = absurd cc
 
--- what is read of a text that is a normal form
+-- a text that is a normal form spells its parts
+pub plain_spells : (text : List ℕ) (p : Parts) → IsPlain text p → Spells text p
+plain_spells text p is = subst (λ t. Spells t p) is.text_is (normal_spells_parts p (release_is p.release is.release) (local_is p.local is.local))
+
+-- what is read of it
 pub plain_is_read : (text : List ℕ) (p : Parts) → IsPlain text p → has_large (numbers p) ≡ false → parsed_version text ≡ Ok p
 unfolding parsed_version
 plain_is_read text p is fits =
-    let spells : Spells text p = subst (λ t. Spells t p) is.text_is (normal_spells_parts p (release_is p.release is.release) (local_is p.local is.local)) in
+    let spells = plain_spells text p is in
     rw (version_again text p spells) (within-false NumberTooLarge (numbers p) p fits)
 
 -- ---- the first byte of a text, where it is a digit

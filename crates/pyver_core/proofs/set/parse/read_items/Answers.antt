@@ -48,15 +48,27 @@ loop-piece-preserved-then-is_blank c =
     let blank : list_all is_white c.in-Some.piece.now ≡ true = ap (list_all is_white) (sym c.as_bytes.ensures.value) ∙ sym c.is_blank.ensures ∙ c.if-is_blank.true in
     (at.0, at.1, read_blank c.in-Some.piece.now at.0 (pieces c.args.text.now) c.loop-piece.items.items c.loop-piece.is_large blank at.2)
 
-pub returns-in_default : goal.returns-in_default
+pub returns-in_default-read_specifier : goal.returns-in_default-read_specifier
 unfolding set_of parsed_set
-returns-in_default c =
+returns-in_default-read_specifier c =
     let at = taken c.args.text.now c.loop-piece.piece-iterator c.next.new.self c.in-Some.piece c.loop-piece.items.items c.loop-piece.is_large
     c.in-Some.ensures.steps c.loop-piece.invariant in
     let other : list_all is_white c.in-Some.piece.now ≡ false = ap (list_all is_white) (sym c.as_bytes.ensures.value) ∙ sym c.is_blank.ensures ∙ c.if-is_blank.false in
-    let none : specifier_of c.in-Some.piece.now ≡ None = rw c.in_default.is at (sym c.read_specifier.ensures) in
+    let none : specifier_of c.in-Some.piece.now ≡ None = rw c.in_default-read_specifier.is at (sym c.read_specifier.ensures) in
     let refused = read_refused c.in-Some.piece.now at.0 (pieces c.args.text.now) c.loop-piece.items.items c.loop-piece.is_large other none at.2 in
     λ _. rw refused refl
+
+pub loop-piece-preserved-in-Some-2 : goal.loop-piece-preserved-in-Some-2
+loop-piece-preserved-in-Some-2 c =
+    let at = taken c.args.text.now c.loop-piece.piece-iterator c.next.new.self c.in-Some.piece c.loop-piece.items.items c.loop-piece.is_large
+    c.in-Some.ensures.steps c.loop-piece.invariant in
+    let other : list_all is_white c.in-Some.piece.now ≡ false = ap (list_all is_white) (sym c.as_bytes.ensures.value) ∙ sym c.is_blank.ensures ∙ c.if-is_blank.false in
+    let read = rw c.in-Some-2.is at c.in_ok-specifier.ensures in (
+      at.0,
+      at.1,
+      rw c.in_ok-push.ensures.items (read_within c.in-Some.piece.now at.0 (pieces c.args.text.now) c.loop-piece.items.items c.loop-piece.is_large
+          c.in-Some-2.specifier other read.0 read.1 at.2),
+    )
 
 pub loop-piece-preserved-then-not-is_within : goal.loop-piece-preserved-then-not-is_within
 loop-piece-preserved-then-not-is_within c =

@@ -1,5 +1,4 @@
-use Rattle.std.proofs.Common.{◌≡◌, ◌≤◌, length, ◌∙◌, sym, arith}
-use Rattle.std.specs.Ordering.{nat_cmp, ordering_then}
+use Rattle.std.proofs.Common.{arith}
 use Rattle.pyver_core.specs.Inner.Releases.{release_cmp_without_zeros}
 use Rattle.pyver_core.proofs.Lemmas.Version.Fronts.{release_cmp_fronts}
 use Rattle.pyver_core.proofs.version.order.compare_releases.Goals as goal

@@ -1,0 +1,79 @@
+//! Specifiers whose version stands in its text in normal form, as nearly each does.
+
+ghost use Rattle.std.specs.Prelude.{◌≡◌, IfOk, IfSome, Some, false};
+ghost use Rattle.pyver_core.specs.Inner.PlainOperand.{least_numbers, with_version};
+ghost use Rattle.pyver_core.specs.Set.Grammar.{specifier_numbers};
+ghost use Rattle.pyver_core.specs.Set.Reading.{operand_of, specifier_of};
+ghost use Rattle.pyver_core.specs.Version.Grammar.{has_large};
+
+use crate::set::{Operator, Specifier};
+use crate::version::Version;
+use pytext::past_white;
+use std::alloc::{AllocError, Global};
+
+/// How many numbers the release of a version has at least behind this operator, where a version
+/// stands there.
+fn least_numbers(operator: Operator) -> Option<usize>
+    ensures { result ≡ least_numbers operator }
+{
+    match operator {
+        Operator::Equal
+        | Operator::NotEqual
+        | Operator::AtMost
+        | Operator::AtLeast
+        | Operator::Before
+        | Operator::After => Some(1),
+        Operator::Compatible => Some(2),
+        Operator::Arbitrary => None,
+    }
+}
+
+/// The specifier with this operator and version.
+fn with_version(operator: Operator, version: Version) -> Option<Specifier>
+    ensures { result ≡ with_version operator version }
+{
+    Some(match operator {
+        Operator::Equal => Specifier::Equal(version),
+        Operator::NotEqual => Specifier::NotEqual(version),
+        Operator::AtMost => Specifier::AtMost(version),
+        Operator::AtLeast => Specifier::AtLeast(version),
+        Operator::Before => Specifier::Before(version),
+        Operator::After => Specifier::After(version),
+        Operator::Compatible => Specifier::Compatible(version),
+        Operator::Arbitrary => return None,
+    })
+}
+
+/// The specifier with this operator, where the text of the operand is the normal form of a version.
+/// There may be a specifier where this finds none; then it takes no memory.
+pub(crate) fn read_plain_operand(
+    alloc: Global,
+    operator: Operator,
+    text: &str,
+) -> Result<Option<Specifier>, AllocError>
+    ensures { IfOk result (λ found. IfSome found (λ s. (operand_of operator text.now ≡ Some s)
+        × (has_large (specifier_numbers s) ≡ false))) }
+{
+    let Some(least) = least_numbers(operator) else {
+        return Ok(None);
+    };
+    match Version::parse_plain(alloc, text, least)? {
+        Some(version) => Ok(with_version(operator, version)),
+        None => Ok(None),
+    }
+}
+
+/// The specifier that a piece of a set is, where its version stands there in normal form.
+#[tactic(auto, unfolding(crate::specs::Set::Reading::specifier_of))]
+pub(crate) fn read_plain_specifier(
+    alloc: Global,
+    piece: &str,
+) -> Result<Option<Specifier>, AllocError>
+    ensures { IfOk result (λ found. IfSome found (λ s. (specifier_of piece.now ≡ Some s)
+        × (has_large (specifier_numbers s) ≡ false))) }
+{
+    let Some((operator, operand)) = Operator::at_front(past_white(piece)) else {
+        return Ok(None);
+    };
+    read_plain_operand(alloc, operator, operand)
+}
