@@ -34,6 +34,7 @@ impl Version {
 
     /// The version of which the text is the normal form, where one look at the text finds it, and
     /// where its release has so many numbers. A text where none is found takes no memory.
+    #[inline(always)]
     pub(crate) fn parse_plain(
         alloc: Global,
         text: &str,
@@ -51,7 +52,9 @@ impl Version {
         }
     }
 
-    /// The version of which the text is the normal form.
+    /// The version of which the text is the normal form. It has two callers, each of which moves a
+    /// large value less where it stands in line.
+    #[inline(always)]
     fn from_plain(
         alloc: Global,
         text: &str,

@@ -24,6 +24,7 @@ pub(crate) struct Plain {
 
 /// The parts of which the text is the normal form; the room is for the numbers of the release.
 /// There may be such parts where this finds none.
+#[inline(always)]
 pub(crate) fn read_plain(bytes: &[u8], room: &mut [u128]) -> Option<Plain>
     requires { 1 ≤ length room.old }
     ensures room { length room.new ≡ length room.old }
@@ -44,6 +45,7 @@ pub(crate) fn read_plain(bytes: &[u8], room: &mut [u128]) -> Option<Plain>
 }
 
 /// Puts the numbers of a release in the room: how many these are, and the text behind them.
+#[inline(always)]
 fn read_release<'a>(bytes: &'a [u8], room: &mut [u128]) -> Option<(usize, &'a [u8])>
     requires { 1 ≤ length room.old }
     ensures room { length room.new ≡ length room.old }
