@@ -161,6 +161,17 @@ one_piece s h = elim (option_sight (cut_at 46 s)) [
 pub one_place : (start : ℕ) (s : List ℕ) → length (pieces s) ≡ 1 → places_from start (pieces s) ≡ record { start = start; end = start + length s } ∷ []
 one_place start s h = ap (places_from start) (one_piece s h)
 
+-- ---- a part that is two pieces
+
+pub two_pieces : (start : ℕ) (s x y : List ℕ) → Some (x, y) ≡ cut_at 46 s → length (pieces s) ≡ 2
+    → places_from start (pieces s)
+    ≡ record { start = start; end = start + length x } ∷ record { start = start + length x + 1; end = start + length x + 1 + length y } ∷ []
+two_pieces start s x y h two =
+    let cut = pieces_cut 46 s x y (sym h) in
+    let more = ap length cut in
+    let one : length (pieces y) ≡ 1 = omega (arith, two, more) in
+    ap (places_from start) (cut ∙ ap (λ ps. x ∷ ps) (one_piece y one))
+
 -- ---- the first `-`
 
 pub cut_there : (s : List ℕ) → prefix_len is_undashed s < length s

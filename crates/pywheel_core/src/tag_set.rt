@@ -1,7 +1,7 @@
 //! Compressed tag sets (PEP 425, "Compressed Tag Sets").
 
 ghost use Rattle.std.specs.Prelude.{◌≡◌, ◌==◌, ◌+◌, ◌<◌, ◌^◌, ◌++◌, true, Ok, Some, OnErr, OnOk};
-ghost use Rattle.std.specs.Prelude.{SomeIff, length, map, option_map};
+ghost use Rattle.std.specs.Prelude.{IfSome, SomeIff, length, map, option_map};
 ghost use Rattle.std.specs.List.{flat_map};
 ghost use Rattle.std.specs.Rc.{rc_str_bytes};
 ghost use Rattle.std.specs.Str.{str_to_ascii_lowercase};
@@ -208,10 +208,11 @@ fn count_tag_parts(part: &[u8]) -> Option<usize>
     (!is_empty).then_some(count)
 }
 
-/// The places of the pieces of a part. One alone, as most parts have, takes no memory.
+/// The places of the pieces of a part. One or two, as nearly each part has, take no memory.
 #[derive(Drop)]
 enum PiecePlaces {
     One(Place),
+    Two([Place; 2]),
     Many(Vec<Place>),
 }
 
@@ -227,6 +228,11 @@ impl PiecePlaces {
             let end = start + part.len();
             return Ok(PiecePlaces::One(Place { start, end }));
         }
+        if count == 2 {
+            if let Some(places) = two_places(start, part) {
+                return Ok(PiecePlaces::Two(places));
+            }
+        }
         Ok(PiecePlaces::Many(list_places(alloc, start, part, count)?))
     }
 
@@ -235,9 +241,28 @@ impl PiecePlaces {
     {
         match self {
             PiecePlaces::One(place) => slice::from_ref(place),
+            PiecePlaces::Two(places) => places,
             PiecePlaces::Many(places) => places,
         }
     }
+}
+
+/// The places of the two pieces in a text where the part stands at `start`.
+fn two_places(start: usize, part: &str) -> Option<[Place; 2]>
+    requires start { start + length part.now < 2 ^ 64 }
+    requires two { length (pieces part.now) ≡ 2 }
+    ensures { IfSome result (λ places. places ≡ places_from start (pieces part.now)) }
+{
+    let (first, second) = cut_at_dot(part)?;
+    let end = start + first.len();
+    let behind = end + 1;
+    Some([
+        Place { start, end },
+        Place {
+            start: behind,
+            end: behind + second.len(),
+        },
+    ])
 }
 
 /// The places of the pieces in a text where the part stands at `start`, in a list with room for

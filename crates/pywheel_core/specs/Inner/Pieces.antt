@@ -4,7 +4,7 @@ use Rattle.pywheel_core.specs.Tag.{TagParts, has_tag_parts, pieces, tag_count}
 use Rattle.pywheel_core.specs.declared.place.Place.{Place}
 use Rattle.pywheel_core.specs.declared.tag_set.PieceCounts.{PieceCounts}
 use Rattle.pywheel_core.specs.declared.tag_set.PiecePlaces.{PiecePlaces}
-use Rattle.pywheel_core.specs.declared.tag_set.PiecePlaces.TheVariants.{One, Many}
+use Rattle.pywheel_core.specs.declared.tag_set.PiecePlaces.TheVariants.{One, Two, Many}
 
 abbrev pub counts_of : TagParts → PieceCounts
 counts_of set = record {
@@ -20,4 +20,5 @@ AreCountable set = (has_tag_parts set ≡ true) × (tag_count set < 2 ^ 64)
 
 abbrev pub places_in : PiecePlaces → List Place
 places_in (One place) = place ∷ []
+places_in (Two places) = places
 places_in (Many places) = places.items
