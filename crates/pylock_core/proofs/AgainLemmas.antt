@@ -18,7 +18,7 @@ use Rattle.pymark_core.specs.declared.variable.Var.{Var}
 use Rattle.pymark_core.specs.declared.variable.Var.TheVariants as var
 use Rattle.pywheel_core.specs.Tag.{TagValue}
 use Rattle.pylock_readers.specs.Entry.{EntryValue}
-use Rattle.pylock_core.specs.Inner.Again.{AllStand, AllWithin, DifferAt, after_head, changed, fresh_row, has_head, key_of, row_anew, rows_anew, stored}
+use Rattle.pylock_core.specs.Inner.Again.{AllStand, AllWithin, DifferAt, after_head, changed, fresh_row, fresh_standing, has_head, key_of, row_anew, row_standing, rows_anew, standing_of, standings_anew, stood, stored}
 use Rattle.pylock_core.specs.Inner.Index.{list_at}
 use Rattle.pylock_core.specs.Session.State.{Rises}
 use Rattle.pylock_core.specs.Inner.Names.{members_under, number_named, policy_at}
@@ -27,6 +27,7 @@ use Rattle.pylock_core.specs.Inner.Pass.{has_number}
 use Rattle.pylock_core.specs.Inner.Rows.{passes}
 use Rattle.pylock_core.specs.Session.Judgement.{AgreeAtKey, IndexKey, Marked, OfTags, and_head, entry_reads, head_reads, keys, readers, verdict_of}
 use Rattle.pylock_core.specs.Session.Steps.{head_fault, standing}
+use Rattle.pylock_core.specs.declared.answer.Standing.{Standing}
 use Rattle.pylock_core.specs.declared.edit.Policy.{Policy}
 use Rattle.pylock_core.specs.declared.session.changes.Change.{Change}
 use Rattle.pylock_core.specs.declared.session.changes.Change.TheVariants as change
@@ -111,12 +112,17 @@ one_more front more rest all x made is whole =
 
 -- ---- rows put at their places
 
+places_within : {X : Type 0} (f : ℕ → X) (entries : List (Option EntryValue)) (count : ℕ) (numbers : List ℕ)
+    → count ≡ length entries → AllStand entries numbers → AllWithin count (map (λ n. (n - 1, f n)) numbers)
+places_within f entries count [] even stand = tt
+places_within f entries count (n ∷ ns) even stand =
+    let here : n - 1 < length entries = some_within entries (n - 1) (stand 0 (omega arith)).1 in
+    (omega (arith, here, even), places_within f entries count ns even (λ i within. stand (suc i) (omega arith)))
+
 pub all_within : (environment : EnvironmentValue) (tags : List TagValue) (policy : ℕ → Policy) (entries : List (Option EntryValue)) (rows : List (Option Row)) (count : ℕ) (numbers : List ℕ)
     → count ≡ length entries → AllStand entries numbers → AllWithin count (map (fresh_row environment tags policy entries rows) numbers)
-all_within environment tags policy entries rows count [] even stand = tt
-all_within environment tags policy entries rows count (n ∷ ns) even stand =
-    let here : n - 1 < length entries = some_within entries (n - 1) (stand 0 (omega arith)).1 in
-    (omega (arith, here, even), all_within environment tags policy entries rows count ns even (λ i within. stand (suc i) (omega arith)))
+all_within environment tags policy entries rows count numbers even stand =
+    places_within (λ n. row_anew environment tags policy (get_or entries (n - 1) None) (get_or rows (n - 1) None)) entries count numbers even stand
 
 stored_length : (fresh : List (ℕ × Option Row)) (rows : List (Option Row)) → length (stored fresh rows) ≡ length rows
 stored_length [] rows = refl
@@ -147,6 +153,47 @@ stored_at new (n ∷ ns) rows k within above =
         let positive : 0 < n = above 0 (omega arith) in
         ap (cond (has_number ns (k + 1)) (new k)) (get_or-set_other rows (n - 1) k (new (n - 1)) None (λ same. ne (omega (arith, same, positive))))
 
+-- ---- standings put at their places
+
+twice : (standing : Standing) (r : Option Row) → row_standing standing (row_standing standing r) ≡ row_standing standing r
+twice standing None = refl
+twice standing (Some r) = refl
+
+stood_length : (fresh : List (ℕ × Standing)) (rows : List (Option Row)) → length (stood fresh rows) ≡ length rows
+stood_length [] rows = refl
+stood_length (one ∷ more) rows =
+    let row = row_standing one.1 (get_or rows one.0 None) in
+    stood_length more (set rows one.0 row) ∙ length-set rows one.0 row
+
+-- at the places whose numbers are in the list the entries stand anew
+stood_at : (new : ℕ → Standing) (ns : List ℕ) (rows : List (Option Row)) (k : ℕ) → k < length rows → ((i : ℕ) → i < length ns → 0 < get_or ns i 0)
+    → get_or (stood (map (λ n. (n - 1, new (n - 1))) ns) rows) k None ≡ cond (has_number ns (k + 1)) (row_standing (new k) (get_or rows k None)) (get_or rows k None)
+stood_at new [] rows k within above = refl
+stood_at new (n ∷ ns) rows k within above =
+    stood_at new ns (set rows (n - 1) (made (n - 1))) k (omega (arith, length-set rows (n - 1) (made (n - 1)))) (λ i less. above (suc i) (omega arith))
+    ∙ by (nat_eq (k + 1) n) refl
+  where
+    made : ℕ → Option Row
+    made j = row_standing (new j) (get_or rows j None)
+
+    both : (b : Bool) → cond b (row_standing (new k) (made k)) (made k) ≡ made k
+    both true = twice (new k) (get_or rows k None)
+    both false = refl
+
+    by : (b : Bool) → nat_eq (k + 1) n ≡ b
+        → cond (has_number ns (k + 1)) (row_standing (new k) (get_or (set rows (n - 1) (made (n - 1))) k None)) (get_or (set rows (n - 1) (made (n - 1))) k None)
+        ≡ cond (b || has_number ns (k + 1)) (made k) (get_or rows k None)
+    by true is =
+        let same : k + 1 ≡ n = eqb-true (k + 1) n is in
+        let place : k ≡ n - 1 = omega (arith, same) in
+        let here : get_or (set rows (n - 1) (made (n - 1))) k None ≡ made k =
+        subst (λ (j : ℕ). get_or (set rows j (made j)) k None ≡ made k) place (get_or-set_same rows k (made k) None within) in
+        ap (λ r. cond (has_number ns (k + 1)) (row_standing (new k) r) r) here ∙ both (has_number ns (k + 1))
+    by false is =
+        let ne : (k + 1 ≡ n → ⊥) = eqb-false (k + 1) n is in
+        let positive : 0 < n = above 0 (omega arith) in
+        ap (λ r. cond (has_number ns (k + 1)) (row_standing (new k) r) r) (get_or-set_other rows (n - 1) k (made (n - 1)) None (λ same. ne (omega (arith, same, positive))))
+
 -- what holds of each entry and its row, where the row at each place is made of what stood there
 of_rows_places : (P Q : EntryValue → Row → Type 0) (f : Option EntryValue → Option Row → Option Row)
     → ((e : Option EntryValue) (r : Option Row) → OfBoth P e r → OfBoth Q e (f e r))
@@ -164,27 +211,61 @@ of_rows_places P Q f step (e ∷ es) (r ∷ rs) (x ∷ new) h even at = (
 
 -- ---- rows that are judged again where their entry passes
 
+abbrev anew : (EntryValue → Bool) → EnvironmentValue → List TagValue → (ℕ → Policy) → Option EntryValue → Option Row → Option Row
+anew test environment tags policy e r = cond (passes test e) (row_anew environment tags policy e r) r
+
 -- such rows
 abbrev pub AreAnew : Parts → (EntryValue → Bool) → EnvironmentValue → List TagValue → (ℕ → Policy) → List (Option Row) → Type 0
 AreAnew parts test environment tags policy rows =
-    rows ≡ stored (rows_anew parts test environment tags policy) parts.rows.items
+    (length rows ≡ length parts.rows.items)
+    × ((k : ℕ) → k < length parts.rows.items
+    → get_or rows k None ≡ anew test environment tags policy (get_or parts.entries.items k None) (get_or parts.rows.items k None))
 
-abbrev anew : (EntryValue → Bool) → EnvironmentValue → List TagValue → (ℕ → Policy) → Option EntryValue → Option Row → Option Row
-anew test environment tags policy e r = cond (passes test e) (row_anew environment tags policy e r) r
+-- by rows that are put at the places
+pub stored_anew : (parts : Parts) (test : EntryValue → Bool) (environment : EnvironmentValue) (tags : List TagValue) (policy : ℕ → Policy) (rows : List (Option Row))
+    → rows ≡ stored (rows_anew parts test environment tags policy) parts.rows.items → AreAnew parts test environment tags policy rows
+stored_anew parts test environment tags policy rows is =
+    let es = parts.entries.items in
+    let rs = parts.rows.items in
+    let numbers = passing test 1 es in
+    let new : ℕ → Option Row = λ k. row_anew environment tags policy (get_or es k None) (get_or rs k None) in
+    subst (AreAnew parts test environment tags policy) (sym is) (
+      stored_length (map (fresh_row environment tags policy es rs) numbers) rs,
+      λ k within. stored_at new numbers rs k within (λ i less. (all_stand test es numbers refl i less).0)
+          ∙ ap (λ b. cond b (new k) (get_or rs k None)) (among_passing test (k + 1) 1 k es (omega arith)),
+    )
+
+-- by standings that are put at the places, in another environment
+standing_row : (parts : Parts) (test : EntryValue → Bool) (environment : EnvironmentValue) (e : Option EntryValue) (r : Option Row)
+    → OfBoth (IsJudged parts.environment parts.tags parts.names.policies.items) e r
+    → cond (passes test e) (row_standing (standing_of environment e) r) r ≡ anew test environment parts.tags (policy_at parts.names.policies.items) e r
+standing_row parts test environment None None h = refl
+standing_row parts test environment None (Some r) h = absurd h
+standing_row parts test environment (Some e) None h = absurd h
+standing_row parts test environment (Some e) (Some r) h =
+    ap (λ best. cond (test e) (Some (record r { verdict = record { standing = standing e environment; best = best } })) (Some r)) (ap (λ v. v.best) h)
+
+pub stood_anew : (parts : Parts) (test : EntryValue → Bool) (environment : EnvironmentValue) (rows : List (Option Row)) → IsSession parts
+    → rows ≡ stood (standings_anew parts test environment) parts.rows.items
+    → AreAnew parts test environment parts.tags (policy_at parts.names.policies.items) rows
+stood_anew parts test environment rows s is =
+    let es = parts.entries.items in
+    let rs = parts.rows.items in
+    let numbers = passing test 1 es in
+    let new : ℕ → Standing = λ k. standing_of environment (get_or es k None) in
+    subst (AreAnew parts test environment parts.tags (policy_at parts.names.policies.items)) (sym is) (
+      stood_length (map (fresh_standing environment es) numbers) rs,
+      λ k within. stood_at new numbers rs k within (λ i less. (all_stand test es numbers refl i less).0)
+          ∙ ap (λ b. cond b (row_standing (new k) (get_or rs k None)) (get_or rs k None)) (among_passing test (k + 1) 1 k es (omega arith))
+          ∙ standing_row parts test environment (get_or es k None) (get_or rs k None)
+          (of_rows_at (IsJudged parts.environment parts.tags parts.names.policies.items) es rs k (get_or es k None) (get_or rs k None) s.judged refl refl),
+    )
 
 places_anew : (P Q : EntryValue → Row → Type 0) (parts : Parts) (test : EntryValue → Bool) (environment : EnvironmentValue) (tags : List TagValue) (policy : ℕ → Policy) (rows : List (Option Row))
     → ((e : Option EntryValue) (r : Option Row) → OfBoth P e r → OfBoth Q e (anew test environment tags policy e r))
     → OfRows P parts.entries.items parts.rows.items → AreAnew parts test environment tags policy rows → OfRows Q parts.entries.items rows
 places_anew P Q parts test environment tags policy rows step h is =
-    let es = parts.entries.items in
-    let rs = parts.rows.items in
-    let numbers = passing test 1 es in
-    let new : ℕ → Option Row = λ k. row_anew environment tags policy (get_or es k None) (get_or rs k None) in
-    subst (OfRows Q es) (sym is)
-    (of_rows_places P Q (anew test environment tags policy) step es rs (stored (map (fresh_row environment tags policy es rs) numbers) rs) h
-    (stored_length (map (fresh_row environment tags policy es rs) numbers) rs)
-    (λ k within. stored_at new numbers rs k within (λ i less. (all_stand test es numbers refl i less).0)
-    ∙ ap (λ b. cond b (new k) (get_or rs k None)) (among_passing test (k + 1) 1 k es (omega arith))))
+    of_rows_places P Q (anew test environment tags policy) step parts.entries.items parts.rows.items rows h is.0 is.1
 
 -- what is put at the places has them
 pub anew_within : (parts : Parts) (test : EntryValue → Bool) (environment : EnvironmentValue) (tags : List TagValue) (policy : ℕ → Policy) (fresh : List (ℕ × Option Row)) → IsSession parts
@@ -192,6 +273,13 @@ pub anew_within : (parts : Parts) (test : EntryValue → Bool) (environment : En
 anew_within parts test environment tags policy fresh s is =
     subst (AllWithin (length parts.rows.items)) (sym is)
     (all_within environment tags policy parts.entries.items parts.rows.items (length parts.rows.items) (passing test 1 parts.entries.items)
+    (session_even parts s) (all_stand test parts.entries.items (passing test 1 parts.entries.items) refl))
+
+pub stood_within : (parts : Parts) (test : EntryValue → Bool) (environment : EnvironmentValue) (fresh : List (ℕ × Standing)) → IsSession parts
+    → fresh ≡ standings_anew parts test environment → AllWithin (length parts.rows.items) fresh
+stood_within parts test environment fresh s is =
+    subst (AllWithin (length parts.rows.items)) (sym is)
+    (places_within (λ n. standing_of environment (get_or parts.entries.items (n - 1) None)) parts.entries.items (length parts.rows.items) (passing test 1 parts.entries.items)
     (session_even parts s) (all_stand test parts.entries.items (passing test 1 parts.entries.items) refl))
 
 named_row : (names : Names) (test : EntryValue → Bool) (environment : EnvironmentValue) (tags : List TagValue) (policy : ℕ → Policy) (e : Option EntryValue) (r : Option Row)
@@ -409,7 +497,7 @@ pub policy_again : (parts : Parts) (two : Names) (name : List ℕ) (number : ℕ
 policy_again parts two name number policy rows s found numbers policies made =
     let test : EntryValue → Bool = λ entry. bytes_eq name entry.name in
     let is : AreAnew parts test parts.environment parts.tags (λ n. policy) rows =
-    made ∙ ap (λ ns. stored (map (fresh_row parts.environment parts.tags (λ n. policy) parts.entries.items parts.rows.items) ns) parts.rows.items) (members_here parts name number s found) in
+    stored_anew parts test parts.environment parts.tags (λ n. policy) rows (made ∙ ap (λ ns. stored (map (fresh_row parts.environment parts.tags (λ n. policy) parts.entries.items parts.rows.items) ns) parts.rows.items) (members_here parts name number s found)) in
     let named = anew_named parts test parts.environment parts.tags (λ n. policy) rows s is in
     let judged = anew_judged parts test parts.environment parts.tags (set parts.names.policies.items number policy) (λ n. policy) rows s (policy_suffices parts name number policy s found) is in (
       of_rows_weaker (IsNamed parts.names) (IsNamed two) (λ e r h. record { name = numbers e.name ∙ h.name; sources = h.sources }) parts.entries.items rows named,

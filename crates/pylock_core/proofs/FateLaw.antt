@@ -11,7 +11,6 @@ use Rattle.pylock_core.specs.Session.Fates.{explained_answer, fate_by, fate_pick
 use Rattle.pylock_core.specs.Session.State.{NumbersRise, Policies, Rises, State, policy_of}
 use Rattle.pylock_core.specs.Session.Steps.{FirstFault, answer, answer_after, answer_by, by_standing, head_fault, is_among, pick_before, picks, picks_after, put_before, slate, source_of, standing}
 use Rattle.pylock_readers.specs.Entry.Kinds.{has_conflict}
-use Rattle.pylock_core.specs.declared.answer.FaultCode.{FaultCode}
 use Rattle.pylock_core.specs.declared.answer.FaultCode.TheVariants.{Ambiguous, Sources}
 use Rattle.pylock_core.specs.declared.answer.Pick.{Pick}
 use Rattle.pylock_core.specs.declared.answer.PickSource.{PickSource}

@@ -8,12 +8,11 @@ use Rattle.pylock_readers.specs.Entry.{EntryValue}
 use Rattle.pylock_core.specs.Inner.Fates.{fate_among, first_active_row, numbered_fate, row_fate, row_fates}
 use Rattle.pylock_core.specs.Inner.Names.{IsNames, number_named, policies_in, policy_at}
 use Rattle.pylock_core.specs.Inner.Parts.{IsJudged, IsNamed, IsSession, OfRows, state_of}
-use Rattle.pylock_core.specs.Inner.Pass.{conflict_among, is_active, row_source}
-use Rattle.pylock_core.specs.Session.Fates.{fate, fate_by, fates, first_active, own_fate, stands_active}
-use Rattle.pylock_core.specs.Session.State.{State, in_rows, policy_of}
+use Rattle.pylock_core.specs.Inner.Pass.{conflict_among, is_active}
+use Rattle.pylock_core.specs.Session.Fates.{fate_by, fates, first_active, own_fate, stands_active}
+use Rattle.pylock_core.specs.Session.State.{in_rows, policy_of}
 use Rattle.pylock_core.specs.Session.Steps.{source_of, standing}
 use Rattle.pylock_readers.specs.Entry.Kinds.{has_conflict}
-use Rattle.pylock_core.specs.declared.answer.Standing.{Standing}
 use Rattle.pylock_core.specs.declared.edit.Policy.{Policy}
 use Rattle.pylock_core.specs.declared.fate.Fate.{Fate}
 use Rattle.pylock_core.specs.declared.session.names.Names.{Names}

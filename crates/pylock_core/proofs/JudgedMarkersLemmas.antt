@@ -1,5 +1,5 @@
 -- What holds of each element of a list holds when one of them is replaced by another of which it holds.
-use Rattle.std.proofs.Common.{ℕ, zero, suc, List, [], ◌∷◌, None, IfSome, replicate}
+use Rattle.std.proofs.Common.{ℕ, zero, suc, List, [], ◌∷◌}
 use Rattle.std.specs.Prelude.{slice_index_or, slice_set}
 
 pub each_after_set : {A : Type 0} (P : A → Type 0) (d : A) (xs : List A) (j : ℕ) (x : A) → P x
@@ -9,9 +9,3 @@ each_after_set P d (y ∷ ys) zero x new each zero = new
 each_after_set P d (y ∷ ys) zero x new each (suc i) = each (suc i)
 each_after_set P d (y ∷ ys) (suc j) x new each zero = each zero
 each_after_set P d (y ∷ ys) (suc j) x new each (suc i) = each_after_set P d ys j x new (λ i. each (suc i)) i
-
--- of a list of nothing, nothing is known
-pub nothing_known : {A : Type 0} (P : A → Type 0) (n : ℕ) (i : ℕ) → IfSome (slice_index_or (replicate n None) i None) P
-nothing_known P zero i = tt
-nothing_known P (suc n) zero = tt
-nothing_known P (suc n) (suc i) = nothing_known P n i

@@ -9,29 +9,20 @@ use Rattle.pymark_core.specs.declared.marker.keys.Key.{Key}
 use Rattle.pymark_core.specs.declared.marker.keys.Key.TheVariants.{Of, Extras, Groups}
 use Rattle.pywheel_core.specs.Tag.{TagValue}
 use Rattle.pylock_readers.specs.Entry.{EntryValue}
-use Rattle.pylock_core.specs.Inner.Names.{policy_at}
 use Rattle.pylock_core.specs.Inner.Rows.{in_rows}
 use Rattle.pylock_core.specs.Session.Judgement.{numbers_where, verdict_of}
+use Rattle.pylock_core.specs.Session.Steps.{standing}
+use Rattle.pylock_core.specs.declared.answer.Standing.{Standing}
+use Rattle.pylock_core.specs.declared.answer.Standing.TheVariants.{Active}
 use Rattle.pylock_core.specs.declared.edit.Edit.{Edit}
 use Rattle.pylock_core.specs.declared.edit.Edit.TheVariants as edit
 use Rattle.pylock_core.specs.declared.edit.Policy.{Policy}
 use Rattle.pylock_core.specs.declared.session.changes.Change.{Change}
 use Rattle.pylock_core.specs.declared.session.changes.Change.TheVariants as change
-use Rattle.pylock_core.specs.declared.session.judgement.Cause.{Cause}
-use Rattle.pylock_core.specs.declared.session.judgement.Cause.TheVariants as cause
 use Rattle.pylock_core.specs.declared.session.parts.Parts.{Parts}
 use Rattle.pylock_core.specs.declared.session.row.Row.{Row}
 
 -- ---- the rows
-
--- what entries are judged by: what is given, and else what stands
-abbrev pub environment_by : Cause → Parts → EnvironmentValue
-environment_by (cause.Environment environment) parts = environment.now
-environment_by (cause.Policy policy) parts = parts.environment
-
-abbrev pub policy_by : Cause → Parts → ℕ → Policy
-policy_by (cause.Environment environment) parts = policy_at parts.names.policies.items
-policy_by (cause.Policy policy) parts = λ name. policy
 
 -- the row of an entry that is judged again
 abbrev pub row_anew : EnvironmentValue → List TagValue → (ℕ → Policy) → Option EntryValue
@@ -62,6 +53,40 @@ abbrev pub stored : List (ℕ × Option Row) → List (Option Row) → List (Opt
 stored [] rows = rows
 stored (fresh ∷ more) rows = stored more (slice_set rows fresh.0 fresh.1)
 
+-- ---- how entries stand
+
+-- the row of an entry that stands so, the rest of it kept
+abbrev pub row_standing : Standing → Option Row → Option Row
+row_standing standing None = None
+row_standing standing (Some row) = Some (record row {
+  verdict = record { standing = standing; best = row.verdict.best };
+})
+
+-- how the entry at a place stands; where there is none it makes no difference
+abbrev pub standing_of : EnvironmentValue → Option EntryValue → Standing
+standing_of environment None = Active
+standing_of environment (Some entry) = standing entry environment
+
+-- how the entry of this number stands, with its place
+abbrev pub fresh_standing : EnvironmentValue → List (Option EntryValue) → ℕ → ℕ × Standing
+fresh_standing environment entries n =
+    (n - 1, standing_of environment (slice_index_or entries (n - 1) None))
+
+-- how the entries that pass stand
+abbrev pub standings_anew : Parts → (EntryValue → Bool) → EnvironmentValue → List (ℕ × Standing)
+standings_anew parts test environment =
+    map (fresh_standing environment parts.entries.items)
+    (numbers_where test (in_rows 1 parts.entries.items))
+
+-- the rows where the entry at each of these places stands so
+abbrev pub stood : List (ℕ × Standing) → List (Option Row) → List (Option Row)
+stood [] rows = rows
+stood (fresh ∷ more) rows =
+    stood more
+    (slice_set rows fresh.0 (row_standing fresh.1 (slice_index_or rows fresh.0 None)))
+
+-- ---- places
+
 -- each is the number of an entry
 abbrev pub AllStand : List (Option EntryValue) → List ℕ → Type 0
 AllStand entries numbers =
@@ -70,7 +95,7 @@ AllStand entries numbers =
     × IsSome (slice_index_or entries (slice_index_or numbers i 0 - 1) None)
 
 -- each has a place among so many
-abbrev pub AllWithin : ℕ → List (ℕ × Option Row) → Type 0
+abbrev pub AllWithin : {X : Type 0} → ℕ → List (ℕ × X) → Type 0
 AllWithin count [] = Unit {0}
 AllWithin count (fresh ∷ more) = (fresh.0 < count) × AllWithin count more
 

@@ -1,9 +1,10 @@
 //! The edits of what entries are judged by: variables, extras, groups, tags, policies.
 
 ghost use Rattle.std.specs.Prelude.{◌≡◌, ◌++◌, Ok, Err, IfOk, IfErr, None, OnErr, OnOk, ◌||◌};
-ghost use Rattle.std.specs.Prelude.{true, false, length, unwrap_or};
+ghost use Rattle.std.specs.Prelude.{◌<◌, true, false, length, slice_index_or, slice_set};
+ghost use Rattle.std.specs.Prelude.{unwrap_or};
 ghost use Rattle.pylock_core.specs.Inner.Again.{AllWithin, DifferAt, changed, edit_of, key_of};
-ghost use Rattle.pylock_core.specs.Inner.Again.{stored};
+ghost use Rattle.pylock_core.specs.Inner.Again.{row_standing, stood, stored};
 ghost use Rattle.pylock_core.specs.Inner.Edits.{Leaves};
 ghost use Rattle.pylock_core.specs.Inner.Parts.{IsSession, shown, state_of};
 ghost use Rattle.pylock_core.specs.Session.Judgement.{Marked, readers};
@@ -12,13 +13,14 @@ ghost use Rattle.pylock_core.specs.declared.edit.Edit.TheVariants as edit;
 ghost use Rattle.pylock_core.specs.declared.edit.EditError.TheVariants.{Memory, UnknownExtra};
 ghost use Rattle.pylock_core.specs.declared.edit.EditError.TheVariants.{UnknownGroup};
 
+use crate::answer::Standing;
 use crate::edit::{EditError, Policy};
 use crate::session::judged::Judged;
-use crate::session::judgement::{Fresh, judge_key, judge_name, judge_tags};
+use crate::session::judgement::{Fresh, FreshStanding, judge_key, judge_name, judge_tags};
 use crate::session::names::{number_of, set_policy};
 use crate::session::parts::Parts;
 use crate::session::room::put_at;
-use crate::session::row::Row;
+use crate::session::row::{Row, stand_row};
 use crate::session::verdict::HeadVerdict;
 use pymark_core::laws::marker_reads;
 use pymark_core::{Environment, Key, Var};
@@ -127,6 +129,25 @@ fn store(rows: &mut Vec<Option<Row>>, fresh: Vec<Fresh>)
     }
 }
 
+/// Has the entry at each of the places stand so. Takes no memory.
+fn store_standings(rows: &mut Vec<Option<Row>>, fresh: Vec<FreshStanding>)
+    requires { AllWithin (length rows.old.items) fresh.items }
+    ensures { rows.new.items ≡ stood fresh.items rows.old.items }
+{
+    for (place, standing) in fresh {
+        stand_at(rows, place, standing);
+    }
+}
+
+/// Has the entry at this place stand so.
+fn stand_at(rows: &mut Vec<Option<Row>>, place: usize, standing: Standing)
+    requires { place < length rows.old.items }
+    ensures { rows.new.items ≡ slice_set rows.old.items place
+        (row_standing standing (slice_index_or rows.old.items place None)) }
+{
+    stand_row(&mut rows[place], standing);
+}
+
 /// Puts the verdict, if there is one, in place of the one that was there.
 fn put_head(kept: &mut HeadVerdict, fresh: Option<HeadVerdict>)
     ensures { kept.new ≡ unwrap_or fresh kept.old }
@@ -156,7 +177,7 @@ fn change_environment(
     marker_reads();
     let (verdict, fresh) = judge_key(parts, &environment, key, judged)?;
     put_head(&mut parts.head_verdict, verdict);
-    store(&mut parts.rows, fresh);
+    store_standings(&mut parts.rows, fresh);
     parts.environment = environment;
     Ok(())
 }

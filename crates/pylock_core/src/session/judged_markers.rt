@@ -12,9 +12,6 @@ use pymark_core::{Environment, Marker};
 use std::alloc::{AllocError, Global};
 use std::marker::Model;
 
-/// How many markers are kept in mind.
-const SLOTS: usize = 32;
-
 /// A marker, and how an entry that has it stands by it.
 #[derive(Clone, Copy)]
 pub(crate) struct Known<'a> {
@@ -23,12 +20,12 @@ pub(crate) struct Known<'a> {
 }
 
 /// An environment, and the markers that were judged in it, each in the slot of its text. One that
-/// comes later takes the slot. It takes no memory.
+/// comes later takes the slot.
 ///
 /// Contracts see the environment.
 pub(crate) struct JudgedMarkers<'a> {
     environment: &'a Environment,
-    known: [Option<Known<'a>>; SLOTS],
+    known: Vec<Option<Known<'a>>>,
 }
 
 impl<'a> Model for JudgedMarkers<'a> {
@@ -41,7 +38,7 @@ impl<'a> Model for JudgedMarkers<'a> {
 
     ghost view = { λ m. m.environment.now };
 
-    ghost invariant = { λ m. AreKnown m.environment.now m.known };
+    ghost invariant = { λ m. AreKnown m.environment.now m.known.items };
 }
 
 impl<'a> Drop for JudgedMarkers<'a> {
@@ -54,14 +51,19 @@ impl<'a> Drop for JudgedMarkers<'a> {
 }
 
 impl<'a> JudgedMarkers<'a> {
-    /// The environment, in which none was judged.
-    pub(crate) fn none(environment: &'a Environment) -> JudgedMarkers<'a>
-        ensures { result ≡ environment.entry.now }
+    /// The environment, in which none was judged. There are two slots for each of so many entries,
+    /// so that few markers meet in one, however many there are.
+    pub(crate) fn none(
+        alloc: Global,
+        environment: &'a Environment,
+        entries: usize,
+    ) -> Result<JudgedMarkers<'a>, AllocError>
+        ensures { IfOk result (λ markers. markers ≡ environment.entry.now) }
     {
-        JudgedMarkers {
+        Ok(JudgedMarkers {
             environment,
-            known: [None; SLOTS],
-        }
+            known: vec![in alloc; None; entries.saturating_mul(2)]?,
+        })
     }
 
     /// The environment.
@@ -81,16 +83,24 @@ impl<'a> JudgedMarkers<'a> {
             ≡ by_marker (marker_value self.old marker.entry.now.tree) Active) }
         ensures kept { self.new ≡ self.old }
     {
-        let slot = marker.slot(SLOTS as u32) as usize;
-        let slots = &self.known[..];
-        if let Some(known) = &slots[slot] {
+        let slot = slot_of(marker, self.known.len());
+        if let Some(Some(known)) = self.known.get(slot) {
             if known.marker.is_seen_same(marker) {
                 return Ok(known.standing);
             }
         }
         let standing = marker_standing(alloc, marker, self.environment)?;
-        let slots = &mut self.known[..];
-        slots[slot] = Some(Known { marker, standing });
+        if slot < self.known.len() {
+            self.known[slot] = Some(Known { marker, standing });
+        }
         Ok(standing)
+    }
+}
+
+/// The slot of the marker's text among so many.
+fn slot_of(marker: &Marker, slots: usize) -> usize {
+    match u32::try_from(slots) {
+        Ok(count) if count > 0 => marker.slot(count) as usize,
+        _ => 0,
     }
 }

@@ -1,25 +1,27 @@
 //! Judgements made again, of what reads a thing that changes and of nothing else.
 
-ghost use Rattle.std.specs.Prelude.{◌≡◌, ◌<◌, ◌-◌, ◌++◌, ◌∷◌, [], Option, Some, None, IfOk};
-ghost use Rattle.std.specs.Prelude.{IfSome, IsSome, OnOk, length, map, slice_index_or};
+ghost use Rattle.std.specs.Prelude.{◌≡◌, ◌<◌, ◌-◌, ◌++◌, ◌∷◌, [], Some, None, IfOk};
+ghost use Rattle.std.specs.Prelude.{IsSome, OnOk, length, map, slice_index_or};
 ghost use Rattle.std.specs.Prelude.{if◌then◌else◌};
 ghost use Rattle.pylock_core.specs.Inner.Again.{AllStand, after_head, fresh_row, has_head};
-ghost use Rattle.pylock_core.specs.Inner.Again.{environment_by, policy_by, row_anew, rows_anew};
+ghost use Rattle.pylock_core.specs.Inner.Again.{fresh_standing, row_anew, rows_anew};
+ghost use Rattle.pylock_core.specs.Inner.Again.{standings_anew};
 ghost use Rattle.pylock_core.specs.Inner.Index.{list_at};
 ghost use Rattle.pylock_core.specs.Inner.Names.{policy_at};
 ghost use Rattle.pylock_core.specs.Inner.Parts.{IsJudged, IsSession, OfBoth, state_of};
 ghost use Rattle.pylock_core.specs.Inner.TagSets.{AreRanks};
 ghost use Rattle.pylock_core.specs.Session.Judgement.{Marked, OfTags, entry_reads, head_reads};
-ghost use Rattle.pylock_core.specs.Session.Judgement.{readers, verdict_of};
+ghost use Rattle.pylock_core.specs.Session.Judgement.{readers};
 ghost use Rattle.pylock_core.specs.Session.Steps.{head_fault};
 
+use crate::answer::Standing;
 use crate::edit::Policy;
 use crate::session::judged::Judged;
 use crate::session::judged_markers::JudgedMarkers;
 use crate::session::parts::Parts;
 use crate::session::ranks::Ranks;
 use crate::session::row::Row;
-use crate::session::verdict::{HeadVerdict, Verdict};
+use crate::session::verdict::{HeadVerdict, standing_of};
 use pylock_readers::Entry;
 use pymark_core::{Environment, Key};
 use pywheel_core::TagList;
@@ -31,76 +33,30 @@ const TAGS: usize = 13;
 /// A row that was judged again, with its place.
 pub(crate) type Fresh = (usize, Option<Row>);
 
-/// What entries are judged again by. The half of a verdict that reads it is made anew, the other is
-/// kept.
-#[derive(Clone, Copy)]
-enum Cause<'a> {
-    Environment(&'a Environment),
-    Policy(Policy),
-}
+/// How an entry stands that was judged again, with its place.
+pub(crate) type FreshStanding = (usize, Standing);
 
-impl<'a> Cause<'a> {
-    /// The environment that entries are judged again in.
-    fn environment(&self, parts: &'a Parts) -> &'a Environment
-        ensures { result.now ≡ environment_by self.now parts.entry.now }
-    {
-        match self {
-            Cause::Environment(environment) => environment,
-            Cause::Policy(_) => &parts.environment,
-        }
-    }
-}
-
-/// The verdict on the entry of this number, of which this row stands, judged again.
-fn verdict_again<'a>(
-    parts: &'a Parts,
-    cause: &Cause,
+/// The row of the entry of this number, judged again under this policy.
+fn judged_row(
+    parts: &Parts,
+    policy: Policy,
     number: u32,
-    entry: &'a Entry,
-    row: &Row,
-    markers: &mut JudgedMarkers<'a>,
-    judged: &mut Judged,
-) -> Result<Verdict, AllocError>
-    requires below { row.now.name < length parts.now.names.policies.items }
-    requires markers { markers.old ≡ environment_by cause.now parts.now }
-    requires judged { IsJudged parts.now.environment parts.now.tags
-        parts.now.names.policies.items entry.now row.now }
-    ensures verdict { IfOk result (λ verdict. verdict
-        ≡ verdict_of entry.now (environment_by cause.now parts.now) parts.now.tags
-        (policy_by cause.now parts.now row.now.name)) }
-    ensures judged { OnOk result (judged.new ≡ judged.old ++ number ∷ []) }
-    ensures markers { markers.new ≡ markers.old }
-{
-    let kept = &row.verdict;
-    match cause {
-        Cause::Environment(_) => kept.standing_anew(parts.alloc, number, entry, markers, judged),
-        Cause::Policy(policy) => kept.wheel_anew(number, entry, &parts.tags, *policy, judged),
-    }
-}
-
-/// The row of the entry of this number, judged again.
-fn judged_row<'a>(
-    parts: &'a Parts,
-    cause: &Cause,
-    number: u32,
-    entry: &'a Option<Entry>,
+    entry: &Option<Entry>,
     row: &Option<Row>,
-    markers: &mut JudgedMarkers<'a>,
     judged: &mut Judged,
 ) -> Result<Option<Row>, AllocError>
     requires entry { IsSome entry.now }
-    requires below { IfSome row.now (λ row. row.name < length parts.now.names.policies.items) }
-    requires markers { markers.old ≡ environment_by cause.now parts.now }
     requires judged { OfBoth (IsJudged parts.now.environment parts.now.tags
         parts.now.names.policies.items) entry.now row.now }
-    ensures row { IfOk result (λ new. new ≡ row_anew (environment_by cause.now parts.now)
-        parts.now.tags (policy_by cause.now parts.now) entry.now row.now) }
+    ensures row { IfOk result (λ new. new ≡ row_anew parts.now.environment
+        parts.now.tags (λ name. policy) entry.now row.now) }
     ensures judged { OnOk result (judged.new ≡ judged.old ++ number ∷ []) }
-    ensures markers { markers.new ≡ markers.old }
 {
     match (entry, row) {
         (Some(entry), Some(row)) => Ok(Some(Row {
-            verdict: verdict_again(parts, cause, number, entry, row, markers, judged)?,
+            verdict: row
+                .verdict
+                .wheel_anew(number, entry, &parts.tags, policy, judged)?,
             name: row.name,
             sources: row.sources,
         })),
@@ -108,35 +64,56 @@ fn judged_row<'a>(
     }
 }
 
-/// The rows of the entries of these numbers, judged again.
-fn again<'a>(
-    parts: &'a Parts,
-    cause: &Cause<'a>,
+/// The rows of the entries of these numbers, judged again under this policy.
+fn again(
+    parts: &Parts,
+    policy: Policy,
     numbers: &[u32],
     judged: &mut Judged,
 ) -> Result<Vec<Fresh>, AllocError>
     requires session { IsSession parts.now }
     requires stand { AllStand parts.now.entries.items numbers.now }
     ensures fresh { IfOk result (λ fresh. fresh.items
-        ≡ map (fresh_row (environment_by cause.now parts.now) parts.now.tags
-        (policy_by cause.now parts.now) parts.now.entries.items parts.now.rows.items) numbers.now) }
+        ≡ map (fresh_row parts.now.environment parts.now.tags (λ name. policy)
+        parts.now.entries.items parts.now.rows.items) numbers.now) }
     ensures judged { OnOk result (judged.new ≡ judged.old ++ numbers.now) }
 {
     let mut fresh = Vec::with_capacity(parts.alloc, numbers.len())?;
     judged.reserve(numbers.len())?;
-    let mut markers = JudgedMarkers::none(cause.environment(parts));
     for number in numbers {
         let place = *number as usize - 1;
         let row = judged_row(
             parts,
-            cause,
+            policy,
             *number,
             &parts.entries[place],
             &parts.rows[place],
-            &mut markers,
             judged,
         )?;
         fresh.push((place, row))?;
+    }
+    Ok(fresh)
+}
+
+/// How the entries of these numbers stand in the environment.
+fn standings<'a>(
+    parts: &'a Parts,
+    environment: &'a Environment,
+    numbers: &[u32],
+    judged: &mut Judged,
+) -> Result<Vec<FreshStanding>, AllocError>
+    requires { AllStand parts.now.entries.items numbers.now }
+    ensures fresh { IfOk result (λ fresh. fresh.items
+        ≡ map (fresh_standing environment.now parts.now.entries.items) numbers.now) }
+    ensures judged { OnOk result (judged.new ≡ judged.old ++ numbers.now) }
+{
+    let mut fresh = Vec::with_capacity(parts.alloc, numbers.len())?;
+    judged.extend(numbers)?;
+    let mut markers = JudgedMarkers::none(parts.alloc, environment, numbers.len())?;
+    for number in numbers {
+        let place = *number as usize - 1;
+        let standing = standing_of(parts.alloc, &parts.entries[place], &mut markers)?;
+        fresh.push((place, standing))?;
     }
     Ok(fresh)
 }
@@ -179,31 +156,25 @@ fn head_again(
     Ok(None)
 }
 
-/// Judges again what reads the key, in this environment.
+/// Judges again what reads the key, in this environment. Entries keep their best wheels.
 pub(crate) fn judge_key(
     parts: &Parts,
     environment: &Environment,
     key: Key,
     judged: &mut Judged,
-) -> Result<(Option<HeadVerdict>, Vec<Fresh>), AllocError>
+) -> Result<(Option<HeadVerdict>, Vec<FreshStanding>), AllocError>
     requires { IsSession parts.now }
     ensures head { IfOk result (λ fresh. fresh.0
         ≡ (if head_reads (Marked key) parts.now.head
         then Some (head_fault parts.now.head environment.now) else None)) }
-    ensures rows { IfOk result (λ fresh. fresh.1.items
-        ≡ rows_anew parts.now (entry_reads (Marked key)) environment.now parts.now.tags
-        (policy_at parts.now.names.policies.items)) }
+    ensures standings { IfOk result (λ fresh. fresh.1.items
+        ≡ standings_anew parts.now (entry_reads (Marked key)) environment.now) }
     ensures judged { OnOk result (judged.new
         ≡ judged.old ++ readers (Marked key) (state_of parts.now)) }
 {
     let numbers = parts.index[key.number()].as_slice();
     let verdict = head_again(parts, environment, has_head(numbers), judged)?;
-    let fresh = again(
-        parts,
-        &Cause::Environment(environment),
-        after_head(numbers),
-        judged,
-    )?;
+    let fresh = standings(parts, environment, after_head(numbers), judged)?;
     Ok((verdict, fresh))
 }
 
@@ -307,5 +278,5 @@ pub(crate) fn judge_name(
         ≡ judged.old ++ list_at parts.now.names.members.items number) }
 {
     let members = parts.names.members[number].as_slice();
-    again(parts, &Cause::Policy(policy), members, judged)
+    again(parts, policy, members, judged)
 }

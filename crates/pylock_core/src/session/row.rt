@@ -1,9 +1,10 @@
 //! What an answer looks at: one small flat row for each entry.
 
 ghost use Rattle.std.specs.Prelude.{◌≡◌};
+ghost use Rattle.pylock_core.specs.Inner.Again.{row_standing};
 ghost use Rattle.pylock_core.specs.Inner.Pass.{conflict_among, row_source};
 
-use crate::answer::PickSource;
+use crate::answer::{PickSource, Standing};
 use crate::edit::Policy;
 use crate::session::verdict::Verdict;
 
@@ -59,5 +60,14 @@ impl Row {
             return Some(PickSource::Sdist);
         }
         None
+    }
+}
+
+/// Has the entry of the row, if there is one, stand so.
+pub(crate) fn stand_row(row: &mut Option<Row>, standing: Standing)
+    ensures { row.new ≡ row_standing standing row.old }
+{
+    if let Some(row) = row {
+        row.verdict.stand(standing);
     }
 }

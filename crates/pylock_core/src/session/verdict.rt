@@ -3,6 +3,7 @@
 ghost use Rattle.std.specs.Prelude.{◌≡◌, ◌<◌, ◌-◌, ◌++◌, ◌∷◌, [], None, IfOk, OnOk, length};
 ghost use Rattle.std.specs.Prelude.{slice_index_or};
 ghost use Rattle.std.specs.Option.{option_copied};
+ghost use Rattle.pylock_core.specs.Inner.Again.{standing_of};
 ghost use Rattle.pylock_core.specs.Inner.Parts.{IsSession};
 ghost use Rattle.pylock_core.specs.Inner.TagSets.{AreRanks, best_under, names_in};
 ghost use Rattle.pylock_core.specs.Session.Judgement.{verdict_of};
@@ -76,28 +77,11 @@ impl Verdict {
         })
     }
 
-    /// Judges again how the entry of this number stands in the environment of these markers, and
-    /// keeps its best wheel. The number goes onto the list.
-    pub(crate) fn standing_anew<'a>(
-        &self,
-        alloc: Global,
-        number: u32,
-        entry: &'a Entry,
-        markers: &mut JudgedMarkers<'a>,
-        judged: &mut Judged,
-    ) -> Result<Verdict, AllocError>
-        ensures verdict { IfOk result (λ verdict. verdict ≡ record {
-          standing = standing entry.entry.now markers.old;
-          best = self.now.best;
-        }) }
-        ensures judged { OnOk result (judged.new ≡ judged.old ++ number ∷ []) }
-        ensures markers { markers.new ≡ markers.old }
+    /// Has the entry stand so, and keeps its best wheel.
+    pub(crate) fn stand(&mut self, standing: Standing)
+        ensures { self.new ≡ record { standing = standing; best = self.old.best } }
     {
-        judged.push(number)?;
-        Ok(Verdict {
-            standing: standing_in(alloc, entry, markers)?,
-            best: self.best,
-        })
+        self.standing = standing;
     }
 
     /// Judges again which wheel of the entry of this number is the best, and keeps how the entry
@@ -213,7 +197,23 @@ fn standing(alloc: Global, entry: &Entry, environment: &Environment) -> Result<S
     Ok(after_marker(marked, entry.requires_python(), environment))
 }
 
-/// The same in the environment of these markers, of which none that is known is judged again.
+/// How the entry at a place stands in the environment of these markers, of which none that is known
+/// is judged again.
+pub(crate) fn standing_of<'a>(
+    alloc: Global,
+    entry: &'a Option<Entry>,
+    markers: &mut JudgedMarkers<'a>,
+) -> Result<Standing, AllocError>
+    ensures standing { IfOk result (λ found. found ≡ standing_of markers.old entry.entry.now) }
+    ensures markers { markers.new ≡ markers.old }
+{
+    match entry {
+        Some(entry) => standing_in(alloc, entry, markers),
+        None => Ok(Standing::Active),
+    }
+}
+
+/// The same of an entry.
 fn standing_in<'a>(
     alloc: Global,
     entry: &'a Entry,

@@ -2,7 +2,7 @@ use Rattle.std.proofs.Common.{◌∙◌, ap}
 use Rattle.pylock_core.specs.Inner.Again.{stored}
 use Rattle.pylock_core.specs.Inner.Names.{policy_at}
 use Rattle.pylock_core.specs.Session.Judgement.{OfTags, entry_reads}
-use Rattle.pylock_core.proofs.AgainLemmas.{anew_judged, anew_named, anew_within, tags_suffice}
+use Rattle.pylock_core.proofs.AgainLemmas.{anew_judged, anew_named, anew_within, stored_anew, tags_suffice}
 use Rattle.pylock_core.proofs.session.changes.set_tags.Goals as goal
 
 pub store-requires : goal.store-requires
@@ -16,7 +16,7 @@ returns-clause-session c =
     let s = c.requires in
     let test = entry_reads OfTags in
     let policies = p.names.policies.items in
-    let is = c.store.ensures ∙ ap (λ fresh. stored fresh p.rows.items) c.in_ok-fresh.ensures.rows in
+    let is = stored_anew p test p.environment c.args.tags (policy_at policies) c.store.new.rows.items (c.store.ensures ∙ ap (λ fresh. stored fresh p.rows.items) c.in_ok-fresh.ensures.rows) in
     record {
       few = s.few;
       named = anew_named p test p.environment c.args.tags (policy_at policies) c.store.new.rows.items s is;

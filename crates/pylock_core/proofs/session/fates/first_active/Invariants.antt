@@ -1,4 +1,4 @@
-use Rattle.std.proofs.Common.{◌≡◌, ◌<◌, ℕ, None, drop, length, slice_index_or}
+use Rattle.std.proofs.Common.{◌≡◌, ℕ, None, drop, length, slice_index_or}
 use Rattle.pytext.specs.Options.{either}
 use Rattle.pylock_core.specs.Inner.Fates.{first_active_row}
 use Rattle.pylock_core.specs.Inner.Pass.{numbered}

@@ -1,9 +1,9 @@
-use Rattle.std.proofs.Common.{◌∙◌, ◌-◌, ◌++◌, ◌∷◌, [], map, None, length, slice_index_or, ap, arith}
+use Rattle.std.proofs.Common.{◌∙◌, ◌-◌, ◌++◌, ◌∷◌, [], map, None, slice_index_or, ap, arith}
 use Rattle.std.proofs.lemmas.List.{get_or_default, drop_more}
-use Rattle.pylock_core.specs.Inner.Again.{environment_by, policy_by, row_anew}
+use Rattle.pylock_core.specs.Inner.Again.{row_anew}
 use Rattle.pylock_core.specs.Inner.Parts.{IsJudged}
 use Rattle.pylock_core.proofs.AgainLemmas.{of_rows_at, one_more, row_within}
-use Rattle.pylock_core.proofs.SessionLemmas.{below_at, session_below, some_within}
+use Rattle.pylock_core.proofs.SessionLemmas.{some_within}
 use Rattle.pylock_core.proofs.session.judgement.again.Goals as goal
 
 pub index-requires-in-loop-number : goal.index-requires-in-loop-number
@@ -11,16 +11,6 @@ index-requires-in-loop-number c =
     let stands = c.requires.stand c.loop-number.number-index c.loop-number-test.true in
     let within = row_within c.args.parts.now (slice_index_or c.args.numbers.now c.loop-number.number-index 0 - 1) c.requires.session stands.1 in
     omega (arith, within, c.args.parts.now.rows.ok.0)
-
-pub judged_row-requires-clause-below : goal.judged_row-requires-clause-below
-judged_row-requires-clause-below c =
-    let p = c.args.parts.now in
-    let place = slice_index_or c.args.numbers.now c.loop-number.number-index 0 - 1 in
-    let stands = c.requires.stand c.loop-number.number-index c.loop-number-test.true in
-    below_at (length p.names.policies.items) p.rows.items place c.index-in-loop-number.result.now (session_below p c.requires.session) (row_within p place c.requires.session stands.1) c.index-in-loop-number.ensures
-
-pub judged_row-requires-clause-markers : goal.judged_row-requires-clause-markers
-judged_row-requires-clause-markers c = c.loop-number.invariant.markers
 
 pub judged_row-requires-clause-judged : goal.judged_row-requires-clause-judged
 judged_row-requires-clause-judged c =
@@ -39,10 +29,9 @@ loop-number-preserved c =
     let stands = c.requires.stand i c.loop-number-test.true in
     let entry = c.index.ensures ∙ get_or_default p.entries.items place c.index.result.now None (some_within p.entries.items place stands.1) in
     let row = c.index-in-loop-number.ensures ∙ get_or_default p.rows.items place c.index-in-loop-number.result.now None (row_within p place c.requires.session stands.1) in
-    let anew = c.in_ok-row.ensures.row ∙ (λ j. row_anew (environment_by c.args.cause.now p) p.tags (policy_by c.args.cause.now p) (entry j) (row j)) in
+    let anew = c.in_ok-row.ensures.row ∙ (λ j. row_anew p.environment p.tags (λ name. c.args.policy) (entry j) (row j)) in
     let more = drop_more c.args.numbers.now i 0 c.loop-number-test.true in
     record {
       fresh = one_more _ _ _ _ _ (c.in_ok-push.ensures.items ∙ ap (λ r. c.loop-number.fresh.items ++ (place, r) ∷ []) anew) (ap (map _) more) c.loop-number.invariant.fresh;
-      markers = c.in_ok-row.ensures.markers ∙ c.loop-number.invariant.markers;
       judged = one_more _ _ _ _ _ c.in_ok-row.ensures.judged more c.loop-number.invariant.judged;
     }

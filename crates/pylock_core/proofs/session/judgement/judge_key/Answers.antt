@@ -1,6 +1,5 @@
 use Rattle.std.proofs.Common.{◌≡◌, ◌∙◌, ◌++◌, Some, None, cond, map, ap, arith}
-use Rattle.pylock_core.specs.Inner.Again.{after_head, fresh_row, has_head}
-use Rattle.pylock_core.specs.Inner.Names.{policy_at}
+use Rattle.pylock_core.specs.Inner.Again.{after_head, fresh_standing, has_head}
 use Rattle.pylock_core.specs.Session.Judgement.{Marked, and_head, entry_reads, head_reads}
 use Rattle.pylock_core.specs.Session.Steps.{head_fault}
 use Rattle.pylock_core.proofs.AgainLemmas.{all_stand, judged_both, readers_both}
@@ -13,19 +12,18 @@ both : (c : After-as_slice-numbers) → (has_head c.as_slice-numbers.result.now 
     × (after_head c.as_slice-numbers.result.now ≡ passing (entry_reads (Marked c.args.key)) 1 c.args.parts.now.entries.items)
 both c = readers_both c.args.parts.now (Marked c.args.key) c.number.result _ c.as_slice-numbers.result.now c.requires c.number.ensures.value (omega (arith, c.number.ensures.bound)) c.as_slice-numbers.ensures.value
 
-pub again-requires-clause-stand : goal.again-requires-clause-stand
-again-requires-clause-stand c =
-    all_stand (entry_reads (Marked c.args.key)) c.args.parts.now.entries.items c.after_head.result.now (c.after_head.ensures ∙ (both (goal.at.again-requires-clause-stand c).After-as_slice-numbers).1)
+pub standings-requires : goal.standings-requires
+standings-requires c =
+    all_stand (entry_reads (Marked c.args.key)) c.args.parts.now.entries.items c.after_head.result.now (c.after_head.ensures ∙ (both (goal.at.standings-requires c).After-as_slice-numbers).1)
 
 pub returns-clause-head : goal.returns-clause-head
 returns-clause-head c =
     c.in_ok-verdict.ensures.verdict ∙ ap (λ b. cond b (Some (head_fault c.args.parts.now.head c.args.environment.now)) None) (c.has_head.ensures ∙ (both (goal.at.returns-clause-head c).After-as_slice-numbers).0)
 
-pub returns-clause-rows : goal.returns-clause-rows
-returns-clause-rows c =
-    let p = c.args.parts.now in
+pub returns-clause-standings : goal.returns-clause-standings
+returns-clause-standings c =
     c.in_ok-fresh.ensures.fresh
-    ∙ ap (map (fresh_row c.args.environment.now p.tags (policy_at p.names.policies.items) p.entries.items p.rows.items)) (c.after_head.ensures ∙ (both (goal.at.returns-clause-rows c).After-as_slice-numbers).1)
+    ∙ ap (map (fresh_standing c.args.environment.now c.args.parts.now.entries.items)) (c.after_head.ensures ∙ (both (goal.at.returns-clause-standings c).After-as_slice-numbers).1)
 
 pub returns-clause-judged : goal.returns-clause-judged
 returns-clause-judged c =

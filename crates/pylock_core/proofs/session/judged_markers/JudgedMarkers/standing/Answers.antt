@@ -8,5 +8,5 @@ use Rattle.pylock_core.proofs.session.judged_markers.JudgedMarkers.standing.Goal
 pub invariant_of-self : goal.invariant_of-self
 invariant_of-self c =
     each_after_set (λ k. IfSome k (λ k. k.standing ≡ by_marker (marker_value c.self.inside.environment.now k.marker.now.tree) Active))
-    None c.self.inside.known c.slot-slot.result (Some (record { marker = c.args.marker; standing = c.in_ok-standing.standing }))
+    None c.self.inside.known.items c.slot_of-slot.result (Some (record { marker = c.args.marker; standing = c.in_ok-standing.standing }))
     c.in_ok-standing.ensures c.self.invariant
