@@ -19,6 +19,7 @@ use Rattle.pymark_core.specs.declared.variable.Var.TheVariants as var
 use Rattle.pywheel_core.specs.Tag.{TagValue}
 use Rattle.pylock_readers.specs.Entry.{EntryValue}
 use Rattle.pylock_core.specs.Inner.Again.{AllStand, AllWithin, DifferAt, after_head, changed, fresh_row, fresh_standing, has_head, key_of, row_anew, row_standing, rows_anew, standing_of, standings_anew, stood, stored}
+use Rattle.pylock_core.specs.Inner.Conditions.{IsUnder}
 use Rattle.pylock_core.specs.Inner.Index.{list_at}
 use Rattle.pylock_core.specs.Session.State.{Rises}
 use Rattle.pylock_core.specs.Inner.Names.{members_under, number_named, policy_at}
@@ -32,6 +33,7 @@ use Rattle.pylock_core.specs.declared.edit.Policy.{Policy}
 use Rattle.pylock_core.specs.declared.session.changes.Change.{Change}
 use Rattle.pylock_core.specs.declared.session.changes.Change.TheVariants as change
 use Rattle.pylock_core.specs.declared.edit.Policy.TheVariants.{Any}
+use Rattle.pylock_core.specs.declared.session.conditions.Condition.{Condition}
 use Rattle.pylock_core.specs.declared.session.names.Names.{Names}
 use Rattle.pylock_core.specs.declared.session.parts.Parts.{Parts}
 use Rattle.pylock_core.specs.declared.session.row.Row.{Row}
@@ -298,6 +300,23 @@ pub anew_named : (parts : Parts) (test : EntryValue → Bool) (environment : Env
 anew_named parts test environment tags policy rows s is =
     places_anew (IsNamed parts.names) (IsNamed parts.names) parts test environment tags policy rows (named_row parts.names test environment tags policy) s.named is
 
+under_row : (known : List Condition) (test : EntryValue → Bool) (environment : EnvironmentValue) (tags : List TagValue) (policy : ℕ → Policy) (e : Option EntryValue) (r : Option Row)
+    → OfBoth (IsUnder known) e r → OfBoth (IsUnder known) e (anew test environment tags policy e r)
+under_row known test environment tags policy None None h = tt
+under_row known test environment tags policy None (Some r) h = absurd h
+under_row known test environment tags policy (Some e) None h = absurd h
+under_row known test environment tags policy (Some e) (Some r) h = by (test e)
+  where
+    by : (b : Bool) → OfBoth (IsUnder known) (Some e) (cond b (row_anew environment tags policy (Some e) (Some r)) (Some r))
+    by true = h
+    by false = h
+
+pub anew_under : (parts : Parts) (test : EntryValue → Bool) (environment : EnvironmentValue) (tags : List TagValue) (policy : ℕ → Policy) (rows : List (Option Row)) → IsSession parts
+    → AreAnew parts test environment tags policy rows → OfRows (IsUnder parts.conditions.known.items) parts.entries.items rows
+anew_under parts test environment tags policy rows s is =
+    let known = parts.conditions.known.items in
+    places_anew (IsUnder known) (IsUnder known) parts test environment tags policy rows (under_row known test environment tags policy) s.conditions is
+
 -- an entry that passes has the policy that it is judged under; one that doesn't keeps its verdict
 pub record Suffices (parts : Parts) (test : EntryValue → Bool) (environment : EnvironmentValue) (tags : List TagValue) (policies : List Policy) (policy : ℕ → Policy) : Type 0 where
   pub hit : (e : EntryValue) (r : Row) → IsNamed parts.names e r → test e ≡ true → policy r.name ≡ policy_at policies r.name
@@ -494,6 +513,7 @@ pub policy_again : (parts : Parts) (two : Names) (name : List ℕ) (number : ℕ
     → ((q : List ℕ) → number_named two q ≡ number_named parts.names q) → two.policies.items ≡ set parts.names.policies.items number policy
     → rows ≡ stored (map (fresh_row parts.environment parts.tags (λ n. policy) parts.entries.items parts.rows.items) (list_at parts.names.members.items number)) parts.rows.items
     → OfRows (IsNamed two) parts.entries.items rows × OfRows (IsJudged parts.environment parts.tags two.policies.items) parts.entries.items rows
+    × OfRows (IsUnder parts.conditions.known.items) parts.entries.items rows
 policy_again parts two name number policy rows s found numbers policies made =
     let test : EntryValue → Bool = λ entry. bytes_eq name entry.name in
     let is : AreAnew parts test parts.environment parts.tags (λ n. policy) rows =
@@ -502,4 +522,5 @@ policy_again parts two name number policy rows s found numbers policies made =
     let judged = anew_judged parts test parts.environment parts.tags (set parts.names.policies.items number policy) (λ n. policy) rows s (policy_suffices parts name number policy s found) is in (
       of_rows_weaker (IsNamed parts.names) (IsNamed two) (λ e r h. record { name = numbers e.name ∙ h.name; sources = h.sources }) parts.entries.items rows named,
       subst (λ (ps : List Policy). OfRows (IsJudged parts.environment parts.tags ps) parts.entries.items rows) (sym policies) judged,
+      anew_under parts test parts.environment parts.tags (λ n. policy) rows s is,
     )

@@ -1,5 +1,5 @@
 mod IndexLemmas
-mod JudgedMarkersLemmas
+mod ConditionLemmas
 pub mod NameLemmas
 pub mod PassLemmas
 pub mod FateLemmas

@@ -117,6 +117,7 @@ session_kept parts names kept s = record {
   index = s.index;
   living = s.living;
   sets = s.sets;
+  conditions = s.conditions;
 }
 
 pub shown_kept : (parts : Parts) (names : Names) → Kept parts.names names → shown (record parts { names = names }) ≡ shown parts

@@ -59,6 +59,7 @@ session_sets p sets kept lists s = record {
   index = s.index;
   living = s.living;
   sets = sets_kept p.sets sets p.entries.items kept lists s.sets;
+  conditions = s.conditions;
 }
 
 -- the numbers of one more wheel
@@ -231,7 +232,7 @@ under_policy Source entry tags = refl
 pub row_ranked : (parts : Parts) (k : ℕ) (tags : List TagValue) (row : Row) (policy : Policy) (verdict : VerdictValue) → IsSession parts
     → IsSome (get_or parts.entries.items k None) → get_or parts.rows.items k None ≡ Some row → policy ≡ policy_at parts.names.policies.items row.name
     → verdict ≡ record { standing = row.verdict.standing; best = best_under policy (names_in (get_or parts.entries.items k None)) tags }
-    → Some (record { verdict = verdict; name = row.name; sources = row.sources })
+    → Some (record { verdict = verdict; name = row.name; condition = row.condition; sources = row.sources })
     ≡ row_anew parts.environment tags (policy_at parts.names.policies.items) (get_or parts.entries.items k None) (get_or parts.rows.items k None)
 row_ranked parts k tags row policy verdict s there stands is_policy made =
     by (get_or parts.entries.items k None) there (of_rows_at P parts.entries.items parts.rows.items k (get_or parts.entries.items k None) (Some row) s.judged refl (sym stands)) made
@@ -241,10 +242,10 @@ row_ranked parts k tags row policy verdict s there stands is_policy made =
     P = IsJudged parts.environment parts.tags parts.names.policies.items
 
     by : (e : Option EntryValue) → IsSome e → OfBoth P e (Some row) → verdict ≡ record { standing = row.verdict.standing; best = best_under policy (names_in e) tags }
-        → Some (record { verdict = verdict; name = row.name; sources = row.sources }) ≡ row_anew parts.environment tags (policy_at parts.names.policies.items) e (Some row)
+        → Some (record { verdict = verdict; name = row.name; condition = row.condition; sources = row.sources }) ≡ row_anew parts.environment tags (policy_at parts.names.policies.items) e (Some row)
     by None stands judged made = let e : false ≡ true = stands in cc
     by (Some e) stands judged made =
         let kept : row.verdict.standing ≡ standing e parts.environment = ap (λ v. v.standing) judged in
         let chosen : best_under policy (wheel_names e) tags ≡ best_wheel e tags (policy_at parts.names.policies.items row.name) = under_policy policy e tags ∙ ap (best_wheel e tags) is_policy in
         let whole : verdict ≡ verdict_of e parts.environment tags (policy_at parts.names.policies.items row.name) = made ∙ (λ i. record { standing = kept i; best = chosen i }) in
-        (λ i. Some (record { verdict = whole i; name = row.name; sources = row.sources }))
+        (λ i. Some (record { verdict = whole i; name = row.name; condition = row.condition; sources = row.sources }))

@@ -165,6 +165,7 @@ session_index p lists kept s = record {
   index = kept ∙ s.index;
   living = s.living;
   sets = s.sets;
+  conditions = s.conditions;
 }
 
 pub shown_index : (p : Parts) (lists : _) → numbers_in lists ≡ numbers_in p.index → shown (record p { index = lists }) ≡ shown p

@@ -1,9 +1,9 @@
 -- What serves the contracts of private functions alone.
 pub mod Again
+pub mod Conditions
 pub mod Edits
 pub mod Fates
 pub mod Index
-pub mod JudgedMarkers
 pub mod Names
 pub mod Parts
 pub mod Pass

@@ -1,12 +1,12 @@
 //! A session: the entries of a lock, edited and answered again.
 
 pub(crate) mod changes;
+pub(crate) mod conditions;
 pub(crate) mod edits;
 pub(crate) mod entries;
 pub(crate) mod fates;
 pub(crate) mod index;
 pub(crate) mod judged;
-pub(crate) mod judged_markers;
 pub(crate) mod judgement;
 pub(crate) mod names;
 pub(crate) mod parts;
@@ -14,6 +14,7 @@ pub(crate) mod pass;
 pub(crate) mod ranks;
 pub(crate) mod room;
 pub(crate) mod row;
+pub(crate) mod same;
 pub(crate) mod slated;
 pub(crate) mod start;
 pub(crate) mod tag_sets;

@@ -7,6 +7,7 @@ use Rattle.std.specs.declared.vec.Vec.{Vec}
 use Rattle.pymark_core.specs.Environment.{EnvironmentValue}
 use Rattle.pywheel_core.specs.Tag.{TagValue}
 use Rattle.pylock_readers.specs.Entry.{EntryValue}
+use Rattle.pylock_core.specs.Inner.Conditions.{IsUnder}
 use Rattle.pylock_core.specs.Inner.Names.{IsNames, members_named, number_named, policies_in}
 use Rattle.pylock_core.specs.Inner.Names.{policy_at}
 use Rattle.pylock_core.specs.Inner.Rows.{in_rows}
@@ -118,3 +119,5 @@ pub record IsSession (parts : Parts) : Type 0 where
   pub index : IsIndex parts.index parts.head parts.entries.items
   pub living : AreLiving parts.living.items parts.entries.items
   pub sets : AreSets parts.sets parts.entries.items
+  pub conditions : OfRows (IsUnder parts.conditions.known.items) parts.entries.items
+      parts.rows.items

@@ -4,6 +4,7 @@ ghost use Rattle.std.specs.Prelude.{◌≡◌, ◌⊎◌, ℕ, ◌+◌, ◌<◌,
 ghost use Rattle.std.specs.Prelude.{IfSome, IsSome, OnErr, OnOk, length, map, option_map};
 ghost use Rattle.std.specs.Prelude.{slice_index_or, slice_set, vec_capacity, vec_len};
 ghost use Rattle.std.specs.Option.{option_copied};
+ghost use Rattle.pylock_core.specs.Inner.Conditions.{IsUnder};
 ghost use Rattle.pylock_core.specs.Inner.Edits.{Leaves, Made};
 ghost use Rattle.pylock_core.specs.Inner.Index.{HaveRoom};
 ghost use Rattle.pylock_core.specs.Inner.Names.{HasRoom};
@@ -17,6 +18,7 @@ ghost use Rattle.pylock_core.specs.declared.edit.Edit.TheVariants as edit;
 ghost use Rattle.pylock_core.specs.declared.edit.EditError.TheVariants.{NoEntry};
 
 use crate::edit::EditError;
+use crate::session::conditions::number_of_condition;
 use crate::session::index::{change, change_each, entry_keys, keys_at, reserve_each};
 use crate::session::judged::Judged;
 use crate::session::names::{move_member, number_of, reserve_member};
@@ -68,7 +70,8 @@ fn sources_of(entry: &Entry) -> SourceKinds
     }
 }
 
-/// The row of an entry that is to have this number. Its name gets a number where it has none.
+/// The row of an entry that is to have this number. Its name and its condition get numbers where
+/// they have none.
 fn make_row(
     parts: &mut Parts,
     number: u32,
@@ -77,6 +80,7 @@ fn make_row(
 ) -> Result<Row, AllocError>
     requires { IsSession parts.old }
     ensures named { IfOk result (λ row. IsNamed parts.new.names entry.now row) }
+    ensures under { IfOk result (λ row. IsUnder parts.new.conditions.known.items entry.now row) }
     ensures judged { IfOk result (λ row. IsJudged
         parts.new.environment parts.new.tags parts.new.names.policies.items entry.now row) }
     ensures count { OnOk result (judged.new ≡ judged.old ++ number ∷ []) }
@@ -85,11 +89,13 @@ fn make_row(
     ensures entries { parts.new.entries.items ≡ parts.old.entries.items }
     ensures sets { parts.new.sets ≡ parts.old.sets }
 {
+    let condition = number_of_condition(parts.alloc, &mut parts.conditions, entry)?;
     let name = number_of(parts.alloc, &mut parts.names, entry.name())?;
     let verdict = Verdict::new(parts, number, entry, parts.names.policies[name], judged)?;
     Ok(Row {
         verdict,
         name,
+        condition,
         sources: sources_of(entry),
     })
 }
@@ -104,6 +110,7 @@ fn prepare(
 ) -> Result<Row, AllocError>
     requires { IsSession parts.old }
     ensures named { IfOk result (λ row. IsNamed parts.new.names entry.now row) }
+    ensures under { IfOk result (λ row. IsUnder parts.new.conditions.known.items entry.now row) }
     ensures judged { IfOk result (λ row. IsJudged
         parts.new.environment parts.new.tags parts.new.names.policies.items entry.now row) }
     ensures index { OnOk result
@@ -143,6 +150,7 @@ fn write_at(
     requires session { IsSession parts.old }
     requires within { place < length parts.old.entries.items }
     requires named { OfBoth (IsNamed parts.old.names) entry row }
+    requires under { OfBoth (IsUnder parts.old.conditions.known.items) entry row }
     requires judged { OfBoth
         (IsJudged parts.old.environment parts.old.tags parts.old.names.policies.items) entry row }
     requires sets { AreNumbers (set_number parts.old.sets) (names_in entry) sets.items }

@@ -7,6 +7,7 @@ ghost use Rattle.pylock_core.specs.Session.Steps.{answer};
 
 use crate::answer::Answer;
 use crate::fate::Fate;
+use crate::session::conditions::Conditions;
 use crate::session::fates::fates_of;
 use crate::session::index::Lists;
 use crate::session::judged::Judged;
@@ -33,6 +34,7 @@ pub(crate) struct Parts {
     pub(crate) rows: Vec<Option<Row>>,
     pub(crate) names: Names,
     pub(crate) sets: TagSets,
+    pub(crate) conditions: Conditions,
     pub(crate) head: Head,
     pub(crate) head_verdict: HeadVerdict,
     pub(crate) environment: Environment,
@@ -52,6 +54,7 @@ impl Drop for Parts {
             rows: _,
             names: _,
             sets: _,
+            conditions: _,
             head: _,
             head_verdict: _,
             environment: _,

@@ -31,11 +31,13 @@ impl SourceKinds {
     }
 }
 
-/// The row of an entry: its verdict, the number of its name, and which sources it has.
+/// The row of an entry: its verdict, the number of its name, that of its condition, if it has one,
+/// and which sources it has.
 #[derive(Drop)]
 pub(crate) struct Row {
     pub(crate) verdict: Verdict,
     pub(crate) name: usize,
+    pub(crate) condition: Option<u16>,
     pub(crate) sources: SourceKinds,
 }
 

@@ -6,6 +6,7 @@ ghost use Rattle.std.specs.FinMap as map_of;
 ghost use Rattle.pylock_core.specs.Inner.Parts.{IsSession, state_of};
 ghost use Rattle.pylock_core.specs.Session.State.{asking};
 
+use crate::session::conditions::Conditions;
 use crate::session::index::head_index;
 use crate::session::judged::Judged;
 use crate::session::names::Names;
@@ -54,6 +55,7 @@ pub(crate) fn without_entries(
         rows,
         names,
         sets,
+        conditions: Conditions::none(alloc),
         head,
         head_verdict,
         environment,

@@ -16,7 +16,6 @@ ghost use Rattle.pylock_core.specs.declared.answer.Standing.TheVariants.{Skipped
 use crate::answer::{FaultCode, Standing};
 use crate::edit::Policy;
 use crate::session::judged::Judged;
-use crate::session::judged_markers::JudgedMarkers;
 use crate::session::parts::Parts;
 use crate::session::ranks::{Ranks, chosen_wheel};
 use pylock_readers::{Entry, Head};
@@ -197,36 +196,18 @@ fn standing(alloc: Global, entry: &Entry, environment: &Environment) -> Result<S
     Ok(after_marker(marked, entry.requires_python(), environment))
 }
 
-/// How the entry at a place stands in the environment of these markers, of which none that is known
-/// is judged again.
-pub(crate) fn standing_of<'a>(
+/// How the entry at a place stands in the environment; where there is none it makes no difference.
+pub(crate) fn standing_of(
     alloc: Global,
-    entry: &'a Option<Entry>,
-    markers: &mut JudgedMarkers<'a>,
+    entry: &Option<Entry>,
+    environment: &Environment,
 ) -> Result<Standing, AllocError>
-    ensures standing { IfOk result (λ found. found ≡ standing_of markers.old entry.entry.now) }
-    ensures markers { markers.new ≡ markers.old }
+    ensures { IfOk result (λ found. found ≡ standing_of environment.now entry.now) }
 {
     match entry {
-        Some(entry) => standing_in(alloc, entry, markers),
+        Some(entry) => standing(alloc, entry, environment),
         None => Ok(Standing::Active),
     }
-}
-
-/// The same of an entry.
-fn standing_in<'a>(
-    alloc: Global,
-    entry: &'a Entry,
-    markers: &mut JudgedMarkers<'a>,
-) -> Result<Standing, AllocError>
-    ensures standing { IfOk result (λ found. found ≡ standing entry.entry.now markers.old) }
-    ensures markers { markers.new ≡ markers.old }
-{
-    let standing = match entry.marker() {
-        Some(marker) => markers.standing(alloc, marker)?,
-        None => Standing::Active,
-    };
-    Ok(after_marker(standing, entry.requires_python(), markers.environment()))
 }
 
 /// How an entry stands that stands so by its marker and has this set to check or none. The check is
@@ -252,7 +233,7 @@ fn by_check(fault: Option<FaultCode>) -> Standing
 }
 
 /// How an entry stands by its marker.
-pub(crate) fn marker_standing(
+fn marker_standing(
     alloc: Global,
     marker: &Marker,
     environment: &Environment,

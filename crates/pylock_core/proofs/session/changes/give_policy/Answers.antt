@@ -54,6 +54,7 @@ returns-clause-session c =
       index = s.index;
       living = s.living;
       sets = s.sets;
+      conditions = both.2;
     }
 
 pub returns-clause-left : goal.returns-clause-left

@@ -1,5 +1,6 @@
 use Rattle.std.proofs.Common.{◌≡◌, ◌+◌, ◌∙◌, ◌<◌, ◌++◌, ◌∷◌, [], Some, None, Ok, length, set, refl, ap, sym, subst, arith}
 use Rattle.std.proofs.lemmas.List.{length-set}
+use Rattle.pylock_core.specs.Inner.Conditions.{IsUnder}
 use Rattle.pylock_core.specs.Inner.Parts.{AreLiving, AreMembers, IsIndex, IsJudged, IsNamed, state_of}
 use Rattle.pylock_readers.specs.Entry.{wheel_names}
 use Rattle.pylock_core.specs.Inner.Rows.{in_rows}
@@ -31,6 +32,7 @@ write_at-requires-clause-session c =
       sets = subst (AreSets (record p.sets { of_entries = c.push_within-3.new.items })) (sym entries)
           (sets_wider p.sets c.push_within-3.new.items c.new.result p.entries.items s.sets
           (c.push_within-3.ensures.items ∙ ap (λ ls. ls ++ c.new.result ∷ []) c.in_ok-reserve-4.ensures.items) c.new.ensures.items);
+      conditions = rw (entries, rows) (of_rows_wider (IsUnder p.conditions.known.items) p.entries.items p.rows.items s.conditions);
     }
 
 pub write_at-requires-clause-sets : goal.write_at-requires-clause-sets

@@ -12,9 +12,9 @@ both : (c : After-as_slice-numbers) → (has_head c.as_slice-numbers.result.now 
     × (after_head c.as_slice-numbers.result.now ≡ passing (entry_reads (Marked c.args.key)) 1 c.args.parts.now.entries.items)
 both c = readers_both c.args.parts.now (Marked c.args.key) c.number.result _ c.as_slice-numbers.result.now c.requires c.number.ensures.value (omega (arith, c.number.ensures.bound)) c.as_slice-numbers.ensures.value
 
-pub standings-requires : goal.standings-requires
-standings-requires c =
-    all_stand (entry_reads (Marked c.args.key)) c.args.parts.now.entries.items c.after_head.result.now (c.after_head.ensures ∙ (both (goal.at.standings-requires c).After-as_slice-numbers).1)
+pub standings-requires-clause-stand : goal.standings-requires-clause-stand
+standings-requires-clause-stand c =
+    all_stand (entry_reads (Marked c.args.key)) c.args.parts.now.entries.items c.after_head.result.now (c.after_head.ensures ∙ (both (goal.at.standings-requires-clause-stand c).After-as_slice-numbers).1)
 
 pub returns-clause-head : goal.returns-clause-head
 returns-clause-head c =

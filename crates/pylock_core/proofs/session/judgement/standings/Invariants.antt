@@ -1,5 +1,6 @@
 use Rattle.std.proofs.Common.{◌≡◌, ◌++◌, drop, map}
 use Rattle.pylock_core.specs.Inner.Again.{fresh_standing}
+use Rattle.pylock_core.specs.Inner.Conditions.{AreFound}
 use Rattle.pylock_core.proofs.session.judgement.standings.Given as goal
 
 -- the standings so far, and those of the numbers that are left
@@ -8,5 +9,5 @@ invariant-loop-number l =
     let anew = fresh_standing l.environment l.parts.entries.items in
     record {
       fresh : l.fresh.items ++ map anew (drop l.number-index l.numbers) ≡ map anew l.numbers;
-      markers : l.markers ≡ l.environment;
+      found : AreFound l.parts.conditions.known.items l.environment l.found.items;
     }
