@@ -1,7 +1,9 @@
 -- The line of a wheel or an sdist, in the parts that are put in their places.
-use Rattle.std.specs.Prelude.{◌≡◌, ℕ, ◌++◌, ◌+◌, ◌≤◌, List, ◌∷◌, length, codes, Some}
+use Rattle.std.specs.Prelude.{◌≡◌, ℕ, ◌++◌, ◌+◌, ◌≤◌, List, ◌∷◌, length, codes, Some, true}
+use Rattle.std.specs.List.{list_all}
 use Rattle.pylock_readers.specs.Entry.{EntryValue, FileValue}
 use Rattle.pylock_readers.specs.Entry.{file_name, place_of}
+use Rattle.pylock_run.specs.Inner.Plain.{is_ordinary}
 use Rattle.pylock_run.specs.Text.Field.{field}
 use Rattle.pylock_run.specs.Text.Plan.{hashes_text}
 use Rattle.pylock_run.specs.declared.text.plain.FileTexts.{FileTexts}
@@ -12,6 +14,13 @@ file_line t =
     t.number.now ++ 9 ∷ (t.name.now ++ 9 ∷ (t.version.now ++ 9 ∷ (t.kind.now
     ++ 9 ∷ (t.file_name.now ++ 9 ∷ (t.place.now ++ 9 ∷ (t.algorithm.now
     ++ 61 ∷ (t.value.now ++ codes "\t-\t-\n")))))))
+
+-- the line with `-` for each of its marks
+abbrev pub joined_texts : FileTexts → List ℕ
+joined_texts t =
+    t.number.now ++ 45 ∷ (t.name.now ++ 45 ∷ (t.version.now ++ 45 ∷ (t.kind.now
+    ++ 45 ∷ (t.file_name.now ++ 45 ∷ (t.place.now ++ 45 ∷ (t.algorithm.now
+    ++ 45 ∷ (t.value.now ++ codes "-----")))))))
 
 abbrev pub file_line_size : FileTexts → ℕ
 file_line_size t =
@@ -28,6 +37,15 @@ pub record AreShort (t : FileTexts) : Type 0 where
   pub place : length t.place.now ≤ 65536
   pub algorithm : length t.algorithm.now ≤ 65536
   pub value : length t.value.now ≤ 65536
+
+-- each text of the lock is ordinary
+pub record AreOrdinary (t : FileTexts) : Type 0 where
+  pub name : list_all is_ordinary t.name.now ≡ true
+  pub version : list_all is_ordinary t.version.now ≡ true
+  pub file_name : list_all is_ordinary t.file_name.now ≡ true
+  pub place : list_all is_ordinary t.place.now ≡ true
+  pub algorithm : list_all is_ordinary t.algorithm.now ≡ true
+  pub value : list_all is_ordinary t.value.now ≡ true
 
 -- each text is what its field holds
 pub record StandIn (t : FileTexts) (digits : List ℕ) (entry : EntryValue) (kind_word : List ℕ)

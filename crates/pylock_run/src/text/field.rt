@@ -49,7 +49,8 @@ pub(crate) fn is_plain_text(text: &[u8]) -> bool
     ensures { IsTrue result → list_all is_ordinary text.now ≡ true }
 {
     match text.len() {
-        32.. => are_plain_chunks::<32>(text),
+        64.. => are_plain_chunks::<64>(text),
+        32..64 => are_plain_chunks::<32>(text),
         16..32 => are_plain_chunks::<16>(text),
         8..16 => are_plain_chunks::<8>(text),
         4..8 => are_plain_chunks::<4>(text),
@@ -59,7 +60,7 @@ pub(crate) fn is_plain_text(text: &[u8]) -> bool
 
 /// The same for a text of at least `N` bytes, by chunks of `N`.
 fn are_plain_chunks<const N: usize>(text: &[u8]) -> bool
-    requires { (0 < N) × (N ≤ 32) }
+    requires { (0 < N) × (N ≤ 64) }
     ensures { IsTrue result → list_all is_ordinary text.now ≡ true }
 {
     let (chunks, rest) = text.as_chunks::<N>();
@@ -77,21 +78,16 @@ fn are_plain_chunks<const N: usize>(text: &[u8]) -> bool
     }
 }
 
+/// Of each byte the least is kept, where a backslash counts as 0, so that many bytes are tested at
+/// once.
 fn are_ordinary(bytes: &[u8]) -> bool
     ensures { result ≡ list_all is_ordinary bytes.now }
 {
-    let mut ordinary = true;
+    let mut least = u8::MAX;
     for byte in bytes {
-        ordinary &= is_ordinary(*byte);
+        least = least.min(if *byte == b'\\' { 0 } else { *byte });
     }
-    ordinary
-}
-
-/// Both tests are made of each byte, so that many bytes are tested at once.
-fn is_ordinary(byte: u8) -> bool
-    ensures { result ≡ is_ordinary byte }
-{
-    (byte > 13) & (byte != b'\\')
+    least > 13
 }
 
 #[inline(never)]

@@ -1,11 +1,15 @@
 //! The line of a wheel or an sdist whose texts stand in their fields as they are, as nearly all do:
-//! its room is made at once, and then its parts are put in their places.
+//! its room is made at once, its texts are put in their places with `-` between them, all of them
+//! are tested in one look, and then the marks of a line stand in place of each `-`.
 
-ghost use Rattle.std.specs.Prelude.{◌≡◌, ◌++◌, ◌∷◌, ◌+◌, ◌≤◌, length, take, false};
-ghost use Rattle.std.specs.Prelude.{IfSome, IfOk, OnOk, IsTrue};
+ghost use Rattle.std.specs.Prelude.{◌≡◌, ◌++◌, ◌∷◌, ◌+◌, ◌<◌, ◌≤◌, length, take, drop, false, true};
+ghost use Rattle.std.specs.Prelude.{IfSome, IfOk, IsTrue};
+ghost use Rattle.std.specs.List.{list_all};
 ghost use Rattle.std.specs.Option.{option_copied};
 ghost use Rattle.pylock_readers.specs.Text.{text_pairs};
-ghost use Rattle.pylock_run.specs.Inner.FileLine.{file_line, file_line_size, AreShort, StandIn};
+ghost use Rattle.pylock_run.specs.Inner.FileLine.{file_line, file_line_size, joined_texts};
+ghost use Rattle.pylock_run.specs.Inner.FileLine.{AreOrdinary, AreShort, StandIn};
+ghost use Rattle.pylock_run.specs.Inner.Plain.{is_ordinary};
 ghost use Rattle.pylock_run.specs.Text.Field.{escaped, field};
 ghost use Rattle.pylock_run.specs.Text.Plan.{file_fields, hashes_text, source_line};
 
@@ -31,8 +35,8 @@ struct FileTexts<'a> {
     value: &'a [u8],
 }
 
-/// Pushes the line of a wheel or an sdist if each text is seen at once to stand in it as it is, and
-/// answers whether it did.
+/// Pushes the line of a wheel or an sdist if its texts are seen at once to stand in it as they are,
+/// and answers whether it did.
 pub(crate) fn push_plain_file(
     out: &mut Vec<u8>,
     number: u64,
@@ -47,15 +51,12 @@ pub(crate) fn push_plain_file(
     let mut digits = Buffer::new();
     let number = digits.format(number).as_bytes();
     match file_texts(number, entry, kind, file) {
-        Some(texts) => {
-            push_texts(out, &texts)?;
-            Ok(true)
-        }
+        Some(texts) => push_texts(out, &texts),
         None => Ok(false),
     }
 }
 
-/// The texts of the line, if each is seen at once to stand in it as it is.
+/// The texts of the line, if each is short. They stand in it as they are if they are ordinary.
 #[inline]
 fn file_texts<'a>(
     number: &'a [u8],
@@ -64,14 +65,15 @@ fn file_texts<'a>(
     file: &'a DistributionFile,
 ) -> Option<FileTexts<'a>>
     requires { (length number.now ≤ 20) × (length kind.now ≡ 5) }
-    ensures stand { IfSome result (λ texts. StandIn texts number.now entry.now kind.now file.now) }
+    ensures stand { IfSome result (λ texts. AreOrdinary texts
+        → StandIn texts number.now entry.now kind.now file.now) }
     ensures short { IfSome result AreShort }
 {
-    let name = plain_field(Some(entry.name()))?;
-    let version = plain_field(entry.version())?;
-    let file_name = plain_field(file.file_name())?;
-    let place = plain_field(Some(file.place()))?;
-    let (algorithm, value) = plain_hash(file.hashes())?;
+    let name = short_field(Some(entry.name()))?;
+    let version = short_field(entry.version())?;
+    let file_name = short_field(file.file_name())?;
+    let place = short_field(Some(file.place()))?;
+    let (algorithm, value) = short_hash(file.hashes())?;
     Some(FileTexts {
         number,
         name,
@@ -84,39 +86,43 @@ fn file_texts<'a>(
     })
 }
 
-/// The field of a text, or of one that is absent.
+/// A text that is short, or the field of one that is absent. Where it is ordinary, it stands in its
+/// field as it is.
 #[inline]
-fn plain_field<'a>(text: Option<&'a str>) -> Option<&'a [u8]>
-    ensures stands { IfSome result (λ plain. plain.now ≡ field (option_copied text.entry)) }
-    ensures short { IfSome result (λ plain. length plain.now ≤ 65536) }
+fn short_field<'a>(text: Option<&'a str>) -> Option<&'a [u8]>
+    ensures stands { IfSome result (λ short. list_all is_ordinary short.now ≡ true
+        → short.now ≡ field (option_copied text.entry)) }
+    ensures short { IfSome result (λ short. length short.now ≤ 65536) }
 {
     match text {
         None => Some(b"-"),
-        Some("-") => Some(b"\\-"),
-        Some(text) => plain_text(text),
+        Some("-") => None,
+        Some(text) => short_text(text),
     }
 }
 
-/// The text with its escapes, where it is short and has none.
+/// A text that is short. Where it is ordinary, it has no escapes.
 #[inline]
 #[tactic(auto, using(crate::proofs::PlainText::plain_stands))]
-fn plain_text<'a>(text: &'a str) -> Option<&'a [u8]>
-    ensures stands { IfSome result (λ plain. plain.now ≡ escaped text.now) }
-    ensures short { IfSome result (λ plain. length plain.now ≤ 65536) }
+fn short_text<'a>(text: &'a str) -> Option<&'a [u8]>
+    ensures stands { IfSome result (λ short. list_all is_ordinary short.now ≡ true
+        → short.now ≡ escaped text.now) }
+    ensures short { IfSome result (λ short. length short.now ≤ 65536) }
 {
-    let bytes = text.as_bytes();
-    if bytes.len() <= SHORT_BYTES && is_plain_text(bytes) {
-        Some(bytes)
+    if text.len() <= SHORT_BYTES {
+        Some(text.as_bytes())
     } else {
         None
     }
 }
 
-/// The algorithm and the value of the only hash.
+/// The algorithm and the value of the only hash, each a short text. Where they are ordinary, they
+/// stand in their field as they are.
 #[inline]
-fn plain_hash<'a>(hashes: &'a [(String, String)]) -> Option<(&'a [u8], &'a [u8])>
-    ensures stands { IfSome result (λ hash. hash.0.now ++ 61 ∷ hash.1.now
-        ≡ field (hashes_text (text_pairs hashes.now))) }
+fn short_hash<'a>(hashes: &'a [(String, String)]) -> Option<(&'a [u8], &'a [u8])>
+    ensures stands { IfSome result (λ hash. list_all is_ordinary hash.0.now ≡ true
+        → list_all is_ordinary hash.1.now ≡ true
+        → hash.0.now ++ 61 ∷ hash.1.now ≡ field (hashes_text (text_pairs hashes.now))) }
     ensures short { IfSome result (λ hash. (length hash.0.now ≤ 65536)
         × (length hash.1.now ≤ 65536)) }
 {
@@ -125,18 +131,41 @@ fn plain_hash<'a>(hashes: &'a [(String, String)]) -> Option<(&'a [u8], &'a [u8])
         return None;
     }
     let (algorithm, value) = hash;
-    Some((plain_text(algorithm.as_str())?, plain_text(value.as_str())?))
+    Some((short_text(algorithm.as_str())?, short_text(value.as_str())?))
 }
 
-/// Pushes the line of these texts.
-fn push_texts(out: &mut Vec<u8>, texts: &FileTexts<'_>) -> Result<(), AllocError>
+/// Pushes the line of these texts if all are ordinary, and answers whether it did.
+fn push_texts(out: &mut Vec<u8>, texts: &FileTexts<'_>) -> Result<bool, AllocError>
     requires { AreShort texts.now }
-    ensures { OnOk result (out.new.items ≡ out.old.items ++ file_line texts.now) }
+    ensures pushed { IfOk result (λ done. IsTrue done
+        → out.new.items ≡ out.old.items ++ file_line texts.now) }
+    ensures ordinary { IfOk result (λ done. IsTrue done → AreOrdinary texts.now) }
+    ensures left { IfOk result (λ done. done ≡ false → out.new.items ≡ out.old.items) }
 {
     let start = out.len();
     out.resize(start + line_size(texts), b'-')?;
-    put_texts(out, start, texts);
-    Ok(())
+    let done = put_line(out, start, texts);
+    if !done {
+        out.truncate(start);
+    }
+    Ok(done)
+}
+
+/// Puts the line where its room begins, which is the last of `line`, if all texts are ordinary, and
+/// answers whether they are.
+#[inline]
+fn put_line(line: &mut [u8], start: usize, texts: &FileTexts<'_>) -> bool
+    requires { start + file_line_size texts.now ≡ length line.old }
+    ensures put { IsTrue result → line.new ≡ take start line.old ++ file_line texts.now }
+    ensures ordinary { IsTrue result → AreOrdinary texts.now }
+    ensures front { take start line.new ≡ take start line.old }
+{
+    put_texts(line, start, texts);
+    if !is_plain_text(&line[start..]) {
+        return false;
+    }
+    put_marks(line, start, texts);
+    true
 }
 
 #[inline]
@@ -155,32 +184,33 @@ fn line_size(texts: &FileTexts<'_>) -> usize
         + 12
 }
 
-/// Puts the line where its room begins, which is the last of `line`.
+/// Puts the texts where the room of the line begins, which is the last of `line`, with `-` between
+/// them.
 #[inline]
 fn put_texts(line: &mut [u8], start: usize, texts: &FileTexts<'_>)
     requires { start + file_line_size texts.now ≡ length line.old }
-    ensures { line.new ≡ take start line.old ++ file_line texts.now }
+    ensures { line.new ≡ take start line.old ++ joined_texts texts.now }
 {
     let at = put(line, start, texts.number);
-    let at = put_after(line, at, b'\t', texts.name);
-    let at = put_after(line, at, b'\t', texts.version);
-    let at = put_after(line, at, b'\t', texts.kind);
-    let at = put_after(line, at, b'\t', texts.file_name);
-    let at = put_after(line, at, b'\t', texts.place);
-    let at = put_after(line, at, b'\t', texts.algorithm);
-    let at = put_after(line, at, b'=', texts.value);
-    put(line, at, b"\t-\t-\n");
+    let at = put_after(line, at, texts.name);
+    let at = put_after(line, at, texts.version);
+    let at = put_after(line, at, texts.kind);
+    let at = put_after(line, at, texts.file_name);
+    let at = put_after(line, at, texts.place);
+    let at = put_after(line, at, texts.algorithm);
+    let at = put_after(line, at, texts.value);
+    put(line, at, b"-----");
 }
 
-/// Puts a mark and a text at a place, and answers the place behind them.
+/// Puts `-` and a text at a place, and answers the place behind them.
 #[inline]
-fn put_after(line: &mut [u8], at: usize, mark: u8, text: &[u8]) -> usize
+fn put_after(line: &mut [u8], at: usize, text: &[u8]) -> usize
     requires { at + 1 + length text.now ≤ length line.old }
     ensures end { result ≡ at + 1 + length text.now }
     ensures len { length line.new ≡ length line.old }
-    ensures front { take result line.new ≡ take at line.old ++ mark ∷ text.now }
+    ensures front { take result line.new ≡ take at line.old ++ 45 ∷ text.now }
 {
-    line[at] = mark;
+    line[at] = b'-';
     put(line, at + 1, text)
 }
 
@@ -195,4 +225,33 @@ fn put(line: &mut [u8], at: usize, text: &[u8]) -> usize
     let end = at + text.len();
     line[at..end].copy_from_slice(text);
     end
+}
+
+/// Puts the marks of the line in place of each `-` between its texts.
+#[inline]
+fn put_marks(line: &mut [u8], start: usize, texts: &FileTexts<'_>)
+    requires size { start + file_line_size texts.now ≡ length line.old }
+    requires texts { line.old ≡ take start line.old ++ joined_texts texts.now }
+    ensures { line.new ≡ take start line.old ++ file_line texts.now }
+{
+    let at = mark(line, start + texts.number.len(), b'\t', texts.name);
+    let at = mark(line, at, b'\t', texts.version);
+    let at = mark(line, at, b'\t', texts.kind);
+    let at = mark(line, at, b'\t', texts.file_name);
+    let at = mark(line, at, b'\t', texts.place);
+    let at = mark(line, at, b'\t', texts.algorithm);
+    let at = mark(line, at, b'=', texts.value);
+    put(line, at, b"\t-\t-\n");
+}
+
+/// Puts a mark at a place before a text, and answers the place behind that.
+#[inline]
+fn mark(line: &mut [u8], at: usize, mark: u8, text: &[u8]) -> usize
+    requires { at + 1 + length text.now ≤ length line.old }
+    ensures end { result ≡ at + 1 + length text.now }
+    ensures len { length line.new ≡ length line.old }
+    ensures line { line.new ≡ take at line.old ++ mark ∷ drop (at + 1) line.old }
+{
+    line[at] = mark;
+    at + 1 + text.len()
 }

@@ -28,6 +28,6 @@ returns c =
       c.put.ensures.len,
     ) in
     sym (take_all c.put.result c.put.new.line all)
-    ∙ parts_joined _ _ _ _ _ _ _ _ _ _ _ _ _ _ _ _ _ _ _ c.put-at.ensures.front c.put_after-at.ensures.front
+    ∙ parts_joined 45 45 _ _ _ _ _ _ _ _ _ _ _ _ _ _ _ _ _ _ _ c.put-at.ensures.front c.put_after-at.ensures.front
     c.put_after-at-2.ensures.front c.put_after-at-3.ensures.front c.put_after-at-4.ensures.front c.put_after-at-5.ensures.front
     c.put_after-at-6.ensures.front c.put_after-at-7.ensures.front c.put.ensures.front
