@@ -1,17 +1,19 @@
 //! The texts of a source that have a control character.
 
-ghost use Rattle.std.specs.Prelude.{◌≡◌, ◌++◌, IfOk, OnOk, codes, map, string_bytes};
+ghost use Rattle.std.specs.Prelude.{◌≡◌, ◌++◌, IfOk, IsTrue, OnOk, Some, codes, false, map};
+ghost use Rattle.std.specs.Prelude.{string_bytes};
 ghost use Rattle.std.specs.Option.{option_copied};
 ghost use Rattle.pylock_readers.specs.Text.{text_pair, text_pairs};
 ghost use Rattle.pylock_core.specs.Session.Picks.{lent_source};
 ghost use Rattle.pylock_audit.specs.Source.{controlled, controlled_archive, controlled_directory};
 ghost use Rattle.pylock_audit.specs.Source.{controlled_file, controlled_hashes, controlled_texts};
 ghost use Rattle.pylock_audit.specs.Source.{controlled_vcs, hash_shown, plainly, url_and_path};
+ghost use Rattle.pylock_audit.specs.Unsafe.{has_control};
 ghost use Rattle.pylock_audit.specs.Url.{shown_url};
 
 use crate::hash::Hash;
 use crate::source::key_path;
-use crate::unsafe_text::has_control;
+use crate::unsafe_text::{has_control, is_printable};
 use crate::url::shown_url;
 use pylock_core::{Archive, Directory, DistributionFile, PickSource, PickedSource, Vcs};
 use std::alloc::{AllocError, Global};
@@ -83,10 +85,33 @@ fn push_hashes(
         ++ controlled_hashes name (text_pairs hashes.now)) }
 {
     for hash in hashes {
-        let text = hash_shown(alloc, hash)?;
-        push_plainly(alloc, list, name, "hashes", Some(text.as_str()))?;
+        push_hash(alloc, list, name, hash)?;
     }
     Ok(())
+}
+
+/// Adds a hash, where it has a control character. Of nearly each it is seen at once that it has
+/// none.
+fn push_hash(
+    alloc: Global,
+    list: &mut Vec<String>,
+    name: PickSource,
+    hash: &Hash,
+) -> Result<(), AllocError>
+    ensures { OnOk result (map string_bytes list.new.items ≡ map string_bytes list.old.items
+        ++ plainly name (codes "hashes") (Some (hash_shown (text_pair hash.now)))) }
+{
+    if is_printable_hash(hash) {
+        return Ok(());
+    }
+    let text = hash_shown(alloc, hash)?;
+    push_plainly(alloc, list, name, "hashes", Some(text.as_str()))
+}
+
+fn is_printable_hash(hash: &Hash) -> bool
+    ensures { IsTrue result → has_control (hash_shown (text_pair hash.now)) ≡ false }
+{
+    is_printable(hash.0.as_bytes()) && is_printable(hash.1.as_bytes())
 }
 
 /// A hash as it is shown: `ALGORITHM=VALUE`.

@@ -66,12 +66,21 @@ fn is_bad_value(lengths: &[usize], value: &str) -> bool
     !lengths.is_empty() && !(lengths.contains(&value.len()) && is_hex(value))
 }
 
+/// Each byte is looked at, so that many are at once.
 fn is_hex(value: &str) -> bool
     ensures { result ≡ list_all is_hex_digit value.now }
 {
-    value
-        .bytes()
-        .all(|b| matches!(b, b'0'..=b'9' | b'a'..=b'f'))
+    let mut hex = true;
+    for byte in value.as_bytes() {
+        hex &= is_hex_digit(*byte);
+    }
+    hex
+}
+
+fn is_hex_digit(byte: u8) -> bool
+    ensures { result ≡ is_hex_digit byte }
+{
+    matches!(byte, b'0'..=b'9' | b'a'..=b'f')
 }
 
 /// Whether the hash has what stands between hashes where a line shows them.
@@ -81,8 +90,19 @@ pub(crate) fn is_odd(hash: &Hash) -> bool
     has_mark(hash.0.as_str()) || has_mark(hash.1.as_str())
 }
 
+/// Each byte is looked at, so that many are at once.
 fn has_mark(text: &str) -> bool
     ensures { result ≡ list_any is_mark text.now }
 {
-    text.bytes().any(|b| matches!(b, b',' | b'='))
+    let mut found = false;
+    for byte in text.as_bytes() {
+        found |= is_mark(*byte);
+    }
+    found
+}
+
+fn is_mark(byte: u8) -> bool
+    ensures { result ≡ is_mark byte }
+{
+    matches!(byte, b',' | b'=')
 }

@@ -1,8 +1,9 @@
 //! Texts that do harm where they are used as they stand.
 
 ghost use Rattle.std.specs.Prelude.{◌≡◌, slice_get};
-ghost use Rattle.std.specs.List.{list_any};
+ghost use Rattle.std.specs.List.{list_all, list_any};
 ghost use Rattle.std.specs.Str.{chars};
+ghost use Rattle.pylock_audit.specs.Inner.Printable.{is_printable};
 ghost use Rattle.pylock_audit.specs.Unsafe.{begins_with_parent, begins_with_root, has_control};
 ghost use Rattle.pylock_readers.specs.Entry.FileName.{ends_segment};
 ghost use Rattle.pylock_audit.specs.Unsafe.{has_drive, has_later_parent};
@@ -10,11 +11,34 @@ ghost use Rattle.pylock_audit.specs.Unsafe.{is_unsafe_name, is_unsafe_path};
 
 use pylock_messages::is_control;
 
-/// Whether the text has a control character.
+/// Whether the text has a control character. Of nearly each text it is seen at once that it has
+/// none.
+#[tactic(auto, using(crate::proofs::PrintableLemmas::printable_has_none))]
 pub(crate) fn has_control(text: &str) -> bool
     ensures { result ≡ has_control text.now }
 {
+    !is_printable(text.as_bytes()) && any_control(text)
+}
+
+/// The same, character by character.
+fn any_control(text: &str) -> bool
+    ensures { result ≡ has_control text.now }
+{
     text.chars().any(|c| is_control(c))
+}
+
+/// Whether each byte is a printable character of ASCII. The least and the greatest byte are kept,
+/// so that many bytes are looked at at once.
+pub(crate) fn is_printable(bytes: &[u8]) -> bool
+    ensures { result ≡ list_all is_printable bytes.now }
+{
+    let mut least = u8::MAX;
+    let mut most = 0;
+    for byte in bytes {
+        least = least.min(*byte);
+        most = most.max(*byte);
+    }
+    least > 31 && most < 127
 }
 
 fn ends_segment(b: u8) -> bool
@@ -30,10 +54,15 @@ pub(crate) fn is_unsafe_name(name: &str) -> bool
     ends_a_segment(name) || has_control(name) || name == "." || name == ".."
 }
 
+/// Each byte is looked at, so that many are at once.
 fn ends_a_segment(text: &str) -> bool
     ensures { result ≡ list_any ends_segment text.now }
 {
-    text.bytes().any(|b| ends_segment(b))
+    let mut found = false;
+    for byte in text.as_bytes() {
+        found |= ends_segment(*byte);
+    }
+    found
 }
 
 /// Whether a path leaves the folder that it begins in.
