@@ -1,10 +1,12 @@
 //! The keys of a lock that PEP 751 doesn't name.
 
-ghost use Rattle.std.specs.Prelude.{◌≡◌, ◌+◌, ◌++◌, IfOk, OnOk, map, option_map, string_bytes};
+ghost use Rattle.std.specs.Prelude.{◌≡◌, ◌+◌, ◌++◌, IfOk, OnOk, Some, map, not, option_map};
+ghost use Rattle.std.specs.Prelude.{string_bytes};
+ghost use Rattle.std.specs.List.{list_any};
 ghost use Rattle.toml.specs.Data.{get_member};
 ghost use Rattle.toml.specs.View.{items_view, table_view, view};
-ghost use Rattle.pylock_audit.specs.Keys.{is_named, unknown_in, unknown_in_wheels, unknown_keys};
-ghost use Rattle.pylock_audit.specs.Keys.{unknown_of_entry, unknown_of_wheels, wheel_path};
+ghost use Rattle.pylock_audit.specs.Keys.{is_named, table_keys, unknown_in, unknown_in_wheels};
+ghost use Rattle.pylock_audit.specs.Keys.{unknown_keys, unknown_of_entry, unknown_of_wheels, wheel_path};
 
 use std::alloc::{AllocError, Global};
 use toml::{Table, Value};
@@ -164,10 +166,56 @@ fn push_unknown_of_wheels(
         ++ unknown_of_wheels 1 (items_view wheels.now)) }
 {
     for (place, wheel) in wheels.iter().enumerate() {
-        let path = wheel_path(alloc, place)?;
-        push_unknown_in(alloc, paths, path.as_str(), Level::File, Some(wheel))?;
+        push_unknown_of_wheel(alloc, paths, place, wheel)?;
     }
     Ok(())
+}
+
+/// Adds those of the wheel at this place.
+fn push_unknown_of_wheel(
+    alloc: Global,
+    paths: &mut Vec<String>,
+    place: usize,
+    wheel: &Value,
+) -> Result<(), AllocError>
+    ensures { OnOk result (map string_bytes paths.new.items ≡ map string_bytes paths.old.items
+        ++ unknown_in (wheel_path (place + 1)) Level.File (Some (view wheel.now))) }
+{
+    match wheel {
+        Value::Table(table) => push_unknown_of_file(alloc, paths, place, table),
+        _ => Ok(()),
+    }
+}
+
+/// Adds those of the table of the wheel at this place, whose path is made where there are any.
+fn push_unknown_of_file(
+    alloc: Global,
+    paths: &mut Vec<String>,
+    place: usize,
+    file: &Table,
+) -> Result<(), AllocError>
+    ensures { OnOk result (map string_bytes paths.new.items ≡ map string_bytes paths.old.items
+        ++ unknown_keys (wheel_path (place + 1)) Level.File (table_view file.now)) }
+{
+    if !has_unknown(Level::File, file) {
+        return Ok(());
+    }
+    let path = wheel_path(alloc, place)?;
+    push_unknown(alloc, paths, path.as_str(), Level::File, file)
+}
+
+/// Whether a key of the table isn't named.
+#[tactic(auto, using(crate::proofs::KeyLemmas::keys_shown))]
+fn has_unknown(level: Level, table: &Table) -> bool
+    ensures { result
+        ≡ list_any (λ key. not (is_named level key)) (table_keys (table_view table.now)) }
+{
+    for key in table.keys() {
+        if !is_named(level, key.as_str()) {
+            return true;
+        }
+    }
+    false
 }
 
 /// The path of the wheel at this place, which is counted from 0 here and from 1 in the path.
