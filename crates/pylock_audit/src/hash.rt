@@ -94,11 +94,11 @@ pub(crate) fn is_odd(hash: &Hash) -> bool
 fn has_mark(text: &str) -> bool
     ensures { result ≡ list_any is_mark text.now }
 {
-    let mut found = false;
+    let mut bare = true;
     for byte in text.as_bytes() {
-        found |= is_mark(*byte);
+        bare &= !is_mark(*byte);
     }
-    found
+    !bare
 }
 
 fn is_mark(byte: u8) -> bool

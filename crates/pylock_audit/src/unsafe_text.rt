@@ -58,11 +58,11 @@ pub(crate) fn is_unsafe_name(name: &str) -> bool
 fn ends_a_segment(text: &str) -> bool
     ensures { result ≡ list_any ends_segment text.now }
 {
-    let mut found = false;
+    let mut whole = true;
     for byte in text.as_bytes() {
-        found |= ends_segment(*byte);
+        whole &= !ends_segment(*byte);
     }
-    found
+    !whole
 }
 
 /// Whether a path leaves the folder that it begins in.
