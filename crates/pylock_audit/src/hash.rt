@@ -90,7 +90,9 @@ pub(crate) fn is_odd(hash: &Hash) -> bool
     has_mark(hash.0.as_str()) || has_mark(hash.1.as_str())
 }
 
-/// Each byte is looked at, so that many are at once.
+/// Each byte is looked at, so that many are at once; by itself, since within its caller it isn't
+/// compiled to that.
+#[inline(never)]
 fn has_mark(text: &str) -> bool
     ensures { result ≡ list_any is_mark text.now }
 {

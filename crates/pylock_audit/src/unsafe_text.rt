@@ -54,7 +54,9 @@ pub(crate) fn is_unsafe_name(name: &str) -> bool
     ends_a_segment(name) || has_control(name) || name == "." || name == ".."
 }
 
-/// Each byte is looked at, so that many are at once.
+/// Each byte is looked at, so that many are at once; by itself, since within its caller it isn't
+/// compiled to that.
+#[inline(never)]
 fn ends_a_segment(text: &str) -> bool
     ensures { result ≡ list_any ends_segment text.now }
 {
