@@ -19,6 +19,9 @@ use std::collections::BTreeMap;
 /// How many conditions have a number. Entries that have others are judged one by one.
 const MOST_CONDITIONS: usize = 4_096;
 
+/// How many bytes the texts of such a condition have at most, so that all that is kept stays small.
+const LONGEST_TEXTS: usize = 1_024;
+
 /// A marker and a Python set, where an entry has them.
 pub(crate) struct Condition {
     pub(crate) marker: Option<Marker>,
@@ -142,7 +145,7 @@ fn texts_of(alloc: Global, entry: &Entry) -> Result<String, AllocError> {
 }
 
 /// The number of the condition of an entry, which gets one here where it has none and there are
-/// few. Where there is no memory for it, each that has a number keeps it.
+/// few and its texts are short. Where there is no memory for it, each that has a number keeps it.
 pub(crate) fn number_of_condition(
     alloc: Global,
     conditions: &mut Conditions,
@@ -157,7 +160,7 @@ pub(crate) fn number_of_condition(
         return Ok(number_at(&conditions.known, *place, entry));
     }
     let count = conditions.known.len();
-    if count >= MOST_CONDITIONS {
+    if count >= MOST_CONDITIONS || texts.len() > LONGEST_TEXTS {
         return Ok(None);
     }
     let number = count as u16;
