@@ -18,12 +18,12 @@ use Rattle.pymark_core.specs.declared.variable.Var.{Var}
 use Rattle.pymark_core.specs.declared.variable.Var.TheVariants as var
 use Rattle.pywheel_core.specs.Tag.{TagValue}
 use Rattle.pylock_readers.specs.Entry.{EntryValue}
-use Rattle.pylock_core.specs.Inner.Again.{AllStand, AllWithin, DifferAt, after_head, changed, fresh_row, fresh_standing, has_head, key_of, row_anew, row_standing, rows_anew, standing_of, standings_anew, stood, stored}
-use Rattle.pylock_core.specs.Inner.Conditions.{IsUnder}
+use Rattle.pylock_core.specs.Inner.Again.{AllStand, AllWithin, DifferAt, after_head, changed, fresh_row, fresh_standing, has_head, key_of, row_anew, row_stood, rows_anew, standing_of, standings_anew, stood, stored}
+use Rattle.pylock_core.specs.Inner.Conditions.{Condition, IsUnder}
 use Rattle.pylock_core.specs.Inner.Index.{list_at}
 use Rattle.pylock_core.specs.Session.State.{Rises}
 use Rattle.pylock_core.specs.Inner.Names.{members_under, number_named, policy_at}
-use Rattle.pylock_core.specs.Inner.Parts.{IsJudged, IsNamed, IsSession, OfBoth, OfRows, state_of}
+use Rattle.pylock_core.specs.Inner.Parts.{AreNumbered, IsJudged, IsNamed, IsSession, OfBoth, OfRows, state_of}
 use Rattle.pylock_core.specs.Inner.Pass.{has_number}
 use Rattle.pylock_core.specs.Inner.Rows.{passes}
 use Rattle.pylock_core.specs.Session.Judgement.{AgreeAtKey, IndexKey, Marked, OfTags, and_head, entry_reads, head_reads, keys, readers, verdict_of}
@@ -33,7 +33,6 @@ use Rattle.pylock_core.specs.declared.edit.Policy.{Policy}
 use Rattle.pylock_core.specs.declared.session.changes.Change.{Change}
 use Rattle.pylock_core.specs.declared.session.changes.Change.TheVariants as change
 use Rattle.pylock_core.specs.declared.edit.Policy.TheVariants.{Any}
-use Rattle.pylock_core.specs.declared.session.conditions.Condition.{Condition}
 use Rattle.pylock_core.specs.declared.session.names.Names.{Names}
 use Rattle.pylock_core.specs.declared.session.parts.Parts.{Parts}
 use Rattle.pylock_core.specs.declared.session.row.Row.{Row}
@@ -157,44 +156,44 @@ stored_at new (n ∷ ns) rows k within above =
 
 -- ---- standings put at their places
 
-twice : (standing : Standing) (r : Option Row) → row_standing standing (row_standing standing r) ≡ row_standing standing r
+twice : (standing : Standing) (r : Option Row) → row_stood standing (row_stood standing r) ≡ row_stood standing r
 twice standing None = refl
 twice standing (Some r) = refl
 
 stood_length : (fresh : List (ℕ × Standing)) (rows : List (Option Row)) → length (stood fresh rows) ≡ length rows
 stood_length [] rows = refl
 stood_length (one ∷ more) rows =
-    let row = row_standing one.1 (get_or rows one.0 None) in
+    let row = row_stood one.1 (get_or rows one.0 None) in
     stood_length more (set rows one.0 row) ∙ length-set rows one.0 row
 
 -- at the places whose numbers are in the list the entries stand anew
 stood_at : (new : ℕ → Standing) (ns : List ℕ) (rows : List (Option Row)) (k : ℕ) → k < length rows → ((i : ℕ) → i < length ns → 0 < get_or ns i 0)
-    → get_or (stood (map (λ n. (n - 1, new (n - 1))) ns) rows) k None ≡ cond (has_number ns (k + 1)) (row_standing (new k) (get_or rows k None)) (get_or rows k None)
+    → get_or (stood (map (λ n. (n - 1, new (n - 1))) ns) rows) k None ≡ cond (has_number ns (k + 1)) (row_stood (new k) (get_or rows k None)) (get_or rows k None)
 stood_at new [] rows k within above = refl
 stood_at new (n ∷ ns) rows k within above =
     stood_at new ns (set rows (n - 1) (made (n - 1))) k (omega (arith, length-set rows (n - 1) (made (n - 1)))) (λ i less. above (suc i) (omega arith))
     ∙ by (nat_eq (k + 1) n) refl
   where
     made : ℕ → Option Row
-    made j = row_standing (new j) (get_or rows j None)
+    made j = row_stood (new j) (get_or rows j None)
 
-    both : (b : Bool) → cond b (row_standing (new k) (made k)) (made k) ≡ made k
+    both : (b : Bool) → cond b (row_stood (new k) (made k)) (made k) ≡ made k
     both true = twice (new k) (get_or rows k None)
     both false = refl
 
     by : (b : Bool) → nat_eq (k + 1) n ≡ b
-        → cond (has_number ns (k + 1)) (row_standing (new k) (get_or (set rows (n - 1) (made (n - 1))) k None)) (get_or (set rows (n - 1) (made (n - 1))) k None)
+        → cond (has_number ns (k + 1)) (row_stood (new k) (get_or (set rows (n - 1) (made (n - 1))) k None)) (get_or (set rows (n - 1) (made (n - 1))) k None)
         ≡ cond (b || has_number ns (k + 1)) (made k) (get_or rows k None)
     by true is =
         let same : k + 1 ≡ n = eqb-true (k + 1) n is in
         let place : k ≡ n - 1 = omega (arith, same) in
         let here : get_or (set rows (n - 1) (made (n - 1))) k None ≡ made k =
         subst (λ (j : ℕ). get_or (set rows j (made j)) k None ≡ made k) place (get_or-set_same rows k (made k) None within) in
-        ap (λ r. cond (has_number ns (k + 1)) (row_standing (new k) r) r) here ∙ both (has_number ns (k + 1))
+        ap (λ r. cond (has_number ns (k + 1)) (row_stood (new k) r) r) here ∙ both (has_number ns (k + 1))
     by false is =
         let ne : (k + 1 ≡ n → ⊥) = eqb-false (k + 1) n is in
         let positive : 0 < n = above 0 (omega arith) in
-        ap (λ r. cond (has_number ns (k + 1)) (row_standing (new k) r) r) (get_or-set_other rows (n - 1) k (made (n - 1)) None (λ same. ne (omega (arith, same, positive))))
+        ap (λ r. cond (has_number ns (k + 1)) (row_stood (new k) r) r) (get_or-set_other rows (n - 1) k (made (n - 1)) None (λ same. ne (omega (arith, same, positive))))
 
 -- what holds of each entry and its row, where the row at each place is made of what stood there
 of_rows_places : (P Q : EntryValue → Row → Type 0) (f : Option EntryValue → Option Row → Option Row)
@@ -240,7 +239,7 @@ stored_anew parts test environment tags policy rows is =
 -- by standings that are put at the places, in another environment
 standing_row : (parts : Parts) (test : EntryValue → Bool) (environment : EnvironmentValue) (e : Option EntryValue) (r : Option Row)
     → OfBoth (IsJudged parts.environment parts.tags parts.names.policies.items) e r
-    → cond (passes test e) (row_standing (standing_of environment e) r) r ≡ anew test environment parts.tags (policy_at parts.names.policies.items) e r
+    → cond (passes test e) (row_stood (standing_of environment e) r) r ≡ anew test environment parts.tags (policy_at parts.names.policies.items) e r
 standing_row parts test environment None None h = refl
 standing_row parts test environment None (Some r) h = absurd h
 standing_row parts test environment (Some e) None h = absurd h
@@ -258,7 +257,7 @@ stood_anew parts test environment rows s is =
     subst (AreAnew parts test environment parts.tags (policy_at parts.names.policies.items)) (sym is) (
       stood_length (map (fresh_standing environment es) numbers) rs,
       λ k within. stood_at new numbers rs k within (λ i less. (all_stand test es numbers refl i less).0)
-          ∙ ap (λ b. cond b (row_standing (new k) (get_or rs k None)) (get_or rs k None)) (among_passing test (k + 1) 1 k es (omega arith))
+          ∙ ap (λ b. cond b (row_stood (new k) (get_or rs k None)) (get_or rs k None)) (among_passing test (k + 1) 1 k es (omega arith))
           ∙ standing_row parts test environment (get_or es k None) (get_or rs k None)
           (of_rows_at (IsJudged parts.environment parts.tags parts.names.policies.items) es rs k (get_or es k None) (get_or rs k None) s.judged refl refl),
     )
@@ -311,11 +310,11 @@ under_row known test environment tags policy (Some e) (Some r) h = by (test e)
     by true = h
     by false = h
 
-pub anew_under : (parts : Parts) (test : EntryValue → Bool) (environment : EnvironmentValue) (tags : List TagValue) (policy : ℕ → Policy) (rows : List (Option Row)) → IsSession parts
-    → AreAnew parts test environment tags policy rows → OfRows (IsUnder parts.conditions.known.items) parts.entries.items rows
-anew_under parts test environment tags policy rows s is =
-    let known = parts.conditions.known.items in
-    places_anew (IsUnder known) (IsUnder known) parts test environment tags policy rows (under_row known test environment tags policy) s.conditions is
+pub anew_numbered : (parts : Parts) (test : EntryValue → Bool) (environment : EnvironmentValue) (tags : List TagValue) (policy : ℕ → Policy) (rows : List (Option Row)) → IsSession parts
+    → AreAnew parts test environment tags policy rows → AreNumbered parts.conditions.count parts.entries.items rows
+anew_numbered parts test environment tags policy rows s is =
+    let known = s.conditions.0 in
+    (known, s.conditions.1, places_anew (IsUnder known) (IsUnder known) parts test environment tags policy rows (under_row known test environment tags policy) s.conditions.2 is)
 
 -- an entry that passes has the policy that it is judged under; one that doesn't keeps its verdict
 pub record Suffices (parts : Parts) (test : EntryValue → Bool) (environment : EnvironmentValue) (tags : List TagValue) (policies : List Policy) (policy : ℕ → Policy) : Type 0 where
@@ -513,7 +512,7 @@ pub policy_again : (parts : Parts) (two : Names) (name : List ℕ) (number : ℕ
     → ((q : List ℕ) → number_named two q ≡ number_named parts.names q) → two.policies.items ≡ set parts.names.policies.items number policy
     → rows ≡ stored (map (fresh_row parts.environment parts.tags (λ n. policy) parts.entries.items parts.rows.items) (list_at parts.names.members.items number)) parts.rows.items
     → OfRows (IsNamed two) parts.entries.items rows × OfRows (IsJudged parts.environment parts.tags two.policies.items) parts.entries.items rows
-    × OfRows (IsUnder parts.conditions.known.items) parts.entries.items rows
+    × AreNumbered parts.conditions.count parts.entries.items rows
 policy_again parts two name number policy rows s found numbers policies made =
     let test : EntryValue → Bool = λ entry. bytes_eq name entry.name in
     let is : AreAnew parts test parts.environment parts.tags (λ n. policy) rows =
@@ -522,5 +521,5 @@ policy_again parts two name number policy rows s found numbers policies made =
     let judged = anew_judged parts test parts.environment parts.tags (set parts.names.policies.items number policy) (λ n. policy) rows s (policy_suffices parts name number policy s found) is in (
       of_rows_weaker (IsNamed parts.names) (IsNamed two) (λ e r h. record { name = numbers e.name ∙ h.name; sources = h.sources }) parts.entries.items rows named,
       subst (λ (ps : List Policy). OfRows (IsJudged parts.environment parts.tags ps) parts.entries.items rows) (sym policies) judged,
-      anew_under parts test parts.environment parts.tags (λ n. policy) rows s is,
+      anew_numbered parts test parts.environment parts.tags (λ n. policy) rows s is,
     )

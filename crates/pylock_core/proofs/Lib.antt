@@ -1,5 +1,6 @@
 mod IndexLemmas
 mod ConditionLemmas
+mod FoundLemmas
 pub mod NameLemmas
 pub mod PassLemmas
 pub mod FateLemmas

@@ -3,6 +3,7 @@ pub mod Again
 pub mod Conditions
 pub mod Edits
 pub mod Fates
+pub mod Found
 pub mod Index
 pub mod Names
 pub mod Parts

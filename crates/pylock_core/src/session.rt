@@ -5,6 +5,7 @@ pub(crate) mod conditions;
 pub(crate) mod edits;
 pub(crate) mod entries;
 pub(crate) mod fates;
+pub(crate) mod found;
 pub(crate) mod index;
 pub(crate) mod judged;
 pub(crate) mod judgement;

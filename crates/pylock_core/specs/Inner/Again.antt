@@ -56,9 +56,9 @@ stored (fresh ∷ more) rows = stored more (slice_set rows fresh.0 fresh.1)
 -- ---- how entries stand
 
 -- the row of an entry that stands so, the rest of it kept
-abbrev pub row_standing : Standing → Option Row → Option Row
-row_standing standing None = None
-row_standing standing (Some row) = Some (record row {
+abbrev pub row_stood : Standing → Option Row → Option Row
+row_stood standing None = None
+row_stood standing (Some row) = Some (record row {
   verdict = record { standing = standing; best = row.verdict.best };
 })
 
@@ -83,7 +83,7 @@ abbrev pub stood : List (ℕ × Standing) → List (Option Row) → List (Option
 stood [] rows = rows
 stood (fresh ∷ more) rows =
     stood more
-    (slice_set rows fresh.0 (row_standing fresh.1 (slice_index_or rows fresh.0 None)))
+    (slice_set rows fresh.0 (row_stood fresh.1 (slice_index_or rows fresh.0 None)))
 
 -- ---- places
 

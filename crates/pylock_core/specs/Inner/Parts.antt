@@ -7,7 +7,7 @@ use Rattle.std.specs.declared.vec.Vec.{Vec}
 use Rattle.pymark_core.specs.Environment.{EnvironmentValue}
 use Rattle.pywheel_core.specs.Tag.{TagValue}
 use Rattle.pylock_readers.specs.Entry.{EntryValue}
-use Rattle.pylock_core.specs.Inner.Conditions.{IsUnder}
+use Rattle.pylock_core.specs.Inner.Conditions.{Condition, HasNumber, IsUnder}
 use Rattle.pylock_core.specs.Inner.Names.{IsNames, members_named, number_named, policies_in}
 use Rattle.pylock_core.specs.Inner.Names.{policy_at}
 use Rattle.pylock_core.specs.Inner.Rows.{in_rows}
@@ -106,6 +106,27 @@ IsIndex lists head entries =
 abbrev pub AreLiving : List ℕ → List (Option EntryValue) → Type 0
 AreLiving numbers entries = numbers ≡ numbers_where (λ entry. true) (in_rows 1 entries)
 
+-- ---- the numbers of conditions
+
+-- so many numbers were given, each to one condition, and each entry has the number of its own
+abbrev pub AreNumbered : ℕ → List (Option EntryValue) → List (Option Row) → Type 0
+AreNumbered count entries rows =
+    (known : List Condition) × (length known ≡ count) × OfRows (IsUnder known) entries rows
+
+-- and one more entry might have this number
+abbrev pub NumberFits : ℕ → List (Option EntryValue) → List (Option Row) → EntryValue → Option ℕ
+    → Type 0
+NumberFits count entries rows entry number =
+    (known : List Condition) × (length known ≡ count) × OfRows (IsUnder known) entries rows
+    × HasNumber known entry number
+
+-- and one more entry might have this row
+abbrev pub RowFits : ℕ → List (Option EntryValue) → List (Option Row) → Option EntryValue
+    → Option Row → Type 0
+RowFits count entries rows entry row =
+    (known : List Condition) × (length known ≡ count) × OfRows (IsUnder known) entries rows
+    × OfBoth (IsUnder known) entry row
+
 -- ---- the whole
 
 pub record IsSession (parts : Parts) : Type 0 where
@@ -119,5 +140,4 @@ pub record IsSession (parts : Parts) : Type 0 where
   pub index : IsIndex parts.index parts.head parts.entries.items
   pub living : AreLiving parts.living.items parts.entries.items
   pub sets : AreSets parts.sets parts.entries.items
-  pub conditions : OfRows (IsUnder parts.conditions.known.items) parts.entries.items
-      parts.rows.items
+  pub conditions : AreNumbered parts.conditions.count parts.entries.items parts.rows.items

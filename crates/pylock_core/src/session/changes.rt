@@ -4,7 +4,7 @@ ghost use Rattle.std.specs.Prelude.{◌≡◌, ◌++◌, Ok, Err, IfOk, IfErr, N
 ghost use Rattle.std.specs.Prelude.{◌<◌, true, false, length, slice_index_or, slice_set};
 ghost use Rattle.std.specs.Prelude.{unwrap_or};
 ghost use Rattle.pylock_core.specs.Inner.Again.{AllWithin, DifferAt, changed, edit_of, key_of};
-ghost use Rattle.pylock_core.specs.Inner.Again.{row_standing, stood, stored};
+ghost use Rattle.pylock_core.specs.Inner.Again.{row_stood, stood, stored};
 ghost use Rattle.pylock_core.specs.Inner.Edits.{Leaves};
 ghost use Rattle.pylock_core.specs.Inner.Parts.{IsSession, shown, state_of};
 ghost use Rattle.pylock_core.specs.Session.Judgement.{Marked, readers};
@@ -13,7 +13,6 @@ ghost use Rattle.pylock_core.specs.declared.edit.Edit.TheVariants as edit;
 ghost use Rattle.pylock_core.specs.declared.edit.EditError.TheVariants.{Memory, UnknownExtra};
 ghost use Rattle.pylock_core.specs.declared.edit.EditError.TheVariants.{UnknownGroup};
 
-use crate::answer::Standing;
 use crate::edit::{EditError, Policy};
 use crate::session::judged::Judged;
 use crate::session::judgement::{Fresh, FreshStanding, judge_key, judge_name, judge_tags};
@@ -21,7 +20,7 @@ use crate::session::names::{number_of, set_policy};
 use crate::session::parts::Parts;
 use crate::session::room::put_at;
 use crate::session::row::{Row, stand_row};
-use crate::session::verdict::HeadVerdict;
+use crate::session::verdict::{HeadVerdict, StandingAnew};
 use pymark_core::laws::marker_reads;
 use pymark_core::{Environment, Key, Var};
 use pyver_core::{Label, NormalName};
@@ -134,18 +133,18 @@ fn store_standings(rows: &mut Vec<Option<Row>>, fresh: Vec<FreshStanding>)
     requires { AllWithin (length rows.old.items) fresh.items }
     ensures { rows.new.items ≡ stood fresh.items rows.old.items }
 {
-    for (place, standing) in fresh {
-        stand_at(rows, place, standing);
+    for (place, anew) in fresh {
+        stand_at(rows, place, anew);
     }
 }
 
 /// Has the entry at this place stand so.
-fn stand_at(rows: &mut Vec<Option<Row>>, place: usize, standing: Standing)
+fn stand_at(rows: &mut Vec<Option<Row>>, place: usize, anew: StandingAnew)
     requires { place < length rows.old.items }
     ensures { rows.new.items ≡ slice_set rows.old.items place
-        (row_standing standing (slice_index_or rows.old.items place None)) }
+        (row_stood anew (slice_index_or rows.old.items place None)) }
 {
-    stand_row(&mut rows[place], standing);
+    stand_row(&mut rows[place], anew);
 }
 
 /// Puts the verdict, if there is one, in place of the one that was there.

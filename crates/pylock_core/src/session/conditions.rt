@@ -1,82 +1,137 @@
-//! The conditions of entries: a marker and a Python set, of which each may be absent. Equal ones
-//! have one number, so that each is judged once in an environment, whatever entries have it.
+//! The numbers of the conditions of entries. A condition is a marker and a Python set, of which each
+//! may be absent. Entries of one number have one condition, so that an edit judges it once, whatever
+//! entries have it.
+//!
+//! Nothing is kept of a condition but its number: that an entry which comes in has the condition of
+//! another is seen by a look at a few that came in before. Where it isn't seen, the entry gets a
+//! number of its own, and is judged for itself.
 
-ghost use Rattle.std.specs.Prelude.{◌≡◌, ◌⊎◌, ℕ, Option, Some, None, IfOk, IsTrue};
-ghost use Rattle.std.specs.Prelude.{slice_index_or};
+ghost use Rattle.std.specs.Prelude.{◌≡◌, ◌≤◌, IfOk, IfSome, IsTrue};
 ghost use Rattle.std.specs.Option.{option_copied};
-ghost use Rattle.pylock_core.specs.Inner.Conditions.{HasNumber, StayKnown, condition_of};
-ghost use Rattle.pylock_core.specs.Inner.Conditions.{found_under};
-ghost use Rattle.pylock_core.specs.declared.answer.Standing.{Standing};
+ghost use Rattle.pylock_core.specs.Inner.Conditions.{IsShared, condition_of};
+ghost use Rattle.pylock_core.specs.Inner.Parts.{AreNumbered, NumberFits};
 
-use crate::answer::Standing;
+use crate::session::row::Row;
 use crate::session::same::is_same_set;
 use pylock_readers::Entry;
 use pymark_core::Marker;
 use pyver_core::SpecifierSet;
 use std::alloc::{AllocError, Global};
-use std::collections::BTreeMap;
 
-/// How many conditions have a number. Entries that have others are judged one by one.
-const MOST_CONDITIONS: usize = 4_096;
+/// How many entries of a condition's places are looked at.
+const WAYS: usize = 4;
 
-/// How many bytes the texts of such a condition have at most, so that all that is kept stays small.
-const LONGEST_TEXTS: usize = 1_024;
+/// How many such groups of places there are.
+const GROUPS: u32 = 256;
 
-/// A marker and a Python set, where an entry has them.
-pub(crate) struct Condition {
-    pub(crate) marker: Option<Marker>,
-    pub(crate) python: Option<SpecifierSet>,
+/// The numbers that conditions have got.
+pub(crate) struct Conditions {
+    /// How many. None is given twice.
+    pub(crate) count: u32,
+    /// The numbers of entries that came in with a condition that wasn't seen before, in the group
+    /// of that condition; 0 where there is none.
+    pub(crate) recent: Vec<u32>,
 }
 
-impl Drop for Condition {
+impl Drop for Conditions {
     fn drop(self) {
-        let Condition {
-            marker: _,
-            python: _,
+        let Conditions {
+            count: _,
+            recent: _,
         } = self;
     }
 }
 
-impl Condition {
-    /// That of an entry.
-    fn of(entry: &Entry) -> Result<Condition, AllocError>
-        ensures { IfOk result (λ condition. condition ≡ condition_of entry.now) }
+impl Conditions {
+    /// None yet. It takes 4 kB.
+    pub(crate) fn none(alloc: Global) -> Result<Conditions, AllocError>
+        ensures { IfOk result (λ conditions. conditions.count ≡ 0) }
     {
-        Ok(Condition {
-            marker: copy_marker(entry.marker())?,
-            python: copy_set(entry.requires_python())?,
+        Ok(Conditions {
+            count: 0,
+            recent: vec![in alloc; 0; GROUPS as usize * WAYS]?,
         })
     }
-
-    /// Whether it is seen at once to be that of the entry. `false` says nothing.
-    fn is_of(&self, entry: &Entry) -> bool
-        ensures { IsTrue result → self.now ≡ condition_of entry.now }
-    {
-        is_same_marker(&self.marker, entry.marker())
-            && is_same_python(&self.python, entry.requires_python())
-    }
 }
 
-fn copy_marker(marker: Option<&Marker>) -> Result<Option<Marker>, AllocError>
-    ensures { IfOk result (λ copy. copy ≡ option_copied marker.entry) }
+/// The number of the condition of an entry that is to have this number: that of an entry that has
+/// the same condition, or a new one. It takes no memory. There is none once all are given.
+pub(crate) fn number_of_condition(
+    conditions: &mut Conditions,
+    entries: &[Option<Entry>],
+    rows: &[Option<Row>],
+    number: u32,
+    entry: &Entry,
+) -> Option<u32>
+    requires { AreNumbered conditions.old.count entries.now rows.now }
+    ensures { NumberFits conditions.new.count entries.now rows.now entry.now result }
 {
-    match marker {
-        Some(marker) => Ok(Some(marker.clone()?)),
-        None => Ok(None),
+    let group = group_of(entry);
+    if let Some(shared) = shared_number(conditions.recent.as_slice(), group, entries, rows, entry) {
+        return Some(shared);
+    }
+    let given = conditions.count;
+    conditions.count = given.checked_add(1)?;
+    keep_recent(&mut conditions.recent, group + given as usize % WAYS, number);
+    Some(given)
+}
+
+/// Keeps the number of an entry at a place, if that is one.
+fn keep_recent(recent: &mut Vec<u32>, place: usize, number: u32) {
+    if place < recent.len() {
+        recent[place] = number;
     }
 }
 
-fn copy_set(set: Option<&SpecifierSet>) -> Result<Option<SpecifierSet>, AllocError>
-    ensures { IfOk result (λ copy. copy ≡ option_copied set.entry) }
+/// The number of the condition of the entry, if it is seen to be that of one of its group.
+fn shared_number(
+    recent: &[u32],
+    group: usize,
+    entries: &[Option<Entry>],
+    rows: &[Option<Row>],
+    entry: &Entry,
+) -> Option<u32>
+    requires { group ≤ 1020 }
+    ensures { IfSome result (λ n. IsShared entries.now rows.now entry.now n) }
 {
-    match set {
-        Some(set) => Ok(Some(set.clone()?)),
-        None => Ok(None),
+    for way in 0..WAYS {
+        let number = *recent.get(group + way)?;
+        let shared = number_if_same(entries, rows, number, entry);
+        if shared.is_some() {
+            return shared;
+        }
     }
+    None
 }
 
-fn is_same_marker(one: &Option<Marker>, other: Option<&Marker>) -> bool
-    ensures { IsTrue result → one.now ≡ option_copied other.entry }
+/// The number of the condition of the entry, if the entry of this number stands and has the same.
+fn number_if_same(
+    entries: &[Option<Entry>],
+    rows: &[Option<Row>],
+    number: u32,
+    entry: &Entry,
+) -> Option<u32>
+    ensures { IfSome result (λ n. IsShared entries.now rows.now entry.now n) }
+{
+    let place = (number as usize).checked_sub(1)?;
+    let other = entries.get(place)?.as_ref()?;
+    let row = rows.get(place)?.as_ref()?;
+    if has_same_condition(other, entry) {
+        return row.condition;
+    }
+    None
+}
+
+/// Whether the entries are seen at once to have the same condition. `false` says nothing.
+fn has_same_condition(one: &Entry, other: &Entry) -> bool
+    ensures { IsTrue result → condition_of one.now ≡ condition_of other.now }
+{
+    is_same_marker(one.marker(), other.marker())
+        && is_same_python(one.requires_python(), other.requires_python())
+}
+
+fn is_same_marker(one: Option<&Marker>, other: Option<&Marker>) -> bool
+    ensures { IsTrue result → option_copied one.entry ≡ option_copied other.entry }
 {
     match (one, other) {
         (Some(one), Some(other)) => one.is_seen_same(other),
@@ -85,8 +140,8 @@ fn is_same_marker(one: &Option<Marker>, other: Option<&Marker>) -> bool
     }
 }
 
-fn is_same_python(one: &Option<SpecifierSet>, other: Option<&SpecifierSet>) -> bool
-    ensures { IsTrue result → one.now ≡ option_copied other.entry }
+fn is_same_python(one: Option<&SpecifierSet>, other: Option<&SpecifierSet>) -> bool
+    ensures { IsTrue result → option_copied one.entry ≡ option_copied other.entry }
 {
     match (one, other) {
         (Some(one), Some(other)) => is_same_set(one, other),
@@ -95,107 +150,26 @@ fn is_same_python(one: &Option<SpecifierSet>, other: Option<&SpecifierSet>) -> b
     }
 }
 
-/// The conditions that have a number: their place among those that are known.
-pub(crate) struct Conditions {
-    pub(crate) known: Vec<Condition>,
-    /// Where a condition of these texts may stand.
-    pub(crate) places: BTreeMap<String, u16>,
-}
-
-impl Drop for Conditions {
-    fn drop(self) {
-        let Conditions {
-            known: _,
-            places: _,
-        } = self;
-    }
-}
-
-impl Conditions {
-    /// None yet.
-    pub(crate) fn none(alloc: Global) -> Conditions {
-        Conditions {
-            known: Vec::new(alloc),
-            places: BTreeMap::new(alloc),
-        }
-    }
-
-    /// How many there are.
-    pub(crate) fn len(&self) -> usize {
-        self.known.len()
-    }
-}
-
-/// The texts of the condition of an entry.
-fn texts_of(alloc: Global, entry: &Entry) -> Result<String, AllocError> {
-    let python = match entry.requires_python() {
-        Some(set) => set.text(),
-        None => "",
-    };
+/// Where the group of the condition of an entry begins, by the texts that it was written in.
+fn group_of(entry: &Entry) -> usize
+    ensures { result ≤ 1020 }
+{
     let marker = match entry.marker() {
-        Some(marker) => marker.text(),
-        None => "",
+        Some(marker) => marker.slot(u32::MAX),
+        None => 0,
     };
-    let bytes = python.len().saturating_add(marker.len()).saturating_add(1);
-    let mut texts = String::with_capacity(alloc, bytes)?;
-    texts.push_str(python)?;
-    texts.push_str(";")?;
-    texts.push_str(marker)?;
-    Ok(texts)
+    let python = match entry.requires_python() {
+        Some(set) => mixed(set.text()),
+        None => 0,
+    };
+    (marker.wrapping_add(python) % GROUPS) as usize * WAYS
 }
 
-/// The number of the condition of an entry, which gets one here where it has none and there are
-/// few and its texts are short. Where there is no memory for it, each that has a number keeps it.
-pub(crate) fn number_of_condition(
-    alloc: Global,
-    conditions: &mut Conditions,
-    entry: &Entry,
-) -> Result<Option<u16>, AllocError>
-    ensures number { IfOk result (λ number.
-        HasNumber conditions.new.known.items entry.now number) }
-    ensures kept { StayKnown conditions.old.known.items conditions.new.known.items }
-{
-    let texts = texts_of(alloc, entry)?;
-    if let Some(place) = conditions.places.get(texts.as_str()) {
-        return Ok(number_at(&conditions.known, *place, entry));
+/// The bytes of the text, mixed.
+fn mixed(text: &str) -> u32 {
+    let mut mixed = 1u32;
+    for byte in text.as_bytes() {
+        mixed = mixed.wrapping_mul(31).wrapping_add(u32::from(*byte));
     }
-    let count = conditions.known.len();
-    if count >= MOST_CONDITIONS || texts.len() > LONGEST_TEXTS {
-        return Ok(None);
-    }
-    let number = count as u16;
-    let condition = Condition::of(entry)?;
-    conditions.known.push(condition)?;
-    conditions.places.insert(texts, number)?;
-    Ok(Some(number))
-}
-
-/// This number, if the condition that stands there is that of the entry.
-fn number_at(known: &[Condition], place: u16, entry: &Entry) -> Option<u16>
-    ensures { HasNumber known.now entry.now result }
-{
-    let condition = known.get(place as usize)?;
-    if condition.is_of(entry) {
-        return Some(place);
-    }
-    None
-}
-
-/// How entries of this number stand, if it was found.
-pub(crate) fn found_under(found: &[Option<Standing>], number: Option<u16>) -> Option<Standing>
-    ensures { result ≡ found_under found.now number }
-{
-    *found.get(number? as usize)?
-}
-
-/// Keeps in mind how entries of this number stand.
-pub(crate) fn keep_found(found: &mut Vec<Option<Standing>>, number: u16, standing: Standing)
-    ensures { (n : ℕ) (known : Standing) → slice_index_or found.new.items n None ≡ Some known
-        → (slice_index_or found.old.items n None ≡ Some known)
-        ⊎ ((n ≡ number) × (known ≡ standing)) }
-{
-    let place = number as usize;
-    if place < found.len() {
-        found[place] = Some(standing);
-    }
+    mixed
 }

@@ -4,11 +4,10 @@ ghost use Rattle.std.specs.Prelude.{◌≡◌, ◌⊎◌, ℕ, ◌+◌, ◌<◌,
 ghost use Rattle.std.specs.Prelude.{IfSome, IsSome, OnErr, OnOk, length, map, option_map};
 ghost use Rattle.std.specs.Prelude.{slice_index_or, slice_set, vec_capacity, vec_len};
 ghost use Rattle.std.specs.Option.{option_copied};
-ghost use Rattle.pylock_core.specs.Inner.Conditions.{IsUnder};
 ghost use Rattle.pylock_core.specs.Inner.Edits.{Leaves, Made};
 ghost use Rattle.pylock_core.specs.Inner.Index.{HaveRoom};
 ghost use Rattle.pylock_core.specs.Inner.Names.{HasRoom};
-ghost use Rattle.pylock_core.specs.Inner.Parts.{IsJudged, IsNamed, IsSession, OfBoth, shown};
+ghost use Rattle.pylock_core.specs.Inner.Parts.{IsJudged, IsNamed, IsSession, OfBoth, RowFits, shown};
 ghost use Rattle.pylock_core.specs.Inner.Parts.{sources_of, state_of};
 ghost use Rattle.pylock_core.specs.Inner.Rows.{in_rows, passes};
 ghost use Rattle.pylock_core.specs.Inner.TagSets.{AreNumbers, names_in, set_number};
@@ -80,7 +79,8 @@ fn make_row(
 ) -> Result<Row, AllocError>
     requires { IsSession parts.old }
     ensures named { IfOk result (λ row. IsNamed parts.new.names entry.now row) }
-    ensures under { IfOk result (λ row. IsUnder parts.new.conditions.known.items entry.now row) }
+    ensures fits { IfOk result (λ row. RowFits parts.new.conditions.count
+        parts.new.entries.items parts.new.rows.items (Some entry.now) (Some row)) }
     ensures judged { IfOk result (λ row. IsJudged
         parts.new.environment parts.new.tags parts.new.names.policies.items entry.now row) }
     ensures count { OnOk result (judged.new ≡ judged.old ++ number ∷ []) }
@@ -89,7 +89,13 @@ fn make_row(
     ensures entries { parts.new.entries.items ≡ parts.old.entries.items }
     ensures sets { parts.new.sets ≡ parts.old.sets }
 {
-    let condition = number_of_condition(parts.alloc, &mut parts.conditions, entry)?;
+    let condition = number_of_condition(
+        &mut parts.conditions,
+        parts.entries.as_slice(),
+        parts.rows.as_slice(),
+        number,
+        entry,
+    );
     let name = number_of(parts.alloc, &mut parts.names, entry.name())?;
     let verdict = Verdict::new(parts, number, entry, parts.names.policies[name], judged)?;
     Ok(Row {
@@ -110,7 +116,8 @@ fn prepare(
 ) -> Result<Row, AllocError>
     requires { IsSession parts.old }
     ensures named { IfOk result (λ row. IsNamed parts.new.names entry.now row) }
-    ensures under { IfOk result (λ row. IsUnder parts.new.conditions.known.items entry.now row) }
+    ensures fits { IfOk result (λ row. RowFits parts.new.conditions.count
+        parts.new.entries.items parts.new.rows.items (Some entry.now) (Some row)) }
     ensures judged { IfOk result (λ row. IsJudged
         parts.new.environment parts.new.tags parts.new.names.policies.items entry.now row) }
     ensures index { OnOk result
@@ -150,7 +157,8 @@ fn write_at(
     requires session { IsSession parts.old }
     requires within { place < length parts.old.entries.items }
     requires named { OfBoth (IsNamed parts.old.names) entry row }
-    requires under { OfBoth (IsUnder parts.old.conditions.known.items) entry row }
+    requires fits { RowFits parts.old.conditions.count parts.old.entries.items
+        parts.old.rows.items entry row }
     requires judged { OfBoth
         (IsJudged parts.old.environment parts.old.tags parts.old.names.policies.items) entry row }
     requires sets { AreNumbers (set_number parts.old.sets) (names_in entry) sets.items }

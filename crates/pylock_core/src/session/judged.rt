@@ -64,14 +64,6 @@ impl Judged {
         Ok(())
     }
 
-    /// Tells these numbers too.
-    pub(crate) fn extend(&mut self, numbers: &[u32]) -> Result<(), AllocError>
-        ensures { OnOk result (self.new ≡ self.old ++ numbers.now) }
-    {
-        self.numbers.extend_from_slice(numbers)?;
-        Ok(())
-    }
-
     /// The numbers.
     pub(crate) fn as_slice(&self) -> &[u32]
         ensures { result.now ≡ self.now }

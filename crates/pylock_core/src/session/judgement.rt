@@ -5,8 +5,7 @@ ghost use Rattle.std.specs.Prelude.{IsSome, OnOk, length, map, slice_index_or};
 ghost use Rattle.std.specs.Prelude.{if◌then◌else◌};
 ghost use Rattle.pylock_core.specs.Inner.Again.{AllStand, after_head, fresh_row, has_head};
 ghost use Rattle.pylock_core.specs.Inner.Again.{fresh_standing, row_anew, rows_anew};
-ghost use Rattle.pylock_core.specs.Inner.Again.{standing_of, standings_anew};
-ghost use Rattle.pylock_core.specs.Inner.Conditions.{AreFound, number_in};
+ghost use Rattle.pylock_core.specs.Inner.Again.{standings_anew};
 ghost use Rattle.pylock_core.specs.Inner.Index.{list_at};
 ghost use Rattle.pylock_core.specs.Inner.Names.{policy_at};
 ghost use Rattle.pylock_core.specs.Inner.Parts.{IsJudged, IsSession, OfBoth, state_of};
@@ -15,14 +14,13 @@ ghost use Rattle.pylock_core.specs.Session.Judgement.{Marked, OfTags, entry_read
 ghost use Rattle.pylock_core.specs.Session.Judgement.{readers};
 ghost use Rattle.pylock_core.specs.Session.Steps.{head_fault};
 
-use crate::answer::Standing;
 use crate::edit::Policy;
-use crate::session::conditions::{found_under, keep_found};
+use crate::session::found::nothing_found;
 use crate::session::judged::Judged;
 use crate::session::parts::Parts;
 use crate::session::ranks::Ranks;
 use crate::session::row::Row;
-use crate::session::verdict::{HeadVerdict, standing_of};
+use crate::session::verdict::{HeadVerdict, StandingAnew};
 use pylock_readers::Entry;
 use pymark_core::{Environment, Key};
 use pywheel_core::TagList;
@@ -35,7 +33,7 @@ const TAGS: usize = 13;
 pub(crate) type Fresh = (usize, Option<Row>);
 
 /// How an entry stands that was judged again, with its place.
-pub(crate) type FreshStanding = (usize, Standing);
+pub(crate) type FreshStanding = (usize, StandingAnew);
 
 /// The row of the entry of this number, judged again under this policy.
 fn judged_row(
@@ -97,39 +95,6 @@ fn again(
     Ok(fresh)
 }
 
-/// The number of the condition of a row.
-fn number_in(row: &Option<Row>) -> Option<u16>
-    ensures { result ≡ number_in row.now }
-{
-    row.as_ref()?.condition
-}
-
-/// How the entry at this place stands in the environment. It is judged only where it isn't found
-/// yet how entries of its number stand.
-fn standing_at(
-    parts: &Parts,
-    environment: &Environment,
-    place: usize,
-    found: &mut Vec<Option<Standing>>,
-) -> Result<Standing, AllocError>
-    requires session { IsSession parts.now }
-    requires stands { IsSome (slice_index_or parts.now.entries.items place None) }
-    requires found { AreFound parts.now.conditions.known.items environment.now found.old.items }
-    ensures standing { IfOk result (λ standing. standing
-        ≡ standing_of environment.now (slice_index_or parts.now.entries.items place None)) }
-    ensures found { AreFound parts.now.conditions.known.items environment.now found.new.items }
-{
-    let number = number_in(&parts.rows[place]);
-    if let Some(standing) = found_under(found, number) {
-        return Ok(standing);
-    }
-    let standing = standing_of(parts.alloc, &parts.entries[place], environment)?;
-    if let Some(number) = number {
-        keep_found(found, number, standing);
-    }
-    Ok(standing)
-}
-
 /// How the entries of these numbers stand in the environment.
 fn standings(
     parts: &Parts,
@@ -144,21 +109,13 @@ fn standings(
     ensures judged { OnOk result (judged.new ≡ judged.old ++ numbers.now) }
 {
     let mut fresh = Vec::with_capacity(parts.alloc, numbers.len())?;
-    judged.extend(numbers)?;
-    let mut found = nothing_found(parts)?;
+    judged.reserve(numbers.len())?;
+    let mut found = nothing_found(parts.alloc, numbers.len())?;
     for number in numbers {
-        let place = *number as usize - 1;
-        let standing = standing_at(parts, environment, place, &mut found)?;
-        fresh.push((place, standing))?;
+        let standing = StandingAnew::new(parts, environment, *number, &mut found, judged)?;
+        fresh.push((*number as usize - 1, standing))?;
     }
     Ok(fresh)
-}
-
-/// Nothing yet, of each condition that has a number.
-fn nothing_found(parts: &Parts) -> Result<Vec<Option<Standing>>, AllocError>
-    ensures { IfOk result (λ found. (n : ℕ) → slice_index_or found.items n None ≡ None) }
-{
-    Ok(vec![in parts.alloc; None; parts.conditions.len()]?)
 }
 
 /// Whether the number of the head stands before these.

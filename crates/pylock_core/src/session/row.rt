@@ -1,12 +1,12 @@
 //! What an answer looks at: one small flat row for each entry.
 
 ghost use Rattle.std.specs.Prelude.{◌≡◌};
-ghost use Rattle.pylock_core.specs.Inner.Again.{row_standing};
+ghost use Rattle.pylock_core.specs.Inner.Again.{row_stood};
 ghost use Rattle.pylock_core.specs.Inner.Pass.{conflict_among, row_source};
 
-use crate::answer::{PickSource, Standing};
+use crate::answer::PickSource;
 use crate::edit::Policy;
-use crate::session::verdict::Verdict;
+use crate::session::verdict::{StandingAnew, Verdict};
 
 /// Which kinds of sources an entry has.
 #[derive(Clone, Copy)]
@@ -37,7 +37,7 @@ impl SourceKinds {
 pub(crate) struct Row {
     pub(crate) verdict: Verdict,
     pub(crate) name: usize,
-    pub(crate) condition: Option<u16>,
+    pub(crate) condition: Option<u32>,
     pub(crate) sources: SourceKinds,
 }
 
@@ -66,10 +66,10 @@ impl Row {
 }
 
 /// Has the entry of the row, if there is one, stand so.
-pub(crate) fn stand_row(row: &mut Option<Row>, standing: Standing)
-    ensures { row.new ≡ row_standing standing row.old }
+pub(crate) fn stand_row(row: &mut Option<Row>, anew: StandingAnew)
+    ensures { row.new ≡ row_stood anew row.old }
 {
     if let Some(row) = row {
-        row.verdict.stand(standing);
+        row.verdict.stand(anew);
     }
 }

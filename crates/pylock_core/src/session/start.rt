@@ -47,6 +47,7 @@ pub(crate) fn without_entries(
     let sets = TagSets::with_capacity(alloc, room)?;
     let entries = Vec::with_capacity(alloc, room)?;
     let index = head_index(alloc, &head)?;
+    let conditions = Conditions::none(alloc)?;
     Ok(Parts {
         alloc,
         judged,
@@ -55,7 +56,7 @@ pub(crate) fn without_entries(
         rows,
         names,
         sets,
-        conditions: Conditions::none(alloc),
+        conditions,
         head,
         head_verdict,
         environment,

@@ -1,9 +1,10 @@
 //! Verdicts on entries and on the head, which a session keeps. They are made here alone.
 
 ghost use Rattle.std.specs.Prelude.{◌≡◌, ◌<◌, ◌-◌, ◌++◌, ◌∷◌, [], None, IfOk, OnOk, length};
-ghost use Rattle.std.specs.Prelude.{slice_index_or};
+ghost use Rattle.std.specs.Prelude.{IsSome, slice_index_or};
 ghost use Rattle.std.specs.Option.{option_copied};
 ghost use Rattle.pylock_core.specs.Inner.Again.{standing_of};
+ghost use Rattle.pylock_core.specs.Inner.Found.{AreFound, number_in};
 ghost use Rattle.pylock_core.specs.Inner.Parts.{IsSession};
 ghost use Rattle.pylock_core.specs.Inner.TagSets.{AreRanks, best_under, names_in};
 ghost use Rattle.pylock_core.specs.Session.Judgement.{verdict_of};
@@ -15,9 +16,11 @@ ghost use Rattle.pylock_core.specs.declared.answer.Standing.TheVariants.{Skipped
 
 use crate::answer::{FaultCode, Standing};
 use crate::edit::Policy;
+use crate::session::found::{Found, found_under, keep_found};
 use crate::session::judged::Judged;
 use crate::session::parts::Parts;
 use crate::session::ranks::{Ranks, chosen_wheel};
+use crate::session::row::Row;
 use pylock_readers::{Entry, Head};
 use pymark_core::{Environment, EvalFault, Marker, Var};
 use pyver_core::SpecifierSet;
@@ -39,6 +42,22 @@ impl Model for Verdict {
     ghost Value = { VerdictValue };
 
     ghost view = { λ v. record { standing = v.standing; best = v.best } };
+}
+
+/// How an entry stands that was judged again.
+///
+/// Nothing else changes how an entry stands in a verdict that is kept, and it is used once.
+#[derive(Drop)]
+pub(crate) struct StandingAnew {
+    standing: Standing,
+}
+
+impl Model for StandingAnew {
+    ghost use Rattle.pylock_core.specs.declared.answer.Standing.{Standing};
+
+    ghost Value = { Standing };
+
+    ghost view = { λ s. s.standing };
 }
 
 /// The verdict on the head: its fault or none.
@@ -77,10 +96,10 @@ impl Verdict {
     }
 
     /// Has the entry stand so, and keeps its best wheel.
-    pub(crate) fn stand(&mut self, standing: Standing)
-        ensures { self.new ≡ record { standing = standing; best = self.old.best } }
+    pub(crate) fn stand(&mut self, anew: StandingAnew)
+        ensures { self.new ≡ record { standing = anew; best = self.old.best } }
     {
-        self.standing = standing;
+        self.standing = anew.standing;
     }
 
     /// Judges again which wheel of the entry of this number is the best, and keeps how the entry
@@ -151,6 +170,51 @@ impl Verdict {
     }
 }
 
+impl StandingAnew {
+    /// Judges again how the entry of this number stands, in this environment. Where it was found
+    /// already how entries of its condition stand, that is taken; else it is found here. The number
+    /// goes onto the list in either case.
+    pub(crate) fn new(
+        parts: &Parts,
+        environment: &Environment,
+        number: u32,
+        found: &mut Vec<Option<Found>>,
+        judged: &mut Judged,
+    ) -> Result<StandingAnew, AllocError>
+        requires session { IsSession parts.now }
+        requires above { 0 < number }
+        requires stands { IsSome (slice_index_or parts.now.entries.items (number - 1) None) }
+        requires found { AreFound parts.now.entries.items parts.now.rows.items environment.now
+            found.old.items }
+        ensures standing { IfOk result (λ anew. anew ≡ standing_of environment.now
+            (slice_index_or parts.now.entries.items (number - 1) None)) }
+        ensures judged { OnOk result (judged.new ≡ judged.old ++ number ∷ []) }
+        ensures found { AreFound parts.now.entries.items parts.now.rows.items environment.now
+            found.new.items }
+    {
+        judged.push(number)?;
+        let place = number as usize - 1;
+        let entry = &parts.entries[place];
+        let Some(condition) = number_in(&parts.rows[place]) else {
+            let standing = standing_of(parts.alloc, entry, environment)?;
+            return Ok(StandingAnew { standing });
+        };
+        if let Some(standing) = found_under(found, condition) {
+            return Ok(StandingAnew { standing });
+        }
+        let standing = standing_of(parts.alloc, entry, environment)?;
+        keep_found(found, condition, standing);
+        Ok(StandingAnew { standing })
+    }
+}
+
+/// The number of the condition of a row.
+fn number_in(row: &Option<Row>) -> Option<u32>
+    ensures { result ≡ number_in row.now }
+{
+    row.as_ref()?.condition
+}
+
 impl HeadVerdict {
     /// Judges the head, whose number is 0. The number goes onto the list.
     pub(crate) fn new(
@@ -197,7 +261,7 @@ fn standing(alloc: Global, entry: &Entry, environment: &Environment) -> Result<S
 }
 
 /// How the entry at a place stands in the environment; where there is none it makes no difference.
-pub(crate) fn standing_of(
+fn standing_of(
     alloc: Global,
     entry: &Option<Entry>,
     environment: &Environment,

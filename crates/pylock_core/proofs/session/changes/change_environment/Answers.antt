@@ -2,7 +2,7 @@ use Rattle.std.proofs.Common.{◌∙◌, unwrap_or, ap}
 use Rattle.pylock_core.specs.Inner.Again.{stood}
 use Rattle.pylock_core.specs.Inner.Names.{policy_at}
 use Rattle.pylock_core.specs.Session.Judgement.{Marked, entry_reads}
-use Rattle.pylock_core.proofs.AgainLemmas.{anew_judged, anew_named, anew_under, environment_suffices, head_suffices, stood_anew, stood_within}
+use Rattle.pylock_core.proofs.AgainLemmas.{anew_judged, anew_named, anew_numbered, environment_suffices, head_suffices, stood_anew, stood_within}
 use Rattle.pylock_core.proofs.session.changes.change_environment.Goals as goal
 
 pub store_standings-requires : goal.store_standings-requires
@@ -28,5 +28,5 @@ returns-clause-session c =
       index = s.index;
       living = s.living;
       sets = s.sets;
-      conditions = anew_under p test c.args.environment p.tags (policy_at policies) rows s is;
+      conditions = anew_numbered p test c.args.environment p.tags (policy_at policies) rows s is;
     }

@@ -2,7 +2,7 @@ use Rattle.std.proofs.Common.{◌∙◌, ap}
 use Rattle.pylock_core.specs.Inner.Again.{stored}
 use Rattle.pylock_core.specs.Inner.Names.{policy_at}
 use Rattle.pylock_core.specs.Session.Judgement.{OfTags, entry_reads}
-use Rattle.pylock_core.proofs.AgainLemmas.{anew_judged, anew_named, anew_under, anew_within, stored_anew, tags_suffice}
+use Rattle.pylock_core.proofs.AgainLemmas.{anew_judged, anew_named, anew_numbered, anew_within, stored_anew, tags_suffice}
 use Rattle.pylock_core.proofs.session.changes.set_tags.Goals as goal
 
 pub store-requires : goal.store-requires
@@ -27,5 +27,5 @@ returns-clause-session c =
       index = s.index;
       living = s.living;
       sets = s.sets;
-      conditions = anew_under p test p.environment c.args.tags (policy_at policies) c.store.new.rows.items s is;
+      conditions = anew_numbered p test p.environment c.args.tags (policy_at policies) c.store.new.rows.items s is;
     }

@@ -1,11 +1,11 @@
 use Rattle.std.proofs.Common.{◌≡◌, ◌+◌, ◌∙◌, ◌<◌, ◌++◌, ◌∷◌, [], Some, None, Ok, length, set, refl, ap, sym, subst, arith}
 use Rattle.std.proofs.lemmas.List.{length-set}
-use Rattle.pylock_core.specs.Inner.Conditions.{IsUnder}
 use Rattle.pylock_core.specs.Inner.Parts.{AreLiving, AreMembers, IsIndex, IsJudged, IsNamed, state_of}
 use Rattle.pylock_readers.specs.Entry.{wheel_names}
 use Rattle.pylock_core.specs.Inner.Rows.{in_rows}
 use Rattle.pylock_core.specs.Inner.TagSets.{AreNumbers, AreSets, set_number}
 use Rattle.pylock_core.specs.Session.State.{State, with_next}
+use Rattle.pylock_core.proofs.ConditionLemmas.{fits_wider, numbered_wider}
 use Rattle.pylock_core.proofs.NameLemmas.{length_more}
 use Rattle.pylock_core.proofs.SessionLemmas.{next_state}
 use Rattle.pylock_core.proofs.TagSetLemmas.{session_sets, sets_wider}
@@ -32,8 +32,15 @@ write_at-requires-clause-session c =
       sets = subst (AreSets (record p.sets { of_entries = c.push_within-3.new.items })) (sym entries)
           (sets_wider p.sets c.push_within-3.new.items c.new.result p.entries.items s.sets
           (c.push_within-3.ensures.items ∙ ap (λ ls. ls ++ c.new.result ∷ []) c.in_ok-reserve-4.ensures.items) c.new.ensures.items);
-      conditions = rw (entries, rows) (of_rows_wider (IsUnder p.conditions.known.items) p.entries.items p.rows.items s.conditions);
+      conditions = rw (entries, rows) (numbered_wider p.conditions.count p.entries.items p.rows.items s.conditions);
     }
+
+pub write_at-requires-clause-fits : goal.write_at-requires-clause-fits
+write_at-requires-clause-fits c =
+    let p = c.prepare.new.parts in
+    let entries = c.push_within-2.ensures.items ∙ ap (λ es. es ++ None ∷ []) c.in_ok-reserve.ensures.items in
+    let rows = c.push_within.ensures.items ∙ ap (λ rs. rs ++ None ∷ []) c.in_ok-reserve-2.ensures.items in
+    rw (entries, rows) (fits_wider p.conditions.count p.entries.items p.rows.items (Some c.args.entry) (Some c.in_ok-row.row) c.in_ok-row.ensures.fits)
 
 pub write_at-requires-clause-sets : goal.write_at-requires-clause-sets
 write_at-requires-clause-sets c =

@@ -1,15 +1,15 @@
 use Rattle.pylock_core.specs.Inner.Parts.{IsSession}
-use Rattle.pylock_core.proofs.ConditionLemmas.{session_conditions}
+use Rattle.pylock_core.proofs.ConditionLemmas.{fits_are, session_conditions}
 use Rattle.pylock_core.proofs.SessionLemmas.{session_kept}
 use Rattle.pylock_core.proofs.session.entries.make_row.Goals as goal
 use Rattle.pylock_core.proofs.session.entries.make_row.Goals.{After-number_of_condition}
 
 -- the session where the condition has a number
 numbered : (c : After-number_of_condition) → IsSession (record c.args.parts.now { conditions = c.number_of_condition.new.conditions })
-numbered c = session_conditions c.args.parts.now c.number_of_condition.new.conditions c.number_of_condition.ensures.kept c.requires
-
-pub returns-in_err-condition-clause-session : goal.returns-in_err-condition-clause-session
-returns-in_err-condition-clause-session c = numbered (goal.at.returns-in_err-condition-clause-session c).After-number_of_condition
+numbered c =
+    let p = c.args.parts.now in
+    session_conditions p c.number_of_condition.new.conditions
+    (fits_are c.number_of_condition.new.conditions.count p.entries.items p.rows.items c.args.entry.now c.number_of_condition-condition.result c.number_of_condition.ensures) c.requires
 
 pub returns-in_err-name-clause-session : goal.returns-in_err-name-clause-session
 returns-in_err-name-clause-session c = session_kept _ c.number_of.new.names c.in_err-name.ensures.kept (numbered (goal.at.returns-in_err-name-clause-session c).After-number_of_condition)

@@ -3,10 +3,10 @@ use Rattle.std.proofs.lemmas.List.{length-set}
 use Rattle.pylock_core.specs.Inner.Index.{HaveRoom, list_at, moved}
 use Rattle.pylock_core.specs.Session.State.{Rises}
 use Rattle.pylock_core.specs.Inner.Names.{HasRoom, is_at}
-use Rattle.pylock_core.specs.Inner.Conditions.{IsUnder}
 use Rattle.pylock_core.specs.Inner.Parts.{AreLiving, AreMembers, IsIndex, IsJudged, IsNamed, state_of}
 use Rattle.pylock_core.specs.Inner.Rows.{in_rows}
 use Rattle.pylock_core.specs.Inner.TagSets.{AreSets}
+use Rattle.pylock_core.proofs.ConditionLemmas.{row_numbered}
 use Rattle.pylock_core.proofs.SessionLemmas.{of_rows_set, session_even}
 use Rattle.pylock_core.proofs.WriteLemmas.{both_at, both_named_as, index_rises, index_written, living_rises, living_written, members_written, old_at, row_below, row_name, row_rises, row_room, rows_named_as}
 use Rattle.pylock_core.proofs.TagSetLemmas.{sets_written}
@@ -73,7 +73,7 @@ returns-clause-session c =
       living = subst (AreLiving c.change.new.numbers.items) (sym c.put_at-2.ensures) (living_written p.living.items c.change.new.numbers.items p.entries.items place (place + 1) c.is_some-stood.result c.is_some.result c.args.entry
           s.living (ap is_some (sym (old_at p.entries.items place c.index-3.result.now c.requires.within c.index-3.ensures)) ∙ sym c.is_some-stood.ensures) (sym c.is_some.ensures) (omega arith) c.requires.within c.change.ensures);
       sets = subst (AreSets _) (sym c.put_at-2.ensures) (sets_written p.sets c.put_at-3.new.items c.args.sets p.entries.items place c.args.entry s.sets c.requires.within c.requires.sets c.put_at-3.ensures);
-      conditions = rw (c.put_at-2.ensures, c.put_at.ensures) (of_rows_set (IsUnder p.conditions.known.items) p.entries.items p.rows.items place c.args.entry c.args.row s.conditions c.requires.under);
+      conditions = rw (c.put_at-2.ensures, c.put_at.ensures) (row_numbered p.conditions.count p.entries.items p.rows.items place c.args.entry c.args.row c.requires.fits);
     }
 
 pub returns-clause-state : goal.returns-clause-state

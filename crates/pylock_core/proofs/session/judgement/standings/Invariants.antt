@@ -1,6 +1,6 @@
 use Rattle.std.proofs.Common.{◌≡◌, ◌++◌, drop, map}
 use Rattle.pylock_core.specs.Inner.Again.{fresh_standing}
-use Rattle.pylock_core.specs.Inner.Conditions.{AreFound}
+use Rattle.pylock_core.specs.Inner.Found.{AreFound}
 use Rattle.pylock_core.proofs.session.judgement.standings.Given as goal
 
 -- the standings so far, and those of the numbers that are left
@@ -9,5 +9,6 @@ invariant-loop-number l =
     let anew = fresh_standing l.environment l.parts.entries.items in
     record {
       fresh : l.fresh.items ++ map anew (drop l.number-index l.numbers) ≡ map anew l.numbers;
-      found : AreFound l.parts.conditions.known.items l.environment l.found.items;
+      judged : l.judged ++ drop l.number-index l.numbers ≡ l.fn.judged ++ l.numbers;
+      found : AreFound l.parts.entries.items l.parts.rows.items l.environment l.found.items;
     }

@@ -1,0 +1,69 @@
+//! What an edit has found so far of how entries stand, by the numbers of their conditions.
+
+ghost use Rattle.std.specs.Prelude.{◌≡◌, ◌⊎◌, ℕ, Option, Some, None, IfOk, IfSome};
+ghost use Rattle.std.specs.Prelude.{slice_index_or};
+ghost use Rattle.pylock_core.specs.Inner.Found.{IsFound};
+ghost use Rattle.pylock_core.specs.declared.session.found.Found.{Found};
+
+use crate::answer::Standing;
+use std::alloc::{AllocError, Global};
+
+/// How entries of a number stand.
+#[derive(Clone, Copy)]
+pub(crate) struct Found {
+    pub(crate) number: u32,
+    pub(crate) standing: Standing,
+}
+
+/// Fewer entries than these are judged one by one.
+const FEW: usize = 16;
+
+/// The least power of two that isn't less has no more bits than this: so many are kept at the most.
+const MOST: u32 = 10;
+
+/// Nothing yet, where so many entries are judged. What is found of a number has one place, which it
+/// shares with others. It takes no memory for few entries, and no more than 16 bytes for each.
+pub(crate) fn nothing_found(
+    alloc: Global,
+    entries: usize,
+) -> Result<Vec<Option<Found>>, AllocError>
+    ensures { IfOk result (λ found. (place : ℕ) → slice_index_or found.items place None ≡ None) }
+{
+    Ok(vec![in alloc; None; room_for(entries)]?)
+}
+
+/// How many numbers there is a place for: a power of two, no more than there are entries.
+fn room_for(entries: usize) -> usize {
+    if entries < FEW {
+        return 0;
+    }
+    1 << (usize::BITS - 1 - entries.leading_zeros()).min(MOST)
+}
+
+/// The place of what is found of a number, among so many.
+fn place_of(number: u32, room: usize) -> usize {
+    number as usize & room.saturating_sub(1)
+}
+
+/// How entries of this number stand, if it was found and is still kept.
+pub(crate) fn found_under(found: &[Option<Found>], number: u32) -> Option<Standing>
+    ensures { IfSome result (λ standing. IsFound found.now number standing) }
+{
+    let kept = (*found.get(place_of(number, found.len()))?)?;
+    if kept.number == number {
+        return Some(kept.standing);
+    }
+    None
+}
+
+/// Keeps how entries of this number stand, in place of what was found of another.
+pub(crate) fn keep_found(found: &mut Vec<Option<Found>>, number: u32, standing: Standing)
+    ensures { (place : ℕ) (kept : Found) → slice_index_or found.new.items place None ≡ Some kept
+        → (slice_index_or found.old.items place None ≡ Some kept)
+        ⊎ (kept ≡ record { number = number; standing = standing }) }
+{
+    let place = place_of(number, found.len());
+    if place < found.len() {
+        found[place] = Some(Found { number, standing });
+    }
+}
