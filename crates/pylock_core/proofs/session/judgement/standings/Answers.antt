@@ -15,11 +15,11 @@ loop-number-init c =
       found = none_found p.entries.items p.rows.items c.args.environment.now c.in_ok-found.found.items c.in_ok-found.ensures;
     }
 
-pub StandingAnew-new-requires-clause-above : goal.StandingAnew-new-requires-clause-above
-StandingAnew-new-requires-clause-above c = (c.requires.stand c.loop-number.number-index c.loop-number-test.true).0
+pub new-requires-clause-above : goal.new-requires-clause-above
+new-requires-clause-above c = (c.requires.stand c.loop-number.number-index c.loop-number-test.true).0
 
-pub StandingAnew-new-requires-clause-stands : goal.StandingAnew-new-requires-clause-stands
-StandingAnew-new-requires-clause-stands c = (c.requires.stand c.loop-number.number-index c.loop-number-test.true).1
+pub new-requires-clause-stands : goal.new-requires-clause-stands
+new-requires-clause-stands c = (c.requires.stand c.loop-number.number-index c.loop-number-test.true).1
 
 pub loop-number-preserved : goal.loop-number-preserved
 loop-number-preserved c =
