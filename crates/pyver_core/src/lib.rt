@@ -1,7 +1,7 @@
 //! Versions, specifier sets and names of Python packages: PEP 440 and PEP 503.
 //!
 //! It is for whoever compares versions, asks whether a set such as `>=1.0,<2` admits one, or needs
-//! the normal form of a version or a name. It stands on `pytext` and `thiserror`.
+//! the normal form of a version or a name. It stands on `pytext`, `itoa` and `thiserror`.
 //!
 //! Begin with [`Version::parse`] and [`SpecifierSet::parse`]. Versions are compared by `<` and
 //! `==`, [`SpecifierSet::admits`] answers for a set, and neither takes memory. [`normal_name`] is
