@@ -12,3 +12,4 @@ pub mod Plain
 pub mod PlainOperand
 pub mod Releases
 pub mod SpecifierDraft
+pub mod Tails

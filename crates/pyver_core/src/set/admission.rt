@@ -2,14 +2,13 @@
 
 ghost use Rattle.std.specs.Prelude.{◌≡◌, ◌==◌, length, nat_eq};
 ghost use Rattle.std.specs.List.{list_all, starts_with};
-ghost use Rattle.pyver_core.specs.Inner.PartsRef.{parts_of};
-ghost use Rattle.pyver_core.specs.Version.Order.{is_same, with_zeros};
+ghost use Rattle.pyver_core.specs.Version.Order.{with_zeros};
 ghost use Rattle.pyver_core.specs.Set.Admission.{admits, has_base_of, has_local, is_above};
 ghost use Rattle.pyver_core.specs.Set.Admission.{is_at_least, is_at_most, is_below, is_compatible};
 ghost use Rattle.pyver_core.specs.Set.Admission.{matches, matches_prefix};
 
 use crate::set::Specifier;
-use crate::version::{PartsRef, Version, compare, compare_public, compare_to_public};
+use crate::version::{Version, compare_fronts, compare_public, compare_to_public};
 
 impl Specifier {
     /// Whether the specifier admits the version. It takes no memory.
@@ -33,12 +32,6 @@ impl Specifier {
             Specifier::Arbitrary(text) => version.text().eq_ignore_ascii_case(text.as_str()),
         }
     }
-}
-
-fn is_same(left: &PartsRef<'_>, right: &PartsRef<'_>) -> bool
-    ensures { result ≡ is_same (parts_of left.now) (parts_of right.now) }
-{
-    compare(left, right).is_eq()
 }
 
 fn has_local(version: &Version) -> bool
@@ -81,13 +74,12 @@ fn is_zeros(numbers: &[u128]) -> bool
     numbers.iter().all(|number| *number == 0)
 }
 
+/// Whether the base releases are the same version: they have nothing behind the release.
+#[tactic(auto, using(crate::proofs::Lemmas::Version::Fronts::fronts_of_bases))]
 fn has_base_of(operand: &Version, version: &Version) -> bool
     ensures { result ≡ has_base_of operand.now version.now }
 {
-    is_same(
-        &version.parts().base_release(),
-        &operand.parts().base_release(),
-    )
+    compare_fronts(version, operand).is_eq()
 }
 
 fn is_at_most(operand: &Version, version: &Version) -> bool

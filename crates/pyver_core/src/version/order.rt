@@ -5,6 +5,7 @@ ghost use Rattle.std.specs.Cmp.{eq_by_cmp_equiv, partial_equiv_from_equiv};
 ghost use Rattle.std.specs.Cmp.{partial_order_from_total};
 ghost use Rattle.std.specs.Ordering.{as_partial_cmp, eq_by_cmp, nat_cmp, ordering_then};
 ghost use Rattle.pyver_core.specs.Inner.PartsRef.{parts_of};
+ghost use Rattle.pyver_core.specs.Inner.Tails.{tail_cmp};
 ghost use Rattle.pyver_core.specs.Version.Order.{dev_cmp, phase_number, phase_rank, release_cmp};
 ghost use Rattle.pyver_core.specs.Version.Order.{version_cmp};
 ghost use Rattle.pyver_core.specs.Inner.Phase.{phase_of};
@@ -15,44 +16,31 @@ ghost use Rattle.pyver_core.specs.Version.Parts.{public_part};
 use crate::version::{PartsRef, PreKind, Version};
 use std::cmp::Ordering;
 
-/// Compares versions by their parts.
-pub(crate) fn compare(left: &PartsRef<'_>, right: &PartsRef<'_>) -> Ordering
-    ensures { result ≡ version_cmp (parts_of left.now) (parts_of right.now) }
-{
-    left.epoch
-        .cmp(&right.epoch)
-        .then(compare_releases(left.release, right.release))
-        .then(compare_phases(left, right))
-        .then(left.post.cmp(&right.post))
-        .then(compare_dev(left.dev, right.dev))
-        .then(left.local.cmp(right.local))
-}
-
 /// Compares the version without its local part with the operand.
-#[tactic(auto, using(crate::proofs::Lemmas::Version::Fronts::fronts_decide))]
+#[tactic(auto, using(crate::proofs::Lemmas::Version::Fronts::in_parts))]
 pub(crate) fn compare_public(version: &Version, operand: &Version) -> Ordering
     ensures { result ≡ version_cmp (public_part version.now) operand.now }
 {
     match compare_fronts(version, operand) {
-        Ordering::Equal => compare(&version.parts().public_part(), &operand.parts()),
+        Ordering::Equal => compare_tails(&version.parts().public_part(), &operand.parts()),
         decided => decided,
     }
 }
 
 /// Compares the operand with the version without its local part.
-#[tactic(auto, using(crate::proofs::Lemmas::Version::Fronts::fronts_decide))]
+#[tactic(auto, using(crate::proofs::Lemmas::Version::Fronts::in_parts))]
 pub(crate) fn compare_to_public(operand: &Version, version: &Version) -> Ordering
     ensures { result ≡ version_cmp operand.now (public_part version.now) }
 {
     match compare_fronts(operand, version) {
-        Ordering::Equal => compare(&operand.parts(), &version.parts().public_part()),
+        Ordering::Equal => compare_tails(&operand.parts(), &version.parts().public_part()),
         decided => decided,
     }
 }
 
 /// Compares the epochs and then the releases. Where they differ the parts behind them don't count,
 /// and those aren't looked at: so do most versions.
-fn compare_fronts(left: &Version, right: &Version) -> Ordering
+pub(crate) fn compare_fronts(left: &Version, right: &Version) -> Ordering
     ensures { result ≡ ordering_then (nat_cmp left.now.epoch right.now.epoch)
         (release_cmp left.now.release right.now.release) }
 {
@@ -60,6 +48,16 @@ fn compare_fronts(left: &Version, right: &Version) -> Ordering
         Ordering::Equal => compare_releases(left.release(), right.release()),
         decided => decided,
     }
+}
+
+/// Compares what stands behind the epochs and the releases, which decides where those are equal.
+fn compare_tails(left: &PartsRef<'_>, right: &PartsRef<'_>) -> Ordering
+    ensures { result ≡ tail_cmp (parts_of left.now) (parts_of right.now) }
+{
+    compare_phases(left, right)
+        .then(left.post.cmp(&right.post))
+        .then(compare_dev(left.dev, right.dev))
+        .then(left.local.cmp(right.local))
 }
 
 /// Compares releases as if the shorter one ended in as many zeros as it lacks. Zeros are looked at
@@ -165,10 +163,10 @@ impl Ord for Version {
 
     ghost matches_eq = { λ v w. refl };
 
-    #[tactic(auto, using(crate::proofs::Lemmas::Version::Fronts::fronts_decide))]
+    #[tactic(auto, using(crate::proofs::Lemmas::Version::Fronts::in_parts))]
     fn cmp(&self, other: &Version) -> Ordering {
         match compare_fronts(self, other) {
-            Ordering::Equal => compare(&self.parts(), &other.parts()),
+            Ordering::Equal => compare_tails(&self.parts(), &other.parts()),
             decided => decided,
         }
     }

@@ -1,7 +1,7 @@
 //! The parts of a version, lent: what a comparison reads, and what the normal form is written from.
 
 ghost use Rattle.std.specs.Prelude.{◌≡◌};
-ghost use Rattle.pyver_core.specs.Version.Parts.{base_release, public_part};
+ghost use Rattle.pyver_core.specs.Version.Parts.{public_part};
 
 use crate::version::{LocalPart, PreKind, VersionParts};
 
@@ -44,18 +44,6 @@ impl<'a> PartsRef<'a> {
         PartsRef {
             local: &[],
             ..*self
-        }
-    }
-
-    /// The epoch and the release alone.
-    pub(crate) fn base_release(&self) -> PartsRef<'a>
-        ensures { parts_of result ≡ base_release (parts_of self.now) }
-    {
-        PartsRef {
-            pre: None,
-            post: None,
-            dev: None,
-            ..self.public_part()
         }
     }
 }

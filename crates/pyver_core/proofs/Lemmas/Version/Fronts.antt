@@ -1,30 +1,58 @@
--- Where the epochs and the releases of two versions differ, they decide.
+-- Where the epochs and the releases of two versions differ they decide, and else what stands behind.
 use Rattle.std.proofs.Common.{◌≡◌, ◌≢◌, ℕ, zero, suc, ◌-◌, ◌≤◌, List, [], ◌∷◌, length, take, drop, refl, sym, ◌∙◌, ap, arith}
 use Rattle.std.specs.Ordering.{nat_cmp, ordering_then}
 use Rattle.std.specs.Cmp.Lexicographic.{slice_cmp}
 use Rattle.std.specs.declared.cmp.Ordering.{Ordering}
 use Rattle.std.specs.declared.cmp.Ordering.TheVariants.{Less, Equal, Greater}
 use Rattle.pyver_core.specs.Version.Order.{release_cmp, version_cmp}
-use Rattle.pyver_core.specs.Version.Parts.{Parts}
-
-decided : (a b rest : Ordering) → ordering_then a b ≢ Equal → ordering_then a (ordering_then b rest) ≡ ordering_then a b
-decided Less b rest other = refl
-decided Equal Less rest other = refl
-decided Equal Equal rest other = absurd (other refl)
-decided Equal Greater rest other = refl
-decided Greater b rest other = refl
-
-pub fronts_decide : (v w : Parts) (front : Ordering)
-    → front ≡ ordering_then (nat_cmp v.epoch w.epoch) (release_cmp v.release w.release)
-    → front ≢ Equal → front ≡ version_cmp v w
-unfolding version_cmp
-fronts_decide v w front is other =
-    is ∙ sym (decided (nat_cmp v.epoch w.epoch) (release_cmp v.release w.release) _ (λ same. other (is ∙ same)))
+use Rattle.pyver_core.specs.Version.Parts.{Parts, base_release}
+use Rattle.pyver_core.specs.Inner.Tails.{tail_cmp}
 
 joined : (a b rest : Ordering) → ordering_then (ordering_then a b) rest ≡ ordering_then a (ordering_then b rest)
 joined Less b rest = refl
 joined Equal b rest = refl
 joined Greater b rest = refl
+
+decided : (front tail : Ordering) → front ≢ Equal → ordering_then front tail ≡ front
+decided Less tail other = refl
+decided Equal tail other = absurd (other refl)
+decided Greater tail other = refl
+
+then_equal : (front : Ordering) → ordering_then front Equal ≡ front
+then_equal Less = refl
+then_equal Equal = refl
+then_equal Greater = refl
+
+-- a version compares by its front, and then by its tail
+fronts_then_tails : (v w : Parts) (front : Ordering)
+    → front ≡ ordering_then (nat_cmp v.epoch w.epoch) (release_cmp v.release w.release)
+    → ordering_then front (tail_cmp v w) ≡ version_cmp v w
+unfolding version_cmp tail_cmp
+fronts_then_tails v w front is =
+    ap (λ (f : Ordering). ordering_then f (tail_cmp v w)) is
+    ∙ joined (nat_cmp v.epoch w.epoch) (release_cmp v.release w.release) (tail_cmp v w)
+
+pub fronts_decide : (v w : Parts) (front : Ordering)
+    → front ≡ ordering_then (nat_cmp v.epoch w.epoch) (release_cmp v.release w.release)
+    → front ≢ Equal → front ≡ version_cmp v w
+fronts_decide v w front is other =
+    sym (decided front (tail_cmp v w) other) ∙ fronts_then_tails v w front is
+
+pub tails_decide : (v w : Parts) (front : Ordering)
+    → front ≡ ordering_then (nat_cmp v.epoch w.epoch) (release_cmp v.release w.release)
+    → front ≡ Equal → tail_cmp v w ≡ version_cmp v w
+tails_decide v w front is same =
+    ap (λ (f : Ordering). ordering_then f (tail_cmp v w)) (sym same) ∙ fronts_then_tails v w front is
+
+pub ruleset in_parts = (fronts_decide, tails_decide)
+
+-- the base releases of two versions compare as their fronts
+pub fronts_of_bases : (v w : Parts) (front : Ordering)
+    → front ≡ ordering_then (nat_cmp v.epoch w.epoch) (release_cmp v.release w.release)
+    → version_cmp (base_release v) (base_release w) ≡ front
+unfolding tail_cmp
+fronts_of_bases v w front is =
+    sym (fronts_then_tails (base_release v) (base_release w) front is) ∙ then_equal front
 
 -- one number of each release, and then the rest
 one_of_each : (x : ℕ) (xs : List ℕ) (y : ℕ) (ys : List ℕ)
