@@ -1,10 +1,12 @@
 -- The depth of a text, one byte after another.
-use Rattle.std.proofs.Common.{◌≡◌, ℕ, ◌+◌, ◌-◌, ◌<◌, ◌≤◌, Bool, true, false, cond, ◌||◌, List, [], ◌∷◌, map, Option, Some, None, refl, sym, ap, ◌∙◌, add_assoc, arith, eq-eqb}
+use Rattle.std.proofs.Common.{◌≡◌, ℕ, zero, suc, ◌+◌, ◌-◌, ◌*◌, ◌<◌, ◌≤◌, Bool, true, false, cond, ◌||◌, List, [], ◌∷◌, map, take, drop, Option, Some, None, refl, sym, ap, ◌∙◌, add_assoc, arith, eq-eqb}
 use Rattle.std.specs.Prelude.{count_by, if◌then◌else◌, nat_lt, ◌==◌}
 use Rattle.std.specs.List.{list_any, sum_by}
+use Rattle.std.specs.Simd.{first_chunks}
 use Rattle.pymark_core.specs.Marker.Depth.{fronts, is_closing, is_deep, is_opening, open_count, outside_behind}
 use Rattle.std.proofs.lemmas.Bool.{le-ltb, lt-ltb, ne_eqb}
-use Rattle.std.proofs.lemmas.List.Sums.{sum_by-cons}
+use Rattle.std.proofs.lemmas.List.{drop-drop}
+use Rattle.std.proofs.lemmas.List.Sums.{sum_by-cons, sum_by-take-drop}
 use Rattle.pymark_core.specs.Inner.Nesting.{deep_behind, deep_from}
 use Rattle.pymark_core.specs.Marker.Token.{is_quote}
 use Rattle.pymark_core.specs.declared.marker.depth.Nesting.{Nesting}
@@ -120,3 +122,23 @@ none_deep opened closed (b ∷ out) le =
 pub few_opened : (text : List ℕ) → count_by is_opening text ≤ 64 → is_deep text ≡ false
 few_opened text le =
     sym (deep_start (outside_behind None text)) ∙ none_deep 0 0 (outside_behind None text) (omega (arith, le, outside_opens None text))
+
+-- ---- a text whose parentheses are counted chunk by chunk
+
+-- chunks and what is left behind them make up the text
+sum_chunks : (f : ℕ → ℕ) (size count : ℕ) (text : List ℕ)
+    → sum_by (sum_by f) (first_chunks size count text) + sum_by f (drop (count * size) text) ≡ sum_by f text
+sum_chunks f size zero text =
+    let none : 0 * size ≡ 0 = omega arith in
+    omega (arith, ap (λ n. sum_by f (drop n text)) none)
+sum_chunks f size (suc count) text =
+    let next : suc count * size ≡ size + count * size = omega arith in
+    let left : drop (suc count * size) text ≡ drop (count * size) (drop size text)
+    = ap (λ n. drop n text) next ∙ sym (drop-drop (count * size) size text) in
+    let more = sum_chunks f size count (drop size text) in
+    omega (arith, ap (sum_by f) left, more, sum_by-take-drop f text size, sum_by-cons (sum_by f) (take size text) (first_chunks size count (drop size text)))
+
+pub opened_in_chunks : (size count : ℕ) (text rest : List ℕ) (chunks : List (List ℕ))
+    → chunks ≡ first_chunks size count text → rest ≡ drop (count * size) text
+    → sum_by (count_by is_opening) chunks + count_by is_opening rest ≡ count_by is_opening text
+opened_in_chunks size count text rest chunks front back = rw (front, back) (sum_chunks (λ x. cond (is_opening x) 1 0) size count text)

@@ -1,6 +1,7 @@
 //! How deep the parentheses of a text are nested.
 
-ghost use Rattle.std.specs.Prelude.{◌≡◌, ◌+◌, ◌<◌, ◌≤◌, ◌^◌, ◌∷◌, ℕ, List, count_by};
+ghost use Rattle.std.specs.Prelude.{◌≡◌, ◌+◌, ◌<◌, ◌≤◌, ◌^◌, ◌∷◌, ℕ, List, count_by, length};
+ghost use Rattle.std.specs.Prelude.{nat_lt};
 ghost use Rattle.pymark_core.specs.Marker.Depth.{is_deep, is_opening};
 ghost use Rattle.pymark_core.specs.Inner.Nesting.{deep_from};
 
@@ -45,21 +46,44 @@ impl Nesting {
 }
 
 /// Whether more than 64 parentheses are open at some place of the text, quoted texts passed over.
-/// Few texts have as many at all, and counting them is quick.
+/// Few texts have as many at all, which a quick look tells.
 #[tactic(auto, using(crate::proofs::DepthLemmas::few_opened))]
 pub(super) fn is_deep(text: &str) -> bool
     ensures { result ≡ is_deep text.now }
 {
-    opening_count(text) > DEPTH_LIMIT && is_nested_deep(text)
+    opens_many(text.as_bytes()) && is_nested_deep(text)
 }
 
-fn opening_count(text: &str) -> usize
+/// Whether more than 64 parentheses are opened in the text. They are counted chunk by chunk, and no
+/// further than has to be.
+fn opens_many(text: &[u8]) -> bool
+    ensures { result ≡ nat_lt 64 (count_by is_opening text.now) }
+{
+    let (chunks, rest) = text.as_chunks::<128>();
+    let mut count = 0;
+    for chunk in chunks {
+        count += opening_count(chunk) as usize;
+        if count > DEPTH_LIMIT {
+            return true;
+        }
+    }
+    count + opening_count(rest) as usize > DEPTH_LIMIT
+}
+
+/// How many parentheses are opened in a text of at most 128 bytes. A count of one byte and a loop
+/// without branches let many bytes be counted at once.
+fn opening_count(text: &[u8]) -> u8
+    requires { length text.now ≤ 128 }
     ensures { result ≡ count_by is_opening text.now }
 {
-    text.as_bytes().iter().filter(|b| **b == b'(').count()
+    let mut count = 0;
+    for byte in text {
+        count += u8::from(*byte == b'(');
+    }
+    count
 }
 
-/// The same, by a look at what stands before each byte.
+/// What `is_deep` tells, by a look at what stands before each byte.
 #[tactic(auto, using(crate::proofs::DepthLemmas::deep_here, crate::proofs::DepthLemmas::deep_end))]
 fn is_nested_deep(text: &str) -> bool
     ensures { result ≡ is_deep text.now }
