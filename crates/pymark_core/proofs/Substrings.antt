@@ -1,5 +1,5 @@
 -- A text stands in another where that is something before it, itself, and something behind it.
-use Rattle.std.proofs.Common.{◌≡◌, ℕ, ◌+◌, arith, Option, Some, None, Bool, true, false, ◌||◌, List, [], ◌∷◌, ◌++◌, length, take, drop, nat_eq, ◌∙◌, ap, refl, sym, subst}
+use Rattle.std.proofs.Common.{◌≡◌, ℕ, ◌+◌, ◌<◌, arith, Option, Some, None, Bool, true, false, ◌||◌, List, [], ◌∷◌, ◌++◌, length, take, drop, nat_eq, ◌∙◌, ap, refl, sym, subst}
 use Rattle.std.proofs.lemmas.List.{length-append, take-append-drop}
 use Rattle.std.proofs.lemmas.Slice.Eq.{bytes_eq-Decides}
 use Rattle.std.proofs.Math.Bool.{or-true}
@@ -49,6 +49,19 @@ substring_is r x y is =
     same r (is_substring x y)
     (λ true_is. let at = is.0 true_is in subst (λ t. is_substring x t ≡ true) (sym at.2) (stands at.0 at.1 x))
     (λ stands_in. is.1 (found_in x y stands_in))
+
+-- a text that is longer than another stands nowhere in it
+pub longer_nowhere : (x y : List ℕ) → length y < length x → is_substring x y ≡ false
+longer_nowhere x y longer =
+    elim (is_substring x y) as (λ t. is_substring x y ≡ t → t ≡ false) [
+      | true ↦ λ is.
+          let found = found_in x y is in
+          let whole : length y ≡ length found.0 + (length x + length found.1) =
+          ap length found.2 ∙ length-append found.0 (x ++ found.1) ∙ ap (λ n. length found.0 + n) (length-append x found.1) in
+          let no : ⊥ = omega (arith, whole, longer) in
+          absurd no
+      | false ↦ λ _. refl
+    ] refl
 
 -- what a search finds, stands in the text
 pub finds_substring : (y x : List ℕ) (at : Option ℕ) → FindsNeedle y x 0 at → (is_some at ≡ true) ↔ HasSubslice y x

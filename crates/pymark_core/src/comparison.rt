@@ -391,7 +391,8 @@ fn variable_shared(environment: &Environment, variable: Var) -> Result<&SharedTe
 fn is_in_shared(part: &str, whole: &SharedText) -> bool
     ensures { result ≡ is_substring part.now whole.now }
 {
-    !whole.lacks(part) && is_substring(part, whole.candidate().text())
+    let text = whole.candidate().text();
+    has_room(part, text) && !whole.lacks(part) && is_found(part, text)
 }
 
 /// Whether the name is in the operand, where `extra` has this text.
@@ -445,11 +446,28 @@ fn is_group(alloc: Global, environment: &Environment, left: &Candidate) -> Resul
     }
 }
 
-/// From this length on a text is searched many bytes at a time, after a look at what is searched.
-const LONG: usize = 96;
-
 /// Whether the first text stands somewhere in the second.
 fn is_substring(part: &str, whole: &str) -> bool
+    ensures { result ≡ is_substring part.now whole.now }
+{
+    has_room(part, whole) && is_found(part, whole)
+}
+
+/// Whether the second text is as long as the first, which else stands nowhere in it. Neither is
+/// looked at, however long they are.
+#[tactic(auto, using(crate::proofs::Substrings::longer_nowhere))]
+fn has_room(part: &str, whole: &str) -> bool
+    ensures { result ≡ false → is_substring part.now whole.now ≡ false }
+{
+    part.len() <= whole.len()
+}
+
+/// From this length on a text is searched many bytes at a time, after a look at what is searched.
+/// For shorter texts `contains` is as quick, and takes no such look.
+const LONG: usize = 256;
+
+/// Whether the first text is found in the second, by a search.
+fn is_found(part: &str, whole: &str) -> bool
     ensures { result ≡ is_substring part.now whole.now }
 {
     if whole.len() < LONG {
