@@ -102,7 +102,7 @@ pub(crate) struct SharedText {
     known: Arc<Known>,
 }
 
-/// A text with what it reads as, and with the places of its triples where it is long.
+/// A text with what it reads as, and with the places of its triples where those are noted.
 ///
 /// Contracts see the text alone, since the rest follows from it.
 struct Known {

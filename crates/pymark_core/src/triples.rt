@@ -9,8 +9,13 @@ use std::alloc::{AllocError, Global};
 /// How many places there are for triples.
 const PLACES: usize = 4096;
 
-/// From this length on a search of a text costs more than a look at its triples.
-const LONG: usize = 96;
+/// From this length on a search of a text costs more than a look at its triples, which are noted
+/// whether or not a marker looks into the text.
+const LONG: usize = 256;
+
+/// Of a longer text nothing is noted. It has some two triples for each place or more, so that most
+/// places may be met, and to note them takes some ten instructions for each of its bytes.
+const FULL: usize = 8192;
 
 /// The place of a triple, which others may share.
 fn place(first: u8, second: u8, third: u8) -> usize
@@ -31,11 +36,12 @@ fn met_in(alloc: Global, text: &[u8]) -> Result<Vec<bool>, AllocError>
     Ok(met)
 }
 
-/// The same of a long text alone, which is worth the memory.
+/// The same of a long text alone, which is worth the memory, unless it is so long that it may lack
+/// next to nothing.
 pub(crate) fn met_in_long(alloc: Global, text: &str) -> Result<Option<Vec<bool>>, AllocError>
     ensures { IfOk result (λ met. IfSome met (λ met. MeetsAll met.items text.now)) }
 {
-    if text.len() < LONG {
+    if text.len() < LONG || text.len() > FULL {
         return Ok(None);
     }
     Ok(Some(met_in(alloc, text.as_bytes())?))
