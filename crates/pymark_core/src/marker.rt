@@ -171,7 +171,8 @@ impl Marker {
     }
 
     /// A number below `count`, the same for markers of one text: where a small table has room for
-    /// what is known of them. It takes no memory.
+    /// what is known of them. The text is mixed without a key, so whoever writes the texts can make
+    /// as many as they like that share a number. It takes no memory.
     pub fn slot(&self, count: u32) -> u32
         requires { 0 < count }
         ensures { result < count }
