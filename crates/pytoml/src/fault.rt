@@ -1,5 +1,5 @@
 //! Why a text gives no table.
-ghost use Rattle.std.specs.Prelude.{◌≡◌};
+ghost use Rattle.std.specs.Prelude.{◌≡◌, ◌↔◌};
 ghost use Rattle.pytoml.specs.declared.fault.Unread.TheVariants as unread;
 
 use std::alloc::AllocError;
@@ -34,8 +34,11 @@ impl<E: Into<AllocError> + Drop> From<E> for Unread {
 }
 
 impl Unread {
-    /// What a refusal of `toml_parser` is to the short way.
-    pub(crate) fn of(refusal: ParseError) -> Unread {
+    /// What a refusal of `toml_parser` is to the short way: want of memory stays what it is, and
+    /// any other is a shape.
+    pub(crate) fn of(refusal: ParseError) -> Unread
+        ensures { (result ≡ unread.Memory) ↔ (refusal ≡ ParseError.OutOfMemory) }
+    {
         match refusal {
             ParseError::OutOfMemory => Unread::Memory,
             ParseError::At(..) => Unread::Shape,
