@@ -1,11 +1,13 @@
 //! A reader of many names of wheels, of which each half that comes again is read once.
 
-ghost use Rattle.std.specs.Prelude.{◌≡◌, Ok, IfOk, IfSome};
+ghost use Rattle.std.specs.Prelude.{◌≡◌, ◌&&◌, Ok, IfOk, IfSome, is_ok};
 ghost use Rattle.pytext.specs.Agreement.{Gives};
+ghost use Rattle.pyver_core.specs.Parsed.{parsed_version};
 ghost use Rattle.pywheel_core.specs.Wheel.Grammar.{IsUndashed};
+ghost use Rattle.pywheel_core.specs.Wheel.Name.{is_wheel_name};
 ghost use Rattle.pywheel_core.specs.Wheel.Reading.{wheel_of};
 
-use crate::cut::cut;
+use crate::cut::{cut, stem};
 use crate::error::WheelError;
 use crate::halves::{NameEnd, NameHead, read_end};
 use crate::wheel::{WheelName, is_wheel_name};
@@ -30,6 +32,9 @@ impl Drop for LastHead {
 /// Reads the names of many wheels. A name and a version like those of the wheel before are not read
 /// anew, nor is a build tag with a compressed tag set that any wheel before had: the names share
 /// them.
+///
+/// Of the names and versions it keeps the last one. It keeps each end that it has read, a build tag
+/// with a compressed tag set and its tags, until it is dropped.
 pub struct WheelReader {
     alloc: Global,
     last: Option<LastHead>,
@@ -71,7 +76,8 @@ impl WheelReader {
     }
 
     /// What [`WheelName::parse`] reads. It takes memory for what is new; where both halves are
-    /// known it takes none, but for the counts of those that share.
+    /// known it takes none, but for the counts of those that share. Of a name that is refused no
+    /// tags are made.
     pub fn read(&mut self, text: &str) -> Result<WheelName, WheelError>
         ensures { Gives WheelError.Memory (λ w. w) result (wheel_of text.now) }
     {
@@ -104,18 +110,22 @@ impl WheelReader {
         }))
     }
 
-    /// Reads the halves of a name that are not known, and keeps those that are halves.
+    /// Reads the halves of a name that are not known, and keeps those that are halves. Where the
+    /// extension, the name or the version is refused, no tags are made.
     fn learn(&mut self, text: &str) -> Result<(), AllocError> {
+        if stem(text).is_none() {
+            return Ok(());
+        }
         let Some((name, rest)) = cut(text) else {
             return Ok(());
         };
         let Some((version, rest)) = cut(rest) else {
             return Ok(());
         };
-        if !self.begins_with_last(text) {
-            self.learn_head(name, version)?;
+        if self.begins_with_last(text) || self.learn_head(name, version)? {
+            self.learn_end(rest)?;
         }
-        self.learn_end(rest)
+        Ok(())
     }
 
     /// Whether the name begins with the head that was read last.
@@ -126,13 +136,15 @@ impl WheelReader {
         }
     }
 
-    /// Keeps the name and the version as the last ones, where they are a name and a version.
-    fn learn_head(&mut self, name: &str, spelling: &str) -> Result<(), AllocError>
+    /// Whether they are a name and a version: then it keeps them as the last ones.
+    fn learn_head(&mut self, name: &str, spelling: &str) -> Result<bool, AllocError>
         requires name { IsUndashed name.now }
         requires spelling { IsUndashed spelling.now }
+        ensures { IfOk result (λ is. is
+            ≡ (is_wheel_name name.now && is_ok (parsed_version spelling.now))) }
     {
         if !is_wheel_name(name) {
-            return Ok(());
+            return Ok(false);
         }
         match Version::parse(self.alloc, spelling) {
             Ok(version) => {
@@ -140,10 +152,10 @@ impl WheelReader {
                 let name = String::from_str(self.alloc, name)?;
                 let head = Rc::new(self.alloc, NameHead { name, version })?;
                 self.last = Some(LastHead { text, head });
-                Ok(())
+                Ok(true)
             }
             Err(VersionError::Memory) => Err(AllocError),
-            Err(_) => Ok(()),
+            Err(_) => Ok(false),
         }
     }
 
