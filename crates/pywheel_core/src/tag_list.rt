@@ -1,8 +1,9 @@
 //! Lists of tags in the order of preference (PEP 425, "Use").
 
-ghost use Rattle.std.specs.Prelude.{◌≡◌, ◌==◌, [], Err, IfOk, OnErr, OnOk, length, map};
+ghost use Rattle.std.specs.Prelude.{◌≡◌, ◌==◌, List, [], Err, IfOk, IsOk, OnErr, OnOk, length, map};
 ghost use Rattle.pytext.specs.Agreement.{Gives};
-ghost use Rattle.pywheel_core.specs.Tag.{at_place, rank_of, tag_of, tags_of, with_tag};
+ghost use Rattle.pywheel_core.specs.Inner.Marks.{AreAllMarked};
+ghost use Rattle.pywheel_core.specs.Tag.{TagValue, at_place, rank_of, tag_of, tags_of, with_tag};
 
 use crate::error::{TagError, TagListError};
 use crate::marks::Marks;
@@ -15,19 +16,20 @@ use std::marker::Model;
 /// Distinct tags, the most preferred first (PEP 425, "Use"). A tag's rank is its position.
 pub struct TagList {
     tags: IndexSet<Tag>,
-    marks: Marks,
+    /// Those of the tags; none where the list was made with room for no tag.
+    marks: Option<Marks>,
 }
 
 impl Model for TagList {
     ghost use Rattle.std.specs.Prelude.{List};
-    ghost use Rattle.pywheel_core.specs.Inner.Marks.{AreMarked};
+    ghost use Rattle.pywheel_core.specs.Inner.Marks.{AreAllMarked};
     ghost use Rattle.pywheel_core.specs.Tag.{TagValue};
 
     ghost Value = { List TagValue };
 
     ghost view = { λ l. l.tags.keys };
 
-    ghost invariant = { λ l. AreMarked l.marks l.tags.keys };
+    ghost invariant = { λ l. AreAllMarked l.marks l.tags.keys };
 }
 
 impl Drop for TagList {
@@ -38,7 +40,8 @@ impl Drop for TagList {
 
 impl TagList {
     /// The tags of the texts in order, each at its first place. `Tag` gives the place, from 1, of
-    /// the first text that is no tag. It takes the memory of the tags and of a table of them.
+    /// the first text that is no tag. It takes the memory of the tags and of a table of them, and
+    /// 768 bytes for a list that isn't empty.
     #[tactic(auto, unfolding(crate::specs::Tag::tags_of))]
     pub fn parse(alloc: Global, texts: &[&str]) -> Result<TagList, TagListError>
         ensures { Gives TagListError.Memory (λ l. l) result (tags_of (map (λ t. t.now) texts.now)) }
@@ -50,15 +53,19 @@ impl TagList {
         Ok(list)
     }
 
-    /// An empty list with room for so many tags.
+    /// An empty list with room for so many tags. Room for none takes no memory.
     fn with_capacity(alloc: Global, room: usize) -> Result<TagList, TagListError>
         ensures empty { IfOk result (λ list. list ≡ []) }
         ensures memory { OnErr result (result ≡ Err TagListError.Memory) }
+        ensures succeeds { room ≡ 0 → IsOk result }
     {
-        Ok(TagList {
-            tags: IndexSet::with_capacity(alloc, room)?,
-            marks: Marks::none(alloc)?,
-        })
+        let tags = IndexSet::with_capacity(alloc, room)?;
+        let marks = if room == 0 {
+            None
+        } else {
+            Some(Marks::none(alloc)?)
+        };
+        Ok(TagList { tags, marks })
     }
 
     /// Puts the tag behind the others, where it isn't among them.
@@ -66,7 +73,7 @@ impl TagList {
         ensures added { OnOk result (self.new ≡ with_tag self.old tag) }
         ensures memory { OnErr result (result ≡ Err TagListError.Memory) }
     {
-        self.marks.add(&tag);
+        add_marks(&mut self.marks, &tag);
         self.tags.insert_full(tag)?;
         Ok(())
     }
@@ -75,8 +82,10 @@ impl TagList {
     pub fn rank(&self, tag: &Tag) -> Option<usize>
         ensures { result ≡ rank_of tag.now self.now }
     {
-        if !self.marks.may_have(tag) {
-            return None;
+        if let Some(marks) = &self.marks {
+            if !marks.may_have(tag) {
+                return None;
+            }
         }
         self.tags.get_index_of(tag)
     }
@@ -103,14 +112,15 @@ impl TagList {
     }
 }
 
-/// A copy takes memory for the table; its tags share their texts.
+/// A copy takes memory for the table, and 768 bytes for a list that isn't empty; its tags share
+/// their texts.
 impl Clone for TagList {
     ghost is_clone = { λ tags copy. copy ≡ tags };
 
     fn clone(&self) -> Result<TagList, AllocError> {
         Ok(TagList {
             tags: self.tags.clone()?,
-            marks: self.marks.clone()?,
+            marks: copy_marks(&self.marks)?,
         })
     }
 }
@@ -118,6 +128,28 @@ impl Clone for TagList {
 impl fmt::Debug for TagList {
     fn fmt<W: fmt::Write>(&self, f: &mut fmt::Formatter<W>) -> fmt::Result {
         f.debug_struct("TagList").field("tags", &self.tags).finish()
+    }
+}
+
+/// Adds the marks of the tag, where there are marks.
+fn add_marks(marks: &mut Option<Marks>, tag: &Tag)
+    ensures kept { (tags : List TagValue) → AreAllMarked marks.old tags
+        → AreAllMarked marks.new tags }
+    ensures marked { (tags : List TagValue) → AreAllMarked marks.old tags
+        → AreAllMarked marks.new (with_tag tags tag.now) }
+{
+    if let Some(marks) = marks {
+        marks.add(tag);
+    }
+}
+
+/// The same marks, where there are marks.
+fn copy_marks(marks: &Option<Marks>) -> Result<Option<Marks>, AllocError>
+    ensures { IfOk result (λ copy. copy ≡ marks.now) }
+{
+    match marks {
+        Some(marks) => Ok(Some(marks.clone()?)),
+        None => Ok(None),
     }
 }
 

@@ -1,6 +1,6 @@
 -- Marks of the parts of tags. A part has one mark, of which there are 256.
 use Rattle.std.specs.Prelude.{◌≡◌, ℕ, ◌+◌, ◌-◌, ◌*◌, ◌%◌, Bool, true, false, nat_lt}
-use Rattle.std.specs.Prelude.{if◌then◌else◌, List, [], ◌∷◌, length, slice_index_or}
+use Rattle.std.specs.Prelude.{if◌then◌else◌, List, [], ◌∷◌, length, slice_index_or, Option, IfSome}
 use Rattle.pywheel_core.specs.Tag.{TagValue}
 
 -- by the first byte, the last one, the last but two, and the length
@@ -19,3 +19,7 @@ IsMarked flags t = (slice_index_or flags (mark_of t.python) false ≡ true)
 abbrev pub AreMarked : List Bool → List TagValue → Type 0
 AreMarked flags [] = Unit {0}
 AreMarked flags (t ∷ tags) = IsMarked flags t × AreMarked flags tags
+
+-- where there are flags
+abbrev pub AreAllMarked : Option (List Bool) → List TagValue → Type 0
+AreAllMarked marks tags = IfSome marks (λ flags. AreMarked flags tags)
