@@ -74,8 +74,7 @@ impl TagList {
         ensures memory { OnErr result (result ≡ Err TagListError.Memory) }
     {
         add_marks(&mut self.marks, &tag);
-        self.tags.insert_full(tag)?;
-        Ok(())
+        add_tag(&mut self.tags, tag)
     }
 
     /// The position of the tag, from 0, among the distinct tags. It takes no memory.
@@ -141,6 +140,16 @@ fn add_marks(marks: &mut Option<Marks>, tag: &Tag)
     if let Some(marks) = marks {
         marks.add(tag);
     }
+}
+
+/// Puts the tag behind the others, where it isn't among them.
+fn add_tag(tags: &mut IndexSet<Tag>, tag: Tag) -> Result<(), TagListError>
+    ensures added { OnOk result (tags.new.keys ≡ with_tag tags.old.keys tag) }
+    ensures kept { OnErr result (tags.new.keys ≡ tags.old.keys) }
+    ensures memory { OnErr result (result ≡ Err TagListError.Memory) }
+{
+    tags.insert_full(tag)?;
+    Ok(())
 }
 
 /// The same marks, where there are marks.
