@@ -29,7 +29,26 @@ impl Lock {
         ensures { Gives LockError.Memory (λ l. l) result (lock_of bytes.now) }
     {
         let document = read_document(alloc, bytes)?;
-        lock_in(alloc, document)
+        Lock::from_document(alloc, document)
+    }
+
+    /// The lock of version 1 that a TOML document is (PEP 751, "File format"). The refusals are
+    /// those of [`Lock::read`] that come after the reading of the document, in the same order; keys
+    /// that are not named there are ignored. So whoever wants something of the document besides
+    /// takes it from what [`read_document`] gives, and the bytes are read once.
+    ///
+    /// Takes memory for the lock; strings move from the document to it. The document is freed,
+    /// whether it is a lock or not.
+    #[tactic(auto, using(crate::proofs::kept), unfolding(crate::specs::Lock::Reading::lock_in))]
+    pub fn from_document(alloc: Global, mut document: Table) -> Result<Lock, LockError>
+        ensures { Gives LockError.Memory (λ l. l) result (lock_in (table_view document)) }
+    {
+        require_lock_version(take(&mut document, "lock-version"))?;
+        require_creator(take(&mut document, "created-by"))?;
+        let packages = take(&mut document, "packages");
+        let head = Head::read(alloc, document)?;
+        let entries = read_packages(alloc, packages)?;
+        Ok(Lock::new(head, entries))
     }
 }
 
@@ -50,18 +69,6 @@ fn document(alloc: Global, text: &str) -> Result<Table, LockError>
         Err(TomlError::Memory) => Err(LockError::Memory),
         Err(_) => Err(LockError::Toml),
     }
-}
-
-#[tactic(auto, using(crate::proofs::kept), unfolding(crate::specs::Lock::Reading::lock_in))]
-fn lock_in(alloc: Global, mut document: Table) -> Result<Lock, LockError>
-    ensures { Gives LockError.Memory (λ l. l) result (lock_in (table_view document)) }
-{
-    require_lock_version(take(&mut document, "lock-version"))?;
-    require_creator(take(&mut document, "created-by"))?;
-    let packages = take(&mut document, "packages");
-    let head = Head::read(alloc, document)?;
-    let entries = read_packages(alloc, packages)?;
-    Ok(Lock::new(head, entries))
 }
 
 fn require_lock_version(field: Option<Value>) -> Result<(), LockError>
