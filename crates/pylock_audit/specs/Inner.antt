@@ -1,3 +1,4 @@
 pub mod Names
 pub mod User
 pub mod Printable
+pub mod Tables

@@ -1,40 +1,37 @@
 //! What an entry of a lock gives to each kind of finding.
 
-ghost use Rattle.std.specs.Prelude.{◌≡◌, ◌++◌, IfOk, OnOk, codes, map, option_and_then};
-ghost use Rattle.std.specs.Prelude.{option_map, string_bytes};
-ghost use Rattle.std.specs.Option.{option_copied};
+ghost use Rattle.std.specs.Prelude.{◌≡◌, ◌++◌, IfOk, OnOk, codes, map, option_map};
+ghost use Rattle.std.specs.Prelude.{string_bytes};
 ghost use Rattle.std.specs.Result.{is_err};
-ghost use Rattle.toml.specs.Data.{as_str, get_member};
-ghost use Rattle.toml.specs.View.{table_view};
 ghost use Rattle.pyver_core.specs.Parsed.{parsed_version};
 ghost use Rattle.pylock_core.specs.Session.Picks.{lent_named, sources};
-ghost use Rattle.pylock_audit.specs.Entry.{entry_findings, of_controls, of_hashes, of_kinds};
-ghost use Rattle.pylock_audit.specs.Entry.{of_marker, of_names, of_sources, other_form};
-ghost use Rattle.pylock_audit.specs.Entry.{refused_version, text_at};
+ghost use Rattle.pylock_audit.specs.Entry.{of_controls, of_hashes, of_kinds, of_marker};
+ghost use Rattle.pylock_audit.specs.Entry.{of_sources, refused_version};
 ghost use Rattle.pylock_audit.specs.Finding.{found_each};
+ghost use Rattle.pylock_audit.specs.Inner.Tables.{entry_findings_by, of_names_by};
 ghost use Rattle.pylock_audit.specs.Source.{over_sources, text_where};
 ghost use Rattle.pylock_audit.specs.Unsafe.{has_control};
 
 use crate::files::push_file_names;
 use crate::finding::{Finding, FindingKind, push_each, push_where, told_where};
-use crate::keys::{field, joined, unknown_of_entry};
+use crate::keys::joined;
 use crate::marker::{with_extra, with_undeclared};
 use crate::source::over_sources;
+use crate::tables::TableFindings;
 use crate::unsafe_text::has_control;
 use pylock_core::{Entry, Head, NamedSource, sources};
-use pyver_core::{Version, VersionError, normal_name};
+use pyver_core::{Version, VersionError};
 use std::alloc::{AllocError, Global};
-use toml::Table;
 
-/// The findings of an entry, with the table that it is.
+/// The findings of an entry, with what its table gave.
 pub(crate) fn entry_findings(
     alloc: Global,
     head: &Head,
-    table: &Table,
+    table: TableFindings,
     entry: &Entry,
 ) -> Result<Vec<Finding>, AllocError>
     ensures { IfOk result (λ findings. findings.items
-        ≡ entry_findings head.now (table_view table.now) entry.now) }
+        ≡ entry_findings_by head.now table entry.now) }
 {
     let mut findings = Vec::new(alloc);
     let list = sources(alloc, entry)?;
@@ -52,42 +49,18 @@ pub(crate) fn entry_findings(
 fn push_names(
     alloc: Global,
     findings: &mut Vec<Finding>,
-    table: &Table,
+    table: TableFindings,
     entry: &Entry,
 ) -> Result<(), AllocError>
     ensures { OnOk result (findings.new.items
-        ≡ findings.old.items ++ of_names (table_view table.now) entry.now) }
+        ≡ findings.old.items ++ of_names_by table entry.now) }
 {
-    push_each(
-        findings,
-        FindingKind::UnknownKey,
-        unknown_of_entry(alloc, table)?,
-    )?;
-    push_each(findings, FindingKind::NameForm, other_form(alloc, table)?)?;
+    table.push(findings)?;
     push_each(
         findings,
         FindingKind::Version,
         refused_version(alloc, entry)?,
     )
-}
-
-/// The text of a key, where it is one.
-pub(crate) fn text_at<'a>(table: &'a Table, key: &str) -> Option<&'a str>
-    ensures { option_copied result ≡ text_at key.now (table_view table.now) }
-{
-    field(table, key)?.as_str()
-}
-
-/// The name as written, where that isn't its own normal form.
-fn other_form(alloc: Global, table: &Table) -> Result<Vec<String>, AllocError>
-    ensures { IfOk result (λ list. map string_bytes list.items
-        ≡ other_form (table_view table.now)) }
-{
-    let Some(name) = text_at(table, "name") else {
-        return Ok(Vec::new(alloc));
-    };
-    let normal = normal_name(alloc, name)?;
-    told_where(alloc, normal.as_str() != name, name)
 }
 
 /// The version, where it is none.

@@ -4,14 +4,16 @@ ghost use Rattle.std.specs.Prelude.{◌≡◌, ◌++◌, IfOk, OnOk, Some, map, 
 ghost use Rattle.std.specs.Prelude.{string_bytes};
 ghost use Rattle.toml.specs.View.{items_view, table_view, view};
 ghost use Rattle.pytext.specs.Agreement.{Gives};
-ghost use Rattle.pylock_audit.specs.Audit.{findings_of, head_findings, items_at, lock_findings};
-ghost use Rattle.pylock_audit.specs.Audit.{members_in, of_entries, other_lock_version};
-ghost use Rattle.pylock_audit.specs.Entry.{entry_findings};
+ghost use Rattle.pylock_audit.specs.Audit.{findings_of, head_findings, items_at};
+ghost use Rattle.pylock_audit.specs.Audit.{other_lock_version};
 ghost use Rattle.pylock_audit.specs.Finding.{found_at};
+ghost use Rattle.pylock_audit.specs.Inner.Tables.{document_findings, entry_findings_by};
+ghost use Rattle.pylock_audit.specs.Inner.Tables.{lock_findings_by, of_entries_by};
 
-use crate::entry::{entry_findings, text_at};
+use crate::entry::entry_findings;
 use crate::finding::{Finding, FindingKind, Found, push_each, push_found, push_where, told_where};
 use crate::keys::{Level, field, push_unknown};
+use crate::tables::{TableFindings, table_findings, text_at};
 use pylock_core::{Entry, Head, Lock, LockError};
 use pylock_readers::read_document;
 use std::alloc::{AllocError, Global};
@@ -21,26 +23,43 @@ use toml::{Table, Value};
 /// of its head, and then those of its entries in order (PEP 751). The refusals are those of
 /// [`Lock::read`].
 ///
-/// The bytes are read twice, as a lock and as a document. It takes memory for both, for the text of
-/// each finding, and for lists of the sources and the comparisons of one entry at a time.
-#[tactic(auto, unfolding(crate::specs::Audit::findings_of))]
+/// The bytes are read once. What the document alone tells is taken from it before it becomes the
+/// lock. It takes the memory of [`Lock::read`], and memory for a list with a member for each entry,
+/// for the text of each finding, and for lists of the sources and the comparisons of one entry at a
+/// time.
+#[tactic(auto, using(crate::proofs::TableLemmas::read_once))]
 pub fn audit(alloc: Global, bytes: &[u8]) -> Result<Vec<Found>, LockError>
     ensures { Gives LockError.Memory (λ found. found.items) result (findings_of bytes.now) }
 {
-    let lock = Lock::read(alloc, bytes)?;
     let document = read_document(alloc, bytes)?;
-    Ok(lock_findings(alloc, &document, &lock)?)
+    document_findings(alloc, document)
 }
 
-/// The findings of a document and of the lock that it is.
-fn lock_findings(alloc: Global, document: &Table, lock: &Lock) -> Result<Vec<Found>, AllocError>
+/// The findings of the lock that a document is, or its refusal.
+#[tactic(auto, using(crate::proofs::TableLemmas::beside_tables))]
+fn document_findings(alloc: Global, document: Table) -> Result<Vec<Found>, LockError>
+    ensures { Gives LockError.Memory (λ found. found.items) result
+        (document_findings (table_view document)) }
+{
+    let head = head_findings(alloc, &document)?;
+    let tables = table_findings(alloc, items_at(field(&document, "packages")))?;
+    let lock = Lock::from_document(alloc, document)?;
+    Ok(lock_findings(alloc, head, tables, &lock)?)
+}
+
+/// The findings of a lock, with those of its head and with what the tables of its entries gave.
+fn lock_findings(
+    alloc: Global,
+    head: Vec<Finding>,
+    tables: Vec<TableFindings>,
+    lock: &Lock,
+) -> Result<Vec<Found>, AllocError>
     ensures { IfOk result (λ found. found.items
-        ≡ lock_findings (table_view document.now) lock.now) }
+        ≡ lock_findings_by head.items tables.items lock.now) }
 {
     let mut found = Vec::new(alloc);
-    push_found(alloc, &mut found, 0, None, head_findings(alloc, document)?)?;
-    let packages = field(document, "packages");
-    push_entries(alloc, &mut found, lock, items_at(packages))?;
+    push_found(alloc, &mut found, 0, None, head)?;
+    push_entries(alloc, &mut found, lock, tables)?;
     Ok(found)
 }
 
@@ -85,41 +104,39 @@ fn items_at(field: Option<&Value>) -> &[Value]
     }
 }
 
-/// Adds the findings of the entries, each with the table that it is.
+/// Adds the findings of the entries, each with what its table gave.
 fn push_entries(
     alloc: Global,
     found: &mut Vec<Found>,
     lock: &Lock,
-    tables: &[Value],
+    tables: Vec<TableFindings>,
 ) -> Result<(), AllocError>
     ensures { OnOk result (found.new.items ≡ found.old.items
-        ++ of_entries lock.now.head 1 lock.now.entries (items_view tables.now)) }
+        ++ of_entries_by lock.now.head 1 lock.now.entries tables.items) }
 {
-    for (place, entry) in lock.entries().iter().enumerate() {
-        match tables.get(place) {
-            Some(table) => push_entry(alloc, found, lock.head(), place + 1, table, entry)?,
+    let mut place = 0;
+    for table in tables {
+        match lock.entries().get(place) {
+            Some(entry) => push_entry(alloc, found, lock.head(), place + 1, table, entry)?,
             None => return Ok(()),
         }
+        place += 1;
     }
     Ok(())
 }
 
-/// Adds the findings of an entry, which has this number, with the table that it is.
+/// Adds the findings of an entry, which has this number, with what its table gave.
 fn push_entry(
     alloc: Global,
     found: &mut Vec<Found>,
     head: &Head,
     number: usize,
-    table: &Value,
+    table: TableFindings,
     entry: &Entry,
 ) -> Result<(), AllocError>
     ensures { OnOk result (found.new.items ≡ found.old.items
-        ++ found_at number (Some entry.now.name)
-        (entry_findings head.now (members_in (view table.now)) entry.now)) }
+        ++ found_at number (Some entry.now.name) (entry_findings_by head.now table entry.now)) }
 {
-    let findings = match table {
-        Value::Table(table) => entry_findings(alloc, head, table, entry)?,
-        _ => entry_findings(alloc, head, &Table::new(alloc), entry)?,
-    };
+    let findings = entry_findings(alloc, head, table, entry)?;
     push_found(alloc, found, number, Some(entry.name()), findings)
 }

@@ -29,6 +29,7 @@ mod hash;
 mod keys;
 mod marker;
 mod source;
+mod tables;
 mod unsafe_text;
 mod url;
 

@@ -1,0 +1,61 @@
+-- What the tables of entries give by themselves, and the findings of entries from that.
+use Rattle.std.specs.Prelude.{ℕ, ◌++◌, suc, List, [], ◌∷◌, None, Some, Result, Ok}
+use Rattle.toml.specs.Data.{Items, Members, item, no_items}
+use Rattle.pytext.specs.Results.{◌>>=◌}
+use Rattle.pylock_readers.specs.Entry.{EntryValue}
+use Rattle.pylock_readers.specs.Lock.{HeadValue, LockValue}
+use Rattle.pylock_readers.specs.Lock.Reading.{lock_in}
+use Rattle.pylock_readers.specs.declared.error.LockError.{LockError}
+use Rattle.pylock_audit.specs.Audit.{lock_findings, members_in}
+use Rattle.pylock_audit.specs.Entry.{of_controls, of_file_names, of_hashes, of_kinds, of_marker}
+use Rattle.pylock_audit.specs.Entry.{of_sources, other_form, refused_version}
+use Rattle.pylock_audit.specs.Finding.{FindingValue, FoundValue, found_at, found_each}
+use Rattle.pylock_audit.specs.Keys.{unknown_of_entry}
+use Rattle.pylock_audit.specs.declared.finding.FindingKind.TheVariants as kind
+
+-- the keys of a table that aren't named, and its name where that isn't in normal form
+pub record TableValue : Type 0 where
+  pub unknown : List (List ℕ)
+  pub name : List (List ℕ)
+
+abbrev pub of_table : Members → TableValue
+of_table members = record { unknown = unknown_of_entry members; name = other_form members }
+
+abbrev pub of_tables : Items → List TableValue
+of_tables no_items = []
+of_tables (item d ds) = of_table (members_in d) ∷ of_tables ds
+
+-- the findings that they are
+abbrev pub told_by : TableValue → List FindingValue
+told_by table = found_each kind.UnknownKey table.unknown ++ found_each kind.NameForm table.name
+
+-- those of the keys, the name and the version of an entry
+abbrev pub of_names_by : TableValue → EntryValue → List FindingValue
+of_names_by table entry =
+    found_each kind.UnknownKey table.unknown
+    ++ found_each kind.NameForm table.name
+    ++ found_each kind.Version (refused_version entry)
+
+-- those of an entry
+abbrev pub entry_findings_by : HeadValue → TableValue → EntryValue → List FindingValue
+entry_findings_by head table entry =
+    of_names_by table entry ++ of_marker head entry ++ of_kinds entry ++ of_hashes entry
+    ++ of_file_names entry ++ of_sources entry ++ of_controls entry
+
+-- those of entries, the first of which has this number
+abbrev pub of_entries_by : HeadValue → ℕ → List EntryValue → List TableValue → List FoundValue
+of_entries_by head number entries [] = []
+of_entries_by head number [] (table ∷ tables) = []
+of_entries_by head number (entry ∷ entries) (table ∷ tables) =
+    found_at number (Some entry.name) (entry_findings_by head table entry)
+    ++ of_entries_by head (suc number) entries tables
+
+-- those of a lock, with these of its head
+abbrev pub lock_findings_by : List FindingValue → List TableValue → LockValue → List FoundValue
+lock_findings_by head tables lock =
+    found_at 0 None head ++ of_entries_by lock.head 1 lock.entries tables
+
+-- those of the lock that a document is, or its refusal
+abbrev pub document_findings : Members → Result (List FoundValue) LockError
+document_findings document =
+    lock_in document >>= (λ lock. Ok (lock_findings document lock))

@@ -1,0 +1,110 @@
+//! What the tables of entries give by themselves, before the document becomes a lock.
+
+ghost use Rattle.std.specs.Prelude.{◌≡◌, ◌++◌, IfOk, OnOk, map, option_and_then, option_map};
+ghost use Rattle.std.specs.Prelude.{string_bytes};
+ghost use Rattle.std.specs.Option.{option_copied};
+ghost use Rattle.toml.specs.Data.{as_str, get_member};
+ghost use Rattle.toml.specs.View.{items_view, table_view, view};
+ghost use Rattle.pylock_audit.specs.Audit.{members_in};
+ghost use Rattle.pylock_audit.specs.Entry.{other_form, text_at};
+ghost use Rattle.pylock_audit.specs.Inner.Tables.{of_table, of_tables, told_by};
+
+use crate::finding::{Finding, FindingKind, push_each, told_where};
+use crate::keys::{field, unknown_of_entry};
+use pyver_core::NormalForm;
+use std::alloc::{AllocError, Global};
+use std::marker::Model;
+use toml::{Table, Value};
+
+/// What the table of an entry gives by itself: texts that the lock doesn't keep.
+pub(crate) struct TableFindings {
+    /// The keys that PEP 751 doesn't name.
+    unknown: Vec<String>,
+    /// The name as written, where that isn't its own normal form.
+    name: Vec<String>,
+}
+
+impl Model for TableFindings {
+    ghost use Rattle.std.specs.Prelude.{map, string_bytes};
+    ghost use Rattle.pylock_audit.specs.Inner.Tables.{TableValue};
+
+    ghost Value = { TableValue };
+
+    ghost view = { λ t. record {
+      unknown = map string_bytes t.unknown.items;
+      name = map string_bytes t.name.items;
+    } };
+}
+
+impl Drop for TableFindings {
+    fn drop(self) {
+        let TableFindings {
+            unknown: _,
+            name: _,
+        } = self;
+    }
+}
+
+impl TableFindings {
+    /// What this table gives.
+    fn of(alloc: Global, table: &Table) -> Result<TableFindings, AllocError>
+        ensures { IfOk result (λ found. found ≡ of_table (table_view table.now)) }
+    {
+        let unknown = unknown_of_entry(alloc, table)?;
+        let name = other_form(alloc, table)?;
+        Ok(TableFindings { unknown, name })
+    }
+
+    /// What this value gives, which is a table in a lock, and otherwise gives nothing.
+    fn of_value(alloc: Global, value: &Value) -> Result<TableFindings, AllocError>
+        ensures { IfOk result (λ found. found ≡ of_table (members_in (view value.now))) }
+    {
+        match value {
+            Value::Table(table) => TableFindings::of(alloc, table),
+            _ => TableFindings::of(alloc, &Table::new(alloc)),
+        }
+    }
+
+    /// Adds them as findings.
+    pub(crate) fn push(self, findings: &mut Vec<Finding>) -> Result<(), AllocError>
+        ensures { OnOk result (findings.new.items ≡ findings.old.items ++ told_by self) }
+    {
+        let TableFindings { unknown, name } = self;
+        push_each(findings, FindingKind::UnknownKey, unknown)?;
+        push_each(findings, FindingKind::NameForm, name)
+    }
+}
+
+/// What each of these values gives. Where each key is named and each name is in normal form, it
+/// takes memory for the list alone.
+pub(crate) fn table_findings(
+    alloc: Global,
+    values: &[Value],
+) -> Result<Vec<TableFindings>, AllocError>
+    ensures { IfOk result (λ tables. tables.items ≡ of_tables (items_view values.now)) }
+{
+    let mut tables = Vec::with_capacity(alloc, values.len())?;
+    for value in values {
+        tables.push(TableFindings::of_value(alloc, value)?)?;
+    }
+    Ok(tables)
+}
+
+/// The text of a key, where it is one.
+pub(crate) fn text_at<'a>(table: &'a Table, key: &str) -> Option<&'a str>
+    ensures { option_copied result ≡ text_at key.now (table_view table.now) }
+{
+    field(table, key)?.as_str()
+}
+
+/// The name as written, where that isn't its own normal form.
+fn other_form(alloc: Global, table: &Table) -> Result<Vec<String>, AllocError>
+    ensures { IfOk result (λ list. map string_bytes list.items
+        ≡ other_form (table_view table.now)) }
+{
+    let Some(name) = text_at(table, "name") else {
+        return Ok(Vec::new(alloc));
+    };
+    let normal = NormalForm::of(alloc, name)?;
+    told_where(alloc, normal.as_str() != name, name)
+}
