@@ -6,7 +6,8 @@ ghost use Rattle.std.specs.List.{list_any};
 ghost use Rattle.toml.specs.Data.{get_member};
 ghost use Rattle.toml.specs.View.{items_view, table_view, view};
 ghost use Rattle.pylock_audit.specs.Keys.{is_named, table_keys, unknown_in, unknown_in_wheels};
-ghost use Rattle.pylock_audit.specs.Keys.{unknown_keys, unknown_of_entry, unknown_of_wheels, wheel_path};
+ghost use Rattle.pylock_audit.specs.Keys.{unknown_keys, unknown_of_entry, unknown_of_wheels};
+ghost use Rattle.pylock_audit.specs.Keys.{wheel_path};
 
 use std::alloc::{AllocError, Global};
 use toml::{Table, Value};

@@ -25,8 +25,8 @@ pub found_kept : (count : ℕ) (entries : List (Option EntryValue)) (rows : List
 found_kept count entries rows environment old new place n s are before number stands kept = λ m t other is here.
     ⊎_elim (λ was. before m t other (is.0, was) here)
     (λ now.
-        let same : m ≡ n = ap (λ (f : Found). f.number) now in
-        ap (λ (f : Found). f.standing) now ∙ stands ∙ alike count entries rows environment n place other are number (here ∙ ap Some same))
+    let same : m ≡ n = ap (λ (f : Found). f.number) now in
+    ap (λ (f : Found). f.standing) now ∙ stands ∙ alike count entries rows environment n place other are number (here ∙ ap Some same))
     (kept is.0 (record { number = m; standing = t }) is.1)
 
 -- one more in place of another

@@ -87,7 +87,7 @@ impl Session {
     /// is refused, its arguments are dropped.
     ///
     /// Takes memory for what it keeps of each entry: a row, its number under each key that it reads
-    /// and under its name, and the name.
+    /// and under its name, and the name; and 4 kB, by which entries of one condition are found.
     pub fn start(
         alloc: Global,
         lock: Lock,
@@ -108,9 +108,9 @@ impl Session {
     /// extras, the groups or the tags that are edited, for the entry that is brought, or for each
     /// entry of the policy's name. A refused edit is dropped and leaves the session as it was.
     ///
-    /// Takes memory for the verdicts that it makes and the numbers of their entries, and for what
-    /// it brings: the text of a variable, a name, the row and the places of an entry. `Del` takes
-    /// none.
+    /// Takes memory for the verdicts that it makes and the numbers of their entries, for a table of
+    /// what was found of conditions where it judges many, and for what it brings: the text of a
+    /// variable, a name, the row and the places of an entry. `Del` takes none.
     pub fn edit(&mut self, edit: Edit) -> Result<u64, EditError>
         ensures accepted { OnOk result (apply edit self.old.state ≡ Ok self.new.state) }
         ensures refused { IfErr result (λ error. (error ≡ Memory → ⊥)

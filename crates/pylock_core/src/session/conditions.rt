@@ -1,6 +1,6 @@
-//! The numbers of the conditions of entries. A condition is a marker and a Python set, of which each
-//! may be absent. Entries of one number have one condition, so that an edit judges it once, whatever
-//! entries have it.
+//! The numbers of the conditions of entries. A condition is a marker and a Python set, of which
+//! each may be absent. Entries of one number have one condition, so that an edit judges it once,
+//! whatever entries have it.
 //!
 //! Nothing is kept of a condition but its number: that an entry which comes in has the condition of
 //! another is seen by a look at a few that came in before. Where it isn't seen, the entry gets a
@@ -72,7 +72,11 @@ pub(crate) fn number_of_condition(
     }
     let given = conditions.count;
     conditions.count = given.checked_add(1)?;
-    keep_recent(&mut conditions.recent, group + given as usize % WAYS, number);
+    keep_recent(
+        &mut conditions.recent,
+        group + given as usize % WAYS,
+        number,
+    );
     Some(given)
 }
 

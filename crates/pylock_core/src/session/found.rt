@@ -23,10 +23,7 @@ const MOST: u32 = 10;
 
 /// Nothing yet, where so many entries are judged. What is found of a number has one place, which it
 /// shares with others. It takes no memory for few entries, and no more than 16 bytes for each.
-pub(crate) fn nothing_found(
-    alloc: Global,
-    entries: usize,
-) -> Result<Vec<Option<Found>>, AllocError>
+pub(crate) fn nothing_found(alloc: Global, entries: usize) -> Result<Vec<Option<Found>>, AllocError>
     ensures { IfOk result (λ found. (place : ℕ) → slice_index_or found.items place None ≡ None) }
 {
     Ok(vec![in alloc; None; room_for(entries)]?)
