@@ -18,7 +18,7 @@ pub(crate) struct Found {
 /// Fewer entries than these are judged one by one.
 const FEW: usize = 16;
 
-/// The least power of two that isn't less has no more bits than this: so many are kept at the most.
+/// At most two to this power are kept, which is 1,024.
 const MOST: u32 = 10;
 
 /// Nothing yet, where so many entries are judged. What is found of a number has one place, which it
