@@ -17,6 +17,9 @@ use std::collections::BTreeMap;
 use std::marker::Model;
 use std::rc::Rc;
 
+/// How many ends a reader keeps at most.
+const MOST_ENDS: usize = 4_096;
+
 /// A name and a version, each with `-` behind it, and what they say.
 struct LastHead {
     text: String,
@@ -33,8 +36,9 @@ impl Drop for LastHead {
 /// anew, nor is a build tag with a compressed tag set that any wheel before had: the names share
 /// them.
 ///
-/// Of the names and versions it keeps the last one. It keeps each end that it has read, a build tag
-/// with a compressed tag set and its tags, until it is dropped.
+/// Of the names and versions it keeps the last one. It keeps the ends that it has read, each a build
+/// tag with a compressed tag set and its tags, until it is dropped; when it has 4,096 of them it
+/// lets them go, so that no look for one takes longer by how many names came before.
 pub struct WheelReader {
     alloc: Global,
     last: Option<LastHead>,
@@ -166,12 +170,20 @@ impl WheelReader {
         }
         match read_end(self.alloc, text) {
             Ok(end) => {
+                self.make_room();
                 let text = String::from_str(self.alloc, text)?;
                 self.ends.insert(text, Rc::new(self.alloc, end)?)?;
                 Ok(())
             }
             Err(WheelError::Memory) => Err(AllocError),
             Err(_) => Ok(()),
+        }
+    }
+
+    /// Lets the ends go where there are as many as it keeps.
+    fn make_room(&mut self) {
+        if self.ends.len() >= MOST_ENDS {
+            self.ends = BTreeMap::new(self.alloc);
         }
     }
 }
