@@ -1,15 +1,17 @@
 -- What a lock's findings are where the document was read once.
-use Rattle.std.proofs.Common.{◌≡◌, ◌++◌, ℕ, List, [], ◌∷◌, None, Some, Result, Ok, Err, suc, refl, ap, codes}
-use Rattle.toml.specs.Data.{Items, Members, item, no_items, get_member}
+use Rattle.std.proofs.Common.{◌≡◌, ◌++◌, ℕ, List, [], ◌∷◌, Option, None, Some, Result, Ok, Err, suc, refl, ap, sym, codes, nat_lt, Bool, true, false, if◌then◌else◌, ⊤}
+use Rattle.toml.specs.Data.{Data, Items, Members, item, no_items, get_member, string, integer, float, boolean, datetime, array, table}
 use Rattle.pytext.specs.Results.{◌>>=◌}
 use Rattle.pylock_readers.specs.Entry.{EntryValue}
 use Rattle.pylock_readers.specs.Lock.{HeadValue, LockValue}
-use Rattle.pylock_readers.specs.Lock.Reading.{document_in, lock_in, lock_of}
+use Rattle.pylock_readers.specs.Lock.Head.{created_by_in, head_in, lock_version_in}
+use Rattle.pylock_readers.specs.Lock.Reading.{count, document_in, entries_in, entries_of, lock_in, lock_of, most_entries, packages_in, room_for}
 use Rattle.pylock_readers.specs.declared.error.LockError.{LockError}
+use Rattle.pylock_readers.specs.declared.error.LockError.TheVariants.{TooMany}
 use Rattle.pylock_audit.specs.Audit.{findings_of, head_findings, items_at, lock_findings, members_in, of_entries}
 use Rattle.pylock_audit.specs.Entry.{entry_findings}
 use Rattle.pylock_audit.specs.Finding.{found_at}
-use Rattle.pylock_audit.specs.Inner.Tables.{document_findings, lock_findings_by, of_entries_by, of_tables}
+use Rattle.pylock_audit.specs.Inner.Tables.{document_findings, looked_at, of_entries_by, of_tables}
 
 entries_by_tables : (head : HeadValue) (n : ℕ) (es : List EntryValue) (ds : Items)
     → of_entries_by head n es (of_tables ds) ≡ of_entries head n es ds
@@ -19,13 +21,51 @@ entries_by_tables head n [] (item d ds) = refl
 entries_by_tables head n (e ∷ es) (item d ds) =
     ap (λ rest. found_at n (Some e.name) (entry_findings head (members_in d) e) ++ rest) (entries_by_tables head (suc n) es ds)
 
--- with what the tables gave, a lock has the findings that it has with the document
-pub beside_tables : (document : Members) (lock : LockValue)
-    → lock_findings_by (head_findings document) (of_tables (items_at (get_member (codes "packages") document))) lock
-    ≡ lock_findings document lock
-beside_tables document lock =
-    ap (λ rest. found_at 0 None (head_findings document) ++ rest)
-    (entries_by_tables lock.head 1 lock.entries (items_at (get_member (codes "packages") document)))
+-- a lock has the findings that it has with the document, with what the tables of so many entries gave
+by_entries : (head : HeadValue) (found : List FoundValue) (ds : Items) (es : Result (List EntryValue) LockError)
+    → ((es >>= (λ es. Ok (record { head = head; entries = es }))) >>= (λ lock. Ok (found ++ of_entries lock.head 1 lock.entries ds)))
+    ≡ ((es >>= (λ es. Ok (record { head = head; entries = es }))) >>= (λ lock. Ok (found ++ of_entries_by lock.head 1 lock.entries (of_tables ds))))
+by_entries head found ds (Err e) = refl
+by_entries head found ds (Ok es) = ap (λ rest. Ok (found ++ rest)) (sym (entries_by_tables head 1 es ds))
+
+-- a document has the findings that the lock has with it
+beside_tables : (document : Members)
+    → (lock_in document >>= (λ lock. Ok (lock_findings document lock))) ≡ document_findings document
+unfolding lock_in entries_in
+beside_tables document = by
+    (lock_version_in (get_member (codes "lock-version") document))
+    (created_by_in (get_member (codes "created-by") document))
+    (head_in (get_member (codes "environments") document) (get_member (codes "requires-python") document) (get_member (codes "extras") document) (get_member (codes "dependency-groups") document) (get_member (codes "default-groups") document))
+    (get_member (codes "packages") document)
+  where
+    found : List FoundValue
+    found = found_at 0 None (head_findings document)
+
+    Same : Result ⊤ LockError → Result ⊤ LockError → Result HeadValue LockError → Result (List EntryValue) LockError → Items → Items → Type 0
+    Same version creator head entries ds looked =
+        ((version >>= (λ _. creator >>= (λ _. head >>= (λ head. entries >>= (λ es. Ok (record { head = head; entries = es }))))))
+        >>= (λ lock. Ok (found ++ of_entries lock.head 1 lock.entries ds)))
+        ≡ ((version >>= (λ _. creator >>= (λ _. head >>= (λ head. entries >>= (λ es. Ok (record { head = head; entries = es }))))))
+        >>= (λ lock. Ok (found ++ of_entries_by lock.head 1 lock.entries (of_tables looked))))
+
+    counted : (head : HeadValue) (ds : Items) (many : Bool)
+        → Same (Ok tt) (Ok tt) (Ok head) ((if many then Err TooMany else Ok tt) >>= (λ _. entries_of 1 ds)) ds (if many then no_items else ds)
+    counted head ds true = refl
+    counted head ds false = by_entries head found ds (entries_of 1 ds)
+
+    by : (version : Result ⊤ LockError) (creator : Result ⊤ LockError) (head : Result HeadValue LockError) (packages : Option Data)
+        → Same version creator head (packages_in packages >>= (λ ds. room_for ds >>= (λ _. entries_of 1 ds))) (items_at packages) (looked_at (items_at packages))
+    by (Err e) creator head packages = refl
+    by (Ok _) (Err e) head packages = refl
+    by (Ok _) (Ok _) (Err e) packages = refl
+    by (Ok _) (Ok _) (Ok head) None = counted head no_items (nat_lt most_entries (count no_items))
+    by (Ok _) (Ok _) (Ok head) (Some (array ds)) = counted head ds (nat_lt most_entries (count ds))
+    by (Ok _) (Ok _) (Ok head) (Some (string text)) = refl
+    by (Ok _) (Ok _) (Ok head) (Some (integer number)) = refl
+    by (Ok _) (Ok _) (Ok head) (Some (float number)) = refl
+    by (Ok _) (Ok _) (Ok head) (Some (boolean flag)) = refl
+    by (Ok _) (Ok _) (Ok head) (Some (datetime moment)) = refl
+    by (Ok _) (Ok _) (Ok head) (Some (table members)) = refl
 
 -- the findings of the lock that the bytes are, from the document that they are
 pub read_once : (bytes : List ℕ) → findings_of bytes ≡ (document_in bytes >>= document_findings)
@@ -39,4 +79,4 @@ read_once bytes = by (document_in bytes)
           Ok (lock_findings document lock))
         ≡ (document >>= document_findings)
     by (Err e) = refl
-    by (Ok d) = refl
+    by (Ok d) = beside_tables d

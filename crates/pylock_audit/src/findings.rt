@@ -8,7 +8,7 @@ ghost use Rattle.pylock_audit.specs.Audit.{findings_of, head_findings, items_at}
 ghost use Rattle.pylock_audit.specs.Audit.{other_lock_version};
 ghost use Rattle.pylock_audit.specs.Finding.{found_at};
 ghost use Rattle.pylock_audit.specs.Inner.Tables.{document_findings, entry_findings_by};
-ghost use Rattle.pylock_audit.specs.Inner.Tables.{lock_findings_by, of_entries_by};
+ghost use Rattle.pylock_audit.specs.Inner.Tables.{lock_findings_by, of_entries_by, tables_in};
 
 use crate::entry::entry_findings;
 use crate::finding::{Finding, FindingKind, Found, push_each, push_found, push_where, told_where};
@@ -18,6 +18,9 @@ use pylock_core::{Entry, Head, Lock, LockError};
 use pylock_readers::read_document;
 use std::alloc::{AllocError, Global};
 use toml::{Table, Value};
+
+/// How many entries a lock may have.
+const MOST_ENTRIES: usize = 100_000;
 
 /// What a careful reader of the lock would want to be told, though the lock is valid: the findings
 /// of its head, and then those of its entries in order (PEP 751). The refusals are those of
@@ -36,13 +39,12 @@ pub fn audit(alloc: Global, bytes: &[u8]) -> Result<Vec<Found>, LockError>
 }
 
 /// The findings of the lock that a document is, or its refusal.
-#[tactic(auto, using(crate::proofs::TableLemmas::beside_tables))]
 fn document_findings(alloc: Global, document: Table) -> Result<Vec<Found>, LockError>
     ensures { Gives LockError.Memory (λ found. found.items) result
         (document_findings (table_view document)) }
 {
     let head = head_findings(alloc, &document)?;
-    let tables = table_findings(alloc, items_at(field(&document, "packages")))?;
+    let tables = tables_in(alloc, &document)?;
     let lock = Lock::from_document(alloc, document)?;
     Ok(lock_findings(alloc, head, tables, &lock)?)
 }
@@ -93,6 +95,19 @@ fn other_lock_version(alloc: Global, document: &Table) -> Result<Vec<String>, Al
 }
 
 // ---- the entries
+
+/// What the tables of the entries give. Where there are more than a lock may have, none is looked
+/// at, since the document is refused.
+#[tactic(auto, using(pylock_readers::proofs::EntryLemmas::count_of_items))]
+fn tables_in(alloc: Global, document: &Table) -> Result<Vec<TableFindings>, AllocError>
+    ensures { IfOk result (λ tables. tables.items ≡ tables_in (table_view document.now)) }
+{
+    let values = items_at(field(document, "packages"));
+    if values.len() > MOST_ENTRIES {
+        return Ok(Vec::new(alloc));
+    }
+    table_findings(alloc, values)
+}
 
 /// The list that a key has, or none.
 fn items_at(field: Option<&Value>) -> &[Value]

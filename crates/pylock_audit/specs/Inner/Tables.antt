@@ -1,12 +1,13 @@
 -- What the tables of entries give by themselves, and the findings of entries from that.
-use Rattle.std.specs.Prelude.{ℕ, ◌++◌, suc, List, [], ◌∷◌, None, Some, Result, Ok}
-use Rattle.toml.specs.Data.{Items, Members, item, no_items}
+use Rattle.std.specs.Prelude.{ℕ, ◌++◌, codes, nat_lt, suc, List, [], ◌∷◌, None, Some, Result, Ok}
+use Rattle.std.specs.Prelude.{if◌then◌else◌}
+use Rattle.toml.specs.Data.{Items, Members, get_member, item, no_items}
 use Rattle.pytext.specs.Results.{◌>>=◌}
 use Rattle.pylock_readers.specs.Entry.{EntryValue}
 use Rattle.pylock_readers.specs.Lock.{HeadValue, LockValue}
-use Rattle.pylock_readers.specs.Lock.Reading.{lock_in}
+use Rattle.pylock_readers.specs.Lock.Reading.{count, lock_in, most_entries}
 use Rattle.pylock_readers.specs.declared.error.LockError.{LockError}
-use Rattle.pylock_audit.specs.Audit.{lock_findings, members_in}
+use Rattle.pylock_audit.specs.Audit.{head_findings, items_at, members_in}
 use Rattle.pylock_audit.specs.Entry.{of_controls, of_file_names, of_hashes, of_kinds, of_marker}
 use Rattle.pylock_audit.specs.Entry.{of_sources, other_form, refused_version}
 use Rattle.pylock_audit.specs.Finding.{FindingValue, FoundValue, found_at, found_each}
@@ -24,6 +25,15 @@ of_table members = record { unknown = unknown_of_entry members; name = other_for
 abbrev pub of_tables : Items → List TableValue
 of_tables no_items = []
 of_tables (item d ds) = of_table (members_in d) ∷ of_tables ds
+
+-- the items, where a lock may have so many entries: a document that has more is refused, so none of
+-- them is looked at
+abbrev pub looked_at : Items → Items
+looked_at items = if nat_lt most_entries (count items) then no_items else items
+
+-- what the tables of a document's entries give
+abbrev pub tables_in : Members → List TableValue
+tables_in document = of_tables (looked_at (items_at (get_member (codes "packages") document)))
 
 -- the findings that they are
 abbrev pub told_by : TableValue → List FindingValue
@@ -58,4 +68,5 @@ lock_findings_by head tables lock =
 -- those of the lock that a document is, or its refusal
 abbrev pub document_findings : Members → Result (List FoundValue) LockError
 document_findings document =
-    lock_in document >>= (λ lock. Ok (lock_findings document lock))
+    lock_in document
+    >>= (λ lock. Ok (lock_findings_by (head_findings document) (tables_in document) lock))
