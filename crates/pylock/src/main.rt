@@ -1,5 +1,15 @@
 //! `pylock`: selects from a pylock.toml lock what an installer installs, and answers questions on
 //! versions, names, markers, requirements and wheels.
+//!
+//! ```text
+//! $ pylock plan pylock.toml env.json --extra science
+//! ```
+//!
+//! It is thin. `main` asks [`command`] for the task that the words are, and [`perform`] does it, on
+//! what only a host has: the files, standard input and the two outputs, each behind a trait of
+//! `pylock_run`. Nothing is proved of what a file or a terminal gives or takes; what the program
+//! does with it is the contract of `perform`, in `pylock_program`. Read that crate next, and
+//! `pylock_run` for the lines of `select`.
 #![tactic(auto)]
 
 use pylock_command::{CommandError, Task, command};
