@@ -1,4 +1,5 @@
-"""What the module declares of the library's calls is what include/pylock.h declares."""
+"""What the module declares of the library's calls is what include/pylock.h declares, and its codes are the numbers that
+the definitions give."""
 
 import ctypes
 import re
@@ -26,7 +27,28 @@ def declared():
         yield name, RESULTS[result], tuple(types)
 
 
+def codes_of_header():
+    return {name: int(code) for name, code in re.findall(r"PYLOCK_(\w+) = (\d+)", text_of("include", "pylock.h"))}
+
+
+def codes_of_definitions():
+    """The numbers in the definitions that the contracts of the calls cite, under the names of the header."""
+    names = {"refusal.Lock": "LOCK_REFUSED", "refusal.Environment": "ENVIRONMENT_REFUSED"}
+    names.update({"line.Memory": "MEMORY", "line.Text": "NOT_UTF8", "refusal.NotUtf8": "NOT_UTF8"})
+    rows = re.findall(r"^\w*number (\w+)\.(\w+) = pos (\d+)$", text_of("crates", "pylock_c", "specs", "Refusal.antt"), re.MULTILINE)
+    for kind, variant, code in rows:
+        words = re.sub(r"(?<!^)(?=[A-Z])", "_", variant).upper()
+        yield names.get(f"{kind}.{variant}", words if kind == "refusal" else f"EDIT_{words}"), int(code)
+
+
 class Header(unittest.TestCase):
+    def test_definitions(self):
+        # neither refuses a call
+        codes = codes_of_header()
+        self.assertEqual((codes.pop("OK"), codes.pop("ROOM")), (0, 4))
+        defined = list(codes_of_definitions())
+        self.assertEqual(sorted(set(defined)), sorted(codes.items()))
+
     def test_calls(self):
         seen = {name: (result, types) for name, result, types in declared()}
         self.assertGreater(len(seen), 50)
@@ -38,7 +60,7 @@ class Header(unittest.TestCase):
                 self.assertEqual((call.restype, tuple(call.argtypes)), seen[name[len("pylock_") :]])
 
     def test_codes(self):
-        codes = {name: int(code) for name, code in re.findall(r"PYLOCK_(\w+) = (\d+)", text_of("include", "pylock.h"))}
+        codes = codes_of_header()
         for name in ("MEMORY", "NOT_UTF8", "EMPTY", "ROOM"):
             self.assertEqual(getattr(_native, name), codes.pop(name))
         for name in ("OK", "LOCK_REFUSED", "ENVIRONMENT_REFUSED"):
