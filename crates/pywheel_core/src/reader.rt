@@ -36,9 +36,9 @@ impl Drop for LastHead {
 /// anew, nor is a build tag with a compressed tag set that any wheel before had: the names share
 /// them.
 ///
-/// Of the names and versions it keeps the last one. It keeps the ends that it has read, each a build
-/// tag with a compressed tag set and its tags, until it is dropped; when it has 4,096 of them it
-/// lets them go, so that no look for one takes longer by how many names came before.
+/// Of the names and versions it keeps the last one. It keeps each end that it has read, a build tag
+/// with a compressed tag set and its tags, until it is dropped or has 4,096 of them: then it lets
+/// all of them go, so that no look for one takes longer by how many names came before.
 pub struct WheelReader {
     alloc: Global,
     last: Option<LastHead>,
