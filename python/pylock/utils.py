@@ -8,7 +8,6 @@
 from __future__ import annotations
 
 import re
-from functools import lru_cache
 from typing import FrozenSet, NewType, Tuple, Union, cast
 
 from . import _native
@@ -34,31 +33,6 @@ NormalizedName = NewType("NormalizedName", str)
 
 _ZEROS = re.compile(r"(\.0)+$")
 
-# Few names and tag sets stand in many texts: the last ones are kept, where they are short.
-_KEPT = 1024
-_SHORT = 256
-
-
-@lru_cache(_KEPT)
-def _kept_name(name: str) -> str:
-    return _native.name(name)
-
-
-def _normal(name: str) -> str:
-    return _kept_name(name) if len(name) <= _SHORT else _native.name(name)
-
-
-def _split_tags(text: str) -> FrozenSet[Tag]:
-    return frozenset(Tag(*tag.split("-")) for tag in text.split(" "))
-
-
-_kept_tags = lru_cache(_KEPT)(_split_tags)
-
-
-def _tags(text: str) -> FrozenSet[Tag]:
-    """The tags of a text, which has a space between two."""
-    return _kept_tags(text) if len(text) <= _SHORT else _split_tags(text)
-
 
 def canonicalize_name(name: str, *, validate: bool = False) -> NormalizedName:
     """The normal form of a text as a name (PEP 503); with `validate` a text that is no name is refused.
@@ -74,7 +48,7 @@ def canonicalize_name(name: str, *, validate: bool = False) -> NormalizedName:
     """
     if validate and not _native.is_name(name):
         raise InvalidName("name is invalid: %r" % name, word="name")
-    normal = _normal(name)
+    normal = _native.name(name)
     return cast(NormalizedName, normal if normal.isascii() else normal.lower())
 
 
@@ -84,7 +58,7 @@ def is_normalized_name(name: str) -> bool:
     >>> is_normalized_name("foo-bar"), is_normalized_name("foo_bar"), is_normalized_name("-foo")
     (True, False, False)
     """
-    return _native.is_name(name) and _normal(name) == name
+    return _native.is_name(name) and _native.name(name) == name
 
 
 def canonicalize_version(version: Union[Version, str], *, strip_trailing_zero: bool = True) -> str:
@@ -120,7 +94,12 @@ def parse_wheel_filename(filename: str) -> Tuple[NormalizedName, Version, BuildT
     if build_text is not None:
         digits = build_text[: len(build_text) - len(build_text.lstrip("0123456789"))]
         build = int(digits), build_text[len(digits) :]
-    return canonicalize_name(name), Version(version), build, _tags(tags)
+    return (
+        canonicalize_name(name),
+        Version(version),
+        build,
+        frozenset(Tag(*tag.split("-")) for tag in tags.split(" ")),
+    )
 
 
 def parse_sdist_filename(filename: str) -> Tuple[NormalizedName, Version]:
