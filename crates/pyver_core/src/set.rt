@@ -1,6 +1,6 @@
 //! Specifier sets (PEP 440, "Version specifiers").
 
-ghost use Rattle.std.specs.Prelude.{◌≡◌, [], IfOk};
+ghost use Rattle.std.specs.Prelude.{◌≡◌, [], IfOk, IsTrue};
 ghost use Rattle.std.specs.Cmp.{partial_equiv_from_equiv};
 ghost use Rattle.pyver_core.specs.Inner.EqualityLaws.{set_equivalence};
 ghost use Rattle.pyver_core.specs.Set.Equality.{set_eq};
@@ -23,6 +23,10 @@ pub use specifier::{Operator, ReleasePrefix, Specifier};
 use std::alloc::{AllocError, Global};
 use std::marker::Model;
 
+/// The most bytes of a text that are compared to see that two sets are the same. Nearly each set is
+/// shorter, and a long text that another party chose costs no more than this.
+const MOST_COMPARED: usize = 256;
+
 /// Specifiers that all have to hold, kept in the order in which they were written, with their
 /// normal form. The empty set admits every version.
 ///
@@ -30,10 +34,13 @@ use std::marker::Model;
 pub struct SpecifierSet {
     items: Vec<Specifier>,
     text: String,
+    /// Whether the set was read from this very text, so that it is known to be the text's own.
+    is_normal: bool,
 }
 
 impl Model for SpecifierSet {
-    ghost use Rattle.std.specs.Prelude.{◌≡◌, List, string_bytes};
+    ghost use Rattle.std.specs.Prelude.{◌≡◌, IsTrue, List, Ok, string_bytes};
+    ghost use Rattle.pyver_core.specs.Parsed.{parsed_set};
     ghost use Rattle.pyver_core.specs.Set.Normal.{set_text};
     ghost use Rattle.pyver_core.specs.declared.set.specifier.Specifier.{Specifier};
 
@@ -41,7 +48,8 @@ impl Model for SpecifierSet {
 
     ghost view = { λ set. set.items.items };
 
-    ghost invariant = { λ set. string_bytes set.text ≡ set_text set.items.items };
+    ghost invariant = { λ set. (string_bytes set.text ≡ set_text set.items.items)
+        × (IsTrue set.is_normal → parsed_set (string_bytes set.text) ≡ Ok set.items.items) };
 }
 
 impl SpecifierSet {
@@ -52,6 +60,7 @@ impl SpecifierSet {
         SpecifierSet {
             items: Vec::new(alloc),
             text: String::new(alloc),
+            is_normal: false,
         }
     }
 
@@ -66,6 +75,7 @@ impl SpecifierSet {
         Ok(SpecifierSet {
             items: specifiers,
             text,
+            is_normal: false,
         })
     }
 
@@ -81,6 +91,17 @@ impl SpecifierSet {
         ensures { result.now ≡ set_text self.now }
     {
         self.text.as_str()
+    }
+
+    /// Whether the sets are seen at once to be the same, as two of one text in normal form are, up
+    /// to 256 bytes. `false` says nothing. It takes no memory.
+    pub fn is_seen_same(&self, other: &SpecifierSet) -> bool
+        ensures { IsTrue result → self.now ≡ other.now }
+    {
+        self.is_normal
+            && other.is_normal
+            && self.text.len() <= MOST_COMPARED
+            && self.text.as_str() == other.text.as_str()
     }
 
     /// Whether each of the specifiers admits the version. It takes no memory.
@@ -99,6 +120,7 @@ impl Clone for SpecifierSet {
         Ok(SpecifierSet {
             items: self.items.clone()?,
             text: self.text.clone()?,
+            is_normal: self.is_normal,
         })
     }
 }
@@ -120,6 +142,10 @@ impl Eq for SpecifierSet {
 
 impl Drop for SpecifierSet {
     fn drop(self) {
-        let SpecifierSet { items: _, text: _ } = self;
+        let SpecifierSet {
+            items: _,
+            text: _,
+            is_normal: _,
+        } = self;
     }
 }

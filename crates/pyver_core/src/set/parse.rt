@@ -9,6 +9,7 @@ ghost use Rattle.pyver_core.specs.Set.Grammar.{IsLargeSet, SetText, specifier_nu
 ghost use Rattle.pyver_core.specs.Inner.SpecifierDraft.{draft_specifier};
 ghost use Rattle.pyver_core.specs.declared.set.specifier.Specifier.{Specifier};
 
+use super::normal::set_text;
 use super::reading::{SpecifierDraft, read_plain_specifier, read_specifier};
 use crate::set::{Specifier, SpecifierError, SpecifierSet};
 use crate::version::VersionError;
@@ -43,7 +44,13 @@ fn set_from_text(alloc: Global, text: &str) -> Result<SpecifierSet, SpecifierErr
     ensures { Gives SpecifierError.Memory (λ set. set) result (parsed_set text.now) }
 {
     let items = read_items(alloc, text)?;
-    Ok(SpecifierSet::from_specifiers(alloc, items)?)
+    let normal = set_text(alloc, &items)?;
+    let is_normal = normal.as_str() == text;
+    Ok(SpecifierSet {
+        items,
+        text: normal,
+        is_normal,
+    })
 }
 
 /// The specifiers of a set. A number past the limit is answered only once the whole text was read.
