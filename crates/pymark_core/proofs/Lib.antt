@@ -19,6 +19,5 @@ pub mod Texts
 pub mod TokenLemmas
 pub mod TokensLemmas
 pub mod TreeView
-pub mod TripleLemmas
 pub mod Turns
 pub mod ValueRefusals

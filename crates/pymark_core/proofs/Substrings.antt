@@ -1,16 +1,14 @@
 -- A text stands in another where that is something before it, itself, and something behind it.
-use Rattle.std.proofs.Common.{◌≡◌, ℕ, ◌+◌, ◌<◌, arith, Option, Some, None, Bool, true, false, ◌||◌, List, [], ◌∷◌, ◌++◌, length, take, drop, nat_eq, ◌∙◌, ap, refl, sym, subst}
-use Rattle.std.proofs.lemmas.List.{length-append, take-append-drop}
+use Rattle.std.proofs.Common.{◌≡◌, ℕ, zero, suc, ◌+◌, ◌<◌, ◌≤◌, arith, inl, inr, get_or, Bool, true, false, ◌&&◌, ◌||◌, List, [], ◌∷◌, ◌++◌, length, take, drop, nat_eq, ◌∙◌, ap, refl, sym, subst}
+use Rattle.std.proofs.lemmas.List.{get_or-drop, get_or_append_left, length-append, take-append-drop}
 use Rattle.std.proofs.lemmas.Slice.Eq.{bytes_eq-Decides}
 use Rattle.std.proofs.Math.Bool.{or-true}
-use Rattle.std.proofs.lemmas.Bool.{true≢false}
-use Rattle.std.specs.Option.{is_some}
+use Rattle.std.proofs.lemmas.Bool.{and_cases, cases_lt, eqb-false, true≢false}
 use Rattle.std.proofs.Math.Logic.{◌↔◌}
 use Rattle.std.proofs.Math.Seq.{drop_at, take-append_seam}
 use Rattle.std.specs.List.{starts_with}
 use Rattle.std.specs.Str.Iter.{HasSubslice}
-use Rattle.memchr.specs.Find.{FindsNeedle}
-use Rattle.memchr.proofs.lemmas.MatchLemmas.{OccursAt-from_part, OccursAt-split}
+use Rattle.pymark_core.specs.Inner.Passed.{BeginsNowhere}
 use Rattle.pymark_core.specs.Marker.Value.{is_substring}
 
 at_front : (s x : List ℕ) → starts_with nat_eq s x ≡ true → s ≡ x ++ drop (length x) s
@@ -63,18 +61,51 @@ longer_nowhere x y longer =
       | false ↦ λ _. refl
     ] refl
 
--- what a search finds, stands in the text
-pub finds_substring : (y x : List ℕ) (at : Option ℕ) → FindsNeedle y x 0 at → (is_some at ≡ true) ↔ HasSubslice y x
-finds_substring y x (Some k) found = (
-  λ _. (take k y, drop (k + length x) y, sym (take-append-drop k y) ∙ ap (λ l. take k y ++ l) (OccursAt-split y x k found.1)),
-  λ _. refl,
-)
-finds_substring y x None none = (
-  λ e. absurd (true≢false (sym e)),
-  λ h.
-      let whole : length y ≡ length h.0 + (length x + length h.1) =
-      ap length h.2 ∙ length-append h.0 (x ++ h.1) ∙ ap (λ n. length h.0 + n) (length-append x h.1) in
-      let part : take (length x) (drop (length h.0) y) ≡ x =
-      ap (λ l. take (length x) (drop (length h.0) l)) h.2 ∙ ap (take (length x)) (drop_at h.0 (x ++ h.1) (length h.0) refl) ∙ take-append_seam x h.1 in
-      absurd (none (length h.0) (omega arith) (omega arith) (OccursAt-from_part y x (length h.0) (omega arith) part)),
-)
+-- a text that has another byte somewhere doesn't begin so
+pub begins_otherwise : (x s : List ℕ) (k : ℕ) → k < length x → (get_or s k 0 ≡ get_or x k 0 → ⊥) → starts_with nat_eq s x ≡ false
+begins_otherwise x s k below apart =
+    elim (starts_with nat_eq s x) as (λ t. starts_with nat_eq s x ≡ t → t ≡ false) [
+      | true ↦ λ is.
+          let same : get_or s k 0 ≡ get_or x k 0 = ap (λ l. get_or l k 0) (at_front s x is) ∙ get_or_append_left x (drop (length x) s) 0 k below in
+          absurd (apart same)
+      | false ↦ λ _. refl
+    ] refl
+
+differs_at : (x y : List ℕ) (place k : ℕ) → k < length x → nat_eq (get_or y (place + k) 0) (get_or x k 0) ≡ false → starts_with nat_eq (drop place y) x ≡ false
+differs_at x y place k below apart =
+    begins_otherwise x (drop place y) k below (λ same. eqb-false _ _ apart (sym (get_or-drop place y k 0) ∙ same))
+
+no_further : (place : ℕ) → place + 0 ≡ place
+no_further place = omega arith
+
+-- a text that has another byte at one of three places of a part doesn't have the part there
+pub unlike_at : (x y : List ℕ) (place middle last : ℕ) → 0 < length x → middle < length x → last < length x
+    → ((nat_eq (get_or y place 0) (get_or x 0 0) && nat_eq (get_or y (place + middle) 0) (get_or x middle 0)) && nat_eq (get_or y (place + last) 0) (get_or x last 0)) ≡ false
+    → starts_with nat_eq (drop place y) x ≡ false
+unlike_at x y place middle last some m l none = elim (and_cases _ _ none) [
+  | inl front ↦ elim (and_cases _ _ front) [
+    | inl first ↦ differs_at x y place 0 some (ap (λ n. nat_eq (get_or y n 0) (get_or x 0 0)) (no_further place) ∙ first)
+    | inr second ↦ differs_at x y place middle m second
+  ]
+  | inr third ↦ differs_at x y place last l third
+]
+
+-- what begins at none of the first places stands in what is left
+pub behind_passed : (x y : List ℕ) (n : ℕ) → BeginsNowhere x y 0 n → is_substring x (drop n y) ≡ is_substring x y
+behind_passed x y zero none = refl
+behind_passed x [] (suc n) none = refl
+behind_passed x (b ∷ rest) (suc n) none =
+    behind_passed x rest n (λ k _ below. none (suc k) (omega arith) (omega arith))
+    ∙ sym (ap (λ t. t || is_substring x rest) (none 0 (omega arith) (omega arith)))
+
+-- places, and more of them
+pub more_passed : (x y : List ℕ) (from to end : ℕ) → BeginsNowhere x y 0 to → from ≤ to → BeginsNowhere x y from end → BeginsNowhere x y 0 end
+more_passed x y from to end before reaches behind = λ k _ below. elim (cases_lt k to) [
+  | inl front ↦ before k (omega arith) front
+  | inr back ↦ behind k (omega arith) below
+]
+
+-- fewer places, of equal texts
+pub fewer_passed : (x y a b : List ℕ) (n m : ℕ) → a ≡ x → b ≡ y → n ≤ m → BeginsNowhere a b 0 m → BeginsNowhere x y 0 n
+fewer_passed x y a b n m same_part same_whole fewer none = λ k from below.
+    sym (λ i. starts_with nat_eq (drop k (same_whole i)) (same_part i)) ∙ none k from (omega (arith, below, fewer))

@@ -1,11 +1,9 @@
 //! Texts that markers compare, with the version that each spells.
 
-ghost use Rattle.std.specs.Prelude.{◌≡◌, false, IfOk, IfSome, IsTrue, string_bytes};
+ghost use Rattle.std.specs.Prelude.{◌≡◌, IfOk, IfSome, string_bytes};
 ghost use Rattle.pyver_core.specs.Name.{norm};
 ghost use Rattle.pyver_core.specs.Parsed.{parsed_version};
-ghost use Rattle.pymark_core.specs.Marker.Value.{is_substring};
 
-use crate::triples::{lacks, met_in_long};
 use pyver_core::{NormalName, Version, VersionError};
 use std::alloc::{AllocError, Global};
 use std::marker::Model;
@@ -99,35 +97,7 @@ impl Drop for Candidate {
 ///
 /// Contracts see the text.
 pub(crate) struct SharedText {
-    known: Arc<Known>,
-}
-
-/// A text with what it reads as, and with the places of its triples where those are noted.
-///
-/// Contracts see the text alone, since the rest follows from it.
-struct Known {
-    candidate: Candidate,
-    met: Option<Vec<bool>>,
-}
-
-impl Model for Known {
-    ghost use Rattle.std.specs.Prelude.{IfSome, List, ℕ};
-    ghost use Rattle.pymark_core.specs.Inner.Triples.{MeetsAll};
-
-    ghost Value = { List ℕ };
-
-    ghost view = { λ k. k.candidate };
-
-    ghost invariant = { λ k. IfSome k.met (λ met. MeetsAll met.items k.candidate) };
-}
-
-impl Drop for Known {
-    fn drop(self) {
-        let Known {
-            candidate: _,
-            met: _,
-        } = self;
-    }
+    candidate: Arc<Candidate>,
 }
 
 impl Model for SharedText {
@@ -135,12 +105,12 @@ impl Model for SharedText {
 
     ghost Value = { List ℕ };
 
-    ghost view = { λ s. s.known.value };
+    ghost view = { λ s. s.candidate.value };
 }
 
 impl Drop for SharedText {
     fn drop(self) {
-        let SharedText { known: _ } = self;
+        let SharedText { candidate: _ } = self;
     }
 }
 
@@ -149,28 +119,16 @@ impl SharedText {
     pub(crate) fn new(alloc: Global, text: &str) -> Result<SharedText, AllocError>
         ensures { IfOk result (λ shared. shared ≡ text.now) }
     {
-        let met = met_in_long(alloc, text)?;
         let text = String::from_str(alloc, text)?;
-        let candidate = Candidate::new(alloc, text)?;
-        let known = Arc::new(alloc, Known { candidate, met })?;
-        Ok(SharedText { known })
+        let candidate = Arc::new(alloc, Candidate::new(alloc, text)?)?;
+        Ok(SharedText { candidate })
     }
 
     /// The text with what it reads as.
     pub(crate) fn candidate(&self) -> &Candidate
         ensures { result.now ≡ self.now }
     {
-        &self.known.candidate
-    }
-
-    /// Whether it is seen at once that the part stands nowhere in the text. `false` says nothing.
-    pub(crate) fn lacks(&self, part: &str) -> bool
-        ensures { IsTrue result → is_substring part.now self.now ≡ false }
-    {
-        match &self.known.met {
-            Some(met) => lacks(met, part.as_bytes()),
-            None => false,
-        }
+        &self.candidate
     }
 }
 
@@ -181,7 +139,7 @@ impl Clone for SharedText {
 
     fn clone(&self) -> Result<SharedText, AllocError> {
         Ok(SharedText {
-            known: self.known.clone()?,
+            candidate: self.candidate.clone()?,
         })
     }
 }

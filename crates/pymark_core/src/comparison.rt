@@ -14,12 +14,12 @@ ghost use Rattle.pymark_core.specs.Marker.Value.{names_value, operand_text, oper
 ghost use Rattle.pymark_core.specs.Marker.Value.{text_value, texts_value};
 ghost use Rattle.pyver_core.specs.Parsed.{parsed_operand};
 
-use crate::candidate::{Candidate, SharedText};
+use crate::candidate::Candidate;
 use crate::environment::Environment;
 use crate::fault::EvalFault;
 use crate::operand::{Comparator, Operand};
+use crate::substring::is_substring;
 use crate::variable::Var;
-use memchr::memmem;
 use pyver_core::{
     Label, NormalForm, Operator, Specifier, SpecifierError, VersionError, is_same_name, normal_name,
 };
@@ -368,31 +368,12 @@ fn has_in(
     match right {
         Operand::Text(whole) => Ok(is_substring(left.text(), whole.as_str())),
         Operand::Variable(variable) => {
-            let whole = variable_shared(environment, *variable)?;
-            Ok(is_in_shared(left.text(), whole))
+            Ok(is_substring(left.text(), variable_text(environment, *variable)?))
         }
         Operand::Extra => Err(EvalFault::Extra),
         Operand::Extras => Ok(is_extra(alloc, environment, left)?),
         Operand::Groups => Ok(is_group(alloc, environment, left)?),
     }
-}
-
-/// The text of a variable, as environments share it.
-fn variable_shared(environment: &Environment, variable: Var) -> Result<&SharedText, EvalFault>
-    ensures { Gives EvalFault.Memory (λ shared. shared.now) result
-        (operand_text None environment.now (Operand.Variable variable)) }
-{
-    environment
-        .shared(variable)
-        .ok_or(EvalFault::Unset(variable))
-}
-
-/// Whether the text stands somewhere in a variable's.
-fn is_in_shared(part: &str, whole: &SharedText) -> bool
-    ensures { result ≡ is_substring part.now whole.now }
-{
-    let text = whole.candidate().text();
-    has_room(part, text) && !whole.lacks(part) && is_found(part, text)
 }
 
 /// Whether the name is in the operand, where `extra` has this text.
@@ -444,44 +425,6 @@ fn is_group(alloc: Global, environment: &Environment, left: &Candidate) -> Resul
         Some(name) => Ok(environment.has_group(name)),
         None => Ok(environment.has_group(normal_name(alloc, left.text())?.as_str())),
     }
-}
-
-/// Whether the first text stands somewhere in the second.
-fn is_substring(part: &str, whole: &str) -> bool
-    ensures { result ≡ is_substring part.now whole.now }
-{
-    has_room(part, whole) && is_found(part, whole)
-}
-
-/// Whether the second text is as long as the first, which else stands nowhere in it. Neither is
-/// looked at, however long they are.
-#[tactic(auto, using(crate::proofs::Substrings::longer_nowhere))]
-fn has_room(part: &str, whole: &str) -> bool
-    ensures { result ≡ false → is_substring part.now whole.now ≡ false }
-{
-    part.len() <= whole.len()
-}
-
-/// From this length on a text is searched many bytes at a time, after a look at what is searched.
-/// For shorter texts `contains` is as quick, and takes no such look.
-const LONG: usize = 256;
-
-/// Whether the first text is found in the second, by a search.
-fn is_found(part: &str, whole: &str) -> bool
-    ensures { result ≡ is_substring part.now whole.now }
-{
-    if whole.len() < LONG {
-        whole.contains(part)
-    } else {
-        is_far_in(part.as_bytes(), whole.as_bytes())
-    }
-}
-
-/// The same of the bytes of a long text.
-fn is_far_in(part: &[u8], whole: &[u8]) -> bool
-    ensures { result ≡ is_substring part.now whole.now }
-{
-    memmem::find(whole, part).is_some()
 }
 
 /// The text on the left against the operand on the right, by an operator of specifiers.

@@ -78,17 +78,10 @@ impl Environment {
     pub(crate) fn candidate(&self, variable: Var) -> Option<&Candidate>
         ensures { option_map (λ candidate. candidate.now) result ≡ variable_in variable self.now }
     {
-        match self.shared(variable) {
+        match &self.variables[variable.place()] {
             Some(shared) => Some(shared.candidate()),
             None => None,
         }
-    }
-
-    /// The text of the variable, as environments share it.
-    pub(crate) fn shared(&self, variable: Var) -> Option<&SharedText>
-        ensures { option_map (λ shared. shared.now) result ≡ variable_in variable self.now }
-    {
-        self.variables[variable.place()].as_ref()
     }
 
     /// The version that the text of the variable spells, or why it spells none; nothing where the

@@ -2,7 +2,7 @@
 //! 508).
 //!
 //! It is for whoever asks whether `python_version >= "3.8"` holds, or reads `requests[security] >=
-//! 2` into its parts. It stands on `pyver_core`, `pytext`, `memchr` and `thiserror`.
+//! 2` into its parts. It stands on `pyver_core`, `pytext` and `thiserror`.
 //!
 //! Begin with [`Marker::parse`] and [`Marker::evaluate`]. An [`Environment`] has a text for each
 //! variable that is set, and the extras and groups that are asked for. A marker that can't be
@@ -41,7 +41,7 @@ mod marker;
 mod names;
 mod operand;
 mod requirement;
-mod triples;
+mod substring;
 mod variable;
 
 pub use comparison::Comparison;

@@ -41,6 +41,10 @@ use std::sync::Arc;
 use tree::Tree;
 use value::tree_value;
 
+/// The most bytes of a text that are compared to see that two markers are the same. Nearly each
+/// marker is shorter, and a long text that another party chose costs no more than this.
+const MOST_COMPARED: usize = 512;
+
 /// A marker: a condition over an environment, with its text as it was given but for the white space
 /// round it. Its copies share what was read.
 ///
@@ -159,20 +163,21 @@ impl Marker {
         tree_value(alloc, environment, Some(extra), &self.parsed.tree)
     }
 
-    /// Whether the markers are seen at once to be the same, as two of one text are. `false` says
-    /// nothing. It takes no memory.
+    /// Whether the markers are seen at once to be the same, as two of one text are, up to 512
+    /// bytes. `false` says nothing. It takes no memory.
     pub fn is_seen_same(&self, other: &Marker) -> bool
         ensures { IsTrue result → self.now ≡ other.now }
     {
         self.parsed.mixed == other.parsed.mixed
             && self.parsed.is_bare
             && other.parsed.is_bare
+            && self.parsed.text.len() <= MOST_COMPARED
             && self.parsed.text.as_str() == other.parsed.text.as_str()
     }
 
-    /// A number below `count`, the same for markers of one text: where a small table has room for
-    /// what is known of them. The text is mixed without a key, so whoever writes the texts can make
-    /// as many as they like that share a number. It takes no memory.
+    /// A number below `count`, mixed from the text: where a small table has room for what is known
+    /// of the marker. No clause says which number it is. It is mixed without a key, so whoever
+    /// writes the texts can make as many as they like that share a number. It takes no memory.
     pub fn slot(&self, count: u32) -> u32
         requires { 0 < count }
         ensures { result < count }

@@ -1,0 +1,109 @@
+//! Whether one text stands in another, as `in` and `not in` ask (PEP 508, "Environment Markers").
+//!
+//! A short text is searched by `contains`. Of a long one the front in which the part begins
+//! nowhere is passed over first, many places at a time; nothing is prepared for that, so that it
+//! costs no more than the search of that front, whatever the two texts are.
+
+ghost use Rattle.std.specs.Prelude.{◌≡◌, ◌+◌, ◌<◌, ◌≤◌, drop, false, length, nat_eq};
+ghost use Rattle.std.specs.List.{starts_with};
+ghost use Rattle.pymark_core.specs.Inner.Passed.{BeginsNowhere};
+ghost use Rattle.pymark_core.specs.Marker.Value.{is_substring};
+
+/// From this length on a text is looked through many places at a time.
+const LONG: usize = 256;
+
+/// So many places.
+const PLACES: usize = 32;
+
+/// Whether the first text stands somewhere in the second. It takes no memory.
+pub(crate) fn is_substring(part: &str, whole: &str) -> bool
+    ensures { result ≡ is_substring part.now whole.now }
+{
+    has_room(part, whole) && is_found(part, whole)
+}
+
+/// Whether the second text is as long as the first, which else stands nowhere in it. Neither is
+/// looked at, however long they are.
+#[tactic(auto, using(crate::proofs::Substrings::longer_nowhere))]
+fn has_room(part: &str, whole: &str) -> bool
+    ensures { result ≡ false → is_substring part.now whole.now ≡ false }
+{
+    part.len() <= whole.len()
+}
+
+/// Whether the first text is found in the second, by a search.
+fn is_found(part: &str, whole: &str) -> bool
+    ensures { result ≡ is_substring part.now whole.now }
+{
+    if whole.len() < LONG {
+        is_near_in(part, whole)
+    } else {
+        is_far_in(part, whole)
+    }
+}
+
+fn is_near_in(part: &str, whole: &str) -> bool
+    ensures { result ≡ is_substring part.now whole.now }
+{
+    whole.contains(part)
+}
+
+/// The same of a long text: what is left of it behind the places that are passed over is searched.
+fn is_far_in(part: &str, whole: &str) -> bool
+    ensures { result ≡ is_substring part.now whole.now }
+{
+    let from = whole.floor_char_boundary(passed_places(part.as_bytes(), whole.as_bytes()));
+    let rest = &whole[from..];
+    has_room(part, rest) && is_near_in(part, rest)
+}
+
+/// How many places at the front of the text are passed over, at none of which the part begins.
+fn passed_places(part: &[u8], whole: &[u8]) -> usize
+    ensures nowhere { BeginsNowhere part.now whole.now 0 result }
+    ensures within { result ≤ length whole.now }
+{
+    if part.is_empty() || whole.len() < part.len() + (PLACES - 1) {
+        return 0;
+    }
+    let places = whole.len() - (part.len() - 1);
+    let mut passed = 0;
+    while places - passed >= PLACES {
+        if may_begin(part, whole, passed) {
+            return passed;
+        }
+        passed += PLACES;
+    }
+    // fewer are left, which stand among the last ones
+    if may_begin(part, whole, places - PLACES) {
+        return passed;
+    }
+    places
+}
+
+/// Whether the part may begin at one of the places from this one on. They are looked at without a
+/// branch, so that the compiler looks at many at a time.
+fn may_begin(part: &[u8], whole: &[u8], from: usize) -> bool
+    requires some { 0 < length part.now }
+    requires within { from + 31 + length part.now ≤ length whole.now }
+    ensures { result ≡ false → BeginsNowhere part.now whole.now from (from + 32) }
+{
+    let mut may = false;
+    for place in from..from + PLACES {
+        may |= is_alike_at(part, whole, place);
+    }
+    may
+}
+
+/// Whether three bytes of the part stand where they would if the part began at this place.
+#[inline(always)]
+fn is_alike_at(part: &[u8], whole: &[u8], place: usize) -> bool
+    requires some { 0 < length part.now }
+    requires within { place + length part.now ≤ length whole.now }
+    ensures { result ≡ false → starts_with nat_eq (drop place whole.now) part.now ≡ false }
+{
+    let middle = part.len() / 2;
+    let last = part.len() - 1;
+    (whole[place] == part[0])
+        & (whole[place + middle] == part[middle])
+        & (whole[place + last] == part[last])
+}
