@@ -16,4 +16,4 @@ invariant_of-self c =
     let same : string_bytes head.name ≡ name = ap (λ h. string_bytes h.name) c.in_ok-head-in-Ok.ensures.ok ∙ c.in_ok-name-in-Ok.ensures.ok in
     let spells : parsed_version spelling ≡ Ok head.version = c.in-Ok.ensures.exact ∙ ap (λ h. Ok h.version) (sym c.in_ok-head-in-Ok.ensures.ok) in
     let text : string_bytes c.in_ok-text-in-Ok.text ≡ head_text name spelling = c.in_ok-text-in-Ok.ensures.ok in
-    (head_before name spelling (string_bytes c.in_ok-text-in-Ok.text) head c.requires.name c.requires.spelling is_name same spells text, c.self.invariant.1)
+    (head_before name spelling (string_bytes c.in_ok-text-in-Ok.text) head c.requires.name c.requires.spelling is_name same spells text, c.self.invariant.1, c.self.invariant.2)
