@@ -15,7 +15,6 @@ pub(crate) mod pass;
 pub(crate) mod ranks;
 pub(crate) mod room;
 pub(crate) mod row;
-pub(crate) mod same;
 pub(crate) mod slated;
 pub(crate) mod start;
 pub(crate) mod tag_sets;

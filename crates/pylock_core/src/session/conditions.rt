@@ -12,7 +12,6 @@ ghost use Rattle.pylock_core.specs.Inner.Conditions.{IsShared, condition_of};
 ghost use Rattle.pylock_core.specs.Inner.Parts.{AreNumbered, NumberFits};
 
 use crate::session::row::Row;
-use crate::session::same::is_same_set;
 use pylock_readers::Entry;
 use pymark_core::Marker;
 use pyver_core::SpecifierSet;
@@ -23,6 +22,10 @@ const WAYS: usize = 4;
 
 /// How many such groups of places there are.
 const GROUPS: u32 = 256;
+
+/// How many bytes of a Python set's text have a say in where its group is. Most sets are no longer,
+/// and of a long one nothing is looked at that another party could make dear.
+const MOST_MIXED: usize = 32;
 
 /// The numbers that conditions have got.
 pub(crate) struct Conditions {
@@ -148,7 +151,7 @@ fn is_same_python(one: Option<&SpecifierSet>, other: Option<&SpecifierSet>) -> b
     ensures { IsTrue result → option_copied one.entry ≡ option_copied other.entry }
 {
     match (one, other) {
-        (Some(one), Some(other)) => is_same_set(one, other),
+        (Some(set), Some(other)) => set.is_seen_same(other),
         (None, None) => true,
         _ => false,
     }
@@ -169,10 +172,10 @@ fn group_of(entry: &Entry) -> usize
     (marker.wrapping_add(python) % GROUPS) as usize * WAYS
 }
 
-/// The bytes of the text, mixed.
+/// The first bytes of the text, mixed.
 fn mixed(text: &str) -> u32 {
     let mut mixed = 1u32;
-    for byte in text.as_bytes() {
+    for byte in text.as_bytes().iter().take(MOST_MIXED) {
         mixed = mixed.wrapping_mul(31).wrapping_add(u32::from(*byte));
     }
     mixed
