@@ -10,10 +10,10 @@ ghost use Rattle.pyver_core.specs.Inner.SpecifierDraft.{draft_specifier};
 ghost use Rattle.pyver_core.specs.declared.set.specifier.Specifier.{Specifier};
 
 use super::normal::set_text;
-use super::reading::{SpecifierDraft, read_plain_specifier, read_specifier};
-use crate::set::{Specifier, SpecifierError, SpecifierSet};
+use super::reading::{SpecifierDraft, read_operand, read_plain_operand};
+use crate::set::{Operator, Specifier, SpecifierError, SpecifierSet};
 use crate::version::VersionError;
-use pytext::is_blank;
+use pytext::{is_blank, past_white};
 use std::alloc::{AllocError, Global};
 
 impl SpecifierSet {
@@ -63,11 +63,14 @@ fn read_items(alloc: Global, text: &str) -> Result<Vec<Specifier>, SpecifierErro
         if is_blank(piece.as_bytes()) {
             continue;
         }
-        if let Some(specifier) = read_plain_specifier(alloc, piece)? {
+        let Some((operator, operand)) = Operator::at_front(past_white(piece)) else {
+            return Err(SpecifierError::Syntax);
+        };
+        if let Some(specifier) = read_plain_operand(alloc, operator, operand)? {
             items.push(specifier)?;
             continue;
         }
-        let Some(draft) = read_specifier(piece) else {
+        let Some(draft) = read_operand(operator, operand) else {
             return Err(SpecifierError::Syntax);
         };
         let is_within = push_within_limit(alloc, &mut items, &draft)?;

@@ -5,5 +5,5 @@ mod operand;
 mod operator;
 mod plain;
 
-pub(crate) use draft::{SpecifierDraft, read_operand, read_specifier};
-pub(crate) use plain::{read_plain_operand, read_plain_specifier};
+pub(crate) use draft::{SpecifierDraft, read_operand};
+pub(crate) use plain::read_plain_operand;

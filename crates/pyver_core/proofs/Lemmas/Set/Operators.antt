@@ -1,8 +1,9 @@
 -- The longest operator at the front of a text, and what stands behind it.
 use Rattle.std.proofs.Common.{◌≡◌, ℕ, List, [], ◌∷◌, Some, None, refl, inl, inr}
 use Rattle.std.specs.Prelude.{option_map}
-use Rattle.pyver_core.specs.Set.Reading.{behind_operator, operator_among, operator_at, operators}
+use Rattle.pyver_core.specs.Set.Reading.{behind_operator, operand_of, operator_among, operator_at, operators, specifier_of}
 use Rattle.pyver_core.specs.declared.set.specifier.Operator.{Operator}
+use Rattle.pytext.specs.White.{after_white}
 use Rattle.pytext.proofs.Options.{option_sight}
 
 among_cut : (os : List Operator) (text : List ℕ) (o : Operator) → option_map (λ cut. cut.0) (operator_among os text) ≡ Some o
@@ -23,3 +24,14 @@ no_cut text e = elim (option_sight (operator_at text)) [
   | inl none ↦ none
   | inr cut ↦ absurd (let n : Some cut.0.0 ≡ None = rw cut.1 at e in cc)
 ]
+
+-- a piece is read by its operator and what stands behind it
+
+pub cut_read : (piece : List ℕ) (o : Operator) (operand : List ℕ) → operator_at (after_white piece) ≡ Some (o, operand)
+    → specifier_of piece ≡ operand_of o operand
+unfolding specifier_of
+cut_read piece o operand e = rw e refl
+
+pub uncut : (piece : List ℕ) → operator_at (after_white piece) ≡ None → specifier_of piece ≡ None
+unfolding specifier_of
+uncut piece e = rw e refl

@@ -2,14 +2,13 @@
 
 ghost use Rattle.std.specs.Prelude.{◌≡◌, ◌∷◌, IfOk, option_map};
 ghost use Rattle.pyver_core.specs.Inner.Limit.{Makes};
-ghost use Rattle.pyver_core.specs.Set.Reading.{operand_of, specifier_of};
+ghost use Rattle.pyver_core.specs.Set.Reading.{operand_of};
 ghost use Rattle.pyver_core.specs.Inner.SpecifierDraft.{base_prefix, draft_specifier};
 
 use super::operand::{read_arbitrary, read_compatible, read_prefix, read_public};
 use crate::set::{Operator, ReleasePrefix, Specifier};
 use crate::version::reading::{Base, Draft, read_version};
 use crate::version::{Label, VersionError};
-use pytext::past_white;
 use std::alloc::{AllocError, Global};
 
 /// A specifier as it stands in its text. It holds no memory.
@@ -92,13 +91,4 @@ pub(crate) fn read_operand(operator: Operator, text: &str) -> Option<SpecifierDr
         Operator::Compatible => SpecifierDraft::Compatible(read_compatible(bytes)?),
         Operator::Arbitrary => SpecifierDraft::Arbitrary(read_arbitrary(text)?),
     })
-}
-
-/// The specifier that a piece of a set is, or `None` where it is none.
-#[tactic(auto, unfolding(crate::specs::Set::Reading::specifier_of))]
-pub(crate) fn read_specifier(piece: &str) -> Option<SpecifierDraft<'_>>
-    ensures { option_map draft_specifier result ≡ specifier_of piece.now }
-{
-    let (operator, operand) = Operator::at_front(past_white(piece))?;
-    read_operand(operator, operand)
 }

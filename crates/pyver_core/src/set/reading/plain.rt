@@ -3,7 +3,7 @@
 ghost use Rattle.std.specs.Prelude.{◌≡◌, IfOk, IfSome, Some, false};
 ghost use Rattle.pyver_core.specs.Inner.PlainOperand.{least_numbers, with_version};
 ghost use Rattle.pyver_core.specs.Set.Grammar.{specifier_numbers};
-ghost use Rattle.pyver_core.specs.Set.Reading.{operand_of, specifier_of};
+ghost use Rattle.pyver_core.specs.Set.Reading.{operand_of};
 ghost use Rattle.pyver_core.specs.Version.Grammar.{has_large};
 
 use crate::set::{Operator, Specifier};
@@ -44,8 +44,9 @@ fn with_version(operator: Operator, version: Version) -> Option<Specifier>
     })
 }
 
-/// The specifier with this operator, where the text of the operand is the normal form of a version.
-/// There may be a specifier where this finds none; then it takes no memory.
+/// The specifier with this operator, where the text of the operand is the normal form of a version
+/// behind white space or none. There may be a specifier where this finds none; then it takes no
+/// memory.
 pub(crate) fn read_plain_operand(
     alloc: Global,
     operator: Operator,
@@ -57,23 +58,8 @@ pub(crate) fn read_plain_operand(
     let Some(least) = least_numbers(operator) else {
         return Ok(None);
     };
-    match Version::parse_plain(alloc, text, least)? {
+    match Version::parse_plain(alloc, past_white(text), least)? {
         Some(version) => Ok(with_version(operator, version)),
         None => Ok(None),
     }
-}
-
-/// The specifier that a piece of a set is, where its version stands there in normal form.
-#[tactic(auto, unfolding(crate::specs::Set::Reading::specifier_of))]
-pub(crate) fn read_plain_specifier(
-    alloc: Global,
-    piece: &str,
-) -> Result<Option<Specifier>, AllocError>
-    ensures { IfOk result (λ found. IfSome found (λ s. (specifier_of piece.now ≡ Some s)
-        × (has_large (specifier_numbers s) ≡ false))) }
-{
-    let Some((operator, operand)) = Operator::at_front(past_white(piece)) else {
-        return Ok(None);
-    };
-    read_plain_operand(alloc, operator, operand)
 }

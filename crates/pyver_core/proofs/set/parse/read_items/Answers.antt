@@ -7,13 +7,14 @@ use Rattle.std.specs.declared.str.Split.{Split}
 use Rattle.std.proofs.lemmas.Iterator.{YieldsList}
 use Rattle.std.proofs.lemmas.Iterator.Splits.{YieldsList-from_str_split}
 use Rattle.pytext.specs.Bytes.{is_white}
-use Rattle.pyver_core.specs.Set.Reading.{set_of, specifier_of}
+use Rattle.pyver_core.specs.Set.Reading.{operand_of, operator_at, set_of, specifier_of}
 use Rattle.pyver_core.specs.Parsed.{parsed_set}
 use Rattle.pyver_core.specs.Set.Grammar.{set_numbers}
 use Rattle.pyver_core.specs.declared.set.error.SpecifierError.TheVariants.{NumberTooLarge}
 use Rattle.pyver_core.specs.Inner.SpecifierDraft.{draft_specifier}
 use Rattle.pyver_core.specs.declared.set.specifier.Specifier.{Specifier}
 use Rattle.pytext.proofs.Pieces.{next_piece, no_piece}
+use Rattle.pyver_core.proofs.Lemmas.Set.Operators.{cut_read, uncut}
 use Rattle.pyver_core.proofs.Lemmas.Set.ReadSoFar.{ReadSoFar, read_blank, read_end, read_end_large, read_large, read_refused, read_start, read_within}
 use Rattle.pyver_core.proofs.Lemmas.Outcomes.{within-false, within-true}
 use Rattle.pyver_core.proofs.set.parse.read_items.Goals as goal
@@ -48,13 +49,25 @@ loop-piece-preserved-then-is_blank c =
     let blank : list_all is_white c.in-Some.piece.now ≡ true = ap (list_all is_white) (sym c.as_bytes.ensures.value) ∙ sym c.is_blank.ensures ∙ c.if-is_blank.true in
     (at.0, at.1, read_blank c.in-Some.piece.now at.0 (pieces c.args.text.now) c.loop-piece.items.items c.loop-piece.is_large blank at.2)
 
-pub returns-in_default-read_specifier : goal.returns-in_default-read_specifier
+pub returns-in_default : goal.returns-in_default
 unfolding set_of parsed_set
-returns-in_default-read_specifier c =
+returns-in_default c =
     let at = taken c.args.text.now c.loop-piece.piece-iterator c.next.new.self c.in-Some.piece c.loop-piece.items.items c.loop-piece.is_large
     c.in-Some.ensures.steps c.loop-piece.invariant in
     let other : list_all is_white c.in-Some.piece.now ≡ false = ap (list_all is_white) (sym c.as_bytes.ensures.value) ∙ sym c.is_blank.ensures ∙ c.if-is_blank.false in
-    let none : specifier_of c.in-Some.piece.now ≡ None = rw c.in_default-read_specifier.is at (sym c.read_specifier.ensures) in
+    let none = uncut c.in-Some.piece.now (ap operator_at (sym c.past_white.ensures) ∙ sym c.in_default.ensures) in
+    let refused = read_refused c.in-Some.piece.now at.0 (pieces c.args.text.now) c.loop-piece.items.items c.loop-piece.is_large other none at.2 in
+    λ _. rw refused refl
+
+pub returns-in_default-read_operand : goal.returns-in_default-read_operand
+unfolding set_of parsed_set
+returns-in_default-read_operand c =
+    let at = taken c.args.text.now c.loop-piece.piece-iterator c.next.new.self c.in-Some.piece c.loop-piece.items.items c.loop-piece.is_large
+    c.in-Some.ensures.steps c.loop-piece.invariant in
+    let other : list_all is_white c.in-Some.piece.now ≡ false = ap (list_all is_white) (sym c.as_bytes.ensures.value) ∙ sym c.is_blank.ensures ∙ c.if-is_blank.false in
+    let read : specifier_of c.in-Some.piece.now ≡ operand_of c.in-Some-at_front.operator c.in-Some-at_front.operand.now =
+    cut_read c.in-Some.piece.now c.in-Some-at_front.operator c.in-Some-at_front.operand.now (ap operator_at (sym c.past_white.ensures) ∙ sym c.in-Some-at_front.ensures) in
+    let none : specifier_of c.in-Some.piece.now ≡ None = read ∙ rw c.in_default-read_operand.is at (sym c.read_operand.ensures) in
     let refused = read_refused c.in-Some.piece.now at.0 (pieces c.args.text.now) c.loop-piece.items.items c.loop-piece.is_large other none at.2 in
     λ _. rw refused refl
 
@@ -63,11 +76,13 @@ loop-piece-preserved-in-Some-2 c =
     let at = taken c.args.text.now c.loop-piece.piece-iterator c.next.new.self c.in-Some.piece c.loop-piece.items.items c.loop-piece.is_large
     c.in-Some.ensures.steps c.loop-piece.invariant in
     let other : list_all is_white c.in-Some.piece.now ≡ false = ap (list_all is_white) (sym c.as_bytes.ensures.value) ∙ sym c.is_blank.ensures ∙ c.if-is_blank.false in
-    let read = rw c.in-Some-2.is at c.in_ok-specifier.ensures in (
+    let read : specifier_of c.in-Some.piece.now ≡ operand_of c.in-Some-at_front.operator c.in-Some-at_front.operand.now =
+    cut_read c.in-Some.piece.now c.in-Some-at_front.operator c.in-Some-at_front.operand.now (ap operator_at (sym c.past_white.ensures) ∙ sym c.in-Some-at_front.ensures) in
+    let found = rw c.in-Some-2.is at c.in_ok-specifier.ensures in (
       at.0,
       at.1,
       rw c.in_ok-push.ensures.items (read_within c.in-Some.piece.now at.0 (pieces c.args.text.now) c.loop-piece.items.items c.loop-piece.is_large
-          c.in-Some-2.specifier other read.0 read.1 at.2),
+          c.in-Some-2.specifier other (read ∙ found.0) found.1 at.2),
     )
 
 pub loop-piece-preserved-then-not-is_within : goal.loop-piece-preserved-then-not-is_within
@@ -75,13 +90,15 @@ loop-piece-preserved-then-not-is_within c =
     let at = taken c.args.text.now c.loop-piece.piece-iterator c.next.new.self c.in-Some.piece c.loop-piece.items.items c.loop-piece.is_large
     c.in-Some.ensures.steps c.loop-piece.invariant in
     let other : list_all is_white c.in-Some.piece.now ≡ false = ap (list_all is_white) (sym c.as_bytes.ensures.value) ∙ sym c.is_blank.ensures ∙ c.if-is_blank.false in
-    let some : specifier_of c.in-Some.piece.now ≡ Some (draft_specifier c.in-Some-read_specifier.draft) =
-    rw c.in-Some-read_specifier.is at (sym c.read_specifier.ensures) in
+    let read : specifier_of c.in-Some.piece.now ≡ operand_of c.in-Some-at_front.operator c.in-Some-at_front.operand.now =
+    cut_read c.in-Some.piece.now c.in-Some-at_front.operator c.in-Some-at_front.operand.now (ap operator_at (sym c.past_white.ensures) ∙ sym c.in-Some-at_front.ensures) in
+    let some : specifier_of c.in-Some.piece.now ≡ Some (draft_specifier c.in-Some-read_operand.draft) =
+    read ∙ rw c.in-Some-read_operand.is at (sym c.read_operand.ensures) in
     let past = rw c.if-not-is_within.true at c.in_ok-is_within.ensures in (
       at.0,
       at.1,
       read_large c.in-Some.piece.now at.0 (pieces c.args.text.now) c.loop-piece.items.items c.push_within_limit.new.items.items c.loop-piece.is_large
-          (draft_specifier c.in-Some-read_specifier.draft) other some past at.2,
+          (draft_specifier c.in-Some-read_operand.draft) other some past at.2,
     )
 
 pub loop-piece-preserved : goal.loop-piece-preserved
@@ -89,13 +106,15 @@ loop-piece-preserved c =
     let at = taken c.args.text.now c.loop-piece.piece-iterator c.next.new.self c.in-Some.piece c.loop-piece.items.items c.loop-piece.is_large
     c.in-Some.ensures.steps c.loop-piece.invariant in
     let other : list_all is_white c.in-Some.piece.now ≡ false = ap (list_all is_white) (sym c.as_bytes.ensures.value) ∙ sym c.is_blank.ensures ∙ c.if-is_blank.false in
-    let some : specifier_of c.in-Some.piece.now ≡ Some (draft_specifier c.in-Some-read_specifier.draft) =
-    rw c.in-Some-read_specifier.is at (sym c.read_specifier.ensures) in
+    let read : specifier_of c.in-Some.piece.now ≡ operand_of c.in-Some-at_front.operator c.in-Some-at_front.operand.now =
+    cut_read c.in-Some.piece.now c.in-Some-at_front.operator c.in-Some-at_front.operand.now (ap operator_at (sym c.past_white.ensures) ∙ sym c.in-Some-at_front.ensures) in
+    let some : specifier_of c.in-Some.piece.now ≡ Some (draft_specifier c.in-Some-read_operand.draft) =
+    read ∙ rw c.in-Some-read_operand.is at (sym c.read_operand.ensures) in
     let within = rw c.if-not-is_within.false at c.in_ok-is_within.ensures in (
       at.0,
       at.1,
       rw within.0 (read_within c.in-Some.piece.now at.0 (pieces c.args.text.now) c.loop-piece.items.items c.loop-piece.is_large
-          (draft_specifier c.in-Some-read_specifier.draft) other some within.1 at.2),
+          (draft_specifier c.in-Some-read_operand.draft) other some within.1 at.2),
     )
 
 pub returns-then-is_large : goal.returns-then-is_large
