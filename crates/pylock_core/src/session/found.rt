@@ -22,19 +22,21 @@ const FEW: usize = 16;
 const MOST: u32 = 10;
 
 /// Nothing yet, where so many entries are judged. What is found of a number has one place, which it
-/// shares with others. It takes no memory for few entries, and no more than 16 bytes for each.
+/// shares with others; numbers below the count of places share none. It takes no memory for few
+/// entries, and no more than 24 bytes for each.
 pub(crate) fn nothing_found(alloc: Global, entries: usize) -> Result<Vec<Option<Found>>, AllocError>
     ensures { IfOk result (λ found. (place : ℕ) → slice_index_or found.items place None ≡ None) }
 {
     Ok(vec![in alloc; None; room_for(entries)]?)
 }
 
-/// How many numbers there is a place for: a power of two, no more than there are entries.
+/// How many places there are: the least power of two that isn't below the count of the entries, and
+/// no more than are kept at most.
 fn room_for(entries: usize) -> usize {
     if entries < FEW {
         return 0;
     }
-    1 << (usize::BITS - 1 - entries.leading_zeros()).min(MOST)
+    1 << (usize::BITS - (entries - 1).leading_zeros()).min(MOST)
 }
 
 /// The place of what is found of a number, among so many.
