@@ -4,6 +4,7 @@ ghost use Rattle.std.specs.Prelude.{◌≡◌, ◌⊎◌, ℕ, ◌+◌, ◌<◌,
 ghost use Rattle.std.specs.Prelude.{IfSome, IsSome, OnErr, OnOk, length, map, option_map};
 ghost use Rattle.std.specs.Prelude.{slice_index_or, slice_set, vec_capacity, vec_len};
 ghost use Rattle.std.specs.Option.{option_copied};
+ghost use Rattle.pylock_readers.specs.Entry.{wheel_names};
 ghost use Rattle.pylock_core.specs.Inner.Edits.{Leaves, Made};
 ghost use Rattle.pylock_core.specs.Inner.Index.{HaveRoom};
 ghost use Rattle.pylock_core.specs.Inner.Names.{HasRoom};
@@ -24,7 +25,7 @@ use crate::session::names::{move_member, number_of, reserve_member};
 use crate::session::parts::Parts;
 use crate::session::room::{push_within, put_at};
 use crate::session::row::{Row, SourceKinds};
-use crate::session::tag_sets::numbers_of;
+use crate::session::tag_sets::{numbers_of, sets_of};
 use crate::session::verdict::Verdict;
 use pylock_readers::Entry;
 use std::alloc::AllocError;
@@ -145,6 +146,35 @@ fn name_of(row: &Option<Row>) -> Option<usize>
     }
 }
 
+/// Gives the tag sets numbers anew where most of them have no wheel any more. Where there is no
+/// memory for that, all stays.
+fn renumber_sets(parts: &mut Parts) -> Result<(), AllocError>
+    requires { IsSession parts.old }
+    ensures session { IsSession parts.new }
+    ensures shown { shown parts.new ≡ shown parts.old }
+    ensures entries { parts.new.entries.items ≡ parts.old.entries.items }
+{
+    if !parts.sets.is_full() {
+        return Ok(());
+    }
+    let sets = sets_of(parts.alloc, parts.entries.as_slice())?;
+    parts.sets = sets;
+    Ok(())
+}
+
+/// The numbers of the tag sets of the wheels of an entry that comes in.
+fn sets_for(parts: &mut Parts, entry: &Entry) -> Result<Vec<usize>, AllocError>
+    requires { IsSession parts.old }
+    ensures numbers { IfOk result (λ numbers.
+        AreNumbers (set_number parts.new.sets) (wheel_names entry.now) numbers.items) }
+    ensures session { IsSession parts.new }
+    ensures shown { shown parts.new ≡ shown parts.old }
+    ensures entries { parts.new.entries.items ≡ parts.old.entries.items }
+{
+    renumber_sets(parts)?;
+    numbers_of(parts.alloc, &mut parts.sets, entry.wheel_names())
+}
+
 /// Writes an entry, its row and the numbers of its wheels' tag sets, or none, at a place that is
 /// there. The lists of its keys and of its name have room.
 fn write_at(
@@ -181,7 +211,7 @@ fn write_at(
     change(&mut parts.living, number, stood, entry.is_some());
     put_at(&mut parts.rows, place, row);
     put_at(&mut parts.entries, place, entry);
-    put_at(&mut parts.sets.of_entries, place, sets);
+    parts.sets.put(place, sets);
 }
 
 /// Adds the entry after all others, with the next number. Where there is no memory for it, all that
@@ -194,7 +224,7 @@ pub(crate) fn append(parts: &mut Parts, entry: Entry, judged: &mut Judged) -> Re
     ensures kept { OnErr result (shown parts.new ≡ shown parts.old) }
 {
     let place = parts.entries.len();
-    let sets = numbers_of(parts.alloc, &mut parts.sets, entry.wheel_names())?;
+    let sets = sets_for(parts, &entry)?;
     let row = prepare(parts, place as u32 + 1, &entry, judged)?;
     parts.entries.reserve(1)?;
     parts.rows.reserve(1)?;
@@ -232,7 +262,7 @@ pub(crate) fn put(
     ensures left { Leaves (edit.Put number entry) parts.old parts.new judged.old judged.new result }
 {
     let place = place_of(parts, number)?;
-    let sets = numbers_of(parts.alloc, &mut parts.sets, entry.wheel_names())?;
+    let sets = sets_for(parts, &entry)?;
     let row = prepare(parts, number, &entry, judged)?;
     write_at(parts, place, Some(row), sets, Some(entry));
     Ok(())

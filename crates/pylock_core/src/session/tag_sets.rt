@@ -1,21 +1,30 @@
 //! The compressed tag sets of a session's wheels. Equal ones have one number, so that a new list of
 //! tags ranks each of them once, whatever wheels have it.
 
-ghost use Rattle.std.specs.Prelude.{◌≡◌, [], Some, IfOk};
+ghost use Rattle.std.specs.Prelude.{◌≡◌, ◌<◌, ◌++◌, ◌∷◌, [], Some, IfOk, OnOk, length, slice_set};
 ghost use Rattle.std.specs.BTreeMap.{btree_map_len};
-ghost use Rattle.pylock_core.specs.Inner.TagSets.{AreNumbers, IsNumbered, SetsKept, set_number};
-ghost use Rattle.pylock_core.specs.Inner.TagSets.{set_text};
+ghost use Rattle.pylock_core.specs.Inner.TagSets.{AreNumbers, AreSets, IsNumbered, SetsKept};
+ghost use Rattle.pylock_core.specs.Inner.TagSets.{names_in, set_number, set_text};
 
 use crate::session::names::give_number;
+use crate::session::room::put_at;
+use pylock_readers::Entry;
 use pywheel_core::WheelName;
 use std::alloc::{AllocError, Global};
 use std::collections::BTreeMap;
 
-/// The tag sets that a wheel ever had, and those of each entry's wheels.
+/// So many sets that no wheel has any more are kept whatever stands.
+const SPARE: usize = 256;
+
+/// The tag sets of the wheels, and those of each entry's wheels. A set that no wheel has any more
+/// keeps its number until there are many of them: before an entry comes in there are at most two
+/// sets for each wheel of the entries that stand, one for each place of an entry, and `SPARE`.
 pub(crate) struct TagSets {
     pub(crate) numbers: BTreeMap<String, usize>,
     /// The numbers of the sets of an entry's wheels, in their order, at the place of the entry.
     pub(crate) of_entries: Vec<Vec<usize>>,
+    /// How many wheels the entries that stand have.
+    wheels: usize,
 }
 
 impl Drop for TagSets {
@@ -23,6 +32,7 @@ impl Drop for TagSets {
         let TagSets {
             numbers: _,
             of_entries: _,
+            wheels: _,
         } = self;
     }
 }
@@ -36,6 +46,7 @@ impl TagSets {
         Ok(TagSets {
             numbers: BTreeMap::new(alloc),
             of_entries: Vec::with_capacity(alloc, room)?,
+            wheels: 0,
         })
     }
 
@@ -44,6 +55,38 @@ impl TagSets {
         ensures { result ≡ btree_map_len self.now.numbers }
     {
         self.numbers.len()
+    }
+
+    /// Whether the sets that a wheel has are to get numbers anew, and they alone. That takes a step
+    /// for each wheel and each place, and at least as many sets have come or wheels have gone since
+    /// it was done last: so it makes an edit no dearer than what it brings.
+    pub(crate) fn is_full(&self) -> bool {
+        let alive = self.wheels.saturating_mul(2);
+        let kept = alive.saturating_add(self.of_entries.len());
+        self.numbers.len() > kept.saturating_add(SPARE)
+    }
+
+    /// Has these numbers at the place of an entry.
+    pub(crate) fn put(&mut self, place: usize, numbers: Vec<usize>)
+        requires { place < length self.old.of_entries.items }
+        ensures of_entries { self.new.of_entries.items
+            ≡ slice_set self.old.of_entries.items place numbers }
+        ensures numbers { self.new.numbers ≡ self.old.numbers }
+    {
+        let others = self.wheels.saturating_sub(self.of_entries[place].len());
+        self.wheels = others.saturating_add(numbers.len());
+        put_at(&mut self.of_entries, place, numbers);
+    }
+
+    /// Adds the numbers of one more entry.
+    fn push(&mut self, numbers: Vec<usize>) -> Result<(), AllocError>
+        ensures of_entries { OnOk result
+            (self.new.of_entries.items ≡ self.old.of_entries.items ++ numbers ∷ []) }
+        ensures numbers { self.new.numbers ≡ self.old.numbers }
+    {
+        self.wheels = self.wheels.saturating_add(numbers.len());
+        self.of_entries.push(numbers)?;
+        Ok(())
     }
 }
 
@@ -92,4 +135,34 @@ pub(crate) fn numbers_of(
         numbers.push(number)?;
     }
     Ok(numbers)
+}
+
+/// The numbers of the tag sets of the wheels of an entry, where one stands.
+fn numbers_at(
+    alloc: Global,
+    sets: &mut TagSets,
+    entry: &Option<Entry>,
+) -> Result<Vec<usize>, AllocError>
+    requires { IsNumbered sets.old }
+    ensures numbers { IfOk result (λ numbers.
+        AreNumbers (set_number sets.new) (names_in entry.now) numbers.items) }
+    ensures kept { SetsKept sets.old sets.new }
+    ensures lists { sets.new.of_entries ≡ sets.old.of_entries }
+{
+    match entry {
+        Some(entry) => numbers_of(alloc, sets, entry.wheel_names()),
+        None => Ok(Vec::new(alloc)),
+    }
+}
+
+/// The tag sets of the wheels of these entries, and no others.
+pub(crate) fn sets_of(alloc: Global, entries: &[Option<Entry>]) -> Result<TagSets, AllocError>
+    ensures { IfOk result (λ sets. AreSets sets entries.now) }
+{
+    let mut sets = TagSets::with_capacity(alloc, entries.len())?;
+    for entry in entries {
+        let numbers = numbers_at(alloc, &mut sets, entry)?;
+        sets.push(numbers)?;
+    }
+    Ok(sets)
 }

@@ -8,7 +8,7 @@ use Rattle.pylock_core.specs.Session.State.{State, with_next}
 use Rattle.pylock_core.proofs.ConditionLemmas.{fits_wider, numbered_wider}
 use Rattle.pylock_core.proofs.NameLemmas.{length_more}
 use Rattle.pylock_core.proofs.SessionLemmas.{next_state}
-use Rattle.pylock_core.proofs.TagSetLemmas.{session_sets, sets_wider}
+use Rattle.pylock_core.proofs.TagSetLemmas.{sets_wider}
 use Rattle.pylock_core.proofs.WriteLemmas.{index_wider, living_wider, members_wider, of_rows_wider, on_err, set_last, shown_room}
 use Rattle.pylock_core.proofs.session.entries.append.Goals as goal
 
@@ -18,7 +18,7 @@ write_at-requires-clause-session c =
     let s = c.in_ok-row.ensures.session in
     let entries = c.push_within-2.ensures.items ∙ ap (λ es. es ++ None ∷ []) c.in_ok-reserve.ensures.items in
     let rows = c.push_within.ensures.items ∙ ap (λ rs. rs ++ None ∷ []) c.in_ok-reserve-2.ensures.items in
-    let before : length p.entries.items < 100000 = rw c.in_ok-row.ensures.entries c.requires.room in
+    let before : length p.entries.items < 100000 = rw (c.in_ok-row.ensures.entries, c.in_ok-sets.ensures.entries) c.requires.room in
     let long = ap length entries ∙ length_more p.entries.items None in
     record {
       few = omega (arith, before, long);
@@ -44,27 +44,20 @@ write_at-requires-clause-fits c =
 
 pub write_at-requires-clause-sets : goal.write_at-requires-clause-sets
 write_at-requires-clause-sets c =
-    subst (λ ts. AreNumbers (set_number ts) (wheel_names c.args.entry) c.in_ok-sets.sets.items) (sym c.in_ok-row.ensures.sets)
-    (subst (λ ws. AreNumbers (set_number c.numbers_of.new.sets) ws c.in_ok-sets.sets.items) c.wheel_names.ensures c.in_ok-sets.ensures.numbers)
-
-pub prepare-requires : goal.prepare-requires
-prepare-requires c = session_sets c.args.parts.now c.numbers_of.new.sets c.in_ok-sets.ensures.kept c.in_ok-sets.ensures.lists c.requires.session
-
-pub returns-in_err-sets-clause-session : goal.returns-in_err-sets-clause-session
-returns-in_err-sets-clause-session c = session_sets c.args.parts.now c.numbers_of.new.sets c.in_err-sets.ensures.kept c.in_err-sets.ensures.lists c.requires.session
+    subst (λ ts. AreNumbers (set_number ts) (wheel_names c.args.entry) c.in_ok-sets.sets.items) (sym c.in_ok-row.ensures.sets) c.in_ok-sets.ensures.numbers
 
 pub write_at-requires-clause-within : goal.write_at-requires-clause-within
 write_at-requires-clause-within c =
     let p = c.prepare.new.parts in
     let entries = c.push_within-2.ensures.items ∙ ap (λ es. es ++ None ∷ []) c.in_ok-reserve.ensures.items in
     let long = ap length entries ∙ length_more p.entries.items None in
-    let same = ap length c.in_ok-row.ensures.entries in
+    let same = ap length (c.in_ok-row.ensures.entries ∙ c.in_ok-sets.ensures.entries) in
     omega (arith, long, same, c.len-place.ensures)
 
 pub returns-in_err-reserve-2-clause-kept : goal.returns-in_err-reserve-2-clause-kept
 returns-in_err-reserve-2-clause-kept c =
     on_err _
-    (shown_room c.prepare.new.parts c.reserve.new.self c.reserve-2.new.self c.in_ok-reserve.ensures.items c.in_err-reserve-2.ensures.items ∙ c.in_ok-row.ensures.shown)
+    (shown_room c.prepare.new.parts c.reserve.new.self c.reserve-2.new.self c.in_ok-reserve.ensures.items c.in_err-reserve-2.ensures.items ∙ c.in_ok-row.ensures.shown ∙ c.in_ok-sets.ensures.shown)
 
 pub returns-clause-made : goal.returns-clause-made
 returns-clause-made c =
@@ -73,15 +66,16 @@ returns-clause-made c =
     let place = c.len-place.result in
     let wider = c.push_within-2.new.items.items in
     let entries = c.push_within-2.ensures.items ∙ ap (λ es. es ++ None ∷ []) c.in_ok-reserve.ensures.items in
-    let before : length p.entries.items < 100000 = rw made.entries c.requires.room in
-    let at : place ≡ length p.entries.items = c.len-place.ensures ∙ c.args.parts.now.entries.ok.0 ∙ ap length (sym made.entries) in
+    let same = made.entries ∙ c.in_ok-sets.ensures.entries in
+    let before : length p.entries.items < 100000 = rw same c.requires.room in
+    let at : place ≡ length p.entries.items = c.len-place.ensures ∙ c.args.parts.now.entries.ok.0 ∙ ap length (sym same) in
     let more = ap (λ xs. set xs place (Some c.args.entry)) entries ∙ ap (λ k. set (p.entries.items ++ None ∷ []) k (Some c.args.entry)) at ∙ set_last p.entries.items None (Some c.args.entry) in
     let long = sym (length-set wider place (Some c.args.entry)) in
     let last : ◌≡◌ {A = State} (record (state_of p) { entries = in_rows 1 (set wider place (Some c.args.entry)); last = length wider }) (record (state_of p) { entries = in_rows 1 (set wider place (Some c.args.entry)); last = length (set wider place (Some c.args.entry)) }) =
     (λ i. record (state_of p) { entries = in_rows 1 (set wider place (Some c.args.entry)); last = long i }) in
     record {
-      applied = ap (λ v. with_next c.args.entry v.state) (sym made.shown)
+      applied = ap (λ v. with_next c.args.entry v.state) (sym (made.shown ∙ c.in_ok-sets.ensures.shown))
           ∙ next_state (state_of p) c.args.entry p.entries.items (set wider place (Some c.args.entry)) refl refl before more
           ∙ ap Ok (sym (c.write_at.ensures.state ∙ last));
-      judged = made.count ∙ ap (λ n. c.args.judged.now ++ (n + 1) ∷ []) (at ∙ ap length made.entries);
+      judged = made.count ∙ ap (λ n. c.args.judged.now ++ (n + 1) ∷ []) (at ∙ ap length same);
     }

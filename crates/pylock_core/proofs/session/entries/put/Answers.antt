@@ -4,34 +4,26 @@ use Rattle.pylock_core.specs.Inner.Parts.{state_of}
 use Rattle.pylock_core.specs.Inner.TagSets.{AreNumbers, set_number}
 use Rattle.pylock_core.specs.Session.State.{State, with_entry}
 use Rattle.pylock_core.proofs.SessionLemmas.{accepted_there, some_within, with_entry_row}
-use Rattle.pylock_core.proofs.TagSetLemmas.{session_sets}
 use Rattle.pylock_core.proofs.session.entries.put.Goals as goal
 
 pub write_at-requires-clause-within : goal.write_at-requires-clause-within
-write_at-requires-clause-within c = some_within c.prepare.new.parts.entries.items c.in_ok-place.place (rw c.in_ok-row.ensures.entries c.in_ok-place.ensures.there)
+write_at-requires-clause-within c = some_within c.prepare.new.parts.entries.items c.in_ok-place.place (rw (c.in_ok-row.ensures.entries, c.in_ok-sets.ensures.entries) c.in_ok-place.ensures.there)
 
 pub write_at-requires-clause-sets : goal.write_at-requires-clause-sets
 write_at-requires-clause-sets c =
-    subst (λ ts. AreNumbers (set_number ts) (wheel_names c.args.entry) c.in_ok-sets.sets.items) (sym c.in_ok-row.ensures.sets)
-    (subst (λ ws. AreNumbers (set_number c.numbers_of.new.sets) ws c.in_ok-sets.sets.items) c.wheel_names.ensures c.in_ok-sets.ensures.numbers)
-
-pub prepare-requires : goal.prepare-requires
-prepare-requires c = session_sets c.args.parts.now c.numbers_of.new.sets c.in_ok-sets.ensures.kept c.in_ok-sets.ensures.lists c.requires
-
-pub returns-in_err-sets-clause-session : goal.returns-in_err-sets-clause-session
-returns-in_err-sets-clause-session c = session_sets c.args.parts.now c.numbers_of.new.sets c.in_err-sets.ensures.kept c.in_err-sets.ensures.lists c.requires
+    subst (λ ts. AreNumbers (set_number ts) (wheel_names c.args.entry) c.in_ok-sets.sets.items) (sym c.in_ok-row.ensures.sets) c.in_ok-sets.ensures.numbers
 
 pub returns-clause-left : goal.returns-clause-left
 returns-clause-left c =
     let p = c.prepare.new.parts in
     let n = c.args.number in
     let place = c.in_ok-place.place in
-    let there : IsSome (get_or p.entries.items place None) = rw c.in_ok-row.ensures.entries c.in_ok-place.ensures.there in
+    let there : IsSome (get_or p.entries.items place None) = rw (c.in_ok-row.ensures.entries, c.in_ok-sets.ensures.entries) c.in_ok-place.ensures.there in
     let written : State → State = λ state. record state { entries = with_entry n c.args.entry state.entries } in
     record {
       applied = accepted_there n (state_of c.args.parts.now) _ (state_of c.write_at.new.parts) c.in_ok-place.ensures.known
           (c.write_at.ensures.state
           ∙ ap (λ entries. record (state_of p) { entries = entries }) (with_entry_row n 1 place c.args.entry p.entries.items (omega (arith, c.in_ok-place.ensures.place)) there)
-          ∙ ap (λ v. written v.state) c.in_ok-row.ensures.shown);
+          ∙ ap (λ v. written v.state) (c.in_ok-row.ensures.shown ∙ c.in_ok-sets.ensures.shown));
       judged = c.in_ok-row.ensures.count;
     }

@@ -41,8 +41,8 @@ change-requires-clause-rises c = living_rises c.args.parts.now.living.items c.ar
 pub put_at-requires : goal.put_at-requires
 put_at-requires c = let even = session_even c.args.parts.now c.requires.session in omega (arith, c.requires.within, even)
 
-pub put_at-requires-3 : goal.put_at-requires-3
-put_at-requires-3 c = omega (arith, c.requires.within, c.requires.session.sets.long)
+pub put-requires : goal.put-requires
+put-requires c = omega (arith, c.requires.within, c.requires.session.sets.long)
 
 pub returns-clause-session : goal.returns-clause-session
 returns-clause-session c =
@@ -72,7 +72,7 @@ returns-clause-session c =
           s.index there c.keys_at-was.ensures c.keys_at-is.ensures (omega arith) c.requires.within c.change_each.ensures.long c.change_each.ensures.changed);
       living = subst (AreLiving c.change.new.numbers.items) (sym c.put_at-2.ensures) (living_written p.living.items c.change.new.numbers.items p.entries.items place (place + 1) c.is_some-stood.result c.is_some.result c.args.entry
           s.living (ap is_some (sym (old_at p.entries.items place c.index-3.result.now c.requires.within c.index-3.ensures)) ∙ sym c.is_some-stood.ensures) (sym c.is_some.ensures) (omega arith) c.requires.within c.change.ensures);
-      sets = subst (AreSets _) (sym c.put_at-2.ensures) (sets_written p.sets c.put_at-3.new.items c.args.sets p.entries.items place c.args.entry s.sets c.requires.within c.requires.sets c.put_at-3.ensures);
+      sets = subst (AreSets _) (sym c.put_at-2.ensures) (sets_written p.sets c.put.new.self c.args.sets p.entries.items place c.args.entry s.sets c.requires.within c.requires.sets c.put.ensures.numbers c.put.ensures.of_entries);
       conditions = rw (c.put_at-2.ensures, c.put_at.ensures) (row_numbered p.conditions.count p.entries.items p.rows.items place c.args.entry c.args.row c.requires.fits);
     }
 
