@@ -23,6 +23,7 @@ ghost use Rattle.toml.specs.Parse.{parse_document, parse_value};
 ghost use Rattle.toml.specs.View.{table_view, view};
 ghost use Rattle.pytoml.specs.declared.fault.TomlError.TheVariants as fault;
 
+mod basic;
 mod document;
 mod draft;
 mod fault;

@@ -1,13 +1,14 @@
 //! Steps over a text. What stands between tokens is mostly nothing or one space, and a string or a
 //! key mostly has no byte that means something else, so these are looked for first.
-ghost use Rattle.std.specs.Prelude.{◌≡◌, ◌+◌, ◌≤◌, drop, length, map};
+ghost use Rattle.std.specs.Prelude.{◌≡◌, ◌+◌, ◌≤◌, drop, false, length, map};
 ghost use Rattle.std.specs.List.{prefix_len};
 ghost use Rattle.std.specs.Simd.Lanes.{mask_l};
 ghost use Rattle.toml_parser.specs.Lexical.{is_bare, skip_blank, skip_ws};
+ghost use Rattle.toml_parser.specs.Strings.{is_plain};
 ghost use Rattle.pytoml.specs.Text.{is_simple, is_stop};
 
 use std::simd::prelude::*;
-use toml_parser::bytes::is_bare;
+use toml_parser::bytes::{is_bare, is_non_eol};
 use toml_parser::text as slow;
 use toml_parser::text::{byte_at, first, skip};
 
@@ -98,4 +99,22 @@ fn is_simple(byte: u8) -> bool
     ensures { result ≡ is_simple byte }
 {
     byte >= 0x20 && byte != b'"' && byte != b'\\' && byte != 0x7F
+}
+
+/// How many bytes at the front stand for themselves in a basic string, tabs among them.
+pub(crate) fn plain_len(bytes: &[u8]) -> usize
+    ensures len { result ≡ prefix_len (is_plain 34 false) bytes.now }
+    ensures within { result ≤ length bytes.now }
+{
+    let mut len = 0;
+    while len < bytes.len() && is_plain(bytes[len]) {
+        len += 1;
+    }
+    len
+}
+
+fn is_plain(byte: u8) -> bool
+    ensures { result ≡ is_plain 34 false byte }
+{
+    byte != b'"' && byte != b'\\' && is_non_eol(byte)
 }

@@ -8,9 +8,10 @@ ghost use Rattle.toml.specs.Tables.{no_nodes};
 ghost use Rattle.toml.specs.Parse.{after_element, atom, items, members, scalar_data, val};
 ghost use Rattle.pytoml.specs.Inner.{Reads, Shortens, read_scalar, with_member};
 
+use crate::basic::basic_string;
 use crate::fault::Unread;
 use crate::key::key_equals;
-use crate::text::{past_blank, simple_end};
+use crate::text::past_blank;
 use std::alloc::Global;
 use toml::value::Array;
 use toml::{Table, Value};
@@ -52,18 +53,18 @@ fn atom(alloc: Global, s: &str) -> Result<(Value, &str), Unread>
     }
 }
 
-/// A string. A basic one of simple bytes alone, on one line, is copied as it stands.
+/// A string. Those in apostrophes, and those in three quotes, are read by `toml_parser`.
 fn string(alloc: Global, s: &str) -> Result<(String, &str), Unread>
     requires { starts_string s.now ≡ true }
     ensures value { Reads string_bytes result (quoted s.now) }
     ensures shorter { Shortens s.now result }
 {
     if first(s) == b'"' {
-        let body = skip(s, 1);
-        let end = simple_end(body.as_bytes(), 0);
-        if end > 0 && byte_at(body, end) == b'"' {
-            let (text, rest) = body.split_at(end);
-            return Ok((String::from_str(alloc, text)?, skip(rest, 1)));
+        if byte_at(s, 1) != b'"' {
+            return basic_string(alloc, skip(s, 1));
+        }
+        if byte_at(s, 2) != b'"' {
+            return Ok((String::new(alloc), skip(s, 2)));
         }
     }
     match quoted(alloc, s) {

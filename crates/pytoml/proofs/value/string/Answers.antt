@@ -1,16 +1,19 @@
-use Rattle.std.proofs.Common.{◌≡◌, drop, ◌∙◌, arith}
-use Rattle.std.specs.List.{prefix_len}
-use Rattle.pytoml.specs.Text.{is_simple}
-use Rattle.pytoml.proofs.Strings.{quoted_simple}
+use Rattle.std.proofs.Common.{◌≡◌, ◌==◌, ◌&&◌, ◌∙◌, get_or, false, length, refl, arith}
+use Rattle.std.proofs.lemmas.Bool.Decides.{nat_tests}
+use Rattle.std.proofs.lemmas.Grind.{common_steps}
+use Rattle.pytoml.proofs.Strings.{next_to_quote, quoted_on_line}
 use Rattle.pytoml.proofs.value.string.Goals as goal
 
-pub returns-then-byte_at-eq34-clause-value : goal.returns-then-byte_at-eq34-clause-value
-returns-then-byte_at-eq34-clause-value c =
+pub returns-then-byte_at-ne34-clause-value : goal.returns-then-byte_at-ne34-clause-value
+returns-then-byte_at-ne34-clause-value c =
     let s = c.args.s.now in
-    let end = c.simple_end-end.result in
-    let body = c.skip-body.ensures.rest in
-    let value = c.as_bytes.ensures.value in
-    let run : end ≡ prefix_len is_simple (drop 1 s) = c.simple_end-end.ensures.end ∙ rw (value, body) (omega arith) in
-    let front : c.split_at.result.0.now ≡ _ = c.split_at.ensures.front in
-    let is = quoted_simple s end (omega (arith, c.first.ensures)) run (omega arith) (rw (← body) (omega (arith, c.byte_at.ensures))) in
-    rw (c.in_ok-from_str.ensures.ok, c.split_at.ensures.front, c.skip.ensures.rest, c.split_at.ensures.back, body) is
+    let other : (get_or s 1 0 == 34 && get_or s 2 0 == 34) ≡ false = grind (arith, nat_tests, common_steps) in
+    rw (quoted_on_line s (omega (arith, c.first.ensures)) other, ← c.skip.ensures.rest) (c.basic_string.ensures.value (length s) c.skip.ensures.shorter)
+
+pub returns-then-byte_at-ne34-2-clause-value : goal.returns-then-byte_at-ne34-2-clause-value
+returns-then-byte_at-ne34-2-clause-value c =
+    let s = c.args.s.now in
+    let other : (get_or s 1 0 == 34 && get_or s 2 0 == 34) ≡ false = grind (arith, nat_tests, common_steps) in
+    let closing = next_to_quote s (omega (arith, c.byte_at.ensures)) in
+    quoted_on_line s (omega (arith, c.first.ensures)) other ∙ closing
+    ∙ rw (c.new.ensures.bytes, c.skip-then-byte_at-ne34-2.ensures.rest) refl
