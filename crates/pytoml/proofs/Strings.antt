@@ -9,6 +9,10 @@ use Rattle.toml_parser.specs.Lexical.{first}
 use Rattle.toml_parser.specs.Strings.{is_plain, special, body, escape, one_line, prepend, quoted}
 use Rattle.toml_parser.proofs.LexicalLemmas.{IsCharBoundary-wide_run}
 use Rattle.toml_parser.proofs.StringsLemmas.{after_special, body_plain, body_special, prepend-nil, prepend-prepend}
+use Rattle.std.specs.Prelude.{Result}
+use Rattle.std.specs.Borrow.{Bor}
+use Rattle.pytoml.specs.declared.fault.Unread.{Unread}
+use Rattle.pytoml.specs.Inner.{Reads}
 use Rattle.pytoml.specs.Text.{is_simple, Escapes, GoesOn}
 
 plain_from_simple : (c : ℕ) → is_simple c ≡ true → is_plain 34 false c ≡ true
@@ -98,12 +102,12 @@ string_ends s end n is closing room =
     sym (prepend-nil _) ∙ on ∙ ap (prepend (take end s)) (body_ends m (drop end s) closing (omega arith)) ∙ rw (append-nil (take end s)) refl
 
 -- the string is the run, and what is read behind it
-pub string_goes_on : (s rest text : List ℕ) (end n : ℕ) → end ≡ 0 + prefix_len is_simple s
-    → ((m : ℕ) → length (drop end s) < m → prepend (take end s) (body 34 false m (drop end s)) ≡ Some (text, rest)) → length s < n
-    → body 34 false n s ≡ Some (text, rest)
-string_goes_on s rest text end n is read room =
+pub string_goes_on : (s : List ℕ) {A : Type 0} (f : A → List ℕ) (r : Result (A × Bor (List ℕ)) Unread) (end n : ℕ) → end ≡ 0 + prefix_len is_simple s
+    → ((m : ℕ) → length (drop end s) < m → Reads f r (prepend (take end s) (body 34 false m (drop end s)))) → length s < n
+    → Reads f r (body 34 false n s)
+string_goes_on s f r end n is read room =
     let (m, fits, on) = front_on s end is n room in
-    sym (prepend-nil _) ∙ on ∙ read m fits
+    rw (sym (prepend-nil (body 34 false n s)) ∙ on) (read m fits)
 
 -- what goes on, goes on
 pub on_and_on : (s old rest new rest' new' : List ℕ) → GoesOn s old rest new → GoesOn rest new rest' new' → GoesOn s old rest' new'

@@ -14,22 +14,32 @@ use std::alloc::Global;
 use toml_parser::text::{first, skip};
 
 /// The string behind its quote.
+#[inline(always)]
 pub(crate) fn basic_string(alloc: Global, s: &str) -> Result<(String, &str), Unread>
     ensures value { (n : ℕ) → length s.now < n
         → Reads string_bytes result (body 34 false n s.now) }
     ensures shorter { Shortens s.now result }
 {
     let (front, rest) = s.split_at(simple_end(s.as_bytes(), 0));
-    let mut text = String::from_str(alloc, front)?;
     if first(rest) == b'"' {
-        return Ok((text, skip(rest, 1)));
+        return Ok((String::from_str(alloc, front)?, skip(rest, 1)));
     }
-    let rest = more(&mut text, rest)?;
+    behind(alloc, front, rest)
+}
+
+/// The string that begins with this front and goes on in the text.
+#[inline(never)]
+fn behind<'a>(alloc: Global, front: &str, s: &'a str) -> Result<(String, &'a str), Unread>
+    ensures value { (n : ℕ) → length s.now < n
+        → Reads string_bytes result (prepend front.now (body 34 false n s.now)) }
+    ensures shorter { Shortens s.now result }
+{
+    let mut text = String::from_str(alloc, front)?;
+    let rest = more(&mut text, s)?;
     Ok((text, rest))
 }
 
 /// Adds what stands up to the closing quote, and gives what follows that.
-#[inline(never)]
 fn more<'a>(text: &mut String, s: &'a str) -> Result<&'a str, Unread>
     ensures value { (n : ℕ) → length s.now < n → IfOk result (λ rest.
         prepend (string_bytes text.old) (body 34 false n s.now)
