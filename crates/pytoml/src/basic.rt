@@ -24,7 +24,8 @@ pub(crate) fn basic_string(alloc: Global, s: &str) -> Result<(String, &str), Unr
     if first(rest) == b'"' {
         return Ok((String::from_str(alloc, front)?, skip(rest, 1)));
     }
-    behind(alloc, front, rest)
+    let (text, rest) = behind(alloc, front, rest)?;
+    Ok((text, rest))
 }
 
 /// The string that begins with this front and goes on in the text.

@@ -4,6 +4,7 @@ use Rattle.toml_parser.specs.Lexical.{first}
 use Rattle.std.proofs.Common.{drop}
 use Rattle.pytoml.specs.Text.{is_simple}
 use Rattle.std.proofs.Common.{Global, string_bytes}
+use Rattle.std.proofs.Common.{Ok}
 use Rattle.pytoml.proofs.Strings.{simple_boundary, string_ends, string_goes_on}
 use Rattle.pytoml.proofs.basic.basic_string.Goals as goal
 
@@ -24,5 +25,5 @@ returns-clause-value c n h =
     let s = c.args.s.now in
     let end = c.simple_end.result in
     let is : end ≡ 0 + prefix_len is_simple s = rw (← c.as_bytes.ensures.value) c.simple_end.ensures.end in
-    string_goes_on s (string_bytes {Z = Global}) c.behind.result end n is
-    (λ m fits. rw (← c.split_at.ensures.front, ← c.split_at.ensures.back) (c.behind.ensures.value m (rw c.split_at.ensures.back fits))) h
+    string_goes_on s (string_bytes {Z = Global}) (Ok (c.in_ok-text.text, c.in_ok-text.rest)) end n is
+    (λ m fits. rw (← c.split_at.ensures.front, ← c.split_at.ensures.back) (c.in_ok-text.ensures.value m (rw c.split_at.ensures.back fits))) h
