@@ -292,7 +292,8 @@ int32_t pylock_session_start(pylock_session *session,
                              const uint8_t *environment, size_t environment_length,
                              pylock_text *words);
 
-/* The edits. `*judged` is set to how many judgements the edit made. A refused edit
+/* The edits. `*judged` is set to how many judgements the edit made; entries that share
+ * a marker and a Python set may have them judged once, and all count. A refused edit
  * leaves the session as it was, and `*judged` too. Of several things that are wrong,
  * an empty slot is told first, then a text that isn't UTF-8.
  * All: PYLOCK_EMPTY, PYLOCK_NOT_UTF8 (of a text), PYLOCK_MEMORY. */
@@ -357,7 +358,8 @@ int32_t pylock_session_explain(pylock_session *session, bool json,
                                pylock_text *out, bool *is_plan);
 
 /* The numbers that the last accepted edit judged, or the start where there was
- * none: a record of numbers, the empty text where there is none; 0 is the head.
+ * none: a record of numbers, the empty text where there is none; 0 is the head. An
+ * entry may have taken what was found for another of one marker and Python set.
  * PYLOCK_EMPTY, PYLOCK_MEMORY. */
 int32_t pylock_session_judged(pylock_session *session, pylock_text *numbers);
 

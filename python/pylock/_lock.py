@@ -275,7 +275,10 @@ class Session(_OfThread):
 
     @property
     def judged(self) -> Tuple[int, ...]:
-        """The numbers that the last accepted edit judged, or the start where there was none; 0 is the head."""
+        """The numbers that the last accepted edit judged, or the start where there was none; 0 is the head.
+
+        An entry among them may have taken what was found for another of the same marker and Python set.
+        """
         self._check_thread()
         return tuple(_native.session_judged(self._kept))
 

@@ -7,8 +7,8 @@
 //!
 //! Begin with [`Lock::read`], [`read_environment`] and [`Session::start`]. [`Session::answer`] is
 //! the plan. [`Session::edit`] changes the environment, what is asked for, a policy or an entry,
-//! and judges again exactly what the edit touches; a refused edit leaves the session as it was.
-//! [`Session::fates`] tells what becomes of each entry.
+//! and judges again exactly what the edit touches (entries that share a condition may have it judged
+//! once); a refused edit leaves the session as it was. [`Session::fates`] tells what becomes of each entry.
 //!
 //! A session, from `crates/pylock_core_tests/src/sessions.rt`:
 //!

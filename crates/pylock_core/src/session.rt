@@ -105,7 +105,9 @@ impl Session {
 
     /// Makes an edit, and answers how many judgements it made: one for what reads the variable, the
     /// extras, the groups or the tags that are edited, for the entry that is brought, or for each
-    /// entry of the policy's name. A refused edit is dropped and leaves the session as it was.
+    /// entry of the policy's name. Entries that share a condition, a marker and a Python set, may
+    /// have it judged once: an entry that is counted may have taken what was found for another of
+    /// the same condition. A refused edit is dropped and leaves the session as it was.
     ///
     /// Takes memory for the verdicts that it makes and the numbers of their entries, for a table of
     /// what was found of conditions where it judges many, and for what it brings: the text of a
@@ -187,7 +189,9 @@ impl Session {
         self.parts.entries.as_slice()
     }
 
-    /// The numbers judged by the last accepted edit, or by the start where there was none.
+    /// The numbers judged by the last accepted edit, or by the start where there was none. An entry
+    /// among them may have taken what was found for another of the same condition, a marker and a
+    /// Python set.
     pub fn judged(&self) -> &[u32]
         ensures { result.now ≡ self.now.judged }
     {
