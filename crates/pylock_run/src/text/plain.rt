@@ -35,8 +35,9 @@ struct FileTexts<'a> {
     value: &'a [u8],
 }
 
-/// Pushes the line of a wheel or an sdist if its texts are seen at once to stand in it as they are,
-/// and answers whether it did.
+/// Pushes the line of a wheel or an sdist if it has one hash and its texts are seen at once to
+/// stand in it as they are, and answers whether it did. The hashes are counted before all else.
+#[inline]
 pub(crate) fn push_plain_file(
     out: &mut Vec<u8>,
     number: u64,
@@ -48,6 +49,9 @@ pub(crate) fn push_plain_file(
         ≡ out.old.items ++ source_line number entry.now (file_fields kind.now file.now)) }
     ensures left { IfOk result (λ done. done ≡ false → out.new.items ≡ out.old.items) }
 {
+    if file.hashes().len() != 1 {
+        return Ok(false);
+    }
     let mut digits = Buffer::new();
     let number = digits.format(number).as_bytes();
     match file_texts(number, entry, kind, file) {
