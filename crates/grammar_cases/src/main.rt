@@ -50,6 +50,8 @@ impl Answers for Cases {
             "requirement_text" => requirements::print(alloc, case),
             "same_name" => names::compare(alloc, case),
             "set" => sets::tell(alloc, case),
+            "seen_marker" => markers::look(alloc, case),
+            "seen_set" => sets::look(alloc, case),
             "specifier" => sets::make(alloc, case),
             "still_environment" => still::ask(alloc, case),
             "still_marker" => still::judge(alloc, case),

@@ -103,6 +103,20 @@ pub(crate) fn evaluate(
     Ok(value)
 }
 
+/// Whether the marker `left` and a copy of the marker `right` are seen at once to be the same.
+pub(crate) fn look(alloc: Global, case: &Table) -> anyhow::Result<String> {
+    let left = text(alloc, case, "left")?;
+    let right = text(alloc, case, "right")?;
+    let is_seen = are_seen_same(alloc, left.as_str(), right.as_str())?;
+    Ok(is_seen.to_string(alloc)?)
+}
+
+fn are_seen_same(alloc: Global, left: &str, right: &str) -> anyhow::Result<bool> {
+    let left = Marker::parse(alloc, left)?;
+    let right = Marker::parse(alloc, right)?;
+    Ok(left.is_seen_same(&right.clone()?))
+}
+
 /// The text of `marker`, in quotes and filled up too, and the keys that it reads.
 pub(crate) fn tell_reads(alloc: Global, case: &Table) -> anyhow::Result<String> {
     let text = text(alloc, case, "marker")?;

@@ -102,6 +102,20 @@ fn are_equal(alloc: Global, left: &str, right: &str) -> anyhow::Result<bool> {
     Ok(left == right.clone()?)
 }
 
+/// Whether the set `left` and a copy of the set `right` are seen at once to be the same.
+pub(crate) fn look(alloc: Global, case: &Table) -> anyhow::Result<String> {
+    let left = text(alloc, case, "left")?;
+    let right = text(alloc, case, "right")?;
+    let is_seen = are_seen_same(alloc, left.as_str(), right.as_str())?;
+    Ok(is_seen.to_string(alloc)?)
+}
+
+fn are_seen_same(alloc: Global, left: &str, right: &str) -> anyhow::Result<bool> {
+    let left = SpecifierSet::parse(alloc, left)?;
+    let right = SpecifierSet::parse(alloc, right)?;
+    Ok(left.is_seen_same(&right.clone()?))
+}
+
 /// The specifier of `operator` and `operand`, or why it is refused.
 pub(crate) fn make(alloc: Global, case: &Table) -> anyhow::Result<String> {
     let operator = text(alloc, case, "operator")?;

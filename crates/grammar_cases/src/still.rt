@@ -45,6 +45,7 @@ fn compared(
             && are_parts_alike(version, &copy)
             && admits_second(set, older, &copy)
             && admits_second(&copied_set, older, version)
+            && set.is_seen_same(&copied_set) == copied_set.is_seen_same(set)
             && admits_by_nothing(alloc, version);
     }
     Ok(is_alike.to_string(alloc)?)
@@ -130,7 +131,9 @@ fn is_judged_alike(
     let copied = environment.copy()?;
     let value = evaluate(alloc, environment, extra, marker)?;
     let copied = evaluate(alloc, &copied, extra, &copy)?;
-    let is_read_alike = marker.text() == copy.text() && marker.reads() == copy.reads();
+    let is_read_alike = marker.is_seen_same(&copy)
+        && marker.text() == copy.text()
+        && marker.reads() == copy.reads();
     Ok(is_read_alike && value == Ok(true) && copied == value)
 }
 

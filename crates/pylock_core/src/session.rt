@@ -111,7 +111,9 @@ impl Session {
     ///
     /// Takes memory for the verdicts that it makes and the numbers of their entries, for a table of
     /// what was found of conditions where it judges many, and for what it brings: the text of a
-    /// variable, a name, the row and the places of an entry. `Del` takes none.
+    /// variable, a name, the row and the places of an entry; with an entry that comes in now and
+    /// then for the numbers of all tag sets, so that those that no wheel has any more are let go.
+    /// `Del` takes none.
     pub fn edit(&mut self, edit: Edit) -> Result<u64, EditError>
         ensures accepted { OnOk result (apply edit self.old.state ≡ Ok self.new.state) }
         ensures refused { IfErr result (λ error. (error ≡ Memory → ⊥)
