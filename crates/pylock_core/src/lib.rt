@@ -7,8 +7,9 @@
 //!
 //! Begin with [`Lock::read`], [`read_environment`] and [`Session::start`]. [`Session::answer`] is
 //! the plan. [`Session::edit`] changes the environment, what is asked for, a policy or an entry,
-//! and judges again exactly what the edit touches (entries that share a condition may have it judged
-//! once); a refused edit leaves the session as it was. [`Session::fates`] tells what becomes of each entry.
+//! and judges again exactly what the edit touches, where entries may share the judgement of one
+//! condition; a refused edit leaves the session as it was. [`Session::fates`] tells what becomes of
+//! each entry.
 //!
 //! A session, from `crates/pylock_core_tests/src/sessions.rt`:
 //!
