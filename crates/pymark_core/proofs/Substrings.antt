@@ -90,6 +90,15 @@ unlike_at x y place middle last some m l none = elim (and_cases _ _ none) [
   | inr third ↦ differs_at x y place last l third
 ]
 
+-- the same by bytes that are those of the part
+pub unlike_bytes_at : (x y : List ℕ) (place middle last a b c : ℕ) → 0 < length x → middle < length x → last < length x
+    → a ≡ get_or x 0 0 → b ≡ get_or x middle 0 → c ≡ get_or x last 0
+    → ((nat_eq (get_or y place 0) a && nat_eq (get_or y (place + middle) 0) b) && nat_eq (get_or y (place + last) 0) c) ≡ false
+    → starts_with nat_eq (drop place y) x ≡ false
+unlike_bytes_at x y place middle last a b c some m l ea eb ec none =
+    unlike_at x y place middle last some m l
+    (sym (λ i. (nat_eq (get_or y place 0) (ea i) && nat_eq (get_or y (place + middle) 0) (eb i)) && nat_eq (get_or y (place + last) 0) (ec i)) ∙ none)
+
 -- what begins at none of the first places stands in what is left
 pub behind_passed : (x y : List ℕ) (n : ℕ) → BeginsNowhere x y 0 n → is_substring x (drop n y) ≡ is_substring x y
 behind_passed x y zero none = refl

@@ -4,7 +4,8 @@
 //! nowhere is passed over first, many places at a time; nothing is prepared for that, so that it
 //! costs no more than the search of that front, whatever the two texts are.
 
-ghost use Rattle.std.specs.Prelude.{◌≡◌, ◌+◌, ◌<◌, ◌≤◌, drop, false, length, nat_eq};
+ghost use Rattle.std.specs.Prelude.{◌≡◌, ◌+◌, ◌-◌, ◌/◌, ◌<◌, ◌≤◌, drop, false, length, nat_eq};
+ghost use Rattle.std.specs.Prelude.{slice_index};
 ghost use Rattle.std.specs.List.{starts_with};
 ghost use Rattle.pymark_core.specs.Inner.Passed.{BeginsNowhere};
 ghost use Rattle.pymark_core.specs.Marker.Value.{is_substring};
@@ -87,23 +88,26 @@ fn may_begin(part: &[u8], whole: &[u8], from: usize) -> bool
     requires within { from + 31 + length part.now ≤ length whole.now }
     ensures { result ≡ false → BeginsNowhere part.now whole.now from (from + 32) }
 {
+    let bytes = (part[0], part[part.len() / 2], part[part.len() - 1]);
     let mut may = false;
     for place in from..from + PLACES {
-        may |= is_alike_at(part, whole, place);
+        may |= is_alike_at(part, whole, place, bytes);
     }
     may
 }
 
-/// Whether three bytes of the part stand where they would if the part began at this place.
+/// Whether three bytes of the part, the first, the middle and the last, stand where they would if
+/// the part began at this place. They are handed in, so that a loop over places loads them once.
 #[inline(always)]
-fn is_alike_at(part: &[u8], whole: &[u8], place: usize) -> bool
+fn is_alike_at(part: &[u8], whole: &[u8], place: usize, bytes: (u8, u8, u8)) -> bool
     requires some { 0 < length part.now }
     requires within { place + length part.now ≤ length whole.now }
+    requires first { bytes.0 ≡ slice_index part.now 0 }
+    requires middle { bytes.1 ≡ slice_index part.now (length part.now / 2) }
+    requires last { bytes.2 ≡ slice_index part.now (length part.now - 1) }
     ensures { result ≡ false → starts_with nat_eq (drop place whole.now) part.now ≡ false }
 {
-    let middle = part.len() / 2;
-    let last = part.len() - 1;
-    (whole[place] == part[0])
-        & (whole[place + middle] == part[middle])
-        & (whole[place + last] == part[last])
+    let middle = place + part.len() / 2;
+    let last = place + (part.len() - 1);
+    (whole[place] == bytes.0) & (whole[middle] == bytes.1) & (whole[last] == bytes.2)
 }
