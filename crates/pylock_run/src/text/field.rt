@@ -44,7 +44,7 @@ pub fn push_escaped(out: &mut Vec<u8>, text: &str) -> Result<(), AllocError>
 
 /// Whether the text is seen at once to stand in a field as it is, as nearly each does. Of a longer
 /// text whole chunks are tested, the last of which may lie over the one before it.
-#[inline(always)]
+#[inline(never)]
 pub(crate) fn is_plain_text(text: &[u8]) -> bool
     ensures { IsTrue result → list_all is_ordinary text.now ≡ true }
 {
@@ -117,13 +117,8 @@ fn push_escape(out: &mut Vec<u8>, byte: u8) -> Result<(), AllocError>
 pub fn push_next(out: &mut Vec<u8>, text: Option<&str>) -> Result<(), AllocError>
     ensures { OnOk result (out.new.items ≡ out.old.items ++ 9 ∷ field (option_copied text.entry)) }
 {
-    match text {
-        None => out.extend_from_slice(b"\t-"),
-        Some(_) => {
-            out.push(b'\t')?;
-            push_field(out, text)
-        }
-    }
+    out.push(b'\t')?;
+    push_field(out, text)
 }
 
 /// Pushes a TAB, a word and the LF of its line.

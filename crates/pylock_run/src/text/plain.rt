@@ -37,7 +37,6 @@ struct FileTexts<'a> {
 
 /// Pushes the line of a wheel or an sdist if it has one hash and its texts are seen at once to
 /// stand in it as they are, and answers whether it did. The hashes are counted before all else.
-#[inline]
 pub(crate) fn push_plain_file(
     out: &mut Vec<u8>,
     number: u64,
