@@ -97,8 +97,10 @@ impl Environment {
         }
     }
 
-    /// Gives the variable the text, which is read as a version here and never again. Where there is
-    /// no memory for it, the variable keeps what it had.
+    /// Gives the variable the text, which is read as a version here and never again. It keeps a
+    /// copy of the text and the version that it spells, where it spells one, and nothing else;
+    /// copies of the environment share them. Where there is no memory for it, the variable keeps
+    /// what it had.
     pub fn set(&mut self, variable: Var, text: &str) -> Result<(), AllocError>
         ensures ok { OnOk result (self.new ≡ with_variable variable text.now self.old) }
         ensures given { OnOk result (variable_in variable self.new ≡ Some text.now) }
