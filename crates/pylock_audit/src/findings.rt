@@ -15,12 +15,9 @@ use crate::finding::{Finding, FindingKind, Found, push_each, push_found, push_wh
 use crate::keys::{Level, field, push_unknown};
 use crate::tables::{TableFindings, table_findings, text_at};
 use pylock_core::{Entry, Head, Lock, LockError};
-use pylock_readers::read_document;
+use pylock_readers::{MOST_ENTRIES, read_document};
 use std::alloc::{AllocError, Global};
 use toml::{Table, Value};
-
-/// How many entries a lock may have.
-const MOST_ENTRIES: usize = 100_000;
 
 /// What a careful reader of the lock would want to be told, though the lock is valid: the findings
 /// of its head, and then those of its entries in order (PEP 751). The refusals are those of
