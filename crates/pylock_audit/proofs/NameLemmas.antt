@@ -4,12 +4,14 @@ use Rattle.std.proofs.lemmas.Bool.{cases_Bool}
 use Rattle.std.specs.BTreeSet.{BTreeSet, contains_text}
 use Rattle.std.specs.Cmp.Lexicographic.{bytes_decides}
 use Rattle.std.specs.List.{list_any}
+use Rattle.std.specs.Option.{option_map_or}
 use Rattle.std.specs.Str.{bytes_eq}
 use Rattle.pylock_readers.specs.Entry.{FileValue, file_name}
 use Rattle.pylock_audit.specs.Entry.{same_names, with_name, with_names}
+use Rattle.pylock_audit.specs.FileName.{shown_name}
 use Rattle.pylock_audit.specs.Finding.{told_where}
 use Rattle.pylock_audit.specs.Inner.Names.{Holds}
-use Rattle.pylock_audit.specs.Source.{text_where}
+use Rattle.pylock_audit.specs.Source.{name_where, text_where}
 
 or_assoc : (a b c : Bool) → (a || (b || c)) ≡ ((a || b) || c)
 or_assoc true b c = refl
@@ -53,7 +55,7 @@ with_names_more [] file names = refl
 with_names_more (first ∷ files) file names = with_names_more files file (with_name (file_name first) names)
 
 abbrev pub same_name : List (List ℕ) → FileValue → List (List ℕ)
-same_name names file = text_where (λ name. list_any (bytes_eq name) names) (λ name. name) (file_name file)
+same_name names file = name_where (λ name. list_any (bytes_eq name) names) file
 
 pub same_names_more : (files : List FileValue) (file : FileValue) (names : List (List ℕ))
     → same_names names (files ++ file ∷ []) ≡ same_names names files ++ same_name (with_names files names) file
@@ -63,8 +65,13 @@ same_names_more (first ∷ files) file names =
     ap (λ more. same_name names first ++ more) (same_names_more files file later)
     ∙ sym (append_assoc (same_name names first) (same_names later files) (same_name (with_names files later) file))
 
--- a set tells of a name what the names tell
-pub same_where : (set : BTreeSet (String Global)) (names : List (List ℕ)) (name : Option (List ℕ)) → Holds set names
-    → text_where (contains_text set) (λ name. name) name ≡ text_where (λ name. list_any (bytes_eq name) names) (λ name. name) name
+-- a set tells of a file what the names tell
+pub same_where : (set : BTreeSet (String Global)) (names : List (List ℕ)) (file : Option FileValue) → Holds set names
+    → option_map_or (name_where (contains_text set)) file [] ≡ option_map_or (name_where (λ name. list_any (bytes_eq name) names)) file []
 same_where set names None holds = refl
-same_where set names (Some name) holds = ap (λ has. told_where has name) (holds name)
+same_where set names (Some file) holds = named (file_name file)
+  where
+    named : (name : Option (List ℕ))
+        → text_where (contains_text set) (shown_name file) name ≡ text_where (λ name. list_any (bytes_eq name) names) (shown_name file) name
+    named None = refl
+    named (Some name) = ap (λ has. told_where has (shown_name file name)) (holds name)

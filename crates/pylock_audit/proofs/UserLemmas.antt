@@ -4,7 +4,6 @@ use Rattle.std.proofs.lemmas.Bool.{cases_Bool, or_parts}
 use Rattle.std.proofs.lemmas.List.{length-append}
 use Rattle.std.specs.List.{list_any}
 use Rattle.std.specs.Option.{option_map_or}
-use Rattle.std.specs.Prelude.{if◌then◌else◌}
 use Rattle.pytext.specs.Options.{either}
 use Rattle.pywheel_core.proofs.Cuts.{Lacks, cut_says, no_cut_says}
 use Rattle.pywheel_core.specs.Texts.{cut_at}

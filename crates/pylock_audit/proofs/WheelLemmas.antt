@@ -1,5 +1,5 @@
 -- What the file names of wheels say, by the place of the wheel.
-use Rattle.std.proofs.Common.{◌≡◌, ℕ, suc, zero, List, [], ◌∷◌, map, Option, Some, None, refl}
+use Rattle.std.proofs.Common.{◌≡◌, ℕ, suc, zero, List, [], ◌∷◌, map, Option, refl}
 use Rattle.std.specs.Prelude.{option_and_then, slice_get}
 
 pub read_at : {A B : Type 0} (read : A → Option B) (xs : List A) (n : ℕ)

@@ -22,9 +22,10 @@ use Rattle.pylock_readers.specs.Entry.{EntryValue, FileValue, file_name, wheel_n
 use Rattle.pylock_readers.specs.Entry.Kinds.{has_conflict, is_any, kinds, kinds_text}
 use Rattle.pylock_readers.specs.Lock.{HeadValue}
 use Rattle.pylock_core.specs.Session.Picks.{sources}
+use Rattle.pylock_audit.specs.FileName.{shown_file_name}
 use Rattle.pylock_audit.specs.Finding.{FindingValue, found_each, found_where, told_where}
 use Rattle.pylock_audit.specs.Keys.{unknown_of_entry}
-use Rattle.pylock_audit.specs.Source.{over_sources, text_where}
+use Rattle.pylock_audit.specs.Source.{name_where, over_sources, text_where}
 use Rattle.pylock_audit.specs.Unsafe.{has_control}
 use Rattle.pylock_audit.specs.declared.files.NamedWheel.{NamedWheel}
 use Rattle.pylock_audit.specs.declared.finding.FindingKind.{FindingKind}
@@ -79,13 +80,12 @@ lent_wheel wheel = (wheel.file.now, option_map (λ name. name.now) wheel.name)
 
 -- a wheel that is never chosen, since its name can't be read
 abbrev pub unnamed_wheel : ReadWheel → List FindingValue
-unnamed_wheel wheel = found_where (is_none wheel.1) kind.NoWheelName (file_name wheel.0)
+unnamed_wheel wheel = found_where (is_none wheel.1) kind.NoWheelName (shown_file_name wheel.0)
 
 -- the file name of a wheel whose parts a test finds
 abbrev pub wheel_where : (WheelValue → Bool) → ReadWheel → List (List ℕ)
 wheel_where test wheel =
-    option_map_or (λ parts. text_where (λ name. test parts) (λ name. name) (file_name wheel.0))
-    wheel.1 []
+    option_map_or (λ parts. name_where (λ name. test parts) wheel.0) wheel.1 []
 
 abbrev pub is_other_name : List ℕ → WheelValue → Bool
 is_other_name name wheel = not (bytes_eq (norm wheel.name) name)
@@ -129,8 +129,7 @@ is_other_sdist name file =
     is_sdist_name file && not (list_any (is_name_of name) (fronts_behind [] file))
 
 abbrev pub other_sdist : EntryValue → List (List ℕ)
-other_sdist entry =
-    text_where (is_other_sdist entry.name) (λ name. name) (option_and_then file_name entry.sdist)
+other_sdist entry = option_map_or (name_where (is_other_sdist entry.name)) entry.sdist []
 
 abbrev pub other_names : EntryValue → List (List ℕ)
 other_names entry =
@@ -153,15 +152,15 @@ with_names (file ∷ files) names = with_names files (with_name (file_name file)
 abbrev pub same_names : List (List ℕ) → List FileValue → List (List ℕ)
 same_names earlier [] = []
 same_names earlier (file ∷ files) =
-    text_where (λ name. list_any (bytes_eq name) earlier) (λ name. name) (file_name file)
+    name_where (λ name. list_any (bytes_eq name) earlier) file
     ++ same_names (with_name (file_name file) earlier) files
 
 -- of the wheels, and then of the sdist
 abbrev pub same_file_names : EntryValue → List (List ℕ)
 same_file_names entry =
     same_names [] entry.wheels
-    ++ text_where (λ name. list_any (bytes_eq name) (with_names entry.wheels [])) (λ name. name)
-    (option_and_then file_name entry.sdist)
+    ++ option_map_or (name_where (λ name. list_any (bytes_eq name) (with_names entry.wheels [])))
+    entry.sdist []
 
 -- ---- all of an entry
 

@@ -1,6 +1,7 @@
 pub mod Audit
 pub mod Document
 pub mod Entry
+pub mod FileName
 pub mod Finding
 pub mod Hash
 pub mod Inner

@@ -1,7 +1,7 @@
 -- What one source of an entry gives to each kind of finding.
 use Rattle.std.specs.Prelude.{ℕ, Bool, false, ◌==◌, ◌+◌, ◌&&◌, ◌||◌, ◌++◌, not, codes}
 use Rattle.std.specs.Prelude.{List, [], ◌∷◌, filter, length, map, Option, Some, None, unwrap_or}
-use Rattle.std.specs.Prelude.{if◌then◌else◌, option_and_then}
+use Rattle.std.specs.Prelude.{if◌then◌else◌}
 use Rattle.std.specs.Int.{is_in_range}
 use Rattle.std.specs.List.{flat_map, join_by, list_all}
 use Rattle.std.specs.Option.{option_map_or}
@@ -11,6 +11,7 @@ use Rattle.pylock_core.specs.Session.Picks.{OfArchive, OfDirectory, OfSdist, OfV
 use Rattle.pylock_core.specs.Session.Picks.{SourceValue}
 use Rattle.pylock_core.specs.declared.answer.PickSource.{PickSource}
 use Rattle.pylock_core.specs.declared.answer.PickSource.TheVariants as source
+use Rattle.pylock_audit.specs.FileName.{shown_file_name, shown_name}
 use Rattle.pylock_audit.specs.Finding.{told_where}
 use Rattle.pylock_audit.specs.Hash.{Hash, is_bad, is_odd, is_weak}
 use Rattle.pylock_audit.specs.Keys.{wheel_path}
@@ -36,10 +37,11 @@ hashes_of (OfArchive archive) = Some archive.hashes
 hashes_of (OfWheel file) = Some file.hashes
 hashes_of (OfSdist file) = Some file.hashes
 
-abbrev pub source_file_name : SourceValue → Option (List ℕ)
-source_file_name (OfWheel file) = file_name file
-source_file_name (OfSdist file) = file_name file
-source_file_name source = None
+-- the sdist or the wheel that it is
+abbrev pub file_of : SourceValue → Option FileValue
+file_of (OfWheel file) = Some file
+file_of (OfSdist file) = Some file
+file_of source = None
 
 abbrev pub subdirectory_of : SourceValue → Option (List ℕ)
 subdirectory_of (OfVcs vcs) = vcs.subdirectory
@@ -54,9 +56,9 @@ is_vcs source = false
 
 -- ---- how it is named
 
--- the file name, or the place where it has none
+-- the file name as it is shown, or the place where it has none
 abbrev pub file_label : FileValue → List ℕ
-file_label file = unwrap_or (file_name file) (shown_place file.location)
+file_label file = unwrap_or (shown_file_name file) (shown_place file.location)
 
 -- a file that has hashes: its kind, and its file name or place
 abbrev pub label : SourceValue → List ℕ
@@ -103,6 +105,10 @@ over_hashes details s = option_map_or details (hashes_of s) []
 abbrev pub text_where : (List ℕ → Bool) → (List ℕ → List ℕ) → Option (List ℕ) → List (List ℕ)
 text_where test shown None = []
 text_where test shown (Some text) = told_where (test text) (shown text)
+
+-- the file name of a file, where it has one that a test finds, as it is shown
+abbrev pub name_where : (List ℕ → Bool) → FileValue → List (List ℕ)
+name_where test file = text_where test (shown_name file) (file_name file)
 
 -- a URL that anybody on the way may change
 abbrev pub is_open_url : SourceValue → List ℕ → Bool
@@ -185,7 +191,7 @@ details kind.NoHash s = over_hashes (without_hash s.1) s.1
 details kind.WeakHash s = over_hashes (weakly_hashed s.1) s.1
 details kind.OddHash s = over_hashes (tested_hashes is_odd s.1) s.1
 details kind.BadHash s = over_hashes (tested_hashes is_bad s.1) s.1
-details kind.UnsafeFileName s = text_where is_unsafe_name (λ name. name) (source_file_name s.1)
+details kind.UnsafeFileName s = option_map_or (name_where is_unsafe_name) (file_of s.1) []
 details kind.UnsafeSubdirectory s = text_where is_unsafe_path (λ path. path) (subdirectory_of s.1)
 details kind.NotHttps s = text_where (is_open_url s.1) shown_url (url_of s.1)
 details kind.Credentials s =

@@ -15,10 +15,11 @@ ghost use Rattle.pylock_audit.specs.Entry.{read_wheels, of_file_names, other_nam
 ghost use Rattle.pylock_audit.specs.Entry.{other_versions, same_file_names, same_names};
 ghost use Rattle.pylock_audit.specs.Entry.{unnamed_wheel, wanted_version, wheel_where};
 ghost use Rattle.pylock_audit.specs.Inner.Names.{Holds};
-ghost use Rattle.pylock_audit.specs.Source.{text_where};
+ghost use Rattle.pylock_audit.specs.Source.{name_where};
 
+use crate::file_name::{shown_file_name, shown_name};
 use crate::finding::{Finding, FindingKind, push_each, push_where};
-use pylock_core::{DistributionFile, Entry, WheelFile};
+use pylock_core::{DistributionFile, Entry, Sdist, WheelFile};
 use pyver_core::{Version, VersionError, is_name, normal_name};
 use pywheel_core::WheelName;
 use std::alloc::{AllocError, Global};
@@ -106,17 +107,8 @@ fn push_unnamed_wheel(
     if wheel.name.is_some() {
         return Ok(());
     }
-    let name = owned(alloc, wheel.file.file_name())?;
+    let name = shown_file_name(alloc, wheel.file)?;
     push_where(findings, true, FindingKind::NoWheelName, name)
-}
-
-fn owned(alloc: Global, text: Option<&str>) -> Result<Option<String>, AllocError>
-    ensures { IfOk result (λ owned. option_map string_bytes owned ≡ option_copied text.entry) }
-{
-    match text {
-        Some(text) => Ok(Some(String::from_str(alloc, text)?)),
-        None => Ok(None),
-    }
 }
 
 // ---- other packages
@@ -131,9 +123,7 @@ fn other_names(
     ensures { IfOk result (λ list. map string_bytes list.items ≡ other_names entry.now) }
 {
     let mut list = wheels_of_others(alloc, entry.name(), wheels)?;
-    if let Some(name) = sdist_of_another(alloc, entry)? {
-        list.push(name)?;
-    }
+    push_other_sdist(alloc, &mut list, entry.name(), entry.sdist())?;
     Ok(list)
 }
 
@@ -177,40 +167,53 @@ fn is_other_name(alloc: Global, name: &str, wheel: &WheelName) -> Result<bool, A
     Ok(normal_name(alloc, wheel.name())?.as_str() != name)
 }
 
-/// Adds the file name of a file, where it has one.
+/// Adds the file name of a file as it is shown, where it has one.
 fn push_file_name(
     alloc: Global,
     list: &mut Vec<String>,
     file: &DistributionFile,
 ) -> Result<(), AllocError>
-    ensures { OnOk result (map string_bytes list.new.items ≡ map string_bytes list.old.items
-        ++ text_where (λ name. true) (λ name. name) (file_name file.now)) }
+    ensures { OnOk result (map string_bytes list.new.items
+        ≡ map string_bytes list.old.items ++ name_where (λ name. true) file.now) }
 {
-    if let Some(name) = file.file_name() {
-        list.push(String::from_str(alloc, name)?)?;
+    if let Some(name) = shown_file_name(alloc, file)? {
+        list.push(name)?;
     }
     Ok(())
 }
 
-/// The file name of the sdist, where that is of another package.
-fn sdist_of_another(alloc: Global, entry: &Entry) -> Result<Option<String>, AllocError>
-    ensures { IfOk result (λ name.
-        option_map_or (λ name. name ∷ []) (option_map string_bytes name) []
-        ≡ other_sdist entry.now) }
+/// Adds the file name of the sdist, where that is of another package than this one.
+fn push_other_sdist(
+    alloc: Global,
+    list: &mut Vec<String>,
+    name: &str,
+    sdist: Option<&Sdist>,
+) -> Result<(), AllocError>
+    ensures { OnOk result (map string_bytes list.new.items ≡ map string_bytes list.old.items
+        ++ option_map_or (name_where (is_other_sdist name.now)) (option_copied sdist.entry) []) }
 {
-    let Some(name) = sdist_file_name(entry) else {
-        return Ok(None);
-    };
-    if is_other_sdist(alloc, entry.name(), name)? {
-        return Ok(Some(String::from_str(alloc, name)?));
+    match sdist {
+        Some(file) => push_sdist_of_another(alloc, list, name, file),
+        None => Ok(()),
     }
-    Ok(None)
 }
 
-fn sdist_file_name(entry: &Entry) -> Option<&str>
-    ensures { option_copied result ≡ option_and_then file_name entry.now.sdist }
+fn push_sdist_of_another(
+    alloc: Global,
+    list: &mut Vec<String>,
+    name: &str,
+    file: &Sdist,
+) -> Result<(), AllocError>
+    ensures { OnOk result (map string_bytes list.new.items
+        ≡ map string_bytes list.old.items ++ name_where (is_other_sdist name.now) file.now) }
 {
-    entry.sdist()?.file_name()
+    let Some(own) = file.file_name() else {
+        return Ok(());
+    };
+    if is_other_sdist(alloc, name, own)? {
+        list.push(shown_name(alloc, file, own)?)?;
+    }
+    Ok(())
 }
 
 fn is_other_sdist(alloc: Global, name: &str, file: &str) -> Result<bool, AllocError>
@@ -354,7 +357,7 @@ fn same_names(alloc: Global, entry: &Entry) -> Result<Vec<String>, AllocError>
     let mut list = Vec::new(alloc);
     let mut earlier = BTreeSet::new(alloc);
     push_same_names(alloc, &mut list, &mut earlier, entry.wheels())?;
-    push_same_sdist(alloc, &mut list, &earlier, sdist_file_name(entry))?;
+    push_same_sdist(alloc, &mut list, &earlier, entry.sdist())?;
     Ok(list)
 }
 
@@ -363,18 +366,31 @@ fn push_same_sdist(
     alloc: Global,
     list: &mut Vec<String>,
     earlier: &BTreeSet<String>,
-    name: Option<&str>,
+    sdist: Option<&Sdist>,
 ) -> Result<(), AllocError>
     ensures { OnOk result (map string_bytes list.new.items ≡ map string_bytes list.old.items
-        ++ text_where (contains_text earlier.now) (λ name. name) (option_copied name.entry)) }
+        ++ option_map_or (name_where (contains_text earlier.now)) (option_copied sdist.entry) []) }
 {
-    let Some(name) = name else {
-        return Ok(());
-    };
-    if earlier.contains(name) {
-        list.push(String::from_str(alloc, name)?)?;
+    match sdist {
+        Some(file) => push_where_earlier(alloc, list, earlier, file),
+        None => Ok(()),
     }
-    Ok(())
+}
+
+/// Adds the file name of a file where an earlier file has it.
+fn push_where_earlier(
+    alloc: Global,
+    list: &mut Vec<String>,
+    earlier: &BTreeSet<String>,
+    file: &DistributionFile,
+) -> Result<(), AllocError>
+    ensures { OnOk result (map string_bytes list.new.items ≡ map string_bytes list.old.items
+        ++ name_where (contains_text earlier.now) file.now) }
+{
+    match file.file_name() {
+        Some(name) if earlier.contains(name) => Ok(list.push(shown_name(alloc, file, name)?)?),
+        _ => Ok(()),
+    }
 }
 
 fn push_same_names(
@@ -403,8 +419,8 @@ fn push_same_name(
     file: &DistributionFile,
 ) -> Result<(), AllocError>
     ensures list { OnOk result ((names : List (List ℕ)) → Holds earlier.old names
-        → map string_bytes list.new.items ≡ map string_bytes list.old.items ++ text_where
-        (λ name. list_any (bytes_eq name) names) (λ name. name) (file_name file.now)) }
+        → map string_bytes list.new.items ≡ map string_bytes list.old.items
+        ++ name_where (λ name. list_any (bytes_eq name) names) file.now) }
     ensures earlier { OnOk result ((names : List (List ℕ)) → Holds earlier.old names
         → Holds earlier.new (with_name (file_name file.now) names)) }
 {
@@ -412,7 +428,7 @@ fn push_same_name(
         return Ok(());
     };
     if earlier.contains(name) {
-        list.push(String::from_str(alloc, name)?)?;
+        list.push(shown_name(alloc, file, name)?)?;
     }
     earlier.insert(String::from_str(alloc, name)?)?;
     Ok(())

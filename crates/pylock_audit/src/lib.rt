@@ -22,6 +22,7 @@
 mod control;
 mod document;
 mod entry;
+mod file_name;
 mod files;
 mod finding;
 mod findings;

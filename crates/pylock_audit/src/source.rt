@@ -3,20 +3,21 @@
 ghost use Rattle.std.specs.Prelude.{◌≡◌, ◌++◌, ◌∷◌, ◌&&◌, [], IfOk, OnOk, codes, map, not};
 ghost use Rattle.std.specs.Prelude.{option_map, string_bytes};
 ghost use Rattle.std.specs.List.{flat_map, list_all};
-ghost use Rattle.std.specs.Option.{option_copied};
+ghost use Rattle.std.specs.Option.{option_copied, option_map_or};
 ghost use Rattle.pylock_readers.specs.Text.{text_pairs};
 ghost use Rattle.pylock_core.specs.Session.Picks.{lent_named, lent_source};
 ghost use Rattle.pylock_audit.specs.Hash.{is_bad, is_odd};
-ghost use Rattle.pylock_audit.specs.Source.{algorithms, details, file_label, has_commit_hashes};
-ghost use Rattle.pylock_audit.specs.Source.{hashes_of, is_commit_hash, is_hash_digit, is_open_url};
-ghost use Rattle.pylock_audit.specs.Source.{label, moving_commit, over_hashes, over_sources};
-ghost use Rattle.pylock_audit.specs.Source.{source_file_name, source_path, subdirectory_of};
-ghost use Rattle.pylock_audit.specs.Source.{tested_hashes, text_where, url_of, weakly_hashed};
-ghost use Rattle.pylock_audit.specs.Source.{without_hash};
+ghost use Rattle.pylock_audit.specs.Source.{algorithms, details, file_label, file_of};
+ghost use Rattle.pylock_audit.specs.Source.{has_commit_hashes, hashes_of, is_commit_hash};
+ghost use Rattle.pylock_audit.specs.Source.{is_hash_digit, is_open_url, label, moving_commit};
+ghost use Rattle.pylock_audit.specs.Source.{name_where, over_hashes, over_sources, source_path};
+ghost use Rattle.pylock_audit.specs.Source.{subdirectory_of, tested_hashes, text_where, url_of};
+ghost use Rattle.pylock_audit.specs.Source.{weakly_hashed, without_hash};
 ghost use Rattle.pylock_audit.specs.Unsafe.{is_unsafe_name, is_unsafe_path};
 ghost use Rattle.pylock_audit.specs.Url.{has_credentials, shown_place, shown_url};
 
 use crate::control::push_controlled;
+use crate::file_name::{shown_file_name, shown_name};
 use crate::finding::FindingKind;
 use crate::hash::{Hash, is_bad, is_odd, is_weak};
 use crate::keys::{joined, wheel_path};
@@ -49,11 +50,12 @@ fn hashes_of<'a>(source: PickedSource<'a>) -> Option<&'a [Hash]>
     }
 }
 
-fn source_file_name<'a>(source: PickedSource<'a>) -> Option<&'a str>
-    ensures { option_copied result ≡ source_file_name (lent_source source.entry) }
+/// The sdist or the wheel that the source is.
+fn file_of<'a>(source: PickedSource<'a>) -> Option<&'a DistributionFile>
+    ensures { option_copied result ≡ file_of (lent_source source.entry) }
 {
     match source {
-        PickedSource::Wheel(file) | PickedSource::Sdist(file) => file.file_name(),
+        PickedSource::Wheel(file) | PickedSource::Sdist(file) => Some(file),
         _ => None,
     }
 }
@@ -85,12 +87,12 @@ fn shown_place(alloc: Global, path: Option<&str>, url: Option<&str>) -> Result<S
     }
 }
 
-/// The file name, or the place where it has none.
+/// The file name as it is shown, or the place where it has none.
 fn file_label(alloc: Global, file: &DistributionFile) -> Result<String, AllocError>
     ensures { IfOk result (λ text. string_bytes text ≡ file_label file.now) }
 {
-    match file.file_name() {
-        Some(name) => String::from_str(alloc, name),
+    match shown_file_name(alloc, file)? {
+        Some(name) => Ok(name),
         None => shown_place(alloc, file.path(), file.url()),
     }
 }
@@ -291,10 +293,24 @@ fn push_unsafe_name(
     source: PickedSource<'_>,
 ) -> Result<(), AllocError>
     ensures { OnOk result (map string_bytes list.new.items ≡ map string_bytes list.old.items
-        ++ text_where is_unsafe_name (λ name. name) (source_file_name (lent_source source.entry))) }
+        ++ option_map_or (name_where is_unsafe_name) (file_of (lent_source source.entry)) []) }
 {
-    match source_file_name(source) {
-        Some(name) if is_unsafe_name(name) => push_copy(alloc, list, name),
+    match file_of(source) {
+        Some(file) => push_unsafe_of(alloc, list, file),
+        None => Ok(()),
+    }
+}
+
+fn push_unsafe_of(
+    alloc: Global,
+    list: &mut Vec<String>,
+    file: &DistributionFile,
+) -> Result<(), AllocError>
+    ensures { OnOk result (map string_bytes list.new.items
+        ≡ map string_bytes list.old.items ++ name_where is_unsafe_name file.now) }
+{
+    match file.file_name() {
+        Some(name) if is_unsafe_name(name) => Ok(list.push(shown_name(alloc, file, name)?)?),
         _ => Ok(()),
     }
 }

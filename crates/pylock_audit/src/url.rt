@@ -64,7 +64,7 @@ fn around_colon(text: &str) -> Option<(&str, &str)>
 }
 
 /// What stands before and behind the first `@`.
-fn around_at(text: &str) -> Option<(&str, &str)>
+pub(crate) fn around_at(text: &str) -> Option<(&str, &str)>
     ensures { option_map (λ cut. (cut.0.now, cut.1.now)) result ≡ cut_at 64 text.now }
 {
     text.split_once('@')

@@ -1,4 +1,4 @@
-use Rattle.std.proofs.Common.{◌≡◌, ◌∙◌, ◌++◌, ◌∷◌, ◌+◌, [], ap, append_assoc, map, rules, string_bytes, sym, take}
+use Rattle.std.proofs.Common.{◌≡◌, ◌∙◌, ◌++◌, ◌∷◌, ◌+◌, [], ap, append_assoc, map, string_bytes, sym, take}
 use Rattle.std.proofs.lemmas.List.{take_all, take_more}
 use Rattle.pylock_readers.specs.Entry.{FileValue}
 use Rattle.pylock_audit.specs.Entry.{same_names, with_names}
