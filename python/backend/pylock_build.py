@@ -2,7 +2,8 @@
 
 The wheel carries the module and the built library, so its tag is py3-none-PLATFORM. The library is the one that
 PYLOCK_LIBRARY names, else the one beside the module, else out/libpylock.so of the repository, which tools/library
-builds. A wheel is the same bytes for the same files.
+builds. Where PYLOCK_PROGRAM names the built program, the wheel has it as the command pylock. PYLOCK_PLATFORM names the
+platforms of the tag, with dots between them. A wheel is the same bytes for the same files.
 """
 
 import base64
@@ -66,7 +67,7 @@ def library():
 
 
 def platform():
-    """The platform of the wheel's tag."""
+    """The platforms of the wheel's tag, with dots between them."""
     name = sysconfig.get_platform().replace("-", "_").replace(".", "_")
     return os.environ.get("PYLOCK_PLATFORM", name)
 
@@ -77,9 +78,20 @@ def modules():
     return sorted(name for name in os.listdir(folder) if name.endswith(".py") or name == "py.typed")
 
 
-def read(*names):
-    with open(os.path.join(HERE, *names), "rb") as file:
+def content(path):
+    with open(path, "rb") as file:
         return file.read()
+
+
+def read(*names):
+    return content(os.path.join(HERE, *names))
+
+
+def tags(platforms):
+    """The file WHEEL, with a tag for each platform."""
+    lines = ["Wheel-Version: 1.0", "Generator: pylock_build", "Root-Is-Purelib: false"]
+    lines += ["Tag: py3-none-" + name for name in platforms.split(".")]
+    return "\n".join(lines) + "\n"
 
 
 class Wheel:
@@ -107,18 +119,18 @@ class Wheel:
 
 def build_wheel(wheel_directory, config_settings=None, metadata_directory=None):
     keys = project()
-    tag = "py3-none-" + platform()
-    dist_info = "%s-%s.dist-info" % (keys["name"], keys["version"])
-    name = "%s-%s-%s.whl" % (keys["name"], keys["version"], tag)
-    with open(library(), "rb") as file:
-        built = file.read()
-    wheel = Wheel(os.path.join(wheel_directory, name), dist_info)
+    stem = "%s-%s" % (keys["name"], keys["version"])
+    platforms = platform()
+    name = "%s-py3-none-%s.whl" % (stem, platforms)
+    program = os.environ.get("PYLOCK_PROGRAM")
+    wheel = Wheel(os.path.join(wheel_directory, name), stem + ".dist-info")
     for module in modules():
         wheel.add("pylock/" + module, read("pylock", module))
-    wheel.add("pylock/" + LIBRARY, built, 0o755)
-    wheel.add(dist_info + "/METADATA", metadata().encode())
-    text = "Wheel-Version: 1.0\nGenerator: pylock_build\nRoot-Is-Purelib: false\nTag: %s\n" % tag
-    wheel.add(dist_info + "/WHEEL", text.encode())
+    wheel.add("pylock/" + LIBRARY, content(library()), 0o755)
+    if program:
+        wheel.add(stem + ".data/scripts/pylock", content(program), 0o755)
+    wheel.add(stem + ".dist-info/METADATA", metadata().encode())
+    wheel.add(stem + ".dist-info/WHEEL", tags(platforms).encode())
     wheel.close()
     return name
 

@@ -54,4 +54,4 @@ __all__ = [
     "sorted_versions", "specifiers", "tags", "utils", "version", "version_key",
 ]
 
-__version__ = "1"
+__version__ = "1.0.0"

@@ -111,7 +111,7 @@ class Installed(unittest.TestCase):
     def test_backend(self):
         with tempfile.TemporaryDirectory() as folder:
             built = self.backend("build_wheel(%r)" % folder, PYLOCK_LIBRARY=_native.path, PYLOCK_PLATFORM="linux_x86_64")
-            self.assertEqual(built.stdout, b"pylock-1-py3-none-linux_x86_64.whl\n")
+            self.assertEqual(built.stdout, b"pylock-%s-py3-none-linux_x86_64.whl\n" % pylock.__version__.encode())
             name, version, build, tags = pylock.parse_wheel_filename(built.stdout.decode().strip())
             self.assertEqual((name, str(version), build), ("pylock", pylock.__version__, ()))
             with open(os.path.join(folder, built.stdout.decode().strip()), "rb") as file:
@@ -119,7 +119,7 @@ class Installed(unittest.TestCase):
             self.backend("build_wheel(%r)" % folder, PYLOCK_LIBRARY=_native.path, PYLOCK_PLATFORM="linux_x86_64")
             with open(os.path.join(folder, built.stdout.decode().strip()), "rb") as file:
                 self.assertEqual(file.read(), first)
-            self.assertEqual(self.backend("build_sdist(%r)" % folder).stdout, b"pylock-1.tar.gz\n")
+            self.assertEqual(self.backend("build_sdist(%r)" % folder).stdout, b"pylock-%s.tar.gz\n" % pylock.__version__.encode())
             missing = self.backend("build_wheel(%r)" % folder, PYLOCK_LIBRARY=os.path.join(folder, "none"))
             self.assertEqual(missing.returncode, 1)
             self.assertIn(b"tools/library", missing.stdout)

@@ -96,8 +96,14 @@ impl From<clap::Error> for CommandError {
     }
 }
 
-/// The version of the program, which stands on the first line of a run without words too.
-const VERSION: &str = "1";
+/// What `--version` prints behind the program's name: its version, and in a second line the sum of
+/// its sources and the kit that proved it, as `rt version` names that.
+///
+/// No source can hold the sum of itself. So 64 characters stand in its place, and where a build is
+/// kept `tools/built stamp` writes the sum over them. No contract speaks of this text.
+const VERSION: &str = "1.0.0
+sources (not told: rt built it; ./pylock and tools/release tell the sum), \
+proved by rattle-kit-13f logic dac8208d650f15bf";
 
 const ABOUT: &str = "\
 Tells exactly what a pylock.toml installs in an environment, and why
@@ -110,7 +116,7 @@ Example:
 plan prints a line for each package to install. explain prints what becomes of
 each entry of the lock, and why. env.json is the environment of a Python: its
 marker variables and its wheel tags. Each command has --help; without a command
-pylock prints its name and version.
+pylock prints its name and major version.
 
 Status: 0, an answer; 1, a fault, a finding or a refused text; 2, the lock, the
 environment or the command line is refused; 3, standard error says why it ended

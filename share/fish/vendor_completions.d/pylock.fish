@@ -1,0 +1,135 @@
+# Completes the words of pylock in fish.
+# Made by tools/manual from the texts of help: edit those.
+
+set -g __pylock_awk 'function offer(name) {
+    if (name ~ /^[a-z0-9]([a-z0-9-]*[a-z0-9])?$/ && !(name in seen)) {
+        seen[name] = 1
+        print name
+    }
+}
+# the texts from this place on, to the end of the array or of the line
+function read_texts(place,    size, start, mark, sign) {
+    size = length($0)
+    for (; place <= size; place++) {
+        mark = substr($0, place, 1)
+        if (mark == "#") return
+        if (mark == "]") break
+        if (mark != "\"" && mark != "\047") continue
+        start = place + 1
+        do sign = substr($0, ++place, 1)
+        while (sign != "" && sign != mark && sign != "\134")
+        if (sign != mark) break
+        offer(substr($0, start, place - start))
+    }
+    if (place <= size || mark == "]") is_open = 0
+}
+BEGIN {
+    key = want == "groups" ? "(dependency|default)-groups" : want
+    key = "^[ \t]*\"?" key "\"?[ \t]*=[ \t]*[[]"
+}
+want == "packages" {
+    if ($0 ~ /^[ \t]*\[/) is_entry = $0 ~ /^[ \t]*\[\[[ \t]*packages[ \t]*\]\]/
+    else if (is_entry && match($0, /^[ \t]*name[ \t]*=[ \t]*/)) read_texts(RLENGTH + 1)
+    next
+}
+is_open {
+    read_texts(1)
+    next
+}
+/^[ \t]*(\[|"?packages"?[ \t]*=)/ { exit }
+match($0, key) {
+    is_open = 1
+    read_texts(RLENGTH + 1)
+}'
+
+# the words before the cursor that are no options and no values of one: the command, and what stands behind it
+function __pylock_words
+    set -l is_value
+    set -l ended
+    for word in (commandline -opc)[2..-1]
+        if set -q is_value[1]
+            set -e is_value
+        else if not set -q ended[1]; and test "$word" = --
+            set ended 1
+        else if not set -q ended[1]; and string match -qr -- '^-.' "$word"
+            if contains -- "$word" --extra --group --no-group --only-binary --no-binary --set
+                set is_value 1
+            end
+        else
+            printf '%s\n' "$word"
+        end
+    end
+end
+
+# __pylock_at COUNT COMMAND..: whether one of the commands stands on the line, and COUNT words behind it
+function __pylock_at
+    set -l words (__pylock_words)
+    test (count $words) -eq (math 1 + $argv[1]); and contains -- "$words[1]" $argv[2..-1]
+end
+
+# __pylock_in COMMAND..: whether one of the commands stands on the line
+function __pylock_in
+    set -l words (__pylock_words)
+    set -q words[1]; and contains -- "$words[1]" $argv
+end
+
+function __pylock_in_none
+    set -l words (__pylock_words)
+    not set -q words[1]
+end
+
+# __pylock_names WHAT: the extras, groups or packages of the lock on the line, of which 64 KiB are read
+function __pylock_names
+    set -l words (__pylock_words)
+    set -q words[2]; or return
+    set -l lock (string replace -r '^~/' "$HOME/" -- $words[2])
+    test -f "$lock" -a -r "$lock"; or return
+    command head -c 65536 <"$lock" 2>/dev/null | LC_ALL=C command awk -v want=$argv[1] $__pylock_awk 2>/dev/null
+end
+
+function __pylock_variables
+    printf '%s=\n' os_name sys_platform platform_machine platform_python_implementation platform_release \
+        platform_system platform_version python_version python_full_version implementation_name \
+        implementation_version
+end
+
+complete -c pylock -f
+complete -c pylock -n __pylock_in_none -s h -l help -d 'Print help'
+complete -c pylock -n __pylock_in_none -s V -l version -d 'Print version'
+complete -c pylock -n '__pylock_in plan explain' -l all-extras -d 'Ask for each extra of the lock'
+complete -c pylock -n '__pylock_in plan explain' -l extra -x -a '(__pylock_names extras)' -d 'Ask for an extra of the lock: --extra test'
+complete -c pylock -n '__pylock_in plan explain' -l no-default-groups -d 'Leave out the default groups'
+complete -c pylock -n '__pylock_in plan explain' -l all-groups -d 'Ask for each group of the lock'
+complete -c pylock -n '__pylock_in plan explain' -l group -x -a '(__pylock_names groups)' -d 'Ask for a group of the lock: --group test'
+complete -c pylock -n '__pylock_in plan explain' -l no-group -x -a '(__pylock_names groups)' -d 'Leave out a group of the lock: --no-group dev'
+complete -c pylock -n '__pylock_in plan explain' -l only-binary -x -a '(echo :all:; __pylock_names packages)' -d 'Take wheels alone: --only-binary numpy, or :all:'
+complete -c pylock -n '__pylock_in plan explain' -l no-binary -x -a '(echo :all:; __pylock_names packages)' -d 'Take no wheels: --no-binary numpy, or :all:'
+complete -c pylock -n '__pylock_in plan explain' -l set -x -a '(__pylock_variables)' -d 'Give a marker variable a text: --set os_name=nt'
+complete -c pylock -n '__pylock_in plan explain files audit' -l json -d 'Print one JSON document in place of the lines'
+complete -c pylock -n '__pylock_in plan explain select files audit version match name marker requirement wheel' -s h -l help -d 'Print help'
+complete -c pylock -n __pylock_in_none -a plan -d 'Print what a lock installs in an environment'
+complete -c pylock -n '__pylock_at 0 help' -a plan -d 'Print what a lock installs in an environment'
+complete -c pylock -n __pylock_in_none -a explain -d 'Print what becomes of each entry of a lock, and why'
+complete -c pylock -n '__pylock_at 0 help' -a explain -d 'Print what becomes of each entry of a lock, and why'
+complete -c pylock -n __pylock_in_none -a select -d 'Print what a lock installs, and print it again after each edit'
+complete -c pylock -n '__pylock_at 0 help' -a select -d 'Print what a lock installs, and print it again after each edit'
+complete -c pylock -n __pylock_in_none -a files -d 'Print every source that a lock names, whatever machine it is for'
+complete -c pylock -n '__pylock_at 0 help' -a files -d 'Print every source that a lock names, whatever machine it is for'
+complete -c pylock -n __pylock_in_none -a audit -d 'Print what a careful reader of a lock should know'
+complete -c pylock -n '__pylock_at 0 help' -a audit -d 'Print what a careful reader of a lock should know'
+complete -c pylock -n __pylock_in_none -a version -d 'Print the normal form of a version (PEP 440)'
+complete -c pylock -n '__pylock_at 0 help' -a version -d 'Print the normal form of a version (PEP 440)'
+complete -c pylock -n __pylock_in_none -a match -d 'Print whether a specifier set admits a version (PEP 440)'
+complete -c pylock -n '__pylock_at 0 help' -a match -d 'Print whether a specifier set admits a version (PEP 440)'
+complete -c pylock -n __pylock_in_none -a name -d 'Print the normal form of a name (PEP 503)'
+complete -c pylock -n '__pylock_at 0 help' -a name -d 'Print the normal form of a name (PEP 503)'
+complete -c pylock -n __pylock_in_none -a marker -d 'Print whether a marker holds in an environment (PEP 508)'
+complete -c pylock -n '__pylock_at 0 help' -a marker -d 'Print whether a marker holds in an environment (PEP 508)'
+complete -c pylock -n __pylock_in_none -a requirement -d 'Print the parts of a requirement (PEP 508)'
+complete -c pylock -n '__pylock_at 0 help' -a requirement -d 'Print the parts of a requirement (PEP 508)'
+complete -c pylock -n __pylock_in_none -a wheel -d 'Print the parts of a wheel\'s file name (PEP 427)'
+complete -c pylock -n '__pylock_at 0 help' -a wheel -d 'Print the parts of a wheel\'s file name (PEP 427)'
+complete -c pylock -n __pylock_in_none -a help -d 'Print this message or the help of the given subcommand(s)'
+complete -c pylock -n '__pylock_at 0 help' -a help -d 'Print this message or the help of the given subcommand(s)'
+complete -c pylock -n '__pylock_at 0 plan explain select files audit' -k -a '(__fish_complete_suffix .toml)'
+complete -c pylock -n '__pylock_at 1 plan explain select marker' -k -a '(__fish_complete_suffix .json)'
