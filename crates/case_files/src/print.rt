@@ -2,7 +2,7 @@
 
 use crate::title::title;
 use std::alloc::Global;
-use std::{env, fs};
+use std::fs;
 use toml::{Table, Value};
 
 /// What a program says of its cases.
@@ -11,11 +11,14 @@ pub trait Answers {
     fn answer(&self, alloc: Global, kind: &str, case: &Table) -> anyhow::Result<String>;
 }
 
-/// Prints the cases of the files that the words of the command line name. A file has a list of
-/// tables for each kind of case; the kinds are taken in the order of the alphabet.
-pub fn print_files<A: Answers>(rt: &HostRuntime, answers: &A) -> anyhow::Result<()> {
-    let paths: Vec<String> = env::args(rt)?.skip(1).collect(rt.alloc())?;
-    for path in &paths {
+/// Prints the cases of the files of these paths. A file has a list of tables for each kind of case;
+/// the kinds are taken in the order of the alphabet.
+pub fn print_files<A: Answers>(
+    rt: &HostRuntime,
+    answers: &A,
+    paths: &[String],
+) -> anyhow::Result<()> {
+    for path in paths {
         print_file(rt, answers, path.as_str())?;
     }
     Ok(())
@@ -49,7 +52,7 @@ fn print_cases<A: Answers>(
     Ok(())
 }
 
-/// Prints the title of a case, and its answer, with an LF behind it.
+/// Prints the title of a case, and its answer, with an LF after it.
 fn print_case<A: Answers>(
     rt: &HostRuntime,
     answers: &A,

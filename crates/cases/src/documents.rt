@@ -7,7 +7,7 @@ use std::alloc::{AllocError, Global};
 use toml::Table;
 
 /// What each command prints, its status, and what a person is told besides.
-pub(crate) fn tell(alloc: Global, case: &Table) -> anyhow::Result<String> {
+pub(crate) fn answer_case(alloc: Global, case: &Table) -> anyhow::Result<String> {
     let inputs = read_inputs(alloc, case)?;
     let mut told = String::new(alloc);
     for line in &texts(alloc, case, "commands")? {

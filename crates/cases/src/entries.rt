@@ -11,10 +11,10 @@ use toml::Table;
 /// `ok`, or why the text `entry` is refused.
 pub(crate) fn judge(alloc: Global, case: &Table) -> anyhow::Result<String> {
     let text = text(alloc, case, "entry")?;
-    Ok(judged(alloc, text.as_str())?)
+    Ok(judge_text(alloc, text.as_str())?)
 }
 
-pub(crate) fn judged(alloc: Global, text: &str) -> Result<String, AllocError> {
+pub(crate) fn judge_text(alloc: Global, text: &str) -> Result<String, AllocError> {
     match Entry::read_text(alloc, text) {
         Ok(_) => String::from_str(alloc, "ok"),
         Err(refusal) => format!(in alloc; "{refusal:?}"),
@@ -22,15 +22,15 @@ pub(crate) fn judged(alloc: Global, text: &str) -> Result<String, AllocError> {
 }
 
 /// What the readers of the entry `entry` tell.
-pub(crate) fn tell(alloc: Global, case: &Table) -> anyhow::Result<String> {
+pub(crate) fn answer_case(alloc: Global, case: &Table) -> anyhow::Result<String> {
     let text = text(alloc, case, "entry")?;
     match Entry::read_text(alloc, text.as_str()) {
-        Ok(entry) => Ok(told(alloc, &entry)?),
+        Ok(entry) => Ok(entry_text(alloc, &entry)?),
         Err(refusal) => Err(anyhow::anyhow!("the entry is refused: {refusal:?}")),
     }
 }
 
-fn told(alloc: Global, entry: &Entry) -> Result<String, AllocError> {
+fn entry_text(alloc: Global, entry: &Entry) -> Result<String, AllocError> {
     let mut told = String::new(alloc);
     push_conditions(&mut told, entry)?;
     push_sources(&mut told, entry)?;

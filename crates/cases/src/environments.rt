@@ -10,10 +10,10 @@ use toml::Table;
 /// `ok`, or why the environment is refused.
 pub(crate) fn judge(alloc: Global, case: &Table) -> anyhow::Result<String> {
     let environment = files::environment(alloc, case)?;
-    Ok(judged(alloc, &environment)?)
+    Ok(judge_bytes(alloc, &environment)?)
 }
 
-fn judged(alloc: Global, bytes: &[u8]) -> Result<String, AllocError> {
+fn judge_bytes(alloc: Global, bytes: &[u8]) -> Result<String, AllocError> {
     match read_environment(alloc, bytes) {
         Ok(_) => String::from_str(alloc, "ok"),
         Err(refusal) => format!(in alloc; "{refusal:?}"),
@@ -21,15 +21,19 @@ fn judged(alloc: Global, bytes: &[u8]) -> Result<String, AllocError> {
 }
 
 /// The variables that are set in the environment, and its tags.
-pub(crate) fn tell(alloc: Global, case: &Table) -> anyhow::Result<String> {
+pub(crate) fn answer_case(alloc: Global, case: &Table) -> anyhow::Result<String> {
     let environment = files::environment(alloc, case)?;
     match read_environment(alloc, &environment) {
-        Ok((environment, tags)) => Ok(told(alloc, &environment, &tags)?),
+        Ok((environment, tags)) => Ok(environment_text(alloc, &environment, &tags)?),
         Err(refusal) => Err(anyhow::anyhow!("the environment is refused: {refusal:?}")),
     }
 }
 
-fn told(alloc: Global, environment: &Environment, tags: &TagList) -> Result<String, AllocError> {
+fn environment_text(
+    alloc: Global,
+    environment: &Environment,
+    tags: &TagList,
+) -> Result<String, AllocError> {
     let mut told = String::new(alloc);
     push_variables(&mut told, environment)?;
     for tag in tags.tags() {

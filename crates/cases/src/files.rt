@@ -1,6 +1,9 @@
-//! The lock and the environment that a case is given.
+//! The lock and the environment that a case is given, and what they are read as.
 
 use case_files::bytes;
+use pylock_core::{Lock, read_environment};
+use pymark_core::Environment;
+use pywheel_core::TagList;
 use std::alloc::Global;
 use toml::Table;
 
@@ -26,4 +29,19 @@ pub(crate) fn environment(alloc: Global, case: &Table) -> anyhow::Result<Vec<u8>
         return bytes(alloc, case, "environment");
     }
     Ok(Vec::from_slice(alloc, NOTHING)?)
+}
+
+/// The lock and the environment that the bytes are.
+pub(crate) fn read(
+    alloc: Global,
+    lock: &[u8],
+    environment: &[u8],
+) -> anyhow::Result<(Lock, Environment, TagList)> {
+    let Ok(lock) = Lock::read(alloc, lock) else {
+        return Err(anyhow::anyhow!("the lock is refused"));
+    };
+    match read_environment(alloc, environment) {
+        Ok((environment, tags)) => Ok((lock, environment, tags)),
+        Err(_) => Err(anyhow::anyhow!("the environment is refused")),
+    }
 }

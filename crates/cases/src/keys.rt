@@ -6,9 +6,9 @@ use std::alloc::{AllocError, Global};
 use toml::Table;
 
 /// For each key: what is answered where it is of its form as all the others, where it is of another
-/// form, where it is absent, and where it and those behind it are of another form. They stand in
+/// form, where it is absent, and where it and those after it are of another form. They stand in
 /// `right` and `wrong`, of their form and of another, in the order in which they are judged.
-pub(crate) fn tell(alloc: Global, case: &Table) -> anyhow::Result<String> {
+pub(crate) fn answer_case(alloc: Global, case: &Table) -> anyhow::Result<String> {
     let right = texts(alloc, case, "right")?;
     let wrong = texts(alloc, case, "wrong")?;
     let mut told = String::new(alloc);
@@ -33,28 +33,28 @@ fn push_key<'a>(
     let Some((key, behind)) = here.split_first() else {
         return Ok(());
     };
-    let whole = answer(alloc, case, &[before, here])?;
-    let other = answer(
+    let whole = answer_keys(alloc, case, &[before, here])?;
+    let other = answer_keys(
         alloc,
         case,
         &[before, wrong.get(..1).unwrap_or(&[]), behind],
     )?;
-    let absent = answer(alloc, case, &[before, behind])?;
-    let others = answer(alloc, case, &[before, wrong])?;
+    let absent = answer_keys(alloc, case, &[before, behind])?;
+    let others = answer_keys(alloc, case, &[before, wrong])?;
     Ok(writeln!(told, "{key}: {whole}, {other}, {absent}, {others}")?)
 }
 
 /// `ok`, or why the lock or the entry is refused that has these keys.
-fn answer(alloc: Global, case: &Table, keys: &[&[&str]]) -> anyhow::Result<String> {
-    let text = spelled(alloc, case, keys)?;
+fn answer_keys(alloc: Global, case: &Table, keys: &[&[&str]]) -> anyhow::Result<String> {
+    let text = spell_keys(alloc, case, keys)?;
     if case.contains_key("front") {
-        return Ok(entries::judged(alloc, text.as_str())?);
+        return Ok(entries::judge_text(alloc, text.as_str())?);
     }
-    Ok(locks::judged(alloc, text.as_bytes())?)
+    Ok(locks::judge_bytes(alloc, text.as_bytes())?)
 }
 
-/// The keys between `front` and `back`, with `end` behind each.
-fn spelled(alloc: Global, case: &Table, keys: &[&[&str]]) -> anyhow::Result<String> {
+/// The keys between `front` and `back`, with `end` after each.
+fn spell_keys(alloc: Global, case: &Table, keys: &[&[&str]]) -> anyhow::Result<String> {
     let mut spelled = text(alloc, case, "front")?;
     let end = text(alloc, case, "end")?;
     for some in keys {

@@ -11,10 +11,10 @@ use toml::Table;
 /// `ok`, or why the lock is refused.
 pub(crate) fn judge(alloc: Global, case: &Table) -> anyhow::Result<String> {
     let lock = files::lock(alloc, case)?;
-    Ok(judged(alloc, &lock)?)
+    Ok(judge_bytes(alloc, &lock)?)
 }
 
-pub(crate) fn judged(alloc: Global, bytes: &[u8]) -> Result<String, AllocError> {
+pub(crate) fn judge_bytes(alloc: Global, bytes: &[u8]) -> Result<String, AllocError> {
     match Lock::read(alloc, bytes) {
         Ok(_) => String::from_str(alloc, "ok"),
         Err(refusal) => format!(in alloc; "{refusal:?}"),
@@ -22,15 +22,15 @@ pub(crate) fn judged(alloc: Global, bytes: &[u8]) -> Result<String, AllocError> 
 }
 
 /// What the readers of the lock tell.
-pub(crate) fn tell(alloc: Global, case: &Table) -> anyhow::Result<String> {
+pub(crate) fn answer_case(alloc: Global, case: &Table) -> anyhow::Result<String> {
     let lock = files::lock(alloc, case)?;
     match Lock::read(alloc, &lock) {
-        Ok(lock) => Ok(told(alloc, &lock)?),
+        Ok(lock) => Ok(lock_text(alloc, &lock)?),
         Err(refusal) => Err(anyhow::anyhow!("the lock is refused: {refusal:?}")),
     }
 }
 
-fn told(alloc: Global, lock: &Lock) -> Result<String, AllocError> {
+fn lock_text(alloc: Global, lock: &Lock) -> Result<String, AllocError> {
     let mut told = String::new(alloc);
     push_head(&mut told, lock)?;
     push_entries(&mut told, lock.entries())?;

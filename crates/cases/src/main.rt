@@ -1,6 +1,7 @@
 //! Cases of locks, of entries, of environments, of the messages on them, of sessions, of runs, of
 //! replies, of audits, of JSON documents and of command lines: what each reader, session and
-//! command gives for the texts in `data/`.
+//! command gives for the texts in `data/`. Or, with the word `steps`, a session that prints
+//! nothing, whose growths and time are measured from outside.
 #![tactic(auto)]
 
 mod audits;
@@ -17,10 +18,12 @@ mod replies;
 mod runs;
 mod sessions;
 mod sources;
+mod steps;
 mod words;
 
 use case_files::{Answers, print_files};
 use std::alloc::Global;
+use std::env;
 use toml::Table;
 
 /// The kinds of cases that this program knows.
@@ -29,27 +32,33 @@ struct Cases;
 impl Answers for Cases {
     fn answer(&self, alloc: Global, kind: &str, case: &Table) -> anyhow::Result<String> {
         match kind {
-            "audit" => audits::tell(alloc, case),
-            "command" => words::tell(alloc, case),
-            "document" => documents::tell(alloc, case),
+            "audit" => audits::answer_case(alloc, case),
+            "command" => words::answer_case(alloc, case),
+            "document" => documents::answer_case(alloc, case),
             "entry" => entries::judge(alloc, case),
-            "entry_keys" => entries::tell(alloc, case),
+            "entry_keys" => entries::answer_case(alloc, case),
             "environment" => environments::judge(alloc, case),
-            "environment_keys" => environments::tell(alloc, case),
+            "environment_keys" => environments::answer_case(alloc, case),
             "environment_message" => messages::of_environment(alloc, case),
-            "explain" | "plan" => plans::tell(alloc, case, kind),
-            "keys" => keys::tell(alloc, case),
+            "explain" | "plan" => plans::answer_case(alloc, case, kind),
+            "keys" => keys::answer_case(alloc, case),
             "lock" => locks::judge(alloc, case),
-            "lock_keys" => locks::tell(alloc, case),
+            "lock_keys" => locks::answer_case(alloc, case),
             "lock_message" => messages::of_lock(alloc, case),
-            "reply" => replies::tell(alloc, case),
-            "run" => runs::tell(alloc, case),
-            "session" => sessions::tell(alloc, case),
+            "reply" => replies::answer_case(alloc, case),
+            "run" => runs::answer_case(alloc, case),
+            "session" => sessions::answer_case(alloc, case),
             _ => Err(anyhow::anyhow!("no kind of case")),
         }
     }
 }
 
 fn main(rt: HostRuntime) -> anyhow::Result<()> {
-    print_files(&rt, &Cases)
+    let words: Vec<String> = env::args(&rt)?.skip(1).collect(rt.alloc())?;
+    match words.as_slice() {
+        [word, lock, environment, lines] if word.as_str() == "steps" => {
+            steps::take_steps(&rt, lock.as_str(), environment.as_str(), lines.as_str())
+        }
+        paths => print_files(&rt, &Cases, paths),
+    }
 }

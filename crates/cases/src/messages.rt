@@ -10,7 +10,7 @@ use toml::Table;
 pub(crate) fn of_lock(alloc: Global, case: &Table) -> anyhow::Result<String> {
     let lock = files::lock(alloc, case)?;
     let name = name(alloc, case, "LOCK")?;
-    Ok(told(alloc, lock_message(alloc, name.as_str(), &lock)?)?)
+    Ok(message_or_none(alloc, lock_message(alloc, name.as_str(), &lock)?)?)
 }
 
 /// The line on the environment, or `none` where it isn't refused.
@@ -18,7 +18,7 @@ pub(crate) fn of_environment(alloc: Global, case: &Table) -> anyhow::Result<Stri
     let environment = files::environment(alloc, case)?;
     let name = name(alloc, case, "ENV")?;
     let message = environment_message(alloc, name.as_str(), &environment)?;
-    Ok(told(alloc, message)?)
+    Ok(message_or_none(alloc, message)?)
 }
 
 /// The name that the case gives its file, or else this one.
@@ -29,7 +29,7 @@ fn name(alloc: Global, case: &Table, usual: &str) -> anyhow::Result<String> {
     Ok(String::from_str(alloc, usual)?)
 }
 
-fn told(alloc: Global, message: Option<String>) -> Result<String, AllocError> {
+fn message_or_none(alloc: Global, message: Option<String>) -> Result<String, AllocError> {
     match message {
         Some(message) => Ok(message),
         None => String::from_str(alloc, "none"),

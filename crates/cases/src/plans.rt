@@ -1,6 +1,6 @@
 //! The commands `plan` and `explain` over a lock and an environment.
 
-use crate::runs::{Inputs, ended, read_inputs};
+use crate::runs::{Inputs, read_inputs, text_with_status};
 use case_files::texts;
 use pylock_command::command;
 use pylock_program::perform;
@@ -10,7 +10,7 @@ use toml::Table;
 
 /// What the command prints with the options of each text, its status, and what a person is told
 /// besides. The words of a text stand between its spaces.
-pub(crate) fn tell(alloc: Global, case: &Table, name: &str) -> anyhow::Result<String> {
+pub(crate) fn answer_case(alloc: Global, case: &Table, name: &str) -> anyhow::Result<String> {
     let inputs = read_inputs(alloc, case)?;
     let mut told = String::new(alloc);
     for options in &texts(alloc, case, "options")? {
@@ -36,7 +36,7 @@ pub(crate) fn run(alloc: Global, inputs: &Inputs, words: &[&str]) -> anyhow::Res
     let mut writer = ToWrite::new(&mut text);
     let mut beside = ToWrite::new(&mut notes);
     let end = perform(alloc, task, inputs, &mut reader, &mut writer, &mut beside);
-    let mut told = ended(text, end)?;
+    let mut told = text_with_status(text, end)?;
     told.push_str(std::str::from_utf8(&notes)?)?;
     Ok(told)
 }

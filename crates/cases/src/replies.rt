@@ -1,6 +1,6 @@
 //! The replies of the one-shot commands.
 
-use crate::runs::{brief, ended};
+use crate::runs::{brief_report, text_with_status};
 use case_files::{text, texts};
 use pylock_command::Form;
 use pylock_program::{Query, query};
@@ -11,19 +11,19 @@ use toml::Table;
 /// What the command of `words` prints, and its status; of it no more than `brief` says where the
 /// case has that key. In place of the name of a file stands its text, and in place
 /// of `#` the text `long`.
-pub(crate) fn tell(alloc: Global, case: &Table) -> anyhow::Result<String> {
+pub(crate) fn answer_case(alloc: Global, case: &Table) -> anyhow::Result<String> {
     let long = text(alloc, case, "long")?;
     let words = texts(alloc, case, "words")?;
-    let words = spelled(alloc, &words, long.as_str())?;
+    let words = spell_words(alloc, &words, long.as_str())?;
     let reply = reply(alloc, &words)?;
     if case.contains_key("brief") {
-        return Ok(brief(alloc, reply.as_str())?);
+        return Ok(brief_report(alloc, reply.as_str())?);
     }
     Ok(reply)
 }
 
 /// The words, with the long text in place of `#`.
-fn spelled<'a>(
+fn spell_words<'a>(
     alloc: Global,
     words: &[&'a str],
     long: &'a str,
@@ -36,14 +36,14 @@ fn spelled<'a>(
 }
 
 fn reply(alloc: Global, words: &[&str]) -> anyhow::Result<String> {
-    match asked(words) {
-        Some(asked) => replied(alloc, asked),
+    match query_of(words) {
+        Some(asked) => reply_text(alloc, asked),
         None => Err(anyhow::anyhow!("the words are no command")),
     }
 }
 
 /// What the words ask.
-fn asked<'a>(words: &[&'a str]) -> Option<Query<'a>> {
+fn query_of<'a>(words: &[&'a str]) -> Option<Query<'a>> {
     match *words {
         ["files", lock] => Some(Query::Files(lock.as_bytes(), Form::Lines)),
         ["files", "--json", lock] => Some(Query::Files(lock.as_bytes(), Form::Json)),
@@ -59,8 +59,8 @@ fn asked<'a>(words: &[&'a str]) -> Option<Query<'a>> {
     }
 }
 
-fn replied(alloc: Global, asked: Query<'_>) -> anyhow::Result<String> {
+fn reply_text(alloc: Global, asked: Query<'_>) -> anyhow::Result<String> {
     let mut reply = Vec::new(alloc);
     let end = query(alloc, asked, &mut ToWrite::new(&mut reply));
-    ended(reply, end)
+    text_with_status(reply, end)
 }

@@ -37,7 +37,7 @@ impl Files for Inputs {
 /// What the run prints, and its status; no more than `brief` says where the case has that key. The
 /// program has to end alike; and where the case has the key `cut`, a run with its input in pieces
 /// and its text byte by byte.
-pub(crate) fn tell(alloc: Global, case: &Table) -> anyhow::Result<String> {
+pub(crate) fn answer_case(alloc: Global, case: &Table) -> anyhow::Result<String> {
     let inputs = read_inputs(alloc, case)?;
     let input = bytes(alloc, case, "input")?;
     let report = report(alloc, &inputs, &input)?;
@@ -46,27 +46,27 @@ pub(crate) fn tell(alloc: Global, case: &Table) -> anyhow::Result<String> {
         compare_cuts(alloc, &inputs, &input, report.as_str())?;
     }
     if case.contains_key("brief") {
-        return Ok(brief(alloc, report.as_str())?);
+        return Ok(brief_report(alloc, report.as_str())?);
     }
     Ok(report)
 }
 
 /// How many lines and bytes stand before the last line of a report, the fronts of the first and of
 /// the last of those lines, and the last of all.
-pub(crate) fn brief(alloc: Global, report: &str) -> Result<String, AllocError> {
+pub(crate) fn brief_report(alloc: Global, report: &str) -> Result<String, AllocError> {
     let lines = report.strip_suffix('\n').unwrap_or(report);
     let Some((text, end)) = lines.rsplit_once('\n') else {
         return String::from_str(alloc, report);
     };
     let count = text.lines().count();
-    let first = front(text.lines().next().unwrap_or(""));
-    let last = front(text.lines().last().unwrap_or(""));
+    let first = line_prefix(text.lines().next().unwrap_or(""));
+    let last = line_prefix(text.lines().last().unwrap_or(""));
     let length = text.len();
     format!(in alloc; "{count} lines, {length} bytes and LF\n{first}\n..\n{last}\n{end}\n")
 }
 
 /// At most 60 bytes of a line.
-fn front(line: &str) -> &str {
+fn line_prefix(line: &str) -> &str {
     line.get(..60).unwrap_or(line)
 }
 
@@ -88,11 +88,14 @@ fn report(alloc: Global, inputs: &Inputs, input: &[u8]) -> anyhow::Result<String
         &mut reader,
         &mut writer,
     );
-    ended(text, end)
+    text_with_status(text, end)
 }
 
 /// The text, and the status in a line of its own.
-pub(crate) fn ended<E: Debug + Drop>(text: Vec<u8>, end: Result<u8, E>) -> anyhow::Result<String> {
+pub(crate) fn text_with_status<E: Debug + Drop>(
+    text: Vec<u8>,
+    end: Result<u8, E>,
+) -> anyhow::Result<String> {
     let mut text = String::from_utf8(text)?;
     match end {
         Ok(status) => writeln!(text, "status {status}")?,
@@ -122,7 +125,7 @@ fn program_report(alloc: Global, inputs: &Inputs, input: &[u8]) -> anyhow::Resul
     let mut beside = ToWrite::new(&mut notes);
     let task = Task::Select("lock", "environment");
     let end = perform(alloc, task, inputs, &mut reader, &mut writer, &mut beside);
-    ended(text, end)
+    text_with_status(text, end)
 }
 
 fn compare_cuts(alloc: Global, inputs: &Inputs, input: &[u8], report: &str) -> anyhow::Result<()> {
@@ -145,5 +148,5 @@ fn cut_report(
 ) -> anyhow::Result<String> {
     let mut room = Room::new(alloc, most, 1, None)?;
     let end = run(alloc, &inputs.lock, &inputs.environment, reader, &mut room);
-    ended(Vec::from_slice(alloc, room.bytes())?, end)
+    text_with_status(Vec::from_slice(alloc, room.bytes())?, end)
 }

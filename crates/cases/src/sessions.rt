@@ -3,35 +3,33 @@
 use crate::edits::read_edit;
 use crate::files;
 use case_files::text;
-use pylock_core::{Answer, Edit, Entry, Lock, Plan, Session, read_environment};
+use pylock_core::{Answer, Edit, Entry, Plan, Session};
 use std::alloc::{AllocError, Global};
 use toml::Table;
 
 /// What the lines of `edits` tell, one after the other, of a session on the lock in the
 /// environment. Before them stand the numbers that the start judged, and the first answer.
-pub(crate) fn tell(alloc: Global, case: &Table) -> anyhow::Result<String> {
+pub(crate) fn answer_case(alloc: Global, case: &Table) -> anyhow::Result<String> {
     let edits = text(alloc, case, "edits")?;
-    let mut session = started(alloc, case)?;
-    told(alloc, &mut session, edits.as_str())
+    let mut session = start_case(alloc, case)?;
+    steps_text(alloc, &mut session, edits.as_str())
 }
 
-fn started(alloc: Global, case: &Table) -> anyhow::Result<Session> {
+fn start_case(alloc: Global, case: &Table) -> anyhow::Result<Session> {
     let lock = files::lock(alloc, case)?;
     let environment = files::environment(alloc, case)?;
-    started_on(alloc, &lock, &environment)
+    start_on(alloc, &lock, &environment)
 }
 
-fn started_on(alloc: Global, lock: &[u8], environment: &[u8]) -> anyhow::Result<Session> {
-    let Ok(lock) = Lock::read(alloc, lock) else {
-        return Err(anyhow::anyhow!("the lock is refused"));
-    };
-    let Ok((environment, tags)) = read_environment(alloc, environment) else {
-        return Err(anyhow::anyhow!("the environment is refused"));
-    };
+/// A session asks for nothing at its start, whatever its environment asked for before.
+fn start_on(alloc: Global, lock: &[u8], environment: &[u8]) -> anyhow::Result<Session> {
+    let (lock, mut environment, tags) = files::read(alloc, lock, environment)?;
+    environment.add_extra("x")?;
+    environment.add_group("dev")?;
     Ok(Session::start(alloc, lock, environment, tags)?)
 }
 
-fn told(alloc: Global, session: &mut Session, edits: &str) -> anyhow::Result<String> {
+fn steps_text(alloc: Global, session: &mut Session, edits: &str) -> anyhow::Result<String> {
     let mut told = format!(in alloc; "{:?}\n", session.judged())?;
     for line in edits.lines() {
         let step = step(alloc, session, line)?;
@@ -47,7 +45,7 @@ fn step(alloc: Global, session: &mut Session, line: &str) -> anyhow::Result<Stri
         Some(("entry", number)) => Ok(entry_name(alloc, session, number.parse()?)?),
         _ => {
             let edit = read_edit(alloc, line)?;
-            Ok(judged(alloc, session, edit)?)
+            Ok(edit_text(alloc, session, edit)?)
         }
     }
 }
@@ -59,7 +57,7 @@ fn entry_name(alloc: Global, session: &Session, number: u32) -> Result<String, A
 
 /// How many judgements the edit makes, or why it is refused; and the numbers that the session then
 /// says were judged last.
-fn judged(alloc: Global, session: &mut Session, edit: Edit) -> Result<String, AllocError> {
+fn edit_text(alloc: Global, session: &mut Session, edit: Edit) -> Result<String, AllocError> {
     match session.edit(edit) {
         Ok(count) => format!(in alloc; "{count} {:?}", session.judged()),
         Err(refusal) => format!(in alloc; "{refusal:?} {:?}", session.judged()),
@@ -71,11 +69,13 @@ fn judged(alloc: Global, session: &mut Session, edit: Edit) -> Result<String, Al
 fn answer(alloc: Global, session: &Session) -> Result<String, AllocError> {
     match session.answer()? {
         Answer::Fault { id, code } => format!(in alloc; "fault {id} {code:?}"),
-        Answer::Plan(plan) => plan_text(alloc, &plan),
+        Answer::Plan(plan) => plan_text(alloc, plan),
     }
 }
 
-fn plan_text(alloc: Global, plan: &Plan) -> Result<String, AllocError> {
+/// The text of the plan, made anew of its picks.
+fn plan_text(alloc: Global, plan: Plan) -> Result<String, AllocError> {
+    let plan = Plan::new(plan.into_vec());
     let mut text = String::from_str(alloc, "plan")?;
     for pick in plan.picks() {
         write!(text, " {} {:?}", pick.id, pick.source)?;

@@ -7,12 +7,12 @@ use toml::Table;
 
 /// The task that the words `line` ask for, of which the first is the program's name; or the status
 /// of a refusal, which is 0 where help or the version is asked for.
-pub(crate) fn tell(alloc: Global, case: &Table) -> anyhow::Result<String> {
+pub(crate) fn answer_case(alloc: Global, case: &Table) -> anyhow::Result<String> {
     let words = texts(alloc, case, "line")?;
-    Ok(told(alloc, &words)?)
+    Ok(task_text(alloc, &words)?)
 }
 
-fn told(alloc: Global, words: &[&str]) -> Result<String, AllocError> {
+fn task_text(alloc: Global, words: &[&str]) -> Result<String, AllocError> {
     match command(alloc, words) {
         Ok(task) => format!(in alloc; "{:?}", task),
         Err(CommandError::Refused(error)) => format!(in alloc; "refused {}", error.exit_code()),

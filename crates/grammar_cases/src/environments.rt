@@ -1,6 +1,6 @@
 //! Environments, call by call; and the names of variables.
 
-use crate::told::filled;
+use crate::told::filled_text;
 use case_files::{text, texts};
 use pymark_core::{Environment, Names, Var};
 use std::alloc::{AllocError, Global};
@@ -49,13 +49,17 @@ fn set_variables(
 }
 
 /// What each of `calls` answers of an environment that begins empty, with a copy that is made
-/// behind them; then each of `later`, and each of `copied` of the copy.
-pub(crate) fn tell(alloc: Global, case: &Table) -> anyhow::Result<String> {
+/// after them; then each of `later`, and each of `copied` of the copy.
+pub(crate) fn answer_case(alloc: Global, case: &Table) -> anyhow::Result<String> {
     let mut environment = Environment::new(alloc);
-    told(alloc, &mut environment, case)
+    calls_text(alloc, &mut environment, case)
 }
 
-fn told(alloc: Global, environment: &mut Environment, case: &Table) -> anyhow::Result<String> {
+fn calls_text(
+    alloc: Global,
+    environment: &mut Environment,
+    case: &Table,
+) -> anyhow::Result<String> {
     let mut told = answers(alloc, environment, case, "calls")?;
     let mut copy = environment.copy()?;
     push_later(&mut told, alloc, environment, &mut copy, case)?;
@@ -94,7 +98,7 @@ fn answer(alloc: Global, environment: &mut Environment, call: &str) -> anyhow::R
     let (word, rest) = call.split_once(' ').unwrap_or((call, ""));
     match word {
         "set" | "unset" | "ask_nothing" => {
-            change(alloc, environment, rest)?;
+            change_variable(alloc, environment, rest)?;
             Ok(String::from_str(alloc, "done")?)
         }
         "extras" => names(alloc, environment.extras()),
@@ -117,8 +121,8 @@ fn variable(name: &str) -> anyhow::Result<Var> {
     }
 }
 
-/// Gives a variable the text behind its name, or leaves it without one; or asks for nothing.
-fn change(alloc: Global, environment: &mut Environment, rest: &str) -> anyhow::Result<()> {
+/// Gives a variable the text after its name, or leaves it without one; or asks for nothing.
+fn change_variable(alloc: Global, environment: &mut Environment, rest: &str) -> anyhow::Result<()> {
     match rest.split_once(' ') {
         Some((name, text)) => set(alloc, environment, variable(name)?, text),
         None if rest.is_empty() => {
@@ -187,7 +191,7 @@ pub(crate) fn tell_variable(alloc: Global, case: &Table) -> anyhow::Result<Strin
     let variable = Var::of(name.as_str());
     let mut told = format!(in alloc; "{variable:?}, {:?}", variable.map(Var::name))?;
     if let Some(variable) = variable {
-        write!(told, " {}", filled(alloc, &variable)?)?;
+        write!(told, " {}", filled_text(alloc, &variable)?)?;
     }
     Ok(told)
 }

@@ -15,6 +15,7 @@ mod wheels;
 
 use case_files::{Answers, print_files};
 use std::alloc::Global;
+use std::env;
 use toml::Table;
 
 /// The kinds of cases that this program knows.
@@ -27,14 +28,14 @@ impl Answers for Cases {
             "choice" => wheels::pick(alloc, case),
             "clause" => sets::read(alloc, case),
             "different" => versions::count(alloc, case),
-            "environment" => environments::tell(alloc, case),
+            "environment" => environments::answer_case(alloc, case),
             "equality" => sets::compare(alloc, case),
             "from_parts" => versions::make(alloc, case),
             "front" => sets::cut(alloc, case),
             "items" => sets::tell_items(alloc, case),
             "joined" => sets::join(alloc, case),
             "key" => versions::tell_key(alloc, case),
-            "label" => versions::give_back(alloc, case),
+            "label" => versions::label_text(alloc, case),
             "long_name" => names::measure(alloc, case),
             "long_set" => sets::measure(alloc, case),
             "long_version" => versions::measure(alloc, case),
@@ -42,14 +43,14 @@ impl Answers for Cases {
             "marker" => markers::judge(alloc, case),
             "markers" => markers::judge_all(alloc, case),
             "match" => sets::admit(alloc, case),
-            "name" => names::tell(alloc, case),
+            "name" => names::answer_case(alloc, case),
             "order" => versions::compare(alloc, case),
             "parts" => versions::tell_parts(alloc, case),
             "reads" => markers::tell_reads(alloc, case),
-            "requirement" => requirements::tell(alloc, case),
+            "requirement" => requirements::answer_case(alloc, case),
             "requirement_text" => requirements::print(alloc, case),
             "same_name" => names::compare(alloc, case),
-            "set" => sets::tell(alloc, case),
+            "set" => sets::answer_case(alloc, case),
             "seen_marker" => markers::look(alloc, case),
             "seen_set" => sets::look(alloc, case),
             "specifier" => sets::make(alloc, case),
@@ -58,11 +59,11 @@ impl Answers for Cases {
             "still_name" => still::lend(alloc, case),
             "still_version" => still::compare(alloc, case),
             "still_wheels" => still::pick(alloc, case),
-            "tag" => tags::tell(alloc, case),
+            "tag" => tags::answer_case(alloc, case),
             "tags" => tags::tell_list(alloc, case),
             "variable" => environments::tell_variable(alloc, case),
-            "version" => versions::tell(alloc, case),
-            "wheel" => wheels::tell(alloc, case),
+            "version" => versions::answer_case(alloc, case),
+            "wheel" => wheels::answer_case(alloc, case),
             "wheel_text" => wheels::print(alloc, case),
             "with_extra" => markers::judge_with_extra(alloc, case),
             _ => Err(anyhow::anyhow!("no kind of case")),
@@ -71,5 +72,6 @@ impl Answers for Cases {
 }
 
 fn main(rt: HostRuntime) -> anyhow::Result<()> {
-    print_files(&rt, &Cases)
+    let paths: Vec<String> = env::args(&rt)?.skip(1).collect(rt.alloc())?;
+    print_files(&rt, &Cases, &paths)
 }

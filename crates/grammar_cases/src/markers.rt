@@ -1,7 +1,7 @@
 //! Markers: what they are worth, and what they read.
 
 use crate::environments::set_all;
-use crate::told::{filled, printed, refused};
+use crate::told::{filled_text, printed_text, refused};
 use case_files::{text, texts};
 use pymark_core::{Environment, EvalFault, Key, Marker, Reads, Var};
 use std::alloc::{AllocError, Global};
@@ -12,7 +12,7 @@ pub(crate) fn judge(alloc: Global, case: &Table) -> anyhow::Result<String> {
     let marker = text(alloc, case, "marker")?;
     let mut environment = Environment::new(alloc);
     set_all(&mut environment, alloc, case)?;
-    judged(alloc, &environment, None, marker.as_str())
+    judge_marker(alloc, &environment, None, marker.as_str())
 }
 
 /// The same of each of `markers`, with its text.
@@ -40,13 +40,13 @@ fn all_judged(
 ) -> anyhow::Result<String> {
     let mut all = String::new(alloc);
     for marker in markers {
-        let value = judged(alloc, environment, extra, marker)?;
+        let value = judge_marker(alloc, environment, extra, marker)?;
         writeln!(all, "{marker:?}: {value}")?;
     }
     Ok(all)
 }
 
-fn judged(
+fn judge_marker(
     alloc: Global,
     environment: &Environment,
     extra: Option<&str>,
@@ -67,14 +67,14 @@ fn value(
     marker: &Marker,
 ) -> anyhow::Result<String> {
     let value = evaluate(alloc, environment, extra, marker)?;
-    let copied = copied_value(alloc, environment, extra, marker)?;
+    let copied = value_of_copy(alloc, environment, extra, marker)?;
     if copied == value {
         return Ok(format!(in alloc; "{value:?}")?);
     }
     Ok(format!(in alloc; "{value:?}, but its copy {copied:?}")?)
 }
 
-fn copied_value(
+fn value_of_copy(
     alloc: Global,
     environment: &Environment,
     extra: Option<&str>,
@@ -125,11 +125,11 @@ pub(crate) fn tell_reads(alloc: Global, case: &Table) -> anyhow::Result<String> 
 }
 
 fn reads(alloc: Global, marker: &Marker) -> Result<String, AllocError> {
-    let mut told = printed(alloc, marker)?;
+    let mut told = printed_text(alloc, marker)?;
     if told.as_str() != marker.text() {
         told.push_str("\nbut its text is another")?;
     }
-    write!(told, "\n{marker:?} {}", filled(alloc, marker)?)?;
+    write!(told, "\n{marker:?} {}", filled_text(alloc, marker)?)?;
     push_keys(&mut told, marker.reads())?;
     if !is_copied(marker)? {
         told.push_str("\nbut not its copy")?;

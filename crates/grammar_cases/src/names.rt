@@ -1,13 +1,13 @@
 //! Names.
 
-use crate::told::measured;
+use crate::told::measure_text;
 use case_files::text;
 use pyver_core::{NormalForm, NormalName, is_name, is_same_name, normal_name};
 use std::alloc::{AllocError, Global};
 use toml::Table;
 
 /// Whether `text` is a name, and its normal form.
-pub(crate) fn tell(alloc: Global, case: &Table) -> anyhow::Result<String> {
+pub(crate) fn answer_case(alloc: Global, case: &Table) -> anyhow::Result<String> {
     let text = text(alloc, case, "text")?;
     let normal = normal_name(alloc, text.as_str())?;
     let mut told = format!(in alloc; "{}, {normal:?}", is_name(text.as_str()))?;
@@ -51,6 +51,6 @@ pub(crate) fn compare(alloc: Global, case: &Table) -> anyhow::Result<String> {
 pub(crate) fn measure(alloc: Global, case: &Table) -> anyhow::Result<String> {
     let text = text(alloc, case, "text")?;
     let normal = normal_name(alloc, text.as_str())?;
-    let measured = measured(alloc, case, normal.as_str(), text.as_str())?;
+    let measured = measure_text(alloc, case, normal.as_str(), text.as_str())?;
     Ok(format!(in alloc; "{}, {measured}", is_name(text.as_str()))?)
 }

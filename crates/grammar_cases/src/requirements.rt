@@ -1,16 +1,16 @@
 //! Requirements.
 
-use crate::told::{printed, refused};
+use crate::told::{printed_text, refused};
 use case_files::text;
 use pymark_core::{Marker, Requirement};
 use std::alloc::{AllocError, Global};
 use toml::Table;
 
 /// The parts of `requirement`, with those of its copy where they are others; or why it is refused.
-pub(crate) fn tell(alloc: Global, case: &Table) -> anyhow::Result<String> {
+pub(crate) fn answer_case(alloc: Global, case: &Table) -> anyhow::Result<String> {
     let text = text(alloc, case, "requirement")?;
     match Requirement::parse(alloc, text.as_str()) {
-        Ok(requirement) => Ok(told(alloc, &requirement)?),
+        Ok(requirement) => Ok(parts_or_copy(alloc, &requirement)?),
         Err(refusal) => refused(alloc, &refusal),
     }
 }
@@ -28,19 +28,19 @@ pub(crate) fn print(alloc: Global, case: &Table) -> anyhow::Result<String> {
 
 fn text_of(alloc: Global, text: &str) -> anyhow::Result<String> {
     let requirement = Requirement::parse(alloc, text)?;
-    Ok(printed(alloc, &requirement)?)
+    Ok(printed_text(alloc, &requirement)?)
 }
 
-fn told(alloc: Global, requirement: &Requirement) -> Result<String, AllocError> {
+fn parts_or_copy(alloc: Global, requirement: &Requirement) -> Result<String, AllocError> {
     let parts = parts(alloc, requirement)?;
-    let copied = copied_parts(alloc, requirement)?;
+    let copied = parts_of_copy(alloc, requirement)?;
     if copied.as_str() == parts.as_str() {
         return Ok(parts);
     }
     format!(in alloc; "{parts}but its copy {copied}")
 }
 
-fn copied_parts(alloc: Global, requirement: &Requirement) -> Result<String, AllocError> {
+fn parts_of_copy(alloc: Global, requirement: &Requirement) -> Result<String, AllocError> {
     let copy = requirement.clone()?;
     parts(alloc, &copy)
 }

@@ -1,29 +1,29 @@
 //! Specifiers and sets of them: their texts, and what they admit.
 
-use crate::told::{measured, printed, refused, told};
+use crate::told::{measure_text, printed_text, refused, value_or_refusal};
 use case_files::{text, texts};
 use pyver_core::{Operator, Specifier, SpecifierSet, Version};
 use std::alloc::{AllocError, Global};
 use toml::Table;
 
 /// The normal text of `set`, or why it is refused.
-pub(crate) fn tell(alloc: Global, case: &Table) -> anyhow::Result<String> {
+pub(crate) fn answer_case(alloc: Global, case: &Table) -> anyhow::Result<String> {
     let text = text(alloc, case, "set")?;
-    told(alloc, SpecifierSet::parse(alloc, text.as_str()))
+    value_or_refusal(alloc, SpecifierSet::parse(alloc, text.as_str()))
 }
 
-/// The specifiers of `set`, each with its operator before it, and a prefix with its parts behind.
+/// The specifiers of `set`, each with its operator before it, and a prefix with its parts after.
 pub(crate) fn tell_items(alloc: Global, case: &Table) -> anyhow::Result<String> {
     let text = text(alloc, case, "set")?;
     let set = SpecifierSet::parse(alloc, text.as_str())?;
-    Ok(items(alloc, set.items())?)
+    Ok(items_text(alloc, set.items())?)
 }
 
-fn items(alloc: Global, specifiers: &[Specifier]) -> Result<String, AllocError> {
+fn items_text(alloc: Global, specifiers: &[Specifier]) -> Result<String, AllocError> {
     let mut items = String::new(alloc);
     for specifier in specifiers {
-        let operator = printed(alloc, &specifier.operator())?;
-        let printed = printed(alloc, specifier)?;
+        let operator = printed_text(alloc, &specifier.operator())?;
+        let printed = printed_text(alloc, specifier)?;
         writeln!(items, "{operator}  {printed}")?;
         push_prefix(&mut items, specifier)?;
     }
@@ -45,26 +45,26 @@ fn push_prefix(items: &mut String, specifier: &Specifier) -> Result<(), AllocErr
 pub(crate) fn measure(alloc: Global, case: &Table) -> anyhow::Result<String> {
     let text = text(alloc, case, "set")?;
     match SpecifierSet::parse(alloc, text.as_str()) {
-        Ok(set) => measured_set(alloc, case, &set, text.as_str()),
+        Ok(set) => measure_set(alloc, case, &set, text.as_str()),
         Err(refusal) => refused(alloc, &refusal),
     }
 }
 
-fn measured_set(
+fn measure_set(
     alloc: Global,
     case: &Table,
     set: &SpecifierSet,
     given: &str,
 ) -> anyhow::Result<String> {
-    let printed = printed(alloc, set)?;
-    let measured = measured(alloc, case, printed.as_str(), given)?;
-    let joined = joined(alloc, set.items())?;
+    let printed = printed_text(alloc, set)?;
+    let measured = measure_text(alloc, case, printed.as_str(), given)?;
+    let joined = join_specifiers(alloc, set.items())?;
     let (count, is_joined) = (set.items().len(), joined.as_str() == printed.as_str());
     Ok(format!(in alloc; "{count} specifiers, joined {is_joined}, {measured}")?)
 }
 
 /// The texts of the specifiers, with a comma between two of them.
-fn joined(alloc: Global, specifiers: &[Specifier]) -> Result<String, AllocError> {
+fn join_specifiers(alloc: Global, specifiers: &[Specifier]) -> Result<String, AllocError> {
     let mut joined = String::new(alloc);
     for specifier in specifiers {
         if !joined.is_empty() {
@@ -121,13 +121,13 @@ pub(crate) fn make(alloc: Global, case: &Table) -> anyhow::Result<String> {
     let operator = text(alloc, case, "operator")?;
     let operand = text(alloc, case, "operand")?;
     match operator_of(operator.as_str()) {
-        Some(operator) => made(alloc, operator, operand.as_str()),
+        Some(operator) => specifier_text(alloc, operator, operand.as_str()),
         None => Err(anyhow::anyhow!("no operator")),
     }
 }
 
-fn made(alloc: Global, operator: Operator, operand: &str) -> anyhow::Result<String> {
-    told(alloc, Specifier::new(alloc, operator, operand))
+fn specifier_text(alloc: Global, operator: Operator, operand: &str) -> anyhow::Result<String> {
+    value_or_refusal(alloc, Specifier::new(alloc, operator, operand))
 }
 
 /// Whether the specifier of `operator` and `operand` admits `version`.
@@ -155,7 +155,7 @@ fn admits_alone(
 /// The specifier that `text` writes, or why it is refused.
 pub(crate) fn read(alloc: Global, case: &Table) -> anyhow::Result<String> {
     let text = text(alloc, case, "text")?;
-    told(alloc, Specifier::parse(alloc, text.as_str()))
+    value_or_refusal(alloc, Specifier::parse(alloc, text.as_str()))
 }
 
 /// The set of the specifiers that `specifiers` write.
@@ -165,13 +165,13 @@ pub(crate) fn join(alloc: Global, case: &Table) -> anyhow::Result<String> {
         specifiers.push(Specifier::parse(alloc, text)?)?;
     }
     let set = SpecifierSet::from_specifiers(alloc, specifiers)?;
-    Ok(printed(alloc, &set)?)
+    Ok(printed_text(alloc, &set)?)
 }
 
-/// The operator at the front of `text`, with what stands behind it.
+/// The operator at the front of `text`, with what stands after it.
 pub(crate) fn cut(alloc: Global, case: &Table) -> anyhow::Result<String> {
     let text = text(alloc, case, "text")?;
-    Ok(format!(in alloc; "{:?}", Operator::at_front(text.as_str()))?)
+    Ok(format!(in alloc; "{:?}", Operator::read(text.as_str()))?)
 }
 
 /// The operator of a sign.

@@ -21,17 +21,17 @@ fn times(case: &Table) -> i64 {
     }
 }
 
-/// The parts of `version`, its order behind `older`, and what `set` admits of the two.
+/// The parts of `version`, its order after `older`, and what `set` admits of the two.
 pub(crate) fn compare(alloc: Global, case: &Table) -> anyhow::Result<String> {
     let (set, older) = (text(alloc, case, "set")?, text(alloc, case, "older")?);
     let version = text(alloc, case, "version")?;
     let set = SpecifierSet::parse(alloc, set.as_str())?;
     let older = Version::parse(alloc, older.as_str())?;
     let version = Version::parse(alloc, version.as_str())?;
-    compared(alloc, case, &set, &older, &version)
+    compare_versions(alloc, case, &set, &older, &version)
 }
 
-fn compared(
+fn compare_versions(
     alloc: Global,
     case: &Table,
     set: &SpecifierSet,
@@ -63,7 +63,7 @@ fn are_parts_alike(version: &Version, copy: &Version) -> bool {
         && version.is_postrelease() == copy.is_postrelease()
 }
 
-/// Whether the set admits the second version alone, which is behind the first.
+/// Whether the set admits the second version alone, which is after the first.
 fn admits_second(set: &SpecifierSet, first: &Version, second: &Version) -> bool {
     first < second
         && first != second
@@ -100,10 +100,10 @@ pub(crate) fn judge(alloc: Global, case: &Table) -> anyhow::Result<String> {
     let marker = Marker::parse(alloc, marker.as_str())?;
     let mut environment = Environment::new(alloc);
     set_all(&mut environment, alloc, case)?;
-    judged(alloc, case, &marker, &environment)
+    judge_marker(alloc, case, &marker, &environment)
 }
 
-fn judged(
+fn judge_marker(
     alloc: Global,
     case: &Table,
     marker: &Marker,
@@ -178,22 +178,22 @@ pub(crate) fn pick(alloc: Global, case: &Table) -> anyhow::Result<String> {
     let names = texts(alloc, case, "wheels")?;
     let wheels = wheels(alloc, &names)?;
     let copies = wheels.clone()?;
-    picked(alloc, case, &tags, [&wheels, &copies])
+    pick_wheels(alloc, case, &tags, [&wheels, &copies])
 }
 
-fn picked(
+fn pick_wheels(
     alloc: Global,
     case: &Table,
     tags: &[&str],
     wheels: [&[Option<WheelName>]; 2],
 ) -> anyhow::Result<String> {
     match TagList::parse(alloc, tags) {
-        Ok(tags) => picked_by(alloc, case, &tags, wheels),
+        Ok(tags) => pick_by(alloc, case, &tags, wheels),
         Err(refusal) => Err(anyhow::anyhow!("the tags are refused: {refusal:?}")),
     }
 }
 
-fn picked_by(
+fn pick_by(
     alloc: Global,
     case: &Table,
     tags: &TagList,

@@ -1,13 +1,13 @@
 //! Tags and lists of them.
 
-use crate::told::printed;
+use crate::told::printed_text;
 use case_files::{text, texts};
 use pywheel_core::{Tag, TagError, TagList, TagListError};
 use std::alloc::{AllocError, Global};
 use toml::Table;
 
 /// The text of `tag` and its parts, or why it is refused.
-pub(crate) fn tell(alloc: Global, case: &Table) -> anyhow::Result<String> {
+pub(crate) fn answer_case(alloc: Global, case: &Table) -> anyhow::Result<String> {
     let text = text(alloc, case, "tag")?;
     match Tag::parse(alloc, text.as_str()) {
         Ok(tag) => Ok(parts(alloc, &tag)?),
@@ -17,7 +17,7 @@ pub(crate) fn tell(alloc: Global, case: &Table) -> anyhow::Result<String> {
 }
 
 fn parts(alloc: Global, tag: &Tag) -> Result<String, AllocError> {
-    let text = printed(alloc, tag)?;
+    let text = printed_text(alloc, tag)?;
     format!(in alloc;
         "{text}: {}, {}, {}",
         tag.python(),
@@ -33,7 +33,7 @@ pub(crate) fn tell_list(alloc: Global, case: &Table) -> anyhow::Result<String> {
     let ranks = texts(alloc, case, "ranks")?;
     let tags = tag_texts(alloc, text.as_str())?;
     match TagList::parse(alloc, &tags) {
-        Ok(tags) => told(alloc, &tags, &ranks),
+        Ok(tags) => ranks_text(alloc, &tags, &ranks),
         Err(TagListError::Memory) => Err(anyhow::anyhow!("memory")),
         Err(refusal) => Ok(format!(in alloc; "{refusal:?}")?),
     }
@@ -47,7 +47,7 @@ pub(crate) fn tag_texts(alloc: Global, text: &str) -> Result<Vec<&str>, AllocErr
     text.split(' ').collect(alloc)
 }
 
-fn told(alloc: Global, tags: &TagList, ranks: &[&str]) -> anyhow::Result<String> {
+fn ranks_text(alloc: Global, tags: &TagList, ranks: &[&str]) -> anyhow::Result<String> {
     let mut told = format!(in alloc; "{} tags, empty {}\n", tags.len(), tags.is_empty())?;
     if ranks.is_empty() {
         push_tags(&mut told, tags.clone()?.tags())?;
@@ -73,14 +73,14 @@ fn push_rank(told: &mut String, alloc: Global, tags: &TagList, text: &str) -> an
     };
     let rank = tags.rank(&tag);
     writeln!(told, "{tag} {rank:?}")?;
-    let copied = copied_rank(tags, &tag)?;
+    let copied = rank_of_copy(tags, &tag)?;
     if copied != rank {
         writeln!(told, "{copied:?} in the copy")?;
     }
     Ok(())
 }
 
-fn copied_rank(tags: &TagList, tag: &Tag) -> Result<Option<usize>, AllocError> {
+fn rank_of_copy(tags: &TagList, tag: &Tag) -> Result<Option<usize>, AllocError> {
     let copy = tags.clone()?;
     Ok(copy.rank(&tag.clone()?))
 }

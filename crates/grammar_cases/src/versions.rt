@@ -1,6 +1,6 @@
 //! Versions: their texts, their parts, versions of parts, and their order.
 
-use crate::told::{measured, printed, refused, told};
+use crate::told::{measure_text, printed_text, refused, value_or_refusal};
 use case_files::{text, texts};
 use pyver_core::{Label, LocalPart, Version, VersionParts};
 use std::alloc::{AllocError, Global};
@@ -9,9 +9,9 @@ use std::collections::HashSet;
 use toml::Table;
 
 /// The normal text of `version`, or why it is refused.
-pub(crate) fn tell(alloc: Global, case: &Table) -> anyhow::Result<String> {
+pub(crate) fn answer_case(alloc: Global, case: &Table) -> anyhow::Result<String> {
     let text = text(alloc, case, "version")?;
-    told(alloc, Version::parse(alloc, text.as_str()))
+    value_or_refusal(alloc, Version::parse(alloc, text.as_str()))
 }
 
 /// The parts of `version`, its text, and what is left of it as a public version and as a release.
@@ -51,19 +51,19 @@ fn push_shorter(parts: &mut String, alloc: Global, version: &Version) -> Result<
 pub(crate) fn measure(alloc: Global, case: &Table) -> anyhow::Result<String> {
     let text = text(alloc, case, "version")?;
     match Version::parse(alloc, text.as_str()) {
-        Ok(version) => measured_version(alloc, case, &version, text.as_str()),
+        Ok(version) => measure_version(alloc, case, &version, text.as_str()),
         Err(refusal) => refused(alloc, &refusal),
     }
 }
 
-fn measured_version(
+fn measure_version(
     alloc: Global,
     case: &Table,
     version: &Version,
     given: &str,
 ) -> anyhow::Result<String> {
-    let printed = printed(alloc, version)?;
-    let measured = measured(alloc, case, printed.as_str(), given)?;
+    let printed = printed_text(alloc, version)?;
+    let measured = measure_text(alloc, case, printed.as_str(), given)?;
     let is_read = is_read_back(alloc, version, printed.as_str())?;
     let (numbers, segments) = (version.release().len(), version.local().len());
     Ok(format!(in alloc;
@@ -84,12 +84,17 @@ pub(crate) fn make(alloc: Global, case: &Table) -> anyhow::Result<String> {
     let text = text(alloc, case, "version")?;
     let version = Version::parse(alloc, text.as_str())?;
     let parts = parts_of(alloc, case, &version)?;
-    made(alloc, case, &parts, text.as_str())
+    version_text(alloc, case, &parts, text.as_str())
 }
 
-fn made(alloc: Global, case: &Table, parts: &VersionParts, given: &str) -> anyhow::Result<String> {
+fn version_text(
+    alloc: Global,
+    case: &Table,
+    parts: &VersionParts,
+    given: &str,
+) -> anyhow::Result<String> {
     match Version::from_parts(alloc, parts.clone()?) {
-        Ok(version) => measured_version(alloc, case, &version, given),
+        Ok(version) => measure_version(alloc, case, &version, given),
         Err(refusal) => refused(alloc, &refusal),
     }
 }
@@ -122,8 +127,8 @@ fn local_of(alloc: Global, case: &Table, segments: &[LocalPart]) -> anyhow::Resu
     Ok(local)
 }
 
-/// The text that a label of `label` gives back.
-pub(crate) fn give_back(alloc: Global, case: &Table) -> anyhow::Result<String> {
+/// The text that a label of `label` gives.
+pub(crate) fn label_text(alloc: Global, case: &Table) -> anyhow::Result<String> {
     let label = Label::new(text(alloc, case, "label")?);
     Ok(label.into_string())
 }
@@ -181,10 +186,10 @@ fn sign(left: &Version, right: &Version, keys: Ordering) -> &'static str {
 pub(crate) fn tell_key(alloc: Global, case: &Table) -> anyhow::Result<String> {
     let text = text(alloc, case, "version")?;
     let version = Version::parse(alloc, text.as_str())?;
-    Ok(key(alloc, &version)?)
+    Ok(key_text(alloc, &version)?)
 }
 
-fn key(alloc: Global, version: &Version) -> Result<String, AllocError> {
+fn key_text(alloc: Global, version: &Version) -> Result<String, AllocError> {
     let key = version.order_key(alloc)?;
     format!(in alloc; "{key:?}")
 }

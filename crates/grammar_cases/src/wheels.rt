@@ -1,7 +1,7 @@
 //! The names of wheels, and the choice of a wheel.
 
 use crate::tags::tag_texts;
-use crate::told::{measured, printed, refused};
+use crate::told::{measure_text, printed_text, refused};
 use case_files::{text, texts};
 use pywheel_core::{Tag, TagList, WheelName, choose};
 use std::alloc::{AllocError, Global};
@@ -9,15 +9,15 @@ use toml::Table;
 
 /// What the name `wheel` says: the name, the version, the build tag and the tags; or why it is
 /// refused.
-pub(crate) fn tell(alloc: Global, case: &Table) -> anyhow::Result<String> {
+pub(crate) fn answer_case(alloc: Global, case: &Table) -> anyhow::Result<String> {
     let text = text(alloc, case, "wheel")?;
     match WheelName::parse(alloc, text.as_str()) {
-        Ok(wheel) => Ok(said(alloc, &wheel)?),
+        Ok(wheel) => Ok(name_text(alloc, &wheel)?),
         Err(refusal) => refused(alloc, &refusal),
     }
 }
 
-fn said(alloc: Global, wheel: &WheelName) -> Result<String, AllocError> {
+fn name_text(alloc: Global, wheel: &WheelName) -> Result<String, AllocError> {
     let (name, version, build) = (wheel.name(), wheel.version(), wheel.build());
     let mut said = format!(in alloc; "{name}, {version}, {:?}, {build:?},", wheel.build_text())?;
     push_tags(&mut said, wheel.tags())?;
@@ -41,7 +41,7 @@ pub(crate) fn print(alloc: Global, case: &Table) -> anyhow::Result<String> {
 }
 
 fn text_of(alloc: Global, wheel: &WheelName) -> Result<String, AllocError> {
-    let text = printed(alloc, wheel)?;
+    let text = printed_text(alloc, wheel)?;
     format!(in alloc; "{text}\n{}\n{}", wheel.tag_set(), wheel.tags().len())
 }
 
@@ -50,28 +50,28 @@ fn text_of(alloc: Global, wheel: &WheelName) -> Result<String, AllocError> {
 pub(crate) fn measure(alloc: Global, case: &Table) -> anyhow::Result<String> {
     let text = text(alloc, case, "wheel")?;
     match WheelName::parse(alloc, text.as_str()) {
-        Ok(wheel) => measured_wheel(alloc, case, &wheel, text.as_str()),
+        Ok(wheel) => measure_wheel(alloc, case, &wheel, text.as_str()),
         Err(refusal) => refused(alloc, &refusal),
     }
 }
 
-fn measured_wheel(
+fn measure_wheel(
     alloc: Global,
     case: &Table,
     wheel: &WheelName,
     given: &str,
 ) -> anyhow::Result<String> {
-    let printed = printed(alloc, wheel)?;
-    let measured = measured(alloc, case, printed.as_str(), given)?;
+    let printed = printed_text(alloc, wheel)?;
+    let measured = measure_text(alloc, case, printed.as_str(), given)?;
     let lengths = lengths(alloc, wheel)?;
-    let copied = copied_lengths(alloc, wheel)?;
+    let copied = lengths_of_copy(alloc, wheel)?;
     if copied.as_str() == lengths.as_str() {
         return Ok(format!(in alloc; "{lengths}\n{measured}")?);
     }
     Ok(format!(in alloc; "{lengths}, but its copy {copied}\n{measured}")?)
 }
 
-fn copied_lengths(alloc: Global, wheel: &WheelName) -> Result<String, AllocError> {
+fn lengths_of_copy(alloc: Global, wheel: &WheelName) -> Result<String, AllocError> {
     let copy = wheel.clone()?;
     lengths(alloc, &copy)
 }
@@ -91,7 +91,7 @@ pub(crate) fn pick(alloc: Global, case: &Table) -> anyhow::Result<String> {
     let tags = tag_texts(alloc, tags.as_str())?;
     let names = texts(alloc, case, "wheels")?;
     let wheels = wheels(alloc, &names)?;
-    Ok(picked(alloc, &wheels, &tags)?)
+    Ok(pick_position(alloc, &wheels, &tags)?)
 }
 
 pub(crate) fn wheels(alloc: Global, names: &[&str]) -> anyhow::Result<Vec<Option<WheelName>>> {
@@ -106,7 +106,11 @@ pub(crate) fn wheels(alloc: Global, names: &[&str]) -> anyhow::Result<Vec<Option
     Ok(wheels)
 }
 
-fn picked(alloc: Global, wheels: &[Option<WheelName>], tags: &[&str]) -> anyhow::Result<String> {
+fn pick_position(
+    alloc: Global,
+    wheels: &[Option<WheelName>],
+    tags: &[&str],
+) -> anyhow::Result<String> {
     match TagList::parse(alloc, tags) {
         Ok(tags) => Ok(format!(in alloc; "{:?}", choose(wheels, &tags))?),
         Err(refusal) => Err(anyhow::anyhow!("the tags are refused: {refusal:?}")),

@@ -2,7 +2,7 @@
 use Rattle.std.specs.Prelude.{◌≡◌, ◌&&◌, if◌then◌else◌, true, false, List, Option, Some, None, All}
 use Rattle.std.specs.Prelude.{Contains}
 use Rattle.pyver_core.specs.Set.Admission.{admits_all}
-use Rattle.pyver_core.specs.Version.Order.{before, is_before}
+use Rattle.pyver_core.specs.Version.Order.{IsBefore, is_before}
 use Rattle.pyver_core.specs.Version.Parts.{Parts}
 use Rattle.pyver_core.specs.declared.set.specifier.Specifier.{Specifier}
 
@@ -10,7 +10,7 @@ use Rattle.pyver_core.specs.declared.set.specifier.Specifier.{Specifier}
 pub record IsNewest (set : List Specifier) (versions : List Parts) (v : Parts) : Type 0 where
   pub given : Contains versions v
   pub admitted : admits_all set v ≡ true
-  pub newest : All (λ w. admits_all set w ≡ true → before v w → ⊥) versions
+  pub newest : All (λ w. admits_all set w ≡ true → IsBefore v w → ⊥) versions
 
 -- the newest; or none, where the set admits none
 abbrev pub PicksNewest : List Specifier → List Parts → Option Parts → Type 0

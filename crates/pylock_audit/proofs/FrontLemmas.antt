@@ -2,7 +2,7 @@
 use Rattle.std.proofs.Common.{◌≡◌, ◌∙◌, ℕ, ◌==◌, List, [], ◌∷◌, ◌++◌, Some, None, ap, refl, sym, append_assoc, append-nil}
 use Rattle.std.proofs.lemmas.Bool.{or_parts}
 use Rattle.std.specs.List.{list_any}
-use Rattle.pywheel_core.proofs.Cuts.{Lacks, cut_says, no_cut_says}
+use Rattle.pywheel_core.proofs.Lemmas.Texts.Cuts.{Lacks, cut_says, no_cut_says}
 use Rattle.pywheel_core.specs.Texts.{cut_at}
 use Rattle.pylock_audit.specs.Entry.{fronts_behind}
 

@@ -4,7 +4,7 @@ use Rattle.std.proofs.lemmas.Bool.{or_parts}
 use Rattle.std.specs.List.{list_any}
 use Rattle.std.specs.Option.{option_map_or}
 use Rattle.std.specs.Prelude.{codes}
-use Rattle.pywheel_core.proofs.Cuts.{Lacks, cut_says, no_cut_says}
+use Rattle.pywheel_core.proofs.Lemmas.Texts.Cuts.{Lacks, cut_says, no_cut_says}
 use Rattle.pywheel_core.specs.Texts.{cut_at}
 use Rattle.pylock_audit.specs.Url.{behind_slashes, behind_user, masked}
 

@@ -6,9 +6,9 @@ use Rattle.std.proofs.lemmas.List.Sums.{suffix_len-take_no, suffix_len-take_yes}
 use Rattle.std.proofs.lemmas.Option.{get_or_from_slice_get, slice_get-get_or, slice_get_within}
 use Rattle.std.specs.List.{list_any, suffix_len}
 use Rattle.pytext.specs.Options.{either}
-use Rattle.pywheel_core.proofs.Cuts.{Lacks, cut_says, no_cut_says}
+use Rattle.pywheel_core.proofs.Lemmas.Texts.Cuts.{Lacks, cut_says, no_cut_says}
 use Rattle.pywheel_core.specs.Texts.{cut_at}
-use Rattle.pylock_readers.specs.Entry.FileName.{ends_segment, last_of_path, present}
+use Rattle.pylock_readers.specs.Entry.FileName.{ends_segment, last_of_path, text_unless_empty}
 use Rattle.pylock_audit.specs.FileName.{behind_at}
 
 -- ---- neither name nor path
@@ -18,13 +18,13 @@ neither None None = refl
 neither None (Some y) = refl
 neither (Some x) b = refl
 
-there : (text : List ℕ) → 0 < length text → is_some (present text) ≡ true
+there : (text : List ℕ) → 0 < length text → is_some (text_unless_empty text) ≡ true
 there [] some = absurd (omega (arith, some))
 there (b ∷ bs) some = refl
 
 -- a path ends in a name where its last byte separates nothing
 pub last_is : (path : List ℕ) (b : ℕ) → slice_get path (length path - 1) ≡ Some b
-    → is_some (present (last_of_path path)) ≡ not (ends_segment b)
+    → is_some (text_unless_empty (last_of_path path)) ≡ not (ends_segment b)
 last_is path b last =
     let within : length path - 1 < length path = slice_get_within path (length path - 1) b last in
     let at : get_or path (length path - 1) 0 ≡ b = get_or_from_slice_get path (length path - 1) b 0 last in
@@ -36,7 +36,7 @@ last_is path b last =
           let counted = suffix_len-take_no test path (length path) 0 (omega (arith, within)) (omega arith) stops in
           let none : suffix_len test path ≡ 0 = ap (suffix_len test) (sym whole) ∙ counted in
           let nothing = drop_all (length path - suffix_len test path) path (omega (arith, none)) in
-          rw ends (ap (λ text. is_some (present text)) nothing)
+          rw ends (ap (λ text. is_some (text_unless_empty text)) nothing)
       | inr stays ↦
           let passes : test (get_or path (length path - 1) 0) ≡ true = ap test at ∙ ap not stays in
           let counted = suffix_len-take_yes test path (length path) 0 (omega (arith, within)) (omega arith) passes in
@@ -45,7 +45,7 @@ last_is path b last =
           rw stays (there (last_of_path path) (omega (arith, within, some, long)))
     ]
 
-pub nothing_last : (path : List ℕ) → slice_get path (length path - 1) ≡ None → is_some (present (last_of_path path)) ≡ false
+pub nothing_last : (path : List ℕ) → slice_get path (length path - 1) ≡ None → is_some (text_unless_empty (last_of_path path)) ≡ false
 nothing_last [] last = refl
 nothing_last (b ∷ bs) last =
     let some = slice_get-get_or (b ∷ bs) (length (b ∷ bs) - 1) 0 (omega arith) in

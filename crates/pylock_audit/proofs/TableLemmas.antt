@@ -6,7 +6,7 @@ use Rattle.pytext.specs.Results.{◌>>=◌}
 use Rattle.pylock_readers.specs.Entry.{EntryValue}
 use Rattle.pylock_readers.specs.Lock.{HeadValue, LockValue}
 use Rattle.pylock_readers.specs.Lock.Head.{created_by_in, head_in, lock_version_in}
-use Rattle.pylock_readers.specs.Lock.Reading.{count, document_in, entries_in, entries_of, lock_in, lock_of, most_entries, packages_in, room_for}
+use Rattle.pylock_readers.specs.Lock.Reading.{document_in, entries_in, entries_of, item_count, lock_in, lock_of, most_entries, packages_in, room_for}
 use Rattle.pylock_readers.specs.declared.error.LockError.{LockError}
 use Rattle.pylock_readers.specs.declared.error.LockError.TheVariants.{TooMany}
 use Rattle.pylock_audit.specs.Audit.{findings_of, head_findings, items_at, lock_findings, members_in, of_entries}
@@ -58,8 +58,8 @@ by_steps : (found : List FoundValue) (version : Result ⊤ LockError) (creator :
 by_steps found (Err e) creator head packages = refl
 by_steps found (Ok x) (Err e) head packages = refl
 by_steps found (Ok x) (Ok y) (Err e) packages = refl
-by_steps found (Ok x) (Ok y) (Ok head) None = by_count found head no_items (nat_lt most_entries (count no_items))
-by_steps found (Ok x) (Ok y) (Ok head) (Some (array ds)) = by_count found head ds (nat_lt most_entries (count ds))
+by_steps found (Ok x) (Ok y) (Ok head) None = by_count found head no_items (nat_lt most_entries (item_count no_items))
+by_steps found (Ok x) (Ok y) (Ok head) (Some (array ds)) = by_count found head ds (nat_lt most_entries (item_count ds))
 by_steps found (Ok x) (Ok y) (Ok head) (Some (string text)) = refl
 by_steps found (Ok x) (Ok y) (Ok head) (Some (integer number)) = refl
 by_steps found (Ok x) (Ok y) (Ok head) (Some (float number)) = refl

@@ -5,7 +5,7 @@ use Rattle.std.proofs.lemmas.List.{length-append}
 use Rattle.std.specs.List.{list_any}
 use Rattle.std.specs.Option.{option_map_or}
 use Rattle.pytext.specs.Options.{either}
-use Rattle.pywheel_core.proofs.Cuts.{Lacks, cut_says, no_cut_says}
+use Rattle.pywheel_core.proofs.Lemmas.Texts.Cuts.{Lacks, cut_says, no_cut_says}
 use Rattle.pywheel_core.specs.Texts.{cut_at}
 use Rattle.pylock_audit.specs.Inner.User.{password_after, user_in}
 use Rattle.pylock_audit.specs.Url.{around_user, behind_user, ends_authority}

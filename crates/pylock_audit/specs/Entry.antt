@@ -9,11 +9,11 @@ use Rattle.std.specs.Result.{is_err, result_ok}
 use Rattle.std.specs.Str.{bytes_eq}
 use Rattle.toml.specs.Data.{Members, as_str, get_member}
 use Rattle.pytext.specs.Options.{either}
-use Rattle.pyver_core.specs.Name.{is_name, norm}
+use Rattle.pyver_core.specs.Name.{is_name, normal_name}
 use Rattle.pyver_core.specs.Parsed.{parsed_version}
 use Rattle.pyver_core.specs.Version.Order.{version_cmp}
 use Rattle.pyver_core.specs.Version.Parts.{Parts}
-use Rattle.pymark_core.specs.Marker.Asked.{extra_asked, group_asked, has_extra}
+use Rattle.pymark_core.specs.Marker.Asked.{extra_asked, group_asked, comparison_reads_extra}
 use Rattle.pymark_core.specs.Marker.Comparison.{ComparisonValue}
 use Rattle.pymark_core.specs.Marker.Grammar.{comparisons}
 use Rattle.pymark_core.specs.Marker.Reading.{MarkerValue}
@@ -40,7 +40,7 @@ text_at key members = option_and_then as_str (get_member key members)
 -- the name as written, where that isn't its own normal form
 abbrev pub other_form : Members → List (List ℕ)
 other_form members =
-    text_where (λ name. not (bytes_eq (norm name) name)) (λ name. name)
+    text_where (λ name. not (bytes_eq (normal_name name) name)) (λ name. name)
     (text_at (codes "name") members)
 
 abbrev pub refused_version : EntryValue → List (List ℕ)
@@ -58,7 +58,7 @@ compares test (Some marker) =
 -- a name is asked for that is none of these
 abbrev pub is_undeclared : List (List ℕ) → Option (List ℕ) → Bool
 is_undeclared names asked =
-    option_map_or (λ name. not (list_any (bytes_eq (norm name)) names)) asked false
+    option_map_or (λ name. not (list_any (bytes_eq (normal_name name)) names)) asked false
 
 abbrev pub asks_undeclared : HeadValue → ComparisonValue → Bool
 asks_undeclared head c =
@@ -88,7 +88,7 @@ wheel_where test wheel =
     option_map_or (λ parts. name_where (λ name. test parts) wheel.0) wheel.1 []
 
 abbrev pub is_other_name : List ℕ → WheelValue → Bool
-is_other_name name wheel = not (bytes_eq (norm wheel.name) name)
+is_other_name name wheel = not (bytes_eq (normal_name wheel.name) name)
 
 -- the version that the files of an entry should have: the entry's, or where it has none that of
 -- its first wheel with a readable name
@@ -115,7 +115,7 @@ is_sdist_name name = ends (codes ".tar.gz") name || ends (codes ".zip") name
 
 -- the text is a name whose normal form is this one
 abbrev pub is_name_of : List ℕ → List ℕ → Bool
-is_name_of name text = is_name text && bytes_eq (norm text) name
+is_name_of name text = is_name text && bytes_eq (normal_name text) name
 
 -- what stands before each `-`, the text so far before all
 abbrev pub fronts_behind : List ℕ → List ℕ → List (List ℕ)
@@ -172,7 +172,7 @@ of_names members entry =
 
 abbrev pub of_marker : HeadValue → EntryValue → List FindingValue
 of_marker head entry =
-    found_each kind.MarkerExtra (compares has_extra entry.marker)
+    found_each kind.MarkerExtra (compares comparison_reads_extra entry.marker)
     ++ found_each kind.UndeclaredName (compares (asks_undeclared head) entry.marker)
 
 abbrev pub of_kinds : EntryValue → List FindingValue

@@ -3,7 +3,7 @@
 ghost use Rattle.std.specs.Prelude.{◌≡◌, IfOk, is_some, option_and_then, option_map};
 ghost use Rattle.std.specs.Prelude.{string_bytes};
 ghost use Rattle.std.specs.Option.{option_copied};
-ghost use Rattle.pylock_readers.specs.Entry.FileName.{last_of_path, present};
+ghost use Rattle.pylock_readers.specs.Entry.FileName.{last_of_path, text_unless_empty};
 ghost use Rattle.pylock_audit.specs.FileName.{behind_at, is_named_by_url, masked_front};
 ghost use Rattle.pylock_audit.specs.FileName.{may_name_user, shown_file_name, shown_name};
 
@@ -61,7 +61,7 @@ fn is_named_by_url(file: &DistributionFile) -> bool
 
 /// Whether the text is there, and isn't empty.
 fn is_present(text: Option<&str>) -> bool
-    ensures { result ≡ is_some (option_and_then present (option_copied text.entry)) }
+    ensures { result ≡ is_some (option_and_then text_unless_empty (option_copied text.entry)) }
 {
     match text {
         Some(text) => has_bytes(text),
@@ -70,14 +70,14 @@ fn is_present(text: Option<&str>) -> bool
 }
 
 fn has_bytes(text: &str) -> bool
-    ensures { result ≡ is_some (present text.now) }
+    ensures { result ≡ is_some (text_unless_empty text.now) }
 {
     !text.is_empty()
 }
 
 /// Whether the path is there, and ends in a file name.
 fn ends_in_name(path: Option<&str>) -> bool
-    ensures { result ≡ is_some (option_and_then (λ path. present (last_of_path path))
+    ensures { result ≡ is_some (option_and_then (λ path. text_unless_empty (last_of_path path))
         (option_copied path.entry)) }
 {
     match path {
@@ -89,7 +89,7 @@ fn ends_in_name(path: Option<&str>) -> bool
 /// Whether something stands behind the last separator of a path.
 #[tactic(auto, using(crate::proofs::ShownLemmas::ends_so))]
 fn has_last(path: &str) -> bool
-    ensures { result ≡ is_some (present (last_of_path path.now)) }
+    ensures { result ≡ is_some (text_unless_empty (last_of_path path.now)) }
 {
     match path.as_bytes().last() {
         Some(last) => !matches!(*last, b'/' | b'\\'),

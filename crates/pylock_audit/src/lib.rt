@@ -14,7 +14,7 @@
 //! match audit(alloc, lock) {
 //!     Ok(found) => push_findings_in(alloc, out, form, found.as_slice()),
 //!     Err(LockError::Memory) => Err(AllocError),
-//!     Err(error) => push_unread(alloc, out, form, &error),
+//!     Err(error) => push_refused_lock(alloc, out, form, &error),
 //! }
 //! ```
 #![tactic(auto)]

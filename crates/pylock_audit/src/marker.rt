@@ -3,7 +3,7 @@
 ghost use Rattle.std.specs.Prelude.{◌≡◌, ◌++◌, IfOk, map, string_bytes};
 ghost use Rattle.std.specs.List.{list_any};
 ghost use Rattle.std.specs.Option.{option_copied};
-ghost use Rattle.pymark_core.specs.Marker.Asked.{has_extra};
+ghost use Rattle.pymark_core.specs.Marker.Asked.{comparison_reads_extra};
 ghost use Rattle.pylock_audit.specs.Entry.{asks_undeclared, compares, is_undeclared};
 
 use crate::finding::told_where;
@@ -15,7 +15,7 @@ use std::alloc::{AllocError, Global};
 /// The text of the marker, where one of its comparisons has the operand `extra`.
 pub(crate) fn with_extra(alloc: Global, marker: Option<&Marker>) -> Result<Vec<String>, AllocError>
     ensures { IfOk result (λ list. map string_bytes list.items
-        ≡ compares has_extra (option_copied marker.entry)) }
+        ≡ compares comparison_reads_extra (option_copied marker.entry)) }
 {
     let Some(marker) = marker else {
         return Ok(Vec::new(alloc));
@@ -25,7 +25,7 @@ pub(crate) fn with_extra(alloc: Global, marker: Option<&Marker>) -> Result<Vec<S
 }
 
 fn any_extra(comparisons: &[&Comparison]) -> bool
-    ensures { result ≡ list_any has_extra (map (λ c. c.now) comparisons.now) }
+    ensures { result ≡ list_any comparison_reads_extra (map (λ c. c.now) comparisons.now) }
 {
     for comparison in comparisons {
         if comparison.has_extra() {

@@ -8,7 +8,7 @@ use Rattle.pylock_run.specs.declared.line.refusal.LineRefusal.TheVariants as lin
 use Rattle.pylock_c.specs.Answer.{Tells}
 use Rattle.pylock_c.specs.Refusal.{line_refusal}
 use Rattle.pylock_c.specs.Sessions.{Counts, edited, edited_in}
-use Rattle.pylock_c.specs.Sets.{refused_by}
+use Rattle.pylock_c.specs.Sets.{refuse_as}
 use Rattle.pylock_c.specs.declared.object.Object.{Object}
 use Rattle.pylock_c.specs.declared.object.Object.TheVariants as kind
 use Rattle.pylock_c.specs.declared.refusal.Refusal.{Refusal}
@@ -23,7 +23,7 @@ refused_edit ask {object = object} {session = session} {after = after} {refused 
     subst (λ (r : Result ℕ Refusal). Counts (edited_in ask (Some object)) (Some object) (Some (kind.Session after)) r) (sym fails) (
       ap Some (ap kind.Session same ∙ sym is),
       λ not. ap (λ o. edited_in ask (Some o)) is
-          ∙ ap (λ e. refused_by line_refusal e >>= λ after. Ok (Some (kind.Session after.0), after.1)) (gives (λ short. not (code ∙ ap line_refusal short)))
+          ∙ ap (λ e. refuse_as line_refusal e >>= λ after. Ok (Some (kind.Session after.0), after.1)) (gives (λ short. not (code ∙ ap line_refusal short)))
           ∙ ap Err (sym code),
     )
 

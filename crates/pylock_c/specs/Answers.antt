@@ -6,7 +6,7 @@ use Rattle.pylock_command.specs.declared.form.Form.TheVariants.{Json, Lines}
 use Rattle.pylock_readers.specs.Environment.{env_of}
 use Rattle.pylock_readers.specs.Lock.Reading.{lock_of}
 use Rattle.pylock_documents.specs.Documents.{lock_head_rows}
-use Rattle.pylock_run.specs.Report.{Report, refused_by}
+use Rattle.pylock_run.specs.Report.{Report, refuse_as}
 use Rattle.pylock_program.specs.Text.Json.{json_text}
 use Rattle.pylock_run.specs.declared.report.opening.OpenError.{OpenError}
 use Rattle.pylock_run.specs.declared.report.opening.OpenError.TheVariants as unopened
@@ -24,11 +24,11 @@ reported report = Ok (Some (kind.Text report.text), pos report.status)
 -- the head of a lock, as a JSON document
 unfoldable pub head_of : List ℕ → Result Object OpenError
 head_of bytes = do
-  lock ← refused_by unopened.Lock (lock_of bytes)
+  lock ← refuse_as unopened.Lock (lock_of bytes)
   Ok (kind.Text (json_text (lock_head_rows lock.head)))
 
 -- what markers are judged in, of the text of an environment: its variables, and nothing asked for
 unfoldable pub environment_read : List ℕ → Result Object OpenError
 environment_read json = do
-  read ← refused_by unopened.Environment (env_of json)
+  read ← refuse_as unopened.Environment (env_of json)
   Ok (kind.Environment read.0)

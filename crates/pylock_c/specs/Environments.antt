@@ -2,7 +2,8 @@
 use Rattle.std.specs.Prelude.{ℕ, List, Option, Some, Result, Ok, ok_or}
 use Rattle.pytext.specs.Results.{◌>>=◌}
 use Rattle.pylock_run.specs.declared.line.refusal.LineRefusal.TheVariants as line
-use Rattle.pymark_core.specs.Environment.{EnvironmentValue, empty, with_extra, with_group}
+use Rattle.pymark_core.specs.Environment.{EnvironmentValue, empty_environment, with_extra}
+use Rattle.pymark_core.specs.Environment.{with_group}
 use Rattle.pymark_core.specs.Environment.{with_variable, without_extra, without_group}
 use Rattle.pymark_core.specs.Environment.{without_variable}
 use Rattle.pymark_core.specs.Variables.{variable_of}
@@ -17,7 +18,7 @@ use Rattle.pylock_c.specs.declared.refusal.Refusal.{Refusal}
 use Rattle.pylock_c.specs.declared.refusal.Refusal.TheVariants as refusal
 
 abbrev pub new_environment : Result (Option Object) Refusal
-new_environment = Ok (Some (kind.Environment empty))
+new_environment = Ok (Some (kind.Environment empty_environment))
 
 -- the variable of markers that has this name
 abbrev pub variable_named : List ℕ → Result Var Refusal

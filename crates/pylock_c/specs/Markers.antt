@@ -5,7 +5,7 @@ use Rattle.pymark_core.specs.Environment.{EnvironmentValue}
 use Rattle.pymark_core.specs.Marker.Reading.{MarkerValue, marker_of}
 use Rattle.pymark_core.specs.Marker.Value.{marker_value, value_with}
 use Rattle.pylock_c.specs.Refusal.{evaluation_refusal, marker_refusal}
-use Rattle.pylock_c.specs.Sets.{refused_by}
+use Rattle.pylock_c.specs.Sets.{refuse_as}
 use Rattle.pylock_c.specs.Text.{text_of}
 use Rattle.pylock_c.specs.declared.object.Object.{Object}
 use Rattle.pylock_c.specs.declared.object.Object.TheVariants as kind
@@ -15,7 +15,7 @@ use Rattle.pylock_c.specs.declared.refusal.Refusal.TheVariants as refusal
 abbrev pub parsed : List ℕ → Result (Option Object) Refusal
 parsed bytes = do
   text ← text_of bytes
-  marker ← refused_by marker_refusal (marker_of text)
+  marker ← refuse_as marker_refusal (marker_of text)
   Ok (Some (kind.Marker marker))
 
 abbrev pub marker_in : Option Object → Result MarkerValue Refusal
@@ -36,7 +36,7 @@ abbrev pub value_in : Option Object → Option Object → Result Bool Refusal
 value_in marker environment = do
   marker ← marker_in marker
   environment ← environment_in environment
-  refused_by evaluation_refusal (marker_value environment marker.tree)
+  refuse_as evaluation_refusal (marker_value environment marker.tree)
 
 -- the same where the operand `extra` has this text (PEP 685)
 abbrev pub value_with_extra_in : Option Object → Option Object → List ℕ → Result Bool Refusal
@@ -44,4 +44,4 @@ value_with_extra_in marker environment extra = do
   marker ← marker_in marker
   environment ← environment_in environment
   text ← text_of extra
-  refused_by evaluation_refusal (value_with (Some text) environment marker.tree)
+  refuse_as evaluation_refusal (value_with (Some text) environment marker.tree)

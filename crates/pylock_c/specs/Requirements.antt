@@ -6,7 +6,7 @@ use Rattle.pymark_core.specs.Requirement.Reading.{requirement_of}
 use Rattle.pymark_core.specs.Requirement.Value.{RequirementValue}
 use Rattle.pylock_c.specs.Record.{joined, record_of}
 use Rattle.pylock_c.specs.Refusal.{requirement_refusal}
-use Rattle.pylock_c.specs.Sets.{refused_by}
+use Rattle.pylock_c.specs.Sets.{refuse_as}
 use Rattle.pylock_c.specs.Text.{text_of}
 use Rattle.pylock_c.specs.declared.refusal.Refusal.{Refusal}
 
@@ -20,5 +20,5 @@ parts_of requirement =
 abbrev pub requirement_record : List ℕ → Result (List ℕ) Refusal
 requirement_record bytes = do
   text ← text_of bytes
-  requirement ← refused_by requirement_refusal (requirement_of text)
+  requirement ← refuse_as requirement_refusal (requirement_of text)
   Ok (record_of (parts_of requirement))

@@ -11,7 +11,7 @@ use Rattle.pylock_core.specs.Session.State.{State}
 use Rattle.pylock_core.specs.Session.Steps.{answer}
 use Rattle.pylock_program.specs.Choices.{view_shown}
 use Rattle.pylock_run.specs.Report.{after_command, is_plan}
-use Rattle.pylock_run.specs.Text.Field.{tabbed}
+use Rattle.pylock_run.specs.Text.Field.{fields_text}
 use Rattle.pylock_program.specs.declared.choices.View.{View}
 use Rattle.pylock_run.specs.declared.line.commands.Command.{Command}
 use Rattle.pylock_run.specs.declared.line.commands.Command.TheVariants as command
@@ -19,7 +19,7 @@ use Rattle.pylock_run.specs.declared.line.refusal.LineRefusal.{LineRefusal}
 use Rattle.pylock_run.specs.declared.report.opening.OpenError.{OpenError}
 use Rattle.pylock_c.specs.Refusal.{line_refusal}
 use Rattle.pylock_c.specs.Sessions.Asked.{asked}
-use Rattle.pylock_c.specs.Sets.{refused_by}
+use Rattle.pylock_c.specs.Sets.{refuse_as}
 use Rattle.pylock_c.specs.declared.object.Object.{Object}
 use Rattle.pylock_c.specs.declared.object.Object.TheVariants as kind
 use Rattle.pylock_c.specs.declared.refusal.Refusal.{Refusal}
@@ -62,7 +62,7 @@ edited ask session = asked ask >>= after session
 abbrev pub edited_in : Ask → Option Object → Result (Option Object × ℕ) Refusal
 edited_in ask object = do
   session ← session_in object
-  edited ← refused_by line_refusal (edited ask session)
+  edited ← refuse_as line_refusal (edited ask session)
   Ok (Some (kind.Session edited.0), edited.1)
 
 -- an edit of what a slot keeps: the object after it and its judgements, or the refusal, which
@@ -84,7 +84,7 @@ shown_in view form object = do
 -- a record of numbers
 abbrev pub numbers_text : List ℕ → List ℕ
 numbers_text [] = []
-numbers_text (number ∷ numbers) = decimal number ++ tabbed (map decimal numbers)
+numbers_text (number ∷ numbers) = decimal number ++ fields_text (map decimal numbers)
 
 -- the numbers that were judged last
 abbrev pub judged_in : Option Object → Result (Option Object) Refusal

@@ -2,7 +2,7 @@
 use Rattle.std.specs.Prelude.{ℕ, Bool, List, Option, Some, Result, Ok, Err}
 use Rattle.std.specs.Result.{result_map_both}
 use Rattle.pytext.specs.Results.{◌>>=◌}
-use Rattle.pyver_core.specs.Name.{is_name, norm}
+use Rattle.pyver_core.specs.Name.{is_name, normal_name}
 use Rattle.pyver_core.specs.Parsed.{parsed_set, parsed_version}
 use Rattle.pyver_core.specs.Set.Admission.{admits_all}
 use Rattle.pyver_core.specs.Set.Normal.{set_text}
@@ -16,18 +16,18 @@ use Rattle.pylock_c.specs.declared.refusal.Refusal.{Refusal}
 use Rattle.pylock_c.specs.declared.refusal.Refusal.TheVariants as refusal
 
 -- what a library reads, or its refusal as the call's
-abbrev pub refused_by : {V E : Type 0} → (E → Refusal) → Result V E → Result V Refusal
-refused_by refusal read = result_map_both (λ v. v) refusal read
+abbrev pub refuse_as : {V E : Type 0} → (E → Refusal) → Result V E → Result V Refusal
+refuse_as refusal read = result_map_both (λ v. v) refusal read
 
 abbrev pub version_of : List ℕ → Result Parts Refusal
 version_of bytes = do
   text ← text_of bytes
-  refused_by version_refusal (parsed_version text)
+  refuse_as version_refusal (parsed_version text)
 
 abbrev pub set_of : List ℕ → Result (List Specifier) Refusal
 set_of bytes = do
   text ← text_of bytes
-  refused_by set_refusal (parsed_set text)
+  refuse_as set_refusal (parsed_set text)
 
 -- whether a set admits a version; the set's text is judged first
 abbrev pub admits_of : List ℕ → List ℕ → Result Bool Refusal
@@ -40,7 +40,7 @@ admits_of set version = do
 abbrev pub name_of : List ℕ → Result (List ℕ) Refusal
 name_of bytes = do
   text ← text_of bytes
-  Ok (norm text)
+  Ok (normal_name text)
 
 abbrev pub is_name_of : List ℕ → Result Bool Refusal
 is_name_of bytes = do

@@ -1,7 +1,7 @@
 -- The order key of a version, and the record of its parts (PEP 440).
 use Rattle.std.specs.Prelude.{ℕ, List, [], ◌∷◌, codes, Option, Some, option_map, Result, Ok}
 use Rattle.pytext.specs.Results.{◌>>=◌}
-use Rattle.pyver_core.specs.Version.Normal.{decimal_text, normal, pre_text, release_text}
+use Rattle.pyver_core.specs.Version.Normal.{decimal_text, normal_text, pre_text, release_text}
 use Rattle.pyver_core.specs.Version.Normal.{segment_text}
 use Rattle.pyver_core.specs.Version.OrderKey.{order_key}
 use Rattle.pyver_core.specs.Version.Parts.{Parts, base_release, public_part}
@@ -19,7 +19,7 @@ key_of bytes = do
 -- numbers of the post- and the developmental release, the local part
 abbrev pub parts_of : Parts → List (Option (List ℕ))
 parts_of v =
-    Some (normal v) ∷ Some (normal (public_part v)) ∷ Some (normal (base_release v))
+    Some (normal_text v) ∷ Some (normal_text (public_part v)) ∷ Some (normal_text (base_release v))
     ∷ Some (decimal_text v.epoch) ∷ Some (release_text v.release)
     ∷ option_map (λ pre. pre_text (Some pre)) v.pre ∷ option_map decimal_text v.post
     ∷ option_map decimal_text v.dev ∷ joined segment_text (codes ".") v.local ∷ []

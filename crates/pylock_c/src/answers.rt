@@ -3,7 +3,7 @@
 ghost use Rattle.std.specs.Prelude.{◌≡◌, [], Some};
 ghost use Rattle.pytext.specs.Agreement.{Gives};
 ghost use Rattle.pylock_program.specs.Choices.{report_after, view_shown};
-ghost use Rattle.pylock_run.specs.Report.{opened};
+ghost use Rattle.pylock_run.specs.Report.{open_state};
 ghost use Rattle.pylock_program.specs.declared.choices.View.TheVariants.{Explain, Plan};
 ghost use Rattle.pylock_run.specs.declared.report.opening.OpenError.TheVariants as unopened;
 ghost use Rattle.pylock_program.specs.Reply.{reply};
@@ -43,7 +43,8 @@ fn report(
     environment: &[u8],
 ) -> Result<(Object, i32), Refusal>
     ensures { Gives Memory (λ told. (Some told.0, told.1)) result
-        (reported (report_after form (view_shown view form) (opened lock.now environment.now) [])) }
+        (reported
+        (report_after form (view_shown view form) (open_state lock.now environment.now) [])) }
 {
     let mut out = Vec::new(alloc);
     let status = match open(alloc, lock, environment) {
@@ -71,7 +72,7 @@ pub extern "C" fn pylock_plan(
     status: &mut i32,
 ) -> i32
     ensures { Tells (reported (report_after (form_of json) (view_shown Plan (form_of json))
-        (opened lock.now environment.now) []))
+        (open_state lock.now environment.now) []))
         (object out.old, status.old) (object out.new, status.new) result }
 {
     let told = report(alloc, View::Plan, form_of(json), lock, environment);
@@ -90,7 +91,7 @@ pub extern "C" fn pylock_explain(
     status: &mut i32,
 ) -> i32
     ensures { Tells (reported (report_after (form_of json) (view_shown Explain (form_of json))
-        (opened lock.now environment.now) []))
+        (open_state lock.now environment.now) []))
         (object out.old, status.old) (object out.new, status.new) result }
 {
     let told = report(alloc, View::Explain, form_of(json), lock, environment);

@@ -14,7 +14,7 @@ ghost use Rattle.pylock_c.specs.declared.refusal.Refusal.TheVariants.{Memory};
 use crate::refusal::Refusal;
 use crate::slot::Slot;
 use crate::text::{keep_text, text};
-use pylock_run::{push_field, push_next};
+use pylock_run::{push_field, push_next_field};
 use pymark_core::Requirement;
 use pyver_core::SpecifierSet;
 use std::alloc::{AllocError, Global};
@@ -43,8 +43,8 @@ fn push_parts(alloc: Global, out: &mut Vec<u8>, requirement: &Requirement) -> Re
     push_field(out, Some(requirement.name()))?;
     push_extras(alloc, out, requirement.extras())?;
     push_set(out, requirement.set())?;
-    push_next(out, requirement.url())?;
-    push_next(out, requirement.marker().map(|marker| marker.text()))
+    push_next_field(out, requirement.url())?;
+    push_next_field(out, requirement.marker().map(|marker| marker.text()))
 }
 
 /// Pushes a TAB and the field of extras.
@@ -53,10 +53,10 @@ fn push_extras(alloc: Global, out: &mut Vec<u8>, extras: &[String]) -> Result<()
         ++ 9 ∷ field (joined (λ extra. extra) (codes ",") (map string_bytes extras.now))) }
 {
     if extras.is_empty() {
-        return push_next(out, None);
+        return push_next_field(out, None);
     }
     let text = extras.join(alloc, ",")?;
-    push_next(out, Some(text.as_str()))
+    push_next_field(out, Some(text.as_str()))
 }
 
 /// Pushes a TAB and the field of a specifier set.
@@ -65,7 +65,7 @@ fn push_set(out: &mut Vec<u8>, set: &SpecifierSet) -> Result<(), AllocError>
         ≡ out.old.items ++ 9 ∷ field (joined specifier_text (codes ",") set.now)) }
 {
     if set.items().is_empty() {
-        return push_next(out, None);
+        return push_next_field(out, None);
     }
-    push_next(out, Some(set.text()))
+    push_next_field(out, Some(set.text()))
 }

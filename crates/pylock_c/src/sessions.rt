@@ -2,7 +2,7 @@
 
 ghost use Rattle.std.specs.Prelude.{◌≡◌, ℕ, None, OnErr, Option, Result, Some, option_map};
 ghost use Rattle.pytext.specs.Agreement.{Gives};
-ghost use Rattle.pylock_run.specs.Report.{opened};
+ghost use Rattle.pylock_run.specs.Report.{open_state};
 ghost use Rattle.pylock_run.specs.declared.line.refusal.LineRefusal.TheVariants as line;
 ghost use Rattle.pylock_run.specs.declared.report.opening.OpenError.TheVariants as unopened;
 ghost use Rattle.pylock_c.specs.Answer.{Tells};
@@ -31,7 +31,7 @@ use std::alloc::Global;
 /// The session on a lock and an environment.
 fn started(alloc: Global, lock: &[u8], environment: &[u8]) -> Result<Object, OpenError>
     ensures { Gives unopened.Memory (λ kept. kept) result
-        (started (opened lock.now environment.now)) }
+        (started (open_state lock.now environment.now)) }
 {
     Ok(Object::Session(open(alloc, lock, environment)?))
 }
@@ -46,7 +46,7 @@ pub extern "C" fn pylock_session_start(
     environment: &[u8],
     words: &mut Slot,
 ) -> i32
-    ensures { Opens (started (opened lock.now environment.now)) (object session.old)
+    ensures { Opens (started (open_state lock.now environment.now)) (object session.old)
         (object session.new) (object words.old) (object words.new) result }
 {
     open_into(alloc, started(alloc, lock, environment), session, words)

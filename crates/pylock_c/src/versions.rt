@@ -3,11 +3,11 @@
 ghost use Rattle.std.specs.Prelude.{◌≡◌, ◌≢◌, ◌++◌, ◌∷◌, [], IfOk, None, Ok, OnOk, Some};
 ghost use Rattle.std.specs.Prelude.{codes, drop, map, option_map, string_bytes, take};
 ghost use Rattle.pytext.specs.Agreement.{Gives};
-ghost use Rattle.pyver_core.specs.Version.FromParts.{version_from};
+ghost use Rattle.pyver_core.specs.Version.FromParts.{version_from_parts};
 ghost use Rattle.pyver_core.specs.Version.Normal.{decimal_text, pre_text, release_text};
 ghost use Rattle.pyver_core.specs.Version.Normal.{segment_text};
 ghost use Rattle.pyver_core.specs.Version.Parts.{public_part};
-ghost use Rattle.pylock_run.specs.Text.Field.{field, tabbed};
+ghost use Rattle.pylock_run.specs.Text.Field.{field, fields_text};
 ghost use Rattle.pylock_c.specs.Answer.{Writes};
 ghost use Rattle.pylock_c.specs.Record.{joined, record_of};
 ghost use Rattle.pylock_c.specs.Versions.{key_of, parts_of, version_record};
@@ -16,7 +16,7 @@ ghost use Rattle.pylock_c.specs.declared.refusal.Refusal.TheVariants.{Memory};
 use crate::answer::write_made;
 use crate::refusal::Refusal;
 use crate::sets::version;
-use pylock_run::{push_field, push_next};
+use pylock_run::{push_field, push_next_field};
 use pyver_core::{LocalPart, PartsError, PreKind, Version, VersionParts};
 use std::alloc::{AllocError, Global};
 use std::fmt::Write;
@@ -75,8 +75,8 @@ fn push_versions(alloc: Global, out: &mut Vec<u8>, version: &Version) -> Result<
         ≡ out.old.items ++ record_of (take 3 (parts_of version.now))) }
 {
     push_field(out, Some(version.text()))?;
-    push_next(out, Some(public_part(alloc, version)?.text()))?;
-    push_next(
+    push_next_field(out, Some(public_part(alloc, version)?.text()))?;
+    push_next_field(
         out,
         Some(base(alloc, version.epoch(), version.release())?.text()),
     )
@@ -85,7 +85,7 @@ fn push_versions(alloc: Global, out: &mut Vec<u8>, version: &Version) -> Result<
 /// Pushes the others behind them.
 fn push_rest(alloc: Global, out: &mut Vec<u8>, version: &Version) -> Result<(), AllocError>
     ensures { OnOk result (out.new.items
-        ≡ out.old.items ++ tabbed (map field (drop 3 (parts_of version.now)))) }
+        ≡ out.old.items ++ fields_text (map field (drop 3 (parts_of version.now)))) }
 {
     push_number(alloc, out, Some(version.epoch()))?;
     push_release(alloc, out, version.release())?;
@@ -134,7 +134,7 @@ fn base(alloc: Global, epoch: u128, release: &[u128]) -> Result<Version, AllocEr
 
 /// The version of these parts, of which there is one: only want of memory refuses them.
 fn made_of(alloc: Global, parts: VersionParts) -> Result<Version, AllocError>
-    requires { version_from parts ≡ Ok parts }
+    requires { version_from_parts parts ≡ Ok parts }
     ensures { IfOk result (λ version. version ≡ parts) }
 {
     match Version::from_parts(alloc, parts) {
@@ -150,13 +150,13 @@ fn push_number(alloc: Global, out: &mut Vec<u8>, number: Option<u128>) -> Result
         ≡ out.old.items ++ 9 ∷ field (option_map decimal_text number)) }
 {
     let Some(number) = number else {
-        return push_next(out, None);
+        return push_next_field(out, None);
     };
     let text = number_text(alloc, number)?;
-    push_next(out, Some(text.as_str()))
+    push_next_field(out, Some(text.as_str()))
 }
 
-#[tactic(auto, using(pyver_core::proofs::Lemmas::Version::Decimal::decimal_is_text))]
+#[tactic(auto, using(pyver_core::proofs::Lemmas::Version::Normal::Decimal::decimal_is_text))]
 fn number_text(alloc: Global, number: u128) -> Result<String, AllocError>
     ensures { IfOk result (λ text. string_bytes text ≡ decimal_text number) }
 {
@@ -170,7 +170,7 @@ fn push_release(alloc: Global, out: &mut Vec<u8>, release: &[u128]) -> Result<()
         ≡ out.old.items ++ 9 ∷ field (Some (release_text release.now))) }
 {
     let alone = base(alloc, 0, release)?;
-    push_next(out, Some(alone.text()))
+    push_next_field(out, Some(alone.text()))
 }
 
 /// Pushes a TAB and the field of a pre-release.
@@ -183,13 +183,13 @@ fn push_pre(
         ≡ out.old.items ++ 9 ∷ field (option_map (λ pre. pre_text (Some pre)) pre)) }
 {
     let Some((kind, number)) = pre else {
-        return push_next(out, None);
+        return push_next_field(out, None);
     };
     let text = pre_text(alloc, kind, number)?;
-    push_next(out, Some(text.as_str()))
+    push_next_field(out, Some(text.as_str()))
 }
 
-#[tactic(auto, using(pyver_core::proofs::Lemmas::Version::Decimal::decimal_is_text))]
+#[tactic(auto, using(pyver_core::proofs::Lemmas::Version::Normal::Decimal::decimal_is_text))]
 fn pre_text(alloc: Global, kind: PreKind, number: u128) -> Result<String, AllocError>
     ensures { IfOk result (λ text. string_bytes text ≡ pre_text (Some (kind, number))) }
 {
@@ -206,7 +206,7 @@ fn push_local(alloc: Global, out: &mut Vec<u8>, local: &[LocalPart]) -> Result<(
         ≡ out.old.items ++ 9 ∷ field (joined segment_text (codes ".") local.now)) }
 {
     let Some((first, rest)) = local.split_first() else {
-        return push_next(out, None);
+        return push_next_field(out, None);
     };
     let mut text = String::new(alloc);
     push_segment(&mut text, first)?;
@@ -214,10 +214,10 @@ fn push_local(alloc: Global, out: &mut Vec<u8>, local: &[LocalPart]) -> Result<(
         text.push_str(".")?;
         push_segment(&mut text, segment)?;
     }
-    push_next(out, Some(text.as_str()))
+    push_next_field(out, Some(text.as_str()))
 }
 
-#[tactic(auto, using(pyver_core::proofs::Lemmas::Version::Decimal::decimal_is_text))]
+#[tactic(auto, using(pyver_core::proofs::Lemmas::Version::Normal::Decimal::decimal_is_text))]
 fn push_segment(text: &mut String, segment: &LocalPart) -> Result<(), AllocError>
     ensures { OnOk result (string_bytes text.new
         ≡ string_bytes text.old ++ segment_text segment.now) }

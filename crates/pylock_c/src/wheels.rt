@@ -14,7 +14,7 @@ ghost use Rattle.pylock_c.specs.declared.refusal.Refusal.TheVariants.{Memory};
 use crate::refusal::Refusal;
 use crate::slot::Slot;
 use crate::text::{keep_text, text};
-use pylock_run::{push_field, push_next};
+use pylock_run::{push_field, push_next_field};
 use pywheel_core::{Tag, WheelName};
 use std::alloc::{AllocError, Global};
 use std::fmt::Write;
@@ -41,9 +41,9 @@ fn push_parts(alloc: Global, out: &mut Vec<u8>, wheel: &WheelName) -> Result<(),
 {
     let tags = tags_text(alloc, wheel.tags())?;
     push_field(out, Some(wheel.name()))?;
-    push_next(out, Some(wheel.version().text()))?;
-    push_next(out, wheel.build_text())?;
-    push_next(out, Some(tags.as_str()))
+    push_next_field(out, Some(wheel.version().text()))?;
+    push_next_field(out, wheel.build_text())?;
+    push_next_field(out, Some(tags.as_str()))
 }
 
 /// The tags with a space between them.

@@ -7,7 +7,7 @@ use Rattle.std.specs.Str.{bytes_eq}
 use Rattle.clap.proofs.WalkLemmas.{first_value-rows, raw_values-rows}
 use Rattle.clap.specs.Words.{Row, Text, first_value, matched_of, raw_values, rows_of}
 use Rattle.clap.specs.declared.parser.matches.Found.{Found}
-use Rattle.pylock_command.specs.Choices.{AreOnFiles, Interleaves, Written, has_flag, texts_at, texts_of, written}
+use Rattle.pylock_command.specs.Choices.{AreOnFiles, Interleaves, OptionWords, has_flag, texts_at, texts_of, option_words}
 use Rattle.pylock_command.specs.declared.choice.Choice.{Choice}
 
 -- the flag is there as its first value says
@@ -17,34 +17,34 @@ flag-told found name value is =
     ap (λ (o : Option Text). option_map_or (λ text. bytes_eq text (codes "true")) o false) (is ∙ first_value-rows found name)
 
 -- an option with the text behind a reference
-abbrev pub named : Text → Bor Text → Written
+abbrev pub named : Text → Bor Text → OptionWords
 named name text = (name, Some text.now)
 
 -- one more text of an option is pushed
-pub pushed-more : (name : Text) (start : List Written) (texts : List (Bor Text)) (i : ℕ) (d : Bor Text) (before after : List Choice) (choice : Choice)
-    → i < length texts → map written before ≡ start ++ map (named name) (take i texts) → after ≡ before ++ choice ∷ [] → written choice ≡ named name (get_or texts i d)
-    → map written after ≡ start ++ map (named name) (take (i + 1) texts)
+pub pushed-more : (name : Text) (start : List OptionWords) (texts : List (Bor Text)) (i : ℕ) (d : Bor Text) (before after : List Choice) (choice : Choice)
+    → i < length texts → map option_words before ≡ start ++ map (named name) (take i texts) → after ≡ before ++ choice ∷ [] → option_words choice ≡ named name (get_or texts i d)
+    → map option_words after ≡ start ++ map (named name) (take (i + 1) texts)
 pushed-more name start texts i d before after choice within so_far pushed is =
-    ap (map written) pushed ∙ map-append written before (choice ∷ [])
-    ∙ ap₂ (λ (front : List Written) (last : Written). front ++ last ∷ []) so_far is
+    ap (map option_words) pushed ∙ map-append option_words before (choice ∷ [])
+    ∙ ap₂ (λ (prefix : List OptionWords) (last : OptionWords). prefix ++ last ∷ []) so_far is
     ∙ append_assoc start (map (named name) (take i texts)) (named name (get_or texts i d) ∷ [])
-    ∙ ap (λ (more : List Written). start ++ more)
+    ∙ ap (λ (more : List OptionWords). start ++ more)
     (sym (ap (map (named name)) (take_more texts i d within) ∙ map-append (named name) (take i texts) (get_or texts i d ∷ [])))
 
 named-all : (name : Text) (texts : List (Bor Text)) → map (named name) texts ≡ map (λ (text : Text). (name, Some text)) (map (λ text. text.now) texts)
 named-all name [] = refl
-named-all name (text ∷ texts) = ap (λ (rest : List Written). named name text ∷ rest) (named-all name texts)
+named-all name (text ∷ texts) = ap (λ (rest : List OptionWords). named name text ∷ rest) (named-all name texts)
 
 texts-named : (name : Text) (texts : List (Bor Text)) (rows : List Row) → map (λ text. text.now) texts ≡ texts_at name rows → map (named name) texts ≡ texts_of name rows
 texts-named name texts rows told = named-all name texts ∙ ap (map (λ (text : Text). (name, Some text))) told
 
 -- all texts of an option were pushed
-pub pushed-all : (name : Text) (start : List Written) (texts : List (Bor Text)) (i : ℕ) (rows : List Row) (choices : List Choice)
-    → length texts ≤ i → map written choices ≡ start ++ map (named name) (take i texts) → map (λ text. text.now) texts ≡ texts_at name rows
-    → map written choices ≡ start ++ texts_of name rows
+pub pushed-all : (name : Text) (start : List OptionWords) (texts : List (Bor Text)) (i : ℕ) (rows : List Row) (choices : List Choice)
+    → length texts ≤ i → map option_words choices ≡ start ++ map (named name) (take i texts) → map (λ text. text.now) texts ≡ texts_at name rows
+    → map option_words choices ≡ start ++ texts_of name rows
 pushed-all name start texts i rows choices whole pushed told =
     pushed ∙ ap (λ (some : List (Bor Text)). start ++ map (named name) some) (take_all i texts whole)
-    ∙ ap (λ (more : List Written). start ++ more) (texts-named name texts rows told)
+    ∙ ap (λ (more : List OptionWords). start ++ more) (texts-named name texts rows told)
 
 -- what the rows have for an option
 pub texts-told : (found : Found) (name : Text) (given : Option (Bor (List (Bor Text)))) (result : Bor (List (Bor Text)))
@@ -58,32 +58,32 @@ texts-told found name given result unwrapped is =
     unwrapped-texts None u = ap (map (λ (text : Bor Text). text.now)) u
     unwrapped-texts (Some texts) u = ap (λ (t : Bor (List (Bor Text))). map (λ (text : Bor Text). text.now) t.now) u
 
-abbrev wheels_of : List (Bor Text) → List Written
+abbrev wheels_of : List (Bor Text) → List OptionWords
 wheels_of = map (named (codes "only-binary"))
 
-abbrev sources_of : List (Bor Text) → List Written
+abbrev sources_of : List (Bor Text) → List OptionWords
 sources_of = map (named (codes "no-binary"))
 
 -- Some of two options were pushed: whatever is made of the others, in their order, goes on to all.
-pub record Merging (wheels sources : List (Bor Text)) (wheel source : ℕ) (start : List Written) (choices : List Choice) : Type 0 where
+pub record Merging (wheels sources : List (Bor Text)) (wheel source : ℕ) (start : List OptionWords) (choices : List Choice) : Type 0 where
   pub wheel_within : wheel ≤ length wheels
   pub source_within : source ≤ length sources
-  pub goes_on : (rest : List Written) → Interleaves (wheels_of (drop wheel wheels)) (sources_of (drop source sources)) rest
-      → (all : List Written) × Interleaves (wheels_of wheels) (sources_of sources) all × (map written choices ++ rest ≡ start ++ all)
+  pub goes_on : (rest : List OptionWords) → Interleaves (wheels_of (drop wheel wheels)) (sources_of (drop source sources)) rest
+      → (all : List OptionWords) × Interleaves (wheels_of wheels) (sources_of sources) all × (map option_words choices ++ rest ≡ start ++ all)
 
-pushed-before : (start rest all : List Written) (before after : List Choice) (choice : Choice) (x : Written) → after ≡ before ++ choice ∷ [] → written choice ≡ x
-    → map written before ++ x ∷ rest ≡ start ++ all → map written after ++ rest ≡ start ++ all
+pushed-before : (start rest all : List OptionWords) (before after : List Choice) (choice : Choice) (x : OptionWords) → after ≡ before ++ choice ∷ [] → option_words choice ≡ x
+    → map option_words before ++ x ∷ rest ≡ start ++ all → map option_words after ++ rest ≡ start ++ all
 pushed-before start rest all before after choice x pushed is whole =
-    ap (λ (front : List Written). front ++ rest) (ap (map written) pushed ∙ map-append written before (choice ∷ []) ∙ ap (λ (last : Written). map written before ++ last ∷ []) is)
-    ∙ append_assoc (map written before) (x ∷ []) rest ∙ whole
+    ap (λ (prefix : List OptionWords). prefix ++ rest) (ap (map option_words) pushed ∙ map-append option_words before (choice ∷ []) ∙ ap (λ (last : OptionWords). map option_words before ++ last ∷ []) is)
+    ∙ append_assoc (map option_words before) (x ∷ []) rest ∙ whole
 
 first-left : (name : Text) (texts : List (Bor Text)) (i : ℕ) (d : Bor Text) → i < length texts
     → map (named name) (drop i texts) ≡ named name (get_or texts i d) ∷ map (named name) (drop (i + 1) texts)
 first-left name texts i d within = rw add-one (ap (map (named name)) (drop-cons texts i d within))
 
-module _ (wheels sources : List (Bor Text)) (wheel source : ℕ) (d : Bor Text) (start : List Written) (before after : List Choice) (choice : Choice)
+module _ (wheels sources : List (Bor Text)) (wheel source : ℕ) (d : Bor Text) (start : List OptionWords) (before after : List Choice) (choice : Choice)
     (m : Merging wheels sources wheel source start before) (pushed : after ≡ before ++ choice ∷ []) where
-  pub wheel-merged : wheel < length wheels → written choice ≡ named (codes "only-binary") (get_or wheels wheel d)
+  pub wheel-merged : wheel < length wheels → option_words choice ≡ named (codes "only-binary") (get_or wheels wheel d)
       → Merging wheels sources (wheel + 1) source start after
   wheel-merged within is = record {
     wheel_within = omega arith;
@@ -94,7 +94,7 @@ module _ (wheels sources : List (Bor Text)) (wheel source : ℕ) (d : Bor Text) 
         (whole.0, whole.1, pushed-before start rest whole.0 before after choice x pushed is whole.2);
   }
 
-  pub source-merged : source < length sources → written choice ≡ named (codes "no-binary") (get_or sources source d)
+  pub source-merged : source < length sources → option_words choice ≡ named (codes "no-binary") (get_or sources source d)
       → Merging wheels sources wheel (source + 1) start after
   source-merged within is = record {
     wheel_within = m.wheel_within;
@@ -106,21 +106,21 @@ module _ (wheels sources : List (Bor Text)) (wheel source : ℕ) (d : Bor Text) 
   }
 
 -- none of two options is pushed yet, and all of them
-pub none-merged : (wheels sources : List (Bor Text)) (choices : List Choice) → Merging wheels sources 0 0 (map written choices) choices
+pub none-merged : (wheels sources : List (Bor Text)) (choices : List Choice) → Merging wheels sources 0 0 (map option_words choices) choices
 none-merged wheels sources choices = record {
   wheel_within = omega arith;
   source_within = omega arith;
   goes_on = λ rest whole. (rest, whole, refl);
 }
 
-pub all-merged : (wheels sources : List (Bor Text)) (wheel source : ℕ) (start : List Written) (choices : List Choice) (rows : List Row)
+pub all-merged : (wheels sources : List (Bor Text)) (wheel source : ℕ) (start : List OptionWords) (choices : List Choice) (rows : List Row)
     → Merging wheels sources wheel source start choices → length wheels ≤ wheel → length sources ≤ source
     → map (λ text. text.now) wheels ≡ texts_at (codes "only-binary") rows → map (λ text. text.now) sources ≡ texts_at (codes "no-binary") rows
-    → (on_files : List Written) × AreOnFiles rows on_files × (map written choices ≡ start ++ on_files)
+    → (on_files : List OptionWords) × AreOnFiles rows on_files × (map option_words choices ≡ start ++ on_files)
 all-merged wheels sources wheel source start choices rows m no_wheel no_source told_wheels told_sources =
     let whole = m.goes_on [] (ap wheels_of (drop_of_length-le wheels no_wheel), ap sources_of (drop_of_length-le sources no_source)) in
-    let by_wheels = subst (λ (one : List Written). Interleaves one (sources_of sources) whole.0) (texts-named (codes "only-binary") wheels rows told_wheels) whole.1 in (
+    let by_wheels = subst (λ (one : List OptionWords). Interleaves one (sources_of sources) whole.0) (texts-named (codes "only-binary") wheels rows told_wheels) whole.1 in (
       whole.0,
-      subst (λ (other : List Written). Interleaves (texts_of (codes "only-binary") rows) other whole.0) (texts-named (codes "no-binary") sources rows told_sources) by_wheels,
-      sym (append-nil (map written choices)) ∙ whole.2,
+      subst (λ (other : List OptionWords). Interleaves (texts_of (codes "only-binary") rows) other whole.0) (texts-named (codes "no-binary") sources rows told_sources) by_wheels,
+      sym (append-nil (map option_words choices)) ∙ whole.2,
     )

@@ -52,8 +52,8 @@ module _ (found : ArgMatches) where
     pub HasTexts-of : (texts : List (Text × Text)) → HaveTexts rows texts → HasTexts (Some (name, rows)) word texts
     HasTexts-of texts have = record {
       rows = rows;
-      entered = ap (λ (n : Text). Some (n, rows)) is;
-      given = have;
+      is_subcommand = ap (λ (n : Text). Some (n, rows)) is;
+      have_texts = have;
     }
 
     pub HasTexts-one : (id text : Text) → Some text ≡ first_value (found_of found) id → HasTexts (Some (name, rows)) word ((id, text) ∷ [])

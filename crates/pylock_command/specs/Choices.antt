@@ -42,58 +42,58 @@ with_rules = fold with_rule
 abbrev pub with_choices : App → App
 with_choices app = with_rules (with_rules (with_rules app extra_rules) group_rules) other_rules
 
--- an option as it is written: its name, and its text, if it takes one
-abbrev pub Written : Type 0
-Written = Text × Option Text
+-- an option as it stands among the words: its name, and its text, if it takes one
+abbrev pub OptionWords : Type 0
+OptionWords = Text × Option Text
 
-abbrev pub written : Choice → Written
-written AllExtras = (codes "all-extras", None)
-written (Extra name) = (codes "extra", Some name.now)
-written NoDefaultGroups = (codes "no-default-groups", None)
-written AllGroups = (codes "all-groups", None)
-written (Group name) = (codes "group", Some name.now)
-written (NoGroup name) = (codes "no-group", Some name.now)
-written (OnlyBinary name) = (codes "only-binary", Some name.now)
-written (NoBinary name) = (codes "no-binary", Some name.now)
-written (choice.Set text) = (codes "set", Some text.now)
+abbrev pub option_words : Choice → OptionWords
+option_words AllExtras = (codes "all-extras", None)
+option_words (Extra name) = (codes "extra", Some name.now)
+option_words NoDefaultGroups = (codes "no-default-groups", None)
+option_words AllGroups = (codes "all-groups", None)
+option_words (Group name) = (codes "group", Some name.now)
+option_words (NoGroup name) = (codes "no-group", Some name.now)
+option_words (OnlyBinary name) = (codes "only-binary", Some name.now)
+option_words (NoBinary name) = (codes "no-binary", Some name.now)
+option_words (choice.Set text) = (codes "set", Some text.now)
 
 -- an option without a text, where the words have it
 abbrev pub has_flag : Text → List Row → Bool
 has_flag name rows = option_map_or (λ text. bytes_eq text (codes "true")) (first_of name rows) false
 
-abbrev pub flag_of : Text → List Row → List Written
+abbrev pub flag_of : Text → List Row → List OptionWords
 flag_of name rows = if has_flag name rows then (name, None) ∷ [] else []
 
 -- the texts that the words give an option, and the option with each of them
 abbrev pub texts_at : Text → List Row → List Text
 texts_at name rows = unwrap_or (all_of name rows) []
 
-abbrev pub texts_of : Text → List Row → List Written
+abbrev pub texts_of : Text → List Row → List OptionWords
 texts_of name rows = map (λ text. (name, Some text)) (texts_at name rows)
 
 -- what the words say of extras, and of dependency groups
-abbrev pub on_extras : List Row → List Written
+abbrev pub on_extras : List Row → List OptionWords
 on_extras rows = flag_of (codes "all-extras") rows ++ texts_of (codes "extra") rows
 
-abbrev pub on_groups : List Row → List Written
+abbrev pub on_groups : List Row → List OptionWords
 on_groups rows = flag_of (codes "no-default-groups") rows ++ flag_of (codes "all-groups") rows
     ++ texts_of (codes "group") rows ++ texts_of (codes "no-group") rows
 
 -- `all` is made of two lists, of which each keeps its order
-abbrev pub Interleaves : List Written → List Written → List Written → Type 0
+abbrev pub Interleaves : List OptionWords → List OptionWords → List OptionWords → Type 0
 Interleaves one other [] = (one ≡ []) × (other ≡ [])
 Interleaves one other (x ∷ all) =
-    ((rest : List Written) × (one ≡ x ∷ rest) × Interleaves rest other all)
-    ⊎ ((rest : List Written) × (other ≡ x ∷ rest) × Interleaves one rest all)
+    ((rest : List OptionWords) × (one ≡ x ∷ rest) × Interleaves rest other all)
+    ⊎ ((rest : List OptionWords) × (other ≡ x ∷ rest) × Interleaves one rest all)
 
 -- what the words say of files, in their order, of which rows tell that of each option alone
-abbrev pub AreOnFiles : List Row → List Written → Type 0
+abbrev pub AreOnFiles : List Row → List OptionWords → Type 0
 AreOnFiles rows = Interleaves (texts_of (codes "only-binary") rows)
     (texts_of (codes "no-binary") rows)
 
 -- the options that the rows have, in the order in which `Choice` names them
 pub record AreChoices (rows : List Row) (choices : List Choice) : Type 0 where
-  pub on_files : List Written
-  pub as_rows_have : AreOnFiles rows on_files
-  pub listed : map written choices
+  pub on_files : List OptionWords
+  pub are_on_files : AreOnFiles rows on_files
+  pub in_order : map option_words choices
       ≡ on_extras rows ++ on_groups rows ++ on_files ++ texts_of (codes "set") rows

@@ -1,17 +1,19 @@
 -- The program's command line, in clap's terms.
 use Rattle.std.specs.Prelude.{◌≡◌, ◌≢◌, ◌⊎◌, ◌||◌, Bool, true, false, not, if◌then◌else◌, codes}
-use Rattle.std.specs.Prelude.{List, [], ◌∷◌, Option, Some, None, IfSome, is_some, All}
+use Rattle.std.specs.Prelude.{List, [], ◌∷◌, Option, Some, None, IfSome, is_some, All, fold}
 use Rattle.std.specs.Str.{bytes_eq}
-use Rattle.clap.specs.Words.{App, IsAmong, Row, Rule, Text, fault_of, first_of, kind_of, new_app}
-use Rattle.clap.specs.Words.{new_rule, subcommand_of, with_rule, with_subcommand}
+use Rattle.clap.specs.Words.{App, IsAmong, Row, Text, fault_of, first_of, kind_of, new_app}
+use Rattle.clap.specs.Words.{subcommand_of, with_subcommand}
 use Rattle.clap.specs.declared.error.Error.{Error}
 use Rattle.clap.specs.declared.error.kind.ErrorKind.TheVariants.{MissingRequiredArgument}
 use Rattle.clap.specs.declared.error.kind.ErrorKind.TheVariants.{OutOfMemory}
-use Rattle.pylock_command.specs.Choices.{AreChoices, with_choices}
-use Rattle.pylock_command.specs.Form.{form_of, with_json}
+use Rattle.pylock_command.specs.Choices.{AreChoices}
+use Rattle.pylock_command.specs.Form.{form_of}
+use Rattle.pylock_command.specs.Subcommand.{Subcommand, row, subcommand_app}
 use Rattle.pylock_command.specs.declared.choice.Choice.{Choice}
 use Rattle.pylock_command.specs.declared.command_line.CommandError.{CommandError}
 use Rattle.pylock_command.specs.declared.command_line.CommandError.TheVariants.{Refused, Memory}
+use Rattle.pylock_command.specs.declared.command_line.Options.TheVariants as options
 use Rattle.pylock_command.specs.declared.command_line.Task.{Task}
 use Rattle.pylock_command.specs.declared.command_line.Task.TheVariants.{Bare, Plan, Explain}
 use Rattle.pylock_command.specs.declared.command_line.Task.TheVariants.{Select, Files, Audit}
@@ -19,75 +21,30 @@ use Rattle.pylock_command.specs.declared.command_line.Task.TheVariants.{Version,
 use Rattle.pylock_command.specs.declared.command_line.Task.TheVariants.{Marker, Requirement, Wheel}
 use Rattle.pylock_command.specs.declared.form.Form.{Form}
 
--- an argument that stands at its place and has to be there
-abbrev pub place_rule : Text → Rule
-place_rule id = record (new_rule id) { required = true }
-
--- a subcommand of this name, which takes one text, or two
-abbrev pub one_text : Text → Text → App
-one_text name id = with_rule (new_app name) (place_rule id)
-
-abbrev pub two_texts : Text → Text → Text → App
-two_texts name first second = with_rule (one_text name first) (place_rule second)
-
--- a subcommand of this name, which takes the paths of lock and environment, `plan`'s options and
--- `--json`
-abbrev pub chosen_app : Text → App
-chosen_app name = with_json (with_choices (two_texts name (codes "LOCK") (codes "ENV")))
-
--- a subcommand of this name, which takes the path of the lock and `--json`
-abbrev pub lock_app : Text → App
-lock_app name = with_json (one_text name (codes "LOCK"))
-
--- what adding a subcommand makes of a command
-abbrev pub with_chosen : App → Text → App
-with_chosen app name = with_subcommand app (chosen_app name).top
-
-abbrev pub with_lock : App → Text → App
-with_lock app name = with_subcommand app (lock_app name).top
-
-abbrev pub with_one : App → Text → Text → App
-with_one app name id = with_subcommand app (one_text name id).top
-
-abbrev pub with_two : App → Text → Text → Text → App
-with_two app name first second = with_subcommand app (two_texts name first second).top
-
 -- `pylock`, which tells its version
 abbrev pub top_app : App
 top_app =
     let app = new_app (codes "pylock") in
     record app { top = record app.top { has_version = true } }
 
--- the commands with the options of `plan`
-abbrev pub with_chosen_commands : App → App
-with_chosen_commands app = with_chosen (with_chosen app (codes "plan")) (codes "explain")
-
--- the run, the commands on the lock alone, and those on versions and names
-abbrev pub with_first : App → App
-with_first app =
-    with_one
-    (with_two
-    (with_one
-    (with_lock
-    (with_lock
-    (with_two app (codes "select") (codes "LOCK") (codes "ENV"))
-    (codes "files"))
-    (codes "audit"))
-    (codes "version") (codes "TEXT"))
-    (codes "match") (codes "SET") (codes "VERSION"))
-    (codes "name") (codes "TEXT")
-
--- the commands on markers, requirements and wheels
-abbrev pub with_further : App → App
-with_further app =
-    with_one
-    (with_one
-    (with_two app (codes "marker") (codes "TEXT") (codes "ENV"))
-    (codes "requirement") (codes "TEXT"))
-    (codes "wheel") (codes "TEXT")
+-- the program's subcommands
+abbrev pub subcommands : List Subcommand
+subcommands =
+    row (codes "plan") (codes "LOCK" ∷ codes "ENV" ∷ []) options.Choices
+    ∷ row (codes "explain") (codes "LOCK" ∷ codes "ENV" ∷ []) options.Choices
+    ∷ row (codes "select") (codes "LOCK" ∷ codes "ENV" ∷ []) options.Absent
+    ∷ row (codes "files") (codes "LOCK" ∷ []) options.Form
+    ∷ row (codes "audit") (codes "LOCK" ∷ []) options.Form
+    ∷ row (codes "version") (codes "TEXT" ∷ []) options.Absent
+    ∷ row (codes "match") (codes "SET" ∷ codes "VERSION" ∷ []) options.Absent
+    ∷ row (codes "name") (codes "TEXT" ∷ []) options.Absent
+    ∷ row (codes "marker") (codes "TEXT" ∷ codes "ENV" ∷ []) options.Absent
+    ∷ row (codes "requirement") (codes "TEXT" ∷ []) options.Absent
+    ∷ row (codes "wheel") (codes "TEXT" ∷ []) options.Absent
+    ∷ []
 
 unfoldable pub pylock_app : App
-pylock_app = with_further (with_first (with_chosen_commands top_app))
+pylock_app = fold (λ app s. with_subcommand app (subcommand_app s).top) top_app subcommands
 
 -- each of these arguments, by name, has this text
 abbrev pub HaveTexts : List Row → List (Text × Text) → Type 0
@@ -97,8 +54,8 @@ HaveTexts rows = All (λ p. first_of p.0 rows ≡ Some p.1)
 pub record HasTexts (found : Option (Text × List Row)) (name : Text) (texts : List (Text × Text))
     : Type 0 where
   pub rows : List Row
-  pub entered : found ≡ Some (name, rows)
-  pub given : HaveTexts rows texts
+  pub is_subcommand : found ≡ Some (name, rows)
+  pub have_texts : HaveTexts rows texts
 
 -- the paths of lock and environment, by the names of the arguments
 abbrev pub paths : Text → Text → List (Text × Text)
@@ -181,7 +138,7 @@ is_lacking None = false
 is_lacking (Some found) = lacks_text found.0 found.1
 
 -- Why words are refused: clap has this kind of error for them; or the kind is that of a missing
--- text, and one is missing. Want of memory says nothing of the words.
+-- text, and one is missing. Out of memory says nothing of the words.
 abbrev pub IsRefusal : List Text → CommandError → Type 0
 IsRefusal words (Refused error) = (kind_of error ≢ OutOfMemory)
     × (IsAmong (kind_of error) (fault_of pylock_app words)

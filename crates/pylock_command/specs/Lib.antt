@@ -2,3 +2,4 @@ pub mod Choices
 pub mod CommandLine
 pub mod Commands
 pub mod Form
+pub mod Subcommand

@@ -1,11 +1,11 @@
 //! The options of `plan` and `explain`: what clap is told of them, and what it found.
 ghost use Rattle.std.specs.Prelude.{◌≡◌, ◌++◌, List, false, map, IfOk, OnOk, Some, None};
 ghost use Rattle.clap.specs.Words.{found_of, rows_of, rule_of, with_rule};
-ghost use Rattle.pylock_command.specs.Choices.{AreChoices, AreOnFiles, Written, extra_rules};
+ghost use Rattle.pylock_command.specs.Choices.{AreChoices, AreOnFiles, OptionWords, extra_rules};
 ghost use Rattle.pylock_command.specs.Choices.{flag_of, flag_rule, group_rules, has_flag};
 ghost use Rattle.pylock_command.specs.Choices.{on_extras, on_groups, other_rules, text_rule};
 ghost use Rattle.pylock_command.specs.Choices.{texts_at, texts_of, with_choices, with_rules};
-ghost use Rattle.pylock_command.specs.Choices.{written};
+ghost use Rattle.pylock_command.specs.Choices.{option_words};
 ghost use Rattle.pylock_command.specs.Commands.{Adds, IsLocal};
 
 use crate::choice::Choice;
@@ -206,8 +206,8 @@ fn push_on_extras<'a>(
     choices: &mut Vec<Choice<'a>>,
     found: &ArgMatches<'a>,
 ) -> Result<(), AllocError>
-    ensures { OnOk result (map written choices.new.items
-        ≡ map written choices.old.items ++ on_extras (rows_of (found_of found.now))) }
+    ensures { OnOk result (map option_words choices.new.items
+        ≡ map option_words choices.old.items ++ on_extras (rows_of (found_of found.now))) }
 {
     push_flag(choices, found, "all-extras", Choice::AllExtras)?;
     push_texts(choices, found, "extra", |name| Choice::Extra(name))
@@ -218,8 +218,8 @@ fn push_on_groups<'a>(
     choices: &mut Vec<Choice<'a>>,
     found: &ArgMatches<'a>,
 ) -> Result<(), AllocError>
-    ensures { OnOk result (map written choices.new.items
-        ≡ map written choices.old.items ++ on_groups (rows_of (found_of found.now))) }
+    ensures { OnOk result (map option_words choices.new.items
+        ≡ map option_words choices.old.items ++ on_groups (rows_of (found_of found.now))) }
 {
     push_flag(choices, found, "no-default-groups", Choice::NoDefaultGroups)?;
     push_flag(choices, found, "all-groups", Choice::AllGroups)?;
@@ -232,17 +232,17 @@ fn push_on_files<'a>(
     choices: &mut Vec<Choice<'a>>,
     found: &ArgMatches<'a>,
 ) -> Result<(), AllocError>
-    ensures { OnOk result ((on_files : List Written)
+    ensures { OnOk result ((on_files : List OptionWords)
         × AreOnFiles (rows_of (found_of found.now)) on_files
-        × (map written choices.new.items ≡ map written choices.old.items ++ on_files)) }
+        × (map option_words choices.new.items ≡ map option_words choices.old.items ++ on_files)) }
 {
     let wheels = texts(found, "only-binary");
     let sources = texts(found, "no-binary");
-    let wheel_places = places(found, "only-binary");
-    let source_places = places(found, "no-binary");
+    let wheel_positions = positions(found, "only-binary");
+    let source_positions = positions(found, "no-binary");
     let (mut wheel, mut source) = (0, 0);
     while wheel < wheels.len() || source < sources.len() {
-        let is_first = wheel_places.get(wheel) < source_places.get(source);
+        let is_first = wheel_positions.get(wheel) < source_positions.get(source);
         if source == sources.len() || (wheel < wheels.len() && is_first) {
             choices.push(Choice::OnlyBinary(wheels[wheel]))?;
             wheel += 1;
@@ -261,9 +261,9 @@ fn push_flag<'a>(
     name: &str,
     choice: Choice<'a>,
 ) -> Result<(), AllocError>
-    requires { written choice ≡ (name.now, None) }
-    ensures { OnOk result (map written choices.new.items
-        ≡ map written choices.old.items ++ flag_of name.now (rows_of (found_of found.now))) }
+    requires { option_words choice ≡ (name.now, None) }
+    ensures { OnOk result (map option_words choices.new.items
+        ≡ map option_words choices.old.items ++ flag_of name.now (rows_of (found_of found.now))) }
 {
     if has_flag(found, name) {
         choices.push(choice)?;
@@ -290,9 +290,9 @@ fn push_texts<'a, F: Fn(&'a str) -> Choice<'a>>(
 ) -> Result<(), AllocError>
     requires called { F.IsAlwaysCallable choice }
     requires named { (text : _) (chosen : Choice) → F.post choice text chosen
-        → written chosen ≡ (name.now, Some text.now) }
-    ensures { OnOk result (map written choices.new.items
-        ≡ map written choices.old.items ++ texts_of name.now (rows_of (found_of found.now))) }
+        → option_words chosen ≡ (name.now, Some text.now) }
+    ensures { OnOk result (map option_words choices.new.items
+        ≡ map option_words choices.old.items ++ texts_of name.now (rows_of (found_of found.now))) }
 {
     for text in texts(found, name) {
         choices.push(choice(*text))?;
@@ -307,7 +307,7 @@ fn texts<'b, 'a>(found: &'b ArgMatches<'a>, name: &str) -> &'b [&'a str]
     found.get_strs(name).unwrap_or_default()
 }
 
-/// The places of an option's texts among the words.
-fn places<'b>(found: &'b ArgMatches<'_>, name: &str) -> &'b [usize] {
+/// The positions of an option's texts among the words.
+fn positions<'b>(found: &'b ArgMatches<'_>, name: &str) -> &'b [usize] {
     found.indices_of(name).unwrap_or_default()
 }

@@ -5,13 +5,11 @@ ghost use Rattle.clap.specs.Words.{app_of, fault_of, found_of, new_app, rows_of,
 ghost use Rattle.clap.specs.Words.{subcommand_of, subcommand_rows_of, with_rule, with_subcommand};
 ghost use Rattle.clap.specs.declared.builder.command.Command.TheViews.{out-Command as fields_of};
 ghost use Rattle.pylock_command.specs.Choices.{AreChoices};
-ghost use Rattle.pylock_command.specs.CommandLine.{HaveTexts, IsRefusal, IsTask, chosen_app};
+ghost use Rattle.pylock_command.specs.CommandLine.{HaveTexts, IsRefusal, IsTask};
 ghost use Rattle.pylock_command.specs.CommandLine.{is_lacking, lacks_path, lacks_plain_text};
-ghost use Rattle.pylock_command.specs.CommandLine.{lacks_text, lock_app, one_text, paths};
-ghost use Rattle.pylock_command.specs.CommandLine.{place_rule, pylock_app, top_app};
-ghost use Rattle.pylock_command.specs.CommandLine.{two_texts, with_chosen, with_chosen_commands};
-ghost use Rattle.pylock_command.specs.CommandLine.{with_first, with_further, with_lock};
-ghost use Rattle.pylock_command.specs.CommandLine.{with_one, with_two};
+ghost use Rattle.pylock_command.specs.CommandLine.{lacks_text, paths, pylock_app, top_app};
+ghost use Rattle.pylock_command.specs.Subcommand.{positional_rule, second_text, subcommand};
+ghost use Rattle.pylock_command.specs.Subcommand.{subcommand_app, with_options, with_texts};
 ghost use Rattle.pylock_command.specs.Commands.{Adds, IsCommand, IsLocal};
 ghost use Rattle.pylock_command.specs.Form.{form_of};
 
@@ -129,17 +127,35 @@ struct Text {
     help: &'static str,
 }
 
-/// A subcommand: its name, what it does, and what stands below its texts in the help.
+/// The options of a subcommand.
+#[derive(Clone, Copy)]
+enum Options {
+    /// None.
+    Absent,
+    /// `--json`.
+    Form,
+    /// Those of `plan`, and `--json`.
+    Choices,
+}
+
+/// A subcommand: its name, what it does, the one or two texts that it takes, its options, and what
+/// stands below them in the help.
 #[derive(Clone, Copy)]
 struct Usage {
     name: &'static str,
     about: &'static str,
+    first: Text,
+    second: Option<Text>,
+    options: Options,
     reply: &'static str,
 }
 
 const PLAN: Usage = Usage {
     name: "plan",
     about: "Print what a lock installs in an environment",
+    first: LOCK,
+    second: Some(ENV),
+    options: Options::Choices,
     reply: "\
 Example, with spaces for the TABs:
   $ pylock plan pylock.toml env.json --extra science --only-binary :all:
@@ -173,6 +189,9 @@ memory ran out.",
 const EXPLAIN: Usage = Usage {
     name: "explain",
     about: "Print what becomes of each entry of a lock, and why",
+    first: LOCK,
+    second: Some(ENV),
+    options: Options::Choices,
     reply: "\
 Example, with spaces for the TABs:
   $ pylock explain pylock.toml env.json
@@ -211,6 +230,9 @@ can't be read, the output failed or memory ran out.",
 const SELECT: Usage = Usage {
     name: "select",
     about: "Print what a lock installs, and print it again after each edit",
+    first: LOCK,
+    second: Some(ENV),
+    options: Options::Absent,
     reply: "\
 Example, with spaces for the TABs:
   $ printf 'extra+ science\\nfly\\n' | pylock select pylock.toml env.json
@@ -262,6 +284,9 @@ const ENV: Text = Text {
 const FILES: Usage = Usage {
     name: "files",
     about: "Print every source that a lock names, whatever machine it is for",
+    first: LOCK,
+    second: None,
+    options: Options::Form,
     reply: "\
 Example:
   $ pylock files pylock.toml
@@ -281,6 +306,9 @@ can't be read, the output failed or memory ran out.",
 const AUDIT: Usage = Usage {
     name: "audit",
     about: "Print what a careful reader of a lock should know",
+    first: LOCK,
+    second: None,
+    options: Options::Form,
     reply: "\
 Example, with spaces for the TABs:
   $ pylock audit audited.toml
@@ -334,6 +362,9 @@ is refused; 3, a file can't be read, the output failed or memory ran out.",
 const VERSION_OF: Usage = Usage {
     name: "version",
     about: "Print the normal form of a version (PEP 440)",
+    first: VERSION_TEXT,
+    second: None,
+    options: Options::Absent,
     reply: "\
 Example:
   $ pylock version v1.0-RC.1
@@ -353,6 +384,9 @@ const VERSION_TEXT: Text = Text {
 const MATCH: Usage = Usage {
     name: "match",
     about: "Print whether a specifier set admits a version (PEP 440)",
+    first: SET,
+    second: Some(SET_VERSION),
+    options: Options::Absent,
     reply: "\
 Example:
   $ pylock match '>=2.8.1, ==2.8.*' 2.8.3
@@ -378,6 +412,9 @@ const SET_VERSION: Text = Text {
 const NAME: Usage = Usage {
     name: "name",
     about: "Print the normal form of a name (PEP 503)",
+    first: NAME_TEXT,
+    second: None,
+    options: Options::Absent,
     reply: "\
 Example:
   $ pylock name Foo__Bar
@@ -397,6 +434,9 @@ const NAME_TEXT: Text = Text {
 const MARKER: Usage = Usage {
     name: "marker",
     about: "Print whether a marker holds in an environment (PEP 508)",
+    first: MARKER_TEXT,
+    second: Some(ENV),
+    options: Options::Absent,
     reply: "\
 Example:
   $ pylock marker 'os_name == \"posix\"' env.json
@@ -421,6 +461,9 @@ const MARKER_TEXT: Text = Text {
 const REQUIREMENT: Usage = Usage {
     name: "requirement",
     about: "Print the parts of a requirement (PEP 508)",
+    first: REQUIREMENT_TEXT,
+    second: None,
+    options: Options::Absent,
     reply: "\
 Example, with spaces for the TABs:
   $ pylock requirement 'requests[security] >= 2.8.1'
@@ -442,6 +485,9 @@ const REQUIREMENT_TEXT: Text = Text {
 const WHEEL: Usage = Usage {
     name: "wheel",
     about: "Print the parts of a wheel's file name (PEP 427)",
+    first: WHEEL_TEXT,
+    second: None,
+    options: Options::Absent,
     reply: "\
 Example, with spaces for the TABs:
   $ pylock wheel numpy-2.2.1-cp312-cp312-win_amd64.whl
@@ -460,53 +506,40 @@ const WHEEL_TEXT: Text = Text {
     help: "A file name, such as numpy-2.2.1-cp312-cp312-win_amd64.whl",
 };
 
-/// The command `pylock` with one more subcommand, which takes the paths of lock and environment,
-/// the options of `plan`, and `--json`.
-fn with_chosen<'a>(
-    alloc: Global,
-    pylock: Result<Command<'a>, AllocError>,
-    usage: Usage,
-) -> Result<Command<'a>, AllocError>
-    ensures { Adds (λ app. with_chosen app usage.name.now) pylock.entry result }
+/// The command `pylock` with its subcommands.
+fn pylock_command<'a>(alloc: Global) -> Result<Command<'a>, AllocError>
+    ensures { IsCommand pylock_app result }
 {
-    with_subcommand(pylock?, chosen(alloc, usage))
+    let pylock = with_usage(alloc, Ok(bare_command(alloc)), PLAN);
+    let pylock = with_usage(alloc, pylock, EXPLAIN);
+    let pylock = with_usage(alloc, pylock, SELECT);
+    let pylock = with_usage(alloc, pylock, FILES);
+    let pylock = with_usage(alloc, pylock, AUDIT);
+    let pylock = with_usage(alloc, pylock, VERSION_OF);
+    let pylock = with_usage(alloc, pylock, MATCH);
+    let pylock = with_usage(alloc, pylock, NAME);
+    let pylock = with_usage(alloc, pylock, MARKER);
+    let pylock = with_usage(alloc, pylock, REQUIREMENT);
+    with_usage(alloc, pylock, WHEEL)
 }
 
-/// The command `pylock` with one more subcommand, which takes the path of the lock and `--json`.
-fn with_lock<'a>(
-    alloc: Global,
-    pylock: Result<Command<'a>, AllocError>,
-    usage: Usage,
-) -> Result<Command<'a>, AllocError>
-    ensures { Adds (λ app. with_lock app usage.name.now) pylock.entry result }
+/// The command `pylock` without its subcommands.
+fn bare_command<'a>(alloc: Global) -> Command<'a>
+    ensures { app_of result ≡ top_app }
 {
-    with_subcommand(pylock?, lock_command(alloc, usage))
+    Command::new(alloc, "pylock").about(ABOUT).version(VERSION)
 }
 
-/// The command `pylock` with one more subcommand, which takes one text.
-fn with_one_text<'a>(
+/// The command `pylock` with one more subcommand.
+fn with_usage<'a>(
     alloc: Global,
     pylock: Result<Command<'a>, AllocError>,
     usage: Usage,
-    text: Text,
 ) -> Result<Command<'a>, AllocError>
-    ensures { Adds (λ app. with_one app usage.name.now text.id.now) pylock.entry result }
-{
-    with_subcommand(pylock?, one_text(alloc, usage, text))
-}
-
-/// The command `pylock` with one more subcommand, which takes two texts.
-fn with_two_texts<'a>(
-    alloc: Global,
-    pylock: Result<Command<'a>, AllocError>,
-    usage: Usage,
-    first: Text,
-    second: Text,
-) -> Result<Command<'a>, AllocError>
-    ensures { Adds (λ app. with_two app usage.name.now first.id.now second.id.now)
+    ensures { Adds (λ app. with_subcommand app (subcommand_app (subcommand usage)).top)
         pylock.entry result }
 {
-    with_subcommand(pylock?, two_texts(alloc, usage, first, second))
+    with_subcommand(pylock?, subcommand(alloc, usage))
 }
 
 /// The command `pylock` with one more subcommand.
@@ -520,45 +553,14 @@ fn with_subcommand<'a>(
     pylock.subcommand(subcommand?)
 }
 
-/// A subcommand that takes the paths of lock and environment, the options of `plan`, and `--json`.
-fn chosen<'a>(alloc: Global, usage: Usage) -> Result<Command<'a>, AllocError>
-    ensures app { IsCommand (chosen_app usage.name.now) result }
+/// A subcommand, which takes its texts and its options.
+fn subcommand<'a>(alloc: Global, usage: Usage) -> Result<Command<'a>, AllocError>
+    ensures app { IsCommand (subcommand_app (subcommand usage)) result }
     ensures local { IsLocal result }
 {
-    let command = two_texts(alloc, usage, LOCK, ENV);
-    let command = with_choices(alloc, command);
-    with_json(alloc, command)
-}
-
-/// A subcommand that takes the path of the lock and `--json`.
-fn lock_command<'a>(alloc: Global, usage: Usage) -> Result<Command<'a>, AllocError>
-    ensures app { IsCommand (lock_app usage.name.now) result }
-    ensures local { IsLocal result }
-{
-    let command = one_text(alloc, usage, LOCK);
-    with_json(alloc, command)
-}
-
-/// A subcommand that takes one text.
-fn one_text<'a>(alloc: Global, usage: Usage, text: Text) -> Result<Command<'a>, AllocError>
-    ensures app { IsCommand (one_text usage.name.now text.id.now) result }
-    ensures local { IsLocal result }
-{
-    with_text(alloc, Ok(without_texts(alloc, usage)), text)
-}
-
-/// A subcommand that takes two texts.
-fn two_texts<'a>(
-    alloc: Global,
-    usage: Usage,
-    first: Text,
-    second: Text,
-) -> Result<Command<'a>, AllocError>
-    ensures app { IsCommand (two_texts usage.name.now first.id.now second.id.now) result }
-    ensures local { IsLocal result }
-{
-    let command = one_text(alloc, usage, first);
-    with_text(alloc, command, second)
+    let command = with_text(alloc, Ok(without_texts(alloc, usage)), usage.first);
+    let command = with_second(alloc, command, usage.second);
+    with_options(alloc, command, usage.options)
 }
 
 /// A subcommand without its texts.
@@ -578,72 +580,51 @@ fn with_text<'a>(
     text: Text,
 ) -> Result<Command<'a>, AllocError>
     requires local { IsLocal command }
-    ensures app { Adds (λ app. with_rule app (place_rule text.id.now)) command.entry result }
+    ensures app { Adds (λ app. with_rule app (positional_rule text.id.now)) command.entry result }
     ensures local { IsLocal result }
 {
     with_argument(command, argument(alloc, text))
 }
 
+/// The command, which takes one more text, where there is one.
+fn with_second<'a>(
+    alloc: Global,
+    command: Result<Command<'a>, AllocError>,
+    text: Option<Text>,
+) -> Result<Command<'a>, AllocError>
+    requires local { IsLocal command }
+    ensures app { Adds (λ app. with_texts app (second_text text)) command.entry result }
+    ensures local { IsLocal result }
+{
+    match text {
+        Some(text) => with_text(alloc, command, text),
+        None => command,
+    }
+}
+
+/// The command with the options of a subcommand.
+fn with_options<'a>(
+    alloc: Global,
+    command: Result<Command<'a>, AllocError>,
+    options: Options,
+) -> Result<Command<'a>, AllocError>
+    requires local { IsLocal command }
+    ensures app { Adds (with_options options) command.entry result }
+    ensures local { IsLocal result }
+{
+    match options {
+        Options::Absent => command,
+        Options::Form => with_json(alloc, command),
+        Options::Choices => with_json(alloc, with_choices(alloc, command)),
+    }
+}
+
 /// The argument that a text is to clap.
 fn argument<'a>(alloc: Global, text: Text) -> Arg<'a>
-    ensures rule { rule_of result ≡ place_rule text.id.now }
+    ensures rule { rule_of result ≡ positional_rule text.id.now }
     ensures local { result.global ≡ false }
 {
     Arg::new(alloc, text.id).required(true).help(text.help)
-}
-
-/// Adds the run, the commands on the lock alone, and those on versions and names.
-fn with_first<'a>(
-    alloc: Global,
-    pylock: Result<Command<'a>, AllocError>,
-) -> Result<Command<'a>, AllocError>
-    ensures { Adds with_first pylock.entry result }
-{
-    let pylock = with_two_texts(alloc, pylock, SELECT, LOCK, ENV);
-    let pylock = with_lock(alloc, pylock, FILES);
-    let pylock = with_lock(alloc, pylock, AUDIT);
-    let pylock = with_one_text(alloc, pylock, VERSION_OF, VERSION_TEXT);
-    let pylock = with_two_texts(alloc, pylock, MATCH, SET, SET_VERSION);
-    with_one_text(alloc, pylock, NAME, NAME_TEXT)
-}
-
-/// Adds the commands on markers, requirements and wheels.
-fn with_further<'a>(
-    alloc: Global,
-    pylock: Result<Command<'a>, AllocError>,
-) -> Result<Command<'a>, AllocError>
-    ensures { Adds with_further pylock.entry result }
-{
-    let pylock = with_two_texts(alloc, pylock, MARKER, MARKER_TEXT, ENV);
-    let pylock = with_one_text(alloc, pylock, REQUIREMENT, REQUIREMENT_TEXT);
-    with_one_text(alloc, pylock, WHEEL, WHEEL_TEXT)
-}
-
-/// Adds the commands with the options of `plan`.
-fn with_chosen_commands<'a>(
-    alloc: Global,
-    pylock: Result<Command<'a>, AllocError>,
-) -> Result<Command<'a>, AllocError>
-    ensures { Adds with_chosen_commands pylock.entry result }
-{
-    let pylock = with_chosen(alloc, pylock, PLAN);
-    with_chosen(alloc, pylock, EXPLAIN)
-}
-
-/// The command `pylock` with its subcommands.
-fn pylock_command<'a>(alloc: Global) -> Result<Command<'a>, AllocError>
-    ensures { IsCommand pylock_app result }
-{
-    let pylock = with_chosen_commands(alloc, Ok(bare_command(alloc)));
-    let pylock = with_first(alloc, pylock);
-    with_further(alloc, pylock)
-}
-
-/// The command `pylock` without its subcommands.
-fn bare_command<'a>(alloc: Global) -> Command<'a>
-    ensures { app_of result ≡ top_app }
-{
-    Command::new(alloc, "pylock").about(ABOUT).version(VERSION)
 }
 
 /// The task that clap's matches give: none where a subcommand lacks a text.

@@ -7,13 +7,13 @@ use Rattle.std.proofs.lemmas.Slice.Eq.{bytes_eq-Decides}
 use Rattle.std.proofs.lemmas.Bool.{ne_eqb, eqb-true, eqb-false}
 use Rattle.std.proofs.lemmas.List.{get_or-map, get_or-set_same, get_or-set_other, length-map, length-set}
 use Rattle.std.specs.FinSet as set_of
-use Rattle.pyver_core.specs.Name.{norm}
+use Rattle.pyver_core.specs.Name.{normal_name}
 use Rattle.pymark_core.specs.Environment.{EnvironmentValue, Texts}
 use Rattle.pymark_core.specs.Marker.Keys.{key_number}
 use Rattle.pymark_core.specs.declared.marker.keys.Key.{Key}
 use Rattle.pymark_core.specs.declared.marker.keys.Key.TheVariants.{Of, Extras, Groups}
 use Rattle.pymark_core.specs.Marker.Value.{AgreeAt}
-use Rattle.pymark_core.specs.Variables.{place}
+use Rattle.pymark_core.specs.Variables.{variable_number}
 use Rattle.pymark_core.specs.declared.variable.Var.{Var}
 use Rattle.pymark_core.specs.declared.variable.Var.TheVariants as var
 use Rattle.pywheel_core.specs.Tag.{TagValue}
@@ -451,13 +451,13 @@ abbrev marked_key : IndexKey → Key
 marked_key (Marked key) = key
 marked_key OfTags = Extras
 
-one_place : (v w : Var) → place v ≡ place w → Of v ≡ Of w
-one_place v w same =
+one_number : (v w : Var) → variable_number v ≡ variable_number w → Of v ≡ Of w
+one_number v w same =
     sym (at_place marked_key Extras (Marked (Of v))) ∙ ap (λ n. get_or (map marked_key keys) n Extras) same ∙ at_place marked_key Extras (Marked (Of w))
 
 text_apart : (e : EnvironmentValue) (variable : Var) (text : Option (List ℕ)) (other : Key) → (other ≡ Of variable → ⊥)
-    → AgreeAt other e (record e { variables = set e.variables (place variable) text })
-text_apart e variable text (Of v) apart = sym (get_or-set_other e.variables (place variable) (place v) text None (λ same. apart (one_place v variable same)))
+    → AgreeAt other e (record e { variables = set e.variables (variable_number variable) text })
+text_apart e variable text (Of v) apart = sym (get_or-set_other e.variables (variable_number variable) (variable_number v) text None (λ same. apart (one_number v variable same)))
 text_apart e variable text Extras apart = refl
 text_apart e variable text Groups apart = refl
 
@@ -474,10 +474,10 @@ groups_apart e names Groups apart = absurd (apart refl)
 pub changed_differs : (change : Change) (e : EnvironmentValue) (other : Key) → (other ≡ key_of change → ⊥) → AgreeAt other e (changed change e)
 changed_differs (change.Set variable text) e other apart = text_apart e variable (Some text) other apart
 changed_differs (change.Unset variable) e other apart = text_apart e variable None other apart
-changed_differs (change.AddExtra name) e other apart = extras_apart e (set_of.insert e.extras (norm name)) other apart
-changed_differs (change.DropExtra name) e other apart = extras_apart e (set_of.remove e.extras (norm name)) other apart
-changed_differs (change.AddGroup name) e other apart = groups_apart e (set_of.insert e.groups (norm name)) other apart
-changed_differs (change.DropGroup name) e other apart = groups_apart e (set_of.remove e.groups (norm name)) other apart
+changed_differs (change.AddExtra name) e other apart = extras_apart e (set_of.insert e.extras (normal_name name)) other apart
+changed_differs (change.DropExtra name) e other apart = extras_apart e (set_of.remove e.extras (normal_name name)) other apart
+changed_differs (change.AddGroup name) e other apart = groups_apart e (set_of.insert e.groups (normal_name name)) other apart
+changed_differs (change.DropGroup name) e other apart = groups_apart e (set_of.remove e.groups (normal_name name)) other apart
 
 -- ---- a policy
 

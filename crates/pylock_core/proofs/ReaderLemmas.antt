@@ -4,7 +4,7 @@ use Rattle.std.specs.List.{filter}
 use Rattle.std.proofs.lemmas.Bool.{ne_eqb, lt-ltb, le-ltb}
 use Rattle.pylock_core.specs.Inner.Index.{put_in, take_out, moved}
 use Rattle.std.specs.Str.{bytes_eq}
-use Rattle.pyver_core.specs.Name.{norm}
+use Rattle.pyver_core.specs.Name.{normal_name}
 use Rattle.pymark_core.specs.declared.marker.keys.Key.TheVariants.{Of, Extras, Groups}
 use Rattle.pylock_core.specs.Session.State.{NumbersRise, Rises, State}
 use Rattle.pylock_core.specs.Inner.Rows.{in_rows, passes}
@@ -122,4 +122,4 @@ touched_rises (edit.Add entry) state rise = (omega arith, tt)
 touched_rises (edit.Put n entry) state rise = (omega arith, tt)
 touched_rises (edit.Del n) state rise = tt
 touched_rises (edit.Policy name policy) state rise =
-    rises_from 1 0 (touched (edit.Policy name policy) state) (omega arith) (filtered_rise (λ entry. bytes_eq (norm name) entry.name) 1 state.entries rise)
+    rises_from 1 0 (touched (edit.Policy name policy) state) (omega arith) (filtered_rise (λ entry. bytes_eq (normal_name name) entry.name) 1 state.entries rise)

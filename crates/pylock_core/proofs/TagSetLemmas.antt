@@ -12,8 +12,8 @@ use Rattle.pywheel_core.specs.Texts.{three_parts}
 use Rattle.pywheel_core.specs.Wheel.Reading.{set_tags_in, wheel_of}
 use Rattle.pywheel_core.specs.Wheel.Value.{WheelValue}
 use Rattle.pywheel_core.specs.declared.error.WheelError.{WheelError}
-use Rattle.pywheel_core.proofs.Choosing.{best_step}
-use Rattle.pywheel_core.proofs.WheelTags.{set_has_tags}
+use Rattle.pywheel_core.proofs.Lemmas.Choice.Steps.{best_step}
+use Rattle.pywheel_core.proofs.Lemmas.Wheel.TagSet.{set_has_tags}
 use Rattle.pylock_readers.specs.Entry.{EntryValue, FileValue, file_name, wheel_name, wheel_names}
 use Rattle.pylock_core.specs.Inner.Index.{list_at}
 use Rattle.pylock_core.specs.Inner.Again.{row_anew}

@@ -80,7 +80,7 @@ pub fn fault_stands()
 }
 
 /// What an edit makes of a state is never want of memory: only a call may answer it.
-pub fn answers_want_no_memory()
+pub fn answers_are_never_out_of_memory()
     ensures { (edit : Edit) (state : State) → apply edit state ≡ Err Memory → ⊥ }
 {}
 

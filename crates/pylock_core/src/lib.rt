@@ -11,20 +11,23 @@
 //! condition; a refused edit leaves the session as it was. [`Session::fates`] tells what becomes of
 //! each entry.
 //!
-//! A session, from `crates/pylock_core_tests/src/sessions.rt`:
+//! A session, from `crates/pylock_run/src/report/opening.rt`:
 //!
 //! ```rust
-//! let lock = Lock::read(alloc, lock.as_bytes())?;
-//! let (environment, tags) = read_environment(alloc, environment.as_bytes())?;
-//! Ok(Session::start(alloc, lock, environment, tags)?)
+//! let lock = match Lock::read(alloc, lock) {
+//!     Ok(lock) => lock,
+//! ..
+//! match read_environment(alloc, env) {
+//!     Ok((environment, tags)) => Ok(Session::start(alloc, lock, environment, tags)?),
+//! ..
 //! ```
 //!
-//! Its answer as text, from `crates/pylock_core_tests/src/sessions.rt` too:
+//! Its answer as text, from `crates/cases/src/sessions.rt`:
 //!
 //! ```rust
 //! match session.answer()? {
 //!     Answer::Fault { id, code } => format!(in alloc; "fault {id} {code:?}"),
-//!     Answer::Plan(plan) => plan_text(alloc, &plan),
+//!     Answer::Plan(plan) => plan_text(alloc, plan),
 //! }
 //! ```
 #![tactic(auto)]

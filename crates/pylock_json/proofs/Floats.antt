@@ -43,7 +43,7 @@ put_has_none k d (member l e ms) value members =
     (both (has_float d) (members_have_float ms) value rest)
     (both (has_float e) (members_have_float (put k d ms)) first (put_has_none k d ms value rest))
 
--- a value is pushed behind a list
+-- a value is pushed after a list
 pub push_has_none : (vs : List Value) (v : Value) → items_have_float (items_view vs) ≡ false
     → has_float (view v) ≡ false → items_have_float (items_view (vs ++ v ∷ [])) ≡ false
 push_has_none [] v items value = both (has_float (view v)) false value refl

@@ -21,7 +21,7 @@ pub fn floats_come_from_values()
     ensures texts { (texts : List (List ℕ)) → has_float (texts_of texts) ≡ false }
 {}
 
-/// Rows that stand behind others are put after them: a table may be put in parts.
+/// Rows that stand after others are put after them: a table may be put in parts.
 #[tactic(auto, using(crate::proofs::Rows::with_rows_behind))]
 pub fn rows_are_put_in_turn()
     ensures { (before after : List Row) (ms : Members)

@@ -10,44 +10,44 @@ use std::alloc::{AllocError, Global};
 use std::fmt;
 use toml::{Table, Value};
 
-/// An entry by its place, from 1, and by its name as written, where that is a name.
+/// An entry by its position, from 1, and by its name as written, where that is a name.
 #[derive(Clone, Copy)]
 struct Entry<'a> {
-    place: usize,
+    position: usize,
     name: Option<&'a str>,
 }
 
 impl fmt::Display for Entry<'_> {
     fn fmt<W: fmt::Write>(&self, f: &mut fmt::Formatter<W>) -> fmt::Result {
-        let place = self.place;
+        let position = self.position;
         match self.name {
-            Some(name) => write!(f, "entry {place} (`{name}`)"),
-            None => write!(f, "entry {place}"),
+            Some(name) => write!(f, "entry {position} (`{name}`)"),
+            None => write!(f, "entry {position}"),
         }
     }
 }
 
-/// Why the entry at this place of the document, from 1, is refused.
+/// Why the entry at this position of the document, from 1, is refused.
 pub(crate) fn entry_message(
     alloc: Global,
     name: &str,
     document: &Table,
-    place: usize,
+    position: usize,
     refusal: &EntryError,
 ) -> Result<Option<String>, AllocError> {
-    match value_at(document, place) {
-        Some(Value::Table(table)) => table_message(alloc, name, table, place, refusal),
+    match value_at(document, position) {
+        Some(Value::Table(table)) => table_message(alloc, name, table, position, refusal),
         Some(value) => {
             let fault = Fault::IsNot(Form::Table, Shown::toml(Some(value)));
-            Ok(Some(format!(in alloc; "{name}: entry {place} {fault}")?))
+            Ok(Some(format!(in alloc; "{name}: entry {position} {fault}")?))
         }
         None => Ok(None),
     }
 }
 
-fn value_at(document: &Table, place: usize) -> Option<&Value> {
+fn value_at(document: &Table, position: usize) -> Option<&Value> {
     match document.get("packages") {
-        Some(Value::Array(entries)) => entries.get(place.checked_sub(1)?),
+        Some(Value::Array(entries)) => entries.get(position.checked_sub(1)?),
         _ => None,
     }
 }
@@ -56,14 +56,14 @@ fn table_message(
     alloc: Global,
     name: &str,
     table: &Table,
-    place: usize,
+    position: usize,
     refusal: &EntryError,
 ) -> Result<Option<String>, AllocError> {
     let Some(wrong) = wrong_key(table, refusal) else {
         return Ok(None);
     };
     let entry = Entry {
-        place,
+        position,
         name: name_of(table),
     };
     Ok(Some(format!(in alloc; "{name}: {entry}: {wrong}")?))

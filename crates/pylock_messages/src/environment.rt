@@ -13,9 +13,9 @@ use std::alloc::{AllocError, Global};
 /// Why the text is refused as an environment, in a line for a person, without LF; `name` is the
 /// name given for the file. Nothing where it isn't refused.
 ///
-/// The line tells the byte that is no UTF-8, the line and column where the text is no JSON, the
+/// The line names the byte that is no UTF-8, the line and column where the text is no JSON, the
 /// first part of another shape, or the first text that is no tag. The text is read again where it
-/// is refused. No contract says what the line tells.
+/// is refused. No contract says what the line says.
 pub fn environment_message(
     alloc: Global,
     name: &str,
@@ -59,7 +59,7 @@ fn value_message(
     refusal: &EnvError,
 ) -> Result<Option<String>, AllocError> {
     match refusal {
-        EnvError::Tag(place) => tag_message(alloc, name, value, *place),
+        EnvError::Tag(position) => tag_message(alloc, name, value, *position),
         _ => match wrong_shape(value) {
             Some(wrong) => Ok(Some(format!(in alloc; "{name}: {wrong}")?)),
             None => Ok(None),
@@ -71,18 +71,20 @@ fn tag_message(
     alloc: Global,
     name: &str,
     value: &Value,
-    place: usize,
+    position: usize,
 ) -> Result<Option<String>, AllocError> {
-    let Some(tag) = tag_at(value, place) else {
+    let Some(tag) = tag_at(value, position) else {
         return Ok(None);
     };
     let tag = Shown::json(Some(tag));
-    let line = format!(in alloc; "{name}: tag {place} {tag} is not a tag (python-abi-platform)")?;
+    let line = format!(in alloc;
+        "{name}: tag {position} {tag} is not a tag (python-abi-platform)"
+    )?;
     Ok(Some(line))
 }
 
-fn tag_at(value: &Value, place: usize) -> Option<&Value> {
-    value.get("tags")?.get(place.checked_sub(1)?)
+fn tag_at(value: &Value, position: usize) -> Option<&Value> {
+    value.get("tags")?.get(position.checked_sub(1)?)
 }
 
 /// The part that has another shape, the first in the order in which they are read.

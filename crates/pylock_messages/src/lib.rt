@@ -13,7 +13,7 @@
 //! ```rust
 //! let lock = files::lock(alloc, case)?;
 //! let name = name(alloc, case, "LOCK")?;
-//! Ok(told(alloc, lock_message(alloc, name.as_str(), &lock)?)?)
+//! Ok(message_or_none(alloc, lock_message(alloc, name.as_str(), &lock)?)?)
 //! ```
 #![tactic(auto)]
 

@@ -15,9 +15,9 @@ use toml::{Table, Value};
 /// Why the text is refused as a lock, in a line for a person, without LF; `name` is the name given
 /// for the file. Nothing where it isn't refused.
 ///
-/// The line tells the byte that is no UTF-8, the line and column where the text is no TOML, or the
+/// The line names the byte that is no UTF-8, the line and column where the text is no TOML, or the
 /// first wrong key, with its entry and what stands there. The text is read again where it is
-/// refused. No contract says what the line tells.
+/// refused. No contract says what the line says.
 pub fn lock_message(alloc: Global, name: &str, lock: &[u8]) -> Result<Option<String>, AllocError> {
     match Lock::read(alloc, lock) {
         Ok(_) => Ok(None),
@@ -58,7 +58,9 @@ fn document_message(
 ) -> Result<Option<String>, AllocError> {
     match refusal {
         LockError::TooMany => Ok(Some(format!(in alloc; "{name}: more than 100000 entries")?)),
-        LockError::Entry(place, refusal) => entry_message(alloc, name, document, *place, refusal),
+        LockError::Entry(position, refusal) => entry_message(
+            alloc, name, document, *position, refusal,
+        ),
         _ => match wrong_key(alloc, document, refusal)? {
             Some(wrong) => Ok(Some(format!(in alloc; "{name}: {wrong}")?)),
             None => Ok(None),
@@ -142,9 +144,9 @@ fn is_marker(alloc: Global, value: &Value) -> Result<bool, AllocError> {
     }
 }
 
-fn member<'a>(key: &'static str, place: usize, form: Form, value: &'a Value) -> Wrong<'a> {
+fn member<'a>(key: &'static str, position: usize, form: Form, value: &'a Value) -> Wrong<'a> {
     Wrong {
-        part: Part::Member(key, place),
+        part: Part::Member(key, position),
         fault: Fault::IsNot(form, Shown::toml(Some(value))),
     }
 }

@@ -11,7 +11,7 @@ const MOST_CHARACTERS: usize = 60;
 const MOST_BYTES: usize = 247;
 
 /// What stands where something else is to stand: a text between backquotes, and another value as
-/// TOML or JSON on one line; of a long one its front.
+/// TOML or JSON on one line; of a long one its prefix.
 #[derive(Clone, Copy)]
 pub(crate) enum Shown<'a> {
     Nothing,
@@ -46,21 +46,21 @@ impl fmt::Display for Shown<'_> {
             Shown::Nothing => f.write_str("nothing"),
             Shown::Text(text) => write_quoted(f, text),
             Shown::Toml(value) => {
-                write_front(f, InlineText::<MOST_BYTES>::of(OneLine(value)).as_str())
+                write_prefix(f, InlineText::<MOST_BYTES>::of(OneLine(value)).as_str())
             }
-            Shown::Json(value) => write_front(f, InlineText::<MOST_BYTES>::of(*value).as_str()),
+            Shown::Json(value) => write_prefix(f, InlineText::<MOST_BYTES>::of(*value).as_str()),
         }
     }
 }
 
 fn write_quoted<W: Write>(f: &mut Formatter<W>, text: &str) -> fmt::Result {
     f.write_str("`")?;
-    write_front(f, text)?;
+    write_prefix(f, text)?;
     f.write_str("`")
 }
 
 /// Writes the text, or of a long one its first characters and three dots.
-fn write_front<W: Write>(f: &mut Formatter<W>, text: &str) -> fmt::Result {
+fn write_prefix<W: Write>(f: &mut Formatter<W>, text: &str) -> fmt::Result {
     for character in text.chars().take(MOST_CHARACTERS) {
         f.write_char(character)?;
     }

@@ -72,17 +72,17 @@ fn first_wrong_wheel(wheels: &[Value]) -> Option<Wrong<'_>> {
     None
 }
 
-fn wrong_wheel(place: usize, wheel: &Value) -> Option<Wrong<'_>> {
+fn wrong_wheel(position: usize, wheel: &Value) -> Option<Wrong<'_>> {
     let Value::Table(file) = wheel else {
         return Some(Wrong {
-            part: Part::Wheel(place),
+            part: Part::Wheel(position),
             fault: Fault::IsNot(Form::Table, Shown::toml(Some(wheel))),
         });
     };
     let Misfit { key, fault } = misfit_of_file(file)?;
     let part = match key {
-        Some(key) => Part::OfWheel(place, key),
-        None => Part::Wheel(place),
+        Some(key) => Part::OfWheel(position, key),
+        None => Part::Wheel(position),
     };
     Some(Wrong { part, fault })
 }

@@ -40,13 +40,13 @@ pub(crate) fn json_message(
     }
     let line = fault.line();
     let rest = from_line(text.as_bytes(), line);
-    let front = &rest[..fault.column().min(rest.len())];
-    let front = if line == 1 {
-        without_mark(front)
+    let prefix = &rest[..fault.column().min(rest.len())];
+    let prefix = if line == 1 {
+        without_mark(prefix)
     } else {
-        front
+        prefix
     };
-    let column = characters(front).max(1);
+    let column = characters(prefix).max(1);
     let words = json_words(alloc, fault)?;
     Ok(Some(format!(in alloc; "{name}:{line}:{column}: {words}")?))
 }
@@ -55,8 +55,8 @@ pub(crate) fn json_message(
 fn json_words(alloc: Global, fault: serde_json::Error) -> Result<String, AllocError> {
     let (line, column) = (fault.line(), fault.column());
     let words = format!(in alloc; "{fault}")?;
-    let place = format!(in alloc; " at line {line} column {column}")?;
-    match words.strip_suffix(place.as_str()) {
+    let position = format!(in alloc; " at line {line} column {column}")?;
+    match words.strip_suffix(position.as_str()) {
         Some(words) => String::from_str(alloc, words),
         None => Ok(words),
     }
@@ -70,7 +70,7 @@ fn ends_of_lines(bytes: &[u8]) -> usize {
     bytes.iter().filter(|byte| **byte == b'\n').count()
 }
 
-/// What stands behind the last LF.
+/// What stands after the last LF.
 fn last_line(bytes: &[u8]) -> &[u8] {
     bytes.rsplit(|byte| *byte == b'\n').next().unwrap_or(bytes)
 }

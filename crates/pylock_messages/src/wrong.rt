@@ -13,7 +13,7 @@ pub(crate) struct Wrong<'a> {
     pub(crate) fault: Fault<'a>,
 }
 
-/// A part, by its keys and by its places, which count from 1.
+/// A part, by its keys and by its positions, which count from 1.
 #[derive(Clone, Copy)]
 pub(crate) enum Part {
     /// The whole text.
@@ -59,10 +59,10 @@ impl fmt::Display for Part {
         match self {
             Part::Document => f.write_str("the document"),
             Part::Key(key) => write!(f, "`{key}`"),
-            Part::Member(key, place) => write!(f, "`{key} {place}`"),
+            Part::Member(key, position) => write!(f, "`{key} {position}`"),
             Part::Inner(outer, key) => write!(f, "`{outer} {key}`"),
-            Part::Wheel(place) => write!(f, "wheel {place}"),
-            Part::OfWheel(place, key) => write!(f, "wheel {place}: `{key}`"),
+            Part::Wheel(position) => write!(f, "wheel {position}"),
+            Part::OfWheel(position, key) => write!(f, "wheel {position}: `{key}`"),
         }
     }
 }

@@ -6,11 +6,11 @@ use Rattle.pylock_readers.specs.Entry.{EntryValue}
 use Rattle.pylock_core.specs.Session.Picks.{SourceValue, OfVcs, OfDirectory, OfArchive, OfSdist, source_in}
 use Rattle.pylock_core.specs.declared.answer.PickSource.TheVariants as source
 use Rattle.pylock_run.specs.Text.Picked.{picked_fields}
-use Rattle.pylock_program.specs.Text.Files.{each_source, where_there}
+use Rattle.pylock_program.specs.Text.Files.{each_source, optional_source}
 use Rattle.pylock_run.specs.Text.Plan.{archive_fields, directory_fields, file_fields, source_line, vcs_fields}
 
 made_there : {X : Type 0} (made : X → SourceValue) (fields : X → List (List ℕ)) → ((x : X) → picked_fields (made x) ≡ fields x)
-    → (o : Option X) → where_there picked_fields (option_map made o) ≡ where_there fields o
+    → (o : Option X) → optional_source picked_fields (option_map made o) ≡ optional_source fields o
 made_there made fields same None = refl
 made_there made fields same (Some x) = ap (λ (f : List (List ℕ)). f ∷ []) (same x)
 
@@ -27,10 +27,10 @@ module _ (number : ℕ) (entry : EntryValue) (old vcs directory archive wheels s
   lines = map (source_line number entry)
 
   abbrev there : Option SourceValue → List (List ℕ)
-  there found = lines (where_there picked_fields found)
+  there found = lines (optional_source picked_fields found)
 
   seen : {X : Type 0} (made : X → SourceValue) (fields : X → List (List ℕ)) → ((x : X) → picked_fields (made x) ≡ fields x) → (o : Option X) (before after : List (List ℕ))
-      → after ≡ before ++ there (option_map made o) → after ≡ before ++ lines (where_there fields o)
+      → after ≡ before ++ there (option_map made o) → after ≡ before ++ lines (optional_source fields o)
   seen made fields same o before after is = is ∙ ap (λ t. before ++ lines t) (made_there made fields same o)
 
   pub sources_named : vcs ≡ old ++ there (source_in entry source.Vcs) → directory ≡ vcs ++ there (source_in entry source.Directory)

@@ -3,7 +3,7 @@ use Rattle.std.proofs.Common.{◌≡◌, ℕ, List, [], ◌∷◌, map, length, 
 use Rattle.std.specs.List.{join_by}
 use Rattle.std.specs.Prelude.{◌==◌, codes}
 use Rattle.std.proofs.lemmas.Bool.{false≢true}
-use Rattle.pyver_core.specs.Name.{norm}
+use Rattle.pyver_core.specs.Name.{normal_name}
 use Rattle.pylock_readers.proofs.Joined.{joined_texts}
 use Rattle.pylock_program.specs.Reply.{names_text}
 
@@ -13,6 +13,6 @@ pub joined_alike : {X Y : Type 0} (f : X → List ℕ) (g : Y → List ℕ) (sep
 joined_alike f g sep xs ys same = joined_texts f sep xs ∙ ap (join_by (λ t. t) sep) same ∙ sym (joined_texts g sep ys)
 
 -- names that there are
-pub some_names : {X : Type 0} (f : X → List ℕ) (xs : List X) → (length xs == 0) ≡ false → names_text (map f xs) ≡ Some (join_by norm (codes ",") (map f xs))
+pub some_names : {X : Type 0} (f : X → List ℕ) (xs : List X) → (length xs == 0) ≡ false → names_text (map f xs) ≡ Some (join_by normal_name (codes ",") (map f xs))
 some_names f [] none = absurd (false≢true (sym none))
 some_names f (x ∷ xs) some = refl

@@ -8,7 +8,7 @@ use Rattle.pytext.specs.Results.{◌>>=◌}
 use Rattle.pyver_core.specs.Name.{is_name}
 use Rattle.pymark_core.specs.Variables.{variable_of}
 use Rattle.pywheel_core.specs.Texts.{cut_at}
-use Rattle.pylock_command.specs.Choices.{written}
+use Rattle.pylock_command.specs.Choices.{option_words}
 use Rattle.pylock_command.specs.declared.choice.Choice.{Choice}
 use Rattle.pylock_command.specs.declared.choice.Choice.TheVariants as choice
 use Rattle.pylock_core.specs.Session.State.{State, apply}
@@ -21,7 +21,7 @@ use Rattle.pylock_core.specs.declared.edit.Policy.TheVariants.{Wheel, Source}
 use Rattle.pylock_command.specs.declared.form.Form.{Form}
 use Rattle.pylock_command.specs.declared.form.Form.TheVariants.{Lines, Json}
 use Rattle.pylock_documents.specs.Documents.{answer_rows, explain_rows}
-use Rattle.pylock_run.specs.Report.{Report, is_plan, standing_text}
+use Rattle.pylock_run.specs.Report.{Report, is_plan, current_answer_text}
 use Rattle.pylock_program.specs.Text.Explain.{explain_text}
 use Rattle.pylock_run.specs.Text.Field.{field, line_of}
 use Rattle.pylock_program.specs.Text.Json.{json_text, option_json, refusal_json}
@@ -33,15 +33,15 @@ use Rattle.pylock_run.specs.declared.report.opening.OpenError.{OpenError}
 -- ---- the edits that an option means
 
 -- the edit of a text, where that is a name
-abbrev pub named : (List ℕ → Edit) → List ℕ → Option (List Edit)
-named edit name = if is_name name then Some (edit name ∷ []) else None
+abbrev pub edit_of_name : (List ℕ → Edit) → List ℕ → Option (List Edit)
+edit_of_name edit name = if is_name name then Some (edit name ∷ []) else None
 
 -- a policy of the name, or with `:all:` of the name of each entry
 abbrev pub policies : State → Policy → List ℕ → Option (List Edit)
 policies state policy text =
     if bytes_eq text (codes ":all:")
     then Some (map (λ entry. edit.Policy entry.1.name policy) state.entries)
-    else named (λ name. edit.Policy name policy) text
+    else edit_of_name (λ name. edit.Policy name policy) text
 
 -- `VARIABLE=VALUE`, cut at the first `=`, which has to be there
 abbrev pub set_variable : List ℕ → Option (List Edit)
@@ -52,12 +52,12 @@ set_variable text =
 -- the edits of an option, in order; none where its text is none
 abbrev pub edits_of : State → Choice → Option (List Edit)
 edits_of state choice.AllExtras = Some (map edit.AddExtra state.head.extras)
-edits_of state (choice.Extra name) = named edit.AddExtra name.now
+edits_of state (choice.Extra name) = edit_of_name edit.AddExtra name.now
 edits_of state choice.NoDefaultGroups = Some (map edit.DropGroup state.head.default_groups)
 edits_of state choice.AllGroups =
     Some (map edit.AddGroup state.head.groups ++ map edit.AddGroup state.head.default_groups)
-edits_of state (choice.Group name) = named edit.AddGroup name.now
-edits_of state (choice.NoGroup name) = named edit.DropGroup name.now
+edits_of state (choice.Group name) = edit_of_name edit.AddGroup name.now
+edits_of state (choice.NoGroup name) = edit_of_name edit.DropGroup name.now
 edits_of state (choice.OnlyBinary name) = policies state Wheel name.now
 edits_of state (choice.NoBinary name) = policies state Source name.now
 edits_of state (choice.Set text) = set_variable text.now
@@ -83,12 +83,12 @@ after_choices (choice ∷ choices) state =
 -- ---- what is printed
 
 -- an option that is refused: its word, without the dashes, and its text
-abbrev pub refused_option : Choice → List ℕ
-refused_option choice =
-    line_of (codes "refused") ((written choice).0 ∷ field (written choice).1 ∷ [])
+abbrev pub option_refusal_text : Choice → List ℕ
+option_refusal_text choice =
+    line_of (codes "refused") ((option_words choice).0 ∷ field (option_words choice).1 ∷ [])
 
 abbrev pub option_shown : Form → Choice → List ℕ
-option_shown Lines choice = refused_option choice
+option_shown Lines choice = option_refusal_text choice
 option_shown Json choice = option_json choice
 
 -- a refused lock or environment
@@ -98,7 +98,7 @@ refusal_shown Json refusal = refusal_json refusal
 
 -- the answer, and what becomes of each entry
 abbrev pub plan_shown : Form → State → List ℕ
-plan_shown Lines state = standing_text state
+plan_shown Lines state = current_answer_text state
 plan_shown Json state = json_text (answer_rows state (answer state))
 
 abbrev pub explain_shown : Form → State → List ℕ
@@ -110,9 +110,9 @@ view_shown Plan = plan_shown
 view_shown Explain = explain_shown
 
 -- what is printed of the state after the options, or the first option that is refused
-abbrev pub chosen_report : Form → (State → List ℕ) → Result State Choice → Report
-chosen_report form text (Err choice) = record { text = option_shown form choice; status = 1 }
-chosen_report form text (Ok state) = record {
+abbrev pub report_of_choices : Form → (State → List ℕ) → Result State Choice → Report
+report_of_choices form text (Err choice) = record { text = option_shown form choice; status = 1 }
+report_of_choices form text (Ok state) = record {
   text = text state;
   status = if is_plan (answer state) then 0 else 1;
 }
@@ -125,7 +125,7 @@ report_after form text (Err refusal) choices = record {
   status = 2;
 }
 report_after form text (Ok state) choices =
-    chosen_report form text (after_choices choices state)
+    report_of_choices form text (after_choices choices state)
 
 -- the report of `plan`: the answer
 abbrev pub plan_report : Form → Result State OpenError → List Choice → Report

@@ -6,7 +6,7 @@ use Rattle.pylock_command.specs.declared.command_line.Task.TheVariants as task
 use Rattle.pylock_program.specs.Choices.{explain_report, plan_report}
 use Rattle.pylock_program.specs.Reply.{audit_answer, files_answer, marker_answer, reply, reply_of}
 use Rattle.pylock_run.specs.Files.{Reads}
-use Rattle.pylock_run.specs.Report.{Report, opened}
+use Rattle.pylock_run.specs.Report.{Report, open_state}
 use Rattle.pylock_run.specs.Report.Print.{Prints}
 use Rattle.pylock_run.specs.Report.Run.{IsRun}
 use Rattle.pylock_run.specs.Stream.{SourceValue, SinkValue}
@@ -64,13 +64,13 @@ abbrev pub Outcome : Type 1
 Outcome = SourceValue → SourceValue → SinkValue → SinkValue → Result ℕ Failure → Type 0
 
 -- the end of a run or of a reply, whose fault is told as a failure
-abbrev pub told : Result ℕ RunFault → Result ℕ Failure
-told end = result_map_both (λ status. status) run_failure end
+abbrev pub program_end : Result ℕ RunFault → Result ℕ Failure
+program_end end = result_map_both (λ status. status) run_failure end
 
 pub record Tells (IsEnd : Result ℕ RunFault → Type 0) (result : Result ℕ Failure) : Type 0 where
   pub end : Result ℕ RunFault
   pub is_end : IsEnd end
-  pub tells : result ≡ told end
+  pub tells : result ≡ program_end end
 
 -- a report is printed, and standard input isn't read
 abbrev pub Replies : Report → Outcome
@@ -80,7 +80,7 @@ Replies report source source' sink sink' result =
 -- a run
 abbrev pub Runs : List ℕ → List ℕ → Outcome
 Runs lock environment source source' sink sink' result =
-    Tells (IsRun (opened lock environment) source source' sink sink') result
+    Tells (IsRun (open_state lock environment) source source' sink sink') result
 
 -- what the bytes of a file lead to; a fault of the file is told, and nothing else is done
 abbrev pub LeadsTo : (FileFault → Failure) → (List ℕ → Outcome) → Result (List ℕ) FileFault
@@ -128,10 +128,10 @@ Performs gives (task.Select lock environment) =
     Opens gives lock.now (λ lock. Opens gives environment.now (Runs lock))
 Performs gives (task.Plan lock environment choices form) =
     OpensNamed gives lock.now (λ lock. OpensNamed gives environment.now
-    (λ environment. Replies (plan_report form (opened lock environment) choices.items)))
+    (λ environment. Replies (plan_report form (open_state lock environment) choices.items)))
 Performs gives (task.Explain lock environment choices form) =
     OpensNamed gives lock.now (λ lock. OpensNamed gives environment.now
-    (λ environment. Replies (explain_report form (opened lock environment) choices.items)))
+    (λ environment. Replies (explain_report form (open_state lock environment) choices.items)))
 Performs gives (task.Files lock form) =
     OpensNamed gives lock.now (λ bytes. Replies (reply_of (files_answer form bytes)))
 Performs gives (task.Audit lock form) =

@@ -3,12 +3,12 @@ use Rattle.std.specs.Prelude.{ℕ, Bool, true, false, if◌then◌else◌, List,
 use Rattle.std.specs.Prelude.{Option, Some, None, option_map, Result, Ok, Err}
 use Rattle.std.specs.List.{join_by}
 use Rattle.std.specs.Result.{result_map_both}
-use Rattle.pyver_core.specs.Name.{is_name, norm}
+use Rattle.pyver_core.specs.Name.{is_name, normal_name}
 use Rattle.pyver_core.specs.Parsed.{parsed_version, parsed_set}
 use Rattle.pytext.specs.Results.{◌>>=◌}
 use Rattle.pyver_core.specs.Set.Admission.{admits_all}
 use Rattle.pyver_core.specs.Set.Normal.{set_text}
-use Rattle.pyver_core.specs.Version.Normal.{normal}
+use Rattle.pyver_core.specs.Version.Normal.{normal_text}
 use Rattle.pyver_core.specs.declared.set.error.SpecifierError.{SpecifierError}
 use Rattle.pyver_core.specs.declared.set.error.SpecifierError.TheVariants as specifier
 use Rattle.pyver_core.specs.declared.set.specifier.Specifier.{Specifier}
@@ -54,21 +54,21 @@ use Rattle.pylock_program.specs.declared.reply.queries.Query.TheVariants as quer
 -- ---- what is printed in place of an answer
 
 -- `refused` and a word
-abbrev pub refused : List ℕ → Report
-refused word = record { text = line_of (codes "refused") (word ∷ []); status = 1 }
+abbrev pub refusal_report : List ℕ → Report
+refusal_report word = record { text = line_of (codes "refused") (word ∷ []); status = 1 }
 
 -- `fault` and its code
-abbrev pub faulty : FaultCode → Report
-faulty code = record { text = line_of (codes "fault") (fault_word code ∷ []); status = 1 }
+abbrev pub fault_report : FaultCode → Report
+fault_report code = record { text = line_of (codes "fault") (fault_word code ∷ []); status = 1 }
 
 -- a refused environment, as a run prints it
-abbrev pub unread : EnvError → Report
-unread error = record { text = environment_text error; status = 2 }
+abbrev pub refused_environment : EnvError → Report
+refused_environment error = record { text = environment_text error; status = 2 }
 
--- a step of an answer, or what is printed in its place; want of memory is no refusal, and is never
+-- a step of an answer, or what is printed in its place; out of memory is no refusal, and is never
 -- printed
-abbrev pub or_else : {V E : Type 0} → (E → Report) → Result V E → Result V Report
-or_else report step = result_map_both (λ v. v) report step
+abbrev pub or_report : {V E : Type 0} → (E → Report) → Result V E → Result V Report
+or_report report step = result_map_both (λ v. v) report step
 
 -- ---- answers: the fields of one line
 
@@ -80,8 +80,8 @@ version_word version.Memory = codes "memory"
 
 abbrev pub version_answer : List ℕ → Result (List ℕ) Report
 version_answer text = do
-  v ← or_else (λ e. refused (version_word e)) (parsed_version text)
-  Ok (line_of (field (Some (normal v))) [])
+  v ← or_report (λ e. refusal_report (version_word e)) (parsed_version text)
+  Ok (line_of (field (Some (normal_text v))) [])
 
 -- `match SET VERSION`: whether the set admits the version
 abbrev pub set_word : SpecifierError → List ℕ
@@ -89,10 +89,10 @@ set_word specifier.Syntax = codes "set-syntax"
 set_word specifier.NumberTooLarge = codes "set-number"
 set_word specifier.Memory = codes "memory"
 
-abbrev pub matched_word : VersionError → List ℕ
-matched_word version.Syntax = codes "version-syntax"
-matched_word version.NumberTooLarge = codes "version-number"
-matched_word version.Memory = codes "memory"
+abbrev pub match_word : VersionError → List ℕ
+match_word version.Syntax = codes "version-syntax"
+match_word version.NumberTooLarge = codes "version-number"
+match_word version.Memory = codes "memory"
 
 abbrev pub truth_word : Bool → List ℕ
 truth_word true = codes "true"
@@ -100,20 +100,20 @@ truth_word false = codes "false"
 
 abbrev pub admits_answer : List Specifier → List ℕ → Result (List ℕ) Report
 admits_answer specifiers text = do
-  v ← or_else (λ e. refused (matched_word e)) (parsed_version text)
+  v ← or_report (λ e. refusal_report (match_word e)) (parsed_version text)
   Ok (line_of (truth_word (admits_all specifiers v)) [])
 
 abbrev pub match_answer : List ℕ → List ℕ → Result (List ℕ) Report
 match_answer set text = do
-  specifiers ← or_else (λ e. refused (set_word e)) (parsed_set set)
+  specifiers ← or_report (λ e. refusal_report (set_word e)) (parsed_set set)
   admits_answer specifiers text
 
 -- `name TEXT`: the normal form
 abbrev pub name_answer : List ℕ → Result (List ℕ) Report
 name_answer text =
     if is_name text
-    then Ok (line_of (field (Some (norm text))) [])
-    else Err (refused (codes "name"))
+    then Ok (line_of (field (Some (normal_name text))) [])
+    else Err (refusal_report (codes "name"))
 
 -- `marker TEXT ENV`: whether the marker is true; its text is judged before the environment
 abbrev pub marker_word : MarkerError → List ℕ
@@ -125,19 +125,20 @@ marker_word marker.Memory = codes "memory"
 -- the value in an environment
 abbrev pub value_answer : MarkerValue → EnvironmentValue → Result (List ℕ) Report
 value_answer marker environment = do
-  value ← or_else (λ fault. faulty (fault_code fault)) (marker_value environment marker.tree)
+  value ← or_report (λ fault. fault_report (fault_code fault))
+      (marker_value environment marker.tree)
   Ok (line_of (truth_word value) [])
 
 -- the environment that is read has no extra and no group
-abbrev pub judged_answer : MarkerValue → List ℕ → Result (List ℕ) Report
-judged_answer marker bytes = do
-  read ← or_else unread (env_of bytes)
+abbrev pub marker_answer_in : MarkerValue → List ℕ → Result (List ℕ) Report
+marker_answer_in marker bytes = do
+  read ← or_report refused_environment (env_of bytes)
   value_answer marker read.0
 
 abbrev pub marker_answer : List ℕ → List ℕ → Result (List ℕ) Report
 marker_answer text bytes = do
-  marker ← or_else (λ e. refused (marker_word e)) (marker_of text)
-  judged_answer marker bytes
+  marker ← or_report (λ e. refusal_report (marker_word e)) (marker_of text)
+  marker_answer_in marker bytes
 
 -- `requirement TEXT`: name, extras, specifier set, URL, marker
 abbrev pub requirement_word : RequirementError → List ℕ
@@ -152,7 +153,7 @@ requirement_word requirement.Memory = codes "memory"
 -- names in normal form, joined by `,`, absent where there are none
 abbrev pub names_text : List (List ℕ) → Option (List ℕ)
 names_text [] = None
-names_text (name ∷ names) = Some (join_by norm (codes ",") (name ∷ names))
+names_text (name ∷ names) = Some (join_by normal_name (codes ",") (name ∷ names))
 
 -- the normal text of a specifier set, absent where it is empty
 abbrev pub specifiers_text : List Specifier → Option (List ℕ)
@@ -161,13 +162,13 @@ specifiers_text (specifier ∷ specifiers) = Some (set_text (specifier ∷ speci
 
 abbrev pub requirement_line : RequirementValue → List ℕ
 requirement_line parts =
-    line_of (field (Some (norm parts.name)))
+    line_of (field (Some (normal_name parts.name)))
     (field (names_text parts.extras) ∷ field (specifiers_text parts.set) ∷ field parts.url
     ∷ field (option_map (λ marker. marker.text) parts.marker) ∷ [])
 
 abbrev pub requirement_answer : List ℕ → Result (List ℕ) Report
 requirement_answer text = do
-  parts ← or_else (λ e. refused (requirement_word e)) (requirement_of text)
+  parts ← or_report (λ e. refusal_report (requirement_word e)) (requirement_of text)
   Ok (requirement_line parts)
 
 -- `wheel TEXT`: name, version, build, tags
@@ -182,20 +183,20 @@ wheel_word wheel.Memory = codes "memory"
 
 abbrev pub wheel_line : WheelValue → List ℕ
 wheel_line parts =
-    line_of (field (Some (norm parts.name)))
-    (field (Some (normal parts.version)) ∷ field parts.build
+    line_of (field (Some (normal_name parts.name)))
+    (field (Some (normal_text parts.version)) ∷ field parts.build
     ∷ field (Some (join_by tag_text (codes " ") parts.tags)) ∷ [])
 
 abbrev pub wheel_answer : List ℕ → Result (List ℕ) Report
 wheel_answer text = do
-  parts ← or_else (λ e. refused (wheel_word e)) (wheel_of text)
+  parts ← or_report (λ e. refusal_report (wheel_word e)) (wheel_of text)
   Ok (wheel_line parts)
 
 -- ---- answers on a lock, as lines or as a document
 
-abbrev pub unread_lock : Form → LockError → Report
-unread_lock Lines error = record { text = lock_text error; status = 2 }
-unread_lock Json error = record { text = lock_json error; status = 2 }
+abbrev pub refused_lock : Form → LockError → Report
+refused_lock Lines error = record { text = lock_text error; status = 2 }
+refused_lock Json error = record { text = lock_json error; status = 2 }
 
 -- `files LOCK`: every source that the lock names
 abbrev pub files_shown : Form → List EntryValue → List ℕ
@@ -204,7 +205,7 @@ files_shown Json entries = json_text (files_rows entries)
 
 abbrev pub files_answer : Form → List ℕ → Result (List ℕ) Report
 files_answer form bytes = do
-  lock ← or_else (unread_lock form) (lock_of bytes)
+  lock ← or_report (refused_lock form) (lock_of bytes)
   Ok (files_shown form lock.entries)
 
 -- `audit LOCK`: what a careful reader would want to be told; status 1 where that is something
@@ -212,13 +213,13 @@ abbrev pub findings_shown : Form → List FoundValue → List ℕ
 findings_shown Lines found = findings_text found
 findings_shown Json found = json_text (findings_rows found)
 
-abbrev pub found_answer : Form → List FoundValue → Result (List ℕ) Report
-found_answer form [] = Ok (findings_shown form [])
-found_answer form (one ∷ others) =
+abbrev pub findings_answer : Form → List FoundValue → Result (List ℕ) Report
+findings_answer form [] = Ok (findings_shown form [])
+findings_answer form (one ∷ others) =
     Err (record { text = findings_shown form (one ∷ others); status = 1 })
 
 abbrev pub audit_answer : Form → List ℕ → Result (List ℕ) Report
-audit_answer form bytes = or_else (unread_lock form) (findings_of bytes) >>= found_answer form
+audit_answer form bytes = or_report (refused_lock form) (findings_of bytes) >>= findings_answer form
 
 -- ---- the reply
 

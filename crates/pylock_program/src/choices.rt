@@ -6,31 +6,33 @@ ghost use Rattle.std.specs.Option.{option_copied};
 ghost use Rattle.std.specs.Result.{result_ok};
 ghost use Rattle.pyver_core.specs.Name.{is_name};
 ghost use Rattle.pywheel_core.specs.Texts.{cut_at};
-ghost use Rattle.pylock_command.specs.Choices.{written};
+ghost use Rattle.pylock_command.specs.Choices.{option_words};
 ghost use Rattle.pylock_core.specs.declared.edit.Edit.TheVariants as edit;
 ghost use Rattle.pylock_program.specs.Choices.{after_choice, after_choices, after_edits};
-ghost use Rattle.pylock_program.specs.Choices.{chosen_report, edits_of, explain_report, named};
+ghost use Rattle.pylock_program.specs.Choices.{report_of_choices, edits_of, explain_report};
+ghost use Rattle.pylock_program.specs.Choices.{edit_of_name};
 ghost use Rattle.pylock_program.specs.Choices.{explain_shown, option_shown, plan_shown};
 ghost use Rattle.pylock_program.specs.Choices.{refusal_shown};
-ghost use Rattle.pylock_program.specs.Choices.{plan_report, policies, refused_option};
+ghost use Rattle.pylock_program.specs.Choices.{plan_report, policies, option_refusal_text};
 ghost use Rattle.pylock_program.specs.Choices.{report_after};
 ghost use Rattle.pylock_program.specs.Choices.{set_variable, view_shown};
 ghost use Rattle.pylock_core.specs.Session.Steps.{answer};
-ghost use Rattle.pylock_program.specs.Inner.Chosen.{chosen, made};
-ghost use Rattle.pylock_run.specs.Report.{is_plan, opened};
+ghost use Rattle.pylock_program.specs.Inner.Chosen.{state_or_refused, state_if};
+ghost use Rattle.pylock_run.specs.Report.{is_plan, open_state};
 ghost use Rattle.pylock_run.specs.Report.Print.{Prints, Pushes};
 
 use crate::document::Document;
 use crate::notes::fault::tell_fault;
 use crate::notes::options::{tell_notes, tell_refused};
-use crate::text::explain::push_explained;
+use crate::text::explain::push_explanation;
 use crate::text::json::{push_option_json, push_refusal_json};
 use pylock_command::{Choice, Form};
 use pylock_core::{Answer, Edit, EditError, Policy, Session};
 use pylock_documents::{explain_document, plan_document};
 use pylock_json::push_document;
 use pylock_run::{
-    OpenError, RunFault, Sink, open, print, push_next, push_refusal, push_standing, text_label,
+    OpenError, RunFault, Sink, open, print, push_current_answer, push_next_field, push_refusal,
+    text_label,
 };
 use pymark_core::Var;
 use pyver_core::{Label, is_name};
@@ -62,7 +64,7 @@ pub fn plan<W: Sink, N: Sink>(
     writer: &mut W,
     notes: &mut N,
 ) -> Result<u8, RunFault>
-    ensures { Prints (plan_report form (opened lock.entry.bytes.now env.now) choices.now)
+    ensures { Prints (plan_report form (open_state lock.entry.bytes.now env.now) choices.now)
         (W.value writer.old) (W.value writer.new) result }
 {
     let mut out = Vec::new(alloc);
@@ -86,7 +88,7 @@ pub fn explain<W: Sink, N: Sink>(
     writer: &mut W,
     notes: &mut N,
 ) -> Result<u8, RunFault>
-    ensures { Prints (explain_report form (opened lock.entry.bytes.now env.now) choices.now)
+    ensures { Prints (explain_report form (open_state lock.entry.bytes.now env.now) choices.now)
         (W.value writer.old) (W.value writer.new) result }
 {
     let mut out = Vec::new(alloc);
@@ -115,10 +117,12 @@ fn push_report<N: Sink>(
     notes: &mut N,
 ) -> Result<u8, AllocError>
     ensures { Pushes out.old.items out.new.items (report_after form (view_shown view form)
-        (opened lock.entry.bytes.now env.now) choices.now) result }
+        (open_state lock.entry.bytes.now env.now) choices.now) result }
 {
     match open(alloc, lock.bytes, env) {
-        Ok(session) => push_chosen(alloc, out, view, form, session, lock.path, choices, notes),
+        Ok(session) => push_after_choices(
+            alloc, out, view, form, session, lock.path, choices, notes,
+        ),
         Err(OpenError::Memory) => Err(AllocError),
         Err(refusal) => {
             push_open_error(alloc, out, form, &refusal)?;
@@ -144,7 +148,7 @@ pub fn push_open_error(
 }
 
 /// Pushes what is printed of the session after the options, or the first that is refused.
-fn push_chosen<N: Sink>(
+fn push_after_choices<N: Sink>(
     alloc: Global,
     out: &mut Vec<u8>,
     view: View,
@@ -154,11 +158,11 @@ fn push_chosen<N: Sink>(
     choices: &[Choice<'_>],
     notes: &mut N,
 ) -> Result<u8, AllocError>
-    ensures { Pushes out.old.items out.new.items (chosen_report form (view_shown view form)
+    ensures { Pushes out.old.items out.new.items (report_of_choices form (view_shown view form)
         (after_choices choices.now session.state)) result }
 {
     let mut session = session;
-    if let Some(choice) = choose(alloc, &mut session, choices)? {
+    if let Some(choice) = make_choices(alloc, &mut session, choices)? {
         push_option_in(alloc, out, form, choice)?;
         tell_refused(alloc, notes, lock, choice);
         return Ok(1);
@@ -186,8 +190,8 @@ pub fn push_view(
         ≡ out.old.items ++ view_shown view form session.now.state) }
 {
     match (view, form) {
-        (View::Plan, Form::Lines) => push_standing(session, out),
-        (View::Explain, Form::Lines) => push_explained(alloc, out, session),
+        (View::Plan, Form::Lines) => push_current_answer(session, out),
+        (View::Explain, Form::Lines) => push_explanation(alloc, out, session),
         (View::Plan, Form::Json) => push_plan_json(alloc, out, session),
         (View::Explain, Form::Json) => push_explain_json(alloc, out, session),
     }
@@ -220,16 +224,16 @@ fn push_explain_json(
 
 /// Makes the edits of the options, one after another, up to the first that is refused, which it
 /// answers.
-fn choose<'a>(
+fn make_choices<'a>(
     alloc: Global,
     session: &mut Session,
     choices: &[Choice<'a>],
 ) -> Result<Option<Choice<'a>>, AllocError>
     ensures { IfOk result (λ refused. after_choices choices.now session.old.state
-        ≡ chosen refused session.new.state) }
+        ≡ state_or_refused refused session.new.state) }
 {
     for choice in choices {
-        if !make(alloc, session, *choice)? {
+        if !make_choice(alloc, session, *choice)? {
             return Ok(Some(*choice));
         }
     }
@@ -237,20 +241,20 @@ fn choose<'a>(
 }
 
 /// Makes the edits of an option, and answers whether it is accepted.
-fn make(alloc: Global, session: &mut Session, choice: Choice<'_>) -> Result<bool, AllocError>
+fn make_choice(alloc: Global, session: &mut Session, choice: Choice<'_>) -> Result<bool, AllocError>
     ensures { IfOk result (λ is_made. after_choice choice.entry session.old.state
-        ≡ made is_made session.new.state) }
+        ≡ state_if is_made session.new.state) }
 {
     match edits_of(alloc, session, choice)? {
-        Some(edits) => make_all(session, edits),
+        Some(edits) => make_edits(session, edits),
         None => Ok(false),
     }
 }
 
 /// Makes edits, one after another, up to the first that is refused; answers whether none is.
-fn make_all(session: &mut Session, edits: Vec<Edit>) -> Result<bool, AllocError>
+fn make_edits(session: &mut Session, edits: Vec<Edit>) -> Result<bool, AllocError>
     ensures { IfOk result (λ is_made. result_ok (after_edits edits.items session.old.state)
-        ≡ made is_made session.new.state) }
+        ≡ state_if is_made session.new.state) }
 {
     for edit in edits {
         match session.edit(edit) {
@@ -272,19 +276,22 @@ fn edits_of(
         ≡ edits_of session.now.state choice.entry) }
 {
     match choice {
-        Choice::AllExtras => all_extras(alloc, session.head().extras().as_slice()),
-        Choice::Extra(name) => extra(alloc, name),
-        Choice::NoDefaultGroups => no_groups(alloc, session.head().default_groups().as_slice()),
-        Choice::AllGroups => all_groups(alloc, session),
-        Choice::Group(name) => group(alloc, name),
-        Choice::NoGroup(name) => no_group(alloc, name),
-        Choice::OnlyBinary(name) => policy(alloc, session, Policy::Wheel, name),
-        Choice::NoBinary(name) => policy(alloc, session, Policy::Source, name),
+        Choice::AllExtras => all_extras_edits(alloc, session.head().extras().as_slice()),
+        Choice::Extra(name) => extra_edit(alloc, name),
+        Choice::NoDefaultGroups => no_groups_edits(
+            alloc,
+            session.head().default_groups().as_slice(),
+        ),
+        Choice::AllGroups => all_groups_edits(alloc, session),
+        Choice::Group(name) => group_edit(alloc, name),
+        Choice::NoGroup(name) => no_group_edit(alloc, name),
+        Choice::OnlyBinary(name) => policy_edits(alloc, session, Policy::Wheel, name),
+        Choice::NoBinary(name) => policy_edits(alloc, session, Policy::Source, name),
         Choice::Set(text) => set_variable(alloc, text),
     }
 }
 
-fn all_extras(alloc: Global, names: &[String]) -> Result<Option<Vec<Edit>>, AllocError>
+fn all_extras_edits(alloc: Global, names: &[String]) -> Result<Option<Vec<Edit>>, AllocError>
     ensures { IfOk result (λ edits. option_map (λ edits. edits.items) edits
         ≡ Some (map edit.AddExtra (map string_bytes names.now))) }
 {
@@ -295,7 +302,7 @@ fn all_extras(alloc: Global, names: &[String]) -> Result<Option<Vec<Edit>>, Allo
     Ok(Some(edits))
 }
 
-fn no_groups(alloc: Global, names: &[String]) -> Result<Option<Vec<Edit>>, AllocError>
+fn no_groups_edits(alloc: Global, names: &[String]) -> Result<Option<Vec<Edit>>, AllocError>
     ensures { IfOk result (λ edits. option_map (λ edits. edits.items) edits
         ≡ Some (map edit.DropGroup (map string_bytes names.now))) }
 {
@@ -306,7 +313,7 @@ fn no_groups(alloc: Global, names: &[String]) -> Result<Option<Vec<Edit>>, Alloc
     Ok(Some(edits))
 }
 
-fn all_groups(alloc: Global, session: &Session) -> Result<Option<Vec<Edit>>, AllocError>
+fn all_groups_edits(alloc: Global, session: &Session) -> Result<Option<Vec<Edit>>, AllocError>
     ensures { IfOk result (λ edits. option_map (λ edits. edits.items) edits
         ≡ Some (map edit.AddGroup session.now.state.head.groups
         ++ map edit.AddGroup session.now.state.head.default_groups)) }
@@ -327,38 +334,38 @@ fn push_groups(edits: &mut Vec<Edit>, names: &[String]) -> Result<(), AllocError
     Ok(())
 }
 
-fn extra(alloc: Global, text: &str) -> Result<Option<Vec<Edit>>, AllocError>
+fn extra_edit(alloc: Global, text: &str) -> Result<Option<Vec<Edit>>, AllocError>
     ensures { IfOk result (λ edits. option_map (λ edits. edits.items) edits
-        ≡ named edit.AddExtra text.now) }
+        ≡ edit_of_name edit.AddExtra text.now) }
 {
     match name_of(alloc, text)? {
-        Some(name) => one(alloc, Edit::AddExtra(name)),
+        Some(name) => one_edit(alloc, Edit::AddExtra(name)),
         None => Ok(None),
     }
 }
 
-fn group(alloc: Global, text: &str) -> Result<Option<Vec<Edit>>, AllocError>
+fn group_edit(alloc: Global, text: &str) -> Result<Option<Vec<Edit>>, AllocError>
     ensures { IfOk result (λ edits. option_map (λ edits. edits.items) edits
-        ≡ named edit.AddGroup text.now) }
+        ≡ edit_of_name edit.AddGroup text.now) }
 {
     match name_of(alloc, text)? {
-        Some(name) => one(alloc, Edit::AddGroup(name)),
+        Some(name) => one_edit(alloc, Edit::AddGroup(name)),
         None => Ok(None),
     }
 }
 
-fn no_group(alloc: Global, text: &str) -> Result<Option<Vec<Edit>>, AllocError>
+fn no_group_edit(alloc: Global, text: &str) -> Result<Option<Vec<Edit>>, AllocError>
     ensures { IfOk result (λ edits. option_map (λ edits. edits.items) edits
-        ≡ named edit.DropGroup text.now) }
+        ≡ edit_of_name edit.DropGroup text.now) }
 {
     match name_of(alloc, text)? {
-        Some(name) => one(alloc, Edit::DropGroup(name)),
+        Some(name) => one_edit(alloc, Edit::DropGroup(name)),
         None => Ok(None),
     }
 }
 
 /// The edits of `--only-binary` and `--no-binary`.
-fn policy(
+fn policy_edits(
     alloc: Global,
     session: &Session,
     policy: Policy,
@@ -368,16 +375,16 @@ fn policy(
         ≡ policies session.now.state policy text.now) }
 {
     if text == ":all:" {
-        return each_policy(alloc, session, policy);
+        return each_policy_edits(alloc, session, policy);
     }
     match name_of(alloc, text)? {
-        Some(name) => one(alloc, Edit::Policy(name, policy)),
+        Some(name) => one_edit(alloc, Edit::Policy(name, policy)),
         None => Ok(None),
     }
 }
 
 /// The policy for the name of each entry.
-fn each_policy(
+fn each_policy_edits(
     alloc: Global,
     session: &Session,
     policy: Policy,
@@ -399,17 +406,17 @@ fn set_variable(alloc: Global, text: &str) -> Result<Option<Vec<Edit>>, AllocErr
     ensures { IfOk result (λ edits. option_map (λ edits. edits.items) edits
         ≡ set_variable text.now) }
 {
-    let Some((name, value)) = around_equals(text) else {
+    let Some((name, value)) = split_at_equals(text) else {
         return Ok(None);
     };
     match Var::of(name) {
-        Some(variable) => one(alloc, Edit::Set(variable, text_label(alloc, value)?)),
+        Some(variable) => one_edit(alloc, Edit::Set(variable, text_label(alloc, value)?)),
         None => Ok(None),
     }
 }
 
-/// What stands before and behind the first `=`.
-pub(crate) fn around_equals(text: &str) -> Option<(&str, &str)>
+/// What stands before and after the first `=`.
+pub(crate) fn split_at_equals(text: &str) -> Option<(&str, &str)>
     ensures { option_map (λ cut. (cut.0.now, cut.1.now)) result ≡ cut_at 61 text.now }
 {
     text.split_once('=')
@@ -425,7 +432,7 @@ fn name_of(alloc: Global, text: &str) -> Result<Option<Label>, AllocError>
     Ok(Some(text_label(alloc, text)?))
 }
 
-fn one(alloc: Global, edit: Edit) -> Result<Option<Vec<Edit>>, AllocError>
+fn one_edit(alloc: Global, edit: Edit) -> Result<Option<Vec<Edit>>, AllocError>
     ensures { IfOk result (λ edits. option_map (λ edits. edits.items) edits ≡ Some (edit ∷ [])) }
 {
     let mut edits = Vec::new(alloc);
@@ -443,25 +450,25 @@ fn push_option_in(
     ensures { OnOk result (out.new.items ≡ out.old.items ++ option_shown form choice.entry) }
 {
     match form {
-        Form::Lines => push_refused_option(out, choice),
+        Form::Lines => push_option_refusal(out, choice),
         Form::Json => push_option_json(alloc, out, choice),
     }
 }
 
 /// Pushes the line of a refused option.
-fn push_refused_option(out: &mut Vec<u8>, choice: Choice<'_>) -> Result<(), AllocError>
-    ensures { OnOk result (out.new.items ≡ out.old.items ++ refused_option choice.entry) }
+fn push_option_refusal(out: &mut Vec<u8>, choice: Choice<'_>) -> Result<(), AllocError>
+    ensures { OnOk result (out.new.items ≡ out.old.items ++ option_refusal_text choice.entry) }
 {
     out.extend_from_slice(b"refused\t")?;
     out.extend_from_slice(option_word(choice).as_bytes())?;
-    push_next(out, option_text(choice))?;
+    push_next_field(out, option_text(choice))?;
     out.push(b'\n')?;
     Ok(())
 }
 
 /// The word of an option, without its dashes.
 pub(crate) fn option_word(choice: Choice<'_>) -> &'static str
-    ensures { result.now ≡ (written choice.entry).0 }
+    ensures { result.now ≡ (option_words choice.entry).0 }
 {
     match choice {
         Choice::AllExtras => "all-extras",
@@ -478,7 +485,7 @@ pub(crate) fn option_word(choice: Choice<'_>) -> &'static str
 
 /// The text of an option, where it has one.
 pub(crate) fn option_text(choice: Choice<'_>) -> Option<&str>
-    ensures { option_copied result ≡ (written choice.entry).1 }
+    ensures { option_copied result ≡ (option_words choice.entry).1 }
 {
     match choice {
         Choice::AllExtras | Choice::NoDefaultGroups | Choice::AllGroups => None,

@@ -12,19 +12,23 @@ use std::alloc::{AllocError, Global};
 /// Writes `pylock: ` and the text, in which each control character stands as its number. Where
 /// memory or the write fails, the line is left out.
 pub(crate) fn tell<N: Sink>(alloc: Global, notes: &mut N, text: &str) {
-    if let Ok(line) = line(alloc, text) {
+    if let Ok(line) = note_line(alloc, text) {
         let _ = write_all(notes, &line);
     }
 }
 
 /// The same of a text that may have failed for memory.
-pub(crate) fn tell_made<N: Sink>(alloc: Global, notes: &mut N, text: Result<String, AllocError>) {
+pub(crate) fn tell_if_made<N: Sink>(
+    alloc: Global,
+    notes: &mut N,
+    text: Result<String, AllocError>,
+) {
     if let Ok(text) = text {
         tell(alloc, notes, text.as_str());
     }
 }
 
-fn line(alloc: Global, text: &str) -> Result<Vec<u8>, AllocError> {
+fn note_line(alloc: Global, text: &str) -> Result<Vec<u8>, AllocError> {
     let mut line = Vec::new(alloc);
     line.extend_from_slice(b"pylock: ")?;
     push_visible(&mut line, text)?;

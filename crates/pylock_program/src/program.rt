@@ -6,11 +6,11 @@ ghost use Rattle.std.specs.Result.{result_map_both};
 ghost use Rattle.pylock_program.specs.Program.{failure_message, failure_status};
 ghost use Rattle.pylock_program.specs.Program.{GivesNamed, Opens, OpensNamed};
 ghost use Rattle.pylock_program.specs.Program.{Performs, Replies, Runs, Tells};
-ghost use Rattle.pylock_program.specs.Program.{greeting, terminal_note, told};
+ghost use Rattle.pylock_program.specs.Program.{greeting, terminal_note, program_end};
 ghost use Rattle.pylock_program.specs.Reply.{audit_answer, files_answer, marker_answer, reply};
 ghost use Rattle.pylock_program.specs.Reply.{reply_of};
 ghost use Rattle.pylock_program.specs.Choices.{explain_report, plan_report};
-ghost use Rattle.pylock_run.specs.Report.{opened};
+ghost use Rattle.pylock_run.specs.Report.{open_state};
 ghost use Rattle.pylock_run.specs.Report.Print.{Prints};
 ghost use Rattle.pylock_run.specs.Stream.{SourceValue};
 ghost use Rattle.pylock_program.specs.declared.program.Failure.TheVariants as failure;
@@ -126,7 +126,7 @@ pub fn words_failure(kind: ErrorKind) -> Failure
 
 /// Does the task on the files, standard input and standard output, and answers the status of the
 /// program. Of two files the lock is read first, and both before either is judged. The
-/// memory of a session isn't given back but left to the system, for the program ends then. What a
+/// memory of a session isn't freed but left to the system, for the program ends then. What a
 /// person is told besides goes to `notes`; what can't be written there is left out.
 pub fn perform<F: Files, R: Source, W: Sink, N: Sink>(
     alloc: Global,
@@ -140,7 +140,7 @@ pub fn perform<F: Files, R: Source, W: Sink, N: Sink>(
         (R.value reader.old) (R.value reader.new) (W.value writer.old) (W.value writer.new) result }
 {
     match task {
-        Task::Bare => greet(writer),
+        Task::Bare => print_greeting(writer),
         Task::Plan(lock, environment, choices, form) => {
             plan_files(
                 alloc,
@@ -166,27 +166,29 @@ pub fn perform<F: Files, R: Source, W: Sink, N: Sink>(
             )
         }
         Task::Select(lock, environment) => {
-            select(alloc, files, lock, environment, reader, writer, notes)
+            run_select(alloc, files, lock, environment, reader, writer, notes)
         }
-        Task::Files(lock, form) => list(alloc, files, form, lock, writer, notes),
-        Task::Audit(lock, form) => inspect(alloc, files, form, lock, writer, notes),
-        Task::Version(text) => answer(alloc, Query::Version(text), writer),
-        Task::Match(set, version) => answer(alloc, Query::Match(set, version), writer),
-        Task::Name(text) => answer(alloc, Query::Name(text), writer),
-        Task::Marker(text, environment) => { judge(alloc, files, text, environment, writer, notes) }
-        Task::Requirement(text) => answer(alloc, Query::Requirement(text), writer),
-        Task::Wheel(text) => answer(alloc, Query::Wheel(text), writer),
+        Task::Files(lock, form) => list_files(alloc, files, form, lock, writer, notes),
+        Task::Audit(lock, form) => audit_lock(alloc, files, form, lock, writer, notes),
+        Task::Version(text) => answer_query(alloc, Query::Version(text), writer),
+        Task::Match(set, version) => answer_query(alloc, Query::Match(set, version), writer),
+        Task::Name(text) => answer_query(alloc, Query::Name(text), writer),
+        Task::Marker(text, environment) => {
+            judge_marker(alloc, files, text, environment, writer, notes)
+        }
+        Task::Requirement(text) => answer_query(alloc, Query::Requirement(text), writer),
+        Task::Wheel(text) => answer_query(alloc, Query::Wheel(text), writer),
     }
 }
 
-fn greet<W: Sink>(writer: &mut W) -> Result<u8, Failure>
+fn print_greeting<W: Sink>(writer: &mut W) -> Result<u8, Failure>
     ensures prints { Tells (Prints greeting (W.value writer.old) (W.value writer.new)) result }
     ensures ample { result ≢ Err failure.Memory }
 {
-    told(print(GREETING, 0, writer))
+    program_end(print(GREETING, 0, writer))
 }
 
-fn select<F: Files, R: Source, W: Sink, N: Sink>(
+fn run_select<F: Files, R: Source, W: Sink, N: Sink>(
     alloc: Global,
     files: &F,
     lock: &str,
@@ -210,7 +212,7 @@ fn select<F: Files, R: Source, W: Sink, N: Sink>(
         bytes: &bytes,
     };
     tell_refusal(alloc, notes, &end, lock, environment);
-    told(end)
+    program_end(end)
 }
 
 /// All bytes of a file; a person is told which file can't be read, and why.
@@ -246,7 +248,8 @@ fn plan_files<F: Files, W: Sink, N: Sink>(
 ) -> Result<u8, Failure>
     ensures { (source : SourceValue) → OpensNamed (F.read_gives files.now) lock.now
         (λ lock. OpensNamed (F.read_gives files.now) environment.now
-        (λ environment. Replies (plan_report form (opened lock environment) choices.entry.items)))
+        (λ environment. Replies
+        (plan_report form (open_state lock environment) choices.entry.items)))
         source source (W.value writer.old) (W.value writer.new) result }
 {
     let lock_bytes = read_named(alloc, files, lock, notes)?;
@@ -261,7 +264,7 @@ fn plan_files<F: Files, W: Sink, N: Sink>(
     };
     let end = plan(alloc, form, lock, &bytes, &choices, writer, notes);
     tell_refusal(alloc, notes, &end, lock, environment);
-    told(end)
+    program_end(end)
 }
 
 /// Answers `explain` on the lock and the environment of two files.
@@ -278,7 +281,7 @@ fn explain_files<F: Files, W: Sink, N: Sink>(
     ensures { (source : SourceValue) → OpensNamed (F.read_gives files.now) lock.now
         (λ lock. OpensNamed (F.read_gives files.now) environment.now
         (λ environment. Replies
-        (explain_report form (opened lock environment) choices.entry.items)))
+        (explain_report form (open_state lock environment) choices.entry.items)))
         source source (W.value writer.old) (W.value writer.new) result }
 {
     let lock_bytes = read_named(alloc, files, lock, notes)?;
@@ -293,11 +296,11 @@ fn explain_files<F: Files, W: Sink, N: Sink>(
     };
     let end = explain(alloc, form, lock, &bytes, &choices, writer, notes);
     tell_refusal(alloc, notes, &end, lock, environment);
-    told(end)
+    program_end(end)
 }
 
 /// Answers `files` on the lock of a file.
-fn list<F: Files, W: Sink, N: Sink>(
+fn list_files<F: Files, W: Sink, N: Sink>(
     alloc: Global,
     files: &F,
     form: Form,
@@ -316,11 +319,11 @@ fn list<F: Files, W: Sink, N: Sink>(
         bytes: &bytes,
     };
     tell_lock_refusal(alloc, notes, &end, lock);
-    told(end)
+    program_end(end)
 }
 
 /// Answers `audit` on the lock of a file.
-fn inspect<F: Files, W: Sink, N: Sink>(
+fn audit_lock<F: Files, W: Sink, N: Sink>(
     alloc: Global,
     files: &F,
     form: Form,
@@ -339,11 +342,11 @@ fn inspect<F: Files, W: Sink, N: Sink>(
         bytes: &bytes,
     };
     tell_lock_refusal(alloc, notes, &end, lock);
-    told(end)
+    program_end(end)
 }
 
 /// Answers `marker` in the environment of a file.
-fn judge<F: Files, W: Sink, N: Sink>(
+fn judge_marker<F: Files, W: Sink, N: Sink>(
     alloc: Global,
     files: &F,
     marker: &str,
@@ -362,18 +365,18 @@ fn judge<F: Files, W: Sink, N: Sink>(
         bytes: &bytes,
     };
     tell_environment_refusal(alloc, notes, &end, environment);
-    told(end)
+    program_end(end)
 }
 
-fn answer<W: Sink>(alloc: Global, asked: Query<'_>, writer: &mut W) -> Result<u8, Failure>
+fn answer_query<W: Sink>(alloc: Global, asked: Query<'_>, writer: &mut W) -> Result<u8, Failure>
     ensures { Tells (Prints (reply asked.entry) (W.value writer.old) (W.value writer.new)) result }
 {
-    told(query(alloc, asked, writer))
+    program_end(query(alloc, asked, writer))
 }
 
 /// The end of a run or of a reply, as the program tells it.
-fn told(end: Result<u8, RunFault>) -> Result<u8, Failure>
-    ensures { result ≡ told end }
+fn program_end(end: Result<u8, RunFault>) -> Result<u8, Failure>
+    ensures { result ≡ program_end end }
 {
     Ok(end?)
 }

@@ -3,16 +3,17 @@
 ghost use Rattle.std.specs.Prelude.{◌≡◌, ◌++◌, ◌∷◌, IfOk, OnOk, Ok, Some};
 ghost use Rattle.std.specs.Prelude.{[], codes, map, string_bytes};
 ghost use Rattle.std.specs.List.{join_by};
-ghost use Rattle.pyver_core.specs.Name.{norm};
+ghost use Rattle.pyver_core.specs.Name.{normal_name};
 ghost use Rattle.pywheel_core.specs.Tag.{tag_text};
 ghost use Rattle.pylock_program.specs.Reply.{reply, reply_of, version_answer, match_answer};
 ghost use Rattle.pylock_program.specs.Reply.{admits_answer, audit_answer, files_answer};
-ghost use Rattle.pylock_program.specs.Reply.{files_shown, found_answer, unread_lock};
-ghost use Rattle.pylock_program.specs.Reply.{truth_word, name_answer, marker_answer, judged_answer};
+ghost use Rattle.pylock_program.specs.Reply.{files_shown, findings_answer, refused_lock};
+ghost use Rattle.pylock_program.specs.Reply.{truth_word, name_answer, marker_answer};
+ghost use Rattle.pylock_program.specs.Reply.{marker_answer_in};
 ghost use Rattle.pylock_program.specs.Reply.{value_answer};
 ghost use Rattle.pylock_program.specs.Reply.{requirement_answer, requirement_line, names_text};
 ghost use Rattle.pylock_program.specs.Reply.{specifiers_text, wheel_answer, wheel_line};
-ghost use Rattle.pylock_program.specs.Reply.{refused, faulty};
+ghost use Rattle.pylock_program.specs.Reply.{refusal_report, fault_report};
 ghost use Rattle.pylock_run.specs.Report.Print.{Prints, Pushes};
 ghost use Rattle.pylock_run.specs.Text.Field.{field, line_of};
 
@@ -30,7 +31,7 @@ use pylock_json::push_document;
 use pylock_reasons::{fault_word, tag_text};
 use pylock_run::{
     RunFault, Sink, print, push_environment_error, push_field, push_last_word, push_lock_error,
-    push_next,
+    push_next_field,
 };
 use pymark_core::{Environment, EvalFault, Marker, MarkerError, Requirement, RequirementError};
 use pyver_core::{SpecifierError, SpecifierSet, Version, VersionError, is_name, normal_name};
@@ -39,7 +40,7 @@ use std::alloc::{AllocError, Global};
 
 /// Writes the reply of a one-shot command, and answers the program's status: 0 for an answer, 1
 /// where a text is refused or a marker has a fault, 2 where the environment is refused. After a
-/// fault a front of the reply is written. Takes memory for what it parses and for the reply.
+/// fault a prefix of the reply is written. Takes memory for what it parses and for the reply.
 pub fn query<W: Sink>(alloc: Global, query: Query<'_>, writer: &mut W) -> Result<u8, RunFault>
     ensures { Prints (reply query.entry) (W.value writer.old) (W.value writer.new) result }
 {
@@ -76,7 +77,7 @@ fn push_files_of(
     match Lock::read(alloc, lock) {
         Ok(lock) => push_files_in(alloc, out, form, lock.entries()),
         Err(LockError::Memory) => Err(AllocError),
-        Err(error) => push_unread(alloc, out, form, &error),
+        Err(error) => push_refused_lock(alloc, out, form, &error),
     }
 }
 
@@ -97,13 +98,13 @@ fn push_files_in(
 }
 
 /// Pushes a refused lock.
-fn push_unread(
+fn push_refused_lock(
     alloc: Global,
     out: &mut Vec<u8>,
     form: Form,
     error: &LockError,
 ) -> Result<u8, AllocError>
-    ensures { Pushes out.old.items out.new.items (unread_lock form error.now) result }
+    ensures { Pushes out.old.items out.new.items (refused_lock form error.now) result }
 {
     match form {
         Form::Lines => push_lock_error(out, error)?,
@@ -124,7 +125,7 @@ fn push_audit_of(
     match audit(alloc, lock) {
         Ok(found) => push_findings_in(alloc, out, form, found.as_slice()),
         Err(LockError::Memory) => Err(AllocError),
-        Err(error) => push_unread(alloc, out, form, &error),
+        Err(error) => push_refused_lock(alloc, out, form, &error),
     }
 }
 
@@ -134,7 +135,8 @@ fn push_findings_in(
     form: Form,
     found: &[Found],
 ) -> Result<u8, AllocError>
-    ensures { Pushes out.old.items out.new.items (reply_of (found_answer form found.now)) result }
+    ensures { Pushes out.old.items out.new.items
+        (reply_of (findings_answer form found.now)) result }
 {
     match form {
         Form::Lines => push_findings(out, found)?,
@@ -205,7 +207,7 @@ fn push_marker(
         (reply_of (marker_answer text.now environment.now)) result }
 {
     match Marker::parse(alloc, text) {
-        Ok(marker) => push_judged(alloc, out, &marker, environment),
+        Ok(marker) => push_marker_in(alloc, out, &marker, environment),
         Err(MarkerError::TooDeep) => push_refusal(out, b"too-deep"),
         Err(MarkerError::Syntax) => push_refusal(out, b"syntax"),
         Err(MarkerError::SetMisuse) => push_refusal(out, b"set-misuse"),
@@ -214,14 +216,14 @@ fn push_marker(
 }
 
 /// Whether a marker is true in the environment that the bytes are.
-fn push_judged(
+fn push_marker_in(
     alloc: Global,
     out: &mut Vec<u8>,
     marker: &Marker,
     environment: &[u8],
 ) -> Result<u8, AllocError>
     ensures { Pushes out.old.items out.new.items
-        (reply_of (judged_answer marker.now environment.now)) result }
+        (reply_of (marker_answer_in marker.now environment.now)) result }
 {
     match read_environment(alloc, environment) {
         Ok((environment, _tags)) => push_value(alloc, out, marker, &environment),
@@ -277,8 +279,8 @@ fn push_requirement_line(
     push_field(out, Some(name.as_str()))?;
     push_extras(alloc, out, requirement.extras())?;
     push_specifiers(out, requirement.set())?;
-    push_next(out, requirement.url())?;
-    push_next(out, requirement.marker().map(|marker| marker.text()))?;
+    push_next_field(out, requirement.url())?;
+    push_next_field(out, requirement.marker().map(|marker| marker.text()))?;
     out.push(b'\n')?;
     Ok(0)
 }
@@ -289,16 +291,16 @@ fn push_extras(alloc: Global, out: &mut Vec<u8>, extras: &[String]) -> Result<()
         ≡ out.old.items ++ 9 ∷ field (names_text (map string_bytes extras.now))) }
 {
     if extras.is_empty() {
-        return push_next(out, None);
+        return push_next_field(out, None);
     }
     let names = normal_names(alloc, extras)?;
     let text = names.join(alloc, ",")?;
-    push_next(out, Some(text.as_str()))
+    push_next_field(out, Some(text.as_str()))
 }
 
 fn normal_names(alloc: Global, names: &[String]) -> Result<Vec<String>, AllocError>
     ensures { IfOk result (λ normal. map string_bytes normal.items
-        ≡ map norm (map string_bytes names.now)) }
+        ≡ map normal_name (map string_bytes names.now)) }
 {
     let mut normal = Vec::with_capacity(alloc, names.len())?;
     for name in names {
@@ -312,9 +314,9 @@ fn push_specifiers(out: &mut Vec<u8>, set: &SpecifierSet) -> Result<(), AllocErr
     ensures { OnOk result (out.new.items ≡ out.old.items ++ 9 ∷ field (specifiers_text set.now)) }
 {
     if set.items().is_empty() {
-        return push_next(out, None);
+        return push_next_field(out, None);
     }
-    push_next(out, Some(set.text()))
+    push_next_field(out, Some(set.text()))
 }
 
 fn push_wheel(alloc: Global, out: &mut Vec<u8>, text: &str) -> Result<u8, AllocError>
@@ -337,8 +339,8 @@ fn push_wheel_line(alloc: Global, out: &mut Vec<u8>, wheel: &WheelName) -> Resul
 {
     let name = normal_name(alloc, wheel.name())?;
     push_field(out, Some(name.as_str()))?;
-    push_next(out, Some(wheel.version().text()))?;
-    push_next(out, wheel.build_text())?;
+    push_next_field(out, Some(wheel.version().text()))?;
+    push_next_field(out, wheel.build_text())?;
     push_tags(alloc, out, wheel.tags())?;
     out.push(b'\n')?;
     Ok(0)
@@ -351,7 +353,7 @@ fn push_tags(alloc: Global, out: &mut Vec<u8>, tags: &[Tag]) -> Result<(), Alloc
 {
     let texts = tag_texts(alloc, tags)?;
     let text = texts.join(alloc, " ")?;
-    push_next(out, Some(text.as_str()))
+    push_next_field(out, Some(text.as_str()))
 }
 
 fn tag_texts(alloc: Global, tags: &[Tag]) -> Result<Vec<String>, AllocError>
@@ -384,7 +386,7 @@ fn push_truth(out: &mut Vec<u8>, truth: bool) -> Result<u8, AllocError>
 }
 
 fn push_refusal(out: &mut Vec<u8>, word: &[u8]) -> Result<u8, AllocError>
-    ensures { Pushes out.old.items out.new.items (refused word.now) result }
+    ensures { Pushes out.old.items out.new.items (refusal_report word.now) result }
 {
     out.extend_from_slice(b"refused")?;
     push_last_word(out, word)?;
@@ -392,7 +394,7 @@ fn push_refusal(out: &mut Vec<u8>, word: &[u8]) -> Result<u8, AllocError>
 }
 
 fn push_fault(out: &mut Vec<u8>, code: FaultCode) -> Result<u8, AllocError>
-    ensures { Pushes out.old.items out.new.items (faulty code) result }
+    ensures { Pushes out.old.items out.new.items (fault_report code) result }
 {
     out.extend_from_slice(b"fault")?;
     push_last_word(out, fault_word(code).as_bytes())?;

@@ -9,7 +9,7 @@ use Rattle.std.specs.Str.{bytes_eq}
 use Rattle.std.specs.String.{string_cmp}
 use Rattle.std.proofs.lemmas.Map.Text.{is_eq-slice_cmp}
 use Rattle.pylock_readers.specs.Inner.Strings.{has_text, is_text}
-use Rattle.pylock_readers.specs.Lock.Head.{distinct}
+use Rattle.pylock_readers.specs.Lock.Head.{distinct_texts}
 use Rattle.pylock_readers.proofs.TableLemmas.{same_key_is}
 
 or_same : (b c d : Bool) → b ≡ d → (b || c) ≡ (d || (b || c))
@@ -69,24 +69,24 @@ unseen_after keys k texts =
 
 -- a new text moves to those that were kept
 pub new_text : (once : List (List ℕ)) (keys : List (String Global)) (k : String Global) (rest : List (List ℕ)) → has_text keys (string_bytes k) ≡ false
-    → (once ++ string_bytes k ∷ []) ++ unseen (insert_key string_cmp keys k) (distinct rest) ≡ once ++ unseen keys (distinct (string_bytes k ∷ rest))
+    → (once ++ string_bytes k ∷ []) ++ unseen (insert_key string_cmp keys k) (distinct_texts rest) ≡ once ++ unseen keys (distinct_texts (string_bytes k ∷ rest))
 new_text once keys k rest fresh =
-    append_assoc once (string_bytes k ∷ []) (unseen (insert_key string_cmp keys k) (distinct rest))
-    ∙ ap (λ more. once ++ string_bytes k ∷ more) (sym (unseen_after keys k (distinct rest)))
+    append_assoc once (string_bytes k ∷ []) (unseen (insert_key string_cmp keys k) (distinct_texts rest))
+    ∙ ap (λ more. once ++ string_bytes k ∷ more) (sym (unseen_after keys k (distinct_texts rest)))
     ∙ ap (λ b. once ++ cond (not b) (string_bytes k ∷ left) left) (sym fresh)
   where
     left : List (List ℕ)
-    left = unseen keys (filter (λ other. not (bytes_eq other (string_bytes k))) (distinct rest))
+    left = unseen keys (filter (λ other. not (bytes_eq other (string_bytes k))) (distinct_texts rest))
 
 -- a repeated text is let go
 pub repeated_text : (once : List (List ℕ)) (keys : List (String Global)) (k : String Global) (rest : List (List ℕ)) → has_text keys (string_bytes k) ≡ true
-    → once ++ unseen (insert_key string_cmp keys k) (distinct rest) ≡ once ++ unseen keys (distinct (string_bytes k ∷ rest))
+    → once ++ unseen (insert_key string_cmp keys k) (distinct_texts rest) ≡ once ++ unseen keys (distinct_texts (string_bytes k ∷ rest))
 repeated_text once keys k rest seen =
-    ap (λ more. once ++ more) (sym (unseen_after keys k (distinct rest)))
+    ap (λ more. once ++ more) (sym (unseen_after keys k (distinct_texts rest)))
     ∙ ap (λ b. once ++ cond (not b) (string_bytes k ∷ left) left) (sym seen)
   where
     left : List (List ℕ)
-    left = unseen keys (filter (λ other. not (bytes_eq other (string_bytes k))) (distinct rest))
+    left = unseen keys (filter (λ other. not (bytes_eq other (string_bytes k))) (distinct_texts rest))
 
 -- where nothing was seen, all are unseen
 pub unseen_none : (texts : List (List ℕ)) → unseen [] texts ≡ texts

@@ -1,10 +1,9 @@
 pub use Rattle.pylock_readers.proofs.TableLemmas.{kept}
 mod FileNameLemmas
 mod TableLemmas
-mod FrontLemmas
-mod SharedLemmas
+mod PrefixLemmas
 pub mod EntryLemmas
 mod DistinctLemmas
 pub mod Joined
 mod TextLemmas
-pub mod Memory
+pub mod NeverMemory

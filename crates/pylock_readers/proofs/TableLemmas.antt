@@ -12,7 +12,7 @@ use Rattle.toml.proofs.Views.{view-Boolean, view-lookup}
 use Rattle.toml.specs.Data.{Members, no_members, member, boolean, get_member, same_key}
 use Rattle.toml.specs.View.{view, members_view}
 use Rattle.toml.specs.declared.value.Value.{Value, Boolean}
-use Rattle.pylock_readers.specs.Inner.Taken.{without}
+use Rattle.pylock_readers.specs.Inner.Taken.{table_without}
 
 -- the value that was taken out of a table is the member of the key
 pub taken_member : (taken : Option Value) (key : List ℕ) (es : List (String Global × Value))
@@ -41,8 +41,8 @@ set_none test (e ∷ es) w none =
 
 -- what is left where a value was taken out
 pub left_behind : (key : List ℕ) (es : List (String Global × Value))
-    → members_view (set_value (is_at (λ k. slice_cmp nat_cmp key (string_bytes k))) es (Boolean false)) ≡ without key (members_view es)
-unfolding without
+    → members_view (set_value (is_at (λ k. slice_cmp nat_cmp key (string_bytes k))) es (Boolean false)) ≡ table_without key (members_view es)
+unfolding table_without
 left_behind key [] = refl
 left_behind key (e ∷ es) =
     elim (cases_Bool (same_key key (string_bytes e.0))) [
@@ -52,15 +52,15 @@ left_behind key (e ∷ es) =
 
 -- the same where there was none
 pub nothing_left : (key : List ℕ) (es : List (String Global × Value)) → lookup (is_at (λ k. slice_cmp nat_cmp key (string_bytes k))) es ≡ None
-    → members_view es ≡ without key (members_view es)
+    → members_view es ≡ table_without key (members_view es)
 nothing_left key es none = ap members_view (sym (set_none (is_at (λ k. slice_cmp nat_cmp key (string_bytes k))) es (Boolean false) none)) ∙ left_behind key es
 
 -- what a key has where nothing is taken
 pub ruleset taken = (taken_member, nothing_left)
 
 -- the other keys have what they had
-pub kept : (other key : List ℕ) (ms : Members) → same_key other key ≡ false → get_member other (without key ms) ≡ get_member other ms
-unfolding without
+pub kept : (other key : List ℕ) (ms : Members) → same_key other key ≡ false → get_member other (table_without key ms) ≡ get_member other ms
+unfolding table_without
 kept other key no_members differs = refl
 kept other key (member k d ms) differs =
     elim (cases_Bool (same_key key k)) [

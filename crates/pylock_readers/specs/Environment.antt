@@ -5,7 +5,7 @@ use Rattle.serde_json.specs.Data.{Data, Items, no_items, item, Members}
 use Rattle.serde_json.specs.Find.{get, get_member, as_str, as_array, as_object}
 use Rattle.serde_json.specs.Read.{read}
 use Rattle.pytext.specs.Results.{◌>>=◌}
-use Rattle.pymark_core.specs.Environment.{EnvironmentValue, empty, with_variable}
+use Rattle.pymark_core.specs.Environment.{EnvironmentValue, empty_environment, with_variable}
 use Rattle.pymark_core.specs.Variables.{variable_name, variables}
 use Rattle.pymark_core.specs.declared.variable.Var.{Var}
 use Rattle.pywheel_core.specs.Tag.{TagValue, tags_of}
@@ -61,17 +61,17 @@ abbrev pub from_tags : Result (List TagValue) TagListError → Result (List TagV
 from_tags (Ok tags) = Ok tags
 from_tags (Err e) = Err (tag_refusal e)
 
-abbrev pub listed : List (List ℕ) → Result (List TagValue) EnvError
-listed texts = from_tags (tags_of texts)
+abbrev pub tag_list_of : List (List ℕ) → Result (List TagValue) EnvError
+tag_list_of texts = from_tags (tags_of texts)
 
 -- the environment and the tags of a value; its form is judged before any tag
 unfoldable pub env_in : Data → Result (EnvironmentValue × List TagValue) EnvError
 env_in d = do
   members ← members_in d
-  environment ← with_members variables members empty
+  environment ← with_members variables members empty_environment
   items ← tag_items d
   texts ← texts_in items
-  tags ← listed texts
+  tags ← tag_list_of texts
   Ok (environment, tags)
 
 -- the text as JSON

@@ -1,4 +1,3 @@
 -- What serves the contracts of private functions alone.
 pub mod Strings
-pub mod Shared
 pub mod Taken

@@ -4,11 +4,11 @@ ghost use Rattle.std.specs.Option.{option_copied};
 ghost use Rattle.serde_json.specs.Find.{get_member};
 ghost use Rattle.serde_json.specs.View.{view, items_view, members_view};
 ghost use Rattle.pytext.specs.Agreement.{Gives};
-ghost use Rattle.pymark_core.specs.Environment.{empty};
+ghost use Rattle.pymark_core.specs.Environment.{empty_environment};
 ghost use Rattle.pymark_core.specs.Variables.{variable_name, variables};
 ghost use Rattle.pylock_readers.specs.Environment.{members_in, tag_items, member_text_in};
 ghost use Rattle.pylock_readers.specs.Environment.{with_member, with_members, texts_in};
-ghost use Rattle.pylock_readers.specs.Environment.{tag_refusal, listed};
+ghost use Rattle.pylock_readers.specs.Environment.{tag_refusal, tag_list_of};
 ghost use Rattle.pylock_readers.specs.Environment.{env_in, value_of, env_of};
 
 use crate::error::EnvError;
@@ -80,7 +80,7 @@ fn tags(value: &Value) -> Result<&[Value], EnvError>
 /// The environment where each variable has the text of the member of its name.
 fn read_variables(alloc: Global, members: &Map<String, Value>) -> Result<Environment, EnvError>
     ensures { Gives EnvError.Memory (λ e. e) result
-        (with_members variables (members_view members.now.entries) empty) }
+        (with_members variables (members_view members.now.entries) empty_environment) }
 {
     let mut environment = Environment::new(alloc);
     set_members(&mut environment, members, &Var::all())?;
@@ -153,7 +153,8 @@ fn texts(alloc: Global, items: &[Value]) -> Result<Vec<&str>, EnvError>
 }
 
 fn tag_list(alloc: Global, texts: &[&str]) -> Result<TagList, EnvError>
-    ensures { Gives EnvError.Memory (λ l. l) result (listed (map (λ text. text.now) texts.now)) }
+    ensures { Gives EnvError.Memory (λ l. l) result
+        (tag_list_of (map (λ text. text.now) texts.now)) }
 {
     match TagList::parse(alloc, texts) {
         Ok(tags) => Ok(tags),

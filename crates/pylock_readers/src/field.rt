@@ -7,10 +7,10 @@ ghost use Rattle.toml.specs.Data.{get_member};
 ghost use Rattle.toml.specs.View.{view, items_view, table_view};
 ghost use Rattle.pytext.specs.Agreement.{Gives};
 ghost use Rattle.pylock_readers.specs.declared.field.FieldError.TheVariants as field;
-ghost use Rattle.pylock_readers.specs.Entry.Fields.{required, text_of, members_of, name_of};
+ghost use Rattle.pylock_readers.specs.Entry.Fields.{require, text_of, members_of, name_of};
 ghost use Rattle.pylock_readers.specs.Entry.Fields.{text_in};
 ghost use Rattle.pylock_readers.specs.Entry.Fields.{optional_text_in, flag_in, items_in};
-ghost use Rattle.pylock_readers.specs.Inner.Taken.{without};
+ghost use Rattle.pylock_readers.specs.Inner.Taken.{table_without};
 
 use pyver_core::{NormalName, is_name};
 use std::alloc::{AllocError, Global};
@@ -35,11 +35,11 @@ impl<E: Into<AllocError> + Drop> From<E> for FieldError {
 }
 
 /// Takes the value of the key, once, and leaves a small one in its place: to take a member out of a
-/// table that is soon let go would cost more.
+/// table that is soon freed would cost more.
 #[tactic(auto, using(crate::proofs::TableLemmas::taken))]
 pub(crate) fn take(table: &mut Table, key: &str) -> Option<Value>
     ensures taken { option_map view result ≡ get_member key.now (table_view table.old) }
-    ensures left { table_view table.new ≡ without key.now (table_view table.old) }
+    ensures left { table_view table.new ≡ table_without key.now (table_view table.old) }
 {
     match table.get_mut(key) {
         Some(value) => Some(mem::replace(value, Value::Boolean(false))),
@@ -64,7 +64,7 @@ pub(crate) fn or_refused<T, E: From<AllocError> + Drop>(
 }
 
 /// A field that may be absent.
-pub(crate) fn optional<T, F: FnOnce(Value) -> Result<T, FieldError>>(
+pub(crate) fn optional_field<T, F: FnOnce(Value) -> Result<T, FieldError>>(
     field: Option<Value>,
     read: F,
 ) -> Result<Option<T>, FieldError>
@@ -81,7 +81,7 @@ pub(crate) fn optional<T, F: FnOnce(Value) -> Result<T, FieldError>>(
 
 /// Refuses where the test fails.
 pub(crate) fn require(test: bool) -> Result<(), FieldError>
-    ensures { Gives FieldError.Memory (λ u. u) result (required test) }
+    ensures { Gives FieldError.Memory (λ u. u) result (require test) }
 {
     if test { Ok(()) } else { Err(FieldError::Wrong) }
 }
@@ -129,7 +129,7 @@ pub(crate) fn optional_text(field: Option<Value>) -> Result<Option<String>, Fiel
     ensures { Gives FieldError.Memory (option_map string_bytes) result
         (optional_text_in (option_map view field)) }
 {
-    optional(field, into_text)
+    optional_field(field, into_text)
 }
 
 /// A boolean, which is false where it is absent.

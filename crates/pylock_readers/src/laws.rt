@@ -7,9 +7,9 @@ ghost use Rattle.pylock_readers.specs.Lock.Reading.{lock_of};
 
 use crate::{EntryError, EnvError, LockError};
 
-/// The reading of a lock, of an entry or of an environment is never want of memory, nor is that of
+/// The reading of a lock, of an entry or of an environment is never out of memory, nor is that of
 /// an entry of a lock: only a call may answer it.
-pub fn answers_want_no_memory()
+pub fn answers_are_never_out_of_memory()
     ensures lock { (bytes : List ℕ) → lock_of bytes ≡ Err LockError.Memory → ⊥ }
     ensures entry_of_lock { (bytes : List ℕ) (place : ℕ)
         → lock_of bytes ≡ Err (LockError.Entry place EntryError.Memory) → ⊥ }

@@ -19,11 +19,11 @@
 //! ```
 #![tactic(auto)]
 
-mod conditions;
 mod entry;
 mod environment;
 mod error;
 mod field;
+mod interner;
 pub mod laws;
 mod lock;
 mod text;

@@ -31,13 +31,13 @@ use Rattle.pylock_reasons.specs.Words.{policy_word}
 -- ---- why: of markers and Python checks
 
 -- the variable whose value a marker misses, and a space
-abbrev pub missing : Result Bool EvalFault → List ℕ
-missing (Err (Unset variable)) = variable_name variable ++ codes " "
-missing value = []
+abbrev pub missing_variable : Result Bool EvalFault → List ℕ
+missing_variable (Err (Unset variable)) = variable_name variable ++ codes " "
+missing_variable value = []
 
 -- the text of a marker, after the variable whose value it misses
 abbrev pub marker_detail : EnvironmentValue → MarkerValue → List ℕ
-marker_detail environment m = missing (marker_value environment m.tree) ++ m.text
+marker_detail environment m = missing_variable (marker_value environment m.tree) ++ m.text
 
 -- the normal text of the set of a Python check, or the marker; `no-environment` has neither
 abbrev pub fault_detail : EnvironmentValue → Option (List Specifier) → Option MarkerValue
@@ -51,14 +51,15 @@ abbrev pub is_false : Result Bool EvalFault → Bool
 is_false (Ok false) = true
 is_false value = false
 
-abbrev pub deciding : EnvironmentValue → List MarkerValue → Option MarkerValue
-deciding environment [] = None
-deciding environment (m ∷ ms) =
-    if is_false (marker_value environment m.tree) then deciding environment ms else Some m
+abbrev pub deciding_marker : EnvironmentValue → List MarkerValue → Option MarkerValue
+deciding_marker environment [] = None
+deciding_marker environment (m ∷ ms) =
+    if is_false (marker_value environment m.tree) then deciding_marker environment ms else Some m
 
 abbrev pub head_detail : HeadValue → EnvironmentValue → FaultCode → Option (List ℕ)
 head_detail head environment code =
-    fault_detail environment head.requires_python (deciding environment head.environments) code
+    fault_detail environment head.requires_python
+    (deciding_marker environment head.environments) code
 
 -- ---- why: of sources
 
@@ -86,12 +87,12 @@ wheel_detail tags file name =
     ++ option_map_or (λ t. codes " " ++ tag_text t)
     (option_and_then (λ w. best_tag w.tags tags) name) []
 
--- the wheel at this place
+-- the wheel at this index
 abbrev pub wheel_at : List TagValue → EntryValue → ℕ → Option (List ℕ)
-wheel_at tags entry place =
+wheel_at tags entry index =
     option_map (λ file. wheel_detail tags file
-    (option_and_then (λ name. name) (slice_get (wheel_names entry) place)))
-    (slice_get entry.wheels place)
+    (option_and_then (λ name. name) (slice_get (wheel_names entry) index)))
+    (slice_get entry.wheels index)
 
 -- the place of a source; of an sdist its file name, where it has one
 abbrev pub source_detail : List TagValue → EntryValue → PickSource → Option (List ℕ)
@@ -100,7 +101,7 @@ source_detail tags entry source.Directory =
     option_map (λ directory. directory.path) entry.directory
 source_detail tags entry source.Archive =
     option_map (λ archive. place_of archive.location) entry.archive
-source_detail tags entry (source.Wheel place) = wheel_at tags entry place
+source_detail tags entry (source.Wheel index) = wheel_at tags entry index
 source_detail tags entry source.Sdist =
     option_map (λ file. unwrap_or (file_name file) (place_of file.location)) entry.sdist
 

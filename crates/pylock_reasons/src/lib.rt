@@ -11,8 +11,8 @@
 //! let name = entry.name();
 //! let detail = detail(alloc, session, entry, fate)?;
 //! let verdict = verdict_word(entry, fate);
-//! let place = format!(in alloc; "entry {id} (`{name}`)")?;
-//! with_detail(alloc, place.as_str(), verdict, detail.as_deref())
+//! let position = format!(in alloc; "entry {id} (`{name}`)")?;
+//! with_detail(alloc, position.as_str(), verdict, detail.as_deref())
 //! ```
 #![tactic(auto)]
 

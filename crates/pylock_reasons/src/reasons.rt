@@ -3,7 +3,7 @@
 ghost use Rattle.std.specs.Prelude.{◌≡◌, IfOk, Some, option_map, option_and_then, slice_get};
 ghost use Rattle.std.specs.Prelude.{string_bytes, unwrap_or};
 ghost use Rattle.std.specs.Option.{option_copied};
-ghost use Rattle.pylock_reasons.specs.Reasons.{best_tag, deciding, detail, fault_detail};
+ghost use Rattle.pylock_reasons.specs.Reasons.{best_tag, deciding_marker, detail, fault_detail};
 ghost use Rattle.pylock_reasons.specs.Reasons.{files_word, has_tag, head_detail};
 ghost use Rattle.pylock_reasons.specs.Reasons.{marker_detail, sdist_word, source_detail, wheel_at};
 ghost use Rattle.pylock_reasons.specs.Reasons.{wheel_detail};
@@ -55,18 +55,18 @@ pub fn head_detail(
     ensures { IfOk result (λ text. option_map string_bytes text
         ≡ head_detail head.now environment.now code) }
 {
-    let marker = deciding(alloc, environment, head.environments())?;
+    let marker = deciding_marker(alloc, environment, head.environments())?;
     fault_detail(alloc, environment, head.requires_python(), marker, code)
 }
 
 /// The first of the markers that isn't false.
-fn deciding<'a>(
+fn deciding_marker<'a>(
     alloc: Global,
     environment: &Environment,
     markers: &'a [Marker],
 ) -> Result<Option<&'a Marker>, AllocError>
     ensures { IfOk result (λ marker. option_copied marker
-        ≡ deciding environment.now markers.now) }
+        ≡ deciding_marker environment.now markers.now) }
 {
     for marker in markers {
         match marker.evaluate(alloc, environment) {
@@ -175,15 +175,15 @@ fn source_detail(
         ≡ source_detail tags.now entry.now source) }
 {
     match source {
-        PickSource::Vcs => owned(alloc, vcs_place(entry)),
-        PickSource::Directory => owned(alloc, directory_path(entry)),
-        PickSource::Archive => owned(alloc, archive_place(entry)),
-        PickSource::Wheel(place) => wheel_at(alloc, tags, entry, place),
-        PickSource::Sdist => owned(alloc, sdist_file(entry)),
+        PickSource::Vcs => owned_text(alloc, vcs_place(entry)),
+        PickSource::Directory => owned_text(alloc, directory_path(entry)),
+        PickSource::Archive => owned_text(alloc, archive_place(entry)),
+        PickSource::Wheel(index) => wheel_at(alloc, tags, entry, index),
+        PickSource::Sdist => owned_text(alloc, sdist_file(entry)),
     }
 }
 
-fn owned(alloc: Global, text: Option<&str>) -> Result<Option<String>, AllocError>
+fn owned_text(alloc: Global, text: Option<&str>) -> Result<Option<String>, AllocError>
     ensures { IfOk result (λ owned. option_map string_bytes owned ≡ option_copied text.entry) }
 {
     match text {
@@ -224,28 +224,28 @@ fn sdist_file(entry: &Entry) -> Option<&str>
     }
 }
 
-/// The wheel at this place: its file name and its best tag.
+/// The wheel at this index: its file name and its best tag.
 fn wheel_at(
     alloc: Global,
     tags: &TagList,
     entry: &Entry,
-    place: usize,
+    index: usize,
 ) -> Result<Option<String>, AllocError>
     ensures { IfOk result (λ text. option_map string_bytes text
-        ≡ wheel_at tags.now entry.now place) }
+        ≡ wheel_at tags.now entry.now index) }
 {
-    match entry.wheels().get(place) {
-        Some(file) => Ok(Some(wheel_detail(alloc, tags, file, name_at(entry, place))?)),
+    match entry.wheels().get(index) {
+        Some(file) => Ok(Some(wheel_detail(alloc, tags, file, name_at(entry, index))?)),
         None => Ok(None),
     }
 }
 
-/// What the file name of the wheel at this place says.
-fn name_at(entry: &Entry, place: usize) -> Option<&WheelName>
+/// What the file name of the wheel at this index says.
+fn name_at(entry: &Entry, index: usize) -> Option<&WheelName>
     ensures { option_copied result
-        ≡ option_and_then (λ name. name) (slice_get (wheel_names entry.now) place) }
+        ≡ option_and_then (λ name. name) (slice_get (wheel_names entry.now) index) }
 {
-    entry.wheel_names().get(place)?.as_ref()
+    entry.wheel_names().get(index)?.as_ref()
 }
 
 fn wheel_detail(

@@ -15,7 +15,7 @@ use Rattle.pylock_core.specs.declared.answer.Answer.TheVariants.{Plan}
 use Rattle.pylock_core.specs.declared.answer.Pick.{Pick}
 use Rattle.pylock_core.specs.declared.answer.PickSource.{PickSource}
 use Rattle.pylock_core.specs.declared.answer.PickSource.TheVariants as source
-use Rattle.pylock_run.specs.Text.Field.{escape, escaped, field, line_of, tabbed}
+use Rattle.pylock_run.specs.Text.Field.{escape_byte, escaped_text, field, line_of, fields_text}
 use Rattle.pylock_run.specs.Text.Plan.{answer_text, archive_fields, directory_fields, file_fields, hashes_text, pick_text, plan_line, revision, source_fields, vcs_fields}
 
 abbrev is_lf : ℕ → Bool
@@ -57,8 +57,8 @@ digits_none : (k n : ℕ) (acc : List ℕ) → lines (digits_onto k 10 false n a
 digits_none zero n acc = refl
 digits_none (suc k) n acc =
     let g = digit_glyph false (n % 10) in
-    let front : lines (g ∷ acc) ≡ lines acc = lines-cons g acc (glyph (n % 10)) in
-    one_of (n / 10 == 0) (g ∷ acc) (digits_onto k 10 false (n / 10) (g ∷ acc)) (lines acc) front (digits_none k (n / 10) (g ∷ acc) ∙ front)
+    let prefix : lines (g ∷ acc) ≡ lines acc = lines-cons g acc (glyph (n % 10)) in
+    one_of (n / 10 == 0) (g ∷ acc) (digits_onto k 10 false (n / 10) (g ∷ acc)) (lines acc) prefix (digits_none k (n / 10) (g ∷ acc) ∙ prefix)
 
 decimal_none : (n : ℕ) → lines (decimal n) ≡ 0
 unfolding digits
@@ -66,7 +66,7 @@ decimal_none n = digits_none 64 n []
 
 -- ---- a field
 
-escape_none : (b : ℕ) → lines (escape b) ≡ 0
+escape_none : (b : ℕ) → lines (escape_byte b) ≡ 0
 escape_none b = by (b == 9) (b == 10) (b == 13) (b == 92) refl
   where
     by : (tab lf cr backslash : Bool) → is_lf b ≡ lf
@@ -77,26 +77,26 @@ escape_none b = by (b == 9) (b == 10) (b == 13) (b == 92) refl
     by false false false true is = refl
     by false false false false is = lines-cons b [] is
 
-escaped_none : (text : List ℕ) → lines (escaped text) ≡ 0
+escaped_none : (text : List ℕ) → lines (escaped_text text) ≡ 0
 escaped_none [] = refl
-escaped_none (b ∷ bs) = no_lines (escape b) (escaped bs) (escape_none b) (escaped_none bs)
+escaped_none (b ∷ bs) = no_lines (escape_byte b) (escaped_text bs) (escape_none b) (escaped_none bs)
 
 field_none : (text : Option (List ℕ)) → lines (field text) ≡ 0
 field_none None = refl
-field_none (Some text) = one_of (bytes_eq text (codes "-")) (codes "\\-") (escaped text) 0 refl (escaped_none text)
+field_none (Some text) = one_of (bytes_eq text (codes "-")) (codes "\\-") (escaped_text text) 0 refl (escaped_none text)
 
 -- ---- a line
 
 abbrev NoLines : List (List ℕ) → Type 0
 NoLines fields = AllByRecursion (λ f. lines f ≡ 0) fields
 
-tabbed_none : (fields : List (List ℕ)) → NoLines fields → lines (tabbed fields) ≡ 0
+tabbed_none : (fields : List (List ℕ)) → NoLines fields → lines (fields_text fields) ≡ 0
 tabbed_none [] h = refl
-tabbed_none (f ∷ fields) h = no_lines (9 ∷ f) (tabbed fields) (lines-cons 9 f refl ∙ h.0) (tabbed_none fields h.1)
+tabbed_none (f ∷ fields) h = no_lines (9 ∷ f) (fields_text fields) (lines-cons 9 f refl ∙ h.0) (tabbed_none fields h.1)
 
 line_one : (first : List ℕ) (fields : List (List ℕ)) → lines first ≡ 0 → NoLines fields → lines (line_of first fields) ≡ 1
 line_one first fields none h =
-    adds (first ++ tabbed fields) (codes "\n") 0 1 (no_lines first (tabbed fields) none (tabbed_none fields h)) refl
+    adds (first ++ fields_text fields) (codes "\n") 0 1 (no_lines first (fields_text fields) none (tabbed_none fields h)) refl
 
 vcs_none : (vcs : VcsValue) → NoLines (vcs_fields vcs)
 vcs_none vcs = (refl, (refl, (field_none (Some (place_of vcs.location)), (refl, (field_none (Some (revision vcs)), (field_none vcs.subdirectory, tt))))))
@@ -121,7 +121,7 @@ source_none : (entry : EntryValue) (s : PickSource) → NoLines (source_fields e
 source_none entry source.Vcs = maybe_none vcs_fields vcs_none entry.vcs
 source_none entry source.Directory = maybe_none directory_fields directory_none entry.directory
 source_none entry source.Archive = maybe_none archive_fields archive_none entry.archive
-source_none entry (source.Wheel place) = maybe_none (file_fields (codes "wheel")) (λ file. file_none (codes "wheel") file refl) (slice_get entry.wheels place)
+source_none entry (source.Wheel position) = maybe_none (file_fields (codes "wheel")) (λ file. file_none (codes "wheel") file refl) (slice_get entry.wheels position)
 source_none entry source.Sdist = maybe_none (file_fields (codes "sdist")) (λ file. file_none (codes "sdist") file refl) entry.sdist
 
 plan_line_one : (n : ℕ) (s : PickSource) (entry : EntryValue) → lines (plan_line n s entry) ≡ 1
@@ -131,7 +131,7 @@ plan_line_one n s entry =
 
 -- ---- the lines of a plan
 
--- an entry that stands at a place is found by its number, or one before it is
+-- an entry that stands at a position is found by its number, or one before it is
 entry_found : (n : ℕ) (entry : EntryValue) (es : List (ℕ × EntryValue)) → Contains es (n, entry) → (x : EntryValue) × (entry_at n es ≡ Some x)
 entry_found n entry [] h = absurd (omega (arith, h.1))
 entry_found n entry (e ∷ es) (zero, l, here) = (e.1, rw (eq-eqb n e.0 (sym (ap (λ p. p.0) here))))

@@ -25,9 +25,9 @@ some_length : (b : ℕ) (bs : List ℕ) → 0 < length (b ∷ bs)
 some_length b bs = omega arith
 
 -- what `parse` gives at an entry's number
-pub parsed_entry_number : {E : Type 0} (bs : List ℕ) (r : Result ℕ E) → ParsesUnsigned 32 10 bs r → is_entry_number bs ≡ true → result_ok r ≡ entry_number bs
-parsed_entry_number [] r h e = absurd (false≢true e)
-parsed_entry_number (b ∷ bs) r h e =
+pub parses_entry_number : {E : Type 0} (bs : List ℕ) (r : Result ℕ E) → ParsesUnsigned 32 10 bs r → is_entry_number bs ≡ true → result_ok r ≡ entry_number bs
+parses_entry_number [] r h e = absurd (false≢true e)
+parses_entry_number (b ∷ bs) r h e =
     let tests : ((not (b == 48) && nat_le (length (b ∷ bs)) 6) ≡ true) × (list_all is_ascii_digit (b ∷ bs) ≡ true) = and_parts _ _ e in
     let short : length (b ∷ bs) ≤ 6 = leb-true _ _ (and_parts _ _ tests.0).1 in
     let fits : digits_value 10 (b ∷ bs) < 2 ^ 32 = six_digits_fit _ (digits_value_short digits (b ∷ bs) 6 tests.1 short) in

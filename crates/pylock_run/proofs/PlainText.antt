@@ -6,21 +6,21 @@ use Rattle.std.proofs.lemmas.List.Folds.{list_all-append}
 use Rattle.std.proofs.lemmas.Nat.{mod_below}
 use Rattle.std.specs.List.{list_all}
 use Rattle.std.specs.Simd.{first_chunks}
-use Rattle.pylock_run.specs.Text.Field.{escape, escaped}
+use Rattle.pylock_run.specs.Text.Field.{escape_byte, escaped_text}
 use Rattle.pylock_run.specs.Inner.Plain.{is_ordinary}
 
-ordinary_stands : (b : ℕ) → is_ordinary b ≡ true → escape b ≡ b ∷ []
+ordinary_stands : (b : ℕ) → is_ordinary b ≡ true → escape_byte b ≡ b ∷ []
 ordinary_stands b ordinary =
     let (above, other) = and_parts (nat_lt 13 b) _ ordinary in
     let high : 13 < b = ltb-true 13 b above in
     rw (ne_eqb b 9 (λ is. omega arith), ne_eqb b 10 (λ is. omega arith), ne_eqb b 13 (λ is. omega arith), not-true (b == 92) other) refl
 
 -- it stands in a field as it is
-pub plain_stands : (text : List ℕ) → list_all is_ordinary text ≡ true → escaped text ≡ text
+pub plain_stands : (text : List ℕ) → list_all is_ordinary text ≡ true → escaped_text text ≡ text
 plain_stands [] plain = refl
 plain_stands (b ∷ bs) plain =
     let (here, more) = and_parts (is_ordinary b) (list_all is_ordinary bs) plain in
-    ap (λ front. front ++ escaped bs) (ordinary_stands b here) ∙ ap (λ rest. b ∷ rest) (plain_stands bs more)
+    ap (λ prefix. prefix ++ escaped_text bs) (ordinary_stands b here) ∙ ap (λ rest. b ∷ rest) (plain_stands bs more)
 
 module _ {X : Type 0} (test : X → Bool) where
   all_joined : (xs ys : List X) → list_all test xs ≡ true → list_all test ys ≡ true → list_all test (xs ++ ys) ≡ true
@@ -64,8 +64,8 @@ module _ {X : Type 0} (test : X → Bool) where
       let whole = length xs / size * size in
       let below : length xs % size < size = mod_below (length xs) size some in
       let left : length xs - whole ≡ length xs % size = sym (length-drop whole xs) ∙ ap length (sym is) ∙ short in
-      let place : whole ≡ length xs - size + (whole - (length xs - size)) = omega arith in
+      let position : whole ≡ length xs - size + (whole - (length xs - size)) = omega arith in
       all_chunks size (length xs / size) xs chunks
       (subst (λ ys. list_all test ys ≡ true)
-      (drop-drop (whole - (length xs - size)) (length xs - size) xs ∙ ap (λ n. drop n xs) (sym place))
+      (drop-drop (whole - (length xs - size)) (length xs - size) xs ∙ ap (λ n. drop n xs) (sym position))
       (all_drop (whole - (length xs - size)) (drop (length xs - size) xs) last))

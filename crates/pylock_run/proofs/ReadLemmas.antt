@@ -53,5 +53,5 @@ IsCause-after limit size old mid new bytes fault read same cause =
 -- a call over known bytes
 pub ReadConsumes-known : {E : Type 0} (r : Result ℕ E) (old new buf : List ℕ) → IfOk r (λ n. old ≡ take n buf ++ new)
     → IfOk r (λ n. n ≡ 0 → 0 < length buf → new ≡ []) → OnErr r (new ≡ old) → ReadConsumes (Some old) (Some new) r buf
-ReadConsumes-known (Ok n) old new buf given end kept = (given, end)
-ReadConsumes-known (Err e) old new buf given end kept = kept
+ReadConsumes-known (Ok n) old new buf given end kept_part = (given, end)
+ReadConsumes-known (Err e) old new buf given end kept_part = kept_part

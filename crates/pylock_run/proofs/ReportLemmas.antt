@@ -5,19 +5,19 @@ use Rattle.std.specs.Io.KnownBytes.{Appends, IsAtEnd}
 use Rattle.pylock_core.specs.Session.State.{State}
 use Rattle.pylock_core.specs.Session.Steps.{answer}
 use Rattle.pylock_run.specs.Inner.Edited.{EditsAll, EditFault}
-use Rattle.pylock_run.specs.Inner.Editing.{At, start, bytes_done, bytes_text, finished, finished_text, lines_begun}
+use Rattle.pylock_run.specs.Inner.Editing.{EditingValue, start, editing_after, bytes_text, after_input, input_end_text, lines_begun}
 use Rattle.pylock_run.specs.Inner.Writes.{Writes}
 use Rattle.pylock_run.specs.Line.{input_lines}
-use Rattle.pylock_run.specs.Report.{standing_text, is_plan, state_after_all, report_on}
+use Rattle.pylock_run.specs.Report.{current_answer_text, is_plan, state_after_all, report_on}
 use Rattle.pylock_run.specs.Report.Print.{Prints, IsOutputFault}
 use Rattle.pylock_run.specs.Report.Run.{Reports, Stops, IsRun, most_bytes, most_lines}
-use Rattle.pylock_run.specs.Stream.{SourceValue, SinkValue, TakesFront, one_more}
+use Rattle.pylock_run.specs.Stream.{SourceValue, SinkValue, TakesPrefix, one_more}
 use Rattle.pylock_run.specs.declared.report.fault.RunFault.{RunFault}
 use Rattle.pylock_run.specs.declared.report.fault.RunFault.TheVariants.{Memory}
 use Rattle.pylock_run.specs.declared.report.opening.OpenError.{OpenError}
-use Rattle.pylock_run.proofs.EditingLemmas.{edits, prints_ended, plan_told, ended-finished}
+use Rattle.pylock_run.proofs.EditingLemmas.{edits, prints_complete, plan_told, complete-after_input}
 use Rattle.pylock_run.proofs.RunLemmas.{HasCause-map}
-use Rattle.pylock_run.proofs.WriteLemmas.{Writes-trans, Pours-flush, front_none, front_more, front_same, front_after}
+use Rattle.pylock_run.proofs.WriteLemmas.{Writes-trans, Pours-flush, prefix_none, prefix_more, prefix_same, prefix_after}
 
 -- a state in which a run begins
 abbrev pub begun : State → Result State OpenError
@@ -28,28 +28,28 @@ input_text state input = (report_on (begun state) (input_lines input)).text
 
 -- what a whole input prints
 text_of_input : (state : State) (input : List ℕ)
-    → (standing_text state ++ bytes_text (start state) input) ++ finished_text (bytes_done (start state) input) ≡ input_text state input
+    → (current_answer_text state ++ bytes_text (start state) input) ++ input_end_text (editing_after (start state) input) ≡ input_text state input
 text_of_input state input =
-    append_assoc (standing_text state) (bytes_text (start state) input) (finished_text (bytes_done (start state) input))
-    ∙ ap (λ t. standing_text state ++ t) (edits state input).prints
+    append_assoc (current_answer_text state) (bytes_text (start state) input) (input_end_text (editing_after (start state) input))
+    ∙ ap (λ t. current_answer_text state ++ t) (edits state input).prints
 
-lines_total : (begun ended lines : ℕ) → ended ≡ begun → ended ≡ 0 + lines → begun ≡ lines
-lines_total begun ended lines same total = omega arith
+lines_total : (begun complete lines : ℕ) → complete ≡ begun → complete ≡ 0 + lines → begun ≡ lines
+lines_total begun complete lines same total = omega arith
 
 past_all : (size limit : ℕ) → limit < 0 + size → limit < size
 past_all size limit past = omega arith
 
 -- how many lines it has
-lines_of_input : (state : State) (input : List ℕ) → lines_begun (bytes_done (start state) input) ≡ length (input_lines input)
+lines_of_input : (state : State) (input : List ℕ) → lines_begun (editing_after (start state) input) ≡ length (input_lines input)
 lines_of_input state input =
-    let at = bytes_done (start state) input in
-    lines_total (lines_begun at) (finished at).ended (length (input_lines input)) (ended-finished at) (edits state input).ended
+    let at = editing_after (start state) input in
+    lines_total (lines_begun at) (after_input at).complete (length (input_lines input)) (complete-after_input at) (edits state input).complete
 
 -- memory was refused before anything was written
 pub stops_at_once : (begins : Result State OpenError) (source : SourceValue) (sink : SinkValue) → IsRun begins source source sink sink (Err Memory)
 stops_at_once begins source sink = record {
   reports = tt;
-  stops = record { input = []; gave = Consumes-nil source.rest; front = front_none sink _; cause = (refl, refl) };
+  stops = record { input = []; gave = Consumes-nil source.rest; prefix = prefix_none sink _; cause = (refl, refl) };
   unasked = λ refused. refl;
 }
 
@@ -60,17 +60,17 @@ stopped state source source' sink sink' fault stops = record { reports = tt; sto
 
 -- the first answer was not written
 pub stops_at_first : (state : State) (source : SourceValue) (sink sink' : SinkValue) (fault : RunFault)
-    → TakesFront sink sink' (standing_text state) → IsOutputFault sink sink' fault → IsRun (begun state) source source sink sink' (Err fault)
-stops_at_first state source sink sink' fault front why = stopped state source source sink sink' fault (record {
+    → TakesPrefix sink sink' (current_answer_text state) → IsOutputFault sink sink' fault → IsRun (begun state) source source sink sink' (Err fault)
+stops_at_first state source sink sink' fault prefix why = stopped state source source sink sink' fault (record {
   input = [];
   gave = Consumes-nil source.rest;
-  front = front_more sink sink' (standing_text state) [] front;
-  cause = HasCause-map _ _ _ _ _ _ _ _ fault (λ none. absurd none) (λ failed. (refl, failed)) (λ none. absurd none) (λ memory. (refl, memory)) why;
+  prefix = prefix_more sink sink' (current_answer_text state) [] prefix;
+  cause = HasCause-map _ _ fault (λ none. absurd none) (λ failed. (refl, failed)) (λ none. absurd none) (λ memory. (refl, memory)) why;
 })
 
 -- a piece was not read, not edited by or not written
-pub stops_between : (state : State) (source source' : SourceValue) (sink mid sink' : SinkValue) (at : At) (fault : RunFault)
-    → at ≡ start state → Writes sink mid (standing_text state) → EditFault source source' mid sink' at 0 fault
+pub stops_between : (state : State) (source source' : SourceValue) (sink mid sink' : SinkValue) (at : EditingValue) (fault : RunFault)
+    → at ≡ start state → Writes sink mid (current_answer_text state) → EditFault source source' mid sink' at 0 fault
     → IsRun (begun state) source source' sink sink' (Err fault)
 stops_between state source source' sink mid sink' at fault begins first stop =
     let fault_at = subst (λ a. EditFault source source' mid sink' a 0 fault) begins stop in
@@ -78,16 +78,16 @@ stops_between state source source' sink mid sink' at fault begins first stop =
     stopped state source source' sink sink' fault (record {
       input = input;
       gave = fault_at.gave;
-      front = front_same sink sink' _ _ (text_of_input state input)
-          (front_more sink sink' _ (finished_text (bytes_done (start state) input))
-          (front_after sink mid sink' (standing_text state) [] (bytes_text (start state) input)
-          (Pours-flush sink mid (standing_text state) [] first refl) fault_at.front));
-      cause = HasCause-map _ _ _ _ _ _ _ _ fault
+      prefix = prefix_same sink sink' _ _ (text_of_input state input)
+          (prefix_more sink sink' _ (input_end_text (editing_after (start state) input))
+          (prefix_after sink mid sink' (current_answer_text state) [] (bytes_text (start state) input)
+          (Pours-flush sink mid (current_answer_text state) [] first refl) fault_at.prefix));
+      cause = HasCause-map _ _ fault
           (λ read. (
             read.0,
             read.1 ∙ first.counted,
-            subst (λ t. Appends sink.held sink'.held (standing_text state ++ t)) (prints_ended state input)
-                (Appends-trans sink.held mid.held sink'.held (standing_text state) (bytes_text (start state) input) first.held read.2),
+            subst (λ t. Appends sink.held sink'.held (current_answer_text state ++ t)) (prints_complete state input)
+                (Appends-trans sink.held mid.held sink'.held (current_answer_text state) (bytes_text (start state) input) first.held read.2),
           ))
           (λ write. (write.0, write.1 ∙ ap one_more first.counted))
           (λ past. (
@@ -103,25 +103,25 @@ stops_between state source source' sink mid sink' at fault begins first stop =
     })
 
 -- what was written before the last line
-before_last : (state : State) (sink mid late : SinkValue) (input : List ℕ) → Writes sink mid (standing_text state)
-    → Writes mid late (bytes_text (start state) input) → Writes sink late (standing_text state ++ bytes_text (start state) input)
-before_last state sink mid late input first edited = Writes-trans sink mid late (standing_text state) (bytes_text (start state) input) first edited
+before_last : (state : State) (sink mid late : SinkValue) (input : List ℕ) → Writes sink mid (current_answer_text state)
+    → Writes mid late (bytes_text (start state) input) → Writes sink late (current_answer_text state ++ bytes_text (start state) input)
+before_last state sink mid late input first edited = Writes-trans sink mid late (current_answer_text state) (bytes_text (start state) input) first edited
 
 -- what the last line prints was not written
-pub stops_at_last : (state : State) (source source' : SourceValue) (sink mid late sink' : SinkValue) (at last : At) (fault : RunFault)
-    → at ≡ start state → Writes sink mid (standing_text state) → EditsAll source source' mid late at last
-    → TakesFront late sink' (finished_text last) → IsOutputFault late sink' fault → IsRun (begun state) source source' sink sink' (Err fault)
-stops_at_last state source source' sink mid late sink' at last fault begins first all front why =
+pub stops_at_last : (state : State) (source source' : SourceValue) (sink mid late sink' : SinkValue) (at last : EditingValue) (fault : RunFault)
+    → at ≡ start state → Writes sink mid (current_answer_text state) → EditsAll source source' mid late at last
+    → TakesPrefix late sink' (input_end_text last) → IsOutputFault late sink' fault → IsRun (begun state) source source' sink sink' (Err fault)
+stops_at_last state source source' sink mid late sink' at last fault begins first all prefix why =
     let edited = subst (λ a. EditsAll source source' mid late a last) begins all in
     let input = edited.given in
     let here = before_last state sink mid late input first edited.writes in
     stopped state source source' sink sink' fault (record {
       input = input;
       gave = edited.gave;
-      front = front_same sink sink' _ _
-          (ap (λ a. (standing_text state ++ bytes_text (start state) input) ++ finished_text a) edited.editing ∙ text_of_input state input)
-          (front_after sink late sink' _ [] (finished_text last) (Pours-flush sink late _ [] here refl) front);
-      cause = HasCause-map _ _ _ _ _ _ _ _ fault
+      prefix = prefix_same sink sink' _ _
+          (ap (λ a. (current_answer_text state ++ bytes_text (start state) input) ++ input_end_text a) edited.editing ∙ text_of_input state input)
+          (prefix_after sink late sink' _ [] (input_end_text last) (Pours-flush sink late _ [] here refl) prefix);
+      cause = HasCause-map _ _ fault
           (λ none. absurd none)
           (λ failed. (edited.reads, failed ∙ ap one_more here.counted))
           (λ none. absurd none)
@@ -130,24 +130,24 @@ stops_at_last state source source' sink mid late sink' at last fault begins firs
     })
 
 -- the whole input
-pub session_reports : (state : State) (source source' : SourceValue) (sink mid late sink' : SinkValue) (at last end : At) (status : ℕ)
-    → at ≡ start state → Writes sink mid (standing_text state) → EditsAll source source' mid late at last → IsAtEnd source'.rest
-    → lines_begun last ≤ most_lines → end ≡ finished last → Writes late sink' (finished_text last)
+pub session_reports : (state : State) (source source' : SourceValue) (sink mid late sink' : SinkValue) (at last end : EditingValue) (status : ℕ)
+    → at ≡ start state → Writes sink mid (current_answer_text state) → EditsAll source source' mid late at last → IsAtEnd source'.rest
+    → lines_begun last ≤ most_lines → end ≡ after_input last → Writes late sink' (input_end_text last)
     → status ≡ cond (end.plan && not end.refused) 0 1
     → IsRun (begun state) source source' sink sink' (Ok status)
-session_reports state source source' sink mid late sink' at last end status begins first all at_end lines ended written told =
+session_reports state source source' sink mid late sink' at last end status begins first all at_end lines complete written told =
     let edited = subst (λ a. EditsAll source source' mid late a last) begins all in
     let input = edited.given in
     let here = before_last state sink mid late input first edited.writes in
-    let done = finished (bytes_done (start state) input) in
-    let finish : end ≡ done = ended ∙ ap (λ a. finished a) edited.editing in
+    let done = after_input (editing_after (start state) input) in
+    let finish : end ≡ done = complete ∙ ap (λ a. after_input a) edited.editing in
     let facts = edits state input in
-    let whole = Writes-trans sink late sink' _ (finished_text last) here written in
+    let whole = Writes-trans sink late sink' _ (input_end_text last) here written in
     let reports : Reports (begun state) source source' sink sink' status = record {
       input = input;
       gave = edited.gave;
       took = subst (Appends sink.held sink'.held)
-          (ap (λ a. (standing_text state ++ bytes_text (start state) input) ++ finished_text a) edited.editing ∙ text_of_input state input)
+          (ap (λ a. (current_answer_text state ++ bytes_text (start state) input) ++ input_end_text a) edited.editing ∙ text_of_input state input)
           whole.held;
       answers = told ∙ ap (λ a. cond (a.plan && not a.refused) 0 1) finish
           ∙ ap (λ p. cond (p && not done.refused) 0 1) (plan_told state input ∙ ap (λ s. is_plan (answer s)) facts.state)
@@ -186,8 +186,8 @@ refused_runs_at error source sink sink' (Err met) prints = record {
   stops = record {
     input = [];
     gave = Consumes-nil source.rest;
-    front = prints.front;
-    cause = HasCause-map _ _ _ _ _ _ _ _ met (λ none. absurd none) (λ failed. (refl, failed)) (λ none. absurd none) (λ memory. (refl, memory)) prints.fault;
+    prefix = prints.prefix;
+    cause = HasCause-map _ _ met (λ none. absurd none) (λ failed. (refl, failed)) (λ none. absurd none) (λ memory. (refl, memory)) prints.fault;
   };
   unasked = λ refused. refl;
 }

@@ -5,97 +5,97 @@ use Rattle.std.proofs.Math.Seq.{take-add}
 use Rattle.std.proofs.lemmas.List.{take_all}
 use Rattle.std.specs.Io.KnownBytes.{Appends}
 use Rattle.pylock_run.specs.Inner.Edited.{Edited, EditsAll, EditFault}
-use Rattle.pylock_run.specs.Inner.Editing.{At, bytes_done, bytes_text, lines_begun}
-use Rattle.pylock_run.specs.Inner.Faults.{IsTakeFault, IsFeedFault}
+use Rattle.pylock_run.specs.Inner.Editing.{EditingValue, editing_after, bytes_text, lines_begun}
+use Rattle.pylock_run.specs.Inner.Faults.{IsTakeFault, IsFeedFault, IsWriteFault}
 use Rattle.pylock_run.specs.Inner.Writes.{Writes, Pours}
-use Rattle.pylock_run.specs.Report.Fault.{HasCause}
+use Rattle.pylock_run.specs.Report.Fault.{Causes, HasCause}
 use Rattle.pylock_run.specs.Report.Run.{most_bytes, most_lines}
-use Rattle.pylock_run.specs.Stream.{SourceValue, SinkValue, TakesFront, one_more}
+use Rattle.pylock_run.specs.Stream.{SourceValue, SinkValue, TakesPrefix, one_more}
 use Rattle.pylock_run.specs.declared.report.fault.RunFault.{RunFault}
 use Rattle.pylock_run.specs.declared.report.fault.RunFault.TheVariants.{Read, Write, Input, Memory}
-use Rattle.pylock_run.proofs.EditingLemmas.{begun_past, text_front, done_front, bytes_done-append, bytes_text-append}
-use Rattle.pylock_run.proofs.WriteLemmas.{within_more, Writes-trans, Pours-more, Pours-flush, front_more, front_same, front_after}
+use Rattle.pylock_run.proofs.EditingLemmas.{begun_past, text_prefix, done_prefix, editing_after-append, bytes_text-append}
+use Rattle.pylock_run.proofs.WriteLemmas.{within_more, Writes-trans, Pours-more, Pours-flush, prefix_more, prefix_same, prefix_after}
 
 pub on_err : {T E P : Type 0} (r : Result T E) → P → OnErr r P
 on_err (Ok x) p = tt
 on_err (Err e) p = p
 
 -- from the causes of a step to those of the whole
-pub HasCause-map : (read write input memory read' write' input' memory' : Type 0) (fault : RunFault)
-    → (read → read') → (write → write') → (input → input') → (memory → memory')
-    → HasCause read write input memory fault → HasCause read' write' input' memory' fault
-HasCause-map a b c d a' b' c' d' Read f g h k cause = f cause
-HasCause-map a b c d a' b' c' d' Write f g h k cause = g cause
-HasCause-map a b c d a' b' c' d' Input f g h k cause = h cause
-HasCause-map a b c d a' b' c' d' Memory f g h k cause = k cause
+pub HasCause-map : (step whole : Causes) (fault : RunFault)
+    → (step.read → whole.read) → (step.write → whole.write) → (step.input → whole.input) → (step.memory → whole.memory)
+    → HasCause step fault → HasCause whole fault
+HasCause-map step whole Read read write input memory cause = read cause
+HasCause-map step whole Write read write input memory cause = write cause
+HasCause-map step whole Input read write input memory cause = input cause
+HasCause-map step whole Memory read write input memory cause = memory cause
 
-past_limit : (ended begun limit : ℕ) → ended ≡ limit → ended + 1 ≤ begun → limit < begun
-past_limit ended begun limit same past = omega arith
+past_limit : (complete begun limit : ℕ) → complete ≡ limit → complete + 1 ≤ begun → limit < begun
+past_limit complete begun limit same past = omega arith
 
 -- no byte of the piece could be taken
-pub feed_fault_from_take : (sink : SinkValue) (at : At) (bytes : List ℕ) (fault : RunFault) → 0 < length bytes → IsTakeFault at.ended fault
-    → IsFeedFault sink sink (lines_begun (bytes_done at bytes)) fault
+pub feed_fault_from_take : (sink : SinkValue) (at : EditingValue) (bytes : List ℕ) (fault : RunFault) → 0 < length bytes → IsTakeFault at.complete fault
+    → IsFeedFault sink sink (lines_begun (editing_after at bytes)) fault
 feed_fault_from_take sink at bytes fault some why =
-    HasCause-map _ _ _ _ _ _ _ _ fault (λ none. none) (λ none. absurd none) (λ ended. (past_limit at.ended _ most_lines ended (begun_past at bytes some), refl)) (λ memory. refl) why
+    HasCause-map _ _ fault (λ none. none) (λ none. absurd none) (λ complete. (past_limit at.complete _ most_lines complete (begun_past at bytes some), refl)) (λ memory. refl) why
 
--- a front of what a part of the piece prints is a front of what the piece prints
-pub piece_front : (old new : SinkValue) (at : At) (bytes out taken : List ℕ) (n : ℕ) → taken ≡ out ++ bytes_text at (take n bytes)
-    → TakesFront old new taken → TakesFront old new (out ++ bytes_text at bytes)
-piece_front old new at bytes out taken n pushed front =
-    let rest = bytes_text (bytes_done at (take n bytes)) (drop n bytes) in
-    front_same old new (taken ++ rest) (out ++ bytes_text at bytes)
-    (ap (λ t. t ++ rest) pushed ∙ append_assoc out (bytes_text at (take n bytes)) rest ∙ ap (λ t. out ++ t) (sym (text_front at bytes n)))
-    (front_more old new taken rest front)
+-- a prefix of what a part of the piece prints is a prefix of what the piece prints
+pub piece_prefix : (old new : SinkValue) (at : EditingValue) (bytes out taken : List ℕ) (n : ℕ) → taken ≡ out ++ bytes_text at (take n bytes)
+    → TakesPrefix old new taken → TakesPrefix old new (out ++ bytes_text at bytes)
+piece_prefix old new at bytes out taken n pushed prefix =
+    let rest = bytes_text (editing_after at (take n bytes)) (drop n bytes) in
+    prefix_same old new (taken ++ rest) (out ++ bytes_text at bytes)
+    (ap (λ t. t ++ rest) pushed ∙ append_assoc out (bytes_text at (take n bytes)) rest ∙ ap (λ t. out ++ t) (sym (text_prefix at bytes n)))
+    (prefix_more old new taken rest prefix)
 
 -- how far the editing of a piece has come
-pub record Fed (old new : SinkValue) (start at : At) (piece before out : List ℕ) (done : ℕ) : Type 0 where
+pub record Fed (old new : SinkValue) (start at : EditingValue) (piece before out : List ℕ) (done : ℕ) : Type 0 where
   pub within : done ≤ length piece
-  pub editing : at ≡ bytes_done start (take done piece)
+  pub editing : at ≡ editing_after start (take done piece)
   pub poured : Pours old new (before ++ bytes_text start (take done piece)) out
 
-pub Fed-more : (old mid new : SinkValue) (start at next : At) (piece before out last bytes : List ℕ) (done count : ℕ)
+pub Fed-more : (old mid new : SinkValue) (start at next : EditingValue) (piece before out last bytes : List ℕ) (done count : ℕ)
     → Fed old mid start at piece before out done → bytes ≡ drop done piece → count ≤ length bytes
-    → next ≡ bytes_done at (take count bytes) → Pours mid new (out ++ bytes_text at (take count bytes)) last
+    → next ≡ editing_after at (take count bytes) → Pours mid new (out ++ bytes_text at (take count bytes)) last
     → Fed old new start next piece before last (done + count)
 Fed-more old mid new start at next piece before out last bytes done count fed left fits step poured =
-    let front = take done piece in
+    let prefix = take done piece in
     let more = take count (drop done piece) in
-    let whole : take (done + count) piece ≡ front ++ more = take-add done count piece in
-    let there : at ≡ bytes_done start front = fed.editing in
+    let whole : take (done + count) piece ≡ prefix ++ more = take-add done count piece in
+    let there : at ≡ editing_after start prefix = fed.editing in
     let taken : take count bytes ≡ more = ap (take count) left in
     let size : length bytes ≡ length piece - done = ap length left ∙ length-drop done piece in
-    let text : bytes_text at (take count bytes) ≡ bytes_text (bytes_done start front) more = ap (λ a. bytes_text a (take count bytes)) there ∙ ap (bytes_text (bytes_done start front)) taken in
+    let text : bytes_text at (take count bytes) ≡ bytes_text (editing_after start prefix) more = ap (λ a. bytes_text a (take count bytes)) there ∙ ap (bytes_text (editing_after start prefix)) taken in
     record {
       within = within_more done count (length piece) (length bytes) fed.within size fits;
-      editing = step ∙ ap (λ a. bytes_done a (take count bytes)) there ∙ ap (bytes_done (bytes_done start front)) taken
-          ∙ sym (bytes_done-append start front more) ∙ ap (bytes_done start) (sym whole);
+      editing = step ∙ ap (λ a. editing_after a (take count bytes)) there ∙ ap (editing_after (editing_after start prefix)) taken
+          ∙ sym (editing_after-append start prefix more) ∙ ap (editing_after start) (sym whole);
       poured = subst (λ t. Pours old new t last)
-          (append_assoc before (bytes_text start front) (bytes_text at (take count bytes))
-          ∙ ap (λ t. before ++ t) (ap (λ t. bytes_text start front ++ t) text ∙ sym (bytes_text-append start front more) ∙ ap (bytes_text start) (sym whole)))
-          (Pours-more old mid new (before ++ bytes_text start front) out (bytes_text at (take count bytes)) last fed.poured poured);
+          (append_assoc before (bytes_text start prefix) (bytes_text at (take count bytes))
+          ∙ ap (λ t. before ++ t) (ap (λ t. bytes_text start prefix ++ t) text ∙ sym (bytes_text-append start prefix more) ∙ ap (bytes_text start) (sym whole)))
+          (Pours-more old mid new (before ++ bytes_text start prefix) out (bytes_text at (take count bytes)) last fed.poured poured);
     }
 
--- a front of what is left of the piece was written, after the rest
-pub Fed-front : (old mid new : SinkValue) (start at : At) (piece before out bytes : List ℕ) (done : ℕ)
-    → Fed old mid start at piece before out done → bytes ≡ drop done piece → TakesFront mid new (out ++ bytes_text at bytes)
-    → TakesFront old new (before ++ bytes_text start piece)
-Fed-front old mid new start at piece before out bytes done fed left front =
+-- a prefix of what is left of the piece was written, after the rest
+pub Fed-prefix : (old mid new : SinkValue) (start at : EditingValue) (piece before out bytes : List ℕ) (done : ℕ)
+    → Fed old mid start at piece before out done → bytes ≡ drop done piece → TakesPrefix mid new (out ++ bytes_text at bytes)
+    → TakesPrefix old new (before ++ bytes_text start piece)
+Fed-prefix old mid new start at piece before out bytes done fed left prefix =
     let first = take done piece in
-    let text : bytes_text at bytes ≡ bytes_text (bytes_done start first) (drop done piece) = ap (λ a. bytes_text a bytes) fed.editing ∙ ap (bytes_text (bytes_done start first)) left in
-    front_same old new _ _
+    let text : bytes_text at bytes ≡ bytes_text (editing_after start first) (drop done piece) = ap (λ a. bytes_text a bytes) fed.editing ∙ ap (bytes_text (editing_after start first)) left in
+    prefix_same old new _ _
     (append_assoc before (bytes_text start first) (bytes_text at bytes)
-    ∙ ap (λ t. before ++ t) (ap (λ t. bytes_text start first ++ t) text ∙ sym (text_front start piece done)))
-    (front_after old mid new (before ++ bytes_text start first) out (bytes_text at bytes) fed.poured front)
+    ∙ ap (λ t. before ++ t) (ap (λ t. bytes_text start first ++ t) text ∙ sym (text_prefix start piece done)))
+    (prefix_after old mid new (before ++ bytes_text start first) out (bytes_text at bytes) fed.poured prefix)
 
-pub Fed-fault : (old mid new : SinkValue) (start at : At) (piece before out bytes : List ℕ) (done : ℕ) (fault : RunFault)
-    → Fed old mid start at piece before out done → bytes ≡ drop done piece → IsFeedFault mid new (lines_begun (bytes_done at bytes)) fault
-    → IsFeedFault old new (lines_begun (bytes_done start piece)) fault
+pub Fed-fault : (old mid new : SinkValue) (start at : EditingValue) (piece before out bytes : List ℕ) (done : ℕ) (fault : RunFault)
+    → Fed old mid start at piece before out done → bytes ≡ drop done piece → IsFeedFault mid new (lines_begun (editing_after at bytes)) fault
+    → IsFeedFault old new (lines_begun (editing_after start piece)) fault
 Fed-fault old mid new start at piece before out bytes done fault fed left why =
     let first = take done piece in
-    let there : bytes_done at bytes ≡ bytes_done start piece =
-    ap (λ a. bytes_done a bytes) fed.editing ∙ ap (bytes_done (bytes_done start first)) left ∙ sym (done_front start piece done) in
+    let there : editing_after at bytes ≡ editing_after start piece =
+    ap (λ a. editing_after a bytes) fed.editing ∙ ap (editing_after (editing_after start first)) left ∙ sym (done_prefix start piece done) in
     let same : mid.failures ≡ old.failures = fed.poured.writes.counted in
-    HasCause-map _ _ _ _ _ _ _ _ fault
+    HasCause-map _ _ fault
     (λ none. none)
     (λ failed. failed ∙ ap one_more same)
     (λ past. (subst (λ a. most_lines < lines_begun a) there past.0, past.1 ∙ same))
@@ -103,40 +103,40 @@ Fed-fault old mid new start at piece before out bytes done fault fed left why =
     why
 
 -- the whole piece
-pub Fed-all : (old new : SinkValue) (start at : At) (piece before out : List ℕ) (done : ℕ)
+pub Fed-all : (old new : SinkValue) (start at : EditingValue) (piece before out : List ℕ) (done : ℕ)
     → Fed old new start at piece before out done → length piece ≤ done
-    → (at ≡ bytes_done start piece) × Pours old new (before ++ bytes_text start piece) out
+    → (at ≡ editing_after start piece) × Pours old new (before ++ bytes_text start piece) out
 Fed-all old new start at piece before out done fed all =
     let whole : take done piece ≡ piece = take_all done piece all in
-    (fed.editing ∙ ap (bytes_done start) whole, subst (λ p. Pours old new (before ++ bytes_text start p) out) whole fed.poured)
+    (fed.editing ∙ ap (editing_after start) whole, subst (λ p. Pours old new (before ++ bytes_text start p) out) whole fed.poured)
 
 -- what stood in hand after the piece was not written
 pub feed_fault_from_flush : (old mid new : SinkValue) (text out : List ℕ) (begun : ℕ) (fault : RunFault) → Pours old mid text out
-    → HasCause ⊥ (new.failures ≡ one_more mid.failures) ⊥ ⊥ fault → IsFeedFault old new begun fault
-feed_fault_from_flush old mid new text out begun fault poured why = HasCause-map _ _ _ _ _ _ _ _ fault
+    → IsWriteFault mid new fault → IsFeedFault old new begun fault
+feed_fault_from_flush old mid new text out begun fault poured why = HasCause-map _ _ fault
     (λ none. none) (λ failed. failed ∙ ap one_more poured.writes.counted) (λ none. absurd none) (λ none. absurd none) why
 
 -- pieces one after another
 
-writes-more : (sink mid sink' : SinkValue) (start at : At) (xs ys : List ℕ) → Writes sink mid (bytes_text start xs) → at ≡ bytes_done start xs
+writes-more : (sink mid sink' : SinkValue) (start at : EditingValue) (xs ys : List ℕ) → Writes sink mid (bytes_text start xs) → at ≡ editing_after start xs
     → Writes mid sink' (bytes_text at ys) → Writes sink sink' (bytes_text start (xs ++ ys))
 writes-more sink mid sink' start at xs ys before there after =
     subst (Writes sink sink') (ap (λ a. bytes_text start xs ++ bytes_text a ys) there ∙ sym (bytes_text-append start xs ys))
     (Writes-trans sink mid sink' (bytes_text start xs) (bytes_text at ys) before after)
 
-held-more : (sink mid sink' : SinkValue) (start at : At) (xs ys : List ℕ) → Writes sink mid (bytes_text start xs) → at ≡ bytes_done start xs
+held-more : (sink mid sink' : SinkValue) (start at : EditingValue) (xs ys : List ℕ) → Writes sink mid (bytes_text start xs) → at ≡ editing_after start xs
     → Appends mid.held sink'.held (bytes_text at ys) → Appends sink.held sink'.held (bytes_text start (xs ++ ys))
 held-more sink mid sink' start at xs ys before there after =
     subst (Appends sink.held sink'.held) (ap (λ a. bytes_text start xs ++ bytes_text a ys) there ∙ sym (bytes_text-append start xs ys))
     (Appends-trans sink.held mid.held sink'.held (bytes_text start xs) (bytes_text at ys) before.held after)
 
-done-more : (start at next : At) (xs ys : List ℕ) → at ≡ bytes_done start xs → next ≡ bytes_done at ys → next ≡ bytes_done start (xs ++ ys)
-done-more start at next xs ys before after = after ∙ ap (λ a. bytes_done a ys) before ∙ sym (bytes_done-append start xs ys)
+done-more : (start at next : EditingValue) (xs ys : List ℕ) → at ≡ editing_after start xs → next ≡ editing_after at ys → next ≡ editing_after start (xs ++ ys)
+done-more start at next xs ys before after = after ∙ ap (λ a. editing_after a ys) before ∙ sym (editing_after-append start xs ys)
 
 size-more : (xs ys : List ℕ) (a b c : ℕ) → b ≡ a + length xs → c ≡ b + length ys → c ≡ a + length (xs ++ ys)
 size-more xs ys a b c before after = omega (arith, length-append xs ys)
 
-pub Edited-more : (source s source' : SourceValue) (sink k sink' : SinkValue) (start at next : At) (a b c : ℕ)
+pub Edited-more : (source s source' : SourceValue) (sink k sink' : SinkValue) (start at next : EditingValue) (a b c : ℕ)
     → Edited source s sink k start at a b → Edited s source' k sink' at next b c → Edited source source' sink sink' start next a c
 Edited-more source s source' sink k sink' start at next a b c before after = record {
   given = before.given ++ after.given;
@@ -151,13 +151,13 @@ size-past : (xs ys : List ℕ) (total limit : ℕ) → total ≡ 0 + length xs �
 size-past xs ys total limit size past = omega (arith, length-append xs ys)
 
 -- how far the reading of the input has come
-pub record EditedSoFar (source source' : SourceValue) (sink sink' : SinkValue) (start at : At) (total : ℕ) (out : List ℕ) : Type 0 where
+pub record EditedSoFar (source source' : SourceValue) (sink sink' : SinkValue) (start at : EditingValue) (total : ℕ) (out : List ℕ) : Type 0 where
   pub edited : Edited source source' sink sink' start at 0 total
   pub within : total ≤ most_bytes
   pub empty : out ≡ []
 
 -- a fault after the pieces before it
-pub EditFault-after : (source s source' : SourceValue) (sink k sink' : SinkValue) (start at : At) (total : ℕ) (out : List ℕ) (fault : RunFault)
+pub EditFault-after : (source s source' : SourceValue) (sink k sink' : SinkValue) (start at : EditingValue) (total : ℕ) (out : List ℕ) (fault : RunFault)
     → EditedSoFar source s sink k start at total out → EditFault s source' k sink' at total fault
     → EditFault source source' sink sink' start 0 fault
 EditFault-after source s source' sink k sink' start at total out fault before after =
@@ -169,17 +169,17 @@ EditFault-after source s source' sink k sink' start at total out fault before af
     record {
       given = xs ++ ys;
       gave = Consumes-trans source.rest s.rest source'.rest xs ys edited.gave after.gave;
-      front = front_same sink sink' _ _
+      prefix = prefix_same sink sink' _ _
           (ap (λ a. bytes_text start xs ++ bytes_text a ys) edited.editing ∙ sym (bytes_text-append start xs ys))
-          (front_after sink k sink' (bytes_text start xs) [] (bytes_text at ys) (Pours-flush sink k (bytes_text start xs) [] edited.writes refl) after.front);
-      cause = HasCause-map _ _ _ _ _ _ _ _ fault
+          (prefix_after sink k sink' (bytes_text start xs) [] (bytes_text at ys) (Pours-flush sink k (bytes_text start xs) [] edited.writes refl) after.prefix);
+      cause = HasCause-map _ _ fault
           (λ read. (read.0 ∙ ap one_more reads, read.1 ∙ writes, held-more sink k sink' start at xs ys edited.writes edited.editing read.2))
           (λ write. (write.0 ∙ reads, write.1 ∙ ap one_more writes))
           (λ input. (
             input.0 ∙ reads,
             input.1 ∙ writes,
             ⊎_elim
-                (λ lines. inl (subst (λ a. most_lines < lines_begun a) (done-more start at (bytes_done at ys) xs ys edited.editing refl) lines))
+                (λ lines. inl (subst (λ a. most_lines < lines_begun a) (done-more start at (editing_after at ys) xs ys edited.editing refl) lines))
                 (λ bytes. inr (size-past xs ys total most_bytes edited.size bytes))
                 input.2,
           ))
@@ -187,7 +187,7 @@ EditFault-after source s source' sink k sink' start at total out fault before af
           after.cause;
     }
 
-pub EditsAll-from : (source source' : SourceValue) (sink sink' : SinkValue) (start at : At) (total : ℕ) → Edited source source' sink sink' start at 0 total
+pub EditsAll-from : (source source' : SourceValue) (sink sink' : SinkValue) (start at : EditingValue) (total : ℕ) → Edited source source' sink sink' start at 0 total
     → total ≤ most_bytes → EditsAll source source' sink sink' start at
 EditsAll-from source source' sink sink' start at total edited within = record {
   given = edited.given;

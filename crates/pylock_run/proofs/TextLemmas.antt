@@ -5,7 +5,7 @@ use Rattle.std.specs.Str.{bytes_eq}
 use Rattle.std.specs.Prelude.{codes}
 use Rattle.std.proofs.Math.Bool.{and-false}
 use Rattle.std.proofs.lemmas.List.Concat.{flat_map-append}
-use Rattle.pylock_run.specs.Text.Field.{escape, escaped, field}
+use Rattle.pylock_run.specs.Text.Field.{escape_byte, escaped_text, field}
 use Rattle.pylock_run.specs.Text.Plan.{hash_text, hashes_text}
 use Rattle.pylock_run.specs.Inner.Hashes.{escaped_hash, more_hashes}
 use Rattle.std.specs.Prelude.{Option, None, option_map}
@@ -19,22 +19,22 @@ use Rattle.pylock_run.specs.Text.Plan.{vcs_fields, directory_fields, archive_fie
 use Rattle.std.specs.Prelude.{slice_get}
 
 -- a text with another mark in it is not `-`
-not_dash : (mark : ℕ) (front rest : List ℕ) → eqb mark 45 ≡ false → bytes_eq (front ++ mark ∷ rest) (45 ∷ []) ≡ false
+not_dash : (mark : ℕ) (prefix rest : List ℕ) → eqb mark 45 ≡ false → bytes_eq (prefix ++ mark ∷ rest) (45 ∷ []) ≡ false
 not_dash mark [] rest other = ap (λ t. t && bytes_eq rest []) other
 not_dash mark (b ∷ []) rest other = and-false (eqb b 45)
-not_dash mark (b ∷ c ∷ front) rest other = and-false (eqb b 45)
+not_dash mark (b ∷ c ∷ prefix) rest other = and-false (eqb b 45)
 
-escaped-hash_text : (hash : List ℕ × List ℕ) → escaped (hash_text hash) ≡ escaped_hash hash
-escaped-hash_text hash =
-    flat_map-append escape (hash.0 ++ codes "=") hash.1 ∙ ap (λ t. t ++ escaped hash.1) (flat_map-append escape hash.0 (codes "="))
+escaped_text-hash_text : (hash : List ℕ × List ℕ) → escaped_text (hash_text hash) ≡ escaped_hash hash
+escaped_text-hash_text hash =
+    flat_map-append escape_byte (hash.0 ++ codes "=") hash.1 ∙ ap (λ t. t ++ escaped_text hash.1) (flat_map-append escape_byte hash.0 (codes "="))
 
-escaped-hashes : (hash : List ℕ × List ℕ) (hashes : List (List ℕ × List ℕ))
-    → escaped (join_with_byte 44 (map hash_text (hash ∷ hashes))) ≡ escaped_hash hash ++ more_hashes hashes
-escaped-hashes hash [] = escaped-hash_text hash ∙ sym (append-nil (escaped_hash hash))
-escaped-hashes hash (next ∷ hashes) =
-    flat_map-append escape (hash_text hash) (44 ∷ join_with_byte 44 (map hash_text (next ∷ hashes)))
-    ∙ ap (λ t. t ++ (44 ∷ escaped (join_with_byte 44 (map hash_text (next ∷ hashes))))) (escaped-hash_text hash)
-    ∙ ap (λ t. escaped_hash hash ++ (44 ∷ t)) (escaped-hashes next hashes)
+escaped_text-hashes : (hash : List ℕ × List ℕ) (hashes : List (List ℕ × List ℕ))
+    → escaped_text (join_with_byte 44 (map hash_text (hash ∷ hashes))) ≡ escaped_hash hash ++ more_hashes hashes
+escaped_text-hashes hash [] = escaped_text-hash_text hash ∙ sym (append-nil (escaped_hash hash))
+escaped_text-hashes hash (next ∷ hashes) =
+    flat_map-append escape_byte (hash_text hash) (44 ∷ join_with_byte 44 (map hash_text (next ∷ hashes)))
+    ∙ ap (λ t. t ++ (44 ∷ escaped_text (join_with_byte 44 (map hash_text (next ∷ hashes))))) (escaped_text-hash_text hash)
+    ∙ ap (λ t. escaped_hash hash ++ (44 ∷ t)) (escaped_text-hashes next hashes)
 
 joined : (hash : List ℕ × List ℕ) (hashes : List (List ℕ × List ℕ)) → (rest : List ℕ) × (join_with_byte 44 (map hash_text (hash ∷ hashes)) ≡ hash.0 ++ 61 ∷ rest)
 joined hash [] = (hash.1, append_assoc hash.0 (codes "=") hash.1)
@@ -49,24 +49,24 @@ field-hashes hash hashes =
     let text = join_with_byte 44 (map hash_text (hash ∷ hashes)) in
     let parts = joined hash hashes in
     let other : bytes_eq text (45 ∷ []) ≡ false = ap (λ t. bytes_eq t (45 ∷ [])) parts.1 ∙ not_dash 61 hash.0 parts.0 refl in
-    ap (λ t. cond t (codes "\\-") (escaped text)) other ∙ escaped-hashes hash hashes
+    ap (λ t. cond t (codes "\\-") (escaped_text text)) other ∙ escaped_text-hashes hash hashes
 
 -- one push after another
 pub pushed_hashes : (old tab one all : List ℕ) (hash : List ℕ × List ℕ) (hashes : List (List ℕ × List ℕ))
     → tab ≡ old ++ 9 ∷ [] → one ≡ tab ++ escaped_hash hash → all ≡ one ++ more_hashes hashes → all ≡ old ++ 9 ∷ field (hashes_text (hash ∷ hashes))
-pushed_hashes old tab one all hash hashes tabbed first more =
-    more ∙ ap (λ t. t ++ more_hashes hashes) (first ∙ ap (λ t. t ++ escaped_hash hash) tabbed)
+pushed_hashes old tab one all hash hashes fields_text first more =
+    more ∙ ap (λ t. t ++ more_hashes hashes) (first ∙ ap (λ t. t ++ escaped_hash hash) fields_text)
     ∙ append_assoc (old ++ 9 ∷ []) (escaped_hash hash) (more_hashes hashes)
     ∙ append_assoc old (9 ∷ []) (escaped_hash hash ++ more_hashes hashes)
     ∙ ap (λ t. old ++ 9 ∷ t) (sym (field-hashes hash hashes))
 
 -- the field of a revision
-pub field_revision : (kind commit : List ℕ) → field (Some (kind ++ codes "@" ++ commit)) ≡ escaped kind ++ codes "@" ++ escaped commit
+pub field_revision : (kind commit : List ℕ) → field (Some (kind ++ codes "@" ++ commit)) ≡ escaped_text kind ++ codes "@" ++ escaped_text commit
 field_revision kind commit =
     let text = kind ++ codes "@" ++ commit in
     let other : bytes_eq text (45 ∷ []) ≡ false = ap (λ t. bytes_eq t (45 ∷ [])) (append_assoc kind (codes "@") commit) ∙ not_dash 64 kind commit refl in
-    ap (λ t. cond t (codes "\\-") (escaped text)) other
-    ∙ flat_map-append escape (kind ++ codes "@") commit ∙ ap (λ t. t ++ escaped commit) (flat_map-append escape kind (codes "@"))
+    ap (λ t. cond t (codes "\\-") (escaped_text text)) other
+    ∙ flat_map-append escape_byte (kind ++ codes "@") commit ∙ ap (λ t. t ++ escaped_text commit) (flat_map-append escape_byte kind (codes "@"))
 
 -- ---- the fields of a source
 
@@ -79,7 +79,7 @@ named_fields : (entry : EntryValue) (s : PickSource) → option_map_or picked_fi
 named_fields entry source.Vcs = made_fields OfVcs vcs_fields (λ x. refl) entry.vcs
 named_fields entry source.Directory = made_fields OfDirectory directory_fields (λ x. refl) entry.directory
 named_fields entry source.Archive = made_fields OfArchive archive_fields (λ x. refl) entry.archive
-named_fields entry (source.Wheel place) = made_fields OfWheel (file_fields (codes "wheel")) (λ x. refl) (slice_get entry.wheels place)
+named_fields entry (source.Wheel position) = made_fields OfWheel (file_fields (codes "wheel")) (λ x. refl) (slice_get entry.wheels position)
 named_fields entry source.Sdist = made_fields OfSdist (file_fields (codes "sdist")) (λ x. refl) entry.sdist
 
 pub picked_source : (entry : EntryValue) (s : PickSource) (found : Option SourceValue) → found ≡ source_in entry s

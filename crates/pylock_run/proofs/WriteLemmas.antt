@@ -4,7 +4,7 @@ use Rattle.std.proofs.KnownBytes.{Appends-nil, Appends-trans, Appends-kept}
 use Rattle.std.proofs.Math.Seq.{take-add}
 use Rattle.std.specs.Io.KnownBytes.{Appends, Keeps}
 use Rattle.pylock_run.specs.Inner.Writes.{Writes, Pours}
-use Rattle.pylock_run.specs.Stream.{SinkValue, TakesFront}
+use Rattle.pylock_run.specs.Stream.{SinkValue, TakesPrefix}
 
 -- the first bytes of the text were written, and no call failed
 pub record Wrote (old new : SinkValue) (text : List ℕ) (done : ℕ) : Type 0 where
@@ -46,21 +46,21 @@ Wrote-more old mid new text part done taken before left bound step same = record
   };
 }
 
--- whatever the last call took, a front of the text was written
-pub Wrote-front : (old mid new : SinkValue) (text part : List ℕ) (done taken : ℕ)
-    → Wrote old mid text done → part ≡ drop done text → Appends mid.held new.held (take taken part) → TakesFront old new text
-Wrote-front old mid new text part done taken before left step = record {
-  front = take (done + taken) text;
-  back = drop (done + taken) text;
+-- whatever the last call took, a prefix of the text was written
+pub Wrote-prefix : (old mid new : SinkValue) (text part : List ℕ) (done taken : ℕ)
+    → Wrote old mid text done → part ≡ drop done text → Appends mid.held new.held (take taken part) → TakesPrefix old new text
+Wrote-prefix old mid new text part done taken before left step = record {
+  prefix = take (done + taken) text;
+  rest = drop (done + taken) text;
   whole = sym (take-append-drop (done + taken) text);
   held = next_held old mid new text part done taken before left step;
 }
 
 -- the last call took nothing
-pub Wrote-front_same : (old mid new : SinkValue) (text : List ℕ) (done : ℕ) → Wrote old mid text done → Keeps mid.held new.held → TakesFront old new text
-Wrote-front_same old mid new text done before same = record {
-  front = take done text;
-  back = drop done text;
+pub Wrote-prefix_same : (old mid new : SinkValue) (text : List ℕ) (done : ℕ) → Wrote old mid text done → Keeps mid.held new.held → TakesPrefix old new text
+Wrote-prefix_same old mid new text done before same = record {
+  prefix = take done text;
+  rest = drop done text;
   whole = sym (take-append-drop done text);
   held = Appends-kept old.held mid.held new.held (take done text) before.writes.held same;
 }
@@ -86,32 +86,32 @@ pub Pours-all : (old mid new : SinkValue) (text out : List ℕ) → Pours old mi
 Pours-all old mid new text out before last =
     subst (Writes old new) (sym before.whole) (Writes-trans old mid new before.written out before.writes last)
 
--- a front of it was
-pub front_more : (old new : SinkValue) (text more : List ℕ) → TakesFront old new text → TakesFront old new (text ++ more)
-front_more old new text more written = record {
-  front = written.front;
-  back = written.back ++ more;
-  whole = ap (λ t. t ++ more) written.whole ∙ append_assoc written.front written.back more;
+-- a prefix of it was
+pub prefix_more : (old new : SinkValue) (text more : List ℕ) → TakesPrefix old new text → TakesPrefix old new (text ++ more)
+prefix_more old new text more written = record {
+  prefix = written.prefix;
+  rest = written.rest ++ more;
+  whole = ap (λ t. t ++ more) written.whole ∙ append_assoc written.prefix written.rest more;
   held = written.held;
 }
 
-pub front_after : (old mid new : SinkValue) (text out more : List ℕ) → Pours old mid text out → TakesFront mid new (out ++ more)
-    → TakesFront old new (text ++ more)
-front_after old mid new text out more before after = record {
-  front = before.written ++ after.front;
-  back = after.back;
+pub prefix_after : (old mid new : SinkValue) (text out more : List ℕ) → Pours old mid text out → TakesPrefix mid new (out ++ more)
+    → TakesPrefix old new (text ++ more)
+prefix_after old mid new text out more before after = record {
+  prefix = before.written ++ after.prefix;
+  rest = after.rest;
   whole = ap (λ t. t ++ more) before.whole ∙ append_assoc before.written out more ∙ ap (λ t. before.written ++ t) after.whole
-      ∙ sym (append_assoc before.written after.front after.back);
-  held = Appends-trans old.held mid.held new.held before.written after.front before.writes.held after.held;
+      ∙ sym (append_assoc before.written after.prefix after.rest);
+  held = Appends-trans old.held mid.held new.held before.written after.prefix before.writes.held after.held;
 }
 
-pub front_none : (sink : SinkValue) (text : List ℕ) → TakesFront sink sink text
-front_none sink text = record { front = []; back = text; whole = refl; held = Appends-nil sink.held }
+pub prefix_none : (sink : SinkValue) (text : List ℕ) → TakesPrefix sink sink text
+prefix_none sink text = record { prefix = []; rest = text; whole = refl; held = Appends-nil sink.held }
 
-pub front_same : (old new : SinkValue) (text other : List ℕ) → text ≡ other → TakesFront old new text → TakesFront old new other
-front_same old new text other same written = record { front = written.front; back = written.back; whole = sym same ∙ written.whole; held = written.held }
+pub prefix_same : (old new : SinkValue) (text other : List ℕ) → text ≡ other → TakesPrefix old new text → TakesPrefix old new other
+prefix_same old new text other same written = record { prefix = written.prefix; rest = written.rest; whole = sym same ∙ written.whole; held = written.held }
 
-pub front_after_all : (old mid new : SinkValue) (text out : List ℕ) → Pours old mid text out → TakesFront mid new out → TakesFront old new text
-front_after_all old mid new text out before after =
-    front_same old new (text ++ []) text (append-nil text)
-    (front_after old mid new text out [] before (front_same mid new out (out ++ []) (sym (append-nil out)) after))
+pub prefix_after_all : (old mid new : SinkValue) (text out : List ℕ) → Pours old mid text out → TakesPrefix mid new out → TakesPrefix old new text
+prefix_after_all old mid new text out before after =
+    prefix_same old new (text ++ []) text (append-nil text)
+    (prefix_after old mid new text out [] before (prefix_same mid new out (out ++ []) (sym (append-nil out)) after))

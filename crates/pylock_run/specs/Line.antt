@@ -24,14 +24,15 @@ input_lines [] = []
 input_lines (b ∷ rest) = if b == 10 then [] ∷ input_lines rest else onto_first b (input_lines rest)
 
 -- a byte put before the first line, where there is one
-abbrev pub onto_ended : ℕ → List (List ℕ) → List (List ℕ)
-onto_ended b [] = []
-onto_ended b (line ∷ lines) = (b ∷ line) ∷ lines
+abbrev pub onto_complete : ℕ → List (List ℕ) → List (List ℕ)
+onto_complete b [] = []
+onto_complete b (line ∷ lines) = (b ∷ line) ∷ lines
 
--- the lines of an input whose LF stands in it
-abbrev pub ended_lines : List ℕ → List (List ℕ)
-ended_lines [] = []
-ended_lines (b ∷ rest) = if b == 10 then [] ∷ ended_lines rest else onto_ended b (ended_lines rest)
+-- the complete lines of an input: those whose LF stands in it
+abbrev pub complete_lines : List ℕ → List (List ℕ)
+complete_lines [] = []
+complete_lines (b ∷ rest) =
+    if b == 10 then [] ∷ complete_lines rest else onto_complete b (complete_lines rest)
 
 -- the line without one CR at its end
 abbrev pub without_cr : List ℕ → List ℕ

@@ -12,25 +12,25 @@ use Rattle.pylock_core.specs.Session.State.{State, first, apply}
 use Rattle.pylock_core.specs.Session.Steps.{answer}
 use Rattle.pylock_core.specs.declared.answer.Answer.{Answer}
 use Rattle.pylock_core.specs.declared.answer.Answer.TheVariants as answers
-use Rattle.pylock_run.specs.Line.{input_lines, ended_lines, command_of}
+use Rattle.pylock_run.specs.Line.{input_lines, complete_lines, command_of}
 use Rattle.pylock_run.specs.Line.Refusal.{edit_refusal}
 use Rattle.pylock_run.specs.Text.Plan.{answer_text}
-use Rattle.pylock_run.specs.Text.Refusal.{refused_text, refusal_text}
+use Rattle.pylock_run.specs.Text.Refusal.{line_refusal_text, refusal_text}
 use Rattle.pylock_run.specs.declared.line.commands.Command.{Command}
 use Rattle.pylock_run.specs.declared.line.commands.Command.TheVariants as command
 use Rattle.pylock_run.specs.declared.line.refusal.LineRefusal.{LineRefusal}
 use Rattle.pylock_run.specs.declared.report.opening.OpenError.{OpenError}
 use Rattle.pylock_run.specs.declared.report.opening.OpenError.TheVariants.{Lock, Environment}
 
-abbrev pub refused_by : {V E : Type 0} → (E → OpenError) → Result V E → Result V OpenError
-refused_by refusal read = result_map_both (λ v. v) refusal read
+abbrev pub refuse_as : {V E : Type 0} → (E → OpenError) → Result V E → Result V OpenError
+refuse_as refusal read = result_map_both (λ v. v) refusal read
 
 -- the state in which a run begins, from the bytes of the lock and of the environment; or the lock's
 -- refusal, and then the environment's
-unfoldable pub opened : List ℕ → List ℕ → Result State OpenError
-opened lock environment = do
-  lock ← refused_by Lock (lock_of lock)
-  read ← refused_by Environment (env_of environment)
+unfoldable pub open_state : List ℕ → List ℕ → Result State OpenError
+open_state lock environment = do
+  lock ← refuse_as Lock (lock_of lock)
+  read ← refuse_as Environment (env_of environment)
   Ok (first lock read.0 read.1)
 
 -- the state after a command, or why it is refused
@@ -46,13 +46,13 @@ abbrev pub state_after : State → List ℕ → State
 state_after state line = result_unwrap_or (after_line state line) state
 
 -- the answer of a state from the beginning
-abbrev pub standing_text : State → List ℕ
-standing_text state = answer_text state (answer state)
+abbrev pub current_answer_text : State → List ℕ
+current_answer_text state = answer_text state (answer state)
 
 -- what a line prints: the answer of the state after it, or its refusal
 abbrev pub outcome_text : ℕ → Result State LineRefusal → List ℕ
-outcome_text number (Ok after) = standing_text after
-outcome_text number (Err refused) = refused_text number refused
+outcome_text number (Ok after) = current_answer_text after
+outcome_text number (Err refused) = line_refusal_text number refused
 
 abbrev pub line_text : State → ℕ → List ℕ → List ℕ
 line_text state number line = outcome_text number (after_line state line)
@@ -92,10 +92,10 @@ pub record Report : Type 0 where
 abbrev pub report_on : Result State OpenError → List (List ℕ) → Report
 report_on (Err refusal) lines = record { text = refusal_text refusal; status = 2 }
 report_on (Ok state) lines = record {
-  text = standing_text state ++ lines_text state 1 lines;
+  text = current_answer_text state ++ lines_text state 1 lines;
   status = lines_status state lines;
 }
 
 -- the report of a run, from the bytes of the lock, the environment and the input
 abbrev pub report : List ℕ → List ℕ → List ℕ → Report
-report lock environment input = report_on (opened lock environment) (input_lines input)
+report lock environment input = report_on (open_state lock environment) (input_lines input)

@@ -36,7 +36,7 @@ pub use files::{FILE_BYTES, Files, open_fault, read_both, read_file};
 pub use line::commands::{Command, policy_argument, text_label, variable_argument};
 pub use line::refusal::LineRefusal;
 pub use line::{LINE_LIMIT, read_line};
-pub use report::editing::push_standing;
+pub use report::editing::push_current_answer;
 pub use report::fault::RunFault;
 pub use report::opening::{OpenError, open};
 pub use report::print::print;
@@ -46,7 +46,7 @@ pub use stream::whole::{FileFault, read_whole};
 pub use stream::wrapper::{FromRead, ToWrite};
 pub use stream::writer::write_all;
 pub use stream::{IoFault, Sink, Source};
-pub use text::field::{push_decimal, push_field, push_last_word, push_next, push_word};
+pub use text::field::{push_decimal, push_field, push_last_word, push_next_field, push_word};
 pub use text::plan::push_source_line;
 pub use text::refusal::{
     entry_word, head_word, push_environment_error, push_lock_error, push_refusal,

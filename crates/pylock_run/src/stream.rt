@@ -1,7 +1,7 @@
 //! Where the program's bytes come from and where they go.
 //!
-//! A source tells contracts the bytes that are to come, a sink those that it took; each may tell
-//! nothing. Both tell how often they failed, a count that stops at its last value.
+//! A source exposes to contracts the bytes that are to come, a sink those that it took; each may
+//! expose none. Both expose how often they failed, a count that stops at its last value.
 ghost use Rattle.std.specs.Prelude.{◌≡◌, ◌<◌, ◌≤◌, length, IfOk, OnErr, OnOk};
 ghost use Rattle.std.specs.Io.KnownBytes.{ReadConsumes, WriteAppends};
 ghost use Rattle.pylock_run.specs.Stream.{SourceValue, SinkValue, one_more};
@@ -19,7 +19,7 @@ pub struct IoFault;
 pub trait Source {
     ghost value: { Self → SourceValue };
 
-    /// Moves bytes off the front of what is to come into the front of `buf`, and answers how many;
+    /// Moves a prefix of what is to come to the beginning of `buf`, and answers its length;
     /// none only at the end, or where `buf` is empty. Past those the contents of `buf` are open.
     /// A call that fails moves none.
     fn read(&mut self, buf: &mut [u8]) -> Result<usize, IoFault>
@@ -34,7 +34,7 @@ pub trait Source {
 pub trait Sink {
     ghost value: { Self → SinkValue };
 
-    /// Takes bytes off the front of `piece`, and answers how many. To take none of a piece that has
+    /// Takes a prefix of `piece`, and answers its length. To take none of a piece that has
     /// some counts as a failure, as an `Err` does. A call that fails takes none.
     fn write(&mut self, piece: &[u8]) -> Result<usize, IoFault>
         ensures bound { IfOk result (λ n. n ≤ length piece.now) }

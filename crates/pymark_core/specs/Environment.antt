@@ -8,8 +8,8 @@ use Rattle.std.specs.Coded.{Coded, code_by, coded×, coded_ℕ, coded_list, code
 use Rattle.std.specs.FinSet as set
 use Rattle.std.specs.List.Sorted.{IsStrictlySortedBy}
 use Rattle.std.specs.Ordering.{nat_cmp}
-use Rattle.pyver_core.specs.Name.{norm}
-use Rattle.pymark_core.specs.Variables.{place}
+use Rattle.pyver_core.specs.Name.{normal_name}
+use Rattle.pymark_core.specs.Variables.{variable_number}
 use Rattle.pymark_core.specs.declared.variable.Var.{Var}
 
 -- a finite set of texts
@@ -21,14 +21,14 @@ texts_code = set.code (coded_list coded_ℕ)
 
 -- each is in normal form
 abbrev pub AreNormal : Texts → Type 0
-AreNormal names = (name : List ℕ) → IsTrue (set.contains names name) → norm name ≡ name
+AreNormal names = (name : List ℕ) → IsTrue (set.contains names name) → normal_name name ≡ name
 
 -- these are the names of the set, each once, in the order of their bytes
 pub record AreNamesOf (texts : Texts) (names : List (List ℕ)) : Type 0 where
   pub whole : set.from_list names ≡ texts
   pub rise : IsStrictlySortedBy (slice_cmp nat_cmp) names
 
--- `variables` has the text of each variable at its place, and the sets hold normal names
+-- `variables` has the text of each variable at its number, and the sets hold normal names
 pub record EnvironmentValue : Type 0 where
   pub variables : List (Option (List ℕ))
   pub extras : Texts
@@ -44,20 +44,20 @@ environment_code =
     (λ _. refl)
 
 -- nothing set, nothing asked for
-abbrev pub empty : EnvironmentValue
-empty = record { variables = replicate 11 None; extras = set.empty; groups = set.empty }
+abbrev pub empty_environment : EnvironmentValue
+empty_environment = record { variables = replicate 11 None; extras = set.empty; groups = set.empty }
 
 -- the text of a variable
 abbrev pub variable_in : Var → EnvironmentValue → Option (List ℕ)
-variable_in variable environment = slice_index_or environment.variables (place variable) None
+variable_in variable environment = slice_index_or environment.variables (variable_number variable) None
 
 abbrev pub with_variable : Var → List ℕ → EnvironmentValue → EnvironmentValue
 with_variable variable text environment =
-    record environment { variables = slice_set environment.variables (place variable) (Some text) }
+    record environment { variables = slice_set environment.variables (variable_number variable) (Some text) }
 
 abbrev pub without_variable : Var → EnvironmentValue → EnvironmentValue
 without_variable variable environment =
-    record environment { variables = slice_set environment.variables (place variable) None }
+    record environment { variables = slice_set environment.variables (variable_number variable) None }
 
 -- whether this very text is among the extras
 abbrev pub has_extra : List ℕ → EnvironmentValue → Bool
@@ -65,11 +65,11 @@ has_extra name environment = set.contains environment.extras name
 
 abbrev pub with_extra : List ℕ → EnvironmentValue → EnvironmentValue
 with_extra name environment =
-    record environment { extras = set.insert environment.extras (norm name) }
+    record environment { extras = set.insert environment.extras (normal_name name) }
 
 abbrev pub without_extra : List ℕ → EnvironmentValue → EnvironmentValue
 without_extra name environment =
-    record environment { extras = set.remove environment.extras (norm name) }
+    record environment { extras = set.remove environment.extras (normal_name name) }
 
 -- whether this very text is among the groups
 abbrev pub has_group : List ℕ → EnvironmentValue → Bool
@@ -77,8 +77,8 @@ has_group name environment = set.contains environment.groups name
 
 abbrev pub with_group : List ℕ → EnvironmentValue → EnvironmentValue
 with_group name environment =
-    record environment { groups = set.insert environment.groups (norm name) }
+    record environment { groups = set.insert environment.groups (normal_name name) }
 
 abbrev pub without_group : List ℕ → EnvironmentValue → EnvironmentValue
 without_group name environment =
-    record environment { groups = set.remove environment.groups (norm name) }
+    record environment { groups = set.remove environment.groups (normal_name name) }

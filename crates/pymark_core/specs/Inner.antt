@@ -1,7 +1,5 @@
 pub mod Building
-pub mod Front
+pub mod LentToken
 pub mod Nesting
-pub mod Next
 pub mod Passed
-pub mod ReadingComplete
 pub mod Source

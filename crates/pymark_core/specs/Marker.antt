@@ -1,11 +1,12 @@
 pub mod Asked
 pub mod Coding
-pub mod Compared
 pub mod Comparison
+pub mod ComparisonView
 pub mod Depth
 pub mod Grammar
 pub mod Keys
 pub mod Reading
+pub mod RoundTrip
 pub mod Token
 pub mod Tree
 pub mod Value

@@ -35,16 +35,16 @@ variables =
 abbrev pub variable_of : List ℕ → Option Var
 variable_of name = find (λ variable. bytes_eq (variable_name variable) name) variables
 
--- the place of a variable among the eleven
-abbrev pub place : Var → ℕ
-place OsName = 0
-place SysPlatform = 1
-place PlatformMachine = 2
-place PlatformPythonImplementation = 3
-place PlatformRelease = 4
-place PlatformSystem = 5
-place PlatformVersion = 6
-place PythonVersion = 7
-place PythonFullVersion = 8
-place ImplementationName = 9
-place ImplementationVersion = 10
+-- the number of a variable, from 0: its index among the eleven
+abbrev pub variable_number : Var → ℕ
+variable_number OsName = 0
+variable_number SysPlatform = 1
+variable_number PlatformMachine = 2
+variable_number PlatformPythonImplementation = 3
+variable_number PlatformRelease = 4
+variable_number PlatformSystem = 5
+variable_number PlatformVersion = 6
+variable_number PythonVersion = 7
+variable_number PythonFullVersion = 8
+variable_number ImplementationName = 9
+variable_number ImplementationVersion = 10

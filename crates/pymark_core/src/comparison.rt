@@ -3,25 +3,23 @@
 ghost use Rattle.std.specs.Prelude.{◌≡◌, IfOk, None, Result, Some, false, string_bytes, true};
 ghost use Rattle.std.specs.Option.{option_copied};
 ghost use Rattle.pytext.specs.Agreement.{Gives};
-ghost use Rattle.pyver_core.specs.Name.{norm};
-ghost use Rattle.pymark_core.specs.Environment.{has_extra, has_group};
-ghost use Rattle.pymark_core.specs.Marker.Compared.{IsRead, ReadsAs, comparator_of, left_operand};
-ghost use Rattle.pymark_core.specs.Marker.Compared.{right_of, right_operand, unboxed};
-ghost use Rattle.pymark_core.specs.Marker.Asked.{extra_asked, group_asked, has_extra as asks_extra};
+ghost use Rattle.pyver_core.specs.Name.{normal_name};
+ghost use Rattle.pymark_core.specs.Marker.ComparisonView.{IsRead, ReadsAs, comparator_of};
+ghost use Rattle.pymark_core.specs.Marker.ComparisonView.{left_operand, right_of, right_operand};
+ghost use Rattle.pymark_core.specs.Marker.ComparisonView.{unboxed};
+ghost use Rattle.pymark_core.specs.Marker.Asked.{extra_asked, group_asked, comparison_reads_extra};
 ghost use Rattle.pymark_core.specs.Marker.Asked.{is_extra, quoted_text};
-ghost use Rattle.pymark_core.specs.Marker.Value.{comparison_value, is_in, is_substring};
-ghost use Rattle.pymark_core.specs.Marker.Value.{names_value, operand_text, operator_value};
-ghost use Rattle.pymark_core.specs.Marker.Value.{text_value, texts_value};
+ghost use Rattle.pymark_core.specs.Marker.Value as value;
 ghost use Rattle.pyver_core.specs.Parsed.{parsed_operand};
 
-use crate::candidate::Candidate;
+use crate::compared_text::ComparedText;
 use crate::environment::Environment;
 use crate::fault::EvalFault;
 use crate::operand::{Comparator, Operand};
 use crate::substring::is_substring;
 use crate::variable::Var;
 use pyver_core::{
-    Label, NormalForm, Operator, Specifier, SpecifierError, VersionError, is_same_name, normal_name,
+    Label, NormalForm, Operator, Specifier, SpecifierError, VersionError, is_same_name,
 };
 use std::alloc::{AllocError, Global};
 use std::marker::Model;
@@ -40,7 +38,7 @@ pub struct Comparison {
 enum Left {
     /// A quoted text, with the version that it spells. Few comparisons have one, so it has memory
     /// of its own.
-    Text(Box<Candidate>),
+    Text(Box<ComparedText>),
     Variable(Var),
     Extra,
     Extras,
@@ -69,8 +67,8 @@ enum Right {
 
 impl Model for Comparison {
     ghost use Rattle.pymark_core.specs.Marker.Comparison.{ComparisonValue};
-    ghost use Rattle.pymark_core.specs.Marker.Compared.{IsRead, comparator_of, left_operand};
-    ghost use Rattle.pymark_core.specs.Marker.Compared.{right_of};
+    ghost use Rattle.pymark_core.specs.Marker.ComparisonView.{IsRead, comparator_of, left_operand};
+    ghost use Rattle.pymark_core.specs.Marker.ComparisonView.{right_of};
 
     ghost Value = { ComparisonValue };
 
@@ -105,7 +103,7 @@ impl Comparison {
 
     /// Whether `extra` is one of the operands, which has no value in a lock. It takes no memory.
     pub fn has_extra(&self) -> bool
-        ensures { result ≡ asks_extra self.now }
+        ensures { result ≡ comparison_reads_extra self.now }
     {
         matches!(self.left, Left::Extra) || self.test.has_extra()
     }
@@ -116,7 +114,7 @@ impl Comparison {
         ensures { option_copied result ≡ extra_asked self.now }
     {
         match &self.test {
-            Test::In(Operand::Extras) | Test::NotIn(Operand::Extras) => self.left.quoted(),
+            Test::In(Operand::Extras) | Test::NotIn(Operand::Extras) => self.left.quoted_text(),
             _ => None,
         }
     }
@@ -127,7 +125,7 @@ impl Comparison {
         ensures { option_copied result ≡ group_asked self.now }
     {
         match &self.test {
-            Test::In(Operand::Groups) | Test::NotIn(Operand::Groups) => self.left.quoted(),
+            Test::In(Operand::Groups) | Test::NotIn(Operand::Groups) => self.left.quoted_text(),
             _ => None,
         }
     }
@@ -140,7 +138,7 @@ impl Comparison {
         extra: Option<&str>,
     ) -> Result<bool, EvalFault>
         ensures { Gives EvalFault.Memory (λ b. b) result
-            (comparison_value (option_copied extra.entry) environment.now self.now) }
+            (value.comparison_value (option_copied extra.entry) environment.now self.now) }
     {
         match extra {
             Some(extra) if self.has_extra() => self.value_of_names(alloc, environment, extra),
@@ -152,9 +150,9 @@ impl Comparison {
     /// memory, and no text is read; so is a quoted text in a set.
     fn value_of_texts(&self, alloc: Global, environment: &Environment) -> Result<bool, EvalFault>
         ensures { Gives EvalFault.Memory (λ b. b) result
-            (comparison_value None environment.now self.now) }
+            (value.comparison_value None environment.now self.now) }
     {
-        let left = candidate_in(&self.left, environment)?;
+        let left = compared_text_left(&self.left, environment)?;
         match &self.test {
             Test::By(operator, right) => value_by(alloc, environment, left, *operator, right),
             Test::In(right) => has_in(alloc, environment, left, right),
@@ -169,9 +167,9 @@ impl Comparison {
         environment: &Environment,
         extra: &str,
     ) -> Result<bool, EvalFault>
-        requires { asks_extra self.now ≡ true }
+        requires { comparison_reads_extra self.now ≡ true }
         ensures { Gives EvalFault.Memory (λ b. b) result
-            (comparison_value (Some extra.now) environment.now self.now) }
+            (value.comparison_value (Some extra.now) environment.now self.now) }
     {
         let left = self.left.text(environment, extra)?;
         match &self.test {
@@ -192,11 +190,11 @@ impl Drop for Comparison {
 
 impl Left {
     /// The text that is quoted.
-    fn quoted(&self) -> Option<&str>
+    fn quoted_text(&self) -> Option<&str>
         ensures { option_copied result ≡ quoted_text (left_operand self.now) }
     {
         match self {
-            Left::Text(candidate) => Some(candidate.text()),
+            Left::Text(compared) => Some(compared.text()),
             _ => None,
         }
     }
@@ -208,10 +206,10 @@ impl Left {
         extra: &'a str,
     ) -> Result<&'a str, EvalFault>
         ensures { Gives EvalFault.Memory (λ text. text.now) result
-            (operand_text (Some extra.now) environment.now (left_operand self.now)) }
+            (value.operand_text (Some extra.now) environment.now (left_operand self.now)) }
     {
         match self {
-            Left::Text(candidate) => Ok(candidate.text()),
+            Left::Text(compared) => Ok(compared.text()),
             Left::Variable(variable) => variable_text(environment, *variable),
             Left::Extra => Ok(extra),
             Left::Extras | Left::Groups => Err(EvalFault::Undefined),
@@ -227,7 +225,7 @@ impl Right {
         extra: &'a str,
     ) -> Result<&'a str, EvalFault>
         ensures { Gives EvalFault.Memory (λ text. text.now) result
-            (operand_text (Some extra.now) environment.now (right_operand self.now)) }
+            (value.operand_text (Some extra.now) environment.now (right_operand self.now)) }
     {
         match self {
             Right::Text(text, _) => Ok(text.as_str()),
@@ -256,8 +254,8 @@ fn read_left(alloc: Global, operand: Operand, right: &Operand) -> Result<Left, A
 {
     Ok(match operand {
         Operand::Text(text) => {
-            let candidate = read_text(alloc, text.into_string(), right)?;
-            Left::Text(Box::new(alloc, candidate)?)
+            let compared = read_text(alloc, text.into_string(), right)?;
+            Left::Text(Box::new(alloc, compared)?)
         }
         Operand::Variable(variable) => Left::Variable(variable),
         Operand::Extra => Left::Extra,
@@ -267,12 +265,12 @@ fn read_left(alloc: Global, operand: Operand, right: &Operand) -> Result<Left, A
 }
 
 /// The text, left of this operand, with what it reads as there.
-fn read_text(alloc: Global, text: String, right: &Operand) -> Result<Candidate, AllocError>
-    ensures { IfOk result (λ candidate. candidate ≡ string_bytes text) }
+fn read_text(alloc: Global, text: String, right: &Operand) -> Result<ComparedText, AllocError>
+    ensures { IfOk result (λ compared. compared ≡ string_bytes text) }
 {
     match right {
-        Operand::Extras | Operand::Groups => Candidate::named(alloc, text),
-        Operand::Text(_) | Operand::Variable(_) | Operand::Extra => Candidate::new(alloc, text),
+        Operand::Extras | Operand::Groups => ComparedText::with_name(alloc, text),
+        Operand::Text(_) | Operand::Variable(_) | Operand::Extra => ComparedText::new(alloc, text),
     }
 }
 
@@ -322,34 +320,34 @@ fn read_operand(
 }
 
 /// The text of a variable, with the version that it spells.
-fn variable_candidate(environment: &Environment, variable: Var) -> Result<&Candidate, EvalFault>
-    ensures { Gives EvalFault.Memory (λ candidate. candidate.now) result
-        (operand_text None environment.now (Operand.Variable variable)) }
+fn compared_text_of(environment: &Environment, variable: Var) -> Result<&ComparedText, EvalFault>
+    ensures { Gives EvalFault.Memory (λ compared. compared.now) result
+        (value.operand_text None environment.now (Operand.Variable variable)) }
 {
     environment
-        .candidate(variable)
+        .compared_text(variable)
         .ok_or(EvalFault::Unset(variable))
 }
 
 /// The text of a variable.
 fn variable_text(environment: &Environment, variable: Var) -> Result<&str, EvalFault>
     ensures { Gives EvalFault.Memory (λ text. text.now) result
-        (operand_text None environment.now (Operand.Variable variable)) }
+        (value.operand_text None environment.now (Operand.Variable variable)) }
 {
-    Ok(variable_candidate(environment, variable)?.text())
+    Ok(compared_text_of(environment, variable)?.text())
 }
 
 /// The text left of an operator, with the version that it spells.
-fn candidate_in<'a>(
+fn compared_text_left<'a>(
     left: &'a Left,
     environment: &'a Environment,
-) -> Result<&'a Candidate, EvalFault>
-    ensures { Gives EvalFault.Memory (λ candidate. candidate.now) result
-        (operand_text None environment.now (left_operand left.now)) }
+) -> Result<&'a ComparedText, EvalFault>
+    ensures { Gives EvalFault.Memory (λ compared. compared.now) result
+        (value.operand_text None environment.now (left_operand left.now)) }
 {
     match left {
-        Left::Text(candidate) => Ok(candidate),
-        Left::Variable(variable) => variable_candidate(environment, *variable),
+        Left::Text(compared) => Ok(compared),
+        Left::Variable(variable) => compared_text_of(environment, *variable),
         Left::Extra => Err(EvalFault::Extra),
         Left::Extras | Left::Groups => Err(EvalFault::Undefined),
     }
@@ -359,11 +357,11 @@ fn candidate_in<'a>(
 fn has_in(
     alloc: Global,
     environment: &Environment,
-    left: &Candidate,
+    left: &ComparedText,
     right: &Operand,
 ) -> Result<bool, EvalFault>
     ensures { Gives EvalFault.Memory (λ b. b) result
-        (is_in None environment.now false left.now right.now) }
+        (value.is_in None environment.now false left.now right.now) }
 {
     match right {
         Operand::Text(whole) => Ok(is_substring(left.text(), whole.as_str())),
@@ -371,8 +369,8 @@ fn has_in(
             Ok(is_substring(left.text(), variable_text(environment, *variable)?))
         }
         Operand::Extra => Err(EvalFault::Extra),
-        Operand::Extras => Ok(is_extra(alloc, environment, left)?),
-        Operand::Groups => Ok(is_group(alloc, environment, left)?),
+        Operand::Extras => Ok(left.is_among(alloc, environment.extra_names())?),
+        Operand::Groups => Ok(left.is_among(alloc, environment.group_names())?),
     }
 }
 
@@ -385,7 +383,7 @@ fn has_name_in(
     right: &Operand,
 ) -> Result<bool, EvalFault>
     ensures { Gives EvalFault.Memory (λ b. b) result
-        (is_in (Some extra.now) environment.now true left.now right.now) }
+        (value.is_in (Some extra.now) environment.now true left.now right.now) }
 {
     let left = NormalForm::of(alloc, left)?;
     match right {
@@ -401,43 +399,23 @@ fn has_name_in(
 
 /// Whether the name stands somewhere in the normal form of the text.
 fn is_part(alloc: Global, name: &NormalForm, whole: &str) -> Result<bool, AllocError>
-    ensures { IfOk result (λ b. b ≡ is_substring name.now (norm whole.now)) }
+    ensures { IfOk result (λ b. b ≡ value.is_substring name.now (normal_name whole.now)) }
 {
     let whole = NormalForm::of(alloc, whole)?;
     Ok(is_substring(name.as_str(), whole.as_str()))
-}
-
-/// Whether the text names an extra that is asked for.
-fn is_extra(alloc: Global, environment: &Environment, left: &Candidate) -> Result<bool, AllocError>
-    ensures { IfOk result (λ b. b ≡ has_extra (norm left.now) environment.now) }
-{
-    match left.name() {
-        Some(name) => Ok(environment.has_extra(name)),
-        None => Ok(environment.has_extra(normal_name(alloc, left.text())?.as_str())),
-    }
-}
-
-/// Whether the text names a group that is asked for.
-fn is_group(alloc: Global, environment: &Environment, left: &Candidate) -> Result<bool, AllocError>
-    ensures { IfOk result (λ b. b ≡ has_group (norm left.now) environment.now) }
-{
-    match left.name() {
-        Some(name) => Ok(environment.has_group(name)),
-        None => Ok(environment.has_group(normal_name(alloc, left.text())?.as_str())),
-    }
 }
 
 /// The text on the left against the operand on the right, by an operator of specifiers.
 fn value_by(
     alloc: Global,
     environment: &Environment,
-    left: &Candidate,
+    left: &ComparedText,
     operator: Operator,
     right: &Right,
 ) -> Result<bool, EvalFault>
     requires { ReadsAs operator right.now }
     ensures { Gives EvalFault.Memory (λ b. b) result
-        (text_value None environment.now false left.now (Comparator.By operator)
+        (value.value_against None environment.now false left.now (Comparator.By operator)
         (right_operand right.now)) }
 {
     match right {
@@ -456,28 +434,28 @@ fn value_by(
 fn value_by_variable(
     alloc: Global,
     environment: &Environment,
-    left: &Candidate,
+    left: &ComparedText,
     operator: Operator,
     right: Var,
 ) -> Result<bool, EvalFault>
     ensures { Gives EvalFault.Memory (λ b. b) result
-        (text_value None environment.now false left.now (Comparator.By operator)
+        (value.value_against None environment.now false left.now (Comparator.By operator)
         (Operand.Variable right)) }
 {
-    let text = variable_candidate(environment, right)?.text();
+    let text = compared_text_of(environment, right)?.text();
     let specifier = read_operand(alloc, operator, text)?;
     judge(left, operator, text, &specifier)
 }
 
 /// The left text against the right one, which reads as this specifier.
 fn judge(
-    left: &Candidate,
+    left: &ComparedText,
     operator: Operator,
     right: &str,
     specifier: &Result<Box<Specifier>, SpecifierError>,
 ) -> Result<bool, EvalFault>
     requires { parsed_operand operator right.now ≡ unboxed specifier.now }
-    ensures { result ≡ operator_value operator left.now right.now }
+    ensures { result ≡ value.operator_value operator left.now right.now }
 {
     match (left.version(), specifier) {
         (Ok(version), Ok(specifier)) => Ok(specifier.admits(version)),
@@ -490,7 +468,7 @@ fn judge(
 
 /// The texts by their code points.
 fn compare_texts(operator: Operator, left: &str, right: &str) -> Result<bool, EvalFault>
-    ensures { result ≡ texts_value operator left.now right.now }
+    ensures { result ≡ value.texts_value operator left.now right.now }
 {
     match operator {
         Operator::Equal => Ok(left == right),
@@ -505,7 +483,7 @@ fn compare_texts(operator: Operator, left: &str, right: &str) -> Result<bool, Ev
 
 /// The two names by their normal forms.
 fn compare_names(operator: Operator, left: &str, right: &str) -> Result<bool, EvalFault>
-    ensures { result ≡ names_value operator left.now right.now }
+    ensures { result ≡ value.names_value operator left.now right.now }
 {
     match operator {
         Operator::Equal => Ok(is_same_name(left, right)),

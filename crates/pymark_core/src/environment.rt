@@ -4,14 +4,14 @@
 ghost use Rattle.std.specs.Prelude.{◌≡◌, not, option_map, replicate, IfOk, IsTrue, None, OnErr};
 ghost use Rattle.std.specs.Prelude.{OnOk, Some};
 ghost use Rattle.std.specs.FinSet as set;
-ghost use Rattle.pyver_core.specs.Name.{norm};
+ghost use Rattle.pyver_core.specs.Name.{normal_name};
 ghost use Rattle.pyver_core.specs.Parsed.{parsed_version};
-ghost use Rattle.pymark_core.specs.Environment.{AreNamesOf, empty, has_extra, has_group};
-ghost use Rattle.pymark_core.specs.Environment.{variable_in};
-ghost use Rattle.pymark_core.specs.Environment.{with_extra, with_group, with_variable};
-ghost use Rattle.pymark_core.specs.Environment.{without_extra, without_group, without_variable};
+ghost use Rattle.pymark_core.specs.Environment.{AreNamesOf, empty_environment, has_extra};
+ghost use Rattle.pymark_core.specs.Environment.{has_group, variable_in, with_extra, with_group};
+ghost use Rattle.pymark_core.specs.Environment.{with_variable, without_extra, without_group};
+ghost use Rattle.pymark_core.specs.Environment.{without_variable};
 
-use crate::candidate::{Candidate, SharedText};
+use crate::compared_text::{ComparedText, SharedText};
 use crate::names::{Names, SharedNames};
 use crate::variable::Var;
 use pyver_core::{Version, VersionError};
@@ -54,7 +54,7 @@ impl Drop for Environment {
 impl Environment {
     /// Nothing set and nothing asked for. It takes no memory.
     pub fn new(alloc: Global) -> Environment
-        ensures { result ≡ empty }
+        ensures { result ≡ empty_environment }
     {
         Environment {
             alloc,
@@ -68,18 +68,18 @@ impl Environment {
     pub fn get(&self, variable: Var) -> Option<&str>
         ensures { option_map (λ text. text.now) result ≡ variable_in variable self.now }
     {
-        match self.candidate(variable) {
-            Some(candidate) => Some(candidate.text()),
+        match self.compared_text(variable) {
+            Some(compared) => Some(compared.text()),
             None => None,
         }
     }
 
     /// The text of the variable, with what it reads as.
-    pub(crate) fn candidate(&self, variable: Var) -> Option<&Candidate>
-        ensures { option_map (λ candidate. candidate.now) result ≡ variable_in variable self.now }
+    pub(crate) fn compared_text(&self, variable: Var) -> Option<&ComparedText>
+        ensures { option_map (λ compared. compared.now) result ≡ variable_in variable self.now }
     {
-        match &self.variables[variable.place()] {
-            Some(shared) => Some(shared.candidate()),
+        match &self.variables[variable.number()] {
+            Some(shared) => Some(shared.compared_text()),
             None => None,
         }
     }
@@ -91,8 +91,8 @@ impl Environment {
         ensures { option_map (λ read. read.now) result
             ≡ option_map parsed_version (variable_in variable self.now) }
     {
-        match self.candidate(variable) {
-            Some(candidate) => Some(candidate.version()),
+        match self.compared_text(variable) {
+            Some(compared) => Some(compared.version()),
             None => None,
         }
     }
@@ -107,7 +107,7 @@ impl Environment {
         ensures err { OnErr result (self.new ≡ self.old) }
     {
         let shared = SharedText::new(self.alloc, text)?;
-        self.variables[variable.place()] = Some(shared);
+        self.variables[variable.number()] = Some(shared);
         Ok(())
     }
 
@@ -116,7 +116,7 @@ impl Environment {
         ensures others { self.new ≡ without_variable variable self.old }
         ensures unset { variable_in variable self.new ≡ None }
     {
-        self.variables[variable.place()] = None;
+        self.variables[variable.number()] = None;
     }
 
     /// Asks for no extra and no group. It takes no memory.
@@ -132,7 +132,7 @@ impl Environment {
     pub fn add_extra(&mut self, name: &str) -> Result<bool, AllocError>
         ensures ok { OnOk result (self.new ≡ with_extra name.now self.old) }
         ensures added { IfOk result
-            (λ added. added ≡ not (set.contains self.old.extras (norm name.now))) }
+            (λ added. added ≡ not (set.contains self.old.extras (normal_name name.now))) }
         ensures err { OnErr result (self.new ≡ self.old) }
     {
         self.extras.add(self.alloc, name)
@@ -143,7 +143,7 @@ impl Environment {
     pub fn drop_extra(&mut self, name: &str) -> Result<bool, AllocError>
         ensures ok { OnOk result (self.new ≡ without_extra name.now self.old) }
         ensures dropped { IfOk result
-            (λ dropped. dropped ≡ set.contains self.old.extras (norm name.now)) }
+            (λ dropped. dropped ≡ set.contains self.old.extras (normal_name name.now)) }
         ensures err { OnErr result (self.new ≡ self.old) }
     {
         self.extras.drop_name(self.alloc, name)
@@ -154,7 +154,7 @@ impl Environment {
     pub fn add_group(&mut self, name: &str) -> Result<bool, AllocError>
         ensures ok { OnOk result (self.new ≡ with_group name.now self.old) }
         ensures added { IfOk result
-            (λ added. added ≡ not (set.contains self.old.groups (norm name.now))) }
+            (λ added. added ≡ not (set.contains self.old.groups (normal_name name.now))) }
         ensures err { OnErr result (self.new ≡ self.old) }
     {
         self.groups.add(self.alloc, name)
@@ -165,7 +165,7 @@ impl Environment {
     pub fn drop_group(&mut self, name: &str) -> Result<bool, AllocError>
         ensures ok { OnOk result (self.new ≡ without_group name.now self.old) }
         ensures dropped { IfOk result
-            (λ dropped. dropped ≡ set.contains self.old.groups (norm name.now)) }
+            (λ dropped. dropped ≡ set.contains self.old.groups (normal_name name.now)) }
         ensures err { OnErr result (self.new ≡ self.old) }
     {
         self.groups.drop_name(self.alloc, name)
@@ -174,7 +174,7 @@ impl Environment {
     /// Whether this very text is among the extras, which are in normal form. It takes no memory.
     pub fn has_extra(&self, name: &str) -> bool
         ensures has { result ≡ has_extra name.now self.now }
-        ensures normal { IsTrue result → norm name.now ≡ name.now }
+        ensures normal { IsTrue result → normal_name name.now ≡ name.now }
     {
         self.extras.has(name)
     }
@@ -182,9 +182,23 @@ impl Environment {
     /// Whether this very text is among the groups, which are in normal form. It takes no memory.
     pub fn has_group(&self, name: &str) -> bool
         ensures has { result ≡ has_group name.now self.now }
-        ensures normal { IsTrue result → norm name.now ≡ name.now }
+        ensures normal { IsTrue result → normal_name name.now ≡ name.now }
     {
         self.groups.has(name)
+    }
+
+    /// The set of the extras that are asked for.
+    pub(crate) fn extra_names(&self) -> &SharedNames
+        ensures { result.now ≡ self.now.extras }
+    {
+        &self.extras
+    }
+
+    /// The set of the groups that are asked for.
+    pub(crate) fn group_names(&self) -> &SharedNames
+        ensures { result.now ≡ self.now.groups }
+    {
+        &self.groups
     }
 
     /// The extras that are asked for, in normal form and in the order of their bytes. It takes no
@@ -227,7 +241,7 @@ impl Clone for Environment {
     }
 }
 
-/// A text at no place.
+/// No variable has a text.
 fn no_variables() -> [Option<SharedText>; 11]
     ensures { result ≡ replicate 11 None }
 {
@@ -236,15 +250,15 @@ fn no_variables() -> [Option<SharedText>; 11]
     ]
 }
 
-/// The same texts at the same places.
+/// The same texts for the same variables.
 fn copy_variables(
     variables: &[Option<SharedText>; 11],
 ) -> Result<[Option<SharedText>; 11], AllocError>
     ensures { IfOk result (λ copy. copy ≡ variables.now) }
 {
     let mut copy = no_variables();
-    for (place, variable) in variables.iter().enumerate() {
-        copy[place] = variable.clone()?;
+    for (number, variable) in variables.iter().enumerate() {
+        copy[number] = variable.clone()?;
     }
     Ok(copy)
 }

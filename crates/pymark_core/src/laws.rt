@@ -8,11 +8,11 @@ ghost use Rattle.pymark_core.specs.Marker.Grammar.{MarkerText, has_misuse};
 ghost use Rattle.pymark_core.specs.Marker.Keys.{reads};
 ghost use Rattle.pymark_core.specs.Marker.Reading.{MarkerValue, marker_of, tree_text};
 ghost use Rattle.pymark_core.specs.Marker.Tree.{Tree};
-ghost use Rattle.pymark_core.specs.Requirement.Grammar.{Req};
+ghost use Rattle.pymark_core.specs.Requirement.Grammar.{RequirementText};
 ghost use Rattle.pymark_core.specs.Requirement.Reading.{requirement_of};
 ghost use Rattle.pymark_core.specs.Requirement.Value.{RequirementValue};
 ghost use Rattle.pymark_core.specs.Marker.Value.{AgreeAt, marker_value, value_with};
-ghost use Rattle.pytext.specs.White.{trimmed};
+ghost use Rattle.pytext.specs.White.{trim_white};
 ghost use Rattle.pymark_core.specs.declared.marker.keys.Key.{Key};
 
 use crate::{EvalFault, MarkerError, RequirementError};
@@ -34,11 +34,11 @@ pub fn tree_text_is_complete()
 /// misused. It gives every such marker, unless the text is nested too deep.
 pub fn marker_of_is_complete()
     ensures sound { (text : List ℕ) (m : MarkerValue) → marker_of text ≡ Ok m
-        → MarkerText text m.tree × (m.text ≡ trimmed text)
+        → MarkerText text m.tree × (m.text ≡ trim_white text)
         × (is_deep text ≡ false) × (has_misuse m.tree ≡ false) }
     ensures complete { (text : List ℕ) (tree : Tree) → MarkerText text tree
         → is_deep text ≡ false → has_misuse tree ≡ false
-        → marker_of text ≡ Ok (record { text = trimmed text; tree = tree }) }
+        → marker_of text ≡ Ok (record { text = trim_white text; tree = tree }) }
 {}
 
 /// A marker reads nothing but its keys: two environments that agree on them give it the same value
@@ -67,14 +67,14 @@ pub fn marker_with_extra_reads()
 /// one requirement.
 pub fn requirement_of_is_complete()
     ensures sound { (text : List ℕ) (parts : RequirementValue)
-        → requirement_of text ≡ Ok parts → Req text parts }
+        → requirement_of text ≡ Ok parts → RequirementText text parts }
     ensures complete { (text : List ℕ) (parts : RequirementValue)
-        → Req text parts → requirement_of text ≡ Ok parts }
+        → RequirementText text parts → requirement_of text ≡ Ok parts }
 {}
 
-/// The reading of a marker or of a requirement is never want of memory, nor is a marker's value,
+/// The reading of a marker or of a requirement is never out of memory, nor is a marker's value,
 /// with a text for `extra` or without: only a call may answer it.
-pub fn answers_want_no_memory()
+pub fn answers_are_never_out_of_memory()
     ensures marker { (text : List ℕ) → marker_of text ≡ Err MarkerError.Memory → ⊥ }
     ensures value { (environment : EnvironmentValue) (tree : Tree)
         → marker_value environment tree ≡ Err EvalFault.Memory → ⊥ }

@@ -4,11 +4,12 @@
 //! It is for whoever asks whether `python_version >= "3.8"` holds, or reads `requests[security] >=
 //! 2` into its parts. It stands on `pyver_core`, `pytext` and `thiserror`.
 //!
-//! Begin with [`Marker::parse`] and [`Marker::evaluate`]. An [`Environment`] has a text for each
+//! Start with [`Marker::parse`] and [`Marker::evaluate`]. An [`Environment`] has a text for each
 //! variable that is set, and the extras and groups that are asked for. A marker that can't be
-//! judged is a fault, and the first one in the text is told ([`EvalFault`]). [`Marker::reads`] says
-//! what a marker looks at, so that it isn't judged again for nothing. [`Requirement::parse`] reads
-//! a requirement.
+//! judged is a fault, and the first one in the text is given ([`EvalFault`]). [`Marker::reads`]
+//! says what a marker looks at, so that it isn't judged again for nothing. [`Requirement::parse`]
+//! reads a requirement. Then read `specs/Marker/Grammar.antt` (which texts are markers),
+//! `specs/Marker/Value.antt` (what they are worth) and [`laws`].
 //!
 //! What a marker is worth, where `extra` has a text or none, from
 //! `crates/grammar_cases/src/markers.rt`:
@@ -20,19 +21,18 @@
 //! };
 //! ```
 //!
-//! The variables of an environment, from `crates/bench/src/markers.rt`:
+//! The variables of an environment, from `crates/grammar_cases/src/environments.rt`:
 //!
 //! ```rust
-//! for (variable, text) in [
-//!     (Var::PythonVersion, "3.12"),
-//!     ..
-//! ] {
-//!     environment.set(variable, text)?;
+//! for name in variables.keys() {
+//!     let variable = variable(name.as_str())?;
+//!     let text = text(alloc, variables, name.as_str())?;
+//!     environment.set(variable, text.as_str())?;
 //! }
 //! ```
 #![tactic(auto)]
 
-mod candidate;
+mod compared_text;
 mod comparison;
 mod environment;
 mod fault;

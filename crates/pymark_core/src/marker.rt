@@ -22,7 +22,7 @@ ghost use Rattle.pymark_core.specs.Marker.Keys.{is_flagged, reads};
 ghost use Rattle.pymark_core.specs.Marker.Reading.{marker_of, tree_text};
 ghost use Rattle.pymark_core.specs.Marker.Tree.{Tree};
 ghost use Rattle.pymark_core.specs.Marker.Value.{marker_value, value_with};
-ghost use Rattle.pytext.specs.White.{trimmed};
+ghost use Rattle.pytext.specs.White.{trim_white};
 ghost use Rattle.pymark_core.specs.declared.marker.keys.Key.{Key};
 
 use crate::comparison::Comparison;
@@ -33,7 +33,7 @@ use depth::is_deep;
 pub use error::MarkerError;
 pub use keys::{Key, Reads};
 use parse::read_tree;
-use pytext::trimmed;
+use pytext::trim_white;
 use std::alloc::{AllocError, Global};
 use std::fmt;
 use std::marker::Model;
@@ -100,13 +100,13 @@ impl Marker {
     /// The marker that the text is (PEP 508, "Grammar").
     ///
     /// `TooDeep` is answered to every text in which more than 64 parentheses are open at some
-    /// place, quoted texts passed over, whatever else it is; then `Syntax` to every text that isn't
-    /// a marker; then `SetMisuse` to a marker in which `extras` or `dependency_groups` stands
+    /// position, quoted texts passed over, whatever else it is; then `Syntax` to every text that
+    /// isn't a marker; then `SetMisuse` to a marker in which `extras` or `dependency_groups` stands
     /// anywhere but right of `in` or `not in`. It takes time linear in the text, no recursion, and
     /// memory for the text, for its comparisons, for their quoted texts and for lists of its parts.
     pub fn parse(alloc: Global, text: &str) -> Result<Marker, MarkerError>
         ensures ok { IfOk result (λ m. MarkerText text.now m.tree) }
-        ensures trimmed { IfOk result (λ m. m.text ≡ trimmed text.now) }
+        ensures text { IfOk result (λ m. m.text ≡ trim_white text.now) }
         ensures fits { IfOk result (λ m. (is_deep text.now ≡ false) × (has_misuse m.tree ≡ false)) }
 
         ensures deep { IsErrOf result MarkerError.TooDeep → is_deep text.now ≡ true }
@@ -243,7 +243,7 @@ fn read_marker(alloc: Global, text: &str) -> Result<Marker, MarkerError>
     if notes.misuse {
         return Err(MarkerError::SetMisuse);
     }
-    let bare = trimmed(text);
+    let bare = trim_white(text);
     let is_bare = bare == text;
     let mixed = mix(bare);
     let text = String::from_str(alloc, bare)?;
@@ -255,7 +255,7 @@ fn read_marker(alloc: Global, text: &str) -> Result<Marker, MarkerError>
         is_bare,
         mixed,
     };
-    Ok(share(alloc, parsed)?)
+    Ok(share_parsed(alloc, parsed)?)
 }
 
 /// The bytes of the text, mixed (FNV-1a, by Fowler, Noll and Vo).
@@ -268,7 +268,7 @@ fn mix(text: &str) -> u32 {
 }
 
 /// The marker of what was read.
-fn share(alloc: Global, parsed: Parsed) -> Result<Marker, AllocError>
+fn share_parsed(alloc: Global, parsed: Parsed) -> Result<Marker, AllocError>
     requires keys { (key : Key) → is_flagged parsed.keys key ≡ reads key (tree_view parsed.tree) }
     requires bare { IsTrue parsed.is_bare
         → tree_text (string_bytes parsed.text) ≡ Some (tree_view parsed.tree) }

@@ -3,7 +3,7 @@
 ghost use Rattle.std.specs.Prelude.{◌≡◌, false, not, IfOk, IsTrue, OnErr};
 ghost use Rattle.std.specs.FinSet as set;
 ghost use Rattle.std.specs.Iterator.{YieldsFirstBy, item_count};
-ghost use Rattle.pyver_core.specs.Name.{norm};
+ghost use Rattle.pyver_core.specs.Name.{normal_name};
 ghost use Rattle.pymark_core.specs.Environment.{AreNamesOf};
 
 use pyver_core::NormalName;
@@ -51,7 +51,7 @@ impl NameSet {
     /// Whether this very text is in the set.
     pub(crate) fn has(&self, name: &str) -> bool
         ensures has { result ≡ set.contains self.now name.now }
-        ensures normal { IsTrue result → norm name.now ≡ name.now }
+        ensures normal { IsTrue result → normal_name name.now ≡ name.now }
     {
         self.names.contains(name)
     }
@@ -129,7 +129,7 @@ impl SharedNames {
     /// Whether this very text is in the set.
     pub(crate) fn has(&self, name: &str) -> bool
         ensures has { result ≡ set.contains self.now name.now }
-        ensures normal { IsTrue result → norm name.now ≡ name.now }
+        ensures normal { IsTrue result → normal_name name.now ≡ name.now }
     {
         match &self.names {
             Some(names) => names.has(name),
@@ -150,8 +150,9 @@ impl SharedNames {
     /// Puts the normal form of the text in, and answers whether it was out. A name that is in takes
     /// the memory of its normal form alone.
     pub(crate) fn add(&mut self, alloc: Global, name: &str) -> Result<bool, AllocError>
-        ensures set { IfOk result (λ added. self.new ≡ set.insert self.old (norm name.now)) }
-        ensures added { IfOk result (λ added. added ≡ not (set.contains self.old (norm name.now))) }
+        ensures set { IfOk result (λ added. self.new ≡ set.insert self.old (normal_name name.now)) }
+        ensures added { IfOk result
+            (λ added. added ≡ not (set.contains self.old (normal_name name.now))) }
         ensures err { OnErr result (self.new ≡ self.old) }
     {
         let name = NormalName::new(alloc, name)?;
@@ -171,8 +172,10 @@ impl SharedNames {
     /// Takes the normal form of the text out, and answers whether it was in. A name that is out
     /// takes the memory of its normal form alone.
     pub(crate) fn drop_name(&mut self, alloc: Global, name: &str) -> Result<bool, AllocError>
-        ensures set { IfOk result (λ dropped. self.new ≡ set.remove self.old (norm name.now)) }
-        ensures dropped { IfOk result (λ dropped. dropped ≡ set.contains self.old (norm name.now)) }
+        ensures set { IfOk result
+            (λ dropped. self.new ≡ set.remove self.old (normal_name name.now)) }
+        ensures dropped { IfOk result
+            (λ dropped. dropped ≡ set.contains self.old (normal_name name.now)) }
         ensures err { OnErr result (self.new ≡ self.old) }
     {
         let name = NormalName::new(alloc, name)?;

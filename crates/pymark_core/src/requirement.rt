@@ -6,14 +6,14 @@ mod text;
 
 ghost use Rattle.std.specs.Prelude.{◌≡◌, ◌≢◌, IfErr, IfOk, map, option_map, string_bytes};
 ghost use Rattle.pytext.specs.Agreement.{Gives};
-ghost use Rattle.pymark_core.specs.Requirement.Grammar.{Req};
+ghost use Rattle.pymark_core.specs.Requirement.Grammar.{RequirementText};
 ghost use Rattle.pymark_core.specs.Requirement.Reading.{marker_in, requirement_of};
 ghost use Rattle.pymark_core.specs.Requirement.Value.{RequirementValue};
 
 use crate::marker::{Marker, MarkerError};
 pub use error::RequirementError;
 use parts::{read_extras, read_name, read_source};
-use pytext::past_white;
+use pytext::after_white;
 use pyver_core::SpecifierSet;
 use std::alloc::{AllocError, Global};
 use std::marker::Model;
@@ -66,9 +66,9 @@ impl Requirement {
     /// White space (TAB, LF, VT, FF, CR, space) may stand before, between and after the parts. It
     /// takes memory for each part, and for the marker as [`Marker::parse`] does.
     pub fn parse(alloc: Global, text: &str) -> Result<Requirement, RequirementError>
-        ensures ok { IfOk result (λ r. Req text.now r) }
+        ensures ok { IfOk result (λ r. RequirementText text.now r) }
         ensures refused { IfErr result (λ e. e ≢ RequirementError.Memory
-            → (parts : RequirementValue) → Req text.now parts → ⊥) }
+            → (parts : RequirementValue) → RequirementText text.now parts → ⊥) }
 
         // The same, over the one answer of the grammar, and which refusal it is.
         ensures exact { Gives RequirementError.Memory (λ r. r) result (requirement_of text.now) }
@@ -124,7 +124,7 @@ impl Clone for Requirement {
             name: self.name.clone()?,
             extras: self.extras.clone()?,
             set: self.set.clone()?,
-            url: own(*self.name.allocator(), self.url())?,
+            url: own_text(*self.name.allocator(), self.url())?,
             marker: copy_marker(&self.marker)?,
         })
     }
@@ -134,21 +134,21 @@ impl Clone for Requirement {
 fn read_requirement(alloc: Global, text: &str) -> Result<Requirement, RequirementError>
     ensures { Gives RequirementError.Memory (λ r. r) result (requirement_of text.now) }
 {
-    let (name, rest) = read_name(past_white(text))?;
-    let (extras, rest) = read_extras(alloc, past_white(rest))?;
-    let source = read_source(alloc, past_white(rest))?;
-    let marker = read_marker(alloc, source.marker)?;
+    let (name, rest) = read_name(after_white(text))?;
+    let (extras, rest) = read_extras(alloc, after_white(rest))?;
+    let source = read_source(alloc, after_white(rest))?;
+    let marker = read_marker_part(alloc, source.marker)?;
     Ok(Requirement {
         name: String::from_str(alloc, name)?,
         extras,
         set: source.set,
-        url: own(alloc, source.url)?,
+        url: own_text(alloc, source.url)?,
         marker,
     })
 }
 
 /// The text in memory of its own, if there is one.
-fn own(alloc: Global, text: Option<&str>) -> Result<Option<String>, AllocError>
+fn own_text(alloc: Global, text: Option<&str>) -> Result<Option<String>, AllocError>
     ensures { IfOk result
         (λ own. option_map string_bytes own ≡ option_map (λ t. t.now) text.entry) }
 {
@@ -169,7 +169,7 @@ fn copy_marker(marker: &Option<Marker>) -> Result<Option<Marker>, AllocError>
 }
 
 /// The marker of the text, if there is one; no text of its is refused but as `Marker`.
-fn read_marker(alloc: Global, text: Option<&str>) -> Result<Option<Marker>, RequirementError>
+fn read_marker_part(alloc: Global, text: Option<&str>) -> Result<Option<Marker>, RequirementError>
     ensures { Gives RequirementError.Memory (λ marker. marker) result
         (marker_in (option_map (λ t. t.now) text.entry)) }
 {

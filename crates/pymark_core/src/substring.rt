@@ -25,7 +25,7 @@ pub(crate) fn is_substring(part: &str, whole: &str) -> bool
 
 /// Whether the second text is as long as the first, which else stands nowhere in it. Neither is
 /// looked at, however long they are.
-#[tactic(auto, using(crate::proofs::Substrings::longer_nowhere))]
+#[tactic(auto, using(crate::proofs::Lemmas::Marker::Value::Substrings::longer_nowhere))]
 fn has_room(part: &str, whole: &str) -> bool
     ensures { result ≡ false → is_substring part.now whole.now ≡ false }
 {

@@ -2,7 +2,8 @@
 
 ghost use Rattle.std.specs.Fmt.{padded};
 ghost use Rattle.std.specs.Prelude.{◌≡◌, ◌<◌, Some};
-ghost use Rattle.pymark_core.specs.Variables.{place, variable_name, variable_of, variables};
+ghost use Rattle.pymark_core.specs.Variables.{variable_name, variable_number, variable_of};
+ghost use Rattle.pymark_core.specs.Variables.{variables};
 
 use std::fmt;
 
@@ -34,7 +35,7 @@ pub enum Var {
     ImplementationVersion,
 }
 
-/// Every variable, each at its place.
+/// The eleven variables, in the order of their numbers.
 const VARIABLES: [Var; 11] = [
     Var::OsName,
     Var::SysPlatform,
@@ -86,9 +87,9 @@ impl Var {
         }
     }
 
-    /// The place of the variable among the eleven.
-    pub(crate) fn place(self) -> usize
-        ensures place { result ≡ place self }
+    /// The number of the variable, from 0: its index among the eleven.
+    pub(crate) fn number(self) -> usize
+        ensures value { result ≡ variable_number self }
         ensures within { result < 11 }
     {
         self as usize

@@ -1,7 +1,7 @@
-pub mod Boundaries
-pub mod Fronts
-pub mod Never
-pub mod Options
-pub mod Pieces
-pub mod Results
-pub mod Trimming
+pub mod BoundaryLemmas
+pub mod BytesLemmas
+pub mod IteratorLemmas
+pub mod NeverLemmas
+pub mod OptionsLemmas
+pub mod ResultsLemmas
+pub mod WhiteLemmas

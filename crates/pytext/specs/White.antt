@@ -1,15 +1,15 @@
--- White space in front of a text, and round it.
+-- White space before a text, and round it.
 use Rattle.std.specs.Prelude.{◌≡◌, ℕ, ◌-◌, true, List, ◌++◌, length, take, drop}
 use Rattle.std.specs.List.{list_all, prefix_len, suffix_len}
 use Rattle.pytext.specs.Bytes.{is_white}
 
--- the text behind the white space at its front
+-- the text after the white space that it begins with
 abbrev pub after_white : List ℕ → List ℕ
 after_white text = drop (prefix_len is_white text) text
 
--- the text without the white space at its front and at its end
-abbrev pub trimmed : List ℕ → List ℕ
-trimmed text =
+-- the text without the white space that it begins and ends with
+abbrev pub trim_white : List ℕ → List ℕ
+trim_white text =
     let rest = after_white text in
     take (length rest - suffix_len is_white rest) rest
 

@@ -1,7 +1,7 @@
 //! Classes of bytes.
 
 ghost use Rattle.std.specs.Prelude.{◌≡◌};
-ghost use Rattle.pytext.specs.Bytes.{is_name_byte, is_white, is_word_byte};
+ghost use Rattle.pytext.specs.Bytes.{is_name_byte, is_separator, is_white, is_word_byte};
 
 /// Whether the byte is TAB, LF, VT, FF, CR or space.
 pub fn is_white(byte: u8) -> bool
@@ -17,9 +17,16 @@ pub fn is_word_byte(byte: u8) -> bool
     byte.is_ascii_alphanumeric() || byte == b'_'
 }
 
+/// Whether the byte is `.`, `_` or `-`.
+pub fn is_separator(byte: u8) -> bool
+    ensures { result ≡ is_separator byte }
+{
+    matches!(byte, b'.' | b'_' | b'-')
+}
+
 /// Whether the byte may stand in a name: an ASCII letter or digit, `.`, `_` or `-`.
 pub fn is_name_byte(byte: u8) -> bool
     ensures { result ≡ is_name_byte byte }
 {
-    byte.is_ascii_alphanumeric() || matches!(byte, b'.' | b'_' | b'-')
+    byte.is_ascii_alphanumeric() || is_separator(byte)
 }

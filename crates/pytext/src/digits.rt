@@ -4,9 +4,9 @@ ghost use Rattle.std.specs.Prelude.{◌≡◌, ◌+◌, ◌*◌, ◌<◌, ◌^�
 ghost use Rattle.std.specs.Char.{digit_value, is_ascii_digit};
 ghost use Rattle.std.specs.List.{list_all, prefix_len};
 ghost use Rattle.std.specs.Str.Parse.{digits_value};
-ghost use Rattle.pytext.specs.Digits.{is_number};
+ghost use Rattle.pytext.specs.Digits.{is_number, number_limit};
 
-/// How many digits stand in front.
+/// How many digits the bytes begin with.
 pub fn digits_len(bytes: &[u8]) -> usize
     ensures { result ≡ prefix_len is_ascii_digit bytes.now }
 {
@@ -30,7 +30,8 @@ pub fn is_number(bytes: &[u8]) -> bool
 /// The number that the digits write, where it isn't past [`u128::MAX`]; 0 where there are none.
 pub fn digits_value(digits: &[u8]) -> Option<u128>
     requires { list_all is_ascii_digit digits.now ≡ true }
-    ensures { SomeIff result (digits_value 10 digits.now < 2 ^ 128) (digits_value 10 digits.now) }
+    ensures { SomeIff result (digits_value 10 digits.now < number_limit)
+        (digits_value 10 digits.now) }
 {
     match short_value(digits) {
         Some(value) => Some(u128::from(value)),
@@ -52,7 +53,8 @@ fn short_value(digits: &[u8]) -> Option<u64>
 
 fn long_value(digits: &[u8]) -> Option<u128>
     requires { list_all is_ascii_digit digits.now ≡ true }
-    ensures { SomeIff result (digits_value 10 digits.now < 2 ^ 128) (digits_value 10 digits.now) }
+    ensures { SomeIff result (digits_value 10 digits.now < number_limit)
+        (digits_value 10 digits.now) }
 {
     let mut value = 0u128;
     for digit in digits {
@@ -73,7 +75,7 @@ fn with_short_digit(value: u64, digit: u8) -> Option<u64>
 /// The number with one more digit, where it isn't past the limit.
 fn with_digit(value: u128, digit: u8) -> Option<u128>
     requires { is_ascii_digit digit ≡ true }
-    ensures { SomeIff result (value * 10 + digit_value digit < 2 ^ 128)
+    ensures { SomeIff result (value * 10 + digit_value digit < number_limit)
         (value * 10 + digit_value digit) }
 {
     value.checked_mul(10)?.checked_add(u128::from(digit - b'0'))

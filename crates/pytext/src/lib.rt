@@ -5,10 +5,9 @@
 //! text or its bytes, and none takes memory. White space is the six ASCII characters space, TAB,
 //! LF, VT, FF and CR.
 //!
-//! Begin with [`trimmed`] and [`past_white`], which take white space away, and [`is_white`], which
-//! tells it. [`digits_value`] is the number of some digits, where 128 bits hold it; it asks for
-//! digits alone, which [`digits_len`] finds. So `pywheel_core` reads the number of a build, in
-//! `crates/pywheel_core/src/build.rt`:
+//! Start with [`trim_white`] and [`after_white`], which take white space away. [`digits_value`] is
+//! the number of some digits, where 128 bits hold it; it needs digits alone, which [`digits_len`]
+//! finds. So `pywheel_core` reads the number of a build, in `crates/pywheel_core/src/build.rt`:
 //!
 //! ```rust
 //! let digits = digits_len(text.as_bytes());
@@ -17,9 +16,9 @@
 //! };
 //! ```
 //!
-//! Its `specs/` has the forms of contracts that the crates above share: `Agreement` (a call gives
-//! what a definition gives), and `Results` and `Options` (one step after another); its `proofs/`
-//! the lemmas on them.
+//! Read next `specs/Bytes.antt` and `specs/White.antt`, which say what each call gives;
+//! `specs/Agreement.antt`, `Results.antt` and `Options.antt` have the forms of contracts that the
+//! crates above share, and `proofs/` the lemmas on them.
 #![tactic(auto)]
 
 mod bytes;
@@ -27,6 +26,6 @@ mod digits;
 pub mod laws;
 mod white;
 
-pub use bytes::{is_name_byte, is_white, is_word_byte};
+pub use bytes::{is_name_byte, is_separator, is_white, is_word_byte};
 pub use digits::{are_digits, digits_len, digits_value, is_number};
-pub use white::{is_blank, past_white, past_white_bytes, trimmed};
+pub use white::{after_white, after_white_bytes, is_blank, trim_white};

@@ -1,9 +1,9 @@
-//! White space in front of texts and round them.
+//! White space before texts and round them.
 
 ghost use Rattle.std.specs.Prelude.{◌≡◌};
 ghost use Rattle.std.specs.List.{list_all, prefix_len, suffix_len};
 ghost use Rattle.pytext.specs.Bytes.{is_white};
-ghost use Rattle.pytext.specs.White.{after_white, trimmed};
+ghost use Rattle.pytext.specs.White.{after_white, trim_white};
 
 use crate::bytes::is_white;
 
@@ -13,7 +13,7 @@ fn white_len(bytes: &[u8]) -> usize
     bytes.iter().take_while(|b| is_white(**b)).count()
 }
 
-fn white_len_back(bytes: &[u8]) -> usize
+fn white_len_at_end(bytes: &[u8]) -> usize
     ensures { result ≡ suffix_len is_white bytes.now }
 {
     bytes.iter().rev().take_while(|b| is_white(**b)).count()
@@ -26,28 +26,28 @@ pub fn is_blank(bytes: &[u8]) -> bool
     bytes.iter().all(|b| is_white(*b))
 }
 
-/// The bytes behind the white space at their front.
-#[tactic(auto, using(crate::proofs::Fronts::fronts))]
-pub fn past_white_bytes(bytes: &[u8]) -> &[u8]
+/// The bytes after the white space that they begin with.
+#[tactic(auto, using(crate::proofs::BytesLemmas::prefixes))]
+pub fn after_white_bytes(bytes: &[u8]) -> &[u8]
     ensures { result.now ≡ after_white bytes.now }
 {
     bytes.split_at(white_len(bytes)).1
 }
 
-/// The text behind the white space at its front.
-#[tactic(auto, using(crate::proofs::Boundaries::boundary_behind_white))]
-pub fn past_white(text: &str) -> &str
+/// The text after the white space that it begins with.
+#[tactic(auto, using(crate::proofs::BoundaryLemmas::boundary_behind_white))]
+pub fn after_white(text: &str) -> &str
     ensures { result.now ≡ after_white text.now }
 {
     text.split_at(white_len(text.as_bytes())).1
 }
 
-/// The text without the white space at its front and at its end.
-#[tactic(auto, using(crate::proofs::Boundaries::before_white))]
-pub fn trimmed(text: &str) -> &str
-    ensures { result.now ≡ trimmed text.now }
+/// The text without the white space that it begins and ends with.
+#[tactic(auto, using(crate::proofs::BoundaryLemmas::before_white))]
+pub fn trim_white(text: &str) -> &str
+    ensures { result.now ≡ trim_white text.now }
 {
-    let rest = past_white(text);
-    rest.split_at(rest.len() - white_len_back(rest.as_bytes()))
+    let rest = after_white(text);
+    rest.split_at(rest.len() - white_len_at_end(rest.as_bytes()))
         .0
 }

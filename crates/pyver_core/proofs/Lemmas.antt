@@ -1,5 +1,4 @@
-pub mod Memory
 pub mod Name
-pub mod Outcomes
+pub mod Parsed
 pub mod Set
 pub mod Version

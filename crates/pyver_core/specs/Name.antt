@@ -17,8 +17,9 @@ is_name text = list_all is_name_byte text
 
 -- the normal form of any text: each longest run of separators becomes one `-`, that is, the last of
 -- a run becomes `-` and the others go; ASCII letters become lower case, and every other byte stays
-unfoldable pub norm : List ℕ → List ℕ
-norm [] = []
-norm (b ∷ rest) =
-    if is_separator b then (if starts is_separator rest then norm rest else 45 ∷ norm rest)
-    else to_ascii_lowercase b ∷ norm rest
+unfoldable pub normal_name : List ℕ → List ℕ
+normal_name [] = []
+normal_name (b ∷ rest) =
+    if is_separator b
+    then (if starts is_separator rest then normal_name rest else 45 ∷ normal_name rest)
+    else to_ascii_lowercase b ∷ normal_name rest

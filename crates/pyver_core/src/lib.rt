@@ -3,7 +3,7 @@
 //! It is for whoever compares versions, asks whether a set such as `>=1.0,<2` admits one, or needs
 //! the normal form of a version or a name. It stands on `pytext`, `itoa` and `thiserror`.
 //!
-//! Begin with [`Version::parse`] and [`SpecifierSet::parse`]. Versions are compared by `<` and
+//! Start with [`Version::parse`] and [`SpecifierSet::parse`]. Versions are compared by `<` and
 //! `==`, [`SpecifierSet::admits`] answers for a set, and neither takes memory. [`normal_name`] is
 //! the normal form of a name. A number of a version has at most 128 bits; a greater one is refused.
 //!
@@ -20,6 +20,9 @@
 //!     None => println!(rt; "none")?,
 //! }
 //! ```
+//!
+//! Read next `specs/Version/Grammar.antt` (which texts are versions), `specs/Version/Order.antt`
+//! and `specs/Set/Admission.antt`; [`laws`] says what follows from them.
 #![tactic(auto)]
 
 pub mod laws;

@@ -4,7 +4,7 @@ ghost use Rattle.std.specs.Prelude.{◌≡◌, IfOk, string_bytes};
 ghost use Rattle.std.specs.List.{list_all};
 ghost use Rattle.std.specs.Option.{option_copied};
 ghost use Rattle.pytext.specs.Bytes.{is_separator, is_name_byte};
-ghost use Rattle.pyver_core.specs.Name.{is_name, is_name_end, norm};
+ghost use Rattle.pyver_core.specs.Name.{is_name, is_name_end, normal_name};
 
 mod normal;
 mod same;
@@ -39,7 +39,7 @@ fn is_name_end(byte: Option<&u8>) -> bool
 /// become lower case, and other characters stay. It takes the memory of one text as long as the
 /// given one.
 pub fn normal_name(alloc: Global, text: &str) -> Result<String, AllocError>
-    ensures { IfOk result (λ name. string_bytes name ≡ norm text.now) }
+    ensures { IfOk result (λ name. string_bytes name ≡ normal_name text.now) }
 {
     let mut name = String::with_capacity(alloc, text.len())?;
     let mut in_run = false;

@@ -2,7 +2,7 @@
 
 ghost use Rattle.std.specs.Prelude.{◌≡◌, ◌≢◌, [], IfOk};
 ghost use Rattle.pyver_core.specs.Inner.PartsRef.{parts_of};
-ghost use Rattle.pyver_core.specs.Version.Normal.{normal};
+ghost use Rattle.pyver_core.specs.Version.Normal.{normal_text};
 ghost use Rattle.pyver_core.specs.Version.Parts.{base_release, is_postrelease, is_prerelease};
 ghost use Rattle.pyver_core.specs.Version.Parts.{public_part};
 
@@ -38,13 +38,13 @@ pub struct Version {
 impl Model for Version {
     ghost use Rattle.std.specs.Prelude.{◌≡◌, ◌≢◌, [], string_bytes};
     ghost use Rattle.pyver_core.specs.Version.Parts.{Parts};
-    ghost use Rattle.pyver_core.specs.Version.Normal.{normal};
+    ghost use Rattle.pyver_core.specs.Version.Normal.{normal_text};
 
     ghost Value = { Parts };
 
     ghost view = { λ v. v.parts };
 
-    ghost invariant = { λ v. (v.parts.release ≢ []) × (string_bytes v.text ≡ normal v.parts) };
+    ghost invariant = { λ v. (v.parts.release ≢ []) × (string_bytes v.text ≡ normal_text v.parts) };
 }
 
 impl Version {
@@ -53,7 +53,7 @@ impl Version {
         requires { parts.release ≢ [] }
         ensures { IfOk result (λ v. v ≡ parts) }
     {
-        let text = normal_text(alloc, &parts.lent())?;
+        let text = normal_text(alloc, &parts.as_parts_ref())?;
         Ok(Version { parts, text })
     }
 
@@ -61,7 +61,7 @@ impl Version {
     pub(crate) fn parts(&self) -> PartsRef<'_>
         ensures { parts_of result ≡ self.now }
     {
-        self.parts.lent()
+        self.parts.as_parts_ref()
     }
 
     /// The epoch, 0 where none is written.
@@ -109,7 +109,7 @@ impl Version {
 
     /// The normal form (PEP 440, "Normalization").
     pub fn text(&self) -> &str
-        ensures { result.now ≡ normal self.now }
+        ensures { result.now ≡ normal_text self.now }
     {
         self.text.as_str()
     }

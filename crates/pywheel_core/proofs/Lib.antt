@@ -1,17 +1,6 @@
-pub mod Best
-pub mod Choosing
-pub mod Counting
-pub mod Cuts
-pub mod Firsts
-pub mod HalvesLemmas
-pub mod Listing
-pub mod Lowering
+pub use Rattle.pywheel_core.proofs.Lemmas.Choice.Best.{is_best, best_is_one}
+pub use Rattle.pywheel_core.proofs.Lemmas.Tag.Firsts.{firsts, refused}
+pub mod Lemmas
 pub mod MarksLemmas
-pub mod Memory
-pub mod NameBytes
-pub mod Naming
-pub mod NamingParts
-pub mod Pieces
+pub mod NeverMemory
 pub mod ReadTableLemmas
-pub mod Versions
-pub mod WheelTags

@@ -3,4 +3,4 @@ pub mod Cut
 pub mod Lent
 pub mod Marks
 pub mod Pieces
-pub mod Places
+pub mod Spans

@@ -69,48 +69,49 @@ rank_of t tags = position (tag_eq t) tags
 abbrev pub with_tag : List TagValue → TagValue → List TagValue
 with_tag tags t = if list_any (tag_eq t) tags then tags else tags ++ t ∷ []
 
-abbrev pub at_place : {V : Type 0} → ℕ → Result V TagError → Result V TagListError
-at_place place (Ok x) = Ok x
-at_place place (Err e) = Err (list.Tag place)
+abbrev pub at_position : {V : Type 0} → ℕ → Result V TagError → Result V TagListError
+at_position position (Ok x) = Ok x
+at_position position (Err e) = Err (list.Tag position)
 
--- the tags of these texts, the first of which has this place, after the tags before them
+-- the tags of these texts, the first of which has this position, after the tags before them
 abbrev pub tags_after : List TagValue → ℕ → List (List ℕ) → Result (List TagValue) TagListError
-tags_after tags place [] = Ok tags
-tags_after tags place (text ∷ texts) =
-    at_place place (tag_of text) >>= λ t. tags_after (with_tag tags t) (suc place) texts
+tags_after tags position [] = Ok tags
+tags_after tags position (text ∷ texts) =
+    at_position position (tag_of text) >>= λ t. tags_after (with_tag tags t) (suc position) texts
 
--- the distinct tags of the texts in order, each at its first place; or the place of the first text
--- that is no tag, counted from 1
+-- the distinct tags of the texts in order, each at its first position; or the position of the first
+-- text that is no tag, counted from 1
 unfoldable pub tags_of : List (List ℕ) → Result (List TagValue) TagListError
 tags_of texts = tags_after [] 1 texts
 
 -- ---- what determines that answer: the law `tags_of_is_the_answer`
 
--- whether a tag is among some tags, and the place where it stands first
+-- whether a tag is among some tags, and the position where it stands first
 abbrev pub is_among : TagValue → List TagValue → Bool
 is_among t tags = list_any (tag_eq t) tags
 
-abbrev pub first_place : TagValue → List TagValue → ℕ
-first_place t tags = position_or_len (tag_eq t) tags
+abbrev pub first_position : TagValue → List TagValue → ℕ
+first_position t tags = position_or_len (tag_eq t) tags
 
--- the tags that are given, each once, in the order of their first places
+-- the tags that are given, each once, in the order of their first positions
 pub record AreFirsts (given tags : List TagValue) : Type 0 where
   pub distinct : IsDistinct tag_eq tags
   pub same : (t : TagValue) → is_among t tags ≡ is_among t given
   pub ordered : (a b : TagValue) → is_among a tags ≡ true → is_among b tags ≡ true
-      → first_place a tags < first_place b tags → first_place a given < first_place b given
+      → first_position a tags < first_position b tags
+      → first_position a given < first_position b given
 
--- each text is the tag that stands at its place
+-- each text is the tag that stands at its position
 abbrev pub AreTags : List (List ℕ) → List TagValue → Type 0
 AreTags texts given = map tag_of texts ≡ map (λ t. Ok t) given
 
--- the text at this place, counted from 1, is the first that is no tag
-pub record IsNoTag (texts : List (List ℕ)) (place : ℕ) : Type 0 where
+-- the text at this position, counted from 1, is the first that is no tag
+pub record IsNoTag (texts : List (List ℕ)) (position : ℕ) : Type 0 where
   pub before : List (List ℕ)
   pub text : List ℕ
   pub after : List (List ℕ)
   pub whole : texts ≡ before ++ text ∷ after
-  pub counted : place ≡ suc (length before)
+  pub counted : position ≡ suc (length before)
   pub tags : (given : List TagValue) × AreTags before given
   pub none : tag_of text ≡ Err tag.Shape
 

@@ -72,7 +72,7 @@ impl BuildTag {
         self.text.as_str()
     }
 
-    /// The number of the digits in front.
+    /// The number of the leading digits.
     pub(crate) fn number(&self) -> u128
         ensures { result ≡ build_number self.now }
     {

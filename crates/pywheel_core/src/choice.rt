@@ -3,62 +3,66 @@
 ghost use Rattle.std.specs.Prelude.{◌≡◌, None, option_map};
 ghost use Rattle.pywheel_core.specs.Choice.{IsBest, best, best_from, better, is_better, least_rank};
 ghost use Rattle.pywheel_core.specs.Choice.{rank_from, ranked};
-ghost use Rattle.pywheel_core.specs.Inner.Lent.{candidate_of};
+ghost use Rattle.pywheel_core.specs.Inner.Lent.{ranked_wheel};
 
 use crate::tag_list::TagList;
 use crate::wheel::WheelName;
 use std::cmp::Ordering;
 
-/// A compatible wheel, its rank and its place.
+/// A compatible wheel, its rank and its position.
 #[derive(Clone, Copy)]
-pub(crate) struct Candidate<'a> {
+pub(crate) struct RankedWheel<'a> {
     pub(crate) rank: usize,
-    pub(crate) place: usize,
+    pub(crate) position: usize,
     pub(crate) wheel: &'a WheelName,
 }
 
-/// The place of the best wheel: of those with a tag in the list, the one whose best tag stands
+/// The position of the best wheel: of those with a tag in the list, the one whose best tag stands
 /// first there (PEP 425, "Use"); then the greater build (PEP 427, "File name convention"); then the
-/// earlier place, which is a rule of this crate's own. `None` among the wheels is never chosen. It
-/// takes no memory and looks at each tag once.
+/// earlier position, which is a rule of this crate's own. `None` among the wheels is never chosen.
+/// It takes no memory and looks at each tag once.
 pub fn choose(wheels: &[Option<WheelName>], tags: &TagList) -> Option<usize>
     ensures best { IsBest wheels.now tags.now result }
     ensures exact { result ≡ best wheels.now tags.now }
 {
-    best_place(wheels, tags)
+    best_position(wheels, tags)
 }
 
-/// The place of the best wheel, by one pass.
+/// The position of the best wheel, by one pass.
 #[tactic(auto, unfolding(crate::specs::Choice::best))]
-fn best_place(wheels: &[Option<WheelName>], tags: &TagList) -> Option<usize>
+fn best_position(wheels: &[Option<WheelName>], tags: &TagList) -> Option<usize>
     ensures { result ≡ best wheels.now tags.now }
 {
-    Some(best_candidate(wheels, tags)?.place)
+    Some(best_ranked(wheels, tags)?.position)
 }
 
-/// The best wheel.
-fn best_candidate<'a>(wheels: &'a [Option<WheelName>], tags: &TagList) -> Option<Candidate<'a>>
-    ensures { option_map candidate_of result ≡ best_from None 0 wheels.now tags.now }
+/// The best wheel, with its rank.
+fn best_ranked<'a>(wheels: &'a [Option<WheelName>], tags: &TagList) -> Option<RankedWheel<'a>>
+    ensures { option_map ranked_wheel result ≡ best_from None 0 wheels.now tags.now }
 {
     let mut best = None;
-    for (place, wheel) in wheels.iter().enumerate() {
-        best = better(best, compatible(place, wheel, tags));
+    for (position, wheel) in wheels.iter().enumerate() {
+        best = better(best, rank_wheel(position, wheel, tags));
     }
     best
 }
 
-/// The wheel at this place, where one is and has a tag in the list.
+/// The wheel at this position, where one is and has a tag in the list.
 #[tactic(auto, unfolding(crate::specs::Choice::ranked))]
-fn compatible<'a>(
-    place: usize,
+fn rank_wheel<'a>(
+    position: usize,
     wheel: &'a Option<WheelName>,
     tags: &TagList,
-) -> Option<Candidate<'a>>
-    ensures { option_map candidate_of result ≡ ranked place wheel.now tags.now }
+) -> Option<RankedWheel<'a>>
+    ensures { option_map ranked_wheel result ≡ ranked position wheel.now tags.now }
 {
     let wheel = wheel.as_ref()?;
     let rank = best_rank(wheel, tags)?;
-    Some(Candidate { rank, place, wheel })
+    Some(RankedWheel {
+        rank,
+        position,
+        wheel,
+    })
 }
 
 /// The rank of the wheel's best tag: the least position in the list of one of its tags (PEP 425,
@@ -85,10 +89,14 @@ fn least_rank(rank: Option<usize>, other: Option<usize>) -> Option<usize>
     }
 }
 
-/// The better of two wheels, of which either may be absent and `later` stands at the later place.
-fn better<'a>(first: Option<Candidate<'a>>, later: Option<Candidate<'a>>) -> Option<Candidate<'a>>
-    ensures { option_map candidate_of result
-        ≡ better (option_map candidate_of first.entry) (option_map candidate_of later.entry) }
+/// The better of two wheels, of which either may be absent and `later` stands at the later
+/// position.
+fn better<'a>(
+    first: Option<RankedWheel<'a>>,
+    later: Option<RankedWheel<'a>>,
+) -> Option<RankedWheel<'a>>
+    ensures { option_map ranked_wheel result
+        ≡ better (option_map ranked_wheel first.entry) (option_map ranked_wheel later.entry) }
 {
     match (first, later) {
         (None, later) => later,
@@ -101,9 +109,9 @@ fn better<'a>(first: Option<Candidate<'a>>, later: Option<Candidate<'a>>) -> Opt
     }
 }
 
-/// Whether a wheel at a later place is better. Builds are compared only at equal ranks.
-fn is_better(later: &Candidate<'_>, first: &Candidate<'_>) -> bool
-    ensures { result ≡ is_better (candidate_of later.now) (candidate_of first.now) }
+/// Whether a wheel at a later position is better. Builds are compared only at equal ranks.
+fn is_better(later: &RankedWheel<'_>, first: &RankedWheel<'_>) -> bool
+    ensures { result ≡ is_better (ranked_wheel later.now) (ranked_wheel first.now) }
 {
     later.rank < first.rank
         || later.rank == first.rank && first.wheel.compare_builds(later.wheel) == Ordering::Less

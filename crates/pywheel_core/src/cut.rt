@@ -7,13 +7,14 @@ ghost use Rattle.std.specs.Rc.{rc_str_bytes};
 ghost use Rattle.std.specs.Str.{str_to_ascii_lowercase};
 ghost use Rattle.pywheel_core.specs.Inner.Lent.{IsCut, set_of, wheel_parts};
 ghost use Rattle.pywheel_core.specs.Inner.Cut.{is_undashed};
-ghost use Rattle.pywheel_core.specs.Inner.Places.{places_of};
+ghost use Rattle.pywheel_core.specs.Inner.Spans.{spans_of};
 ghost use Rattle.pytext.specs.Bytes.{is_word_byte};
 ghost use Rattle.pywheel_core.specs.Tag.{is_tag, is_tag_part};
 ghost use Rattle.pywheel_core.specs.Texts.{cut_at, three_parts};
-ghost use Rattle.pywheel_core.specs.Wheel.Cut.{built, end_of, parts_of, stem_of, unbuilt};
+ghost use Rattle.pywheel_core.specs.Wheel.Cut.{end_of, end_with_build, end_without_build};
+ghost use Rattle.pywheel_core.specs.Wheel.Cut.{parts_of, stem_of};
 
-use crate::place::Place;
+use crate::span::Span;
 use pytext::is_word_byte;
 use std::alloc::{AllocError, Global};
 use std::rc::RcStr;
@@ -40,7 +41,7 @@ pub(crate) struct StemParts<'a> {
 pub(crate) type End<'a> = (Option<&'a str>, &'a str, TagSet<'a>);
 
 /// The text in lower case, to be shared.
-pub(crate) fn lowercase(alloc: Global, text: &str) -> Result<RcStr, AllocError>
+pub(crate) fn lower_text(alloc: Global, text: &str) -> Result<RcStr, AllocError>
     ensures { IfOk result (λ lower. rc_str_bytes lower ≡ str_to_ascii_lowercase text.now) }
 {
     let mut lower = String::from_str(alloc, text)?;
@@ -92,10 +93,10 @@ pub(crate) fn stem(text: &str) -> Option<&str>
 }
 
 /// What stands behind the version, where no build tag does.
-#[tactic(auto, unfolding(crate::specs::Wheel::Cut::unbuilt))]
-fn unbuilt(text: &str) -> Option<End<'_>>
+#[tactic(auto, unfolding(crate::specs::Wheel::Cut::end_without_build))]
+fn end_without_build(text: &str) -> Option<End<'_>>
     ensures end { option_map (λ x. (option_map (λ b. b.now) x.0, x.1.now)) result
-        ≡ unbuilt text.now }
+        ≡ end_without_build text.now }
     ensures set { IfSome result (λ x. three_parts 45 x.1.now ≡ Some (set_of x.2)) }
 {
     let set = three_parts(text)?;
@@ -103,10 +104,10 @@ fn unbuilt(text: &str) -> Option<End<'_>>
 }
 
 /// A build tag and what stands behind it.
-#[tactic(auto, unfolding(crate::specs::Wheel::Cut::built))]
-fn built(text: &str) -> Option<End<'_>>
+#[tactic(auto, unfolding(crate::specs::Wheel::Cut::end_with_build))]
+fn end_with_build(text: &str) -> Option<End<'_>>
     ensures end { option_map (λ x. (option_map (λ b. b.now) x.0, x.1.now)) result
-        ≡ built text.now }
+        ≡ end_with_build text.now }
     ensures set { IfSome result (λ x. three_parts 45 x.1.now ≡ Some (set_of x.2)) }
 {
     let (build, rest) = cut(text)?;
@@ -120,9 +121,9 @@ pub(crate) fn end_parts(text: &str) -> Option<End<'_>>
         ≡ end_of text.now }
     ensures set { IfSome result (λ x. three_parts 45 x.1.now ≡ Some (set_of x.2)) }
 {
-    match unbuilt(text) {
+    match end_without_build(text) {
         Some(end) => Some(end),
-        None => built(text),
+        None => end_with_build(text),
     }
 }
 
@@ -165,24 +166,24 @@ impl TagSet<'_> {
         is_tag_part(self.python) && is_tag_part(self.abi) && is_tag_part(self.platform)
     }
 
-    /// The places of the three parts in the text that they make, which has this length.
-    pub(crate) fn places(&self, whole: usize) -> (Place, Place, Place)
+    /// The spans of the three parts in the text that they make, which has this length.
+    pub(crate) fn spans(&self, whole: usize) -> (Span, Span, Span)
         requires { whole ≡ length self.now.python.now + length self.now.abi.now
             + length self.now.platform.now + 2 }
-        ensures { (result.0, result.1, result.2) ≡ places_of (set_of self.now) }
+        ensures { (result.0, result.1, result.2) ≡ spans_of (set_of self.now) }
     {
         let python = self.python.len();
         let abi = python + 1 + self.abi.len();
         (
-            Place {
+            Span {
                 start: 0,
                 end: python,
             },
-            Place {
+            Span {
                 start: python + 1,
                 end: abi,
             },
-            Place {
+            Span {
                 start: abi + 1,
                 end: whole,
             },

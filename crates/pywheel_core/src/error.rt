@@ -20,7 +20,7 @@ pub enum TagError {
 /// Why texts aren't taken as a list of tags.
 #[derive(Debug, Drop)]
 pub enum TagListError {
-    /// The text at this place, counted from 1, is the first that is no tag.
+    /// The text at this position, counted from 1, is the first that is no tag.
     Tag(usize),
     /// There was no memory for the list.
     Memory,
@@ -41,7 +41,7 @@ pub enum WheelError {
     /// The version isn't one of PEP 440.
     #[error("version")]
     Version,
-    /// The build tag isn't ASCII with a digit in front, or its number is past [`u128::MAX`].
+    /// The build tag isn't ASCII with a leading digit, or its number is past [`u128::MAX`].
     #[error("build")]
     Build,
     /// A piece of the last three parts can't stand in a tag, or they make more than 1,024 tags.

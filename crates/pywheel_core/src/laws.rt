@@ -19,48 +19,48 @@ pub fn tag_of_is_the_answer()
 {}
 
 /// No two tags of a list are equal: each has one rank.
-#[tactic(auto, using(crate::proofs::Listing::distinct))]
+#[tactic(auto, using(crate::proofs::Lemmas::Tag::Listing::distinct))]
 pub fn tags_are_distinct()
     ensures { (texts : List (List ℕ)) (tags : List TagValue)
         → tags_of texts ≡ Ok tags → IsDistinct tag_eq tags }
 {}
 
 /// What [`TagList::parse`](crate::TagList::parse) answers: the tags of the texts, each once, in the
-/// order of their first places; or the place of the first text that is no tag.
-#[tactic(auto, using(crate::proofs::Firsts::firsts, crate::proofs::Firsts::refused))]
+/// order of their first positions; or the position of the first text that is no tag.
+#[tactic(auto, using(crate::proofs::firsts, crate::proofs::refused))]
 pub fn tags_of_is_the_answer()
     ensures tags { (texts : List (List ℕ)) (tags : List TagValue) → tags_of texts ≡ Ok tags
         → (given : List TagValue) × AreTags texts given × AreFirsts given tags }
-    ensures refused { (texts : List (List ℕ)) (place : ℕ)
-        → tags_of texts ≡ Err (TagListError.Tag place) → IsNoTag texts place }
+    ensures refused { (texts : List (List ℕ)) (position : ℕ)
+        → tags_of texts ≡ Err (TagListError.Tag position) → IsNoTag texts position }
 {}
 
 /// The tag of the first text has the rank 0.
-#[tactic(auto, using(crate::proofs::Listing::first))]
+#[tactic(auto, using(crate::proofs::Lemmas::Tag::Listing::first))]
 pub fn first_tag_ranks_first()
     ensures { (text : List ℕ) (texts : List (List ℕ)) (t : TagValue) (tags : List TagValue)
         → tag_of text ≡ Ok t → tags_of (text ∷ texts) ≡ Ok tags → rank_of t tags ≡ Some 0 }
 {}
 
-/// Among some wheels there is one best place, or none: the one that [`choose`](crate::choose)
+/// Among some wheels there is one best position, or none: the one that [`choose`](crate::choose)
 /// answers.
-#[tactic(auto, using(crate::proofs::Best::is_best, crate::proofs::Best::best_is_one))]
+#[tactic(auto, using(crate::proofs::is_best, crate::proofs::best_is_one))]
 pub fn one_best_wheel()
     ensures stands { (wheels : List (Option WheelValue)) (tags : List TagValue)
         → IsBest wheels tags (best wheels tags) }
-    ensures once { (wheels : List (Option WheelValue)) (tags : List TagValue) (place : Option ℕ)
-        → IsBest wheels tags place → place ≡ best wheels tags }
+    ensures once { (wheels : List (Option WheelValue)) (tags : List TagValue) (position : Option ℕ)
+        → IsBest wheels tags position → position ≡ best wheels tags }
 {}
 
 /// What [`WheelName::parse`](crate::WheelName::parse) reads, the text says as the name of a wheel.
-#[tactic(auto, using(crate::proofs::Naming::wheel_says))]
+#[tactic(auto, using(crate::proofs::Lemmas::Wheel::Grammar::wheel_says))]
 pub fn wheel_of_is_the_answer()
     ensures { (text : List ℕ) (w : WheelValue)
         → wheel_of text ≡ Ok w → Wheel text w.name w.version w.build w.tags }
 {}
 
 /// What a text says as the name of a wheel, [`WheelName::parse`](crate::WheelName::parse) reads.
-#[tactic(auto, using(crate::proofs::Naming::wheel_made))]
+#[tactic(auto, using(crate::proofs::Lemmas::Wheel::Grammar::wheel_made))]
 pub fn wheel_of_is_complete()
     ensures { (text name : List ℕ) (version : Parts) (build : Option (List ℕ))
         (tags : List TagValue)
@@ -74,15 +74,15 @@ pub fn wheel_of_is_complete()
 {}
 
 /// The tags of a wheel are those for which its compressed tag set stands.
-#[tactic(auto, using(crate::proofs::WheelTags::set_has_tags))]
+#[tactic(auto, using(crate::proofs::Lemmas::Wheel::TagSet::set_has_tags))]
 pub fn tag_set_has_the_tags()
     ensures { (text : List ℕ) (w : WheelValue)
         → wheel_of text ≡ Ok w → set_tags_in w.tag_set ≡ Ok w.tags }
 {}
 
-/// The reading of a tag, of a list of tags or of the name of a wheel is never want of memory: only
+/// The reading of a tag, of a list of tags or of the name of a wheel is never out of memory: only
 /// a call may answer it.
-pub fn answers_want_no_memory()
+pub fn answers_are_never_out_of_memory()
     ensures tag { (text : List ℕ) → tag_of text ≡ Err TagError.Memory → ⊥ }
     ensures tags { (texts : List (List ℕ)) → tags_of texts ≡ Err TagListError.Memory → ⊥ }
     ensures wheel { (text : List ℕ) → wheel_of text ≡ Err WheelError.Memory → ⊥ }

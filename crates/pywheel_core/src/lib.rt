@@ -5,9 +5,10 @@
 //!
 //! Begin with [`WheelName::parse`], [`TagList::parse`] and [`choose`]. In a list of tags the most
 //! preferred stands first, and the position of a tag is its rank. The best wheel has the tag of the
-//! least rank, then the greatest build, then the first place. A choice takes no memory. A name that
-//! can't be read may stand in the list as `None`, and is never chosen. Whoever reads the names of
-//! many wheels does it by a [`WheelReader`], which reads what they have in common once.
+//! least rank, then the greatest build, then the first position. A choice takes no memory. A name
+//! that can't be read may stand in the list as `None`, and is never chosen. Whoever reads the names
+//! of many wheels does it by a [`WheelReader`], which reads what they have in common once. Of what
+//! is defined, `specs/Wheel/Grammar.antt` and `specs/Choice.antt` say most.
 //!
 //! The best of some wheels, or `None`, from `crates/grammar_cases/src/wheels.rt`:
 //!
@@ -27,8 +28,8 @@ mod error;
 mod halves;
 pub mod laws;
 mod marks;
-mod place;
 mod reader;
+mod span;
 mod tag;
 mod tag_list;
 mod tag_set;

@@ -4,13 +4,13 @@ ghost use Rattle.std.specs.Prelude.{◌≡◌, IfOk, IsErrOf};
 ghost use Rattle.std.specs.Cmp.{partial_equiv_from_equiv};
 ghost use Rattle.std.specs.Rc.{rc_str_bytes};
 ghost use Rattle.pytext.specs.Agreement.{Gives};
-ghost use Rattle.pywheel_core.specs.Inner.Places.{IsAsciiText, IsWithin, tag_at};
+ghost use Rattle.pywheel_core.specs.Inner.Spans.{IsAsciiText, IsWithin, tag_at};
 ghost use Rattle.pywheel_core.specs.Tag.{TagText, TagValue, tag_eq, tag_of};
 ghost use Rattle.pywheel_core.specs.TagLaws.{alike, fed_tag, tag_equiv};
 
-use crate::cut::{lowercase, three_parts};
+use crate::cut::{lower_text, three_parts};
 use crate::error::TagError;
-use crate::place::Place;
+use crate::span::Span;
 use std::alloc::{AllocError, Global};
 use std::hash::{Hash, Hasher};
 use std::marker::Model;
@@ -21,14 +21,14 @@ use std::rc::RcStr;
 /// The tags of one wheel share their text, so that a tag takes seven words besides it.
 pub struct Tag {
     text: RcStr,
-    python: Place,
-    abi: Place,
-    platform: Place,
+    python: Span,
+    abi: Span,
+    platform: Span,
 }
 
 impl Model for Tag {
     ghost use Rattle.std.specs.Rc.{rc_str_bytes};
-    ghost use Rattle.pywheel_core.specs.Inner.Places.{IsAsciiText, IsWithin, tag_at};
+    ghost use Rattle.pywheel_core.specs.Inner.Spans.{IsAsciiText, IsWithin, tag_at};
     ghost use Rattle.pywheel_core.specs.Tag.{TagValue};
 
     ghost Value = { TagValue };
@@ -52,8 +52,8 @@ impl Drop for Tag {
 }
 
 impl Tag {
-    /// The tag whose parts stand at these places of the text.
-    pub(crate) fn new(text: RcStr, python: Place, abi: Place, platform: Place) -> Tag
+    /// The tag whose parts stand at these spans of the text.
+    pub(crate) fn new(text: RcStr, python: Span, abi: Span, platform: Span) -> Tag
         requires ascii { IsAsciiText (rc_str_bytes text) }
         requires python { IsWithin (rc_str_bytes text) python }
         requires abi { IsWithin (rc_str_bytes text) abi }
@@ -113,8 +113,8 @@ fn read_tag(alloc: Global, text: &str) -> Result<Tag, TagError>
     if !parts.is_tag() {
         return Err(TagError::Shape);
     }
-    let (python, abi, platform) = parts.places(text.len());
-    let lower = lowercase(alloc, text)?;
+    let (python, abi, platform) = parts.spans(text.len());
+    let lower = lower_text(alloc, text)?;
     Ok(Tag::new(lower, python, abi, platform))
 }
 

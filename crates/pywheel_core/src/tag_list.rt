@@ -3,7 +3,7 @@
 ghost use Rattle.std.specs.Prelude.{◌≡◌, ◌==◌, List, [], Err, IfOk, IsOk, OnErr, OnOk, length, map};
 ghost use Rattle.pytext.specs.Agreement.{Gives};
 ghost use Rattle.pywheel_core.specs.Inner.Marks.{AreAllMarked};
-ghost use Rattle.pywheel_core.specs.Tag.{TagValue, at_place, rank_of, tag_of, tags_of, with_tag};
+ghost use Rattle.pywheel_core.specs.Tag.{TagValue, at_position, rank_of, tag_of, tags_of, with_tag};
 
 use crate::error::{TagError, TagListError};
 use crate::marks::Marks;
@@ -39,9 +39,9 @@ impl Drop for TagList {
 }
 
 impl TagList {
-    /// The tags of the texts in order, each at its first place. `Tag` gives the place, from 1, of
-    /// the first text that is no tag. It takes the memory of the tags and of a table of them, and
-    /// 768 bytes for a list that isn't empty.
+    /// The tags of the texts in order, each at its first position. `Tag` gives the position, from
+    /// 1, of the first text that is no tag. It takes the memory of the tags and of a table of them,
+    /// and 768 bytes for a list that isn't empty.
     #[tactic(auto, unfolding(crate::specs::Tag::tags_of))]
     pub fn parse(alloc: Global, texts: &[&str]) -> Result<TagList, TagListError>
         ensures { Gives TagListError.Memory (λ l. l) result (tags_of (map (λ t. t.now) texts.now)) }
@@ -162,13 +162,13 @@ fn copy_marks(marks: &Option<Marks>) -> Result<Option<Marks>, AllocError>
     }
 }
 
-/// The tag that the text at this place is.
-fn parse_at(alloc: Global, place: usize, text: &str) -> Result<Tag, TagListError>
-    ensures { Gives TagListError.Memory (λ t. t) result (at_place place (tag_of text.now)) }
+/// The tag that the text at this position is.
+fn parse_at(alloc: Global, position: usize, text: &str) -> Result<Tag, TagListError>
+    ensures { Gives TagListError.Memory (λ t. t) result (at_position position (tag_of text.now)) }
 {
     match Tag::parse(alloc, text) {
         Ok(tag) => Ok(tag),
-        Err(TagError::Shape) => Err(TagListError::Tag(place)),
+        Err(TagError::Shape) => Err(TagListError::Tag(position)),
         Err(TagError::Memory) => Err(TagListError::Memory),
     }
 }

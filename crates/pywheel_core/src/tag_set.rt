@@ -7,16 +7,16 @@ ghost use Rattle.std.specs.Rc.{rc_str_bytes};
 ghost use Rattle.std.specs.Str.{str_to_ascii_lowercase};
 ghost use Rattle.pytext.specs.Agreement.{Gives};
 ghost use Rattle.pywheel_core.specs.Inner.Lent.{lower_set, set_of};
-ghost use Rattle.pywheel_core.specs.Inner.Places.{AreWithin, IsAsciiText, IsWithin, places_from};
-ghost use Rattle.pywheel_core.specs.Inner.Places.{tag_at};
-ghost use Rattle.pywheel_core.specs.Inner.Pieces.{AreCountable, counts_of, places_in};
+ghost use Rattle.pywheel_core.specs.Inner.Spans.{AreWithin, IsAsciiText, IsWithin, spans_from};
+ghost use Rattle.pywheel_core.specs.Inner.Spans.{tag_at};
+ghost use Rattle.pywheel_core.specs.Inner.Pieces.{AreCountable, counts_of, spans_in};
 ghost use Rattle.pywheel_core.specs.Tag.{are_tag_parts, is_tag_set, pieces, tags_in};
 ghost use Rattle.pywheel_core.specs.Texts.{cut_at, three_parts};
 ghost use Rattle.pywheel_core.specs.Wheel.Reading.{tag_set_in};
 
-use crate::cut::{TagSet, lowercase};
+use crate::cut::{TagSet, lower_text};
 use crate::error::WheelError;
-use crate::place::Place;
+use crate::span::Span;
 use crate::tag::Tag;
 use pytext::is_word_byte;
 use std::alloc::Global;
@@ -41,7 +41,7 @@ pub(crate) fn read_tag_set(
     let Some(counts) = set.small_counts() else {
         return Err(WheelError::Tags);
     };
-    let lower = lowercase(alloc, text)?;
+    let lower = lower_text(alloc, text)?;
     let tags = set.tags(alloc, text, &lower, &counts)?;
     Ok((lower, tags))
 }
@@ -98,10 +98,10 @@ impl TagSet<'_> {
         ensures { Gives WheelError.Memory (λ v. v.items) result
             (Ok (tags_in (lower_set (set_of self.now)))) }
     {
-        let (python, abi, platform) = self.places(text.len());
-        let pythons = PiecePlaces::of(alloc, python.start, self.python, counts.python)?;
-        let abis = PiecePlaces::of(alloc, abi.start, self.abi, counts.abi)?;
-        let platforms = PiecePlaces::of(alloc, platform.start, self.platform, counts.platform)?;
+        let (python, abi, platform) = self.spans(text.len());
+        let pythons = PieceSpans::of(alloc, python.start, self.python, counts.python)?;
+        let abis = PieceSpans::of(alloc, abi.start, self.abi, counts.abi)?;
+        let platforms = PieceSpans::of(alloc, platform.start, self.platform, counts.platform)?;
         let mut tags = Vec::with_capacity(alloc, counts.tags)?;
         push_tags(
             &mut tags,
@@ -118,9 +118,9 @@ impl TagSet<'_> {
 fn push_tags(
     tags: &mut Vec<Tag>,
     text: &RcStr,
-    pythons: &[Place],
-    abis: &[Place],
-    platforms: &[Place],
+    pythons: &[Span],
+    abis: &[Span],
+    platforms: &[Span],
 ) -> Result<(), WheelError>
     requires ascii { IsAsciiText (rc_str_bytes text.now) }
     requires pythons { AreWithin (rc_str_bytes text.now) pythons.now }
@@ -141,9 +141,9 @@ fn push_tags(
 fn push_abis(
     tags: &mut Vec<Tag>,
     text: &RcStr,
-    python: Place,
-    abis: &[Place],
-    platforms: &[Place],
+    python: Span,
+    abis: &[Span],
+    platforms: &[Span],
 ) -> Result<(), WheelError>
     requires ascii { IsAsciiText (rc_str_bytes text.now) }
     requires python { IsWithin (rc_str_bytes text.now) python }
@@ -164,9 +164,9 @@ fn push_abis(
 fn push_platforms(
     tags: &mut Vec<Tag>,
     text: &RcStr,
-    python: Place,
-    abi: Place,
-    platforms: &[Place],
+    python: Span,
+    abi: Span,
+    platforms: &[Span],
 ) -> Result<(), WheelError>
     requires ascii { IsAsciiText (rc_str_bytes text.now) }
     requires python { IsWithin (rc_str_bytes text.now) python }
@@ -208,85 +208,85 @@ fn count_tag_parts(part: &[u8]) -> Option<usize>
     (!is_empty).then_some(count)
 }
 
-/// The places of the pieces of a part. One or two, as nearly each part has, take no memory.
+/// The spans of the pieces of a part. One or two, as nearly each part has, take no memory.
 #[derive(Drop)]
-enum PiecePlaces {
-    One(Place),
-    Two([Place; 2]),
-    Many(Vec<Place>),
+enum PieceSpans {
+    One(Span),
+    Two([Span; 2]),
+    Many(Vec<Span>),
 }
 
-impl PiecePlaces {
+impl PieceSpans {
     /// Those in a text where the part stands at `start`.
-    fn of(alloc: Global, start: usize, part: &str, count: usize) -> Result<PiecePlaces, WheelError>
+    fn of(alloc: Global, start: usize, part: &str, count: usize) -> Result<PieceSpans, WheelError>
         requires start { start + length part.now < 2 ^ 64 }
         requires count { count ≡ length (pieces part.now) }
-        ensures { Gives WheelError.Memory places_in result
-            (Ok (places_from start (pieces part.now))) }
+        ensures { Gives WheelError.Memory spans_in result
+            (Ok (spans_from start (pieces part.now))) }
     {
         if count == 1 {
             let end = start + part.len();
-            return Ok(PiecePlaces::One(Place { start, end }));
+            return Ok(PieceSpans::One(Span { start, end }));
         }
         if count == 2 {
-            if let Some(places) = two_places(start, part) {
-                return Ok(PiecePlaces::Two(places));
+            if let Some(spans) = two_spans(start, part) {
+                return Ok(PieceSpans::Two(spans));
             }
         }
-        Ok(PiecePlaces::Many(list_places(alloc, start, part, count)?))
+        Ok(PieceSpans::Many(list_spans(alloc, start, part, count)?))
     }
 
-    fn as_slice(&self) -> &[Place]
-        ensures { result.now ≡ places_in self.now }
+    fn as_slice(&self) -> &[Span]
+        ensures { result.now ≡ spans_in self.now }
     {
         match self {
-            PiecePlaces::One(place) => slice::from_ref(place),
-            PiecePlaces::Two(places) => places,
-            PiecePlaces::Many(places) => places,
+            PieceSpans::One(span) => slice::from_ref(span),
+            PieceSpans::Two(spans) => spans,
+            PieceSpans::Many(spans) => spans,
         }
     }
 }
 
-/// The places of the two pieces in a text where the part stands at `start`.
-fn two_places(start: usize, part: &str) -> Option<[Place; 2]>
+/// The spans of the two pieces in a text where the part stands at `start`.
+fn two_spans(start: usize, part: &str) -> Option<[Span; 2]>
     requires start { start + length part.now < 2 ^ 64 }
     requires two { length (pieces part.now) ≡ 2 }
-    ensures { IfSome result (λ places. places ≡ places_from start (pieces part.now)) }
+    ensures { IfSome result (λ spans. spans ≡ spans_from start (pieces part.now)) }
 {
     let (first, second) = cut_at_dot(part)?;
     let end = start + first.len();
     let behind = end + 1;
     Some([
-        Place { start, end },
-        Place {
+        Span { start, end },
+        Span {
             start: behind,
             end: behind + second.len(),
         },
     ])
 }
 
-/// The places of the pieces in a text where the part stands at `start`, in a list with room for
+/// The spans of the pieces in a text where the part stands at `start`, in a list with room for
 /// `count`.
-fn list_places(
+fn list_spans(
     alloc: Global,
     start: usize,
     part: &str,
     count: usize,
-) -> Result<Vec<Place>, WheelError>
+) -> Result<Vec<Span>, WheelError>
     requires { start + length part.now < 2 ^ 64 }
     ensures { Gives WheelError.Memory (λ v. v.items) result
-        (Ok (places_from start (pieces part.now))) }
+        (Ok (spans_from start (pieces part.now))) }
 {
-    let mut places = Vec::with_capacity(alloc, count)?;
+    let mut spans = Vec::with_capacity(alloc, count)?;
     let mut start = start;
     let mut rest = part;
     while let Some((piece, after)) = cut_at_dot(rest) {
         let end = start + piece.len();
-        places.push(Place { start, end })?;
+        spans.push(Span { start, end })?;
         start = end + 1;
         rest = after;
     }
     let end = start + rest.len();
-    places.push(Place { start, end })?;
-    Ok(places)
+    spans.push(Span { start, end })?;
+    Ok(spans)
 }

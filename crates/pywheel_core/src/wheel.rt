@@ -101,7 +101,7 @@ impl WheelName {
         &self.head.version
     }
 
-    /// The build tag, where there is one: the number of the digits in front, and what stands after
+    /// The build tag, where there is one: the number of the leading digits, and what stands after
     /// them (PEP 427, "File name convention"). It takes no memory.
     pub fn build(&self) -> Option<(u128, &str)>
         ensures number { option_map (λ b. b.0) result ≡ option_map build_number self.now.build }
@@ -181,7 +181,7 @@ fn read_name(alloc: Global, name: &str) -> Result<String, WheelError>
     Ok(String::from_str(alloc, name)?)
 }
 
-#[tactic(auto, using(crate::proofs::NameBytes::name_is))]
+#[tactic(auto, using(crate::proofs::Lemmas::Wheel::Name::name_is))]
 pub(crate) fn is_wheel_name(name: &str) -> bool
     ensures { result ≡ is_wheel_name name.now }
 {
@@ -211,7 +211,7 @@ fn is_wheel_name_byte(byte: u8) -> bool
 
 /// The version, where the text is one.
 #[tactic(auto, unfolding(crate::specs::Wheel::Reading::version_in))]
-fn read_version(alloc: Global, text: &str) -> Result<Version, WheelError>
+pub(crate) fn read_version(alloc: Global, text: &str) -> Result<Version, WheelError>
     ensures { Gives WheelError.Memory (λ v. v) result (version_in text.now) }
 {
     match Version::parse(alloc, text) {

@@ -5,7 +5,7 @@ use Rattle.toml.specs.Data.{Items, Members, get_member, item, no_items}
 use Rattle.pytext.specs.Results.{◌>>=◌}
 use Rattle.pylock_readers.specs.Entry.{EntryValue}
 use Rattle.pylock_readers.specs.Lock.{HeadValue, LockValue}
-use Rattle.pylock_readers.specs.Lock.Reading.{count, lock_in, most_entries}
+use Rattle.pylock_readers.specs.Lock.Reading.{item_count, lock_in, most_entries}
 use Rattle.pylock_readers.specs.declared.error.LockError.{LockError}
 use Rattle.pylock_audit.specs.Audit.{head_findings, items_at, members_in}
 use Rattle.pylock_audit.specs.Entry.{of_controls, of_file_names, of_hashes, of_kinds, of_marker}
@@ -29,7 +29,7 @@ of_tables (item d ds) = of_table (members_in d) ∷ of_tables ds
 -- the items, where a lock may have so many entries: a document that has more is refused, so none of
 -- them is looked at
 abbrev pub looked_at : Items → Items
-looked_at items = if nat_lt most_entries (count items) then no_items else items
+looked_at items = if nat_lt most_entries (item_count items) then no_items else items
 
 -- what the tables of a document's entries give
 abbrev pub tables_in : Members → List TableValue

@@ -2,7 +2,7 @@
 
 ghost use Rattle.std.specs.Prelude.{◌≡◌, ◌++◌, OnOk, Some, decimal, map, option_map};
 ghost use Rattle.pytext.specs.Agreement.{Gives};
-ghost use Rattle.pylock_run.specs.Text.Field.{tabbed};
+ghost use Rattle.pylock_run.specs.Text.Field.{fields_text};
 ghost use Rattle.pylock_program.specs.declared.choices.View.TheVariants.{Explain, Plan};
 ghost use Rattle.pylock_c.specs.Answer.{Tells};
 ghost use Rattle.pylock_c.specs.Answers.{form_of};
@@ -138,7 +138,7 @@ fn push_numbers(out: &mut Vec<u8>, numbers: &[u32]) -> Result<(), AllocError>
 
 /// Pushes the numbers behind the first.
 fn push_more(out: &mut Vec<u8>, numbers: &[u32]) -> Result<(), AllocError>
-    ensures { OnOk result (out.new.items ≡ out.old.items ++ tabbed (map decimal numbers.now)) }
+    ensures { OnOk result (out.new.items ≡ out.old.items ++ fields_text (map decimal numbers.now)) }
 {
     for number in numbers {
         out.push(b'\t')?;

@@ -3,7 +3,7 @@ use Rattle.std.specs.Prelude.{◌≡◌, ℕ, ◌+◌, Bool, true, false, ◌||�
 use Rattle.std.specs.Prelude.{filter, Option, Some, None, is_some}
 use Rattle.std.specs.List.{list_any}
 use Rattle.std.specs.Str.{bytes_eq}
-use Rattle.pyver_core.specs.Name.{norm}
+use Rattle.pyver_core.specs.Name.{normal_name}
 use Rattle.pymark_core.specs.Environment.{EnvironmentValue}
 use Rattle.pymark_core.specs.Marker.Keys.{reads}
 use Rattle.pymark_core.specs.Marker.Reading.{MarkerValue}
@@ -127,7 +127,7 @@ touched (edit.Add entry) state = (state.last + 1) ∷ []
 touched (edit.Put n entry) state = n ∷ []
 touched (edit.Del n) state = []
 touched (edit.Policy name policy) state =
-    numbers_where (λ entry. bytes_eq (norm name) entry.name) state.entries
+    numbers_where (λ entry. bytes_eq (normal_name name) entry.name) state.entries
 
 -- the numbers that the start judges: the head and every entry
 abbrev pub all_numbers : State → List ℕ

@@ -10,7 +10,7 @@ use Rattle.std.specs.FinSet as set
 use Rattle.std.specs.List.{enumerate_from, list_any}
 use Rattle.std.specs.Ordering.{nat_cmp}
 use Rattle.std.specs.Str.{bytes_eq}
-use Rattle.pyver_core.specs.Name.{norm}
+use Rattle.pyver_core.specs.Name.{normal_name}
 use Rattle.pymark_core.specs.Environment.{EnvironmentValue, with_extra, with_group, with_variable}
 use Rattle.pymark_core.specs.Environment.{without_extra, without_group, without_variable}
 use Rattle.pywheel_core.specs.Tag.{TagValue}
@@ -91,7 +91,7 @@ with_entry n entry es = map (λ e. (e.0, if n == e.0 then entry else e.1)) es
 
 -- whether the name, in normal form, is one of these
 abbrev pub is_known : List (List ℕ) → List ℕ → Bool
-is_known names name = list_any (bytes_eq (norm name)) names
+is_known names name = list_any (bytes_eq (normal_name name)) names
 
 -- the policy of a name in normal form
 abbrev pub policy_of : Policies → List ℕ → Policy
@@ -155,4 +155,4 @@ apply (edit.Put n entry) state =
     if_entry n state (record state { entries = with_entry n entry state.entries })
 apply (edit.Del n) state = if_entry n state (record state { entries = without n state.entries })
 apply (edit.Policy name policy) state =
-    Ok (record state { policies = with_policy state.policies (norm name) policy })
+    Ok (record state { policies = with_policy state.policies (normal_name name) policy })

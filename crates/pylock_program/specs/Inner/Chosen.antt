@@ -4,11 +4,11 @@ use Rattle.pylock_command.specs.declared.choice.Choice.{Choice}
 use Rattle.pylock_core.specs.Session.State.{State}
 
 -- the state that was reached, unless a choice was refused
-abbrev pub chosen : Option Choice → State → Result State Choice
-chosen None state = Ok state
-chosen (Some choice) state = Err choice
+abbrev pub state_or_refused : Option Choice → State → Result State Choice
+state_or_refused None state = Ok state
+state_or_refused (Some choice) state = Err choice
 
 -- the state that was reached, where all was accepted
-abbrev pub made : Bool → State → Option State
-made true state = Some state
-made false state = None
+abbrev pub state_if : Bool → State → Option State
+state_if true state = Some state
+state_if false state = None

@@ -7,19 +7,19 @@ use Rattle.pylock_run.specs.Text.Plan.{archive_fields, directory_fields, file_fi
 use Rattle.pylock_run.specs.Text.Plan.{source_line, vcs_fields}
 
 -- the fields of a source, where there is one
-abbrev pub where_there : {A : Type 0} → (A → List (List ℕ)) → Option A → List (List (List ℕ))
-where_there fields None = []
-where_there fields (Some source) = fields source ∷ []
+abbrev pub optional_source : {A : Type 0} → (A → List (List ℕ)) → Option A → List (List (List ℕ))
+optional_source fields None = []
+optional_source fields (Some source) = fields source ∷ []
 
 -- the fields of each source of an entry: `vcs`, `directory`, `archive`, the wheels in order,
 -- `sdist`
 abbrev pub each_source : EntryValue → List (List (List ℕ))
 each_source entry =
-    where_there vcs_fields entry.vcs
-    ++ where_there directory_fields entry.directory
-    ++ where_there archive_fields entry.archive
+    optional_source vcs_fields entry.vcs
+    ++ optional_source directory_fields entry.directory
+    ++ optional_source archive_fields entry.archive
     ++ map (file_fields (codes "wheel")) entry.wheels
-    ++ where_there (file_fields (codes "sdist")) entry.sdist
+    ++ optional_source (file_fields (codes "sdist")) entry.sdist
 
 -- the lines of the entries, the first of which has this number
 abbrev pub lines_from : ℕ → List EntryValue → List (List ℕ)

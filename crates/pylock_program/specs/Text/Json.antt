@@ -1,7 +1,7 @@
 -- What is printed in place of an answer, as JSON documents.
 use Rattle.std.specs.Prelude.{ℕ, List, [], ◌∷◌, codes}
 use Rattle.std.specs.Option.{option_map_or}
-use Rattle.pylock_command.specs.Choices.{written}
+use Rattle.pylock_command.specs.Choices.{option_words}
 use Rattle.pylock_command.specs.declared.choice.Choice.{Choice}
 use Rattle.pylock_documents.specs.Documents.{refused_rows}
 use Rattle.pylock_json.specs.Json.{Row, document_text, members_of}
@@ -16,16 +16,16 @@ abbrev pub json_text : List Row → List ℕ
 json_text rows = document_text (members_of rows)
 
 -- a refusal: the words of its line
-unfoldable pub refused_json : List (List ℕ) → List ℕ
-refused_json words = json_text (refused_rows words)
+unfoldable pub words_json : List (List ℕ) → List ℕ
+words_json words = json_text (refused_rows words)
 
 abbrev pub lock_json : LockError → List ℕ
-lock_json error = refused_json (codes "lock" ∷ lock_words error)
+lock_json error = words_json (codes "lock" ∷ lock_words error)
 
 abbrev pub environment_json : EnvError → List ℕ
-environment_json error = refused_json (codes "environment" ∷ environment_words error)
+environment_json error = words_json (codes "environment" ∷ environment_words error)
 
--- want of memory is no refusal, and is never printed
+-- out of memory is no refusal, and is never printed
 abbrev pub refusal_json : OpenError → List ℕ
 refusal_json (open_error.Lock error) = lock_json error
 refusal_json (open_error.Environment error) = environment_json error
@@ -34,4 +34,5 @@ refusal_json open_error.Memory = []
 -- an option that is refused: its word, without the dashes, and its text as it was given
 abbrev pub option_json : Choice → List ℕ
 option_json choice =
-    refused_json ((written choice).0 ∷ option_map_or (λ text. text ∷ []) (written choice).1 [])
+    let words = option_words choice in
+    words_json (words.0 ∷ option_map_or (λ text. text ∷ []) words.1 [])

@@ -12,10 +12,10 @@ safe_character c =
     else if c == 92 then codes "\\\\"
     else encode_utf8 c
 
-abbrev pub safe : List ℕ → List ℕ
-safe text = flat_map safe_character (chars text)
+abbrev pub safe_text : List ℕ → List ℕ
+safe_text text = flat_map safe_character (chars text)
 
 -- a field: an absent text is `-`, and the text `-` is written `\-`
 abbrev pub safe_field : Option (List ℕ) → List ℕ
 safe_field None = codes "-"
-safe_field (Some text) = if bytes_eq text (codes "-") then codes "\\-" else safe text
+safe_field (Some text) = if bytes_eq text (codes "-") then codes "\\-" else safe_text text

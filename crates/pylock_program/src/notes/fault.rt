@@ -1,6 +1,6 @@
 //! What a person is told of a fault.
 
-use crate::notes::tell_made;
+use crate::notes::tell_if_made;
 use pylock_core::{Answer, Fate, FaultCode, Session};
 use pylock_reasons::{detail, fault_word, head_detail, verdict_word};
 use pylock_run::Sink;
@@ -9,7 +9,7 @@ use std::alloc::{AllocError, Global};
 /// Tells where the fault of the answer is, and why, if the answer is one.
 pub(crate) fn tell_fault<N: Sink>(alloc: Global, notes: &mut N, session: &Session) {
     if let Ok(Answer::Fault { id, code }) = session.answer() {
-        tell_made(alloc, notes, fault_text(alloc, session, id, code));
+        tell_if_made(alloc, notes, fault_text(alloc, session, id, code));
     }
 }
 
@@ -42,8 +42,8 @@ fn entry_text(alloc: Global, session: &Session, id: u32, fate: Fate) -> Result<S
     let name = entry.name();
     let detail = detail(alloc, session, entry, fate)?;
     let verdict = verdict_word(entry, fate);
-    let place = format!(in alloc; "entry {id} (`{name}`)")?;
-    with_detail(alloc, place.as_str(), verdict, detail.as_deref())
+    let position = format!(in alloc; "entry {id} (`{name}`)")?;
+    with_detail(alloc, position.as_str(), verdict, detail.as_deref())
 }
 
 fn head_text(alloc: Global, session: &Session, code: FaultCode) -> Result<String, AllocError> {
@@ -53,12 +53,12 @@ fn head_text(alloc: Global, session: &Session, code: FaultCode) -> Result<String
 
 fn with_detail(
     alloc: Global,
-    place: &str,
+    position: &str,
     word: &str,
     detail: Option<&str>,
 ) -> Result<String, AllocError> {
     match detail {
-        Some(detail) => format!(in alloc; "{place}: {word}: {detail}"),
-        None => format!(in alloc; "{place}: {word}"),
+        Some(detail) => format!(in alloc; "{position}: {word}: {detail}"),
+        None => format!(in alloc; "{position}: {word}"),
     }
 }

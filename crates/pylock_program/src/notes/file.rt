@@ -1,16 +1,16 @@
 //! What a person is told of a file that can't be read.
 
-use crate::notes::tell_made;
+use crate::notes::tell_if_made;
 use pylock_run::{FileFault, Sink};
 use std::alloc::Global;
 
 /// Tells which file can't be read, and why.
 pub(crate) fn tell_file<N: Sink>(alloc: Global, notes: &mut N, path: &str, fault: FileFault) {
-    let why = why(fault);
-    tell_made(alloc, notes, format!(in alloc; "file: {path}: {why}"));
+    let why = file_reason(fault);
+    tell_if_made(alloc, notes, format!(in alloc; "file: {path}: {why}"));
 }
 
-fn why(fault: FileFault) -> &'static str {
+fn file_reason(fault: FileFault) -> &'static str {
     match fault {
         FileFault::Missing => "no such file",
         FileFault::Directory => "a directory",

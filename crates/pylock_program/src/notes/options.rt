@@ -1,7 +1,7 @@
 //! What a person is told of options.
 
-use crate::choices::{around_equals, option_text, option_word};
-use crate::notes::{tell, tell_made};
+use crate::choices::{option_text, option_word, split_at_equals};
+use crate::notes::{tell, tell_if_made};
 use pylock_command::Choice;
 use pylock_core::Session;
 use pylock_run::Sink;
@@ -11,30 +11,30 @@ use std::alloc::{AllocError, Global};
 
 /// Tells why an option is refused. `lock` is the path of the lock as it was given.
 pub(crate) fn tell_refused<N: Sink>(alloc: Global, notes: &mut N, lock: &str, choice: Choice<'_>) {
-    tell_made(alloc, notes, refused_text(alloc, lock, choice));
+    tell_if_made(alloc, notes, option_note(alloc, lock, choice));
 }
 
-fn refused_text(alloc: Global, lock: &str, choice: Choice<'_>) -> Result<String, AllocError> {
+fn option_note(alloc: Global, lock: &str, choice: Choice<'_>) -> Result<String, AllocError> {
     let word = option_word(choice);
     let text = option_text(choice).unwrap_or("");
-    let why = why(alloc, lock, choice)?;
+    let why = refusal_reason(alloc, lock, choice)?;
     format!(in alloc; "--{word}: `{text}`: {why}")
 }
 
 /// Why an option is refused that is.
-fn why(alloc: Global, lock: &str, choice: Choice<'_>) -> Result<String, AllocError> {
+fn refusal_reason(alloc: Global, lock: &str, choice: Choice<'_>) -> Result<String, AllocError> {
     match choice {
         Choice::Extra(name) if is_name(name) => format!(in alloc; "not an extra of {lock}"),
         Choice::Group(name) | Choice::NoGroup(name) if is_name(name) => {
             format!(in alloc; "not a group of {lock}")
         }
-        Choice::Set(text) => String::from_str(alloc, why_unset(text)),
+        Choice::Set(text) => String::from_str(alloc, set_refusal_reason(text)),
         _ => String::from_str(alloc, "not a name"),
     }
 }
 
-fn why_unset(text: &str) -> &'static str {
-    match around_equals(text) {
+fn set_refusal_reason(text: &str) -> &'static str {
+    match split_at_equals(text) {
         Some(_) => "no such variable",
         None => "no =",
     }
@@ -52,26 +52,26 @@ pub(crate) fn tell_notes<N: Sink>(
         tell_missing(alloc, notes, session, *choice);
     }
     match (
-        sets(choices, Var::PythonVersion),
-        sets(choices, Var::PythonFullVersion),
+        sets_variable(choices, Var::PythonVersion),
+        sets_variable(choices, Var::PythonFullVersion),
     ) {
-        (true, false) => tell_half(alloc, notes, Var::PythonVersion, Var::PythonFullVersion),
-        (false, true) => tell_half(alloc, notes, Var::PythonFullVersion, Var::PythonVersion),
+        (true, false) => tell_half_set(alloc, notes, Var::PythonVersion, Var::PythonFullVersion),
+        (false, true) => tell_half_set(alloc, notes, Var::PythonFullVersion, Var::PythonVersion),
         _ => {}
     }
 }
 
 /// Tells of one variable of Python's version that it is set and the other isn't.
-fn tell_half<N: Sink>(alloc: Global, notes: &mut N, set: Var, left: Var) {
+fn tell_half_set<N: Sink>(alloc: Global, notes: &mut N, set: Var, left: Var) {
     let (set, left) = (set.name(), left.name());
     let text = format!(in alloc; "note: --set {set} leaves {left} and the tags as they are");
-    tell_made(alloc, notes, text);
+    tell_if_made(alloc, notes, text);
 }
 
 /// Whether one of the options sets the variable.
-fn sets(choices: &[Choice<'_>], variable: Var) -> bool {
+fn sets_variable(choices: &[Choice<'_>], variable: Var) -> bool {
     for choice in choices {
-        if set_by(*choice) == Some(variable) {
+        if variable_set_by(*choice) == Some(variable) {
             return true;
         }
     }
@@ -79,11 +79,11 @@ fn sets(choices: &[Choice<'_>], variable: Var) -> bool {
 }
 
 /// The variable that an option sets.
-fn set_by(choice: Choice<'_>) -> Option<Var> {
+fn variable_set_by(choice: Choice<'_>) -> Option<Var> {
     let Choice::Set(text) = choice else {
         return None;
     };
-    let (name, _) = around_equals(text)?;
+    let (name, _) = split_at_equals(text)?;
     Var::of(name)
 }
 
@@ -98,7 +98,7 @@ fn tell_missing<N: Sink>(alloc: Global, notes: &mut N, session: &Session, choice
     }
     let word = option_word(choice);
     let text = format!(in alloc; "note: --{word}: no entry is named `{name}`");
-    tell_made(alloc, notes, text);
+    tell_if_made(alloc, notes, text);
 }
 
 /// Whether an entry has the name, whose normal form counts.

@@ -6,7 +6,7 @@ ghost use Rattle.pylock_program.specs.Text.Audit.{finding_line, findings_text};
 
 use crate::text::safe::push_next_safe;
 use pylock_audit::Found;
-use pylock_run::{push_decimal, push_next, push_word};
+use pylock_run::{push_decimal, push_next_field, push_word};
 use std::alloc::AllocError;
 
 /// Pushes `findings K` and a line for each finding.
@@ -32,7 +32,7 @@ fn push_finding(out: &mut Vec<u8>, found: &Found) -> Result<(), AllocError>
     ensures { OnOk result (out.new.items ≡ out.old.items ++ finding_line found.now) }
 {
     push_decimal(out, found.number() as u64)?;
-    push_next(out, found.name())?;
+    push_next_field(out, found.name())?;
     push_word(out, found.finding().kind().word().as_bytes())?;
     push_next_safe(out, found.finding().detail())?;
     out.push(b'\n')?;

@@ -14,12 +14,12 @@ ghost use Rattle.pylock_program.specs.Text.Safe.{safe_field};
 use crate::text::safe::push_next_safe;
 use pylock_core::{Answer, Entry, Fate, Session};
 use pylock_reasons::{detail, fault_word, head_detail, verdict_word};
-use pylock_run::{push_decimal, push_next, push_word};
+use pylock_run::{push_decimal, push_next_field, push_word};
 use std::alloc::{AllocError, Global};
 
 /// Pushes the lines of the head and of each entry, and answers whether the answer is a plan. Takes
 /// memory for the lines, for what `fates` and `answer` take, and for one detail at a time.
-pub(crate) fn push_explained(
+pub(crate) fn push_explanation(
     alloc: Global,
     out: &mut Vec<u8>,
     session: &Session,
@@ -102,7 +102,7 @@ fn push_verdict(
         ++ verdict_line number entry.now verdict.now (option_copied detail.entry)) }
 {
     push_decimal(out, u64::from(number))?;
-    push_next(out, Some(entry.name()))?;
+    push_next_field(out, Some(entry.name()))?;
     push_next_safe(out, entry.version())?;
     push_reason(out, verdict, detail)
 }

@@ -4,7 +4,8 @@ ghost use Rattle.std.specs.Prelude.{◌≡◌, ◌++◌, IfOk, OnOk, codes, map,
 ghost use Rattle.std.specs.List.{flat_map};
 ghost use Rattle.pylock_core.specs.Session.Picks.{lent_source};
 ghost use Rattle.pylock_run.specs.Text.Picked.{picked_fields};
-ghost use Rattle.pylock_program.specs.Text.Files.{each_source, files_text, lines_from, where_there};
+ghost use Rattle.pylock_program.specs.Text.Files.{each_source, files_text, lines_from};
+ghost use Rattle.pylock_program.specs.Text.Files.{optional_source};
 ghost use Rattle.pylock_run.specs.Text.Plan.{file_fields, source_line};
 
 use pylock_core::{Entry, PickSource, PickedSource};
@@ -54,8 +55,8 @@ fn name_all<'a>(alloc: Global, entries: &'a [Entry]) -> Result<Vec<Named<'a>>, A
     ensures { IfOk result (λ named. named.items ≡ lines_from 1 entries.now) }
 {
     let mut named = Vec::new(alloc);
-    for (place, entry) in entries.iter().enumerate() {
-        name_sources(&mut named, place + 1, entry)?;
+    for (position, entry) in entries.iter().enumerate() {
+        name_sources(&mut named, position + 1, entry)?;
     }
     Ok(named)
 }
@@ -85,7 +86,7 @@ fn name_one<'a>(
     source: Option<PickedSource<'a>>,
 ) -> Result<(), AllocError>
     ensures { OnOk result (named.new.items ≡ named.old.items ++ map (source_line number entry.now)
-        (where_there picked_fields (option_map lent_source source.entry))) }
+        (optional_source picked_fields (option_map lent_source source.entry))) }
 {
     if let Some(source) = source {
         named.push(Named {

@@ -2,7 +2,7 @@
 
 ghost use Rattle.std.specs.Prelude.{◌≡◌, ◌++◌, ◌∷◌, [], OnOk, map};
 ghost use Rattle.pylock_program.specs.Text.Json.{environment_json, lock_json, option_json};
-ghost use Rattle.pylock_program.specs.Text.Json.{refusal_json, refused_json};
+ghost use Rattle.pylock_program.specs.Text.Json.{refusal_json, words_json};
 
 use crate::choices::{option_text, option_word};
 use pylock_command::Choice;
@@ -13,10 +13,10 @@ use pylock_run::{OpenError, entry_word, head_word};
 use std::alloc::{AllocError, Global};
 
 /// Pushes the document of a refusal, of these words.
-#[tactic(auto, unfolding(crate::specs::Text::Json::refused_json))]
+#[tactic(auto, unfolding(crate::specs::Text::Json::words_json))]
 fn push_refused(alloc: Global, out: &mut Vec<u8>, words: &[&str]) -> Result<(), AllocError>
     ensures { OnOk result (out.new.items
-        ≡ out.old.items ++ refused_json (map (λ word. word.now) words.now)) }
+        ≡ out.old.items ++ words_json (map (λ word. word.now) words.now)) }
 {
     push_document(alloc, out, refused_document(alloc, words)?)
 }
@@ -37,12 +37,12 @@ pub(crate) fn push_lock_json(
         LockError::Head(key) => push_refused(alloc, out, &["lock", "head", head_word(key)]),
         LockError::Packages => push_refused(alloc, out, &["lock", "packages"]),
         LockError::TooMany => push_refused(alloc, out, &["lock", "too-many"]),
-        LockError::Entry(place, error) => {
-            let place = format!(in alloc; "{place}")?;
+        LockError::Entry(position, error) => {
+            let position = format!(in alloc; "{position}")?;
             push_refused(
                 alloc,
                 out,
-                &["lock", "entry", place.as_str(), entry_word(error)],
+                &["lock", "entry", position.as_str(), entry_word(error)],
             )
         }
         LockError::Memory => push_refused(alloc, out, &["lock", "memory"]),
@@ -60,9 +60,9 @@ fn push_environment_json(
     match error {
         EnvError::Json => push_refused(alloc, out, &["environment", "json"]),
         EnvError::Shape => push_refused(alloc, out, &["environment", "shape"]),
-        EnvError::Tag(place) => {
-            let place = format!(in alloc; "{place}")?;
-            push_refused(alloc, out, &["environment", "tag", place.as_str()])
+        EnvError::Tag(position) => {
+            let position = format!(in alloc; "{position}")?;
+            push_refused(alloc, out, &["environment", "tag", position.as_str()])
         }
         EnvError::Memory => push_refused(alloc, out, &["environment", "memory"]),
     }
@@ -105,7 +105,7 @@ fn push_refused_pair<'a>(
     text: &'a str,
 ) -> Result<(), AllocError>
     ensures { OnOk result (out.new.items
-        ≡ out.old.items ++ refused_json (word.now ∷ text.now ∷ [])) }
+        ≡ out.old.items ++ words_json (word.now ∷ text.now ∷ [])) }
 {
     push_refused(alloc, out, &[word, text])
 }

@@ -2,7 +2,7 @@
 
 ghost use Rattle.std.specs.Prelude.{◌≡◌, ◌++◌, ◌∷◌, OnOk};
 ghost use Rattle.std.specs.Option.{option_copied};
-ghost use Rattle.pylock_program.specs.Text.Safe.{safe, safe_character, safe_field};
+ghost use Rattle.pylock_program.specs.Text.Safe.{safe_text, safe_character, safe_field};
 
 use pylock_messages::{is_control, push_character, push_control};
 use std::alloc::AllocError;
@@ -29,7 +29,7 @@ fn push_safe_field(out: &mut Vec<u8>, text: Option<&str>) -> Result<(), AllocErr
 }
 
 fn push_safe(out: &mut Vec<u8>, text: &str) -> Result<(), AllocError>
-    ensures { OnOk result (out.new.items ≡ out.old.items ++ safe text.now) }
+    ensures { OnOk result (out.new.items ≡ out.old.items ++ safe_text text.now) }
 {
     for character in text.chars() {
         push_safe_character(out, character)?;

@@ -7,7 +7,7 @@ use Rattle.pytext.specs.Results.{◌>>=◌}
 use Rattle.pyver_core.specs.declared.set.specifier.Specifier.{Specifier}
 use Rattle.pyver_core.specs.Parsed.{parsed_set}
 use Rattle.pymark_core.specs.Marker.Reading.{MarkerValue, marker_of}
-use Rattle.pyver_core.specs.Name.{is_name, norm}
+use Rattle.pyver_core.specs.Name.{is_name, normal_name}
 use Rattle.pylock_readers.specs.declared.field.FieldError.{FieldError}
 use Rattle.pylock_readers.specs.declared.field.FieldError.TheVariants.{Wrong}
 
@@ -17,23 +17,24 @@ or_refused wrong (Ok x) = Ok x
 or_refused wrong (Err e) = Err wrong
 
 -- the test holds
-abbrev pub required : Bool → Result ⊤ FieldError
-required test = if test then Ok tt else Err Wrong
+abbrev pub require : Bool → Result ⊤ FieldError
+require test = if test then Ok tt else Err Wrong
 
 -- a field that has to be there
-abbrev pub present_in : Option Data → Result Data FieldError
-present_in field = ok_or field Wrong
+abbrev pub required_field : Option Data → Result Data FieldError
+required_field field = ok_or field Wrong
 
 -- a field that may be absent
-abbrev pub optional : {V : Type 0} → (Data → Result V FieldError) → Option Data
+abbrev pub optional_field : {V : Type 0} → (Data → Result V FieldError) → Option Data
     → Result (Option V) FieldError
-optional form None = Ok None
-optional form (Some d) = form d >>= (λ x. Ok (Some x))
+optional_field form None = Ok None
+optional_field form (Some d) = form d >>= (λ x. Ok (Some x))
 
 -- each of a list
-abbrev pub each : {V : Type 0} → (Data → Result V FieldError) → Items → Result (List V) FieldError
-each form no_items = Ok []
-each form (item d ds) = form d >>= (λ x. each form ds >>= (λ xs. Ok (x ∷ xs)))
+abbrev pub read_each : {V : Type 0} → (Data → Result V FieldError) → Items
+    → Result (List V) FieldError
+read_each form no_items = Ok []
+read_each form (item d ds) = form d >>= (λ x. read_each form ds >>= (λ xs. Ok (x ∷ xs)))
 
 -- ---- the forms
 
@@ -51,7 +52,7 @@ members_of d = ok_or (as_table d) Wrong
 
 -- the normal form of a name
 abbrev pub name_of : Data → Result (List ℕ) FieldError
-name_of d = text_of d >>= (λ text. if is_name text then Ok (norm text) else Err Wrong)
+name_of d = text_of d >>= (λ text. if is_name text then Ok (normal_name text) else Err Wrong)
 
 abbrev pub marker_field : Data → Result MarkerValue FieldError
 marker_field d = text_of d >>= (λ text. or_refused Wrong (marker_of text))
@@ -62,15 +63,15 @@ set_field d = text_of d >>= (λ text. or_refused Wrong (parsed_set text))
 -- ---- fields with a form
 
 abbrev pub text_in : Option Data → Result (List ℕ) FieldError
-text_in field = present_in field >>= text_of
+text_in field = required_field field >>= text_of
 
 abbrev pub optional_text_in : Option Data → Result (Option (List ℕ)) FieldError
-optional_text_in field = optional text_of field
+optional_text_in field = optional_field text_of field
 
 -- a boolean, which is false where it is absent
 abbrev pub flag_in : Option Data → Result Bool FieldError
-flag_in field = optional flag_of field >>= (λ flag. Ok (unwrap_or flag false))
+flag_in field = optional_field flag_of field >>= (λ flag. Ok (unwrap_or flag false))
 
 -- a list, which is empty where it is absent
 abbrev pub items_in : Option Data → Result Items FieldError
-items_in field = optional items_of field >>= (λ items. Ok (unwrap_or items no_items))
+items_in field = optional_field items_of field >>= (λ items. Ok (unwrap_or items no_items))

@@ -16,9 +16,9 @@ abbrev pub ends_segment : ℕ → Bool
 ends_segment b = b == 47 || b == 92
 
 -- the text, unless it is empty: an empty file name counts as absent
-abbrev pub present : List ℕ → Option (List ℕ)
-present [] = None
-present (b ∷ bs) = Some (b ∷ bs)
+abbrev pub text_unless_empty : List ℕ → Option (List ℕ)
+text_unless_empty [] = None
+text_unless_empty (b ∷ bs) = Some (b ∷ bs)
 
 -- what stands after the last separator of a path
 abbrev pub last_of_path : List ℕ → List ℕ
@@ -32,12 +32,12 @@ last_of_url url =
 
 -- the text with its escapes decoded (RFC 3986, section 2.1), or the text itself where the decoded
 -- bytes are not UTF-8
-abbrev pub decoded : List ℕ → List ℕ
-decoded text = if is_utf8 (percent_decode text) then percent_decode text else text
+abbrev pub decode_escapes : List ℕ → List ℕ
+decode_escapes text = if is_utf8 (percent_decode text) then percent_decode text else text
 
 -- the file name that the key `name` gives, else the path, else the URL
 abbrev pub file_name_of : Option (List ℕ) → Option (List ℕ) → Option (List ℕ) → Option (List ℕ)
 file_name_of name path url =
-    either (option_and_then present name)
-    (either (option_and_then (λ p. present (last_of_path p)) path)
-    (option_and_then (λ u. present (decoded (last_of_url u))) url))
+    either (option_and_then text_unless_empty name)
+    (either (option_and_then (λ p. text_unless_empty (last_of_path p)) path)
+    (option_and_then (λ u. text_unless_empty (decode_escapes (last_of_url u))) url))

@@ -8,8 +8,9 @@ use Rattle.pyver_core.specs.declared.set.specifier.Specifier.{Specifier}
 use Rattle.pymark_core.specs.Marker.Reading.{MarkerValue}
 use Rattle.pylock_readers.specs.Entry.{VcsValue, DirectoryValue, ArchiveValue, FileValue}
 use Rattle.pylock_readers.specs.Entry.{EntryValue}
-use Rattle.pylock_readers.specs.Entry.Fields.{present_in, optional, name_of, optional_text_in}
-use Rattle.pylock_readers.specs.Entry.Fields.{marker_field, or_refused, set_field}
+use Rattle.pylock_readers.specs.Entry.Fields.{marker_field, name_of, optional_field}
+use Rattle.pylock_readers.specs.Entry.Fields.{optional_text_in, or_refused, required_field}
+use Rattle.pylock_readers.specs.Entry.Fields.{set_field}
 use Rattle.pylock_readers.specs.Entry.Sources.{vcs_of, directory_of, archive_of, file_of, files_in}
 use Rattle.pylock_readers.specs.declared.field.FieldError.{FieldError}
 use Rattle.pylock_readers.specs.declared.error.EntryError.{EntryError}
@@ -29,7 +30,7 @@ pub record SourcesValue : Type 0 where
 -- a key for a source of this form
 abbrev pub source_in : {V : Type 0} → EntryKey → (Data → Result V FieldError) → Option Data
     → Result (Option V) EntryError
-source_in key form field = or_refused (error.Key key) (optional form field)
+source_in key form field = or_refused (error.Key key) (optional_field form field)
 
 abbrev pub wheels_in : Option Data → Result (List FileValue) EntryError
 wheels_in field = or_refused (error.Key key.Wheels) (files_in field)
@@ -56,16 +57,16 @@ abbrev pub table_in : Data → Result Members EntryError
 table_in d = ok_or (as_table d) error.NotTable
 
 abbrev pub name_in : Option Data → Result (List ℕ) EntryError
-name_in field = or_refused error.Name (present_in field >>= name_of)
+name_in field = or_refused error.Name (required_field field >>= name_of)
 
 abbrev pub version_in : Option Data → Result (Option (List ℕ)) EntryError
 version_in field = or_refused (error.Key key.Version) (optional_text_in field)
 
 abbrev pub marker_in : Option Data → Result (Option MarkerValue) EntryError
-marker_in field = or_refused error.Marker (optional marker_field field)
+marker_in field = or_refused error.Marker (optional_field marker_field field)
 
 abbrev pub requires_python_in : Option Data → Result (Option (List Specifier)) EntryError
-requires_python_in field = or_refused error.RequiresPython (optional set_field field)
+requires_python_in field = or_refused error.RequiresPython (optional_field set_field field)
 
 -- the entry that has these sources and conditions
 abbrev pub entry_with : List ℕ → Option (List ℕ) → SourcesValue → Option MarkerValue

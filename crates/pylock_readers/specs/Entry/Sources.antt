@@ -4,7 +4,8 @@ use Rattle.toml.specs.Data.{Data, Members, no_members, member, get_member}
 use Rattle.pytext.specs.Results.{◌>>=◌}
 use Rattle.pylock_readers.specs.Entry.{LocationValue, VcsValue, DirectoryValue, ArchiveValue}
 use Rattle.pylock_readers.specs.Entry.{FileValue}
-use Rattle.pylock_readers.specs.Entry.Fields.{required, optional, each, text_of, members_of}
+use Rattle.pylock_readers.specs.Entry.Fields.{members_of, optional_field, read_each, require}
+use Rattle.pylock_readers.specs.Entry.Fields.{text_of}
 use Rattle.pylock_readers.specs.Entry.Fields.{text_in}
 use Rattle.pylock_readers.specs.Entry.Fields.{optional_text_in, flag_in, items_in}
 use Rattle.pylock_readers.specs.declared.field.FieldError.{FieldError}
@@ -14,7 +15,7 @@ unfoldable pub location_in : Option Data → Option Data → Result LocationValu
 location_in url path = do
   url ← optional_text_in url
   path ← optional_text_in path
-  _ ← required (is_some url || is_some path)
+  _ ← require (is_some url || is_some path)
   Ok (record { url = url; path = path })
 
 -- the pairs of a table of texts, which has its members in byte order of their keys
@@ -25,7 +26,8 @@ pairs_of (member algorithm d rest) =
 
 -- the key `hashes`, a table of texts, which is empty where it is absent
 abbrev pub hashes_in : Option Data → Result (List (List ℕ × List ℕ)) FieldError
-hashes_in field = optional members_of field >>= (λ members. pairs_of (unwrap_or members no_members))
+hashes_in field =
+    optional_field members_of field >>= (λ members. pairs_of (unwrap_or members no_members))
 
 unfoldable pub vcs_of : Data → Result VcsValue FieldError
 vcs_of d = do
@@ -68,4 +70,4 @@ file_of d = do
 
 -- the key `wheels`, a list, which is empty where it is absent
 abbrev pub files_in : Option Data → Result (List FileValue) FieldError
-files_in field = items_in field >>= each file_of
+files_in field = items_in field >>= read_each file_of

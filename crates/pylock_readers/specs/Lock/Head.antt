@@ -9,8 +9,8 @@ use Rattle.pytext.specs.Results.{◌>>=◌}
 use Rattle.pyver_core.specs.declared.set.specifier.Specifier.{Specifier}
 use Rattle.pymark_core.specs.Marker.Reading.{MarkerValue}
 use Rattle.pylock_readers.specs.Lock.{HeadValue}
-use Rattle.pylock_readers.specs.Entry.Fields.{required, optional, each, text_in, items_in, name_of}
-use Rattle.pylock_readers.specs.Entry.Fields.{marker_field, or_refused, set_field}
+use Rattle.pylock_readers.specs.Entry.Fields.{items_in, marker_field, name_of, optional_field}
+use Rattle.pylock_readers.specs.Entry.Fields.{or_refused, read_each, require, set_field, text_in}
 use Rattle.pylock_readers.specs.declared.field.FieldError.{FieldError}
 use Rattle.pylock_readers.specs.declared.error.LockError.{LockError}
 use Rattle.pylock_readers.specs.declared.error.LockError.TheVariants as error
@@ -27,7 +27,7 @@ is_lock_version text = starts_with nat_eq text (codes "1.") && is_number (drop 2
 
 abbrev pub lock_version_in : Option Data → Result ⊤ LockError
 lock_version_in field =
-    or_refused error.LockVersion (text_in field >>= (λ text. required (is_lock_version text)))
+    or_refused error.LockVersion (text_in field >>= (λ text. require (is_lock_version text)))
 
 abbrev pub created_by_in : Option Data → Result ⊤ LockError
 created_by_in field = or_refused error.CreatedBy (text_in field >>= (λ text. Ok tt))
@@ -35,24 +35,25 @@ created_by_in field = or_refused error.CreatedBy (text_in field >>= (λ text. Ok
 -- ---- the optional keys
 
 -- the texts in the order in which each comes first
-abbrev pub distinct : List (List ℕ) → List (List ℕ)
-distinct [] = []
-distinct (text ∷ texts) = text ∷ filter (λ other. not (bytes_eq other text)) (distinct texts)
+abbrev pub distinct_texts : List (List ℕ) → List (List ℕ)
+distinct_texts [] = []
+distinct_texts (text ∷ texts) =
+    text ∷ filter (λ other. not (bytes_eq other text)) (distinct_texts texts)
 
 -- a list of names, normalised, without repeats, which is empty where it is absent
 abbrev pub names_in : Option Data → Result (List (List ℕ)) FieldError
-names_in field = items_in field >>= each name_of >>= (λ names. Ok (distinct names))
+names_in field = items_in field >>= read_each name_of >>= (λ names. Ok (distinct_texts names))
 
 -- a list of markers, which is empty where it is absent
 abbrev pub markers_in : Option Data → Result (List MarkerValue) FieldError
-markers_in field = items_in field >>= each marker_field
+markers_in field = items_in field >>= read_each marker_field
 
 abbrev pub environments_in : Option Data → Result (List MarkerValue) LockError
 environments_in field = or_refused (error.Head Environments) (markers_in field)
 
 abbrev pub head_requires_python_in : Option Data → Result (Option (List Specifier)) LockError
 head_requires_python_in field =
-    or_refused (error.Head RequiresPython) (optional set_field field)
+    or_refused (error.Head RequiresPython) (optional_field set_field field)
 
 abbrev pub head_names_in : HeadKey → Option Data → Result (List (List ℕ)) LockError
 head_names_in key field = or_refused (error.Head key) (names_in field)

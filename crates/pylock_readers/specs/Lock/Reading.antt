@@ -24,26 +24,26 @@ abbrev pub most_entries : ℕ
 most_entries = 100000
 
 -- an entry's refusal is that of the lock at the entry's place
-abbrev pub at_place : {V : Type 0} → ℕ → Result V EntryError → Result V LockError
-at_place place (Ok x) = Ok x
-at_place place (Err e) = Err (Entry place e)
+abbrev pub at_position : {V : Type 0} → ℕ → Result V EntryError → Result V LockError
+at_position place (Ok x) = Ok x
+at_position place (Err e) = Err (Entry place e)
 
 -- the entries, the first of them at this place
 abbrev pub entries_of : ℕ → Items → Result (List EntryValue) LockError
 entries_of place no_items = Ok []
 entries_of place (item d ds) =
-    at_place place (entry_in d) >>= (λ e. entries_of (suc place) ds >>= (λ es. Ok (e ∷ es)))
+    at_position place (entry_in d) >>= (λ e. entries_of (suc place) ds >>= (λ es. Ok (e ∷ es)))
 
 -- how many items there are
-abbrev pub count : Items → ℕ
-count no_items = 0
-count (item d ds) = suc (count ds)
+abbrev pub item_count : Items → ℕ
+item_count no_items = 0
+item_count (item d ds) = suc (item_count ds)
 
 abbrev pub packages_in : Option Data → Result Items LockError
 packages_in field = or_refused Packages (items_in field)
 
 abbrev pub room_for : Items → Result ⊤ LockError
-room_for items = if nat_lt most_entries (count items) then Err TooMany else Ok tt
+room_for items = if nat_lt most_entries (item_count items) then Err TooMany else Ok tt
 
 unfoldable pub entries_in : Option Data → Result (List EntryValue) LockError
 entries_in field = do

@@ -2,9 +2,9 @@
 ghost use Rattle.std.specs.Prelude.{◌≡◌, ◌==◌, ◌<◌, option_map, IfOk, string_bytes};
 ghost use Rattle.std.specs.Option.{option_copied};
 ghost use Rattle.std.specs.List.{before_first, after_last, list_any};
-ghost use Rattle.pylock_readers.specs.Entry.FileName.{is_slash, ends_segment, present};
+ghost use Rattle.pylock_readers.specs.Entry.FileName.{is_slash, ends_segment, text_unless_empty};
 ghost use Rattle.pylock_readers.specs.Entry.FileName.{last_of_path};
-ghost use Rattle.pylock_readers.specs.Entry.FileName.{last_of_url, decoded, file_name_of};
+ghost use Rattle.pylock_readers.specs.Entry.FileName.{last_of_url, decode_escapes, file_name_of};
 
 use percent_encoding::{DecodeError, percent_decode};
 use std::alloc::{AllocError, Global};
@@ -21,7 +21,9 @@ pub(crate) fn file_name(
         ≡ file_name_of (option_copied name.entry) (option_copied path.entry)
         (option_copied url.entry)) }
 {
-    let written = name.and_then(present).or(path.and_then(path_file_name));
+    let written = name
+        .and_then(text_unless_empty)
+        .or(path.and_then(path_file_name));
     match (written, url) {
         (Some(text), _) => Ok(Some(String::from_str(alloc, text)?)),
         (None, Some(url)) => url_file_name(alloc, url),
@@ -30,23 +32,24 @@ pub(crate) fn file_name(
 }
 
 fn path_file_name(path: &str) -> Option<&str>
-    ensures { option_copied result ≡ present (last_of_path path.now) }
+    ensures { option_copied result ≡ text_unless_empty (last_of_path path.now) }
 {
-    present(last_of_path(path))
+    text_unless_empty(last_of_path(path))
 }
 
 /// The last segment of the URL's path, percent-decoded where the decoded bytes are text.
 fn url_file_name(alloc: Global, url: &str) -> Result<Option<String>, AllocError>
     ensures { IfOk result
-        (λ file. option_map string_bytes file ≡ present (decoded (last_of_url url.now))) }
+        (λ file. option_map string_bytes file
+        ≡ text_unless_empty (decode_escapes (last_of_url url.now))) }
 {
-    let name = decoded(alloc, last_of_url(url))?;
+    let name = decode_escapes(alloc, last_of_url(url))?;
     Ok(if name.is_empty() { None } else { Some(name) })
 }
 
 #[tactic(auto, using(crate::proofs::FileNameLemmas::decoding))]
-fn decoded(alloc: Global, text: &str) -> Result<String, AllocError>
-    ensures { IfOk result (λ name. string_bytes name ≡ decoded text.now) }
+fn decode_escapes(alloc: Global, text: &str) -> Result<String, AllocError>
+    ensures { IfOk result (λ name. string_bytes name ≡ decode_escapes text.now) }
 {
     if !has_byte(text, b'%') {
         return String::from_str(alloc, text);
@@ -69,8 +72,8 @@ fn has_byte(text: &str, byte: u8) -> bool
 }
 
 /// The text, unless it is empty.
-fn present(text: &str) -> Option<&str>
-    ensures { option_copied result ≡ present text.now }
+fn text_unless_empty(text: &str) -> Option<&str>
+    ensures { option_copied result ≡ text_unless_empty text.now }
 {
     if text.is_empty() { None } else { Some(text) }
 }
@@ -111,7 +114,7 @@ fn before(text: &str, end: u8) -> &str
         return text;
     }
     match text.split_once(end as char) {
-        Some((front, _)) => front,
+        Some((prefix, _)) => prefix,
         None => text,
     }
 }

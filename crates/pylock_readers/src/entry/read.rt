@@ -6,11 +6,11 @@ ghost use Rattle.pylock_readers.specs.Entry.Reading.{table_in, name_in, version_
 ghost use Rattle.pylock_readers.specs.Entry.Reading.{requires_python_in, entry_in, entry_of};
 ghost use Rattle.pylock_readers.specs.Entry.Reading.{toml_value};
 
-use crate::conditions::Conditions;
 use crate::entry::Entry;
 use crate::entry::sources::Sources;
 use crate::error::{EntryError, EntryKey};
-use crate::field::{into_name, into_text, optional, optional_text, or_refused, take};
+use crate::field::{into_name, into_text, optional_field, optional_text, or_refused, take};
+use crate::interner::Interner;
 use pymark_core::Marker;
 use pytoml::{TomlError, read_value};
 use pyver_core::SpecifierSet;
@@ -28,8 +28,8 @@ impl Entry {
         ensures { Gives EntryError.Memory (λ e. e) result (entry_of text.now) }
     {
         let value = toml_value(alloc, text)?;
-        let mut conditions = Conditions::new(alloc);
-        read_entry(alloc, value, &mut conditions)
+        let mut interner = Interner::new(alloc);
+        read_entry(alloc, value, &mut interner)
     }
 }
 
@@ -48,7 +48,7 @@ fn toml_value(alloc: Global, text: &str) -> Result<Value, EntryError>
 pub(crate) fn read_entry(
     alloc: Global,
     value: Value,
-    conditions: &mut Conditions,
+    interner: &mut Interner,
 ) -> Result<Entry, EntryError>
     ensures { Gives EntryError.Memory (λ e. e) result (entry_in (view value)) }
 {
@@ -57,9 +57,9 @@ pub(crate) fn read_entry(
     let version = read_version(take(&mut table, "version"))?;
     let marker = take(&mut table, "marker");
     let requires_python = take(&mut table, "requires-python");
-    let sources = Sources::read(alloc, table, &mut conditions.wheels)?;
-    let marker = read_marker(alloc, marker, conditions)?;
-    let requires_python = read_requires_python(alloc, requires_python, conditions)?;
+    let sources = Sources::read(alloc, table, &mut interner.wheels)?;
+    let marker = read_marker(alloc, marker, interner)?;
+    let requires_python = read_requires_python(alloc, requires_python, interner)?;
     Ok(Entry {
         name,
         version,
@@ -95,23 +95,23 @@ fn read_version(field: Option<Value>) -> Result<Option<String>, EntryError>
 fn read_marker(
     alloc: Global,
     field: Option<Value>,
-    conditions: &mut Conditions,
+    interner: &mut Interner,
 ) -> Result<Option<Marker>, EntryError>
     ensures { Gives EntryError.Memory (λ m. m) result
         (marker_in (option_map view field)) }
 {
-    let read = |value| conditions.markers.read(alloc, into_text(value)?);
-    or_refused(EntryError::Marker, optional(field, read))
+    let read = |value| interner.markers.read(alloc, into_text(value)?);
+    or_refused(EntryError::Marker, optional_field(field, read))
 }
 
 fn read_requires_python(
     alloc: Global,
     field: Option<Value>,
-    conditions: &mut Conditions,
+    interner: &mut Interner,
 ) -> Result<Option<Rc<SpecifierSet>>, EntryError>
     ensures { Gives EntryError.Memory (option_map (λ s. s.value)) result
         (requires_python_in (option_map view field)) }
 {
-    let read = |value| conditions.sets.read(alloc, into_text(value)?);
-    or_refused(EntryError::RequiresPython, optional(field, read))
+    let read = |value| interner.sets.read(alloc, into_text(value)?);
+    or_refused(EntryError::RequiresPython, optional_field(field, read))
 }

@@ -11,7 +11,7 @@ use crate::entry::file::Sdist;
 use crate::entry::vcs::Vcs;
 use crate::entry::wheels::Wheels;
 use crate::error::{EntryError, EntryKey};
-use crate::field::{FieldError, optional, or_refused, take};
+use crate::field::{FieldError, optional_field, or_refused, take};
 use pywheel_core::WheelReader;
 use std::alloc::Global;
 use std::marker::Model;
@@ -104,7 +104,7 @@ fn read_source<S: Source>(
         (source_in key S.form (option_map view field)) }
 {
     let read = |value| Ok(Box::new(alloc, S::read(alloc, value)?)?);
-    or_refused(EntryError::Key(key), optional(field, read))
+    or_refused(EntryError::Key(key), optional_field(field, read))
 }
 
 fn read_wheels(

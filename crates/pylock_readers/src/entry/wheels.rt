@@ -3,7 +3,7 @@ ghost use Rattle.std.specs.Prelude.{◌≡◌, IfOk, map, option_map};
 ghost use Rattle.toml.specs.View.{view, items_view};
 ghost use Rattle.pytext.specs.Agreement.{Gives};
 ghost use Rattle.pylock_readers.specs.Entry.{wheel_name};
-ghost use Rattle.pylock_readers.specs.Entry.Fields.{each};
+ghost use Rattle.pylock_readers.specs.Entry.Fields.{read_each};
 ghost use Rattle.pylock_readers.specs.Entry.Sources.{file_of, files_in};
 
 use crate::entry::file::{DistributionFile, WheelFile};
@@ -67,10 +67,10 @@ impl Wheels {
     }
 }
 
-#[tactic(auto, using(crate::proofs::FrontLemmas::front_more))]
+#[tactic(auto, using(crate::proofs::PrefixLemmas::prefix_more))]
 fn read_files(alloc: Global, values: Vec<Value>) -> Result<Vec<WheelFile>, FieldError>
     ensures { Gives FieldError.Memory (λ v. v.items) result
-        (each file_of (items_view values.items)) }
+        (read_each file_of (items_view values.items)) }
 {
     let mut files = Vec::with_capacity(alloc, values.len())?;
     for value in values {

@@ -4,14 +4,14 @@ ghost use Rattle.std.specs.Option.{option_copied};
 ghost use Rattle.toml.specs.Data.{get_member};
 ghost use Rattle.toml.specs.View.{view, items_view, table_view};
 ghost use Rattle.pytext.specs.Agreement.{Gives};
-ghost use Rattle.pylock_readers.specs.Entry.Fields.{each, marker_field, name_of, set_field};
+ghost use Rattle.pylock_readers.specs.Entry.Fields.{read_each, marker_field, name_of, set_field};
 ghost use Rattle.pylock_readers.specs.Lock.Head.{names_in, markers_in};
 ghost use Rattle.pylock_readers.specs.Lock.Head.{environments_in};
 ghost use Rattle.pylock_readers.specs.Lock.Head.{head_requires_python_in, head_names_in, head_in};
 
-use crate::conditions::{Condition, read_set};
 use crate::error::{HeadKey, LockError};
-use crate::field::{FieldError, into_name, into_text, items, optional, or_refused, take};
+use crate::field::{FieldError, into_name, into_text, items, optional_field, or_refused, take};
+use crate::interner::{Condition, read_set};
 use crate::lock::names::HeadNames;
 use pymark_core::Marker;
 use pyver_core::SpecifierSet;
@@ -137,10 +137,10 @@ fn environment_markers(alloc: Global, field: Option<Value>) -> Result<Vec<Marker
     read_markers(alloc, values)
 }
 
-#[tactic(auto, using(crate::proofs::FrontLemmas::front_more))]
+#[tactic(auto, using(crate::proofs::PrefixLemmas::prefix_more))]
 fn read_markers(alloc: Global, values: Vec<Value>) -> Result<Vec<Marker>, FieldError>
     ensures { Gives FieldError.Memory (λ v. v.items) result
-        (each marker_field (items_view values.items)) }
+        (read_each marker_field (items_view values.items)) }
 {
     let mut markers = Vec::with_capacity(alloc, values.len())?;
     for value in values {
@@ -163,7 +163,7 @@ fn read_requires_python(
     ensures { Gives LockError.Memory (λ s. s) result
         (head_requires_python_in (option_map view field)) }
 {
-    let set = optional(field, |value| set(alloc, value));
+    let set = optional_field(field, |value| set(alloc, value));
     or_refused(LockError::Head(HeadKey::RequiresPython), set)
 }
 
@@ -194,10 +194,10 @@ fn names(alloc: Global, field: Option<Value>) -> Result<HeadNames, FieldError>
     Ok(HeadNames::of(alloc, names)?)
 }
 
-#[tactic(auto, using(crate::proofs::FrontLemmas::front_more))]
+#[tactic(auto, using(crate::proofs::PrefixLemmas::prefix_more))]
 fn read_names(alloc: Global, values: Vec<Value>) -> Result<Vec<String>, FieldError>
     ensures { Gives FieldError.Memory (λ v. map string_bytes v.items) result
-        (each name_of (items_view values.items)) }
+        (read_each name_of (items_view values.items)) }
 {
     let mut names = Vec::with_capacity(alloc, values.len())?;
     for value in values {

@@ -2,7 +2,7 @@
 ghost use Rattle.std.specs.Prelude.{◌≡◌, IfOk, map, string_bytes};
 ghost use Rattle.std.specs.List.{list_any};
 ghost use Rattle.std.specs.Str.{bytes_eq};
-ghost use Rattle.pylock_readers.specs.Lock.Head.{distinct};
+ghost use Rattle.pylock_readers.specs.Lock.Head.{distinct_texts};
 
 use std::alloc::{AllocError, Global};
 use std::collections::BTreeSet;
@@ -42,7 +42,7 @@ impl HeadNames {
     /// These texts without repeats. Takes memory for each of them twice.
     #[tactic(auto, using(crate::proofs::DistinctLemmas::once_each))]
     pub(crate) fn of(alloc: Global, texts: Vec<String>) -> Result<HeadNames, AllocError>
-        ensures { IfOk result (λ once. once ≡ distinct (map string_bytes texts.items)) }
+        ensures { IfOk result (λ once. once ≡ distinct_texts (map string_bytes texts.items)) }
     {
         let mut set = BTreeSet::new(alloc);
         let mut names = Vec::new(alloc);

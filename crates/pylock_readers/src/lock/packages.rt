@@ -3,13 +3,13 @@ ghost use Rattle.std.specs.Prelude.{◌≡◌, ◌≤◌, IfOk, OnOk, length, op
 ghost use Rattle.toml.specs.View.{view, items_view};
 ghost use Rattle.pytext.specs.Agreement.{Gives};
 ghost use Rattle.pylock_readers.specs.Entry.Reading.{entry_in};
-ghost use Rattle.pylock_readers.specs.Lock.Reading.{at_place, entries_in, entries_of, packages_in};
-ghost use Rattle.pylock_readers.specs.Lock.Reading.{room_for};
+ghost use Rattle.pylock_readers.specs.Lock.Reading.{at_position, entries_in, entries_of};
+ghost use Rattle.pylock_readers.specs.Lock.Reading.{packages_in, room_for};
 
-use crate::conditions::Conditions;
 use crate::entry::{Entry, read_entry};
 use crate::error::{EntryError, LockError};
 use crate::field::{items, or_refused};
+use crate::interner::Interner;
 use crate::lock::MOST_ENTRIES;
 use std::alloc::Global;
 use toml::Value;
@@ -53,24 +53,24 @@ fn read_entries(alloc: Global, values: Vec<Value>) -> Result<Vec<Entry>, LockErr
     ensures len { IfOk result (λ v. vec_len v ≡ vec_len values) }
 {
     let mut entries = Vec::with_capacity(alloc, values.len())?;
-    let mut conditions = Conditions::new(alloc);
+    let mut interner = Interner::new(alloc);
     for value in values {
         let place = entries.len() + 1;
-        entries.push(read_entry_at(alloc, place, value, &mut conditions)?)?;
+        entries.push(read_entry_at(alloc, place, value, &mut interner)?)?;
     }
     Ok(entries)
 }
 
-/// The entry of the value, which is let go.
+/// The entry of the value, which is freed.
 fn read_entry_at(
     alloc: Global,
     place: usize,
     value: Value,
-    conditions: &mut Conditions,
+    interner: &mut Interner,
 ) -> Result<Entry, LockError>
-    ensures { Gives LockError.Memory (λ e. e) result (at_place place (entry_in (view value))) }
+    ensures { Gives LockError.Memory (λ e. e) result (at_position place (entry_in (view value))) }
 {
-    match read_entry(alloc, value, conditions) {
+    match read_entry(alloc, value, interner) {
         Ok(entry) => Ok(entry),
         Err(EntryError::Memory) => Err(LockError::Memory),
         Err(refusal) => Err(LockError::Entry(place, refusal)),

@@ -11,24 +11,24 @@ use Rattle.pylock_run.specs.Report.{is_plan, after_line, state_after, line_text}
 use Rattle.pylock_run.specs.Line.{line_limit}
 
 -- what is kept of a line: enough to tell that it is too long
-unfoldable pub kept : List ℕ → List ℕ
-kept line = take (line_limit + 1) line
+unfoldable pub kept_part : List ℕ → List ℕ
+kept_part line = take (line_limit + 1) line
 
--- the state of the session, whether its last answer was a plan, the number of ended lines, whether
--- one of them was refused, and what is kept of the line that is being read
-pub record At : Type 0 where
+-- the state of the session, whether its last answer was a plan, the number of complete lines,
+-- whether one of them was refused, and what is kept of the line that is being read
+pub record EditingValue : Type 0 where
   pub state : State
   pub plan : Bool
-  pub ended : ℕ
+  pub complete : ℕ
   pub refused : Bool
   pub line : List ℕ
 
 -- before the first byte of the input
-abbrev pub start : State → At
+abbrev pub start : State → EditingValue
 start state = record {
   state = state;
   plan = is_plan (answer state);
-  ended = 0;
+  complete = 0;
   refused = false;
   line = [];
 }
@@ -39,47 +39,47 @@ plan_after plan (Ok state) = is_plan (answer state)
 plan_after plan (Err refused) = plan
 
 -- the line ends
-unfoldable pub end_line : At → At
+unfoldable pub end_line : EditingValue → EditingValue
 end_line at = record {
   state = state_after at.state at.line;
   plan = plan_after at.plan (after_line at.state at.line);
-  ended = at.ended + 1;
+  complete = at.complete + 1;
   refused = at.refused || is_err (after_line at.state at.line);
   line = [];
 }
 
-unfoldable pub end_text : At → List ℕ
-end_text at = line_text at.state (at.ended + 1) at.line
+unfoldable pub end_text : EditingValue → List ℕ
+end_text at = line_text at.state (at.complete + 1) at.line
 
 -- a byte of a line, which is no LF
-abbrev pub keep_byte : At → ℕ → At
-keep_byte at b = record at { line = kept (at.line ++ b ∷ []) }
+abbrev pub keep_byte : EditingValue → ℕ → EditingValue
+keep_byte at b = record at { line = kept_part (at.line ++ b ∷ []) }
 
 -- a part of the input
-abbrev pub bytes_done : At → List ℕ → At
-bytes_done at [] = at
-bytes_done at (b ∷ bs) = bytes_done (if b == 10 then end_line at else keep_byte at b) bs
+abbrev pub editing_after : EditingValue → List ℕ → EditingValue
+editing_after at [] = at
+editing_after at (b ∷ bs) = editing_after (if b == 10 then end_line at else keep_byte at b) bs
 
-abbrev pub bytes_text : At → List ℕ → List ℕ
+abbrev pub bytes_text : EditingValue → List ℕ → List ℕ
 bytes_text at [] = []
 bytes_text at (b ∷ bs) =
     if b == 10 then end_text at ++ bytes_text (end_line at) bs else bytes_text (keep_byte at b) bs
 
 -- the end of the input, where a line without LF counts if it is not empty
-abbrev pub finish : At → List ℕ → At
+abbrev pub finish : EditingValue → List ℕ → EditingValue
 finish at [] = at
 finish at (b ∷ line) = end_line at
 
-abbrev pub finish_text : At → List ℕ → List ℕ
+abbrev pub finish_text : EditingValue → List ℕ → List ℕ
 finish_text at [] = []
 finish_text at (b ∷ line) = end_text at
 
-abbrev pub finished : At → At
-finished at = finish at at.line
+abbrev pub after_input : EditingValue → EditingValue
+after_input at = finish at at.line
 
-abbrev pub finished_text : At → List ℕ
-finished_text at = finish_text at at.line
+abbrev pub input_end_text : EditingValue → List ℕ
+input_end_text at = finish_text at at.line
 
 -- the lines so far, with the one that is being read
-abbrev pub lines_begun : At → ℕ
-lines_begun at = at.ended + min 1 (length at.line)
+abbrev pub lines_begun : EditingValue → ℕ
+lines_begun at = at.complete + min 1 (length at.line)

@@ -1,11 +1,11 @@
 -- The field of hashes, in the parts in which it is pushed.
 use Rattle.std.specs.Prelude.{ℕ, ◌++◌, List, ◌∷◌, codes}
 use Rattle.std.specs.List.{flat_map}
-use Rattle.pylock_run.specs.Text.Field.{escaped}
+use Rattle.pylock_run.specs.Text.Field.{escaped_text}
 
 -- a hash as it stands in its field
 abbrev pub escaped_hash : List ℕ × List ℕ → List ℕ
-escaped_hash hash = escaped hash.0 ++ codes "=" ++ escaped hash.1
+escaped_hash hash = escaped_text hash.0 ++ codes "=" ++ escaped_text hash.1
 
 -- the hashes after the first, as they stand in the field
 abbrev pub more_hashes : List (List ℕ × List ℕ) → List ℕ

@@ -8,7 +8,7 @@ pub record Writes (old new : SinkValue) (text : List ℕ) : Type 0 where
   pub held : Appends old.held new.held text
   pub counted : new.failures ≡ old.failures
 
--- a front of the text was written, without a failure, and the rest stands in `out`
+-- a prefix of the text was written, without a failure, and the rest stands in `out`
 pub record Pours (old new : SinkValue) (text out : List ℕ) : Type 0 where
   pub written : List ℕ
   pub whole : text ≡ written ++ out

@@ -13,26 +13,31 @@ abbrev pub is_space : ℕ → Bool
 is_space b = b == 32
 
 -- the argument, which has to be there
-abbrev pub given : Option (List ℕ) → Result (List ℕ) LineRefusal
-given argument = ok_or argument refusal.Argument
+abbrev pub required_argument : Option (List ℕ) → Result (List ℕ) LineRefusal
+required_argument argument = ok_or argument refusal.Argument
 
 -- a text that isn't empty
-abbrev pub filled : List ℕ → Result (List ℕ) LineRefusal
-filled [] = Err refusal.Argument
-filled (b ∷ bs) = Ok (b ∷ bs)
+abbrev pub nonempty_text : List ℕ → Result (List ℕ) LineRefusal
+nonempty_text [] = Err refusal.Argument
+nonempty_text (b ∷ bs) = Ok (b ∷ bs)
 
--- what stands before and behind the first space, which has to be there
-abbrev pub around_space : List ℕ → Result (List ℕ × List ℕ) LineRefusal
-around_space text =
+-- what stands before and after the first space, which has to be there
+abbrev pub split_at_space : List ℕ → Result (List ℕ × List ℕ) LineRefusal
+split_at_space text =
     if list_any is_space text
     then Ok (before_first is_space text, after_first is_space text)
     else Err refusal.Argument
 
--- an entry's number: one to six digits, the first not `0`
+-- the most digits of an entry's number
+abbrev pub most_number_digits : ℕ
+most_number_digits = 6
+
+-- an entry's number: digits, at least one and not too many, the first not `0`
 abbrev pub is_entry_number : List ℕ → Bool
 is_entry_number [] = false
 is_entry_number (first ∷ rest) =
-    not (first == 48) && nat_le (length (first ∷ rest)) 6 && list_all is_ascii_digit (first ∷ rest)
+    not (first == 48) && nat_le (length (first ∷ rest)) most_number_digits
+    && list_all is_ascii_digit (first ∷ rest)
 
 abbrev pub entry_number : List ℕ → Option ℕ
 entry_number text = if is_entry_number text then Some (digits_value 10 text) else None
@@ -41,11 +46,11 @@ abbrev pub number_argument : List ℕ → Result ℕ LineRefusal
 number_argument text = ok_or (entry_number text) refusal.Argument
 
 -- the pieces between the spaces that aren't empty
-abbrev pub is_filled : List ℕ → Bool
-is_filled text = not (length text == 0)
+abbrev pub is_nonempty : List ℕ → Bool
+is_nonempty text = not (length text == 0)
 
 abbrev pub pieces : List ℕ → List (List ℕ)
-pieces text = filter is_filled (slice_split is_space text)
+pieces text = filter is_nonempty (slice_split is_space text)
 
 -- the pieces of an argument, none where it is absent
 abbrev pub pieces_of : Option (List ℕ) → List (List ℕ)

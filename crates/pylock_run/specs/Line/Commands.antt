@@ -14,7 +14,8 @@ use Rattle.pylock_core.specs.declared.edit.Edit.{Edit}
 use Rattle.pylock_core.specs.declared.edit.Edit.TheVariants as edit
 use Rattle.pylock_core.specs.declared.edit.Policy.{Policy}
 use Rattle.pylock_core.specs.declared.edit.Policy.TheVariants as policy
-use Rattle.pylock_run.specs.Line.Argument.{given, filled, around_space, number_argument}
+use Rattle.pylock_run.specs.Line.Argument.{required_argument, nonempty_text, split_at_space}
+use Rattle.pylock_run.specs.Line.Argument.{number_argument}
 use Rattle.pylock_run.specs.Line.Argument.{pieces_of}
 use Rattle.pylock_run.specs.Line.Refusal.{entry_refusal, tags_refusal}
 use Rattle.pylock_run.specs.declared.line.commands.Command.{Command}
@@ -54,16 +55,16 @@ show_after (Some argument) = Err refusal.Argument
 -- `set NAME VALUE`: the value is any text, also the empty one
 unfoldable pub set_after : Option (List ℕ) → Result Edit LineRefusal
 set_after argument = do
-  text ← given argument
-  cut ← around_space text
+  text ← required_argument argument
+  cut ← split_at_space text
   variable ← variable_argument cut.0
   Ok (edit.Set variable cut.1)
 
 -- `unset NAME`
 unfoldable pub unset_after : Option (List ℕ) → Result Edit LineRefusal
 unset_after argument = do
-  text ← given argument
-  name ← filled text
+  text ← required_argument argument
+  name ← nonempty_text text
   variable ← variable_argument name
   Ok (edit.Unset variable)
 
@@ -71,8 +72,8 @@ unset_after argument = do
 -- knows it is the edit's to judge, and refused by the same word.
 unfoldable pub name_after : LineRefusal → Option (List ℕ) → Result (List ℕ) LineRefusal
 name_after refused argument = do
-  text ← given argument
-  name ← filled text
+  text ← required_argument argument
+  name ← nonempty_text text
   name_or refused name
 
 -- `extra+ NAME`
@@ -108,33 +109,33 @@ tags_after argument = do
 -- `add ENTRY`
 unfoldable pub add_after : Option (List ℕ) → Result Edit LineRefusal
 add_after argument = do
-  text ← given argument
-  body ← filled text
+  text ← required_argument argument
+  body ← nonempty_text text
   entry ← entry_argument body
   Ok (edit.Add entry)
 
 -- `put ID ENTRY`
 unfoldable pub put_after : Option (List ℕ) → Result Edit LineRefusal
 put_after argument = do
-  text ← given argument
-  cut ← around_space text
+  text ← required_argument argument
+  cut ← split_at_space text
   number ← number_argument cut.0
-  body ← filled cut.1
+  body ← nonempty_text cut.1
   entry ← entry_argument body
   Ok (edit.Put number entry)
 
 -- `del ID`
 unfoldable pub del_after : Option (List ℕ) → Result Edit LineRefusal
 del_after argument = do
-  text ← given argument
+  text ← required_argument argument
   number ← number_argument text
   Ok (edit.Del number)
 
 -- `policy NAME POLICY`
 unfoldable pub policy_after : Option (List ℕ) → Result Edit LineRefusal
 policy_after argument = do
-  text ← given argument
-  cut ← around_space text
+  text ← required_argument argument
+  cut ← split_at_space text
   policy ← policy_argument cut.1
   name ← name_or refusal.Name cut.0
   Ok (edit.Policy name policy)

@@ -28,5 +28,5 @@ entry_refusal entry.Memory = refusal.Memory
 
 -- of tags
 abbrev pub tags_refusal : TagListError → LineRefusal
-tags_refusal (tags.Tag place) = refusal.Tag
+tags_refusal (tags.Tag position) = refusal.Tag
 tags_refusal tags.Memory = refusal.Memory

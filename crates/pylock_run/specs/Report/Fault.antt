@@ -2,10 +2,17 @@
 use Rattle.pylock_run.specs.declared.report.fault.RunFault.{RunFault}
 use Rattle.pylock_run.specs.declared.report.fault.RunFault.TheVariants as fault
 
--- which fault has which cause: a read that failed, a write that failed, an input past a limit, a
--- refused growth
-abbrev pub HasCause : (read write input memory : Type 0) → RunFault → Type 0
-HasCause read write input memory fault.Read = read
-HasCause read write input memory fault.Write = write
-HasCause read write input memory fault.Input = input
-HasCause read write input memory fault.Memory = memory
+-- what each fault needs: that a read failed, that a write failed, that the input passes a limit, or
+-- that a growth was refused
+pub record Causes : Type 1 where
+  pub read : Type 0
+  pub write : Type 0
+  pub input : Type 0
+  pub memory : Type 0
+
+-- the fault has its cause
+abbrev pub HasCause : Causes → RunFault → Type 0
+HasCause causes fault.Read = causes.read
+HasCause causes fault.Write = causes.write
+HasCause causes fault.Input = causes.input
+HasCause causes fault.Memory = causes.memory

@@ -2,10 +2,10 @@
 use Rattle.std.specs.Prelude.{◌≡◌, ℕ, ◌<◌, ◌≤◌, ◌⊎◌, List, length, Result, IsErr, IfOk, IfErr}
 use Rattle.std.specs.Io.KnownBytes.{Appends, Consumes, IsAtEnd}
 use Rattle.pylock_core.specs.Session.State.{State}
-use Rattle.pylock_run.specs.Line.{input_lines, ended_lines}
+use Rattle.pylock_run.specs.Line.{input_lines, complete_lines}
 use Rattle.pylock_run.specs.Report.{report_on}
 use Rattle.pylock_run.specs.Report.Fault.{HasCause}
-use Rattle.pylock_run.specs.Stream.{SourceValue, SinkValue, TakesFront, one_more}
+use Rattle.pylock_run.specs.Stream.{SourceValue, SinkValue, TakesPrefix, one_more}
 use Rattle.pylock_run.specs.declared.report.fault.RunFault.{RunFault}
 use Rattle.pylock_run.specs.declared.report.opening.OpenError.{OpenError}
 
@@ -35,7 +35,7 @@ pub record Reports (begins : Result State OpenError) (source source' : SourceVal
   pub writes : sink'.failures ≡ sink.failures
   pub ends : IsErr begins ⊎ (IsAtEnd source'.rest × IsWithinLimits input)
 
--- A run that ends with the fault that was met first: the writer took a front of the report's text.
+-- A run that ends with the fault that was met first: the writer took a prefix of the report's text.
 -- `Read` says that one read failed and no write, and that the writer took exactly the text of the
 -- report on the lines whose LF stands in what the reader gave; `Write` that one write failed and no
 -- read; `Input` that the reader gave an input that passes a limit, and neither failed; `Memory`
@@ -44,15 +44,15 @@ pub record Stops (begins : Result State OpenError) (source source' : SourceValue
     (sink sink' : SinkValue) (fault : RunFault) : Type 0 where
   pub input : List ℕ
   pub gave : Consumes source.rest source'.rest input
-  pub front : TakesFront sink sink' (report_on begins (input_lines input)).text
-  pub cause : HasCause
-      ((source'.failures ≡ one_more source.failures) × (sink'.failures ≡ sink.failures)
-      × Appends sink.held sink'.held (report_on begins (ended_lines input)).text)
-      ((source'.failures ≡ source.failures) × (sink'.failures ≡ one_more sink.failures))
-      ((source'.failures ≡ source.failures) × (sink'.failures ≡ sink.failures)
-      × PassesALimit input)
-      ((source'.failures ≡ source.failures) × (sink'.failures ≡ sink.failures))
-      fault
+  pub prefix : TakesPrefix sink sink' (report_on begins (input_lines input)).text
+  pub cause : HasCause (record {
+    read = (source'.failures ≡ one_more source.failures) × (sink'.failures ≡ sink.failures)
+        × Appends sink.held sink'.held (report_on begins (complete_lines input)).text;
+    write = (source'.failures ≡ source.failures) × (sink'.failures ≡ one_more sink.failures);
+    input = (source'.failures ≡ source.failures) × (sink'.failures ≡ sink.failures)
+        × PassesALimit input;
+    memory = (source'.failures ≡ source.failures) × (sink'.failures ≡ sink.failures);
+  }) fault
 
 -- A run from its beginning: it ends with a status and reports, or with a fault and stops. Where the
 -- lock or the environment is refused, the source isn't asked.

@@ -5,6 +5,10 @@ use Rattle.pylock_run.specs.Stream.{SourceValue, one_more}
 use Rattle.pylock_run.specs.declared.stream.whole.FileFault.{FileFault}
 use Rattle.pylock_run.specs.declared.stream.whole.FileFault.TheVariants.{Read, Limit, Memory}
 
+-- the most bytes that are asked for at once
+abbrev pub most_piece_bytes : ℕ
+most_piece_bytes = 65536
+
 -- the source gave exactly these bytes up to its end, at most the limit of them, and no call failed
 pub record GivesAll (limit : ℕ) (old new : SourceValue) (bytes : List ℕ) : Type 0 where
   pub gave : Consumes old.rest new.rest bytes

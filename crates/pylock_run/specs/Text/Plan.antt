@@ -60,8 +60,8 @@ abbrev pub source_fields : EntryValue → PickSource → List (List ℕ)
 source_fields entry source.Vcs = option_map_or vcs_fields entry.vcs []
 source_fields entry source.Directory = option_map_or directory_fields entry.directory []
 source_fields entry source.Archive = option_map_or archive_fields entry.archive []
-source_fields entry (source.Wheel place) =
-    option_map_or (file_fields (codes "wheel")) (slice_get entry.wheels place) []
+source_fields entry (source.Wheel position) =
+    option_map_or (file_fields (codes "wheel")) (slice_get entry.wheels position) []
 source_fields entry source.Sdist = option_map_or (file_fields (codes "sdist")) entry.sdist []
 
 -- number, name and version, and the fields of a source

@@ -16,7 +16,7 @@ use Rattle.pylock_run.specs.declared.report.opening.OpenError.{OpenError}
 use Rattle.pylock_run.specs.declared.report.opening.OpenError.TheVariants as open_error
 use Rattle.pylock_run.specs.Text.Field.{line_of}
 
--- the word of a line's refusal; want of memory is none, and is never printed
+-- the word of a line's refusal; out of memory is none, and is never printed
 abbrev pub line_word : LineRefusal → List ℕ
 line_word refusal.Long = codes "long"
 line_word refusal.Text = codes "text"
@@ -34,8 +34,9 @@ line_word refusal.Name = codes "name"
 line_word refusal.Memory = codes "memory"
 
 -- the refusal of the line of this number, counted from 1
-abbrev pub refused_text : ℕ → LineRefusal → List ℕ
-refused_text number refused = line_of (codes "refused " ++ decimal number) (line_word refused ∷ [])
+abbrev pub line_refusal_text : ℕ → LineRefusal → List ℕ
+line_refusal_text number refused =
+    line_of (codes "refused " ++ decimal number) (line_word refused ∷ [])
 
 abbrev pub head_word : HeadKey → List ℕ
 head_word head_key.Environments = codes "environments"
@@ -61,7 +62,7 @@ entry_word entry_error.Marker = codes "marker"
 entry_word entry_error.RequiresPython = codes "requires-python"
 entry_word entry_error.Memory = codes "memory"
 
--- the words of a lock's refusal; want of memory is no refusal of a lock, and is never printed
+-- the words of a lock's refusal; out of memory is no refusal of a lock, and is never printed
 abbrev pub lock_words : LockError → List (List ℕ)
 lock_words lock_error.NotText = codes "not-text" ∷ []
 lock_words lock_error.Toml = codes "toml" ∷ []
@@ -70,7 +71,8 @@ lock_words lock_error.CreatedBy = codes "created-by" ∷ []
 lock_words (lock_error.Head key) = codes "head" ∷ head_word key ∷ []
 lock_words lock_error.Packages = codes "packages" ∷ []
 lock_words lock_error.TooMany = codes "too-many" ∷ []
-lock_words (lock_error.Entry place error) = codes "entry" ∷ decimal place ∷ entry_word error ∷ []
+lock_words (lock_error.Entry position error) =
+    codes "entry" ∷ decimal position ∷ entry_word error ∷ []
 lock_words lock_error.Memory = codes "memory" ∷ []
 
 abbrev pub lock_text : LockError → List ℕ
@@ -79,13 +81,13 @@ lock_text error = line_of (codes "lock") (lock_words error)
 abbrev pub environment_words : EnvError → List (List ℕ)
 environment_words env_error.Json = codes "json" ∷ []
 environment_words env_error.Shape = codes "shape" ∷ []
-environment_words (env_error.Tag place) = codes "tag" ∷ decimal place ∷ []
+environment_words (env_error.Tag position) = codes "tag" ∷ decimal position ∷ []
 environment_words env_error.Memory = codes "memory" ∷ []
 
 abbrev pub environment_text : EnvError → List ℕ
 environment_text error = line_of (codes "environment") (environment_words error)
 
--- what is printed in place of a report; want of memory is no refusal, and is never printed
+-- what is printed in place of a report; out of memory is no refusal, and is never printed
 abbrev pub refusal_text : OpenError → List ℕ
 refusal_text (open_error.Lock error) = lock_text error
 refusal_text (open_error.Environment error) = environment_text error

@@ -3,25 +3,26 @@
 ghost use Rattle.std.specs.Prelude.{◌≡◌, ◌++◌, ◌∷◌, [], Ok, OnOk, filter, map};
 ghost use Rattle.std.specs.Option.{option_copied};
 ghost use Rattle.pytext.specs.Agreement.{Gives};
-ghost use Rattle.pylock_run.specs.Line.Argument.{given, filled, around_space, number_argument};
+ghost use Rattle.pylock_run.specs.Line.Argument.{required_argument, nonempty_text};
+ghost use Rattle.pylock_run.specs.Line.Argument.{split_at_space, number_argument};
 ghost use Rattle.pylock_run.specs.Line.Argument.{entry_number};
-ghost use Rattle.pylock_run.specs.Line.Argument.{is_entry_number, is_filled, pieces, pieces_of};
+ghost use Rattle.pylock_run.specs.Line.Argument.{is_entry_number, is_nonempty, pieces, pieces_of};
 
 use crate::line::refusal::LineRefusal;
 use pytext::are_digits;
 use std::alloc::{AllocError, Global};
 
 /// The argument, which has to be there.
-pub fn given<'a>(argument: Option<&'a str>) -> Result<&'a str, LineRefusal>
+pub fn required_argument<'a>(argument: Option<&'a str>) -> Result<&'a str, LineRefusal>
     ensures { Gives LineRefusal.Memory (λ text. text.now) result
-        (given (option_copied argument.entry)) }
+        (required_argument (option_copied argument.entry)) }
 {
     argument.ok_or(LineRefusal::Argument)
 }
 
 /// A text that isn't empty.
-pub fn filled(text: &str) -> Result<&str, LineRefusal>
-    ensures { Gives LineRefusal.Memory (λ text. text.now) result (filled text.now) }
+pub fn nonempty_text(text: &str) -> Result<&str, LineRefusal>
+    ensures { Gives LineRefusal.Memory (λ text. text.now) result (nonempty_text text.now) }
 {
     if text.is_empty() {
         return Err(LineRefusal::Argument);
@@ -29,13 +30,13 @@ pub fn filled(text: &str) -> Result<&str, LineRefusal>
     Ok(text)
 }
 
-/// What stands before and behind the first space, which has to be there.
-pub fn around_space(text: &str) -> Result<(&str, &str), LineRefusal>
+/// What stands before and after the first space, which has to be there.
+pub fn split_at_space(text: &str) -> Result<(&str, &str), LineRefusal>
     ensures { Gives LineRefusal.Memory (λ cut. (cut.0.now, cut.1.now)) result
-        (around_space text.now) }
+        (split_at_space text.now) }
 {
     match text.split_once(' ') {
-        Some((front, back)) => Ok((front, back)),
+        Some((prefix, rest)) => Ok((prefix, rest)),
         None => Err(LineRefusal::Argument),
     }
 }
@@ -84,15 +85,15 @@ fn pieces(alloc: Global, text: &str) -> Result<Vec<&str>, LineRefusal>
 {
     let mut texts = Vec::new(alloc);
     for piece in text.split(' ') {
-        push_filled(&mut texts, piece)?;
+        push_nonempty(&mut texts, piece)?;
     }
     Ok(texts)
 }
 
 /// Pushes a piece that isn't empty.
-fn push_filled<'a>(texts: &mut Vec<&'a str>, piece: &'a str) -> Result<(), AllocError>
+fn push_nonempty<'a>(texts: &mut Vec<&'a str>, piece: &'a str) -> Result<(), AllocError>
     ensures { OnOk result (map (λ text. text.now) texts.new.items
-        ≡ map (λ text. text.now) texts.old.items ++ filter is_filled (piece.now ∷ [])) }
+        ≡ map (λ text. text.now) texts.old.items ++ filter is_nonempty (piece.now ∷ [])) }
 {
     if !piece.is_empty() {
         texts.push(piece)?;

@@ -12,7 +12,9 @@ ghost use Rattle.pylock_run.specs.Line.Commands.{drop_group_after};
 ghost use Rattle.pylock_run.specs.Line.Commands.{tags_after, add_after, put_after, del_after};
 ghost use Rattle.pylock_run.specs.Line.Commands.{policy_after, edit_after, command_after};
 
-use crate::line::argument::{around_space, filled, given, number_argument, pieces_of};
+use crate::line::argument::{
+    nonempty_text, number_argument, pieces_of, required_argument, split_at_space,
+};
 use crate::line::refusal::LineRefusal;
 use pylock_core::{Edit, Entry, Policy};
 use pymark_core::Var;
@@ -40,13 +42,13 @@ pub fn read_command(
         (command_after word.now (option_copied argument.entry)) }
 {
     if word == "show" {
-        return show(argument);
+        return read_show(argument);
     }
-    let edit = edit(alloc, word, argument)?;
+    let edit = read_edit(alloc, word, argument)?;
     Ok(Command::Edit(edit))
 }
 
-fn show(argument: Option<&str>) -> Result<Command, LineRefusal>
+fn read_show(argument: Option<&str>) -> Result<Command, LineRefusal>
     ensures { Gives LineRefusal.Memory (λ c. c) result (show_after (option_copied argument.entry)) }
 {
     match argument {
@@ -56,78 +58,78 @@ fn show(argument: Option<&str>) -> Result<Command, LineRefusal>
 }
 
 #[tactic(auto, unfolding(crate::specs::Line::Commands::edit_after))]
-fn edit(alloc: Global, word: &str, argument: Option<&str>) -> Result<Edit, LineRefusal>
+fn read_edit(alloc: Global, word: &str, argument: Option<&str>) -> Result<Edit, LineRefusal>
     ensures { Gives LineRefusal.Memory (λ e. e) result
         (edit_after word.now (option_copied argument.entry)) }
 {
     match word {
-        "set" => set(alloc, argument),
-        "unset" => unset(argument),
-        "extra+" => add_extra(alloc, argument),
-        "extra-" => drop_extra(alloc, argument),
-        "group+" => add_group(alloc, argument),
-        "group-" => drop_group(alloc, argument),
-        "tags" => tags(alloc, argument),
-        "add" => add(alloc, argument),
-        "put" => put(alloc, argument),
-        "del" => del(argument),
-        "policy" => policy(alloc, argument),
+        "set" => read_set(alloc, argument),
+        "unset" => read_unset(argument),
+        "extra+" => read_add_extra(alloc, argument),
+        "extra-" => read_drop_extra(alloc, argument),
+        "group+" => read_add_group(alloc, argument),
+        "group-" => read_drop_group(alloc, argument),
+        "tags" => read_tags(alloc, argument),
+        "add" => read_add(alloc, argument),
+        "put" => read_put(alloc, argument),
+        "del" => read_del(argument),
+        "policy" => read_policy(alloc, argument),
         _ => Err(LineRefusal::Command),
     }
 }
 
 #[tactic(auto, unfolding(crate::specs::Line::Commands::set_after))]
-fn set(alloc: Global, argument: Option<&str>) -> Result<Edit, LineRefusal>
+fn read_set(alloc: Global, argument: Option<&str>) -> Result<Edit, LineRefusal>
     ensures { Gives LineRefusal.Memory (λ e. e) result (set_after (option_copied argument.entry)) }
 {
-    let (name, value) = around_space(given(argument)?)?;
+    let (name, value) = split_at_space(required_argument(argument)?)?;
     let variable = variable_argument(name)?;
     Ok(Edit::Set(variable, text_label(alloc, value)?))
 }
 
 #[tactic(auto, unfolding(crate::specs::Line::Commands::unset_after))]
-fn unset(argument: Option<&str>) -> Result<Edit, LineRefusal>
+fn read_unset(argument: Option<&str>) -> Result<Edit, LineRefusal>
     ensures { Gives LineRefusal.Memory (λ e. e) result
         (unset_after (option_copied argument.entry)) }
 {
-    let variable = variable_argument(filled(given(argument)?)?)?;
+    let variable = variable_argument(nonempty_text(required_argument(argument)?)?)?;
     Ok(Edit::Unset(variable))
 }
 
 #[tactic(auto, unfolding(crate::specs::Line::Commands::add_extra_after))]
-fn add_extra(alloc: Global, argument: Option<&str>) -> Result<Edit, LineRefusal>
+fn read_add_extra(alloc: Global, argument: Option<&str>) -> Result<Edit, LineRefusal>
     ensures { Gives LineRefusal.Memory (λ e. e) result
         (add_extra_after (option_copied argument.entry)) }
 {
-    Ok(Edit::AddExtra(name(alloc, LineRefusal::Extra, argument)?))
+    Ok(Edit::AddExtra(read_name(alloc, LineRefusal::Extra, argument)?))
 }
 
 #[tactic(auto, unfolding(crate::specs::Line::Commands::drop_extra_after))]
-fn drop_extra(alloc: Global, argument: Option<&str>) -> Result<Edit, LineRefusal>
+fn read_drop_extra(alloc: Global, argument: Option<&str>) -> Result<Edit, LineRefusal>
     ensures { Gives LineRefusal.Memory (λ e. e) result
         (drop_extra_after (option_copied argument.entry)) }
 {
-    Ok(Edit::DropExtra(name(alloc, LineRefusal::Extra, argument)?))
+    Ok(Edit::DropExtra(read_name(alloc, LineRefusal::Extra, argument)?))
 }
 
 #[tactic(auto, unfolding(crate::specs::Line::Commands::add_group_after))]
-fn add_group(alloc: Global, argument: Option<&str>) -> Result<Edit, LineRefusal>
+fn read_add_group(alloc: Global, argument: Option<&str>) -> Result<Edit, LineRefusal>
     ensures { Gives LineRefusal.Memory (λ e. e) result
         (add_group_after (option_copied argument.entry)) }
 {
-    Ok(Edit::AddGroup(name(alloc, LineRefusal::Group, argument)?))
+    Ok(Edit::AddGroup(read_name(alloc, LineRefusal::Group, argument)?))
 }
 
 #[tactic(auto, unfolding(crate::specs::Line::Commands::drop_group_after))]
-fn drop_group(alloc: Global, argument: Option<&str>) -> Result<Edit, LineRefusal>
+fn read_drop_group(alloc: Global, argument: Option<&str>) -> Result<Edit, LineRefusal>
     ensures { Gives LineRefusal.Memory (λ e. e) result
         (drop_group_after (option_copied argument.entry)) }
 {
-    Ok(Edit::DropGroup(name(alloc, LineRefusal::Group, argument)?))
+    Ok(Edit::DropGroup(read_name(alloc, LineRefusal::Group, argument)?))
 }
 
 #[tactic(auto, unfolding(crate::specs::Line::Commands::tags_after))]
-fn tags(alloc: Global, argument: Option<&str>) -> Result<Edit, LineRefusal>
+fn read_tags(alloc: Global, argument: Option<&str>) -> Result<Edit, LineRefusal>
     ensures { Gives LineRefusal.Memory (λ e. e) result (tags_after (option_copied argument.entry)) }
 {
     let texts = pieces_of(alloc, argument)?;
@@ -135,37 +137,37 @@ fn tags(alloc: Global, argument: Option<&str>) -> Result<Edit, LineRefusal>
 }
 
 #[tactic(auto, unfolding(crate::specs::Line::Commands::add_after))]
-fn add(alloc: Global, argument: Option<&str>) -> Result<Edit, LineRefusal>
+fn read_add(alloc: Global, argument: Option<&str>) -> Result<Edit, LineRefusal>
     ensures { Gives LineRefusal.Memory (λ e. e) result (add_after (option_copied argument.entry)) }
 {
-    let text = filled(given(argument)?)?;
+    let text = nonempty_text(required_argument(argument)?)?;
     Ok(Edit::Add(Entry::read_text(alloc, text)?))
 }
 
 #[tactic(auto, unfolding(crate::specs::Line::Commands::put_after))]
-fn put(alloc: Global, argument: Option<&str>) -> Result<Edit, LineRefusal>
+fn read_put(alloc: Global, argument: Option<&str>) -> Result<Edit, LineRefusal>
     ensures { Gives LineRefusal.Memory (λ e. e) result (put_after (option_copied argument.entry)) }
 {
-    let (id, text) = around_space(given(argument)?)?;
+    let (id, text) = split_at_space(required_argument(argument)?)?;
     let number = number_argument(id)?;
-    let text = filled(text)?;
+    let text = nonempty_text(text)?;
     Ok(Edit::Put(number, Entry::read_text(alloc, text)?))
 }
 
 #[tactic(auto, unfolding(crate::specs::Line::Commands::del_after))]
-fn del(argument: Option<&str>) -> Result<Edit, LineRefusal>
+fn read_del(argument: Option<&str>) -> Result<Edit, LineRefusal>
     ensures { Gives LineRefusal.Memory (λ e. e) result (del_after (option_copied argument.entry)) }
 {
-    let number = number_argument(given(argument)?)?;
+    let number = number_argument(required_argument(argument)?)?;
     Ok(Edit::Del(number))
 }
 
 #[tactic(auto, unfolding(crate::specs::Line::Commands::policy_after))]
-fn policy(alloc: Global, argument: Option<&str>) -> Result<Edit, LineRefusal>
+fn read_policy(alloc: Global, argument: Option<&str>) -> Result<Edit, LineRefusal>
     ensures { Gives LineRefusal.Memory (λ e. e) result
         (policy_after (option_copied argument.entry)) }
 {
-    let (name, word) = around_space(given(argument)?)?;
+    let (name, word) = split_at_space(required_argument(argument)?)?;
     let policy = policy_argument(word)?;
     if !is_name(name) {
         return Err(LineRefusal::Name);
@@ -194,11 +196,15 @@ pub fn policy_argument(word: &str) -> Result<Policy, LineRefusal>
 
 /// The argument, which has to be a name.
 #[tactic(auto, unfolding(crate::specs::Line::Commands::name_after))]
-fn name(alloc: Global, unknown: LineRefusal, argument: Option<&str>) -> Result<Label, LineRefusal>
+fn read_name(
+    alloc: Global,
+    unknown: LineRefusal,
+    argument: Option<&str>,
+) -> Result<Label, LineRefusal>
     ensures { Gives LineRefusal.Memory (λ l. l) result
         (name_after unknown (option_copied argument.entry)) }
 {
-    let text = filled(given(argument)?)?;
+    let text = nonempty_text(required_argument(argument)?)?;
     if !is_name(text) {
         return Err(unknown);
     }

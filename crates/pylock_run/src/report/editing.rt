@@ -7,11 +7,12 @@ ghost use Rattle.pylock_core.specs.Session.Steps.{answer};
 ghost use Rattle.std.specs.List.{position};
 ghost use Rattle.pytext.specs.Agreement.{Gives};
 ghost use Rattle.pylock_run.specs.Line.{is_lf};
-ghost use Rattle.pylock_run.specs.Report.{is_plan, after_line, standing_text};
+ghost use Rattle.pylock_run.specs.Report.{is_plan, after_line, current_answer_text};
 ghost use Rattle.pylock_run.specs.Report.Run.{most_lines};
-ghost use Rattle.pylock_run.specs.Inner.Editing.{start, kept, end_line, end_text, bytes_done};
+ghost use Rattle.pylock_run.specs.Inner.Editing.{start, kept_part, end_line, end_text};
+ghost use Rattle.pylock_run.specs.Inner.Editing.{editing_after};
 ghost use Rattle.pylock_run.specs.Inner.Editing.{bytes_text};
-ghost use Rattle.pylock_run.specs.Inner.Editing.{finished, finished_text, lines_begun};
+ghost use Rattle.pylock_run.specs.Inner.Editing.{after_input, input_end_text, lines_begun};
 ghost use Rattle.pylock_run.specs.Inner.Faults.{IsTakeFault};
 
 use crate::line::commands::Command;
@@ -19,7 +20,7 @@ use crate::line::refusal::LineRefusal;
 use crate::line::{LINE_LIMIT, read_line};
 use crate::report::fault::RunFault;
 use crate::text::plan::push_answer;
-use crate::text::refusal::push_refused;
+use crate::text::refusal::push_line_refusal;
 use memchr::memchr;
 use pylock_core::{Answer, Session};
 use std::alloc::{AllocError, Global};
@@ -34,8 +35,8 @@ pub struct Editing {
     session: Session,
     /// Whether the last answer was a plan.
     plan: bool,
-    /// How many lines have ended.
-    ended: u64,
+    /// How many lines are complete.
+    complete: u64,
     /// Whether one of them was refused.
     refused: bool,
     /// What is kept of the line that is being read: of one that is too long, `LINE_LIMIT + 1`
@@ -52,11 +53,11 @@ impl Model for Editing {
     ghost use Rattle.pymark_core.specs.Environment.{environment_code};
     ghost use Rattle.pymark_core.specs.Marker.Coding.{marker_code};
     ghost use Rattle.pylock_core.specs.contracts.edit.Policy as policy;
-    ghost use Rattle.pylock_run.specs.Inner.Editing.{At};
+    ghost use Rattle.pylock_run.specs.Inner.Editing.{EditingValue};
     ghost use Rattle.pylock_run.specs.Line.{line_limit};
     ghost use Rattle.pylock_run.specs.Report.Run.{most_lines};
 
-    ghost Value = { At };
+    ghost Value = { EditingValue };
 
     ghost coded = { Prim.hlevel (
       codes,
@@ -68,13 +69,13 @@ impl Model for Editing {
     ghost view = { λ e. record {
       state = e.session.state;
       plan = e.plan;
-      ended = e.ended;
+      complete = e.complete;
       refused = e.refused;
       line = e.line.items;
     } };
 
     ghost invariant = { λ e. (vec_len e.line ≤ line_limit + 1)
-        × (e.ended + min 1 (vec_len e.line) ≤ most_lines) };
+        × (e.complete + min 1 (vec_len e.line) ≤ most_lines) };
 }
 
 impl Drop for Editing {
@@ -83,7 +84,7 @@ impl Drop for Editing {
             alloc: _,
             session: _,
             plan: _,
-            ended: _,
+            complete: _,
             refused: _,
             line: _,
         } = self;
@@ -94,14 +95,15 @@ impl Editing {
     /// Pushes the first answer.
     pub fn start(alloc: Global, session: Session, out: &mut Vec<u8>) -> Result<Editing, AllocError>
         ensures editing { IfOk result (λ editing. editing ≡ start session.state) }
-        ensures text { OnOk result (out.new.items ≡ out.old.items ++ standing_text session.state) }
+        ensures text { OnOk result
+            (out.new.items ≡ out.old.items ++ current_answer_text session.state) }
     {
-        let plan = push_standing(&session, out)?;
+        let plan = push_current_answer(&session, out)?;
         Ok(Editing {
             alloc,
             session,
             plan,
-            ended: 0,
+            complete: 0,
             refused: false,
             line: Vec::new(alloc),
         })
@@ -109,35 +111,35 @@ impl Editing {
 
     /// Takes the bytes up to the first LF and that LF, or all bytes where there is none, and
     /// answers how many. Where a line ends, what it prints is pushed.
-    pub fn take(&mut self, bytes: &[u8], out: &mut Vec<u8>) -> Result<usize, RunFault>
+    pub fn take_bytes(&mut self, bytes: &[u8], out: &mut Vec<u8>) -> Result<usize, RunFault>
         requires { 0 < length bytes.now }
         ensures some { IfOk result (λ count. (0 < count) × (count ≤ length bytes.now)) }
         ensures editing { IfOk result (λ count. self.new
-            ≡ bytes_done self.old (take count bytes.now)) }
+            ≡ editing_after self.old (take count bytes.now)) }
         ensures text { IfOk result (λ count. out.new.items
             ≡ out.old.items ++ bytes_text self.old (take count bytes.now)) }
-        ensures fault { IfErr result (IsTakeFault self.old.ended) }
+        ensures fault { IfErr result (IsTakeFault self.old.complete) }
     {
-        if self.ended == LINES {
+        if self.complete == LINES {
             return Err(RunFault::Input);
         }
         match line_end(bytes) {
-            Some(place) => {
-                self.keep(&bytes[..place])?;
+            Some(position) => {
+                self.keep_bytes(&bytes[..position])?;
                 self.end_line(out)?;
-                Ok(place + 1)
+                Ok(position + 1)
             }
             None => {
-                self.keep(bytes)?;
+                self.keep_bytes(bytes)?;
                 Ok(bytes.len())
             }
         }
     }
 
     /// The end of the input, where a line without LF counts if it is not empty.
-    pub fn finish(&mut self, out: &mut Vec<u8>) -> Result<(), AllocError>
-        ensures editing { OnOk result (self.new ≡ finished self.old) }
-        ensures text { OnOk result (out.new.items ≡ out.old.items ++ finished_text self.old) }
+    pub fn finish_input(&mut self, out: &mut Vec<u8>) -> Result<(), AllocError>
+        ensures editing { OnOk result (self.new ≡ after_input self.old) }
+        ensures text { OnOk result (out.new.items ≡ out.old.items ++ input_end_text self.old) }
         ensures within { lines_begun self.old ≤ most_lines }
     {
         if self.line.is_empty() {
@@ -154,11 +156,11 @@ impl Editing {
     }
 
     /// Keeps more bytes of the line, as far as they are needed to tell that it is too long.
-    #[tactic(auto, using(crate::proofs::EditingLemmas::kept_room))]
-    fn keep(&mut self, bytes: &[u8]) -> Result<(), AllocError>
-        requires { self.old.ended < most_lines }
+    #[tactic(auto, using(crate::proofs::EditingLemmas::kept_part_room))]
+    fn keep_bytes(&mut self, bytes: &[u8]) -> Result<(), AllocError>
+        requires { self.old.complete < most_lines }
         ensures { OnOk result (self.new
-            ≡ record self.old { line = kept (self.old.line ++ bytes.now) }) }
+            ≡ record self.old { line = kept_part (self.old.line ++ bytes.now) }) }
     {
         let room = LINE_LIMIT + 1 - self.line.len();
         let count = bytes.len().min(room);
@@ -168,19 +170,19 @@ impl Editing {
     /// Ends the line, and pushes the answer after it or its refusal.
     #[tactic(auto, unfolding(crate::specs::Inner::Editing::end_line))]
     fn end_line(&mut self, out: &mut Vec<u8>) -> Result<(), AllocError>
-        requires { self.old.ended < most_lines }
+        requires { self.old.complete < most_lines }
         ensures editing { OnOk result (self.new ≡ end_line self.old) }
         ensures text { OnOk result (out.new.items ≡ out.old.items ++ end_text self.old) }
     {
-        let outcome = obey(self.alloc, &mut self.session, &self.line);
-        self.ended += 1;
+        let outcome = obey_line(self.alloc, &mut self.session, &self.line);
+        self.complete += 1;
         self.line.clear();
         match outcome {
-            Ok(()) => self.plan = push_standing(&self.session, out)?,
+            Ok(()) => self.plan = push_current_answer(&self.session, out)?,
             Err(LineRefusal::Memory) => return Err(AllocError),
             Err(refusal) => {
                 self.refused = true;
-                push_refused(out, self.ended, refusal)?;
+                push_line_refusal(out, self.complete, refusal)?;
             }
         }
         Ok(())
@@ -189,7 +191,7 @@ impl Editing {
 
 /// Does what the line says.
 #[tactic(auto, unfolding(crate::specs::Report::after_line))]
-fn obey(alloc: Global, session: &mut Session, line: &[u8]) -> Result<(), LineRefusal>
+fn obey_line(alloc: Global, session: &mut Session, line: &[u8]) -> Result<(), LineRefusal>
     ensures obeyed { Gives LineRefusal.Memory (λ _. session.new.state) result
         (after_line session.old.state line.now) }
     ensures unchanged { OnErr result (session.new ≡ session.old) }
@@ -204,9 +206,10 @@ fn obey(alloc: Global, session: &mut Session, line: &[u8]) -> Result<(), LineRef
 }
 
 /// Pushes the answer as it stands, and answers whether it is a plan.
-pub fn push_standing(session: &Session, out: &mut Vec<u8>) -> Result<bool, AllocError>
+pub fn push_current_answer(session: &Session, out: &mut Vec<u8>) -> Result<bool, AllocError>
     ensures plan { IfOk result (λ plan. plan ≡ is_plan (answer session.now.state)) }
-    ensures text { OnOk result (out.new.items ≡ out.old.items ++ standing_text session.now.state) }
+    ensures text { OnOk result
+        (out.new.items ≡ out.old.items ++ current_answer_text session.now.state) }
 {
     let answer = session.answer()?;
     push_answer(out, session, &answer)?;

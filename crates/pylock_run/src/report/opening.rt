@@ -2,7 +2,7 @@
 ghost use Rattle.std.specs.Prelude.{◌≡◌, IfOk};
 ghost use Rattle.pylock_core.specs.Session.Judgement.{all_numbers, index_of, verdicts_of};
 ghost use Rattle.pytext.specs.Agreement.{Gives};
-ghost use Rattle.pylock_run.specs.Report.{opened};
+ghost use Rattle.pylock_run.specs.Report.{open_state};
 ghost use Rattle.pylock_run.specs.declared.report.opening.OpenError.TheVariants as refusal;
 
 use pylock_core::{EnvError, Lock, LockError, Session, read_environment};
@@ -29,10 +29,10 @@ impl From<AllocError> for OpenError {
 
 /// Reads the lock and then the environment, and starts the session on both. It takes memory for all
 /// three.
-#[tactic(auto, unfolding(crate::specs::Report::opened))]
+#[tactic(auto, unfolding(crate::specs::Report::open_state))]
 pub fn open(alloc: Global, lock: &[u8], env: &[u8]) -> Result<Session, OpenError>
     ensures state { Gives refusal.Memory (λ session. session.state) result
-        (opened lock.now env.now) }
+        (open_state lock.now env.now) }
     ensures verdicts { IfOk result (λ session. session.verdicts ≡ verdicts_of session.state) }
     ensures index { IfOk result (λ session. session.index ≡ index_of session.state) }
     ensures judged { IfOk result (λ session. session.judged ≡ all_numbers session.state) }

@@ -5,15 +5,15 @@ ghost use Rattle.std.specs.Prelude.{take};
 ghost use Rattle.std.specs.Prelude.{OnOk, IfOk, IfErr, OnErr};
 ghost use Rattle.std.specs.Io.KnownBytes.{Consumes, IsAtEnd};
 ghost use Rattle.pylock_run.specs.Inner.Edited.{Edited, EditsAll, IsReadFault, EditFault};
-ghost use Rattle.pylock_run.specs.Inner.Editing.{start, bytes_done, bytes_text, finished};
-ghost use Rattle.pylock_run.specs.Inner.Editing.{finished_text};
+ghost use Rattle.pylock_run.specs.Inner.Editing.{start, editing_after, bytes_text, after_input};
+ghost use Rattle.pylock_run.specs.Inner.Editing.{input_end_text};
 ghost use Rattle.pylock_run.specs.Inner.Editing.{lines_begun};
 ghost use Rattle.pylock_run.specs.Inner.Faults.{IsWriteFault, IsFeedFault};
 ghost use Rattle.pylock_run.specs.Inner.Writes.{Writes, Pours};
-ghost use Rattle.pylock_run.specs.Report.{standing_text, opened, report_on};
+ghost use Rattle.pylock_run.specs.Report.{current_answer_text, open_state, report_on};
 ghost use Rattle.pylock_run.specs.Report.Print.{Prints, IsOutputFault};
 ghost use Rattle.pylock_run.specs.Report.Run.{IsRun, most_bytes, most_lines};
-ghost use Rattle.pylock_run.specs.Stream.{TakesFront};
+ghost use Rattle.pylock_run.specs.Stream.{TakesPrefix};
 
 use crate::report::editing::Editing;
 use crate::report::fault::RunFault;
@@ -37,8 +37,8 @@ pub const INPUT_BYTES: u64 = 268_435_456;
 fn flush<W: Sink>(out: &mut Vec<u8>, writer: &mut W) -> Result<(), RunFault>
     ensures written { OnOk result (Writes (W.value writer.old) (W.value writer.new) out.old.items) }
     ensures empty { OnOk result (out.new.items ≡ []) }
-    ensures front { OnErr result
-        (TakesFront (W.value writer.old) (W.value writer.new) out.old.items) }
+    ensures prefix { OnErr result
+        (TakesPrefix (W.value writer.old) (W.value writer.new) out.old.items) }
     ensures fault { IfErr result (IsWriteFault (W.value writer.old) (W.value writer.new)) }
 {
     let Ok(()) = write_all(writer, out) else {
@@ -48,7 +48,7 @@ fn flush<W: Sink>(out: &mut Vec<u8>, writer: &mut W) -> Result<(), RunFault>
     Ok(())
 }
 
-/// Edits by some bytes from the front of `bytes`, and answers how many. What they print stands
+/// Edits by a prefix of `bytes`, and answers how many. What they print stands
 /// behind what is in `out`, or is written where that is much.
 fn feed_some<W: Sink>(
     editing: &mut Editing,
@@ -59,15 +59,15 @@ fn feed_some<W: Sink>(
     requires { 0 < length bytes.now }
     ensures some { IfOk result (λ count. (0 < count) × (count ≤ length bytes.now)) }
     ensures editing { IfOk result (λ count. editing.new
-        ≡ bytes_done editing.old (take count bytes.now)) }
+        ≡ editing_after editing.old (take count bytes.now)) }
     ensures poured { IfOk result (λ count. Pours (W.value writer.old) (W.value writer.new)
         (out.old.items ++ bytes_text editing.old (take count bytes.now)) out.new.items) }
-    ensures front { OnErr result (TakesFront (W.value writer.old) (W.value writer.new)
+    ensures prefix { OnErr result (TakesPrefix (W.value writer.old) (W.value writer.new)
         (out.old.items ++ bytes_text editing.old bytes.now)) }
     ensures fault { IfErr result (IsFeedFault (W.value writer.old) (W.value writer.new)
-        (lines_begun (bytes_done editing.old bytes.now))) }
+        (lines_begun (editing_after editing.old bytes.now))) }
 {
-    let count = editing.take(bytes, out)?;
+    let count = editing.take_bytes(bytes, out)?;
     if out.len() >= FLUSH_BYTES {
         flush(out, writer)?;
     }
@@ -75,20 +75,20 @@ fn feed_some<W: Sink>(
 }
 
 /// Edits by a piece of the input, and writes what is in `out` and what the piece prints.
-fn feed<W: Sink>(
+fn feed_piece<W: Sink>(
     editing: &mut Editing,
     piece: &[u8],
     out: &mut Vec<u8>,
     writer: &mut W,
 ) -> Result<(), RunFault>
-    ensures editing { OnOk result (editing.new ≡ bytes_done editing.old piece.now) }
+    ensures editing { OnOk result (editing.new ≡ editing_after editing.old piece.now) }
     ensures written { OnOk result (Writes (W.value writer.old) (W.value writer.new)
         (out.old.items ++ bytes_text editing.old piece.now)) }
     ensures empty { OnOk result (out.new.items ≡ []) }
-    ensures front { OnErr result (TakesFront (W.value writer.old) (W.value writer.new)
+    ensures prefix { OnErr result (TakesPrefix (W.value writer.old) (W.value writer.new)
         (out.old.items ++ bytes_text editing.old piece.now)) }
     ensures fault { IfErr result (IsFeedFault (W.value writer.old) (W.value writer.new)
-        (lines_begun (bytes_done editing.old piece.now))) }
+        (lines_begun (editing_after editing.old piece.now))) }
 {
     let mut done = 0;
     'bytes: while done < piece.len() {
@@ -151,7 +151,7 @@ fn feed_next<R: Source, W: Sink>(
     if count == 0 {
         return Ok(false);
     }
-    feed(editing, &buffer[..count], out, writer)?;
+    feed_piece(editing, &buffer[..count], out, writer)?;
     Ok(true)
 }
 
@@ -178,7 +178,7 @@ fn feed_all<R: Source, W: Sink>(
 }
 
 /// Writes the first answer.
-fn begin<W: Sink>(
+fn write_first_answer<W: Sink>(
     alloc: Global,
     session: Session,
     first: &mut Vec<u8>,
@@ -187,10 +187,10 @@ fn begin<W: Sink>(
     requires { first.old.items ≡ [] }
     ensures editing { IfOk result (λ editing. editing ≡ start session.state) }
     ensures written { OnOk result (Writes (W.value writer.old) (W.value writer.new)
-        (standing_text session.state)) }
+        (current_answer_text session.state)) }
     ensures empty { OnOk result (first.new.items ≡ []) }
-    ensures front { OnErr result (TakesFront (W.value writer.old) (W.value writer.new)
-        (standing_text session.state)) }
+    ensures prefix { OnErr result (TakesPrefix (W.value writer.old) (W.value writer.new)
+        (current_answer_text session.state)) }
     ensures fault { IfErr result (IsOutputFault (W.value writer.old) (W.value writer.new)) }
 {
     let editing = Editing::start(alloc, session, first)?;
@@ -199,22 +199,26 @@ fn begin<W: Sink>(
 }
 
 /// Writes what the last line prints, where it had no LF.
-fn end<W: Sink>(editing: &mut Editing, last: &mut Vec<u8>, writer: &mut W) -> Result<(), RunFault>
+fn write_last_answer<W: Sink>(
+    editing: &mut Editing,
+    last: &mut Vec<u8>,
+    writer: &mut W,
+) -> Result<(), RunFault>
     requires { last.old.items ≡ [] }
-    ensures editing { OnOk result (editing.new ≡ finished editing.old) }
+    ensures editing { OnOk result (editing.new ≡ after_input editing.old) }
     ensures written { OnOk result (Writes (W.value writer.old) (W.value writer.new)
-        (finished_text editing.old)) }
+        (input_end_text editing.old)) }
     ensures within { OnOk result (lines_begun editing.old ≤ most_lines) }
-    ensures front { OnErr result (TakesFront (W.value writer.old) (W.value writer.new)
-        (finished_text editing.old)) }
+    ensures prefix { OnErr result (TakesPrefix (W.value writer.old) (W.value writer.new)
+        (input_end_text editing.old)) }
     ensures fault { IfErr result (IsOutputFault (W.value writer.old) (W.value writer.new)) }
 {
-    editing.finish(last)?;
+    editing.finish_input(last)?;
     flush(last, writer)
 }
 
-/// Gives the memory of the session back, or leaves it to the system.
-fn let_go(editing: Editing, leaves: bool) {
+/// Frees the session, or leaves its memory to the system.
+fn end_session(editing: Editing, leaves: bool) {
     if leaves {
         mem::forget(editing);
     }
@@ -233,16 +237,16 @@ fn edit_all<R: Source, W: Sink>(
 {
     let mut buffer = piece_buffer(alloc)?;
     let mut out = Vec::new(alloc);
-    let mut editing = begin(alloc, session, &mut out, writer)?;
+    let mut editing = write_first_answer(alloc, session, &mut out, writer)?;
     feed_all(&mut editing, &mut buffer, reader, &mut out, writer)?;
-    end(&mut editing, &mut out, writer)?;
+    write_last_answer(&mut editing, &mut out, writer)?;
     let status = editing.status();
-    let_go(editing, leaves);
+    end_session(editing, leaves);
     Ok(status)
 }
 
 /// Writes the refusal of a lock or an environment.
-fn refuse<W: Sink>(alloc: Global, error: &OpenError, writer: &mut W) -> Result<u8, RunFault>
+fn write_refusal<W: Sink>(alloc: Global, error: &OpenError, writer: &mut W) -> Result<u8, RunFault>
     ensures { Prints (report_on (Err error.now) [])
         (W.value writer.old) (W.value writer.new) result }
 {
@@ -256,7 +260,7 @@ fn refuse<W: Sink>(alloc: Global, error: &OpenError, writer: &mut W) -> Result<u
 /// no line was refused, 1 otherwise, 2 where the lock or the environment is refused.
 ///
 /// It is one pass: the input is read in pieces of at most 65,536 bytes, and before each read all is
-/// written that the lines print which have ended. Where the lock or the environment is refused,
+/// written that the lines print that are complete. Where the lock or the environment is refused,
 /// nothing is read. It keeps the line that is being read, of a line that is too long no more than
 /// tells so, and takes memory for the session, the kept line, a piece, and what stands to be
 /// written.
@@ -267,14 +271,14 @@ pub fn run<R: Source, W: Sink>(
     reader: &mut R,
     writer: &mut W,
 ) -> Result<u8, RunFault>
-    ensures { IsRun (opened lock.now env.now) (R.value reader.old) (R.value reader.new)
+    ensures { IsRun (open_state lock.now env.now) (R.value reader.old) (R.value reader.new)
         (W.value writer.old) (W.value writer.new) result }
 {
     run_whole(alloc, lock, env, false, reader, writer)
 }
 
-/// A run that at its end gives the memory of its session back; or, for a program that ends then,
-/// leaves it to the system, which takes all of it at once.
+/// A run that frees its session at its end; or, for a program that ends then, leaves the session's
+/// memory to the system, which takes all of it at once.
 pub fn run_whole<R: Source, W: Sink>(
     alloc: Global,
     lock: &[u8],
@@ -283,12 +287,12 @@ pub fn run_whole<R: Source, W: Sink>(
     reader: &mut R,
     writer: &mut W,
 ) -> Result<u8, RunFault>
-    ensures { IsRun (opened lock.now env.now) (R.value reader.old) (R.value reader.new)
+    ensures { IsRun (open_state lock.now env.now) (R.value reader.old) (R.value reader.new)
         (W.value writer.old) (W.value writer.new) result }
 {
     match open(alloc, lock, env) {
         Ok(session) => edit_all(alloc, session, leaves, reader, writer),
         Err(OpenError::Memory) => Err(RunFault::Memory),
-        Err(refusal) => refuse(alloc, &refusal, writer),
+        Err(refusal) => write_refusal(alloc, &refusal, writer),
     }
 }

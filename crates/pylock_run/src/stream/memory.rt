@@ -1,5 +1,5 @@
-//! A source and a sink over memory: they tell all their bytes, move them in small pieces, and fail
-//! when they are told to.
+//! A source and a sink over memory: they expose all their bytes, move them in small pieces, and
+//! fail when they are told to.
 ghost use Rattle.std.specs.Prelude.{◌≡◌, ◌<◌, ◌≤◌, ◌-◌, ◌↔◌, [], ◌++◌, Some, None};
 ghost use Rattle.std.specs.Prelude.{length, take, min, IsTrue, IfOk, OnOk, OnErr, IsErr};
 ghost use Rattle.pylock_run.specs.Stream.{one_more};
@@ -10,7 +10,7 @@ use std::alloc::{AllocError, Global};
 use std::marker::Model;
 
 /// Counts a call. It answers whether that call is the one that fails.
-fn counts_down(fails_in: &mut Option<u64>) -> bool
+fn count_call(fails_in: &mut Option<u64>) -> bool
     ensures fails { IsTrue result ↔ FailsNext fails_in.old }
     ensures after { fails_in.new ≡ after_call fails_in.old }
 {
@@ -85,7 +85,7 @@ impl<'a> Source for Pieces<'a> {
           failures = one_more self.old.failures;
         }) }
     {
-        if counts_down(&mut self.fails_in) {
+        if count_call(&mut self.fails_in) {
             self.failures = self.failures.saturating_add(1);
             return Err(IoFault);
         }
@@ -190,7 +190,7 @@ impl Sink for Room {
           failures = one_more self.old.failures;
         }) }
     {
-        if counts_down(&mut self.fails_in) {
+        if count_call(&mut self.fails_in) {
             self.failures = self.failures.saturating_add(1);
             return Err(IoFault);
         }

@@ -3,7 +3,7 @@ ghost use Rattle.std.specs.Prelude.{◌≡◌, ◌<◌, ◌≤◌, ◌-◌, leng
 ghost use Rattle.std.specs.Prelude.{IfOk, IfErr, OnOk};
 ghost use Rattle.std.specs.Io.KnownBytes.{IsAtEnd};
 ghost use Rattle.pylock_run.specs.Inner.Pieces.{GivesPiece};
-ghost use Rattle.pylock_run.specs.Stream.Whole.{GivesAll, IsCause};
+ghost use Rattle.pylock_run.specs.Stream.Whole.{GivesAll, IsCause, most_piece_bytes};
 
 use crate::stream::Source;
 use std::alloc::{AllocError, Global};
@@ -40,7 +40,7 @@ impl From<AllocError> for FileFault {
 
 /// A buffer for one piece.
 pub fn piece_buffer(alloc: Global) -> Result<Vec<u8>, AllocError>
-    ensures { IfOk result (λ buffer. vec_len buffer ≡ 65536) }
+    ensures { IfOk result (λ buffer. vec_len buffer ≡ most_piece_bytes) }
 {
     vec![in alloc; 0u8; PIECE_BYTES]
 }

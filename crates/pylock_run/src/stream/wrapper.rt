@@ -1,5 +1,5 @@
-//! A source over a reader of std and a sink over a writer: they tell the bytes that these tell, and
-//! answer each error as a failure.
+//! A source over a reader of std and a sink over a writer: they expose the bytes that these expose,
+//! and answer each error as a failure.
 ghost use Rattle.std.specs.Prelude.{◌≡◌, ◌<◌, ◌≤◌};
 
 use crate::stream::{IoFault, Sink, Source};

@@ -4,7 +4,7 @@ ghost use Rattle.std.specs.Prelude.{◌≡◌, ◌++◌, ◌∷◌, ◌<◌, ◌
 ghost use Rattle.std.specs.List.{list_all};
 ghost use Rattle.std.specs.Option.{option_copied};
 ghost use Rattle.pylock_run.specs.Inner.Plain.{is_ordinary};
-ghost use Rattle.pylock_run.specs.Text.Field.{escape, escaped, field, line_of};
+ghost use Rattle.pylock_run.specs.Text.Field.{escape_byte, escaped_text, field, line_of};
 
 use itoa::Buffer;
 use std::alloc::AllocError;
@@ -24,21 +24,21 @@ pub fn push_field(out: &mut Vec<u8>, text: Option<&str>) -> Result<(), AllocErro
     match text {
         None => out.extend_from_slice(b"-")?,
         Some("-") => out.extend_from_slice(b"\\-")?,
-        Some(text) => push_escaped(out, text)?,
+        Some(text) => push_escaped_text(out, text)?,
     }
     Ok(())
 }
 
 /// Pushes a text with its escapes.
 #[tactic(auto, using(crate::proofs::PlainText::plain_stands))]
-pub fn push_escaped(out: &mut Vec<u8>, text: &str) -> Result<(), AllocError>
-    ensures { OnOk result (out.new.items ≡ out.old.items ++ escaped text.now) }
+pub fn push_escaped_text(out: &mut Vec<u8>, text: &str) -> Result<(), AllocError>
+    ensures { OnOk result (out.new.items ≡ out.old.items ++ escaped_text text.now) }
 {
     if is_plain_text(text.as_bytes()) {
         out.extend_from_slice(text.as_bytes())?;
         Ok(())
     } else {
-        push_escapes(out, text.as_bytes())
+        push_escaped_bytes(out, text.as_bytes())
     }
 }
 
@@ -91,17 +91,17 @@ fn are_ordinary(bytes: &[u8]) -> bool
 }
 
 #[inline(never)]
-fn push_escapes(out: &mut Vec<u8>, text: &[u8]) -> Result<(), AllocError>
-    ensures { OnOk result (out.new.items ≡ out.old.items ++ escaped text.now) }
+fn push_escaped_bytes(out: &mut Vec<u8>, text: &[u8]) -> Result<(), AllocError>
+    ensures { OnOk result (out.new.items ≡ out.old.items ++ escaped_text text.now) }
 {
     for byte in text {
-        push_escape(out, *byte)?;
+        push_escaped_byte(out, *byte)?;
     }
     Ok(())
 }
 
-fn push_escape(out: &mut Vec<u8>, byte: u8) -> Result<(), AllocError>
-    ensures { OnOk result (out.new.items ≡ out.old.items ++ escape byte) }
+fn push_escaped_byte(out: &mut Vec<u8>, byte: u8) -> Result<(), AllocError>
+    ensures { OnOk result (out.new.items ≡ out.old.items ++ escape_byte byte) }
 {
     match byte {
         b'\t' => out.extend_from_slice(b"\\t")?,
@@ -114,7 +114,7 @@ fn push_escape(out: &mut Vec<u8>, byte: u8) -> Result<(), AllocError>
 }
 
 /// Pushes a TAB and a field.
-pub fn push_next(out: &mut Vec<u8>, text: Option<&str>) -> Result<(), AllocError>
+pub fn push_next_field(out: &mut Vec<u8>, text: Option<&str>) -> Result<(), AllocError>
     ensures { OnOk result (out.new.items ≡ out.old.items ++ 9 ∷ field (option_copied text.entry)) }
 {
     out.push(b'\t')?;

@@ -10,7 +10,7 @@ ghost use Rattle.pylock_readers.specs.Text.{text_pairs};
 ghost use Rattle.pylock_run.specs.Inner.FileLine.{file_line, file_line_size, joined_texts};
 ghost use Rattle.pylock_run.specs.Inner.FileLine.{AreOrdinary, AreShort, StandIn};
 ghost use Rattle.pylock_run.specs.Inner.Plain.{is_ordinary};
-ghost use Rattle.pylock_run.specs.Text.Field.{escaped, field};
+ghost use Rattle.pylock_run.specs.Text.Field.{escaped_text, field};
 ghost use Rattle.pylock_run.specs.Text.Plan.{file_fields, hashes_text, source_line};
 
 use crate::text::field::is_plain_text;
@@ -109,7 +109,7 @@ fn short_field<'a>(text: Option<&'a str>) -> Option<&'a [u8]>
 #[tactic(auto, using(crate::proofs::PlainText::plain_stands))]
 fn short_text<'a>(text: &'a str) -> Option<&'a [u8]>
     ensures stands { IfSome result (λ short. list_all is_ordinary short.now ≡ true
-        → short.now ≡ escaped text.now) }
+        → short.now ≡ escaped_text text.now) }
     ensures short { IfSome result (λ short. length short.now ≤ 65536) }
 {
     if text.len() <= SHORT_BYTES {

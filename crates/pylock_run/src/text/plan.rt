@@ -8,14 +8,14 @@ ghost use Rattle.pylock_core.specs.Session.Picks.{lent_source};
 ghost use Rattle.pylock_core.specs.declared.answer.Answer.TheVariants.{Plan};
 ghost use Rattle.pylock_run.specs.Inner.Hashes.{escaped_hash, more_hashes};
 ghost use Rattle.pylock_run.specs.Text.Picked.{picked_fields};
-ghost use Rattle.pylock_run.specs.Text.Field.{field, tabbed};
+ghost use Rattle.pylock_run.specs.Text.Field.{field, fields_text};
 ghost use Rattle.pylock_run.specs.Text.Plan.{hashes_text, revision, vcs_fields};
 ghost use Rattle.pylock_run.specs.Text.Plan.{directory_fields};
 ghost use Rattle.pylock_run.specs.Text.Plan.{archive_fields, file_fields};
 ghost use Rattle.pylock_run.specs.Text.Plan.{plan_line, pick_text, answer_text, fault_text};
 ghost use Rattle.pylock_run.specs.Text.Plan.{source_line};
 
-use crate::text::field::{push_decimal, push_escaped, push_last_word, push_next};
+use crate::text::field::{push_decimal, push_escaped_text, push_last_word, push_next_field};
 use crate::text::plain::push_plain_file;
 use pylock_core::{
     Answer, Archive, Directory, DistributionFile, Entry, FaultCode, Pick, PickedSource, Session,
@@ -29,9 +29,9 @@ fn push_hash(out: &mut Vec<u8>, hash: &(String, String)) -> Result<(), AllocErro
         ≡ out.old.items ++ escaped_hash (string_bytes hash.now.0, string_bytes hash.now.1)) }
 {
     let (algorithm, value) = hash;
-    push_escaped(out, algorithm.as_str())?;
+    push_escaped_text(out, algorithm.as_str())?;
     out.push(b'=')?;
-    push_escaped(out, value.as_str())
+    push_escaped_text(out, value.as_str())
 }
 
 /// Pushes a TAB and the field of the hashes.
@@ -40,7 +40,7 @@ fn push_hashes(out: &mut Vec<u8>, hashes: &[(String, String)]) -> Result<(), All
         ≡ out.old.items ++ 9 ∷ field (hashes_text (text_pairs hashes.now))) }
 {
     let Some((first, rest)) = hashes.split_first() else {
-        return push_next(out, None);
+        return push_next_field(out, None);
     };
     out.push(b'\t')?;
     push_hash(out, first)?;
@@ -63,52 +63,53 @@ fn push_revision(out: &mut Vec<u8>, vcs: &Vcs) -> Result<(), AllocError>
     ensures { OnOk result (out.new.items ≡ out.old.items ++ 9 ∷ field (Some (revision vcs.now))) }
 {
     out.push(b'\t')?;
-    push_escaped(out, vcs.kind())?;
+    push_escaped_text(out, vcs.kind())?;
     out.push(b'@')?;
-    push_escaped(out, vcs.commit_id())
+    push_escaped_text(out, vcs.commit_id())
 }
 
 fn push_vcs(out: &mut Vec<u8>, vcs: &Vcs) -> Result<(), AllocError>
-    ensures { OnOk result (out.new.items ≡ out.old.items ++ tabbed (vcs_fields vcs.now)) }
+    ensures { OnOk result (out.new.items ≡ out.old.items ++ fields_text (vcs_fields vcs.now)) }
 {
     out.extend_from_slice(b"\tvcs\t-")?;
-    push_next(out, Some(vcs.place()))?;
+    push_next_field(out, Some(vcs.place()))?;
     out.extend_from_slice(b"\t-")?;
     push_revision(out, vcs)?;
-    push_next(out, vcs.subdirectory())
+    push_next_field(out, vcs.subdirectory())
 }
 
 fn push_directory(out: &mut Vec<u8>, directory: &Directory) -> Result<(), AllocError>
     ensures { OnOk result (out.new.items
-        ≡ out.old.items ++ tabbed (directory_fields directory.now)) }
+        ≡ out.old.items ++ fields_text (directory_fields directory.now)) }
 {
     out.push(b'\t')?;
     out.extend_from_slice(directory_word(directory).as_bytes())?;
     out.extend_from_slice(b"\t-")?;
-    push_next(out, Some(directory.place()))?;
+    push_next_field(out, Some(directory.place()))?;
     out.extend_from_slice(b"\t-\t-")?;
-    push_next(out, directory.subdirectory())
+    push_next_field(out, directory.subdirectory())
 }
 
 fn push_archive(out: &mut Vec<u8>, archive: &Archive) -> Result<(), AllocError>
-    ensures { OnOk result (out.new.items ≡ out.old.items ++ tabbed (archive_fields archive.now)) }
+    ensures { OnOk result (out.new.items
+        ≡ out.old.items ++ fields_text (archive_fields archive.now)) }
 {
     out.extend_from_slice(b"\tarchive\t-")?;
-    push_next(out, Some(archive.place()))?;
+    push_next_field(out, Some(archive.place()))?;
     push_hashes(out, archive.hashes())?;
     out.extend_from_slice(b"\t-")?;
-    push_next(out, archive.subdirectory())
+    push_next_field(out, archive.subdirectory())
 }
 
 /// Pushes the fields of a wheel or of an sdist.
 fn push_file(out: &mut Vec<u8>, kind: &[u8], file: &DistributionFile) -> Result<(), AllocError>
     ensures { OnOk result (out.new.items
-        ≡ out.old.items ++ tabbed (file_fields kind.now file.now)) }
+        ≡ out.old.items ++ fields_text (file_fields kind.now file.now)) }
 {
     out.push(b'\t')?;
     out.extend_from_slice(kind)?;
-    push_next(out, file.file_name())?;
-    push_next(out, Some(file.place()))?;
+    push_next_field(out, file.file_name())?;
+    push_next_field(out, Some(file.place()))?;
     push_hashes(out, file.hashes())?;
     out.extend_from_slice(b"\t-\t-")?;
     Ok(())
@@ -117,7 +118,7 @@ fn push_file(out: &mut Vec<u8>, kind: &[u8], file: &DistributionFile) -> Result<
 /// Pushes the fields of a source, which stands in its entry and so is never left out.
 fn push_source(out: &mut Vec<u8>, source: Option<PickedSource<'_>>) -> Result<(), AllocError>
     ensures { OnOk result (out.new.items ≡ out.old.items
-        ++ tabbed (option_map_or picked_fields (option_map lent_source source.entry) [])) }
+        ++ fields_text (option_map_or picked_fields (option_map lent_source source.entry) [])) }
 {
     match source {
         Some(PickedSource::Vcs(vcs)) => push_vcs(out, vcs),
@@ -161,8 +162,8 @@ fn push_line_parts(
         (option_map_or picked_fields (option_map lent_source source.entry) [])) }
 {
     push_decimal(out, number)?;
-    push_next(out, Some(entry.name()))?;
-    push_next(out, entry.version())?;
+    push_next_field(out, Some(entry.name()))?;
+    push_next_field(out, entry.version())?;
     push_source(out, source)?;
     out.push(b'\n')?;
     Ok(())

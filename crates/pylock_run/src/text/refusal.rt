@@ -1,11 +1,11 @@
 //! Refusals of lines, of locks and of environments.
 
 ghost use Rattle.std.specs.Prelude.{◌≡◌, ◌++◌, ◌∷◌, [], OnOk};
-ghost use Rattle.pylock_run.specs.Text.Field.{tabbed};
+ghost use Rattle.pylock_run.specs.Text.Field.{fields_text};
 ghost use Rattle.pylock_run.specs.Text.Refusal.{head_word, key_word, entry_word, lock_words};
 ghost use Rattle.pylock_run.specs.Text.Refusal.{lock_text};
 ghost use Rattle.pylock_run.specs.Text.Refusal.{environment_words, environment_text};
-ghost use Rattle.pylock_run.specs.Text.Refusal.{refused_text, refusal_text};
+ghost use Rattle.pylock_run.specs.Text.Refusal.{line_refusal_text, refusal_text};
 ghost use Rattle.pylock_readers.specs.declared.error.LockError.TheVariants.{Head, Entry};
 ghost use Rattle.pylock_readers.specs.declared.error.EnvError.TheVariants.{Tag};
 
@@ -16,8 +16,12 @@ use pylock_core::{EntryError, EntryKey, EnvError, HeadKey, LockError};
 use std::alloc::AllocError;
 
 /// Pushes the refusal of a line, whose number counts from 1.
-pub fn push_refused(out: &mut Vec<u8>, number: u64, refusal: LineRefusal) -> Result<(), AllocError>
-    ensures { OnOk result (out.new.items ≡ out.old.items ++ refused_text number refusal) }
+pub fn push_line_refusal(
+    out: &mut Vec<u8>,
+    number: u64,
+    refusal: LineRefusal,
+) -> Result<(), AllocError>
+    ensures { OnOk result (out.new.items ≡ out.old.items ++ line_refusal_text number refusal) }
 {
     let word: &[u8] = match refusal {
         LineRefusal::Long => b"long",
@@ -40,7 +44,7 @@ pub fn push_refused(out: &mut Vec<u8>, number: u64, refusal: LineRefusal) -> Res
     push_last_word(out, word)
 }
 
-/// Pushes the line of a refused lock or environment. Want of memory prints nothing.
+/// Pushes the line of a refused lock or environment. Out of memory prints nothing.
 pub fn push_refusal(out: &mut Vec<u8>, error: &OpenError) -> Result<(), AllocError>
     ensures { OnOk result (out.new.items ≡ out.old.items ++ refusal_text error.now) }
 {
@@ -72,7 +76,7 @@ pub fn push_environment_error(out: &mut Vec<u8>, error: &EnvError) -> Result<(),
 }
 
 fn push_lock_words(out: &mut Vec<u8>, error: &LockError) -> Result<(), AllocError>
-    ensures { OnOk result (out.new.items ≡ out.old.items ++ tabbed (lock_words error.now)) }
+    ensures { OnOk result (out.new.items ≡ out.old.items ++ fields_text (lock_words error.now)) }
 {
     match error {
         LockError::NotText => push_word(out, b"not-text"),
@@ -82,44 +86,50 @@ fn push_lock_words(out: &mut Vec<u8>, error: &LockError) -> Result<(), AllocErro
         LockError::Head(key) => push_head(out, key),
         LockError::Packages => push_word(out, b"packages"),
         LockError::TooMany => push_word(out, b"too-many"),
-        LockError::Entry(place, error) => push_entry_error(out, *place, error),
+        LockError::Entry(position, error) => push_entry_error(out, *position, error),
         LockError::Memory => push_word(out, b"memory"),
     }
 }
 
 fn push_environment_words(out: &mut Vec<u8>, error: &EnvError) -> Result<(), AllocError>
-    ensures { OnOk result (out.new.items ≡ out.old.items ++ tabbed (environment_words error.now)) }
+    ensures { OnOk result (out.new.items
+        ≡ out.old.items ++ fields_text (environment_words error.now)) }
 {
     match error {
         EnvError::Json => push_word(out, b"json"),
         EnvError::Shape => push_word(out, b"shape"),
-        EnvError::Tag(place) => push_tag(out, *place),
+        EnvError::Tag(position) => push_tag(out, *position),
         EnvError::Memory => push_word(out, b"memory"),
     }
 }
 
 fn push_head(out: &mut Vec<u8>, key: &HeadKey) -> Result<(), AllocError>
-    ensures { OnOk result (out.new.items ≡ out.old.items ++ tabbed (lock_words (Head key.now))) }
+    ensures { OnOk result (out.new.items
+        ≡ out.old.items ++ fields_text (lock_words (Head key.now))) }
 {
     push_word(out, b"head")?;
     push_word(out, head_word(key).as_bytes())
 }
 
-fn push_entry_error(out: &mut Vec<u8>, place: usize, error: &EntryError) -> Result<(), AllocError>
+fn push_entry_error(
+    out: &mut Vec<u8>,
+    position: usize,
+    error: &EntryError,
+) -> Result<(), AllocError>
     ensures { OnOk result (out.new.items
-        ≡ out.old.items ++ tabbed (lock_words (Entry place error.now))) }
+        ≡ out.old.items ++ fields_text (lock_words (Entry position error.now))) }
 {
     out.extend_from_slice(b"\tentry\t")?;
-    push_decimal(out, place as u64)?;
+    push_decimal(out, position as u64)?;
     push_word(out, entry_word(error).as_bytes())
 }
 
-fn push_tag(out: &mut Vec<u8>, place: usize) -> Result<(), AllocError>
+fn push_tag(out: &mut Vec<u8>, position: usize) -> Result<(), AllocError>
     ensures { OnOk result (out.new.items
-        ≡ out.old.items ++ tabbed (environment_words (Tag place))) }
+        ≡ out.old.items ++ fields_text (environment_words (Tag position))) }
 {
     out.extend_from_slice(b"\ttag\t")?;
-    push_decimal(out, place as u64)
+    push_decimal(out, position as u64)
 }
 
 /// The word of a key of the head.

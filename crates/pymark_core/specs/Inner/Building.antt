@@ -1,14 +1,13 @@
--- What the code keeps while it reads a marker, seen as a place in it.
-use Rattle.std.specs.Prelude.{◌≡◌, ◌||◌, List, [], map, reverse, Option, None, Some}
-use Rattle.std.specs.Prelude.{option_map}
+-- What the code keeps while it reads a marker, seen as the state of its reader.
+use Rattle.std.specs.Prelude.{◌≡◌, ◌||◌, List, [], map, reverse, Option, None, Some, option_map}
 use Rattle.std.specs.Option.{option_to_list}
 use Rattle.std.specs.List.{list_any}
 use Rattle.pymark_core.specs.Marker.Comparison.{ComparisonValue}
 use Rattle.pymark_core.specs.Marker.Grammar.{is_misuse}
 use Rattle.pymark_core.specs.Marker.Keys.{comparison_reads, is_flagged}
 use Rattle.pymark_core.specs.Marker.Reading as reading
-use Rattle.pymark_core.specs.Marker.Reading.{Place, at_atom, at_operator, at_in, at_right, at_rest}
-use Rattle.pymark_core.specs.Marker.Reading.{operand_of}
+use Rattle.pymark_core.specs.Marker.Reading.{ReaderState, at_atom, at_operator, at_in, at_right}
+use Rattle.pymark_core.specs.Marker.Reading.{at_rest, token_operand}
 use Rattle.pymark_core.specs.Marker.Token as token
 use Rattle.pymark_core.specs.Marker.Tree.{Atom}
 use Rattle.pymark_core.specs.Marker.View.{atom_view, conjunction_view}
@@ -36,34 +35,34 @@ stage_view (Rest atom) = at_rest (atom_view atom)
 abbrev pub outer_view : Builder → List reading.Frame
 outer_view b = reverse (map frame_view b.outer.items)
 
-abbrev pub place_view : Builder → Stage → Place
-place_view b stage = record {
+abbrev pub state_view : Builder → Stage → ReaderState
+state_view b stage = record {
   outer = outer_view b;
   inner = frame_view b.inner;
   stage = stage_view stage;
 }
 
 -- the atom behind which a stage is
-abbrev pub rest_atom : reading.Stage → Option Atom
-rest_atom at_atom = None
-rest_atom (at_operator left) = None
-rest_atom (at_in left) = None
-rest_atom (at_right left comparator) = None
-rest_atom (at_rest atom) = Some atom
+abbrev pub stage_atom : reading.Stage → Option Atom
+stage_atom at_atom = None
+stage_atom (at_operator left) = None
+stage_atom (at_in left) = None
+stage_atom (at_right left comparator) = None
+stage_atom (at_rest atom) = Some atom
 
 -- the comparison that ends with this token
-abbrev pub noted : reading.Stage → token.Token → List ComparisonValue
-noted at_atom t = []
-noted (at_operator left) t = []
-noted (at_in left) t = []
-noted (at_right left comparator) t =
+abbrev pub comparison_ended_by : reading.Stage → token.Token → List ComparisonValue
+comparison_ended_by at_atom t = []
+comparison_ended_by (at_operator left) t = []
+comparison_ended_by (at_in left) t = []
+comparison_ended_by (at_right left comparator) t =
     option_to_list (option_map
     (λ right. record { left = left; comparator = comparator; right = right })
-    (operand_of t))
-noted (at_rest atom) t = []
+    (token_operand t))
+comparison_ended_by (at_rest atom) t = []
 
 -- what was noted is what was noted before, and these comparisons
-pub record NotesMore (old new : Notes) (cs : List ComparisonValue) : Type 0 where
+pub record NotesGain (old new : Notes) (cs : List ComparisonValue) : Type 0 where
   pub reads : (key : Key)
       → is_flagged new.reads key ≡ (is_flagged old.reads key || list_any (comparison_reads key) cs)
   pub misuse : new.misuse ≡ (old.misuse || list_any is_misuse cs)

@@ -1,10 +1,9 @@
 -- What a comparison asks for: the value `extra`, which a lock doesn't have, or a name among those
 -- that are asked for (PEP 751, `packages.marker`).
-use Rattle.std.specs.Prelude.{ℕ, Bool, false, true, ◌||◌, List, Option, Some, None}
-use Rattle.std.specs.Prelude.{if◌then◌else◌}
+use Rattle.std.specs.Prelude.{ℕ, Bool, false, true, ◌||◌, List, Option, Some, None, if◌then◌else◌}
 use Rattle.std.specs.List.{list_any}
 use Rattle.pymark_core.specs.Marker.Comparison.{ComparisonValue}
-use Rattle.pymark_core.specs.Marker.Grammar.{comparisons, is_by}
+use Rattle.pymark_core.specs.Marker.Grammar.{comparisons, is_operator}
 use Rattle.pymark_core.specs.Marker.Tree.{Tree}
 use Rattle.pymark_core.specs.declared.operand.Operand.{Operand}
 use Rattle.pymark_core.specs.declared.operand.Operand.TheVariants.{Text, Extra, Extras, Groups}
@@ -14,12 +13,12 @@ is_extra Extra = true
 is_extra operand = false
 
 -- `extra` is one of the operands
-abbrev pub has_extra : ComparisonValue → Bool
-has_extra c = is_extra c.left || is_extra c.right
+abbrev pub comparison_reads_extra : ComparisonValue → Bool
+comparison_reads_extra c = is_extra c.left || is_extra c.right
 
 -- `extra` is an operand somewhere in the tree
 abbrev pub reads_extra : Tree → Bool
-reads_extra tree = list_any has_extra (comparisons tree)
+reads_extra tree = list_any comparison_reads_extra (comparisons tree)
 
 abbrev pub quoted_text : Operand → Option (List ℕ)
 quoted_text (Text text) = Some text
@@ -27,7 +26,7 @@ quoted_text operand = None
 
 -- the quoted text left of `in` or `not in`
 abbrev pub text_asked : ComparisonValue → Option (List ℕ)
-text_asked c = if is_by c.comparator then None else quoted_text c.left
+text_asked c = if is_operator c.comparator then None else quoted_text c.left
 
 -- that text, where `extras` stands on the right
 abbrev pub asked_of_extras : Operand → Option (List ℕ) → Option (List ℕ)

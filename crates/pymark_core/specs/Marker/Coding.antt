@@ -7,9 +7,9 @@ use Rattle.pyver_core.specs.Set.Reading.{operators}
 use Rattle.pyver_core.specs.Set.Normal.{operator_text}
 use Rattle.pyver_core.specs.declared.set.specifier.Operator.{Operator}
 use Rattle.pyver_core.specs.declared.set.specifier.Operator.TheVariants as operator
-use Rattle.pymark_core.specs.Inner.ReadingComplete.{read_again}
+use Rattle.pymark_core.specs.Marker.RoundTrip.{tree_read_back}
 use Rattle.pymark_core.specs.Marker.Grammar.{tree_tokens}
-use Rattle.pymark_core.specs.Marker.Reading.{MarkerValue, read, start}
+use Rattle.pymark_core.specs.Marker.Reading.{MarkerValue, read_tokens, initial_state}
 use Rattle.pymark_core.specs.Marker.Token.{Token, opening, closing, sign, word, quoted}
 use Rattle.pymark_core.specs.Marker.Tree.{Tree, last, only, leaf}
 use Rattle.pymark_core.specs.declared.operand.Comparator.TheVariants.{In}
@@ -34,39 +34,39 @@ token_from_pair p =
     else if p.0 == 3 then word p.1
     else quoted p.1
 
-pub token_again : (t : Token) → token_from_pair (token_to_pair t) ≡ t
-token_again opening = refl
-token_again closing = refl
-token_again (sign operator.Equal) = refl
-token_again (sign operator.NotEqual) = refl
-token_again (sign operator.AtMost) = refl
-token_again (sign operator.AtLeast) = refl
-token_again (sign operator.Before) = refl
-token_again (sign operator.After) = refl
-token_again (sign operator.Compatible) = refl
-token_again (sign operator.Arbitrary) = refl
-token_again (word letters) = refl
-token_again (quoted text) = refl
+pub token_round_trip : (t : Token) → token_from_pair (token_to_pair t) ≡ t
+token_round_trip opening = refl
+token_round_trip closing = refl
+token_round_trip (sign operator.Equal) = refl
+token_round_trip (sign operator.NotEqual) = refl
+token_round_trip (sign operator.AtMost) = refl
+token_round_trip (sign operator.AtLeast) = refl
+token_round_trip (sign operator.Before) = refl
+token_round_trip (sign operator.After) = refl
+token_round_trip (sign operator.Compatible) = refl
+token_round_trip (sign operator.Arbitrary) = refl
+token_round_trip (word letters) = refl
+token_round_trip (quoted text) = refl
 
 -- some tree, for lists of tokens that are none
 abbrev pub some_tree : Tree
 some_tree = last (only (leaf (record { left = Extra; comparator = In; right = Extra })))
 
 abbrev pub tree_from : List Token → Tree
-tree_from ts = unwrap_or (read start ts) some_tree
+tree_from ts = unwrap_or (read_tokens initial_state ts) some_tree
 
-pub tree_from_tokens : (t : Tree) → tree_from (tree_tokens t []) ≡ t
-tree_from_tokens t = ap (λ o. unwrap_or o some_tree) (read_again t)
+pub tree_round_trip : (t : Tree) → tree_from (tree_tokens t []) ≡ t
+tree_round_trip t = ap (λ o. unwrap_or o some_tree) (tree_read_back t)
 
 abbrev pub token_code : Coded Token
 token_code =
     code_by (ℕ × List ℕ) (coded× coded_ℕ (coded_list coded_ℕ))
-    token_to_pair token_from_pair token_again
+    token_to_pair token_from_pair token_round_trip
 
 abbrev pub tree_code : Coded Tree
 tree_code =
     code_by (List Token) (coded_list token_code)
-    (λ t. tree_tokens t []) tree_from tree_from_tokens
+    (λ t. tree_tokens t []) tree_from tree_round_trip
 
 abbrev pub marker_code : Coded MarkerValue
 marker_code =

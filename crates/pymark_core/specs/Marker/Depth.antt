@@ -7,20 +7,20 @@ use Rattle.pymark_core.specs.Marker.Token.{is_quote}
 
 -- The bytes that stand outside quotations, where a quotation by this quote is open or none is. It
 -- ends at the next quote of its kind; one that isn't closed runs to the end.
-abbrev pub outside_behind : Option ℕ → List ℕ → List ℕ
-outside_behind quote [] = []
-outside_behind None (b ∷ rest) =
-    if is_quote b then outside_behind (Some b) rest else b ∷ outside_behind None rest
-outside_behind (Some quote) (b ∷ rest) =
-    outside_behind (if b == quote then None else Some quote) rest
+abbrev pub outside_quotes_from : Option ℕ → List ℕ → List ℕ
+outside_quotes_from quote [] = []
+outside_quotes_from None (b ∷ rest) =
+    if is_quote b then outside_quotes_from (Some b) rest else b ∷ outside_quotes_from None rest
+outside_quotes_from (Some quote) (b ∷ rest) =
+    outside_quotes_from (if b == quote then None else Some quote) rest
 
-abbrev pub outside : List ℕ → List ℕ
-outside text = outside_behind None text
+abbrev pub outside_quotes : List ℕ → List ℕ
+outside_quotes text = outside_quotes_from None text
 
--- the fronts of a list, from none of it to all of it
-abbrev pub fronts : List ℕ → List (List ℕ)
-fronts [] = [] ∷ []
-fronts (b ∷ rest) = [] ∷ map (λ front. b ∷ front) (fronts rest)
+-- the prefixes of a list, from none of it to all of it
+abbrev pub prefixes : List ℕ → List (List ℕ)
+prefixes [] = [] ∷ []
+prefixes (b ∷ rest) = [] ∷ map (λ prefix. b ∷ prefix) (prefixes rest)
 
 abbrev pub is_opening : ℕ → Bool
 is_opening b = b == 40
@@ -32,6 +32,11 @@ is_closing b = b == 41
 abbrev pub open_count : List ℕ → ℕ
 open_count text = count_by is_opening text - count_by is_closing text
 
--- at some place outside quotations more than 64 parentheses are open
+-- how many parentheses may be open at one position
+abbrev pub depth_limit : ℕ
+depth_limit = 64
+
+-- at some position outside quotations more than that are open
 abbrev pub is_deep : List ℕ → Bool
-is_deep text = list_any (λ front. nat_lt 64 (open_count front)) (fronts (outside text))
+is_deep text =
+    list_any (λ prefix. nat_lt depth_limit (open_count prefix)) (prefixes (outside_quotes text))

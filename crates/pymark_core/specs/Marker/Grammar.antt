@@ -13,7 +13,7 @@ use Rattle.pymark_core.specs.declared.operand.Operand.{Operand}
 use Rattle.pymark_core.specs.declared.operand.Operand.TheVariants.{Text, Variable, Extra, Extras}
 use Rattle.pymark_core.specs.declared.operand.Operand.TheVariants.{Groups}
 
--- ---- a tree as tokens, each part in front of the tokens behind it
+-- ---- a tree as tokens, each part before the tokens after it
 
 abbrev pub operand_token : Operand → Token
 operand_token (Text text) = quoted text
@@ -75,14 +75,14 @@ is_set Extras = true
 is_set Groups = true
 
 -- not `in` or `not in`
-abbrev pub is_by : Comparator → Bool
-is_by (By operator) = true
-is_by In = false
-is_by NotIn = false
+abbrev pub is_operator : Comparator → Bool
+is_operator (By operator) = true
+is_operator In = false
+is_operator NotIn = false
 
 -- a set stands anywhere but right of `in` or `not in`
 abbrev pub is_misuse : ComparisonValue → Bool
-is_misuse c = is_set c.left || (is_set c.right && is_by c.comparator)
+is_misuse c = is_set c.left || (is_set c.right && is_operator c.comparator)
 
 abbrev pub has_misuse : Tree → Bool
 has_misuse tree = list_any is_misuse (comparisons tree)

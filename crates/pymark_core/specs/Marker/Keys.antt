@@ -4,7 +4,7 @@ use Rattle.std.specs.List.{list_any}
 use Rattle.pymark_core.specs.Marker.Comparison.{ComparisonValue}
 use Rattle.pymark_core.specs.Marker.Grammar.{comparisons}
 use Rattle.pymark_core.specs.Marker.Tree.{Tree}
-use Rattle.pymark_core.specs.Variables.{place}
+use Rattle.pymark_core.specs.Variables.{variable_number}
 use Rattle.pymark_core.specs.declared.marker.keys.Key.{Key}
 use Rattle.pymark_core.specs.declared.marker.keys.Key.TheVariants as key
 use Rattle.pymark_core.specs.declared.operand.Operand.{Operand}
@@ -13,7 +13,7 @@ use Rattle.pymark_core.specs.declared.operand.Operand.TheVariants.{Groups}
 
 -- each of the 13 keys has a number of its own
 abbrev pub key_number : Key → ℕ
-key_number (key.Of v) = place v
+key_number (key.Of v) = variable_number v
 key_number key.Extras = 11
 key_number key.Groups = 12
 

@@ -1,8 +1,8 @@
 -- Reading a marker from the left: the tree that a text is, as a function. It gives an answer
 -- exactly where `MarkerText` holds, and the tree of which it holds: the laws
 -- `tree_text_is_complete` and `marker_of_is_complete`.
-use Rattle.std.specs.Prelude.{ℕ, if◌then◌else◌, List, [], ◌∷◌, ◌++◌, codes, Option, Some}
-use Rattle.std.specs.Prelude.{None, option_map, Result, Ok, Err}
+use Rattle.std.specs.Prelude.{ℕ, if◌then◌else◌, List, [], ◌∷◌, ◌++◌, codes, Option, Some, None}
+use Rattle.std.specs.Prelude.{option_map, Result, Ok, Err}
 use Rattle.std.specs.Str.{bytes_eq}
 use Rattle.pytext.specs.Options.{◌>>=◌}
 use Rattle.pymark_core.specs.Marker.Depth.{is_deep}
@@ -11,7 +11,7 @@ use Rattle.pymark_core.specs.Marker.Token.{Token, tokens, opening, closing, sign
 use Rattle.pymark_core.specs.Marker.Tree.{Tree, Conjunction, Atom, leaf, group, conjunction_of}
 use Rattle.pymark_core.specs.Marker.Tree.{tree_of}
 use Rattle.pymark_core.specs.Variables.{variable_of}
-use Rattle.pytext.specs.White.{trimmed}
+use Rattle.pytext.specs.White.{trim_white}
 use Rattle.pymark_core.specs.declared.marker.error.MarkerError.{MarkerError}
 use Rattle.pymark_core.specs.declared.marker.error.MarkerError.TheVariants.{TooDeep, Syntax}
 use Rattle.pymark_core.specs.declared.marker.error.MarkerError.TheVariants.{SetMisuse}
@@ -31,14 +31,14 @@ word_operand letters =
     else if bytes_eq (codes "dependency_groups") letters then Some Groups
     else option_map Variable (variable_of letters)
 
-unfoldable pub operand_of : Token → Option Operand
-operand_of opening = None
-operand_of closing = None
-operand_of (sign operator) = None
-operand_of (word letters) = word_operand letters
-operand_of (quoted text) = Some (Text text)
+unfoldable pub token_operand : Token → Option Operand
+token_operand opening = None
+token_operand closing = None
+token_operand (sign operator) = None
+token_operand (word letters) = word_operand letters
+token_operand (quoted text) = Some (Text text)
 
--- ---- the places in a marker
+-- ---- what was read so far
 
 -- what may stand next, with what is read of a comparison
 pub data Stage : Type 0 where
@@ -60,7 +60,7 @@ pub record Frame : Type 0 where
   pub atoms : List Atom
 
 -- the frame of each open parenthesis, the innermost first, and the frame of what is read now
-pub record Place : Type 0 where
+pub record ReaderState : Type 0 where
   pub outer : List Frame
   pub inner : Frame
   pub stage : Stage
@@ -68,8 +68,8 @@ pub record Place : Type 0 where
 abbrev pub empty_frame : Frame
 empty_frame = record { conjunctions = []; atoms = [] }
 
-abbrev pub start : Place
-start = record { outer = []; inner = empty_frame; stage = at_atom }
+abbrev pub initial_state : ReaderState
+initial_state = record { outer = []; inner = empty_frame; stage = at_atom }
 
 -- the conjunction that ends with this atom
 abbrev pub frame_conjunction : Frame → Atom → Conjunction
@@ -81,58 +81,58 @@ frame_tree frame atom = tree_of frame.conjunctions (frame_conjunction frame atom
 
 -- ---- one token further
 
--- the stage behind the left operand and this token
-abbrev pub behind_left : Operand → Token → Option Stage
-behind_left left opening = None
-behind_left left closing = None
-behind_left left (sign operator) = Some (at_right left (By operator))
-behind_left left (word letters) =
+-- the stage after the left operand and this token
+abbrev pub stage_after_left : Operand → Token → Option Stage
+stage_after_left left opening = None
+stage_after_left left closing = None
+stage_after_left left (sign operator) = Some (at_right left (By operator))
+stage_after_left left (word letters) =
     if bytes_eq (codes "in") letters then Some (at_right left In)
     else if bytes_eq (codes "not") letters then Some (at_in left)
     else None
-behind_left left (quoted text) = None
+stage_after_left left (quoted text) = None
 
--- the stage behind the left operand, `not` and this token
-abbrev pub behind_not : Operand → Token → Option Stage
-behind_not left opening = None
-behind_not left closing = None
-behind_not left (sign operator) = None
-behind_not left (word letters) =
+-- the stage after the left operand, `not` and this token
+abbrev pub stage_after_not : Operand → Token → Option Stage
+stage_after_not left opening = None
+stage_after_not left closing = None
+stage_after_not left (sign operator) = None
+stage_after_not left (word letters) =
     if bytes_eq (codes "in") letters then Some (at_right left NotIn) else None
-behind_not left (quoted text) = None
+stage_after_not left (quoted text) = None
 
--- the stage behind a comparison that this token ends
-abbrev pub behind_right : Operand → Comparator → Token → Option Stage
-behind_right left comparator token =
+-- the stage after a comparison that this token ends
+abbrev pub stage_after_right : Operand → Comparator → Token → Option Stage
+stage_after_right left comparator token =
     option_map
     (λ right. at_rest (leaf (record { left = left; comparator = comparator; right = right })))
-    (operand_of token)
+    (token_operand token)
 
--- the place behind an operand or `(`
-abbrev pub behind_atom_start : List Frame → Frame → Token → Option Place
-behind_atom_start outer inner opening =
+-- the state after an operand or `(`
+abbrev pub state_after_start : List Frame → Frame → Token → Option ReaderState
+state_after_start outer inner opening =
     Some (record { outer = inner ∷ outer; inner = empty_frame; stage = at_atom })
-behind_atom_start outer inner closing = None
-behind_atom_start outer inner (sign operator) = None
-behind_atom_start outer inner (word letters) =
+state_after_start outer inner closing = None
+state_after_start outer inner (sign operator) = None
+state_after_start outer inner (word letters) =
     option_map (λ left. record { outer = outer; inner = inner; stage = at_operator left })
-    (operand_of (word letters))
-behind_atom_start outer inner (quoted text) =
+    (token_operand (word letters))
+state_after_start outer inner (quoted text) =
     option_map (λ left. record { outer = outer; inner = inner; stage = at_operator left })
-    (operand_of (quoted text))
+    (token_operand (quoted text))
 
--- the place behind `)`, which needs an open parenthesis
-abbrev pub behind_closing : List Frame → Frame → Atom → Option Place
-behind_closing [] inner atom = None
-behind_closing (frame ∷ outer) inner atom =
+-- the state after `)`, which needs an open parenthesis
+abbrev pub state_after_closing : List Frame → Frame → Atom → Option ReaderState
+state_after_closing [] inner atom = None
+state_after_closing (frame ∷ outer) inner atom =
     Some (record { outer = outer; inner = frame; stage = at_rest (group (frame_tree inner atom)) })
 
--- the place behind an atom and this token
-abbrev pub behind_atom : List Frame → Frame → Atom → Token → Option Place
-behind_atom outer inner atom opening = None
-behind_atom outer inner atom closing = behind_closing outer inner atom
-behind_atom outer inner atom (sign operator) = None
-behind_atom outer inner atom (word letters) =
+-- the state after an atom and this token
+abbrev pub state_after_atom : List Frame → Frame → Atom → Token → Option ReaderState
+state_after_atom outer inner atom opening = None
+state_after_atom outer inner atom closing = state_after_closing outer inner atom
+state_after_atom outer inner atom (sign operator) = None
+state_after_atom outer inner atom (word letters) =
     if bytes_eq (codes "and") letters then Some (record {
       outer = outer;
       inner = record { conjunctions = inner.conjunctions; atoms = inner.atoms ++ atom ∷ [] };
@@ -147,46 +147,47 @@ behind_atom outer inner atom (word letters) =
       stage = at_atom;
     })
     else None
-behind_atom outer inner atom (quoted text) = None
+state_after_atom outer inner atom (quoted text) = None
 
-abbrev pub staged : List Frame → Frame → Option Stage → Option Place
-staged outer inner stage =
+abbrev pub with_stage : List Frame → Frame → Option Stage → Option ReaderState
+with_stage outer inner stage =
     option_map (λ next. record { outer = outer; inner = inner; stage = next }) stage
 
-abbrev pub place_behind : List Frame → Frame → Stage → Token → Option Place
-place_behind outer inner at_atom token = behind_atom_start outer inner token
-place_behind outer inner (at_operator left) token = staged outer inner (behind_left left token)
-place_behind outer inner (at_in left) token = staged outer inner (behind_not left token)
-place_behind outer inner (at_right left comparator) token =
-    staged outer inner (behind_right left comparator token)
-place_behind outer inner (at_rest atom) token = behind_atom outer inner atom token
+abbrev pub next_state_at : List Frame → Frame → Stage → Token → Option ReaderState
+next_state_at outer inner at_atom token = state_after_start outer inner token
+next_state_at outer inner (at_operator left) token =
+    with_stage outer inner (stage_after_left left token)
+next_state_at outer inner (at_in left) token = with_stage outer inner (stage_after_not left token)
+next_state_at outer inner (at_right left comparator) token =
+    with_stage outer inner (stage_after_right left comparator token)
+next_state_at outer inner (at_rest atom) token = state_after_atom outer inner atom token
 
--- the place behind one more token, or none
-unfoldable pub step : Place → Token → Option Place
-step place token = place_behind place.outer place.inner place.stage token
+-- the state after one more token, or none
+unfoldable pub next_state : ReaderState → Token → Option ReaderState
+next_state state token = next_state_at state.outer state.inner state.stage token
 
 -- ---- the whole
 
 -- the tree where the text ends here, or none
-abbrev pub end_at : List Frame → Stage → Frame → Option Tree
-end_at [] (at_rest atom) inner = Some (frame_tree inner atom)
-end_at [] at_atom inner = None
-end_at [] (at_operator left) inner = None
-end_at [] (at_in left) inner = None
-end_at [] (at_right left comparator) inner = None
-end_at (frame ∷ outer) stage inner = None
+abbrev pub tree_at_end : List Frame → Stage → Frame → Option Tree
+tree_at_end [] (at_rest atom) inner = Some (frame_tree inner atom)
+tree_at_end [] at_atom inner = None
+tree_at_end [] (at_operator left) inner = None
+tree_at_end [] (at_in left) inner = None
+tree_at_end [] (at_right left comparator) inner = None
+tree_at_end (frame ∷ outer) stage inner = None
 
-unfoldable pub finish : Place → Option Tree
-finish place = end_at place.outer place.stage place.inner
+unfoldable pub final_tree : ReaderState → Option Tree
+final_tree state = tree_at_end state.outer state.stage state.inner
 
 -- the tree that ends with these tokens
-unfoldable pub read : Place → List Token → Option Tree
-read place [] = finish place
-read place (token ∷ others) = step place token >>= λ next. read next others
+unfoldable pub read_tokens : ReaderState → List Token → Option Tree
+read_tokens state [] = final_tree state
+read_tokens state (token ∷ others) = next_state state token >>= λ next. read_tokens next others
 
 -- the tree that a text is, or none
 abbrev pub tree_text : List ℕ → Option Tree
-tree_text text = tokens text >>= λ all. read start all
+tree_text text = tokens text >>= λ all. read_tokens initial_state all
 
 -- a marker: its text without the white space round it, and its tree
 pub record MarkerValue : Type 0 where
@@ -198,7 +199,7 @@ abbrev pub marker_from : List ℕ → Option Tree → Result MarkerValue MarkerE
 marker_from text None = Err Syntax
 marker_from text (Some tree) =
     if has_misuse tree then Err SetMisuse
-    else Ok (record { text = trimmed text; tree = tree })
+    else Ok (record { text = trim_white text; tree = tree })
 
 -- the marker that a text is, or why it is none
 unfoldable pub marker_of : List ℕ → Result MarkerValue MarkerError

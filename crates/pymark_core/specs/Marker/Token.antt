@@ -42,9 +42,9 @@ abbrev pub is_inside : ℕ → ℕ → Bool
 is_inside quote b =
     not (b == quote) && (not (b == 92) && ((b == 9) || (nat_le 32 b && not (b == 127))))
 
--- ---- the token at the front of a text
+-- ---- the token at the beginning of a text
 
--- what stands between an opening quote, which is in front of this text, and the same quote
+-- what stands between an opening quote, which stands before this text, and the same quote
 abbrev pub quoted_at : ℕ → List ℕ → Option (List ℕ)
 quoted_at quote text =
     let inside = prefix_len (is_inside quote) text in
@@ -73,14 +73,14 @@ token_at (b ∷ rest) = token_by b (b ∷ rest)
 
 -- ---- the tokens of a whole text, or none
 
--- the tokens behind the first bytes, which belong to a token
-unfoldable pub tokens_behind : ℕ → List ℕ → Option (List Token)
-tokens_behind n [] = Some []
-tokens_behind (suc n) (b ∷ rest) = tokens_behind n rest
-tokens_behind zero (b ∷ rest) =
-    if is_white b then tokens_behind zero rest
+-- the tokens after the first bytes, which belong to a token
+unfoldable pub tokens_after : ℕ → List ℕ → Option (List Token)
+tokens_after n [] = Some []
+tokens_after (suc n) (b ∷ rest) = tokens_after n rest
+tokens_after zero (b ∷ rest) =
+    if is_white b then tokens_after zero rest
     else (token_at (b ∷ rest) >>= λ token.
-    option_map (λ others. token ∷ others) (tokens_behind (token_len token - 1) rest))
+    option_map (λ others. token ∷ others) (tokens_after (token_len token - 1) rest))
 
 abbrev pub tokens : List ℕ → Option (List Token)
-tokens text = tokens_behind 0 text
+tokens text = tokens_after 0 text

@@ -7,7 +7,7 @@ use Rattle.std.specs.List.{starts_with}
 use Rattle.std.specs.Ordering.{is_ge, is_gt, is_le, is_lt, nat_cmp}
 use Rattle.std.specs.Str.{bytes_eq}
 use Rattle.pyver_core.specs.Version.Grammar.{has_large, numbers}
-use Rattle.pyver_core.specs.Name.{norm}
+use Rattle.pyver_core.specs.Name.{normal_name}
 use Rattle.pyver_core.specs.Version.Parts.{Parts}
 use Rattle.pyver_core.specs.Version.Reading.{version_of}
 use Rattle.pytext.specs.Results.{◌>>=◌}
@@ -18,7 +18,7 @@ use Rattle.pyver_core.specs.declared.set.specifier.Operator.{Operator}
 use Rattle.pyver_core.specs.declared.set.specifier.Operator.TheVariants as operator
 use Rattle.pyver_core.specs.declared.set.specifier.Specifier.{Specifier}
 use Rattle.pymark_core.specs.Environment.{EnvironmentValue, has_extra, has_group, variable_in}
-use Rattle.pymark_core.specs.Marker.Asked.{has_extra as asks_extra}
+use Rattle.pymark_core.specs.Marker.Asked.{comparison_reads_extra}
 use Rattle.pymark_core.specs.Marker.Comparison.{ComparisonValue}
 use Rattle.pymark_core.specs.Marker.Tree.{Tree, last, or, Conjunction, only, and, Atom, leaf, group}
 use Rattle.pymark_core.specs.declared.fault.EvalFault.{EvalFault}
@@ -45,7 +45,7 @@ operand_text extra environment Groups = Err fault.Undefined
 -- names are compared: `extra` is one of the operands, and has a text (PEP 685)
 abbrev pub compares_names : Option (List ℕ) → ComparisonValue → Bool
 compares_names None c = false
-compares_names (Some extra) c = asks_extra c
+compares_names (Some extra) c = comparison_reads_extra c
 
 -- ---- `in`
 
@@ -57,13 +57,13 @@ is_substring x (b ∷ rest) = starts_with nat_eq (b ∷ rest) x || is_substring 
 -- whether x stands somewhere in y; of names, the normal form of x in that of y
 abbrev pub is_part : Bool → List ℕ → List ℕ → Bool
 is_part false x y = is_substring x y
-is_part true x y = is_substring (norm x) (norm y)
+is_part true x y = is_substring (normal_name x) (normal_name y)
 
 -- whether x is in the operand: its normal form in a set of names, or x in a text
 abbrev pub is_in : Option (List ℕ) → EnvironmentValue → Bool → List ℕ → Operand
     → Result Bool EvalFault
-is_in extra environment named x Extras = Ok (has_extra (norm x) environment)
-is_in extra environment named x Groups = Ok (has_group (norm x) environment)
+is_in extra environment named x Extras = Ok (has_extra (normal_name x) environment)
+is_in extra environment named x Groups = Ok (has_group (normal_name x) environment)
 is_in extra environment named x right =
     operand_text extra environment right >>= λ y. Ok (is_part named x y)
 
@@ -97,8 +97,8 @@ operator_value operator x y =
 
 -- two names by their normal forms, which have no order
 abbrev pub names_value : Operator → List ℕ → List ℕ → Result Bool EvalFault
-names_value operator.Equal x y = Ok (bytes_eq (norm x) (norm y))
-names_value operator.NotEqual x y = Ok (not (bytes_eq (norm x) (norm y)))
+names_value operator.Equal x y = Ok (bytes_eq (normal_name x) (normal_name y))
+names_value operator.NotEqual x y = Ok (not (bytes_eq (normal_name x) (normal_name y)))
 names_value other x y = Err fault.Undefined
 
 -- x against y by an operator of specifiers: as names, or as what they read as
@@ -109,12 +109,12 @@ by_value true operator x y = names_value operator x y
 -- ---- comparisons
 
 -- a text against the operand right of the operator
-abbrev pub text_value : Option (List ℕ) → EnvironmentValue → Bool → List ℕ → Comparator → Operand
+abbrev pub value_against : Option (List ℕ) → EnvironmentValue → Bool → List ℕ → Comparator → Operand
     → Result Bool EvalFault
-text_value extra environment named x (By operator) right =
+value_against extra environment named x (By operator) right =
     operand_text extra environment right >>= λ y. by_value named operator x y
-text_value extra environment named x In right = is_in extra environment named x right
-text_value extra environment named x NotIn right =
+value_against extra environment named x In right = is_in extra environment named x right
+value_against extra environment named x NotIn right =
     is_in extra environment named x right >>= λ is. Ok (not is)
 
 -- the left operand first, then the right one
@@ -122,14 +122,14 @@ abbrev pub comparison_value : Option (List ℕ) → EnvironmentValue → Compari
     → Result Bool EvalFault
 comparison_value extra environment c =
     operand_text extra environment c.left >>= λ x.
-    text_value extra environment (compares_names extra c) x c.comparator c.right
+    value_against extra environment (compares_names extra c) x c.comparator c.right
 
 -- ---- markers
 
 -- both, and the fault of the first that has one
-abbrev pub both : (Bool → Bool → Bool) → Result Bool EvalFault → Result Bool EvalFault
+abbrev pub both_values : (Bool → Bool → Bool) → Result Bool EvalFault → Result Bool EvalFault
     → Result Bool EvalFault
-both join first second = first >>= λ x. second >>= λ y. Ok (join x y)
+both_values join first second = first >>= λ x. second >>= λ y. Ok (join x y)
 
 -- The value where `extra` has this text, or none. Every comparison counts, also where the others
 -- have decided already.
@@ -137,13 +137,13 @@ abbrev mutual
   pub value_with : Option (List ℕ) → EnvironmentValue → Tree → Result Bool EvalFault
   value_with extra environment (last conjunction) = conjunction_value extra environment conjunction
   value_with extra environment (or conjunction rest) =
-      both (λ x y. x || y)
+      both_values (λ x y. x || y)
       (conjunction_value extra environment conjunction) (value_with extra environment rest)
 
   pub conjunction_value : Option (List ℕ) → EnvironmentValue → Conjunction → Result Bool EvalFault
   conjunction_value extra environment (only atom) = atom_value extra environment atom
   conjunction_value extra environment (and atom rest) =
-      both (λ x y. x && y)
+      both_values (λ x y. x && y)
       (atom_value extra environment atom) (conjunction_value extra environment rest)
 
   pub atom_value : Option (List ℕ) → EnvironmentValue → Atom → Result Bool EvalFault

@@ -9,12 +9,12 @@ use Rattle.pymark_core.specs.declared.marker.tree.Joined.{Joined}
 
 -- parts joined by a word, each seen as what it is
 abbrev pub joined_conjunction : Joined tree.Atom → Conjunction
-joined_conjunction j = conjunction_of j.front.items j.last
+joined_conjunction j = conjunction_of j.earlier.items j.last
 
 abbrev pub joined_tree : Joined (Joined tree.Atom) → Tree
-joined_tree j = tree_of (map joined_conjunction j.front.items) (joined_conjunction j.last)
+joined_tree j = tree_of (map joined_conjunction j.earlier.items) (joined_conjunction j.last)
 
--- one layer of an atom, with what its inner atoms are seen as in their place
+-- one layer of an atom, with what its inner atoms are seen as instead
 abbrev pub atom_step : Atom-F tree.Atom → tree.Atom
 atom_step (Leaf comparison) = tree.leaf comparison.value
 atom_step (Group inner) = tree.group (joined_tree inner.value)
@@ -23,7 +23,7 @@ abbrev pub atom_view : Atom → tree.Atom
 atom_view = fold-Atom tree.Atom atom_step
 
 abbrev pub conjunction_view : Joined Atom → Conjunction
-conjunction_view j = conjunction_of (map atom_view j.front.items) (atom_view j.last)
+conjunction_view j = conjunction_of (map atom_view j.earlier.items) (atom_view j.last)
 
 abbrev pub tree_view : Joined (Joined Atom) → Tree
-tree_view j = tree_of (map conjunction_view j.front.items) (conjunction_view j.last)
+tree_view j = tree_of (map conjunction_view j.earlier.items) (conjunction_view j.last)

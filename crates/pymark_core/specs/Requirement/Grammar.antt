@@ -9,7 +9,7 @@ use Rattle.pyver_core.specs.Parsed.{parsed_set}
 use Rattle.pyver_core.specs.declared.set.specifier.Specifier.{Specifier}
 use Rattle.pymark_core.specs.Marker.Reading.{MarkerValue, marker_of}
 use Rattle.pymark_core.specs.Requirement.Value.{RequirementValue}
-use Rattle.pytext.specs.White.{trimmed}
+use Rattle.pytext.specs.White.{trim_white}
 
 -- white space between two parts: all that stands there
 pub record IsGap (white next : List ℕ) : Type 0 where
@@ -27,7 +27,8 @@ abbrev pub IsExtras : List ℕ → List (List ℕ) → Type 0
 IsExtras inner extras =
     ((list_all is_white inner ≡ true) × (extras ≡ []))
     ⊎ ((list_all is_white inner ≡ false)
-    × (extras ≡ map trimmed (slice_split (λ b. b == 44) inner)) × (list_all is_name extras ≡ true))
+    × (extras ≡ map trim_white (slice_split (λ b. b == 44) inner))
+    × (list_all is_name extras ≡ true))
 
 -- `[`, extras and `]`; or nothing, where no `[` follows
 abbrev pub ExtrasText : List ℕ → List (List ℕ) → List ℕ → Type 0
@@ -71,7 +72,7 @@ pub record SetPart (text : List ℕ) (set : List Specifier) (marker : Option Mar
   pub whole : text ≡ declared ++ last
   pub no_url : starts (λ b. b == 64) text ≡ false
   pub is_declared : Lacks 59 declared
-  pub is_inner : IsWithin (trimmed declared) inner
+  pub is_inner : IsWithin (trim_white declared) inner
   pub is_set : parsed_set inner ≡ Ok set
   pub is_last : MarkerPart last marker
 
@@ -83,7 +84,7 @@ SourceText text set (Some url) marker = (set ≡ []) × (url ≡ [] → ⊥) × 
 
 -- The text is the requirement: a name, which is the longest that stands there, extras, and a URL or
 -- specifiers, with white space before, between and after them.
-pub record Req (text : List ℕ) (parts : RequirementValue) : Type 0 where
+pub record RequirementText (text : List ℕ) (parts : RequirementValue) : Type 0 where
   pub before : List ℕ
   pub gap : List ℕ
   pub extras : List ℕ

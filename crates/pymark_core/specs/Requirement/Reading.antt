@@ -9,7 +9,7 @@ use Rattle.pytext.specs.Bytes.{is_name_byte, is_white, starts}
 use Rattle.pyver_core.specs.Name.{is_name}
 use Rattle.pyver_core.specs.Parsed.{parsed_set}
 use Rattle.pytext.specs.Results.{◌>>=◌}
-use Rattle.pytext.specs.White.{after_white, trimmed}
+use Rattle.pytext.specs.White.{after_white, trim_white}
 use Rattle.pyver_core.specs.declared.set.specifier.Specifier.{Specifier}
 use Rattle.pymark_core.specs.Marker.Reading.{MarkerValue, marker_of}
 use Rattle.pymark_core.specs.Requirement.Value.{RequirementValue}
@@ -18,25 +18,25 @@ use Rattle.pymark_core.specs.declared.requirement.error.RequirementError.TheVari
 
 -- ---- cuts
 
--- the text behind this byte, where it stands at the front
-abbrev pub behind : ℕ → List ℕ → Option (List ℕ)
-behind byte text = if starts (λ b. b == byte) text then Some (drop 1 text) else None
+-- the text after this byte, where it stands at the beginning
+abbrev pub after_byte : ℕ → List ℕ → Option (List ℕ)
+after_byte byte text = if starts (λ b. b == byte) text then Some (drop 1 text) else None
 
 -- what stands before and behind the first of these bytes, where there is one
-abbrev pub around : ℕ → List ℕ → Option (List ℕ × List ℕ)
-around byte text =
+abbrev pub cut_around : ℕ → List ℕ → Option (List ℕ × List ℕ)
+cut_around byte text =
     if nat_lt (position_or_len (λ b. b == byte) text) (length text)
     then Some (before_first (λ b. b == byte) text, after_first (λ b. b == byte) text)
     else None
 
--- the value, or this refusal in the place of any other
+-- the value, or this refusal instead of any other
 abbrev pub refused_as : {X E : Type 0} → RequirementError → Result X E → Result X RequirementError
 refused_as refusal (Ok x) = Ok x
 refused_as refusal (Err e) = Err refusal
 
 -- ---- the name
 
--- the longest run of letters, digits, `.`, `_` and `-`, which is a name, and the text behind it
+-- the longest run of letters, digits, `.`, `_` and `-`, which is a name, and the text after it
 unfoldable pub name_at : List ℕ → Result (List ℕ × List ℕ) RequirementError
 name_at text =
     let run = prefix_len is_name_byte text in
@@ -46,7 +46,7 @@ name_at text =
 
 -- a name with white space round it
 abbrev pub extra_in : List ℕ → Result (List ℕ) RequirementError
-extra_in piece = if is_name (trimmed piece) then Ok (trimmed piece) else Err refusal.Extras
+extra_in piece = if is_name (trim_white piece) then Ok (trim_white piece) else Err refusal.Extras
 
 unfoldable pub names_in : List (List ℕ) → Result (List (List ℕ)) RequirementError
 names_in [] = Ok []
@@ -60,20 +60,20 @@ abbrev pub extras_in : List ℕ → Result (List (List ℕ)) RequirementError
 extras_in inner =
     if list_all is_white inner then Ok [] else names_in (slice_split (λ b. b == 44) inner)
 
--- the extras behind `[`, and the text behind `]`
-unfoldable pub extras_behind : List ℕ → Result (List (List ℕ) × List ℕ) RequirementError
-extras_behind text = do
-  cut ← ok_or (around 93 text) refusal.Extras
+-- the extras behind `[`, and the text after `]`
+unfoldable pub extras_after_bracket : List ℕ → Result (List (List ℕ) × List ℕ) RequirementError
+extras_after_bracket text = do
+  cut ← ok_or (cut_around 93 text) refusal.Extras
   extras ← extras_in cut.0
   Ok (extras, cut.1)
 
--- the extras at the front, if there are any, and the text behind them
+-- the extras at the beginning, if there are any, and the text after them
 abbrev pub extras_from : List ℕ → Option (List ℕ) → Result (List (List ℕ) × List ℕ) RequirementError
 extras_from text None = Ok ([], text)
-extras_from text (Some rest) = extras_behind rest
+extras_from text (Some rest) = extras_after_bracket rest
 
 unfoldable pub extras_at : List ℕ → Result (List (List ℕ) × List ℕ) RequirementError
-extras_at text = extras_from text (behind 91 text)
+extras_at text = extras_from text (after_byte 91 text)
 
 -- ---- the URL or the specifiers
 
@@ -83,7 +83,7 @@ pub record Source : Type 0 where
   pub url : Option (List ℕ)
   pub marker : Option (List ℕ)
 
--- the text behind `;`, or the end
+-- the text after `;`, or the end
 abbrev pub marker_text_at : List ℕ → Result (Option (List ℕ)) RequirementError
 marker_text_at [] = Ok None
 marker_text_at (b ∷ rest) = if b == 59 then Ok (Some rest) else Err refusal.Trailing
@@ -100,8 +100,8 @@ url_source text =
     Ok (record { set = []; url = Some (take (url_len text) text); marker = marker }))
 
 -- what stands before this byte, where it is the last
-abbrev pub before_end : ℕ → List ℕ → Option (List ℕ)
-before_end byte text =
+abbrev pub before_last : ℕ → List ℕ → Option (List ℕ)
+before_last byte text =
     if unwrap_or (option_map (λ b. b == byte) (slice_get text (length text - 1))) false
     then Some (take (length text - 1) text)
     else None
@@ -109,33 +109,33 @@ before_end byte text =
 -- what counts of the text: where it begins with `(`, it ends with `)`, and what is between counts
 abbrev pub within_from : List ℕ → Option (List ℕ) → Option (List ℕ)
 within_from text None = Some text
-within_from text (Some rest) = before_end 41 rest
+within_from text (Some rest) = before_last 41 rest
 
 abbrev pub within_parentheses : List ℕ → Option (List ℕ)
-within_parentheses text = within_from text (behind 40 text)
+within_parentheses text = within_from text (after_byte 40 text)
 
--- the text up to `;` or the end, and the text behind `;`
-abbrev pub cut_at : List ℕ → Option (List ℕ × List ℕ) → List ℕ × Option (List ℕ)
-cut_at text None = (text, None)
-cut_at text (Some cut) = (cut.0, Some cut.1)
+-- the text up to `;` or the end, and the text after `;`
+abbrev pub cut_or_whole : List ℕ → Option (List ℕ × List ℕ) → List ℕ × Option (List ℕ)
+cut_or_whole text None = (text, None)
+cut_or_whole text (Some cut) = (cut.0, Some cut.1)
 
 -- the specifiers in such a cut
 abbrev pub cut_source : List ℕ × Option (List ℕ) → Result Source RequirementError
 cut_source cut = do
-  inner ← ok_or (within_parentheses (trimmed cut.0)) refusal.Specifier
+  inner ← ok_or (within_parentheses (trim_white cut.0)) refusal.Specifier
   set ← refused_as refusal.Specifier (parsed_set inner)
   Ok (record { set = set; url = None; marker = cut.1 })
 
 -- the specifiers up to `;` or the end
 unfoldable pub set_source : List ℕ → Result Source RequirementError
-set_source text = cut_source (cut_at text (around 59 text))
+set_source text = cut_source (cut_or_whole text (cut_around 59 text))
 
 abbrev pub source_from : List ℕ → Option (List ℕ) → Result Source RequirementError
 source_from text None = set_source text
 source_from text (Some rest) = url_source (after_white rest)
 
 unfoldable pub source_at : List ℕ → Result Source RequirementError
-source_at text = source_from text (behind 64 text)
+source_at text = source_from text (after_byte 64 text)
 
 -- ---- the marker
 

@@ -2,14 +2,10 @@
 
 ghost use Rattle.std.specs.Prelude.{◌≡◌, [], ◌∷◌, ◌++◌, Ok, OnOk, ok_or, option_map};
 ghost use Rattle.pytext.specs.Agreement.{Gives};
-ghost use Rattle.pymark_core.specs.Inner.Building.{NotesMore, frame_view, noted, outer_view};
-ghost use Rattle.pymark_core.specs.Inner.Building.{place_view, rest_atom, stage_view};
-ghost use Rattle.pymark_core.specs.Inner.Front.{token_view};
-ghost use Rattle.pymark_core.specs.Marker.Reading.{at_atom, at_rest, at_right, behind_atom};
-ghost use Rattle.pymark_core.specs.Marker.Reading.{behind_atom_start, behind_closing, behind_left};
-ghost use Rattle.pymark_core.specs.Marker.Reading.{behind_not, behind_right, empty_frame, end_at};
-ghost use Rattle.pymark_core.specs.Marker.Reading.{finish, frame_conjunction, frame_tree};
-ghost use Rattle.pymark_core.specs.Marker.Reading.{operand_of, start, step, word_operand};
+ghost use Rattle.pymark_core.specs.Inner.Building.{NotesGain, frame_view, comparison_ended_by};
+ghost use Rattle.pymark_core.specs.Inner.Building.{outer_view, state_view, stage_atom, stage_view};
+ghost use Rattle.pymark_core.specs.Inner.LentToken.{token_view};
+ghost use Rattle.pymark_core.specs.Marker.Reading as reading;
 ghost use Rattle.pymark_core.specs.Marker.View.{atom_view, tree_view};
 ghost use Rattle.pymark_core.specs.Variables.{variable_of};
 ghost use Rattle.pymark_core.specs.declared.operand.Operand.TheVariants.{Variable};
@@ -61,7 +57,7 @@ pub(super) struct Builder {
 
 impl Frame {
     fn new(alloc: Global) -> Frame
-        ensures { frame_view result ≡ empty_frame }
+        ensures { frame_view result ≡ reading.empty_frame }
     {
         Frame {
             conjunctions: Vec::new(alloc),
@@ -71,15 +67,18 @@ impl Frame {
 
     /// The tree that ends with this atom.
     fn tree(self, last: Atom) -> Tree
-        ensures { tree_view result ≡ frame_tree (frame_view self) (atom_view last) }
+        ensures { tree_view result ≡ reading.frame_tree (frame_view self) (atom_view last) }
     {
         let Frame {
             conjunctions,
             atoms,
         } = self;
         Joined {
-            front: conjunctions,
-            last: Joined { front: atoms, last },
+            earlier: conjunctions,
+            last: Joined {
+                earlier: atoms,
+                last,
+            },
         }
     }
 }
@@ -93,7 +92,7 @@ fn variable_operand(letters: &str) -> Option<Operand>
 
 /// The operand of a word.
 fn word_operand(letters: &str) -> Option<Operand>
-    ensures { result ≡ word_operand letters.now }
+    ensures { result ≡ reading.word_operand letters.now }
 {
     if letters == "extra" {
         return Some(Operand::Extra);
@@ -108,10 +107,10 @@ fn word_operand(letters: &str) -> Option<Operand>
 }
 
 /// The operand of a token.
-#[tactic(auto, unfolding(crate::specs::Marker::Reading::operand_of))]
-fn operand(alloc: Global, token: Token<'_>) -> Result<Operand, MarkerError>
+#[tactic(auto, unfolding(crate::specs::Marker::Reading::token_operand))]
+fn token_operand(alloc: Global, token: Token<'_>) -> Result<Operand, MarkerError>
     ensures { Gives MarkerError.Memory (λ o. o) result
-        (ok_or (operand_of (token_view token.entry)) MarkerError.Syntax) }
+        (ok_or (reading.token_operand (token_view token.entry)) MarkerError.Syntax) }
 {
     match token {
         Token::Word(letters) => word_operand(letters).ok_or(MarkerError::Syntax),
@@ -124,8 +123,9 @@ fn operand(alloc: Global, token: Token<'_>) -> Result<Operand, MarkerError>
 }
 
 /// What may stand behind the left operand and this token.
-fn behind_left(left: Operand, token: Token<'_>) -> Option<Stage>
-    ensures { option_map stage_view result ≡ behind_left left (token_view token.entry) }
+fn stage_after_left(left: Operand, token: Token<'_>) -> Option<Stage>
+    ensures { option_map stage_view result
+        ≡ reading.stage_after_left left (token_view token.entry) }
 {
     match token {
         Token::Sign(operator) => Some(Stage::Right(left, Comparator::By(operator))),
@@ -136,8 +136,8 @@ fn behind_left(left: Operand, token: Token<'_>) -> Option<Stage>
 }
 
 /// What may stand behind the left operand, `not` and this token.
-fn behind_not(left: Operand, token: Token<'_>) -> Option<Stage>
-    ensures { option_map stage_view result ≡ behind_not left (token_view token.entry) }
+fn stage_after_not(left: Operand, token: Token<'_>) -> Option<Stage>
+    ensures { option_map stage_view result ≡ reading.stage_after_not left (token_view token.entry) }
 {
     match token {
         Token::Word("in") => Some(Stage::Right(left, Comparator::NotIn)),
@@ -146,8 +146,8 @@ fn behind_not(left: Operand, token: Token<'_>) -> Option<Stage>
 }
 
 /// The atom behind which the stage is.
-fn last_atom(stage: Stage) -> Option<Atom>
-    ensures { option_map atom_view result ≡ rest_atom (stage_view stage) }
+fn stage_atom(stage: Stage) -> Option<Atom>
+    ensures { option_map atom_view result ≡ stage_atom (stage_view stage) }
 {
     match stage {
         Stage::Rest(atom) => Some(atom),
@@ -156,7 +156,7 @@ fn last_atom(stage: Stage) -> Option<Atom>
 }
 
 /// Takes the right operand of a comparison, which is noted.
-#[tactic(auto, using(crate::proofs::NoteLemmas::one_noted))]
+#[tactic(auto, using(crate::proofs::Lemmas::Building::Notes::notes_gain_one))]
 fn right_operand(
     alloc: Global,
     notes: &mut Notes,
@@ -165,11 +165,12 @@ fn right_operand(
     token: Token<'_>,
 ) -> Result<Stage, MarkerError>
     ensures stage { Gives MarkerError.Memory stage_view result
-        (ok_or (behind_right left comparator (token_view token.entry)) MarkerError.Syntax) }
-    ensures notes { OnOk result (NotesMore notes.old notes.new
-        (noted (at_right left comparator) (token_view token.entry))) }
+        (ok_or (reading.stage_after_right left comparator (token_view token.entry))
+        MarkerError.Syntax) }
+    ensures notes { OnOk result (NotesGain notes.old notes.new
+        (comparison_ended_by (reading.at_right left comparator) (token_view token.entry))) }
 {
-    let right = operand(alloc, token)?;
+    let right = token_operand(alloc, token)?;
     notes.add(&left, comparator, &right);
     let comparison = Comparison::new(alloc, left, comparator, right)?;
     Ok(Stage::Rest(Atom::Leaf(Box::new(alloc, comparison)?)))
@@ -178,7 +179,7 @@ fn right_operand(
 impl Builder {
     /// Nothing read yet.
     pub(super) fn new(alloc: Global) -> Builder
-        ensures { place_view result Stage.Start ≡ start }
+        ensures { state_view result Stage.Start ≡ reading.initial_state }
     {
         Builder {
             outer: Vec::new(alloc),
@@ -187,11 +188,11 @@ impl Builder {
     }
 
     /// Takes a `(`.
-    fn open(&mut self, alloc: Global) -> Result<Stage, MarkerError>
-        ensures { Gives MarkerError.Memory (place_view self.new) result (Ok (record {
+    fn open_group(&mut self, alloc: Global) -> Result<Stage, MarkerError>
+        ensures { Gives MarkerError.Memory (state_view self.new) result (Ok (record {
           outer = frame_view self.old.inner ∷ outer_view self.old;
-          inner = empty_frame;
-          stage = at_atom;
+          inner = reading.empty_frame;
+          stage = reading.at_atom;
         })) }
     {
         let frame = mem::replace(&mut self.inner, Frame::new(alloc));
@@ -199,23 +200,24 @@ impl Builder {
         Ok(Stage::Start)
     }
 
-    /// Takes an operand or a `(`, in front of an atom.
+    /// Takes an operand or a `(`, before an atom.
     fn take_start(&mut self, alloc: Global, token: Token<'_>) -> Result<Stage, MarkerError>
-        ensures { Gives MarkerError.Memory (place_view self.new) result (ok_or
-            (behind_atom_start (outer_view self.old) (frame_view self.old.inner)
+        ensures { Gives MarkerError.Memory (state_view self.new) result (ok_or
+            (reading.state_after_start (outer_view self.old) (frame_view self.old.inner)
             (token_view token.entry)) MarkerError.Syntax) }
     {
         match token {
-            Token::Open => self.open(alloc),
-            Token::Word(_) | Token::Quoted(_) => Ok(Stage::Operator(operand(alloc, token)?)),
+            Token::Open => self.open_group(alloc),
+            Token::Word(_) | Token::Quoted(_) => Ok(Stage::Operator(token_operand(alloc, token)?)),
             Token::Close | Token::Sign(_) => Err(MarkerError::Syntax),
         }
     }
 
     /// Takes a `)` behind this atom.
-    fn close(&mut self, alloc: Global, atom: Atom) -> Result<Stage, MarkerError>
-        ensures { Gives MarkerError.Memory (place_view self.new) result (ok_or
-            (behind_closing (outer_view self.old) (frame_view self.old.inner) (atom_view atom))
+    fn close_group(&mut self, alloc: Global, atom: Atom) -> Result<Stage, MarkerError>
+        ensures { Gives MarkerError.Memory (state_view self.new) result (ok_or
+            (reading.state_after_closing (outer_view self.old) (frame_view self.old.inner)
+            (atom_view atom))
             MarkerError.Syntax) }
     {
         let Some(frame) = self.outer.pop() else {
@@ -228,13 +230,13 @@ impl Builder {
 
     /// Takes an `and` behind this atom.
     fn join_and(&mut self, atom: Atom) -> Result<Stage, MarkerError>
-        ensures { Gives MarkerError.Memory (place_view self.new) result (Ok (record {
+        ensures { Gives MarkerError.Memory (state_view self.new) result (Ok (record {
           outer = outer_view self.old;
           inner = record {
             conjunctions = (frame_view self.old.inner).conjunctions;
             atoms = (frame_view self.old.inner).atoms ++ atom_view atom ∷ [];
           };
-          stage = at_atom;
+          stage = reading.at_atom;
         })) }
     {
         self.inner.atoms.push(atom)?;
@@ -243,18 +245,21 @@ impl Builder {
 
     /// Takes an `or` behind this atom.
     fn join_or(&mut self, alloc: Global, atom: Atom) -> Result<Stage, MarkerError>
-        ensures { Gives MarkerError.Memory (place_view self.new) result (Ok (record {
+        ensures { Gives MarkerError.Memory (state_view self.new) result (Ok (record {
           outer = outer_view self.old;
           inner = record {
             conjunctions = (frame_view self.old.inner).conjunctions
-                ++ frame_conjunction (frame_view self.old.inner) (atom_view atom) ∷ [];
+                ++ reading.frame_conjunction (frame_view self.old.inner) (atom_view atom) ∷ [];
             atoms = [];
           };
-          stage = at_atom;
+          stage = reading.at_atom;
         })) }
     {
-        let front = mem::replace(&mut self.inner.atoms, Vec::new(alloc));
-        self.inner.conjunctions.push(Joined { front, last: atom })?;
+        let earlier = mem::replace(&mut self.inner.atoms, Vec::new(alloc));
+        self.inner.conjunctions.push(Joined {
+            earlier,
+            last: atom,
+        })?;
         Ok(Stage::Start)
     }
 
@@ -265,46 +270,48 @@ impl Builder {
         atom: Atom,
         token: Token<'_>,
     ) -> Result<Stage, MarkerError>
-        ensures { Gives MarkerError.Memory (place_view self.new) result (ok_or
-            (behind_atom (outer_view self.old) (frame_view self.old.inner) (atom_view atom)
-            (token_view token.entry)) MarkerError.Syntax) }
+        ensures { Gives MarkerError.Memory (state_view self.new) result (ok_or
+            (reading.state_after_atom (outer_view self.old) (frame_view self.old.inner)
+            (atom_view atom) (token_view token.entry)) MarkerError.Syntax) }
     {
         match token {
-            Token::Close => self.close(alloc, atom),
+            Token::Close => self.close_group(alloc, atom),
             Token::Word("and") => self.join_and(atom),
             Token::Word("or") => self.join_or(alloc, atom),
             _ => Err(MarkerError::Syntax),
         }
     }
 
-    /// The stage behind one more token.
-    #[tactic(auto, unfolding(crate::specs::Marker::Reading::step))]
-    pub(super) fn step(
+    /// The stage after one more token.
+    #[tactic(auto, unfolding(crate::specs::Marker::Reading::next_state))]
+    pub(super) fn take_token(
         &mut self,
         alloc: Global,
         notes: &mut Notes,
         stage: Stage,
         token: Token<'_>,
     ) -> Result<Stage, MarkerError>
-        ensures place { Gives MarkerError.Memory (place_view self.new) result
-            (ok_or (step (place_view self.old stage) (token_view token.entry)) MarkerError.Syntax) }
-        ensures notes { OnOk result (NotesMore notes.old notes.new
-            (noted (stage_view stage) (token_view token.entry))) }
+        ensures state { Gives MarkerError.Memory (state_view self.new) result
+            (ok_or (reading.next_state (state_view self.old stage) (token_view token.entry))
+            MarkerError.Syntax) }
+        ensures notes { OnOk result (NotesGain notes.old notes.new
+            (comparison_ended_by (stage_view stage) (token_view token.entry))) }
     {
         match stage {
             Stage::Start => self.take_start(alloc, token),
-            Stage::Operator(left) => behind_left(left, token).ok_or(MarkerError::Syntax),
-            Stage::In(left) => behind_not(left, token).ok_or(MarkerError::Syntax),
+            Stage::Operator(left) => stage_after_left(left, token).ok_or(MarkerError::Syntax),
+            Stage::In(left) => stage_after_not(left, token).ok_or(MarkerError::Syntax),
             Stage::Right(left, comparator) => right_operand(alloc, notes, left, comparator, token),
             Stage::Rest(atom) => self.take_rest(alloc, atom, token),
         }
     }
 
     /// The tree, where the text may end behind this atom.
-    #[tactic(auto, using(crate::proofs::BuilderLemmas::open_or_none))]
-    fn end(self, atom: Atom) -> Option<Tree>
+    #[tactic(auto, using(crate::proofs::Lemmas::Building::Steps::open_or_none))]
+    fn tree_at_end(self, atom: Atom) -> Option<Tree>
         ensures { option_map tree_view result
-            ≡ end_at (outer_view self) (at_rest (atom_view atom)) (frame_view self.inner) }
+            ≡ reading.tree_at_end (outer_view self) (reading.at_rest (atom_view atom))
+            (frame_view self.inner) }
     {
         let Builder { outer, inner } = self;
         if outer.as_slice().is_empty() {
@@ -315,11 +322,11 @@ impl Builder {
     }
 
     /// The tree, where the text may end at this stage.
-    #[tactic(auto, unfolding(crate::specs::Marker::Reading::finish))]
-    pub(super) fn finish(self, stage: Stage) -> Option<Tree>
-        ensures { option_map tree_view result ≡ finish (place_view self stage) }
+    #[tactic(auto, unfolding(crate::specs::Marker::Reading::final_tree))]
+    pub(super) fn final_tree(self, stage: Stage) -> Option<Tree>
+        ensures { option_map tree_view result ≡ reading.final_tree (state_view self stage) }
     {
-        let atom = last_atom(stage)?;
-        self.end(atom)
+        let atom = stage_atom(stage)?;
+        self.tree_at_end(atom)
     }
 }

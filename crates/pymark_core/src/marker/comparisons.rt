@@ -18,7 +18,7 @@ pub(super) fn push_tree<'a>(
     ensures { OnOk result (map (λ c. c.now) list.new.items
         ≡ map (λ c. c.now) list.old.items ++ comparisons (tree_view tree.now)) }
 {
-    for conjunction in &tree.front {
+    for conjunction in &tree.earlier {
         push_conjunction(list, conjunction)?;
     }
     push_conjunction(list, &tree.last)
@@ -33,7 +33,7 @@ fn push_conjunction<'a>(
     ensures { OnOk result (map (λ c. c.now) list.new.items ≡ map (λ c. c.now) list.old.items
         ++ conjunction_comparisons (conjunction_view conjunction.now)) }
 {
-    for atom in &conjunction.front {
+    for atom in &conjunction.earlier {
         push_atom(list, atom)?;
     }
     push_atom(list, &conjunction.last)

@@ -2,13 +2,13 @@
 
 ghost use Rattle.std.specs.Prelude.{◌≡◌, ◌+◌, ◌<◌, ◌≤◌, ◌^◌, ◌∷◌, ℕ, List, count_by, length};
 ghost use Rattle.std.specs.Prelude.{nat_lt};
-ghost use Rattle.pymark_core.specs.Marker.Depth.{is_deep, is_opening};
-ghost use Rattle.pymark_core.specs.Inner.Nesting.{deep_from};
+ghost use Rattle.pymark_core.specs.Marker.Depth.{depth_limit, is_deep, is_opening};
+ghost use Rattle.pymark_core.specs.Inner.Nesting.{is_deep_from};
 
-/// The number of parentheses that may be open at one place.
+/// How many parentheses may be open at one position.
 const DEPTH_LIMIT: usize = 64;
 
-/// What stands before a place of a text.
+/// What stands before a position of a text.
 #[derive(Clone, Copy)]
 struct Nesting {
     /// The quote of the quotation that is open.
@@ -21,11 +21,11 @@ struct Nesting {
 
 impl Nesting {
     /// Passes over one byte.
-    fn pass(&mut self, byte: u8)
+    fn pass_byte(&mut self, byte: u8)
         requires room { (self.old.opened + 1 < 2 ^ 64) × (self.old.closed + 1 < 2 ^ 64) }
-        requires flat { self.old.opened ≤ self.old.closed + 64 }
+        requires flat { self.old.opened ≤ self.old.closed + depth_limit }
         ensures ahead { (rest : List ℕ)
-            → deep_from self.new rest ≡ deep_from self.old (byte ∷ rest) }
+            → is_deep_from self.new rest ≡ is_deep_from self.old (byte ∷ rest) }
         ensures opened { self.new.opened ≤ self.old.opened + 1 }
         ensures closed { self.new.closed ≤ self.old.closed + 1 }
     {
@@ -45,9 +45,9 @@ impl Nesting {
     }
 }
 
-/// Whether more than 64 parentheses are open at some place of the text, quoted texts passed over.
+/// Whether too many parentheses are open at some position of the text, quoted texts passed over.
 /// Few texts have as many at all, which a quick look tells.
-#[tactic(auto, using(crate::proofs::DepthLemmas::few_opened))]
+#[tactic(auto, using(crate::proofs::Lemmas::Marker::Depth::few_opened))]
 pub(super) fn is_deep(text: &str) -> bool
     ensures { result ≡ is_deep text.now }
 {
@@ -84,7 +84,7 @@ fn opening_count(text: &[u8]) -> u8
 }
 
 /// What `is_deep` tells, by a look at what stands before each byte.
-#[tactic(auto, using(crate::proofs::DepthLemmas::deep_here, crate::proofs::DepthLemmas::deep_end))]
+#[tactic(auto, using(crate::proofs::Lemmas::Marker::Depth::deep_or_flat))]
 fn is_nested_deep(text: &str) -> bool
     ensures { result ≡ is_deep text.now }
 {
@@ -94,7 +94,7 @@ fn is_nested_deep(text: &str) -> bool
         closed: 0,
     };
     for byte in text.as_bytes() {
-        nesting.pass(*byte);
+        nesting.pass_byte(*byte);
         if nesting.opened.saturating_sub(nesting.closed) > DEPTH_LIMIT {
             return true;
         }

@@ -9,8 +9,8 @@ use thiserror::Error;
 /// Why a text isn't taken as a marker.
 #[derive(Clone, Copy, PartialEq, Eq, Debug, Error)]
 pub enum MarkerError {
-    /// More than 64 parentheses are open at some place of the text, quoted texts passed over. The
-    /// text may have other faults besides.
+    /// More than 64 parentheses are open at some position of the text, quoted texts passed over.
+    /// The text may have other faults besides.
     #[error("too-deep")]
     TooDeep,
     /// The text doesn't follow the grammar of PEP 508.

@@ -24,14 +24,14 @@ pub enum Key {
 const KEYS: usize = 13;
 
 impl Key {
-    /// The number of the key: a variable's is its place among the variables, from 0, and those of
-    /// the two sets come after. It takes no memory.
+    /// The number of the key: a variable's is its own, from 0, and the two sets come after. It
+    /// takes no memory.
     pub fn number(self) -> usize
         ensures value { result ≡ key_number self }
         ensures bound { result < 13 }
     {
         match self {
-            Key::Of(variable) => variable.place(),
+            Key::Of(variable) => variable.number(),
             Key::Extras => 11,
             Key::Groups => 12,
         }

@@ -1,7 +1,7 @@
 //! What is noted of a marker's comparisons while they are read.
 
 ghost use Rattle.std.specs.Prelude.{◌≡◌, ◌||◌, false};
-ghost use Rattle.pymark_core.specs.Marker.Grammar.{is_by, is_misuse, is_set};
+ghost use Rattle.pymark_core.specs.Marker.Grammar.{is_operator, is_misuse, is_set};
 ghost use Rattle.pymark_core.specs.Marker.Keys.{comparison_reads, is_flagged};
 ghost use Rattle.pymark_core.specs.declared.marker.keys.Key.{Key};
 
@@ -23,8 +23,8 @@ fn is_set(operand: &Operand) -> bool
     matches!(operand, Operand::Extras | Operand::Groups)
 }
 
-fn is_by(comparator: Comparator) -> bool
-    ensures { result ≡ is_by comparator }
+fn is_operator(comparator: Comparator) -> bool
+    ensures { result ≡ is_operator comparator }
 {
     matches!(comparator, Comparator::By(_))
 }
@@ -37,7 +37,7 @@ fn is_misuse(left: &Operand, comparator: Comparator, right: &Operand) -> bool
       right = right.now;
     }) }
 {
-    is_set(left) || is_set(right) && is_by(comparator)
+    is_set(left) || is_set(right) && is_operator(comparator)
 }
 
 impl Notes {

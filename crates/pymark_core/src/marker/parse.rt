@@ -24,11 +24,11 @@ pub(super) fn read_tree(alloc: Global, text: &str) -> Result<(Tree, Notes), Mark
     let mut notes = Notes::none();
     let mut stage = Stage::Start;
     let mut rest = text;
-    while let Some((token, behind)) = next_token(rest)? {
-        stage = builder.step(alloc, &mut notes, stage, token)?;
-        rest = behind;
+    while let Some((token, after)) = next_token(rest)? {
+        stage = builder.take_token(alloc, &mut notes, stage, token)?;
+        rest = after;
     }
-    match builder.finish(stage) {
+    match builder.final_tree(stage) {
         Some(tree) => Ok((tree, notes)),
         None => Err(MarkerError::Syntax),
     }

@@ -3,16 +3,16 @@
 ghost use Rattle.std.specs.Prelude.{◌≡◌, ◌<◌, IsTrue, drop, length, ok_or, option_map, slice_index};
 ghost use Rattle.std.specs.List.{prefix_len};
 ghost use Rattle.pytext.specs.Agreement.{Gives};
-ghost use Rattle.pymark_core.specs.Inner.Next.{next_front, next_view};
-ghost use Rattle.pymark_core.specs.Inner.Front.{lent_cut, lent_front, quotation_front};
-ghost use Rattle.pymark_core.specs.Inner.Front.{quoted_front, token_front, with_rest};
+ghost use Rattle.pymark_core.specs.Inner.LentToken.{next_token, lent_next, lent_pair, lent_token};
+ghost use Rattle.pymark_core.specs.Inner.LentToken.{quotation_at, text_before_quote};
+ghost use Rattle.pymark_core.specs.Inner.LentToken.{first_token, token_and_rest};
 ghost use Rattle.pymark_core.specs.Marker.Token as token;
 ghost use Rattle.pytext.specs.Bytes.{is_word_byte};
-ghost use Rattle.pymark_core.specs.Marker.Token.{is_inside, is_quote, operator_in};
-ghost use Rattle.pymark_core.specs.Marker.Token.{token_by, word_in};
+ghost use Rattle.pymark_core.specs.Marker.Token.{is_inside, is_quote, operator_in, token_by};
+ghost use Rattle.pymark_core.specs.Marker.Token.{word_in};
 
 use super::error::MarkerError;
-use pytext::{is_word_byte, past_white};
+use pytext::{after_white, is_word_byte};
 use pyver_core::Operator;
 
 /// A token, lent from the text.
@@ -62,12 +62,12 @@ fn word_len(text: &str) -> usize
         .count()
 }
 
-/// What stands between an opening quote, which is in front of the text, and the same quote, and the
-/// text behind it.
-#[tactic(auto, using(crate::proofs::Boundaries::around_ascii))]
-fn quoted(quote: u8, text: &str) -> Option<(&str, &str)>
+/// What stands between an opening quote, which stands before the text, and the same quote, and the
+/// text after it.
+#[tactic(auto, using(crate::proofs::BoundaryLemmas::around_ascii))]
+fn text_before_quote(quote: u8, text: &str) -> Option<(&str, &str)>
     requires { quote < 128 }
-    ensures { option_map lent_cut result ≡ quoted_front quote text.now }
+    ensures { option_map lent_pair result ≡ text_before_quote quote text.now }
 {
     let len = inside_len(quote, text);
     if len < text.len() && text.as_bytes()[len] == quote {
@@ -76,19 +76,19 @@ fn quoted(quote: u8, text: &str) -> Option<(&str, &str)>
     None
 }
 
-/// The longest operator at the front of the text, and the text behind it.
-#[tactic(auto, using(crate::proofs::TokenLemmas::behind_cut))]
-fn sign(text: &str) -> Option<(Token<'_>, &str)>
-    ensures { option_map lent_front result
-        ≡ with_rest text.now (option_map token.sign (operator_in text.now)) }
+/// The longest operator at the beginning of the text, and the text after it.
+#[tactic(auto, using(crate::proofs::Lemmas::Marker::Token::First::behind_cut))]
+fn read_sign(text: &str) -> Option<(Token<'_>, &str)>
+    ensures { option_map lent_token result
+        ≡ token_and_rest text.now (option_map token.sign (operator_in text.now)) }
 {
-    let (operator, rest) = Operator::at_front(text)?;
+    let (operator, rest) = Operator::read(text)?;
     Some((Token::Sign(operator), rest))
 }
 
-/// The word at the front of the text, and the text behind it.
-#[tactic(auto, using(crate::proofs::Boundaries::boundary_behind_word))]
-fn word(text: &str) -> (&str, &str)
+/// The word at the beginning of the text, and the text after it.
+#[tactic(auto, using(crate::proofs::BoundaryLemmas::boundary_after_word))]
+fn read_word(text: &str) -> (&str, &str)
     ensures front { result.0.now ≡ word_in text.now }
     ensures rest { result.1.now ≡ drop (length (word_in text.now)) text.now }
 {
@@ -96,8 +96,8 @@ fn word(text: &str) -> (&str, &str)
 }
 
 /// The text behind its first byte, which is no part of a longer character.
-#[tactic(auto, using(crate::proofs::Boundaries::boundary_behind_first))]
-fn past_first(text: &str) -> &str
+#[tactic(auto, using(crate::proofs::BoundaryLemmas::boundary_after_first))]
+fn after_first(text: &str) -> &str
     requires some { 0 < length text.now }
     requires ascii { slice_index text.now 0 < 128 }
     ensures { result.now ≡ drop 1 text.now }
@@ -105,45 +105,45 @@ fn past_first(text: &str) -> &str
     text.split_at(1).1
 }
 
-/// What stands between two of these quotes, the first of which is in front of the text, and the
-/// text behind them.
-#[tactic(auto, using(crate::proofs::TokenLemmas::quotation_front))]
+/// What stands between two of these quotes, with the first of which the text begins, and the text
+/// after them.
+#[tactic(auto, using(crate::proofs::Lemmas::Marker::Token::First::quotation_at))]
 fn quotation(quote: u8, text: &str) -> Option<(&str, &str)>
     requires some { 0 < length text.now }
     requires first { slice_index text.now 0 ≡ quote }
     requires ascii { quote < 128 }
-    ensures { option_map lent_cut result ≡ quotation_front quote text.now }
+    ensures { option_map lent_pair result ≡ quotation_at quote text.now }
 {
-    quoted(quote, past_first(text))
+    text_before_quote(quote, after_first(text))
 }
 
-/// The token of a text that begins with this byte, and the text behind it.
+/// The token of a text that begins with this byte, and the text after it.
 fn token_by(first: u8, text: &str) -> Option<(Token<'_>, &str)>
     requires some { 0 < length text.now }
     requires first { slice_index text.now 0 ≡ first }
-    ensures { option_map lent_front result ≡ with_rest text.now (token_by first text.now) }
+    ensures { option_map lent_token result ≡ token_and_rest text.now (token_by first text.now) }
 {
     if first == b'(' {
-        return Some((Token::Open, past_first(text)));
+        return Some((Token::Open, after_first(text)));
     }
     if first == b')' {
-        return Some((Token::Close, past_first(text)));
+        return Some((Token::Close, after_first(text)));
     }
     if is_quote(first) {
         let (inside, rest) = quotation(first, text)?;
         return Some((Token::Quoted(inside), rest));
     }
     if is_word_byte(first) {
-        let (letters, rest) = word(text);
+        let (letters, rest) = read_word(text);
         return Some((Token::Word(letters), rest));
     }
-    sign(text)
+    read_sign(text)
 }
 
-/// The token at the front of the text, and the text behind it.
-#[tactic(auto, using(crate::proofs::TokenLemmas::token_in_front))]
+/// The token at the beginning of the text, and the text after it.
+#[tactic(auto, using(crate::proofs::Lemmas::Marker::Token::First::first_token_is))]
 pub(super) fn first_token(text: &str) -> Option<(Token<'_>, &str)>
-    ensures { option_map lent_front result ≡ token_front text.now }
+    ensures { option_map lent_token result ≡ first_token text.now }
 {
     if text.is_empty() {
         return None;
@@ -151,12 +151,12 @@ pub(super) fn first_token(text: &str) -> Option<(Token<'_>, &str)>
     token_by(text.as_bytes()[0], text)
 }
 
-/// The next token behind white space, and the text behind it. There is none where the text ends.
+/// The next token behind white space, and the text after it. There is none where the text ends.
 pub(super) fn next_token(text: &str) -> Result<Option<(Token<'_>, &str)>, MarkerError>
-    ensures { Gives MarkerError.Memory next_view result
-        (ok_or (next_front text.now) MarkerError.Syntax) }
+    ensures { Gives MarkerError.Memory lent_next result
+        (ok_or (next_token text.now) MarkerError.Syntax) }
 {
-    let rest = past_white(text);
+    let rest = after_white(text);
     if rest.is_empty() {
         return Ok(None);
     }

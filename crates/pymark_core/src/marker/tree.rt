@@ -6,7 +6,7 @@ use crate::comparison::Comparison;
 #[derive(Drop)]
 pub(crate) struct Joined<T> {
     /// The parts but for the last, in the order in which they were written.
-    pub(crate) front: Vec<T>,
+    pub(crate) earlier: Vec<T>,
     /// The last part.
     pub(crate) last: T,
 }

@@ -24,7 +24,7 @@ pub(super) fn tree_value(
         (value_with (option_copied extra.entry) environment.now (tree_view tree.now)) }
 {
     let mut value = false;
-    for conjunction in &tree.front {
+    for conjunction in &tree.earlier {
         let next = conjunction_value(alloc, environment, extra, conjunction)?;
         value = value || next;
     }
@@ -45,7 +45,7 @@ fn conjunction_value(
         (conjunction_view conjunction.now)) }
 {
     let mut value = true;
-    for atom in &conjunction.front {
+    for atom in &conjunction.earlier {
         let next = atom_value(alloc, environment, extra, atom)?;
         value = value && next;
     }

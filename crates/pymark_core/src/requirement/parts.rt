@@ -6,15 +6,10 @@ ghost use Rattle.pytext.specs.Agreement.{Gives};
 ghost use Rattle.pytext.specs.Bytes.{is_name_byte, is_white};
 ghost use Rattle.pyver_core.specs.Parsed.{parsed_set};
 ghost use Rattle.pymark_core.specs.Inner.Source.{source_view};
-ghost use Rattle.pymark_core.specs.Requirement.Reading.{around, before_end, behind, cut_at};
-ghost use Rattle.pymark_core.specs.Requirement.Reading.{extra_in, extras_at, extras_behind};
-ghost use Rattle.pymark_core.specs.Requirement.Reading.{extras_in, marker_text_at, name_at};
-ghost use Rattle.pymark_core.specs.Requirement.Reading.{names_in, refused_as, set_source};
-ghost use Rattle.pymark_core.specs.Requirement.Reading.{source_at, url_len, url_source};
-ghost use Rattle.pymark_core.specs.Requirement.Reading.{within_parentheses};
+ghost use Rattle.pymark_core.specs.Requirement.Reading as reading;
 
 use super::error::RequirementError;
-use pytext::{is_blank, is_name_byte, is_white, past_white, trimmed};
+use pytext::{after_white, is_blank, is_name_byte, is_white, trim_white};
 use pyver_core::{SpecifierError, SpecifierSet, is_name};
 use std::alloc::{AllocError, Global};
 
@@ -28,11 +23,11 @@ pub(super) struct Source<'a> {
     pub(super) marker: Option<&'a str>,
 }
 
-/// The text behind this byte, where it stands at the front.
-#[tactic(auto, using(crate::proofs::Boundaries::boundary_behind_first))]
-fn behind(byte: u8, text: &str) -> Option<&str>
+/// The text behind this byte, where it stands at the beginning.
+#[tactic(auto, using(crate::proofs::BoundaryLemmas::boundary_after_first))]
+fn after_byte(byte: u8, text: &str) -> Option<&str>
     requires { byte < 128 }
-    ensures { option_map (λ rest. rest.now) result ≡ behind byte text.now }
+    ensures { option_map (λ rest. rest.now) result ≡ reading.after_byte byte text.now }
 {
     match text.as_bytes() {
         [first, ..] if *first == byte => Some(text.split_at(1).1),
@@ -41,15 +36,15 @@ fn behind(byte: u8, text: &str) -> Option<&str>
 }
 
 /// What stands before and behind the first `]`.
-fn around_bracket(text: &str) -> Option<(&str, &str)>
-    ensures { option_map (λ cut. (cut.0.now, cut.1.now)) result ≡ around 93 text.now }
+fn cut_at_bracket(text: &str) -> Option<(&str, &str)>
+    ensures { option_map (λ cut. (cut.0.now, cut.1.now)) result ≡ reading.cut_around 93 text.now }
 {
     text.split_once(']')
 }
 
 /// What stands before and behind the first `;`.
-fn around_semicolon(text: &str) -> Option<(&str, &str)>
-    ensures { option_map (λ cut. (cut.0.now, cut.1.now)) result ≡ around 59 text.now }
+fn cut_at_semicolon(text: &str) -> Option<(&str, &str)>
+    ensures { option_map (λ cut. (cut.0.now, cut.1.now)) result ≡ reading.cut_around 59 text.now }
 {
     text.split_once(';')
 }
@@ -63,10 +58,11 @@ fn name_len(text: &str) -> usize
         .count()
 }
 
-/// The name at the front, and the text behind it.
+/// The name at the beginning, and the text after it.
 #[tactic(auto, unfolding(crate::specs::Requirement::Reading::name_at))]
 pub(super) fn read_name(text: &str) -> Result<(&str, &str), RequirementError>
-    ensures { Gives RequirementError.Memory (λ x. (x.0.now, x.1.now)) result (name_at text.now) }
+    ensures { Gives RequirementError.Memory (λ x. (x.0.now, x.1.now)) result
+        (reading.name_at text.now) }
 {
     let (name, rest) = text.split_at(name_len(text));
     if is_name(name) {
@@ -76,35 +72,35 @@ pub(super) fn read_name(text: &str) -> Result<(&str, &str), RequirementError>
     }
 }
 
-/// The extras at the front, if there are any, and the text behind them.
+/// The extras at the beginning, if there are any, and the text after them.
 #[tactic(auto, unfolding(crate::specs::Requirement::Reading::extras_at))]
 pub(super) fn read_extras(
     alloc: Global,
     text: &str,
 ) -> Result<(Vec<String>, &str), RequirementError>
     ensures { Gives RequirementError.Memory (λ x. (map string_bytes x.0.items, x.1.now)) result
-        (extras_at text.now) }
+        (reading.extras_at text.now) }
 {
-    match behind(b'[', text) {
-        Some(rest) => extras_behind(alloc, rest),
+    match after_byte(b'[', text) {
+        Some(rest) => extras_after_bracket(alloc, rest),
         None => Ok((Vec::new(alloc), text)),
     }
 }
 
-/// The extras behind `[`, and the text behind `]`.
-#[tactic(auto, unfolding(crate::specs::Requirement::Reading::extras_behind))]
-fn extras_behind(alloc: Global, text: &str) -> Result<(Vec<String>, &str), RequirementError>
+/// The extras behind `[`, and the text after `]`.
+#[tactic(auto, unfolding(crate::specs::Requirement::Reading::extras_after_bracket))]
+fn extras_after_bracket(alloc: Global, text: &str) -> Result<(Vec<String>, &str), RequirementError>
     ensures { Gives RequirementError.Memory (λ x. (map string_bytes x.0.items, x.1.now)) result
-        (extras_behind text.now) }
+        (reading.extras_after_bracket text.now) }
 {
-    let (inner, rest) = around_bracket(text).ok_or(RequirementError::Extras)?;
+    let (inner, rest) = cut_at_bracket(text).ok_or(RequirementError::Extras)?;
     Ok((extras_in(alloc, inner)?, rest))
 }
 
 /// Names with commas between them, or white space.
 fn extras_in(alloc: Global, inner: &str) -> Result<Vec<String>, RequirementError>
     ensures { Gives RequirementError.Memory (λ names. map string_bytes names.items) result
-        (extras_in inner.now) }
+        (reading.extras_in inner.now) }
 {
     if is_blank(inner.as_bytes()) {
         Ok(Vec::new(alloc))
@@ -116,7 +112,7 @@ fn extras_in(alloc: Global, inner: &str) -> Result<Vec<String>, RequirementError
 /// The names between the commas.
 fn names_in(alloc: Global, text: &str) -> Result<Vec<String>, RequirementError>
     ensures { Gives RequirementError.Memory (λ names. map string_bytes names.items) result
-        (names_in (slice_split (λ b. b == 44) text.now)) }
+        (reading.names_in (slice_split (λ b. b == 44) text.now)) }
 {
     let mut names = Vec::new(alloc);
     for piece in text.split(',') {
@@ -128,9 +124,9 @@ fn names_in(alloc: Global, text: &str) -> Result<Vec<String>, RequirementError>
 /// The name with white space round it.
 fn read_extra(alloc: Global, piece: &str) -> Result<String, RequirementError>
     ensures { Gives RequirementError.Memory (λ name. string_bytes name) result
-        (extra_in piece.now) }
+        (reading.extra_in piece.now) }
 {
-    let name = trimmed(piece);
+    let name = trim_white(piece);
     if !is_name(name) {
         return Err(RequirementError::Extras);
     }
@@ -140,16 +136,16 @@ fn read_extra(alloc: Global, piece: &str) -> Result<String, RequirementError>
 /// The URL behind `@`, or the specifiers, and the text of the marker.
 #[tactic(auto, unfolding(crate::specs::Requirement::Reading::source_at))]
 pub(super) fn read_source(alloc: Global, text: &str) -> Result<Source<'_>, RequirementError>
-    ensures { Gives RequirementError.Memory source_view result (source_at text.now) }
+    ensures { Gives RequirementError.Memory source_view result (reading.source_at text.now) }
 {
-    match behind(b'@', text) {
-        Some(rest) => read_url(alloc, past_white(rest)),
+    match after_byte(b'@', text) {
+        Some(rest) => read_url(alloc, after_white(rest)),
         None => read_set(alloc, text),
     }
 }
 
 fn url_len(text: &str) -> usize
-    ensures { result ≡ url_len text.now }
+    ensures { result ≡ reading.url_len text.now }
 {
     text.as_bytes()
         .iter()
@@ -160,13 +156,13 @@ fn url_len(text: &str) -> usize
 /// The URL, which goes on to the next white space, and the text of the marker.
 #[tactic(auto, unfolding(crate::specs::Requirement::Reading::url_source))]
 fn read_url(alloc: Global, text: &str) -> Result<Source<'_>, RequirementError>
-    ensures { Gives RequirementError.Memory source_view result (url_source text.now) }
+    ensures { Gives RequirementError.Memory source_view result (reading.url_source text.now) }
 {
     let (url, rest) = text.split_at(url_len(text));
     if url.is_empty() {
         return Err(RequirementError::Url);
     }
-    let marker = read_marker_text(past_white(rest))?;
+    let marker = read_marker_text(after_white(rest))?;
     Ok(Source {
         set: no_specifiers(alloc)?,
         url: Some(url),
@@ -177,19 +173,19 @@ fn read_url(alloc: Global, text: &str) -> Result<Source<'_>, RequirementError>
 /// The text behind `;`, or nothing at the end.
 fn read_marker_text(text: &str) -> Result<Option<&str>, RequirementError>
     ensures { Gives RequirementError.Memory (λ marker. option_map (λ t. t.now) marker) result
-        (marker_text_at text.now) }
+        (reading.marker_text_at text.now) }
 {
     if text.is_empty() {
         return Ok(None);
     }
-    match behind(b';', text) {
+    match after_byte(b';', text) {
         Some(rest) => Ok(Some(rest)),
         None => Err(RequirementError::Trailing),
     }
 }
 
 /// The empty set.
-#[tactic(auto, using(crate::proofs::RequirementTakes::empty_set))]
+#[tactic(auto, using(crate::proofs::Lemmas::Requirement::Sound::empty_set))]
 fn no_specifiers(alloc: Global) -> Result<SpecifierSet, AllocError>
     ensures { IfOk result (λ set. set ≡ []) }
 {
@@ -199,12 +195,12 @@ fn no_specifiers(alloc: Global) -> Result<SpecifierSet, AllocError>
     }
 }
 
-/// The text up to `;` or the end, and the text behind `;`.
+/// The text up to `;` or the end, and the text after `;`.
 fn cut_marker(text: &str) -> (&str, Option<&str>)
     ensures { (result.0.now, option_map (λ t. t.now) result.1)
-        ≡ cut_at text.now (around 59 text.now) }
+        ≡ reading.cut_or_whole text.now (reading.cut_around 59 text.now) }
 {
-    match around_semicolon(text) {
+    match cut_at_semicolon(text) {
         Some((declared, marker)) => (declared, Some(marker)),
         None => (text, None),
     }
@@ -213,10 +209,10 @@ fn cut_marker(text: &str) -> (&str, Option<&str>)
 /// The specifiers up to `;` or the end, and the text of the marker.
 #[tactic(auto, unfolding(crate::specs::Requirement::Reading::set_source))]
 fn read_set(alloc: Global, text: &str) -> Result<Source<'_>, RequirementError>
-    ensures { Gives RequirementError.Memory source_view result (set_source text.now) }
+    ensures { Gives RequirementError.Memory source_view result (reading.set_source text.now) }
 {
     let (declared, marker) = cut_marker(text);
-    let inner = within_parentheses(trimmed(declared)).ok_or(RequirementError::Specifier)?;
+    let inner = within_parentheses(trim_white(declared)).ok_or(RequirementError::Specifier)?;
     Ok(Source {
         set: parse_set(alloc, inner)?,
         url: None,
@@ -227,7 +223,7 @@ fn read_set(alloc: Global, text: &str) -> Result<Source<'_>, RequirementError>
 /// The specifiers; no text of theirs is refused but as `Specifier`.
 fn parse_set(alloc: Global, text: &str) -> Result<SpecifierSet, RequirementError>
     ensures { Gives RequirementError.Memory (λ set. set) result
-        (refused_as RequirementError.Specifier (parsed_set text.now)) }
+        (reading.refused_as RequirementError.Specifier (parsed_set text.now)) }
 {
     match SpecifierSet::parse(alloc, text) {
         Ok(set) => Ok(set),
@@ -240,9 +236,9 @@ fn parse_set(alloc: Global, text: &str) -> Result<SpecifierSet, RequirementError
 
 /// The text between parentheses, or a text without them.
 fn within_parentheses(text: &str) -> Option<&str>
-    ensures { option_map (λ t. t.now) result ≡ within_parentheses text.now }
+    ensures { option_map (λ t. t.now) result ≡ reading.within_parentheses text.now }
 {
-    match behind(b'(', text) {
+    match after_byte(b'(', text) {
         Some(rest) => before_parenthesis(rest),
         None => Some(text),
     }
@@ -250,7 +246,7 @@ fn within_parentheses(text: &str) -> Option<&str>
 
 /// What stands before the `)` at the end.
 fn before_parenthesis(text: &str) -> Option<&str>
-    ensures { option_map (λ t. t.now) result ≡ before_end 41 text.now }
+    ensures { option_map (λ t. t.now) result ≡ reading.before_last 41 text.now }
 {
     match text.as_bytes() {
         [.., last] if *last == b')' => Some(text.split_at(text.len() - 1).0),

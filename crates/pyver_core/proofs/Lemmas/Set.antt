@@ -1,8 +1,4 @@
-pub mod Boundaries
-pub mod Complete
-pub mod EqualText
-pub mod Operators
+pub mod Admission
+pub mod Equality
 pub mod PlainOperand
-pub mod Prefixes
-pub mod ReadSoFar
-pub mod Sound
+pub mod Reading

@@ -5,10 +5,10 @@ use Rattle.pyver_core.specs.Set.Normal.{prefix_text}
 use Rattle.pyver_core.specs.declared.set.specifier.Operand.{Operand}
 use Rattle.pyver_core.specs.declared.set.specifier.Operand.TheVariants.{Text, Prefix}
 
-abbrev pub pieces_of : Operand → List (List ℕ)
-pieces_of (Text text) = text.now ∷ []
-pieces_of (Prefix prefix) = prefix_pieces prefix.now
+abbrev pub lent_pieces : Operand → List (List ℕ)
+lent_pieces (Text text) = text.now ∷ []
+lent_pieces (Prefix prefix) = prefix_pieces prefix.now
 
-abbrev pub text_of : Operand → List ℕ
-text_of (Text text) = text.now
-text_of (Prefix prefix) = prefix_text prefix.now
+abbrev pub lent_text : Operand → List ℕ
+lent_text (Text text) = text.now
+lent_text (Prefix prefix) = prefix_text prefix.now

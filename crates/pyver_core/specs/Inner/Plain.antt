@@ -1,6 +1,6 @@
 -- Versions of which the text is the normal form.
 use Rattle.std.specs.Prelude.{◌≡◌, ◌≢◌, ℕ, List, [], take}
-use Rattle.pyver_core.specs.Version.Normal.{normal}
+use Rattle.pyver_core.specs.Version.Normal.{normal_text}
 use Rattle.pyver_core.specs.Version.Parts.{Parts}
 use Rattle.pyver_core.specs.declared.version.reading.plain.Plain.{Plain}
 
@@ -17,6 +17,6 @@ plain_parts room p = record {
 
 -- the text is the normal form of parts that a text spells
 pub record IsPlain (text : List ℕ) (p : Parts) : Type 0 where
-  pub text_is : normal p ≡ text
+  pub text_is : normal_text p ≡ text
   pub release : p.release ≢ []
   pub local : p.local ≡ []

@@ -5,7 +5,7 @@ use Rattle.std.specs.Ordering.{nat_cmp, ordering_then}
 use Rattle.std.specs.Cmp.{nat_cmp_is}
 use Rattle.std.specs.Cmp.Lexicographic.{slice_cmp}
 use Rattle.std.specs.declared.cmp.Ordering.TheVariants.{Less, Greater}
-use Rattle.pyver_core.specs.Version.Hashing.{ahead, without_trailing_zeros}
+use Rattle.pyver_core.specs.Version.Hashing.{prepend_unless_trailing, without_trailing_zeros}
 use Rattle.pyver_core.specs.Version.Order.{release_cmp}
 
 zero-suc : (n : ℕ) → nat_cmp 0 (suc n) ≡ Less
@@ -15,18 +15,18 @@ suc-zero : (n : ℕ) → nat_cmp (suc n) 0 ≡ Greater
 suc-zero n = sym (nat_cmp_is (suc n) 0 Greater (omega arith))
 
 -- the first numbers decide before the rest, stripped or not
-slice_cmp-ahead : (x : ℕ) (xs : List ℕ) (y : ℕ) (ys : List ℕ)
+slice_cmp-prepend_unless_trailing : (x : ℕ) (xs : List ℕ) (y : ℕ) (ys : List ℕ)
     → ordering_then (nat_cmp x y) (slice_cmp nat_cmp xs ys)
-    ≡ slice_cmp nat_cmp (ahead x xs) (ahead y ys)
-slice_cmp-ahead zero [] zero [] = refl
-slice_cmp-ahead zero [] zero (b ∷ ys) = refl
-slice_cmp-ahead zero [] (suc n) ys = rw (zero-suc n) refl
-slice_cmp-ahead zero (a ∷ xs) zero [] = refl
-slice_cmp-ahead zero (a ∷ xs) zero (b ∷ ys) = refl
-slice_cmp-ahead zero (a ∷ xs) (suc n) ys = refl
-slice_cmp-ahead (suc m) xs zero [] = rw (suc-zero m) refl
-slice_cmp-ahead (suc m) xs zero (b ∷ ys) = refl
-slice_cmp-ahead (suc m) xs (suc n) ys = refl
+    ≡ slice_cmp nat_cmp (prepend_unless_trailing x xs) (prepend_unless_trailing y ys)
+slice_cmp-prepend_unless_trailing zero [] zero [] = refl
+slice_cmp-prepend_unless_trailing zero [] zero (b ∷ ys) = refl
+slice_cmp-prepend_unless_trailing zero [] (suc n) ys = rw (zero-suc n) refl
+slice_cmp-prepend_unless_trailing zero (a ∷ xs) zero [] = refl
+slice_cmp-prepend_unless_trailing zero (a ∷ xs) zero (b ∷ ys) = refl
+slice_cmp-prepend_unless_trailing zero (a ∷ xs) (suc n) ys = refl
+slice_cmp-prepend_unless_trailing (suc m) xs zero [] = rw (suc-zero m) refl
+slice_cmp-prepend_unless_trailing (suc m) xs zero (b ∷ ys) = refl
+slice_cmp-prepend_unless_trailing (suc m) xs (suc n) ys = refl
 
 -- one number of each release, and then the rest
 release_cmp-both : (x : ℕ) (xs : List ℕ) (y : ℕ) (ys : List ℕ)
@@ -64,10 +64,10 @@ unfolding release_cmp without_trailing_zeros
 release_cmp_without_zeros [] [] = refl
 release_cmp_without_zeros [] (y ∷ ys) =
     release_cmp-right y ys ∙ ap (ordering_then (nat_cmp 0 y)) (release_cmp_without_zeros [] ys)
-    ∙ slice_cmp-ahead 0 [] y (without_trailing_zeros ys)
+    ∙ slice_cmp-prepend_unless_trailing 0 [] y (without_trailing_zeros ys)
 release_cmp_without_zeros (x ∷ xs) [] =
     release_cmp-left x xs ∙ ap (ordering_then (nat_cmp x 0)) (release_cmp_without_zeros xs [])
-    ∙ slice_cmp-ahead x (without_trailing_zeros xs) 0 []
+    ∙ slice_cmp-prepend_unless_trailing x (without_trailing_zeros xs) 0 []
 release_cmp_without_zeros (x ∷ xs) (y ∷ ys) =
     release_cmp-both x xs y ys ∙ ap (ordering_then (nat_cmp x y)) (release_cmp_without_zeros xs ys)
-    ∙ slice_cmp-ahead x (without_trailing_zeros xs) y (without_trailing_zeros ys)
+    ∙ slice_cmp-prepend_unless_trailing x (without_trailing_zeros xs) y (without_trailing_zeros ys)

@@ -3,16 +3,12 @@ use Rattle.std.specs.Prelude.{ℕ, ◌-◌, ◌==◌, ◌&&◌, Bool, not, if◌
 use Rattle.std.specs.Prelude.{nat_eq}
 use Rattle.std.specs.List.{list_all, starts_with}
 use Rattle.std.specs.Str.{bytes_eq, str_to_ascii_lowercase}
-use Rattle.pyver_core.specs.Version.Normal.{normal}
+use Rattle.pyver_core.specs.Version.Normal.{normal_text}
 use Rattle.pyver_core.specs.Version.Order.{is_before, is_same, with_zeros}
 use Rattle.pyver_core.specs.Version.Parts.{Parts, base_release, is_postrelease, is_prerelease}
 use Rattle.pyver_core.specs.Version.Parts.{public_part}
 use Rattle.pyver_core.specs.declared.set.specifier.Specifier.{Specifier}
-use Rattle.pyver_core.specs.declared.set.specifier.Specifier.TheVariants.{Equal, EqualPrefix}
-use Rattle.pyver_core.specs.declared.set.specifier.Specifier.TheVariants.{NotEqual, NotEqualPrefix}
-use Rattle.pyver_core.specs.declared.set.specifier.Specifier.TheVariants.{AtMost, AtLeast, Before}
-use Rattle.pyver_core.specs.declared.set.specifier.Specifier.TheVariants.{After, Compatible}
-use Rattle.pyver_core.specs.declared.set.specifier.Specifier.TheVariants.{Arbitrary}
+use Rattle.pyver_core.specs.declared.set.specifier.Specifier.TheVariants as specifier
 
 -- whether a version has a local part
 abbrev pub has_local : Parts → Bool
@@ -57,20 +53,20 @@ is_compatible v c =
 
 -- "Arbitrary equality": the normal form is this text, letter case ignored
 abbrev pub is_spelled : List ℕ → Parts → Bool
-is_spelled text c = bytes_eq (str_to_ascii_lowercase (normal c)) (str_to_ascii_lowercase text)
+is_spelled text c = bytes_eq (str_to_ascii_lowercase (normal_text c)) (str_to_ascii_lowercase text)
 
 -- what each specifier admits
 abbrev pub admits : Specifier → Parts → Bool
-admits (Equal v) c = matches v c
-admits (EqualPrefix prefix) c = matches_prefix prefix.epoch prefix.release c
-admits (NotEqual v) c = not (matches v c)
-admits (NotEqualPrefix prefix) c = not (matches_prefix prefix.epoch prefix.release c)
-admits (AtMost v) c = is_at_most v c
-admits (AtLeast v) c = is_at_least v c
-admits (Before v) c = is_below v c
-admits (After v) c = is_above v c
-admits (Compatible v) c = is_compatible v c
-admits (Arbitrary text) c = is_spelled text c
+admits (specifier.Equal v) c = matches v c
+admits (specifier.EqualPrefix prefix) c = matches_prefix prefix.epoch prefix.release c
+admits (specifier.NotEqual v) c = not (matches v c)
+admits (specifier.NotEqualPrefix prefix) c = not (matches_prefix prefix.epoch prefix.release c)
+admits (specifier.AtMost v) c = is_at_most v c
+admits (specifier.AtLeast v) c = is_at_least v c
+admits (specifier.Before v) c = is_below v c
+admits (specifier.After v) c = is_above v c
+admits (specifier.Compatible v) c = is_compatible v c
+admits (specifier.Arbitrary text) c = is_spelled text c
 
 -- a list of specifiers admits what each of them does
 abbrev pub admits_all : List Specifier → Parts → Bool

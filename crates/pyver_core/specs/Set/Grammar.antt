@@ -10,11 +10,7 @@ use Rattle.pyver_core.specs.Set.Prefix.{Prefix}
 use Rattle.pyver_core.specs.Set.Normal.{operator_of, operator_text}
 use Rattle.pyver_core.specs.declared.set.specifier.Operator.{Operator}
 use Rattle.pyver_core.specs.declared.set.specifier.Specifier.{Specifier}
-use Rattle.pyver_core.specs.declared.set.specifier.Specifier.TheVariants.{Equal, EqualPrefix}
-use Rattle.pyver_core.specs.declared.set.specifier.Specifier.TheVariants.{NotEqual, NotEqualPrefix}
-use Rattle.pyver_core.specs.declared.set.specifier.Specifier.TheVariants.{AtMost, AtLeast, Before}
-use Rattle.pyver_core.specs.declared.set.specifier.Specifier.TheVariants.{After, Compatible}
-use Rattle.pyver_core.specs.declared.set.specifier.Specifier.TheVariants.{Arbitrary}
+use Rattle.pyver_core.specs.declared.set.specifier.Specifier.TheVariants as specifier
 
 -- ---- operands, with the white space round them
 
@@ -33,8 +29,8 @@ pub record SpellsPrefix (text : List ℕ) (p : Prefix) : Type 0 where
   pub is_after : list_all is_white after ≡ true
 
 -- a byte that may stand behind `===`: of anything but white space, `;`, `)` and `,`
-abbrev pub is_arbitrary : ℕ → Bool
-is_arbitrary b = not (is_white b || ((b == 59) || ((b == 41) || (b == 44))))
+abbrev pub is_arbitrary_byte : ℕ → Bool
+is_arbitrary_byte b = not (is_white b || ((b == 59) || ((b == 41) || (b == 44))))
 
 -- `===`: one such byte or more, as they are
 pub record SpellsArbitrary (text label : List ℕ) : Type 0 where
@@ -43,23 +39,23 @@ pub record SpellsArbitrary (text label : List ℕ) : Type 0 where
   pub whole : text ≡ before ++ (label ++ after)
   pub is_before : list_all is_white before ≡ true
   pub not_empty : 1 ≤ length label
-  pub allowed : list_all is_arbitrary label ≡ true
+  pub allowed : list_all is_arbitrary_byte label ≡ true
   pub is_after : list_all is_white after ≡ true
 
 -- The operand of each specifier: a version, which may have a local part behind `==` and `!=` alone
 -- and has two numbers or more behind `~=`; a prefix; anything. `Spells` allows for white space
 -- round a version.
 abbrev pub IsOperand : List ℕ → Specifier → Type 0
-IsOperand text (Equal v) = Spells text v
-IsOperand text (EqualPrefix p) = SpellsPrefix text p
-IsOperand text (NotEqual v) = Spells text v
-IsOperand text (NotEqualPrefix p) = SpellsPrefix text p
-IsOperand text (AtMost v) = Spells text v × (v.local ≡ [])
-IsOperand text (AtLeast v) = Spells text v × (v.local ≡ [])
-IsOperand text (Before v) = Spells text v × (v.local ≡ [])
-IsOperand text (After v) = Spells text v × (v.local ≡ [])
-IsOperand text (Compatible v) = Spells text v × (v.local ≡ []) × (2 ≤ length v.release)
-IsOperand text (Arbitrary label) = SpellsArbitrary text label
+IsOperand text (specifier.Equal v) = Spells text v
+IsOperand text (specifier.EqualPrefix p) = SpellsPrefix text p
+IsOperand text (specifier.NotEqual v) = Spells text v
+IsOperand text (specifier.NotEqualPrefix p) = SpellsPrefix text p
+IsOperand text (specifier.AtMost v) = Spells text v × (v.local ≡ [])
+IsOperand text (specifier.AtLeast v) = Spells text v × (v.local ≡ [])
+IsOperand text (specifier.Before v) = Spells text v × (v.local ≡ [])
+IsOperand text (specifier.After v) = Spells text v × (v.local ≡ [])
+IsOperand text (specifier.Compatible v) = Spells text v × (v.local ≡ []) × (2 ≤ length v.release)
+IsOperand text (specifier.Arbitrary label) = SpellsArbitrary text label
 
 -- ---- specifiers and sets
 
@@ -77,7 +73,7 @@ pub record IsSpecifier (piece : List ℕ) (s : Specifier) : Type 0 where
 
 -- pieces and their specifiers: white space alone is none
 pub data ArePieces : List (List ℕ) → List Specifier → Type 0 where
-  no_piece : ArePieces [] []
+  no_pieces : ArePieces [] []
   blank_piece : (piece : List ℕ) (rest : List (List ℕ)) (specifiers : List Specifier)
       → list_all is_white piece ≡ true → ArePieces rest specifiers
       → ArePieces (piece ∷ rest) specifiers
@@ -92,16 +88,16 @@ SetText text specifiers = ArePieces (slice_split (λ b. b == 44) text) specifier
 -- ---- numbers past the limit
 
 abbrev pub specifier_numbers : Specifier → List ℕ
-specifier_numbers (Equal v) = numbers v
-specifier_numbers (EqualPrefix p) = p.epoch ∷ p.release
-specifier_numbers (NotEqual v) = numbers v
-specifier_numbers (NotEqualPrefix p) = p.epoch ∷ p.release
-specifier_numbers (AtMost v) = numbers v
-specifier_numbers (AtLeast v) = numbers v
-specifier_numbers (Before v) = numbers v
-specifier_numbers (After v) = numbers v
-specifier_numbers (Compatible v) = numbers v
-specifier_numbers (Arbitrary label) = []
+specifier_numbers (specifier.Equal v) = numbers v
+specifier_numbers (specifier.EqualPrefix p) = p.epoch ∷ p.release
+specifier_numbers (specifier.NotEqual v) = numbers v
+specifier_numbers (specifier.NotEqualPrefix p) = p.epoch ∷ p.release
+specifier_numbers (specifier.AtMost v) = numbers v
+specifier_numbers (specifier.AtLeast v) = numbers v
+specifier_numbers (specifier.Before v) = numbers v
+specifier_numbers (specifier.After v) = numbers v
+specifier_numbers (specifier.Compatible v) = numbers v
+specifier_numbers (specifier.Arbitrary label) = []
 
 -- the numbers of all specifiers
 abbrev pub set_numbers : List Specifier → List ℕ

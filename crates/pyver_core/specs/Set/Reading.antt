@@ -9,16 +9,12 @@ use Rattle.pyver_core.specs.Set.Prefix.{Prefix}
 use Rattle.pytext.specs.Options.{◌>>=◌, either}
 use Rattle.pytext.specs.White.{after_white}
 use Rattle.pyver_core.specs.Version.Reading.{base_at, version_of}
-use Rattle.pyver_core.specs.Set.Grammar.{is_arbitrary}
+use Rattle.pyver_core.specs.Set.Grammar.{is_arbitrary_byte}
 use Rattle.pyver_core.specs.Set.Normal.{operator_text}
 use Rattle.pyver_core.specs.declared.set.specifier.Operator.{Operator}
 use Rattle.pyver_core.specs.declared.set.specifier.Operator.TheVariants as operator
 use Rattle.pyver_core.specs.declared.set.specifier.Specifier.{Specifier}
-use Rattle.pyver_core.specs.declared.set.specifier.Specifier.TheVariants.{Equal, EqualPrefix}
-use Rattle.pyver_core.specs.declared.set.specifier.Specifier.TheVariants.{NotEqual, NotEqualPrefix}
-use Rattle.pyver_core.specs.declared.set.specifier.Specifier.TheVariants.{AtMost, AtLeast, Before}
-use Rattle.pyver_core.specs.declared.set.specifier.Specifier.TheVariants.{After, Compatible}
-use Rattle.pyver_core.specs.declared.set.specifier.Specifier.TheVariants.{Arbitrary}
+use Rattle.pyver_core.specs.declared.set.specifier.Specifier.TheVariants as specifier
 
 -- ---- operators
 
@@ -27,17 +23,17 @@ abbrev pub operators : List Operator
 operators = operator.Arbitrary ∷ operator.Compatible ∷ operator.Equal ∷ operator.NotEqual
     ∷ operator.AtMost ∷ operator.AtLeast ∷ operator.Before ∷ operator.After ∷ []
 
--- the text behind an operator
-abbrev pub behind_operator : Operator → List ℕ → Option (List ℕ)
-behind_operator o text =
+-- the text after an operator
+abbrev pub after_operator : Operator → List ℕ → Option (List ℕ)
+after_operator o text =
     if starts_with nat_eq text (operator_text o) then Some (drop (length (operator_text o)) text)
     else None
 
--- the first of the operators that stands at the front, and the text behind it
+-- the first of the operators that the text begins with, and the text after it
 abbrev pub operator_among : List Operator → List ℕ → Option (Operator × List ℕ)
 operator_among [] text = None
 operator_among (o ∷ others) text =
-    either (option_map (λ rest. (o, rest)) (behind_operator o text)) (operator_among others text)
+    either (option_map (λ rest. (o, rest)) (after_operator o text)) (operator_among others text)
 
 unfoldable pub operator_at : List ℕ → Option (Operator × List ℕ)
 operator_at text = operator_among operators text
@@ -54,35 +50,37 @@ prefix_of text = do
   if is_star base.1 then Some (record { epoch = base.0.0; release = base.0.1 }) else None
 
 -- a version without a local part
-unfoldable pub public_of : List ℕ → Option Parts
-public_of text = do
+unfoldable pub public_version_of : List ℕ → Option Parts
+public_version_of text = do
   v ← version_of text
   if length v.local == 0 then Some v else None
 
 -- a version without a local part, and with two numbers or more
-unfoldable pub compatible_of : List ℕ → Option Parts
-compatible_of text = do
-  v ← public_of text
+unfoldable pub compatible_version_of : List ℕ → Option Parts
+compatible_version_of text = do
+  v ← public_version_of text
   if nat_le 2 (length v.release) then Some v else None
 
 -- what stands behind `===`
-unfoldable pub arbitrary_of : List ℕ → Option (List ℕ)
-arbitrary_of text =
-    let run = prefix_len is_arbitrary (after_white text) in
+unfoldable pub arbitrary_text_of : List ℕ → Option (List ℕ)
+arbitrary_text_of text =
+    let run = prefix_len is_arbitrary_byte (after_white text) in
     if nat_lt 0 run && list_all is_white (drop run (after_white text))
     then Some (take run (after_white text)) else None
 
 unfoldable pub operand_of : Operator → List ℕ → Option Specifier
 operand_of operator.Equal text =
-    either (option_map EqualPrefix (prefix_of text)) (option_map Equal (version_of text))
+    either (option_map specifier.EqualPrefix (prefix_of text))
+    (option_map specifier.Equal (version_of text))
 operand_of operator.NotEqual text =
-    either (option_map NotEqualPrefix (prefix_of text)) (option_map NotEqual (version_of text))
-operand_of operator.AtMost text = option_map AtMost (public_of text)
-operand_of operator.AtLeast text = option_map AtLeast (public_of text)
-operand_of operator.Before text = option_map Before (public_of text)
-operand_of operator.After text = option_map After (public_of text)
-operand_of operator.Compatible text = option_map Compatible (compatible_of text)
-operand_of operator.Arbitrary text = option_map Arbitrary (arbitrary_of text)
+    either (option_map specifier.NotEqualPrefix (prefix_of text))
+    (option_map specifier.NotEqual (version_of text))
+operand_of operator.AtMost text = option_map specifier.AtMost (public_version_of text)
+operand_of operator.AtLeast text = option_map specifier.AtLeast (public_version_of text)
+operand_of operator.Before text = option_map specifier.Before (public_version_of text)
+operand_of operator.After text = option_map specifier.After (public_version_of text)
+operand_of operator.Compatible text = option_map specifier.Compatible (compatible_version_of text)
+operand_of operator.Arbitrary text = option_map specifier.Arbitrary (arbitrary_text_of text)
 
 -- ---- specifiers and sets
 

@@ -22,7 +22,7 @@ is_segment (Text label) = list_all is_segment_byte label && not (list_all is_asc
 
 -- the version with these parts: its release has a number, and each part of its local part is a
 -- segment
-abbrev pub version_from : Parts → Result Parts PartsError
-version_from parts =
+abbrev pub version_from_parts : Parts → Result Parts PartsError
+version_from_parts parts =
     if length parts.release == 0 then Err EmptyRelease
     else (if list_all is_segment parts.local then Ok parts else Err LocalSegment)

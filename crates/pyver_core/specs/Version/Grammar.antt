@@ -2,13 +2,14 @@
 -- and "Normalization", with the pattern of its appendix "Parsing version strings with regular
 -- expressions"). A relation over the ways to cut the whole text: each part is a piece of the text
 -- in one of its forms. Numbers are whole numbers of any size.
-use Rattle.std.specs.Prelude.{◌≡◌, ◌⊎◌, ℕ, ◌≤◌, ◌^◌, Bool, true, false, ◌==◌, nat_le}
+use Rattle.std.specs.Prelude.{◌≡◌, ◌⊎◌, ℕ, ◌≤◌, Bool, true, false, ◌==◌, nat_le}
 use Rattle.std.specs.Prelude.{IsTrue, List, [], ◌∷◌, ◌++◌, length, codes, Option, Some, None}
 use Rattle.std.specs.Char.{is_ascii_digit, is_ascii_alphanumeric}
 use Rattle.std.specs.List.{list_all, list_any, flat_map}
 use Rattle.std.specs.Str.{str_to_ascii_lowercase}
 use Rattle.std.specs.Str.Parse.{digits_value}
 use Rattle.pytext.specs.Bytes.{is_separator, is_white, starts}
+use Rattle.pytext.specs.Digits.{number_limit}
 use Rattle.pyver_core.specs.Version.Parts.{Parts}
 use Rattle.pyver_core.specs.declared.version.part.PreKind.{PreKind}
 use Rattle.pyver_core.specs.declared.version.part.PreKind.TheVariants.{A, B, Rc}
@@ -39,7 +40,7 @@ IsNumber text n = (1 ≤ length text) × IsCount text n
 abbrev pub IsWord : List ℕ → List ℕ → Type 0
 IsWord word text = str_to_ascii_lowercase text ≡ word
 
--- items one after the other, each of them behind one byte of a class
+-- items one after the other, each of them after one byte of a class
 abbrev pub AreBehind : {X : Type 0} → (ℕ → Bool) → (List ℕ → X → Type 0) → List ℕ → List X → Type 0
 AreBehind opens IsItem text [] = text ≡ []
 AreBehind opens IsItem text (x ∷ xs) = (b : ℕ) × (item : List ℕ) × (rest : List ℕ)
@@ -47,7 +48,7 @@ AreBehind opens IsItem text (x ∷ xs) = (b : ℕ) × (item : List ℕ) × (rest
     × AreBehind opens IsItem rest xs
 
 -- ---- the parts. Each takes the text that it is, what it says, and where that matters the text
--- behind it.
+-- after it.
 
 -- nothing, or `v`
 abbrev pub IsPrefix : List ℕ → Type 0
@@ -65,7 +66,7 @@ IsRelease text (n ∷ ns) = (first : List ℕ) × (rest : List ℕ)
     × (text ≡ first ++ rest) × IsNumber first n × AreBehind is_dot IsNumber rest ns
 
 -- a part with a word: at most one separator, the word, at most one separator, digits or none. A
--- separator behind the word belongs to the part, so that none follows a part that ends in its word.
+-- separator after the word belongs to the part, so that none follows a part that ends in its word.
 pub record IsTagged (word text : List ℕ) (n : ℕ) (next : List ℕ) : Type 0 where
   pub before : List ℕ
   pub written : List ℕ
@@ -168,9 +169,9 @@ abbrev pub numbers : Parts → List ℕ
 numbers p = p.epoch ∷ (p.release ++ (number_in_pre p.pre ++ (number_in p.post
     ++ (number_in p.dev ++ flat_map number_in_segment p.local))))
 
--- whether one of the numbers is past 340,282,366,920,938,463,463,374,607,431,768,211,455
+-- whether one of the numbers is past the limit
 abbrev pub has_large : List ℕ → Bool
-has_large ns = list_any (nat_le (2 ^ 128)) ns
+has_large ns = list_any (nat_le number_limit) ns
 
 -- a number of the parts is past the limit
 abbrev pub IsLarge : Parts → Type 0

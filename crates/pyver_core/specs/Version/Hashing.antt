@@ -9,15 +9,15 @@ use Rattle.pyver_core.specs.declared.version.part.PreKind.{PreKind}
 use Rattle.pyver_core.specs.declared.version.part.PreKind.TheVariants.{A, B, Rc}
 
 -- a number before the rest of a release: a zero before nothing goes
-abbrev pub ahead : ℕ → List ℕ → List ℕ
-ahead zero [] = []
-ahead zero (y ∷ ys) = zero ∷ y ∷ ys
-ahead (suc n) rest = suc n ∷ rest
+abbrev pub prepend_unless_trailing : ℕ → List ℕ → List ℕ
+prepend_unless_trailing zero [] = []
+prepend_unless_trailing zero (y ∷ ys) = zero ∷ y ∷ ys
+prepend_unless_trailing (suc n) rest = suc n ∷ rest
 
 -- a release without the zeros at its end
 unfoldable pub without_trailing_zeros : List ℕ → List ℕ
 without_trailing_zeros [] = []
-without_trailing_zeros (x ∷ xs) = ahead x (without_trailing_zeros xs)
+without_trailing_zeros (x ∷ xs) = prepend_unless_trailing x (without_trailing_zeros xs)
 
 abbrev pub letter_input : PreKind → fed.HashWrites
 letter_input A = fed.isize (pos 0)

@@ -29,14 +29,14 @@ release_text [] = []
 release_text (first ∷ rest) = decimal_text first ++ flat_map dotted_number rest
 
 -- the letters of a pre-release
-abbrev pub letters : PreKind → List ℕ
-letters A = codes "a"
-letters B = codes "b"
-letters Rc = codes "rc"
+abbrev pub kind_text : PreKind → List ℕ
+kind_text A = codes "a"
+kind_text B = codes "b"
+kind_text Rc = codes "rc"
 
 abbrev pub pre_text : Option (PreKind × ℕ) → List ℕ
 pre_text None = []
-pre_text (Some pre) = letters pre.0 ++ decimal_text pre.1
+pre_text (Some pre) = kind_text pre.0 ++ decimal_text pre.1
 
 abbrev pub post_text : Option ℕ → List ℕ
 post_text None = []
@@ -61,7 +61,7 @@ local_text [] = []
 local_text (first ∷ rest) = codes "+" ++ segment_text first ++ flat_map dotted_segment rest
 
 -- the normal form: the normal forms of the parts, one after the other
-abbrev pub normal : Parts → List ℕ
-normal p = epoch_text p.epoch
+abbrev pub normal_text : Parts → List ℕ
+normal_text p = epoch_text p.epoch
     ++ (release_text p.release ++ (pre_text p.pre
     ++ (post_text p.post ++ (dev_text p.dev ++ local_text p.local))))

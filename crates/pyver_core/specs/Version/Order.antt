@@ -53,14 +53,14 @@ segment_cmp (Text a) (Number n) = Less
 segment_cmp (Text a) (Text b) = slice_cmp nat_cmp a b
 
 -- comparisons in turn: the first that tells two things apart decides
-abbrev pub in_turn : List Ordering → Ordering
-in_turn [] = Equal
-in_turn (first ∷ rest) = ordering_then first (in_turn rest)
+abbrev pub cmp_in_turn : List Ordering → Ordering
+cmp_in_turn [] = Equal
+cmp_in_turn (first ∷ rest) = ordering_then first (cmp_in_turn rest)
 
 -- the epoch, the release, the phase, the post-release (none is least), the developmental release,
 -- and the local part segment by segment, a proper prefix being less and no local part the least
 unfoldable pub version_cmp : Parts → Parts → Ordering
-version_cmp v w = in_turn (
+version_cmp v w = cmp_in_turn (
     nat_cmp v.epoch w.epoch
     ∷ release_cmp v.release w.release
     ∷ nat_cmp (phase_rank v.pre v.post v.dev) (phase_rank w.pre w.post w.dev)
@@ -71,12 +71,12 @@ version_cmp v w = in_turn (
     ∷ [])
 
 -- v stands before w
-abbrev pub before : Parts → Parts → Type 0
-before v w = version_cmp v w ≡ Less
+abbrev pub IsBefore : Parts → Parts → Type 0
+IsBefore v w = version_cmp v w ≡ Less
 
 -- v and w are equal as versions: no comparison tells them apart
-abbrev pub same : Parts → Parts → Type 0
-same v w = version_cmp v w ≡ Equal
+abbrev pub IsSame : Parts → Parts → Type 0
+IsSame v w = version_cmp v w ≡ Equal
 
 -- the tests of the two
 abbrev pub is_before : Parts → Parts → Bool

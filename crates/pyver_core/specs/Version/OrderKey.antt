@@ -10,12 +10,16 @@ use Rattle.pyver_core.specs.Version.Parts.{Parts}
 use Rattle.pyver_core.specs.declared.version.part.LocalPart.{LocalPart}
 use Rattle.pyver_core.specs.declared.version.part.LocalPart.TheVariants.{Number, Text}
 
--- A number below 253 is the byte above it. A greater one is 254, the key of its quotient by 256,
+-- the first number whose key has more than one byte
+abbrev pub short_end : ℕ
+short_end = 253
+
+-- A number below that is the byte above it. A greater one is 254, the key of its quotient by 256,
 -- and the remainder. So the key of a number begins with a byte from 1 to 254.
 abbrev pub number_key_with_fuel : ℕ → ℕ → List ℕ
 number_key_with_fuel zero n = (n + 1) ∷ []
 number_key_with_fuel (suc fuel) n =
-    if nat_lt n 253 then (n + 1) ∷ []
+    if nat_lt n short_end then (n + 1) ∷ []
     else 254 ∷ (number_key_with_fuel fuel (n / 256) ++ n % 256 ∷ [])
 
 unfoldable pub number_key : ℕ → List ℕ

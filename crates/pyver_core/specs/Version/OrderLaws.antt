@@ -39,7 +39,7 @@ pub dev_total : IsTotalOrder dev_cmp
 dev_total = total_along dev_cmp (then_cmp (on dev_rank nat_cmp) (option_cmp nat_cmp))
     (then_total (on_total dev_rank nat_cmp_total) (options_total nat_cmp_total)) dev_cmp-ranks
 
--- a segment's place in the order: 0 and its text, or 1 and its number
+-- a segment's rank in the order: 0 and its text, or 1 and its number
 abbrev segment_rank : LocalPart → ℕ
 segment_rank (Text text) = 0
 segment_rank (Number n) = 1

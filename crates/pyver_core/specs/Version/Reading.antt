@@ -1,7 +1,7 @@
 -- Reading a version from the left: the parts that a text spells, as a function. It gives an answer
 -- exactly where `Spells` holds, and the parts of which it holds: the laws `version_of_spells` and
--- `version_of_is_complete`. Each reader gives what it read at the front of a text, and the text
--- behind it.
+-- `version_of_is_complete`. Each reader gives what it read from the beginning of a text, and the
+-- text after it.
 use Rattle.std.specs.Prelude.{ℕ, zero, suc, Bool, ◌==◌, if◌then◌else◌, List, [], ◌∷◌, length, take}
 use Rattle.std.specs.Prelude.{drop, codes, bytes_eq, Option, Some, None, option_map, unwrap_or}
 use Rattle.std.specs.Char.{is_ascii_digit, is_ascii_alphanumeric}
@@ -21,28 +21,29 @@ use Rattle.pyver_core.specs.declared.version.part.LocalPart.TheVariants.{Number,
 -- ---- steps
 
 -- an item before others
-abbrev pub onto : {X : Type 0} → X → List X × List ℕ → List X × List ℕ
-onto x others = (x ∷ others.0, others.1)
+abbrev pub prepend_item : {X : Type 0} → X → List X × List ℕ → List X × List ℕ
+prepend_item x others = (x ∷ others.0, others.1)
 
 -- what is read where it can be read, and else nothing
 abbrev pub optional_at : {X : Type 0} → (List ℕ → Option (X × List ℕ)) → List ℕ → Option X × List ℕ
 optional_at read text = unwrap_or (option_map (λ x. (Some x.0, x.1)) (read text)) (None, text)
 
--- what is read behind one byte of a class
+-- what is read after one byte of a class
 abbrev pub behind_at : {X : Type 0} → (ℕ → Bool) → (List ℕ → Option (X × List ℕ))
     → List ℕ → Option (X × List ℕ)
 behind_at opens read [] = None
 behind_at opens read (b ∷ rest) = if opens b then read rest else None
 
 -- items as long as one can be read, at most so many
-unfoldable pub many : {X : Type 0} → (List ℕ → Option (X × List ℕ)) → ℕ → List ℕ → List X × List ℕ
-many read zero text = ([], text)
-many read (suc n) text =
-    unwrap_or (option_map (λ x. onto x.0 (many read n x.1)) (read text)) ([], text)
+unfoldable pub many_up_to : {X : Type 0} → (List ℕ → Option (X × List ℕ))
+    → ℕ → List ℕ → List X × List ℕ
+many_up_to read zero text = ([], text)
+many_up_to read (suc n) text =
+    unwrap_or (option_map (λ x. prepend_item x.0 (many_up_to read n x.1)) (read text)) ([], text)
 
 -- items as long as one can be read
 unfoldable pub many_at : {X : Type 0} → (List ℕ → Option (X × List ℕ)) → List ℕ → List X × List ℕ
-many_at read text = many read (length text) text
+many_at read text = many_up_to read (length text) text
 
 -- ---- white space, separators, numbers and words
 
@@ -60,20 +61,20 @@ count_at text =
 abbrev pub number_at : List ℕ → Option (ℕ × List ℕ)
 number_at text = if starts is_ascii_digit text then Some (count_at text) else None
 
--- the text behind a word, which is in lower case here and in any case there
-abbrev pub word_at : List ℕ → List ℕ → Option (List ℕ)
-word_at word text =
+-- the text after a word, which is in lower case here and in any case there
+abbrev pub after_word : List ℕ → List ℕ → Option (List ℕ)
+after_word word text =
     if bytes_eq (str_to_ascii_lowercase (take (length word) text)) word
     then Some (drop (length word) text) else None
 
--- the text behind the longer of two words, or else the shorter
-abbrev pub either_at : List ℕ → List ℕ → List ℕ → Option (List ℕ)
-either_at longer shorter text = either (word_at longer text) (word_at shorter text)
+-- the text after the longer of two words, or else the shorter
+abbrev pub after_either_word : List ℕ → List ℕ → List ℕ → Option (List ℕ)
+after_either_word longer shorter text = either (after_word longer text) (after_word shorter text)
 
 -- ---- the epoch and the release
 
 abbrev pub after_prefix : List ℕ → List ℕ
-after_prefix text = unwrap_or (word_at (codes "v") text) text
+after_prefix text = unwrap_or (after_word (codes "v") text) text
 
 -- the epoch and the first number of the release
 unfoldable pub head_at : List ℕ → Option ((ℕ × ℕ) × List ℕ)
@@ -86,7 +87,7 @@ head_at text = do
 unfoldable pub dotted_number_at : List ℕ → Option (ℕ × List ℕ)
 dotted_number_at text = behind_at is_dot number_at text
 
--- the epoch and the release, behind the prefix
+-- the epoch and the release, after the prefix
 unfoldable pub base_at : List ℕ → Option ((ℕ × List ℕ) × List ℕ)
 base_at text = do
   head ← head_at (after_prefix text)
@@ -95,29 +96,31 @@ base_at text = do
 
 -- ---- pre, post and dev
 
--- what stands behind the word of a part: at most one separator, digits or none
-abbrev pub tail_at : List ℕ → ℕ × List ℕ
-tail_at text = count_at (after_separator text)
+-- what stands after the word of a part: at most one separator, digits or none
+abbrev pub trailing_count_at : List ℕ → ℕ × List ℕ
+trailing_count_at text = count_at (after_separator text)
 
 unfoldable pub pre_word_at : List ℕ → Option (PreKind × List ℕ)
 pre_word_at text =
-    either (option_map (λ rest. (A, rest)) (either_at (codes "alpha") (codes "a") text))
-    (either (option_map (λ rest. (B, rest)) (either_at (codes "beta") (codes "b") text))
-    (either (option_map (λ rest. (Rc, rest)) (either_at (codes "preview") (codes "pre") text))
-    (option_map (λ rest. (Rc, rest)) (either_at (codes "rc") (codes "c") text))))
+    either (option_map (λ rest. (A, rest)) (after_either_word (codes "alpha") (codes "a") text))
+    (either (option_map (λ rest. (B, rest)) (after_either_word (codes "beta") (codes "b") text))
+    (either
+    (option_map (λ rest. (Rc, rest)) (after_either_word (codes "preview") (codes "pre") text))
+    (option_map (λ rest. (Rc, rest)) (after_either_word (codes "rc") (codes "c") text))))
 
-unfoldable pub post_word_at : List ℕ → Option (List ℕ)
-post_word_at text = either (word_at (codes "post") text) (either_at (codes "rev") (codes "r") text)
+unfoldable pub after_post_word : List ℕ → Option (List ℕ)
+after_post_word text =
+    either (after_word (codes "post") text) (after_either_word (codes "rev") (codes "r") text)
 
 unfoldable pub tagged_pre_at : List ℕ → Option ((PreKind × ℕ) × List ℕ)
 tagged_pre_at text = do
   word ← pre_word_at (after_separator text)
-  Some ((word.0, (tail_at word.1).0), (tail_at word.1).1)
+  Some ((word.0, (trailing_count_at word.1).0), (trailing_count_at word.1).1)
 
 unfoldable pub tagged_post_at : List ℕ → Option (ℕ × List ℕ)
 tagged_post_at text = do
-  rest ← post_word_at (after_separator text)
-  Some (tail_at rest)
+  rest ← after_post_word (after_separator text)
+  Some (trailing_count_at rest)
 
 unfoldable pub dashed_number_at : List ℕ → Option (ℕ × List ℕ)
 dashed_number_at text = behind_at (λ b. b == 45) number_at text
@@ -127,8 +130,8 @@ dashed_or_tagged_post_at text = either (dashed_number_at text) (tagged_post_at t
 
 unfoldable pub tagged_dev_at : List ℕ → Option (ℕ × List ℕ)
 tagged_dev_at text = do
-  rest ← word_at (codes "dev") (after_separator text)
-  Some (tail_at rest)
+  rest ← after_word (codes "dev") (after_separator text)
+  Some (trailing_count_at rest)
 
 -- ---- the local part
 
@@ -151,13 +154,13 @@ added_segment_at text = behind_at (λ b. b == 43) segment_at text
 
 unfoldable pub local_at : List ℕ → List LocalPart × List ℕ
 local_at text = unwrap_or
-    (option_map (λ first. onto first.0 (many_at separated_segment_at first.1))
+    (option_map (λ first. prepend_item first.0 (many_at separated_segment_at first.1))
     (added_segment_at text))
     ([], text)
 
 -- ---- the whole text
 
--- the parts behind the release
+-- the parts after the release
 unfoldable pub parts_at : ℕ × List ℕ → List ℕ → Parts × List ℕ
 parts_at base text =
     let pre = optional_at tagged_pre_at text in

@@ -1,8 +1,8 @@
 //! Names in normal form (PEP 503, "Normalized Names"), which own their text.
 
 ghost use Rattle.std.specs.Prelude.{◌≡◌, false, IfOk, string_bytes};
-ghost use Rattle.pyver_core.specs.Inner.Names.{is_normal_behind, is_normal_byte};
-ghost use Rattle.pyver_core.specs.Name.{norm};
+ghost use Rattle.pyver_core.specs.Inner.Names.{is_normal_rest, is_normal_byte};
+ghost use Rattle.pyver_core.specs.Name.{normal_name};
 
 use crate::name::normal_name;
 use std::alloc::{AllocError, Global};
@@ -16,7 +16,7 @@ pub struct NormalName {
 impl Model for NormalName {
     ghost use Rattle.std.specs.Prelude.{◌≡◌, List, ℕ, string_bytes};
     ghost use Rattle.std.specs.Coded.{coded_list, coded_ℕ};
-    ghost use Rattle.pyver_core.specs.Name.{norm};
+    ghost use Rattle.pyver_core.specs.Name.{normal_name};
 
     ghost Value = { List ℕ };
 
@@ -24,7 +24,7 @@ impl Model for NormalName {
 
     ghost view = { λ a. string_bytes a.text };
 
-    ghost invariant = { λ a. norm (string_bytes a.text) ≡ string_bytes a.text };
+    ghost invariant = { λ a. normal_name (string_bytes a.text) ≡ string_bytes a.text };
 }
 
 impl Drop for NormalName {
@@ -38,7 +38,7 @@ impl NormalName {
     /// long as the given one.
     #[tactic(auto, using(crate::proofs::Lemmas::Name::Normal::normal_made))]
     pub fn new(alloc: Global, text: &str) -> Result<NormalName, AllocError>
-        ensures { IfOk result (λ name. name ≡ norm text.now) }
+        ensures { IfOk result (λ name. name ≡ normal_name text.now) }
     {
         let text = normal_name(alloc, text)?;
         Ok(NormalName { text })
@@ -48,7 +48,7 @@ impl NormalName {
     /// it takes no memory.
     #[tactic(auto, using(crate::proofs::Lemmas::Name::Normal::normal_stays))]
     pub fn from_string(alloc: Global, text: String) -> Result<NormalName, AllocError>
-        ensures { IfOk result (λ name. name ≡ norm (string_bytes text)) }
+        ensures { IfOk result (λ name. name ≡ normal_name (string_bytes text)) }
     {
         if is_normal(text.as_bytes()) {
             Ok(NormalName { text })
@@ -60,7 +60,7 @@ impl NormalName {
     /// The text. It takes no memory.
     pub fn as_str(&self) -> &str
         ensures text { result.now ≡ self.now }
-        ensures normal { norm self.now ≡ self.now }
+        ensures normal { normal_name self.now ≡ self.now }
     {
         self.text.as_str()
     }
@@ -68,7 +68,7 @@ impl NormalName {
     /// The text, moved out. It takes no memory.
     pub fn into_string(self) -> String
         ensures text { string_bytes result ≡ self }
-        ensures normal { norm self ≡ self }
+        ensures normal { normal_name self ≡ self }
     {
         let NormalName { text } = self;
         text
@@ -102,7 +102,7 @@ impl<'a> NormalForm<'a> {
     /// digits and single `-` alone: then that of one text as long as the given one.
     #[tactic(auto, using(crate::proofs::Lemmas::Name::Normal::normal_stays))]
     pub fn of(alloc: Global, text: &'a str) -> Result<NormalForm<'a>, AllocError>
-        ensures { IfOk result (λ name. name ≡ norm text.now) }
+        ensures { IfOk result (λ name. name ≡ normal_name text.now) }
     {
         let made = if is_normal(text.as_bytes()) {
             None
@@ -125,7 +125,7 @@ impl<'a> NormalForm<'a> {
 
 /// Whether these are lower-case letters, digits and single `-`.
 fn is_normal(bytes: &[u8]) -> bool
-    ensures { result ≡ is_normal_behind false bytes.now }
+    ensures { result ≡ is_normal_rest false bytes.now }
 {
     let mut after_dash = false;
     for byte in bytes {

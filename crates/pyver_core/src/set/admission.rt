@@ -3,9 +3,7 @@
 ghost use Rattle.std.specs.Prelude.{◌≡◌, ◌==◌, length, nat_eq};
 ghost use Rattle.std.specs.List.{list_all, starts_with};
 ghost use Rattle.pyver_core.specs.Version.Order.{with_zeros};
-ghost use Rattle.pyver_core.specs.Set.Admission.{admits, has_base_of, has_local, is_above};
-ghost use Rattle.pyver_core.specs.Set.Admission.{is_at_least, is_at_most, is_below, is_compatible};
-ghost use Rattle.pyver_core.specs.Set.Admission.{matches, matches_prefix};
+ghost use Rattle.pyver_core.specs.Set.Admission as admission;
 
 use crate::set::Specifier;
 use crate::version::{Version, compare_fronts, compare_public, compare_to_public};
@@ -13,7 +11,7 @@ use crate::version::{Version, compare_fronts, compare_public, compare_to_public}
 impl Specifier {
     /// Whether the specifier admits the version. It takes no memory.
     pub fn admits(&self, version: &Version) -> bool
-        ensures { result ≡ admits self.now version.now }
+        ensures { result ≡ admission.admits self.now version.now }
     {
         match self {
             Specifier::Equal(operand) => matches(operand, version),
@@ -35,13 +33,13 @@ impl Specifier {
 }
 
 fn has_local(version: &Version) -> bool
-    ensures { result ≡ has_local version.now }
+    ensures { result ≡ admission.has_local version.now }
 {
     !version.local().is_empty()
 }
 
 fn matches(operand: &Version, version: &Version) -> bool
-    ensures { result ≡ matches operand.now version.now }
+    ensures { result ≡ admission.matches operand.now version.now }
 {
     if has_local(operand) {
         version == operand
@@ -51,24 +49,24 @@ fn matches(operand: &Version, version: &Version) -> bool
 }
 
 fn matches_prefix(epoch: u128, release: &[u128], version: &Version) -> bool
-    ensures { result ≡ matches_prefix epoch release.now version.now }
+    ensures { result ≡ admission.matches_prefix epoch release.now version.now }
 {
     version.epoch() == epoch && begins_with(version.release(), release)
 }
 
 /// Whether a release begins with these numbers, as if it ended in as many zeros as it lacks.
-#[tactic(auto, using(crate::proofs::Lemmas::Set::Prefixes::begins_short))]
+#[tactic(auto, using(crate::proofs::Lemmas::Set::Admission::begins_short))]
 fn begins_with(release: &[u128], prefix: &[u128]) -> bool
     ensures { result ≡ starts_with nat_eq (with_zeros (length prefix.now) release.now) prefix.now }
 {
     if prefix.len() <= release.len() {
         return release.starts_with(prefix);
     }
-    let (front, rest) = prefix.split_at(release.len());
-    front == release && is_zeros(rest)
+    let (first, rest) = prefix.split_at(release.len());
+    first == release && are_zeros(rest)
 }
 
-fn is_zeros(numbers: &[u128]) -> bool
+fn are_zeros(numbers: &[u128]) -> bool
     ensures { result ≡ list_all (λ n. n == 0) numbers.now }
 {
     numbers.iter().all(|number| *number == 0)
@@ -77,32 +75,32 @@ fn is_zeros(numbers: &[u128]) -> bool
 /// Whether the base releases are the same version: they have nothing behind the release.
 #[tactic(auto, using(crate::proofs::Lemmas::Version::Fronts::fronts_of_bases))]
 fn has_base_of(operand: &Version, version: &Version) -> bool
-    ensures { result ≡ has_base_of operand.now version.now }
+    ensures { result ≡ admission.has_base_of operand.now version.now }
 {
     compare_fronts(version, operand).is_eq()
 }
 
 fn is_at_most(operand: &Version, version: &Version) -> bool
-    ensures { result ≡ is_at_most operand.now version.now }
+    ensures { result ≡ admission.is_at_most operand.now version.now }
 {
     !compare_to_public(operand, version).is_lt()
 }
 
 fn is_at_least(operand: &Version, version: &Version) -> bool
-    ensures { result ≡ is_at_least operand.now version.now }
+    ensures { result ≡ admission.is_at_least operand.now version.now }
 {
     !compare_public(version, operand).is_lt()
 }
 
 fn is_below(operand: &Version, version: &Version) -> bool
-    ensures { result ≡ is_below operand.now version.now }
+    ensures { result ≡ admission.is_below operand.now version.now }
 {
     version < operand
         && !(!operand.is_prerelease() && version.is_prerelease() && has_base_of(operand, version))
 }
 
 fn is_above(operand: &Version, version: &Version) -> bool
-    ensures { result ≡ is_above operand.now version.now }
+    ensures { result ≡ admission.is_above operand.now version.now }
 {
     operand < version
         && !(!operand.is_postrelease() && version.is_postrelease() && has_base_of(operand, version))
@@ -110,7 +108,7 @@ fn is_above(operand: &Version, version: &Version) -> bool
 }
 
 fn is_compatible(operand: &Version, version: &Version) -> bool
-    ensures { result ≡ is_compatible operand.now version.now }
+    ensures { result ≡ admission.is_compatible operand.now version.now }
 {
     let release = operand.release();
     is_at_least(operand, version)

@@ -89,7 +89,7 @@ impl fmt::Display for SpecifierSet {
 }
 
 /// Writes a number in base ten.
-#[tactic(auto, using(crate::proofs::Lemmas::Version::Decimal::decimal_is_text))]
+#[tactic(auto, using(crate::proofs::Lemmas::Version::Normal::Decimal::decimal_is_text))]
 fn write_number<W: fmt::Write>(f: &mut fmt::Formatter<W>, number: u128) -> fmt::Result
     ensures { WritesOnOk W.write_str_gives f.old result (decimal_text number) f.new }
 {

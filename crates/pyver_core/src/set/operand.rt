@@ -11,7 +11,7 @@ ghost use Rattle.pyver_core.specs.declared.set.specifier.Specifier.{Specifier};
 use super::reading::{read_operand, read_plain_operand};
 use crate::set::{Operator, Specifier, SpecifierError};
 use crate::version::VersionError;
-use pytext::past_white;
+use pytext::after_white;
 use std::alloc::Global;
 
 impl Specifier {
@@ -68,7 +68,7 @@ impl Specifier {
 fn specifier_from_text(alloc: Global, text: &str) -> Result<Specifier, SpecifierError>
     ensures { Gives SpecifierError.Memory (λ s. s) result (parsed_specifier text.now) }
 {
-    let Some((operator, operand)) = Operator::at_front(past_white(text)) else {
+    let Some((operator, operand)) = Operator::read(after_white(text)) else {
         return Err(SpecifierError::Syntax);
     };
     specifier_from_operand(alloc, operator, operand)

@@ -13,7 +13,7 @@ use super::normal::set_text;
 use super::reading::{SpecifierDraft, read_operand, read_plain_operand};
 use crate::set::{Operator, Specifier, SpecifierError, SpecifierSet};
 use crate::version::VersionError;
-use pytext::{is_blank, past_white};
+use pytext::{after_white, is_blank};
 use std::alloc::{AllocError, Global};
 
 impl SpecifierSet {
@@ -63,7 +63,7 @@ fn read_items(alloc: Global, text: &str) -> Result<Vec<Specifier>, SpecifierErro
         if is_blank(piece.as_bytes()) {
             continue;
         }
-        let Some((operator, operand)) = Operator::at_front(past_white(piece)) else {
+        let Some((operator, operand)) = Operator::read(after_white(piece)) else {
             return Err(SpecifierError::Syntax);
         };
         if let Some(specifier) = read_plain_operand(alloc, operator, operand)? {
@@ -84,7 +84,7 @@ fn read_items(alloc: Global, text: &str) -> Result<Vec<Specifier>, SpecifierErro
     Ok(items)
 }
 
-/// Puts the specifier behind the others and answers true, or answers false where one of its numbers
+/// Puts the specifier after the others and answers true, or answers false where one of its numbers
 /// is past the limit.
 fn push_within_limit(
     alloc: Global,

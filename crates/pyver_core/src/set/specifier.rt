@@ -4,7 +4,7 @@ ghost use Rattle.std.specs.Prelude.{◌≡◌, nat_eq};
 ghost use Rattle.std.specs.Cmp.{partial_equiv_from_equiv};
 ghost use Rattle.std.specs.Cmp.Lexicographic.{pointwise};
 ghost use Rattle.pyver_core.specs.Inner.EqualityLaws.{specifier_equivalence};
-ghost use Rattle.pyver_core.specs.Inner.Operand.{pieces_of};
+ghost use Rattle.pyver_core.specs.Inner.Operand.{lent_pieces};
 ghost use Rattle.pyver_core.specs.Set.Equality.{operand_pieces, specifier_eq};
 
 use crate::version::{Label, Version};
@@ -124,7 +124,7 @@ impl Operator {
 }
 
 impl Specifier {
-    ghost use Rattle.pyver_core.specs.Inner.Operand.{pieces_of, text_of};
+    ghost use Rattle.pyver_core.specs.Inner.Operand.{lent_pieces, lent_text};
     ghost use Rattle.pyver_core.specs.Set.Equality.{operand_pieces};
     ghost use Rattle.pyver_core.specs.Set.Normal.{operand_text, operator_of};
 
@@ -146,8 +146,8 @@ impl Specifier {
 
     /// The operand, lent.
     pub(crate) fn operand(&self) -> Operand<'_>
-        ensures pieces { pieces_of result ≡ operand_pieces self.now }
-        ensures text { text_of result ≡ operand_text self.now }
+        ensures pieces { lent_pieces result ≡ operand_pieces self.now }
+        ensures text { lent_text result ≡ operand_text self.now }
     {
         match self {
             Specifier::EqualPrefix(prefix) | Specifier::NotEqualPrefix(prefix) => {
@@ -208,7 +208,7 @@ impl Clone for Specifier {
 
 /// Whether two operands are equal as they are written.
 fn is_same_operand(left: &Operand<'_>, right: &Operand<'_>) -> bool
-    ensures { result ≡ pointwise (pointwise nat_eq) (pieces_of left.now) (pieces_of right.now) }
+    ensures { result ≡ pointwise (pointwise nat_eq) (lent_pieces left.now) (lent_pieces right.now) }
 {
     match (left, right) {
         (Operand::Text(left), Operand::Text(right)) => left == right,

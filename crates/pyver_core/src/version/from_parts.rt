@@ -4,9 +4,10 @@ ghost use Rattle.std.specs.Prelude.{◌≡◌, IfErr, IfOk, List, ℕ};
 ghost use Rattle.std.specs.Char.{is_ascii_digit};
 ghost use Rattle.std.specs.List.{list_all};
 ghost use Rattle.pytext.specs.Agreement.{Gives};
-ghost use Rattle.pyver_core.specs.Version.FromParts.{is_segment, is_segment_byte, version_from};
+ghost use Rattle.pyver_core.specs.Version.FromParts.{is_segment, is_segment_byte};
+ghost use Rattle.pyver_core.specs.Version.FromParts.{version_from_parts};
 ghost use Rattle.pyver_core.specs.Version.Grammar.{Spells};
-ghost use Rattle.pyver_core.specs.Version.Normal.{normal};
+ghost use Rattle.pyver_core.specs.Version.Normal.{normal_text};
 ghost use Rattle.pyver_core.specs.declared.version.from_parts.PartsError.TheVariants as parts;
 
 use crate::version::{LocalPart, PreKind, Version};
@@ -77,30 +78,30 @@ impl Version {
     /// digits and letters in lower case, at least one of them a letter. It takes memory for the
     /// normal form.
     pub fn from_parts(alloc: Global, parts: VersionParts) -> Result<Version, PartsError>
-        ensures ok { IfOk result (λ v. (v ≡ parts) × Spells (normal v) v) }
+        ensures ok { IfOk result (λ v. (v ≡ parts) × Spells (normal_text v) v) }
         ensures refused { IfErr result (λ e. (e ≡ PartsError.Memory → ⊥)
             → (text : List ℕ) → Spells text parts → ⊥) }
 
         // The same, with the reason of each refusal.
-        ensures exact { Gives PartsError.Memory (λ v. v) result (version_from parts) }
+        ensures exact { Gives PartsError.Memory (λ v. v) result (version_from_parts parts) }
     {
-        version_with(alloc, parts)
+        version_from_parts(alloc, parts)
     }
 }
 
-fn version_with(alloc: Global, parts: VersionParts) -> Result<Version, PartsError>
-    ensures { Gives PartsError.Memory (λ v. v) result (version_from parts) }
+fn version_from_parts(alloc: Global, parts: VersionParts) -> Result<Version, PartsError>
+    ensures { Gives PartsError.Memory (λ v. v) result (version_from_parts parts) }
 {
     if parts.release.is_empty() {
         return Err(PartsError::EmptyRelease);
     }
-    if !has_segments_alone(&parts.local) {
+    if !are_segments(&parts.local) {
         return Err(PartsError::LocalSegment);
     }
     Ok(Version::with_parts(alloc, parts)?)
 }
 
-fn has_segments_alone(local: &[LocalPart]) -> bool
+fn are_segments(local: &[LocalPart]) -> bool
     ensures { result ≡ list_all is_segment local.now }
 {
     local.iter().all(|part| is_segment(part))

@@ -4,10 +4,7 @@ ghost use Rattle.std.specs.Prelude.{◌≡◌, ◌<◌, ◌++◌, IfOk, OnOk, So
 ghost use Rattle.std.specs.Fmt.{padded};
 ghost use Rattle.std.specs.List.{flat_map};
 ghost use Rattle.pyver_core.specs.Inner.PartsRef.{parts_of};
-ghost use Rattle.pyver_core.specs.Version.Normal.{decimal_text, dev_text, dotted_number};
-ghost use Rattle.pyver_core.specs.Version.Normal.{dotted_segment, epoch_text, letters, local_text};
-ghost use Rattle.pyver_core.specs.Version.Normal.{normal, post_text, pre_text, release_text};
-ghost use Rattle.pyver_core.specs.Version.Normal.{segment_text};
+ghost use Rattle.pyver_core.specs.Version.Normal as normal;
 
 use crate::version::{LocalPart, PartsRef, PreKind, Version};
 use itoa::Buffer;
@@ -21,7 +18,7 @@ const USUAL_LENGTH: usize = 24;
 
 /// The normal form of a version with these parts.
 pub(crate) fn normal_text(alloc: Global, parts: &PartsRef<'_>) -> Result<String, AllocError>
-    ensures { IfOk result (λ t. string_bytes t ≡ normal (parts_of parts.now)) }
+    ensures { IfOk result (λ t. string_bytes t ≡ normal.normal_text (parts_of parts.now)) }
 {
     let mut text = String::with_capacity(alloc, USUAL_LENGTH)?;
     push_epoch(&mut text, parts.epoch)?;
@@ -33,9 +30,10 @@ pub(crate) fn normal_text(alloc: Global, parts: &PartsRef<'_>) -> Result<String,
     Ok(text)
 }
 
-#[tactic(auto, using(crate::proofs::Lemmas::Version::Decimal::decimal_is_text))]
+#[tactic(auto, using(crate::proofs::Lemmas::Version::Normal::Decimal::decimal_is_text))]
 fn push_number(text: &mut String, number: u128) -> Result<(), AllocError>
-    ensures { OnOk result (string_bytes text.new ≡ string_bytes text.old ++ decimal_text number) }
+    ensures { OnOk result (string_bytes text.new
+        ≡ string_bytes text.old ++ normal.decimal_text number) }
 {
     match u64::try_from(number) {
         Ok(short) if short < 10 => push_digit(text, short as u8),
@@ -45,17 +43,19 @@ fn push_number(text: &mut String, number: u128) -> Result<(), AllocError>
 }
 
 /// Writes a number of one digit, as most are.
-#[tactic(auto, using(crate::proofs::Lemmas::Version::Decimal::digit_is_text))]
+#[tactic(auto, using(crate::proofs::Lemmas::Version::Normal::Decimal::digit_is_text))]
 fn push_digit(text: &mut String, digit: u8) -> Result<(), AllocError>
     requires { digit < 10 }
-    ensures { OnOk result (string_bytes text.new ≡ string_bytes text.old ++ decimal_text digit) }
+    ensures { OnOk result (string_bytes text.new
+        ≡ string_bytes text.old ++ normal.decimal_text digit) }
 {
     text.push(char::from(b'0' + digit))
 }
 
 /// Writes the epoch where it isn't 0.
 pub(crate) fn push_epoch(text: &mut String, epoch: u128) -> Result<(), AllocError>
-    ensures { OnOk result (string_bytes text.new ≡ string_bytes text.old ++ epoch_text epoch) }
+    ensures { OnOk result (string_bytes text.new
+        ≡ string_bytes text.old ++ normal.epoch_text epoch) }
 {
     if epoch != 0 {
         push_number(text, epoch)?;
@@ -67,7 +67,7 @@ pub(crate) fn push_epoch(text: &mut String, epoch: u128) -> Result<(), AllocErro
 /// Writes the numbers of a release.
 pub(crate) fn push_release(text: &mut String, release: &[u128]) -> Result<(), AllocError>
     ensures { OnOk result (string_bytes text.new
-        ≡ string_bytes text.old ++ release_text release.now) }
+        ≡ string_bytes text.old ++ normal.release_text release.now) }
 {
     if let Some((first, rest)) = release.split_first() {
         push_number(text, *first)?;
@@ -78,7 +78,7 @@ pub(crate) fn push_release(text: &mut String, release: &[u128]) -> Result<(), Al
 
 fn push_dotted(text: &mut String, numbers: &[u128]) -> Result<(), AllocError>
     ensures { OnOk result (string_bytes text.new
-        ≡ string_bytes text.old ++ flat_map dotted_number numbers.now) }
+        ≡ string_bytes text.old ++ flat_map normal.dotted_number numbers.now) }
 {
     for number in numbers {
         text.push('.')?;
@@ -88,17 +88,17 @@ fn push_dotted(text: &mut String, numbers: &[u128]) -> Result<(), AllocError>
 }
 
 fn push_pre(text: &mut String, pre: Option<(PreKind, u128)>) -> Result<(), AllocError>
-    ensures { OnOk result (string_bytes text.new ≡ string_bytes text.old ++ pre_text pre) }
+    ensures { OnOk result (string_bytes text.new ≡ string_bytes text.old ++ normal.pre_text pre) }
 {
     if let Some((kind, number)) = pre {
-        text.push_str(letters(kind))?;
+        text.push_str(kind_text(kind))?;
         push_number(text, number)?;
     }
     Ok(())
 }
 
-fn letters(kind: PreKind) -> &'static str
-    ensures { result.now ≡ letters kind }
+fn kind_text(kind: PreKind) -> &'static str
+    ensures { result.now ≡ normal.kind_text kind }
 {
     match kind {
         PreKind::A => "a",
@@ -108,7 +108,7 @@ fn letters(kind: PreKind) -> &'static str
 }
 
 fn push_post(text: &mut String, post: Option<u128>) -> Result<(), AllocError>
-    ensures { OnOk result (string_bytes text.new ≡ string_bytes text.old ++ post_text post) }
+    ensures { OnOk result (string_bytes text.new ≡ string_bytes text.old ++ normal.post_text post) }
 {
     if let Some(number) = post {
         text.push_str(".post")?;
@@ -118,7 +118,7 @@ fn push_post(text: &mut String, post: Option<u128>) -> Result<(), AllocError>
 }
 
 fn push_dev(text: &mut String, dev: Option<u128>) -> Result<(), AllocError>
-    ensures { OnOk result (string_bytes text.new ≡ string_bytes text.old ++ dev_text dev) }
+    ensures { OnOk result (string_bytes text.new ≡ string_bytes text.old ++ normal.dev_text dev) }
 {
     if let Some(number) = dev {
         text.push_str(".dev")?;
@@ -128,7 +128,8 @@ fn push_dev(text: &mut String, dev: Option<u128>) -> Result<(), AllocError>
 }
 
 fn push_local(text: &mut String, local: &[LocalPart]) -> Result<(), AllocError>
-    ensures { OnOk result (string_bytes text.new ≡ string_bytes text.old ++ local_text local.now) }
+    ensures { OnOk result (string_bytes text.new
+        ≡ string_bytes text.old ++ normal.local_text local.now) }
 {
     if let Some((first, rest)) = local.split_first() {
         text.push_str("+")?;
@@ -143,7 +144,7 @@ fn push_local(text: &mut String, local: &[LocalPart]) -> Result<(), AllocError>
 
 fn push_segment(text: &mut String, segment: &LocalPart) -> Result<(), AllocError>
     ensures { OnOk result (string_bytes text.new
-        ≡ string_bytes text.old ++ segment_text segment.now) }
+        ≡ string_bytes text.old ++ normal.segment_text segment.now) }
 {
     match segment {
         LocalPart::Number(number) => push_number(text, *number),
@@ -160,9 +161,9 @@ impl fmt::Debug for Version {
 
 /// The normal form (PEP 440, "Normalization").
 impl fmt::Display for Version {
-    ghost output = { λ v. Some (normal v) };
+    ghost output = { λ v. Some (normal.normal_text v) };
 
-    ghost styled_output = { λ v spec. Some (padded spec (normal v)) };
+    ghost styled_output = { λ v spec. Some (padded spec (normal.normal_text v)) };
 
     fn fmt<W: fmt::Write>(&self, f: &mut fmt::Formatter<W>) -> fmt::Result {
         f.pad(self.text())

@@ -75,7 +75,7 @@ fn compare_releases(left: &[u128], right: &[u128]) -> Ordering
 }
 
 /// A release without the zeros at its end.
-#[tactic(auto, using(crate::proofs::Lemmas::Version::TrailingZeros::trailing_zeros))]
+#[tactic(auto, using(crate::proofs::Lemmas::Version::Hashing::TrailingZeros::trailing_zeros))]
 pub(crate) fn without_trailing_zeros(release: &[u128]) -> &[u128]
     ensures { result.now ≡ without_trailing_zeros release.now }
 {

@@ -38,7 +38,7 @@ impl Version {
     }
 }
 
-#[tactic(auto, using(crate::proofs::Lemmas::Version::Phases::phases))]
+#[tactic(auto, using(crate::proofs::Lemmas::Version::Order::Phases::phases))]
 fn key_of(alloc: Global, parts: &PartsRef<'_>) -> Result<Vec<u8>, AllocError>
     ensures { IfOk result (λ key. key.items ≡ order_key (parts_of parts.now)) }
 {

@@ -20,7 +20,7 @@ impl VersionParts {
     ghost use Rattle.pyver_core.specs.Inner.PartsRef.{parts_of};
 
     /// The parts, lent.
-    pub(crate) fn lent(&self) -> PartsRef<'_>
+    pub(crate) fn as_parts_ref(&self) -> PartsRef<'_>
         ensures { parts_of result ≡ self.now }
     {
         PartsRef {

@@ -5,7 +5,7 @@ use Rattle.pywheel_core.specs.Choice.{Ranked}
 use Rattle.pywheel_core.specs.Tag.{TagParts}
 use Rattle.pywheel_core.specs.Texts.{three_parts}
 use Rattle.pywheel_core.specs.Wheel.Cut.{WheelParts}
-use Rattle.pywheel_core.specs.declared.choice.Candidate.{Candidate}
+use Rattle.pywheel_core.specs.declared.choice.RankedWheel.{RankedWheel}
 use Rattle.pywheel_core.specs.declared.cut.TagSet.{TagSet}
 use Rattle.pywheel_core.specs.declared.cut.StemParts.{StemParts}
 
@@ -28,5 +28,5 @@ wheel_parts parts = record {
   tag_set = parts.tag_set.now;
 }
 
-abbrev pub candidate_of : Candidate → Ranked
-candidate_of c = record { rank = c.rank; build = c.wheel.now.build; place = c.place }
+abbrev pub ranked_wheel : RankedWheel → Ranked
+ranked_wheel c = record { rank = c.rank; build = c.wheel.now.build; place = c.position }

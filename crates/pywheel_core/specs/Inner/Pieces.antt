@@ -1,10 +1,10 @@
--- The pieces of the parts of a compressed tag set: how many there are, and their places.
+-- The pieces of the parts of a compressed tag set: how many there are, and their spans.
 use Rattle.std.specs.Prelude.{◌≡◌, ◌<◌, ◌^◌, true, List, [], ◌∷◌, length}
 use Rattle.pywheel_core.specs.Tag.{TagParts, has_tag_parts, pieces, tag_count}
-use Rattle.pywheel_core.specs.declared.place.Place.{Place}
+use Rattle.pywheel_core.specs.declared.span.Span.{Span}
 use Rattle.pywheel_core.specs.declared.tag_set.PieceCounts.{PieceCounts}
-use Rattle.pywheel_core.specs.declared.tag_set.PiecePlaces.{PiecePlaces}
-use Rattle.pywheel_core.specs.declared.tag_set.PiecePlaces.TheVariants.{One, Two, Many}
+use Rattle.pywheel_core.specs.declared.tag_set.PieceSpans.{PieceSpans}
+use Rattle.pywheel_core.specs.declared.tag_set.PieceSpans.TheVariants.{One, Two, Many}
 
 abbrev pub counts_of : TagParts → PieceCounts
 counts_of set = record {
@@ -18,7 +18,7 @@ counts_of set = record {
 abbrev pub AreCountable : TagParts → Type 0
 AreCountable set = (has_tag_parts set ≡ true) × (tag_count set < 2 ^ 64)
 
-abbrev pub places_in : PiecePlaces → List Place
-places_in (One place) = place ∷ []
-places_in (Two places) = places
-places_in (Many places) = places.items
+abbrev pub spans_in : PieceSpans → List Span
+spans_in (One span) = span ∷ []
+spans_in (Two spans) = spans
+spans_in (Many spans) = spans.items

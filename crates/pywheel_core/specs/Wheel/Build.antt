@@ -10,7 +10,7 @@ use Rattle.std.specs.Ordering.{nat_cmp, on, then_cmp}
 use Rattle.std.specs.Str.Parse.{digits_value}
 use Rattle.std.specs.declared.cmp.Ordering.{Ordering}
 
--- the digits at the front
+-- the leading digits
 abbrev pub leading_digits : List ℕ → List ℕ
 leading_digits build = take (prefix_len is_ascii_digit build) build
 
@@ -22,7 +22,7 @@ build_number build = digits_value 10 (leading_digits build)
 abbrev pub build_rest : List ℕ → List ℕ
 build_rest build = drop (prefix_len is_ascii_digit build) build
 
--- ASCII, with a digit or more in front, whose number isn't past
+-- ASCII, with a leading digit or more, whose number isn't past
 -- 340,282,366,920,938,463,463,374,607,431,768,211,455
 abbrev pub is_build : List ℕ → Bool
 is_build build = list_all is_ascii build

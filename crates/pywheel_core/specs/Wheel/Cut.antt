@@ -17,23 +17,23 @@ stem_of text = if bytes_eq (drop (length text - 4) text) (codes ".whl")
     then Some (take (length text - 4) text) else None
 
 -- the parts behind the version: three, which are a tag set
-unfoldable pub unbuilt : List ℕ → Option (Option (List ℕ) × List ℕ)
-unbuilt text = if is_some (three_parts 45 text) then Some (None, text) else None
+unfoldable pub end_without_build : List ℕ → Option (Option (List ℕ) × List ℕ)
+end_without_build text = if is_some (three_parts 45 text) then Some (None, text) else None
 
 -- or four, the first of which is the build tag
-unfoldable pub built : List ℕ → Option (Option (List ℕ) × List ℕ)
-built text = do
+unfoldable pub end_with_build : List ℕ → Option (Option (List ℕ) × List ℕ)
+end_with_build text = do
   build ← cut_at 45 text
   if is_some (three_parts 45 build.1) then Some (Some build.0, build.1) else None
 
 -- what stands behind the version: the build tag or none, and the tag set
 abbrev pub end_of : List ℕ → Option (Option (List ℕ) × List ℕ)
-end_of text = either (unbuilt text) (built text)
+end_of text = either (end_without_build text) (end_with_build text)
 
 -- the five or six parts, with `-` between them
 unfoldable pub parts_of : List ℕ → Option WheelParts
 parts_of stem = do
   name ← cut_at 45 stem
   version ← cut_at 45 name.1
-  end ← either (unbuilt version.1) (built version.1)
+  end ← end_of version.1
   Some (record { name = name.0; version = version.0; build = end.0; tag_set = end.1 })

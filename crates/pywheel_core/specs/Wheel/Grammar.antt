@@ -16,8 +16,8 @@ abbrev pub IsUndashed : List ℕ → Type 0
 IsUndashed text = list_any (λ b. b == 45) text ≡ false
 
 -- the parts in a row, with `-` between each two
-abbrev pub joined : List (List ℕ) → List ℕ
-joined parts = join_with_byte 45 parts
+abbrev pub join_dashed : List (List ℕ) → List ℕ
+join_dashed parts = join_with_byte 45 parts
 
 -- three parts stand for these tags: cut at each dot, they are parts of tags, and the tags are all
 -- triples
@@ -36,7 +36,7 @@ pub record Wheel (text name : List ℕ) (version : Parts) (build : Option (List 
   pub python : List ℕ
   pub abi : List ℕ
   pub platform : List ℕ
-  pub whole : text ≡ joined (name ∷ (spelling ∷ (option_to_list build
+  pub whole : text ≡ join_dashed (name ∷ (spelling ∷ (option_to_list build
       ++ (python ∷ (abi ∷ (platform ∷ [])))))) ++ codes ".whl"
   pub is_name : is_wheel_name name ≡ true
   pub is_undashed : IsUndashed spelling

@@ -1,6 +1,6 @@
 -- What the name of a wheel is to a contract.
 use Rattle.std.specs.Prelude.{ℕ, List, ◌∷◌, ◌++◌, codes, Option, Some, None}
-use Rattle.pyver_core.specs.Version.Normal.{normal}
+use Rattle.pyver_core.specs.Version.Normal.{normal_text}
 use Rattle.pyver_core.specs.Version.Parts.{Parts}
 use Rattle.pywheel_core.specs.Tag.{TagValue}
 
@@ -20,4 +20,4 @@ with_build (Some build) rest = build ++ (45 ∷ rest)
 -- the file name: the version in its normal form, the tags in lower case
 unfoldable pub wheel_text : WheelValue → List ℕ
 wheel_text w = w.name
-    ++ (45 ∷ (normal w.version ++ (45 ∷ with_build w.build (w.tag_set ++ codes ".whl"))))
+    ++ (45 ∷ (normal_text w.version ++ (45 ∷ with_build w.build (w.tag_set ++ codes ".whl"))))

@@ -1,5 +1,5 @@
 use Rattle.std.proofs.Common.{arith}
-use Rattle.pywheel_core.proofs.Cuts.{split_once_is}
+use Rattle.pywheel_core.proofs.Lemmas.Texts.Cuts.{split_once_is}
 use Rattle.pylock_audit.proofs.url.around_at.Goals as goal
 
 pub returns : goal.returns

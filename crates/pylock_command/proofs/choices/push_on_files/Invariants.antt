@@ -1,10 +1,10 @@
 use Rattle.std.proofs.Common.{◌+◌, ◌-◌, length, map}
-use Rattle.pylock_command.specs.Choices.{written}
+use Rattle.pylock_command.specs.Choices.{option_words}
 use Rattle.pylock_command.proofs.ChoiceLemmas.{Merging}
 use Rattle.pylock_command.proofs.choices.push_on_files.Given as goal
 
 abbrev pub invariant-loop-wheel : goal.invariant-loop-wheel
-invariant-loop-wheel l = Merging l.wheels l.sources l.wheel l.source (map written l.initial.choices.items) l.choices.items
+invariant-loop-wheel l = Merging l.wheels l.sources l.wheel l.source (map option_words l.initial.choices.items) l.choices.items
 
 abbrev pub decreases-loop-wheel : goal.decreases-loop-wheel
 decreases-loop-wheel l = (length l.wheels - l.wheel) + (length l.sources - l.source)

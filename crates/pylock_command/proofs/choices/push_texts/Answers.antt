@@ -1,14 +1,14 @@
 use Rattle.std.proofs.Common.{map, sym, append-nil}
-use Rattle.pylock_command.specs.Choices.{written}
+use Rattle.pylock_command.specs.Choices.{option_words}
 use Rattle.pylock_command.proofs.ChoiceLemmas.{pushed-all, pushed-more}
 use Rattle.pylock_command.proofs.choices.push_texts.Goals as goal
 
 pub loop-text-init : goal.loop-text-init
-loop-text-init g c = sym (append-nil (map written c.args.choices.now.items))
+loop-text-init g c = sym (append-nil (map option_words c.args.choices.now.items))
 
 pub loop-text-preserved : goal.loop-text-preserved
 loop-text-preserved g c =
-    pushed-more c.args.name.now (map written c.args.choices.now.items) c.texts-text-items.result.now c.loop-text.text-index _ c.loop-text.choices.items
+    pushed-more c.args.name.now (map option_words c.args.choices.now.items) c.texts-text-items.result.now c.loop-text.text-index _ c.loop-text.choices.items
     c.push.new.self.items c.choice.result c.loop-text-test.true c.loop-text.invariant c.in_ok-push.ensures.items (c.requires.named _ _ c.choice.ensures)
 
 pub returns : goal.returns

@@ -10,4 +10,4 @@ returns c =
     let text : c.as_str.result.now ≡ join_by tag_text (codes " ") c.args.tags.now =
     c.as_str.ensures.value ∙ c.in_ok-text.ensures.ok ∙ ap (join_by string_bytes (codes " ")) c.deref.ensures.value
     ∙ joined_alike string_bytes tag_text (codes " ") c.in_ok-texts.texts.items c.args.tags.now c.in_ok-texts.ensures in
-    subst (λ t. OnOk c.push_next.result (c.push_next.new.out.items ≡ c.args.out.now.items ++ 9 ∷ field (Some t))) text c.push_next.ensures
+    subst (λ t. OnOk c.push_next_field.result (c.push_next_field.new.out.items ≡ c.args.out.now.items ++ 9 ∷ field (Some t))) text c.push_next_field.ensures

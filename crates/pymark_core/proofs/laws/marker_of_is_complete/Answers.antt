@@ -1,5 +1,5 @@
 use Rattle.std.proofs.Common.{Ok}
-use Rattle.pymark_core.proofs.MarkerLemmas.{marker_says, marker_whole}
+use Rattle.pymark_core.proofs.Lemmas.Marker.Reading.Answers.{marker_says, marker_whole}
 use Rattle.pymark_core.proofs.laws.marker_of_is_complete.Goals as goal
 
 pub returns-clause-sound : goal.returns-clause-sound

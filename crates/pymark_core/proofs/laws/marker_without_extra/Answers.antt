@@ -1,4 +1,4 @@
-use Rattle.pymark_core.proofs.ExtraLemmas.{tree_same}
+use Rattle.pymark_core.proofs.Lemmas.Marker.Value.WithoutExtra.{tree_same}
 use Rattle.pymark_core.proofs.laws.marker_without_extra.Goals as goal
 
 pub returns : goal.returns

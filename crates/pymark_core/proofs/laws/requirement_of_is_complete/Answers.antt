@@ -1,6 +1,6 @@
-use Rattle.pymark_core.proofs.RequirementAgain.{requirement_again}
-use Rattle.pymark_core.proofs.RequirementTakes.{requirement_takes}
+use Rattle.pymark_core.proofs.Lemmas.Requirement.Complete.{requirement_complete}
+use Rattle.pymark_core.proofs.Lemmas.Requirement.Sound.{requirement_sound}
 use Rattle.pymark_core.proofs.laws.requirement_of_is_complete.Goals as goal
 
 pub returns : goal.returns
-returns c = record { sound = requirement_takes; complete = requirement_again }
+returns c = record { sound = requirement_sound; complete = requirement_complete }

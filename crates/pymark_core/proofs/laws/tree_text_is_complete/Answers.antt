@@ -1,4 +1,4 @@
-use Rattle.pymark_core.proofs.MarkerLemmas.{text_complete, text_sound}
+use Rattle.pymark_core.proofs.Lemmas.Marker.Reading.Answers.{text_complete, text_sound}
 use Rattle.pymark_core.proofs.laws.tree_text_is_complete.Goals as goal
 
 pub returns-clause-sound : goal.returns-clause-sound

@@ -1,8 +1,8 @@
 use Rattle.std.proofs.Common.{◌≡◌, true, false, rules, refl, sym, ◌∙◌}
 use Rattle.std.specs.Prelude.{string_bytes}
-use Rattle.pytext.specs.White.{trimmed}
+use Rattle.pytext.specs.White.{trim_white}
 use Rattle.std.proofs.lemmas.Result.{err_from_is_err_and}
-use Rattle.pymark_core.proofs.MarkerLemmas.{marker_deep, marker_misused, marker_refused, marker_taken}
+use Rattle.pymark_core.proofs.Lemmas.Marker.Reading.Answers.{marker_deep, marker_misused, marker_refused, marker_taken}
 use Rattle.pymark_core.specs.Marker.Grammar.{has_misuse}
 use Rattle.pymark_core.specs.Marker.View.{tree_view}
 use Rattle.pymark_core.proofs.marker.read_marker.Goals as goal
@@ -24,4 +24,4 @@ pub returns : goal.returns
 returns c =
     let fits : has_misuse (tree_view c.in_ok-tree.tree) ≡ false = sym c.in_ok-tree.ensures.notes.misuse ∙ c.if-notes.false in
     marker_taken c.args.text.now (tree_view c.in_ok-tree.tree) (sym c.is_deep.ensures ∙ c.if-is_deep.false) c.in_ok-tree.ensures.tree fits
-    ∙ (let text : string_bytes c.in_ok-text.text ≡ trimmed c.args.text.now = search rules in rw (c.in_ok-share.ensures, text) refl)
+    ∙ (let text : string_bytes c.in_ok-text.text ≡ trim_white c.args.text.now = search rules in rw (c.in_ok-share_parsed.ensures, text) refl)

@@ -1,5 +1,5 @@
 use Rattle.std.proofs.Common.{arith, length, ◌/◌, ◌-◌}
-use Rattle.pymark_core.proofs.Substrings.{unlike_bytes_at}
+use Rattle.pymark_core.proofs.Lemmas.Marker.Value.Substrings.{unlike_bytes_at}
 use Rattle.pymark_core.proofs.substring.is_alike_at.Goals as goal
 
 pub returns : goal.returns

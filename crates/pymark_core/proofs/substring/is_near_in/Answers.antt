@@ -1,5 +1,5 @@
 use Rattle.std.proofs.lemmas.Str.Pattern.{contains_text}
-use Rattle.pymark_core.proofs.Substrings.{substring_is}
+use Rattle.pymark_core.proofs.Lemmas.Marker.Value.Substrings.{substring_is}
 use Rattle.pymark_core.proofs.substring.is_near_in.Goals as goal
 
 pub returns : goal.returns

@@ -7,7 +7,7 @@ use Rattle.std.specs.Char.{to_ascii_lowercase}
 use Rattle.std.specs.Prelude.{if◌then◌else◌, nat_lt}
 use lib.Utf8.{encode}
 use Rattle.pytext.specs.Bytes.{is_separator}
-use Rattle.pyver_core.specs.Name.{norm}
+use Rattle.pyver_core.specs.Name.{normal_name}
 
 -- the normal form of what follows, by whether the character before is a separator
 unfoldable pub collapse : Bool → List ℕ → List ℕ
@@ -16,20 +16,20 @@ collapse true (b ∷ rest) = if is_separator b then collapse true rest else to_a
 collapse false (b ∷ rest) = if is_separator b then 45 ∷ collapse true rest else to_ascii_lowercase b ∷ collapse false rest
 
 mutual
-  unfolding norm collapse
+  unfolding normal_name collapse
 
-  norm-run : (b : ℕ) (rest : List ℕ) → is_separator b ≡ true → norm (b ∷ rest) ≡ 45 ∷ collapse true rest
-  norm-run b [] separates = rw separates refl
-  norm-run b (c ∷ rest) separates = elim (cases_Bool (is_separator c)) [
-    | inl more ↦ rw (separates, more) (rw more at (norm-run c rest more))
-    | inr other ↦ rw (separates, other) (ap (λ (name : List ℕ). 45 ∷ to_ascii_lowercase c ∷ name) (norm-collapse rest))
+  normal_name-run : (b : ℕ) (rest : List ℕ) → is_separator b ≡ true → normal_name (b ∷ rest) ≡ 45 ∷ collapse true rest
+  normal_name-run b [] separates = rw separates refl
+  normal_name-run b (c ∷ rest) separates = elim (cases_Bool (is_separator c)) [
+    | inl more ↦ rw (separates, more) (rw more at (normal_name-run c rest more))
+    | inr other ↦ rw (separates, other) (ap (λ (name : List ℕ). 45 ∷ to_ascii_lowercase c ∷ name) (normal_name-collapse rest))
   ]
 
-  pub norm-collapse : (text : List ℕ) → norm text ≡ collapse false text
-  norm-collapse [] = refl
-  norm-collapse (b ∷ rest) = elim (cases_Bool (is_separator b)) [
-    | inl separates ↦ norm-run b rest separates ∙ rw separates refl
-    | inr other ↦ rw other (ap (λ (name : List ℕ). to_ascii_lowercase b ∷ name) (norm-collapse rest))
+  pub normal_name-collapse : (text : List ℕ) → normal_name text ≡ collapse false text
+  normal_name-collapse [] = refl
+  normal_name-collapse (b ∷ rest) = elim (cases_Bool (is_separator b)) [
+    | inl separates ↦ normal_name-run b rest separates ∙ rw separates refl
+    | inr other ↦ rw other (ap (λ (name : List ℕ). to_ascii_lowercase b ∷ name) (normal_name-collapse rest))
   ]
 
 -- separators are ASCII

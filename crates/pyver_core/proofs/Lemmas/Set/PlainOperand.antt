@@ -4,7 +4,7 @@ use Rattle.std.specs.Option.{IfSome}
 use Rattle.std.proofs.lemmas.List.Folds.{list_all-append}
 use Rattle.pytext.specs.Bytes.{is_white}
 use Rattle.pytext.specs.White.{after_white}
-use Rattle.pytext.proofs.Fronts.{white_takes}
+use Rattle.pytext.proofs.WhiteLemmas.{after_white_splits}
 use Rattle.pyver_core.specs.Inner.Plain.{IsPlain}
 use Rattle.pyver_core.specs.Inner.PlainOperand.{least_numbers, with_version}
 use Rattle.pyver_core.specs.Set.Grammar.{specifier_numbers}
@@ -15,17 +15,17 @@ use Rattle.pyver_core.specs.declared.set.specifier.Operator.{Operator}
 use Rattle.pyver_core.specs.declared.set.specifier.Operator.TheVariants as operator
 use Rattle.pyver_core.specs.declared.set.specifier.Specifier.{Specifier}
 use Rattle.pyver_core.specs.declared.set.specifier.Specifier.TheVariants as specifier
-use Rattle.pyver_core.proofs.Lemmas.Set.Complete.{operand_again}
+use Rattle.pyver_core.proofs.Lemmas.Set.Reading.Complete.{operand_complete}
 use Rattle.pyver_core.proofs.Lemmas.Version.Plain.{plain_spells}
 
 -- what is read of the operand is this specifier, and none of its numbers is past the limit
 abbrev IsRead : Operator → List ℕ → Specifier → Type 0
 IsRead o text s = (operand_of o text ≡ Some s) × (has_large (specifier_numbers s) ≡ false)
 
--- a text spells what it spells behind white space
-spells_behind : (text : List ℕ) (v : Parts) → Spells (after_white text) v → Spells text v
-spells_behind text v s =
-    let w = white_takes text in
+-- a text spells what it spells after white space
+spells_after_white : (text : List ℕ) (v : Parts) → Spells (after_white text) v → Spells text v
+spells_after_white text v s =
+    let w = after_white_splits text in
     let rest = s.prefix ++ (s.epoch ++ (s.release ++ (s.pre ++ (s.post ++ (s.dev ++ (s.local ++ s.after)))))) in
     record {
       before = w.0 ++ s.before;
@@ -49,18 +49,18 @@ spells_behind text v s =
       is_after = s.is_after;
     }
 
-plain_behind : (text : List ℕ) (v : Parts) → IsPlain (after_white text) v → Spells text v
-plain_behind text v is = spells_behind text v (plain_spells (after_white text) v is)
+plain_after_white : (text : List ℕ) (v : Parts) → IsPlain (after_white text) v → Spells text v
+plain_after_white text v is = spells_after_white text v (plain_spells (after_white text) v is)
 
 pub plain_operand : (o : Operator) (text : List ℕ) (v : Parts) (least : ℕ) → least_numbers o ≡ Some least → least ≤ length v.release
     → IsPlain (after_white text) v → has_large (numbers v) ≡ false → IfSome (with_version o v) (IsRead o text)
-plain_operand operator.Equal text v least e enough is fits = (operand_again (specifier.Equal v) text (plain_behind text v is), fits)
-plain_operand operator.NotEqual text v least e enough is fits = (operand_again (specifier.NotEqual v) text (plain_behind text v is), fits)
-plain_operand operator.AtMost text v least e enough is fits = (operand_again (specifier.AtMost v) text (plain_behind text v is, is.local), fits)
-plain_operand operator.AtLeast text v least e enough is fits = (operand_again (specifier.AtLeast v) text (plain_behind text v is, is.local), fits)
-plain_operand operator.Before text v least e enough is fits = (operand_again (specifier.Before v) text (plain_behind text v is, is.local), fits)
-plain_operand operator.After text v least e enough is fits = (operand_again (specifier.After v) text (plain_behind text v is, is.local), fits)
+plain_operand operator.Equal text v least e enough is fits = (operand_complete (specifier.Equal v) text (plain_after_white text v is), fits)
+plain_operand operator.NotEqual text v least e enough is fits = (operand_complete (specifier.NotEqual v) text (plain_after_white text v is), fits)
+plain_operand operator.AtMost text v least e enough is fits = (operand_complete (specifier.AtMost v) text (plain_after_white text v is, is.local), fits)
+plain_operand operator.AtLeast text v least e enough is fits = (operand_complete (specifier.AtLeast v) text (plain_after_white text v is, is.local), fits)
+plain_operand operator.Before text v least e enough is fits = (operand_complete (specifier.Before v) text (plain_after_white text v is, is.local), fits)
+plain_operand operator.After text v least e enough is fits = (operand_complete (specifier.After v) text (plain_after_white text v is, is.local), fits)
 plain_operand operator.Compatible text v least e enough is fits =
     let two : 2 ≡ least = cc in
-    (operand_again (specifier.Compatible v) text (plain_behind text v is, is.local, subst (λ n. n ≤ length v.release) (sym two) enough), fits)
+    (operand_complete (specifier.Compatible v) text (plain_after_white text v is, is.local, subst (λ n. n ≤ length v.release) (sym two) enough), fits)
 plain_operand operator.Arbitrary text v least e enough is fits = tt

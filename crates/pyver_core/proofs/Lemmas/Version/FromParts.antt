@@ -6,18 +6,18 @@ use Rattle.std.specs.List.{list_all}
 use Rattle.std.specs.Str.{str_to_ascii_lowercase}
 use Rattle.std.proofs.lemmas.Bool.Decides.{nat_tests}
 use Rattle.pytext.specs.Agreement.{Gives}
-use Rattle.pyver_core.specs.Version.FromParts.{is_segment, is_segment_byte, version_from}
+use Rattle.pyver_core.specs.Version.FromParts.{is_segment, is_segment_byte, version_from_parts}
 use Rattle.pytext.specs.Bytes.{is_separator}
 use Rattle.pyver_core.specs.Version.Grammar.{AreBehind, IsLocal, IsRelease, IsSegment, Spells}
-use Rattle.pyver_core.specs.Version.Normal.{dotted_number, dotted_segment, decimal_text, local_text, normal, release_text, segment_text}
+use Rattle.pyver_core.specs.Version.Normal.{dotted_number, dotted_segment, decimal_text, local_text, normal_text, release_text, segment_text}
 use Rattle.pyver_core.specs.Version.Parts.{Parts}
 use Rattle.pyver_core.specs.declared.version.from_parts.PartsError.{PartsError}
 use Rattle.pyver_core.specs.declared.version.from_parts.PartsError.TheVariants.{EmptyRelease, LocalSegment, Memory}
 use Rattle.pyver_core.specs.declared.version.part.LocalPart.{LocalPart}
 use Rattle.pyver_core.specs.declared.version.part.LocalPart.TheVariants.{Number, Text}
 use Rattle.std.proofs.lemmas.Bool.{and_parts, cases_Bool, not-true}
-use Rattle.pytext.proofs.Fronts.{all_cons}
-use Rattle.pyver_core.proofs.Lemmas.Version.NormalForm.{all_lower_digits, dotted_spelt, normal_spells_parts, number_spelt}
+use Rattle.pytext.proofs.BytesLemmas.{all_cons}
+use Rattle.pyver_core.proofs.Lemmas.Version.Normal.Spells.{all_lower_digits, dotted_spelt, normal_spells_parts, number_spelt}
 
 -- ---- segments
 
@@ -77,42 +77,42 @@ spelt_local text (s ∷ ss) is = rw (spelt_segment is.0 s is.3) (spelt_segments 
 
 -- ---- versions
 
-abbrev judged : List ℕ → List LocalPart → Parts → Result Parts PartsError
-judged release local p = if length release == 0 then Err EmptyRelease else (if list_all is_segment local then Ok p else Err LocalSegment)
+abbrev parts_or_refusal : List ℕ → List LocalPart → Parts → Result Parts PartsError
+parts_or_refusal release local p = if length release == 0 then Err EmptyRelease else (if list_all is_segment local then Ok p else Err LocalSegment)
 
 not_zero : (n : ℕ) → (suc n == 0) ≡ false
 not_zero n = grind (arith, nat_tests)
 
-spelt_judged : (text : List ℕ) (ns : List ℕ) (local : List LocalPart) (p : Parts) → IsRelease text ns → list_all is_segment local ≡ true → judged ns local p ≡ Ok p
-spelt_judged text [] local p is e = absurd is
-spelt_judged text (n ∷ ns) local p is e = rw (not_zero (length ns), e) refl
+parts_or_refusal-spelt : (text : List ℕ) (ns : List ℕ) (local : List LocalPart) (p : Parts) → IsRelease text ns → list_all is_segment local ≡ true → parts_or_refusal ns local p ≡ Ok p
+parts_or_refusal-spelt text [] local p is e = absurd is
+parts_or_refusal-spelt text (n ∷ ns) local p is e = rw (not_zero (length ns), e) refl
 
-pub spelt_from : (text : List ℕ) (p : Parts) → Spells text p → version_from p ≡ Ok p
-spelt_from text p s = spelt_judged s.release p.release p.local p s.is_release (spelt_local s.local p.local s.is_local)
+pub spelt_from : (text : List ℕ) (p : Parts) → Spells text p → version_from_parts p ≡ Ok p
+spelt_from text p s = parts_or_refusal-spelt s.release p.release p.local p s.is_release (spelt_local s.local p.local s.is_local)
 
-judged_Ok : (ns : List ℕ) (local : List LocalPart) (p v : Parts) → judged ns local p ≡ Ok v
+parts_or_refusal-Ok : (ns : List ℕ) (local : List LocalPart) (p v : Parts) → parts_or_refusal ns local p ≡ Ok v
     → (p ≡ v) × IsRelease (release_text ns) ns × (list_all is_segment local ≡ true)
-judged_Ok [] local p v e = absurd cc
-judged_Ok (n ∷ ns) local p v e = elim (cases_Bool (list_all is_segment local)) [
+parts_or_refusal-Ok [] local p v e = absurd cc
+parts_or_refusal-Ok (n ∷ ns) local p v e = elim (cases_Bool (list_all is_segment local)) [
   | inl all ↦ (let same : Ok p ≡ Ok v = rw (not_zero (length ns), all) at e in cc, release_spells n ns, all)
   | inr other ↦ absurd (let no : Err LocalSegment ≡ Ok v = rw (not_zero (length ns), other) at e in cc)
 ]
 
-pub from_spells : (p v : Parts) → version_from p ≡ Ok v → (v ≡ p) × Spells (normal p) p
+pub from_spells : (p v : Parts) → version_from_parts p ≡ Ok v → (v ≡ p) × Spells (normal_text p) p
 from_spells p v e =
-    let both = judged_Ok p.release p.local p v e in
+    let both = parts_or_refusal-Ok p.release p.local p v e in
     (sym both.0, normal_spells_parts p both.1 (local_spells p.local both.2))
 
-pub normal_spells : (text : List ℕ) (p : Parts) → Spells text p → Spells (normal p) p
+pub normal_spells : (text : List ℕ) (p : Parts) → Spells text p → Spells (normal_text p) p
 normal_spells text p s = (from_spells p p (spelt_from text p s)).1
 
-pub made_ok : (p : Parts) (r : Result Parts PartsError) → Gives Memory (λ v. v) r (version_from p) → IfOk r (λ v. (v ≡ p) × Spells (normal v) v)
+pub made_ok : (p : Parts) (r : Result Parts PartsError) → Gives Memory (λ v. v) r (version_from_parts p) → IfOk r (λ v. (v ≡ p) × Spells (normal_text v) v)
 made_ok p (Ok v) a =
     let both = from_spells p v a in
     (both.0, rw both.0 both.1)
 made_ok p (Err e) a = tt
 
-pub made_refused : (p : Parts) (r : Result Parts PartsError) → Gives Memory (λ v. v) r (version_from p)
+pub made_refused : (p : Parts) (r : Result Parts PartsError) → Gives Memory (λ v. v) r (version_from_parts p)
     → IfErr r (λ e. (e ≡ Memory → ⊥) → (text : List ℕ) → Spells text p → ⊥)
 made_refused p (Ok v) a = tt
 made_refused p (Err e) a = λ other text s. let both : Ok p ≡ Err e = sym (spelt_from text p s) ∙ a other in cc

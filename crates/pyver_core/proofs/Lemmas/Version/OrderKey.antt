@@ -12,16 +12,16 @@ use Rattle.std.proofs.lemmas.Bool.Decides.{nat_tests}
 use Rattle.std.proofs.Math.Nat.{pow-suc}
 use Rattle.std.proofs.lemmas.Cmp.{nat_list_cmp_total, tied_itself}
 use Rattle.std.specs.FinMap.{nat_cmp-IsAntisymmetric, slice_cmp-IsAntisymmetric}
-use Rattle.pyver_core.specs.Version.Order.{dev_cmp, phase_number, phase_rank, same, segment_cmp, version_cmp}
+use Rattle.pyver_core.specs.Version.Order.{dev_cmp, phase_number, phase_rank, IsSame, segment_cmp, version_cmp}
 use Rattle.pyver_core.specs.Version.OrderKey.{list_key, number_key, number_key_with_fuel, optional_key, order_key, segment_key}
 use Rattle.pyver_core.specs.Version.Parts.{Parts}
 use Rattle.pyver_core.specs.Version.Hashing.{without_trailing_zeros}
 use Rattle.pyver_core.specs.Inner.Releases.{release_cmp_without_zeros}
 use Rattle.pyver_core.specs.declared.version.part.LocalPart.{LocalPart}
 use Rattle.pyver_core.specs.declared.version.part.LocalPart.TheVariants.{Number, Text}
-use Rattle.pyver_core.proofs.Lemmas.Version.InTurn.{then_assoc}
+use Rattle.pyver_core.proofs.Lemmas.Version.Order.InTurn.{then_assoc}
 
--- keys keep an order: what stands behind two of them decides only where the order ties
+-- keys keep an order: what stands after two of them decides only where the order ties
 abbrev pub Keeps : {X : Type 0} → (X → X → Ordering) → (X → List ℕ) → Type 0
 Keeps {X} c key = (x y : X) (s t : List ℕ) → slice_cmp nat_cmp (key x ++ s) (key y ++ t) ≡ ordering_then (c x y) (slice_cmp nat_cmp s t)
 
@@ -134,7 +134,7 @@ before_key key s t (b, rest, is, above, below) = rw (is, is_less 0 b above) refl
 behind_key : (key s t : List ℕ) → IsBetween key → slice_cmp nat_cmp (key ++ s) (0 ∷ t) ≡ Greater
 behind_key key s t (b, rest, is, above, below) = rw (is, is_greater b 0 above) refl
 
--- no developmental release stands behind one
+-- no developmental release stands after one
 before_none : (key s t : List ℕ) → IsBetween key → slice_cmp nat_cmp (key ++ s) (255 ∷ t) ≡ Less
 before_none key s t (b, rest, is, above, below) = rw (is, is_less b 255 below) refl
 
@@ -189,7 +189,7 @@ segments_keep = list_keeps segment_cmp segment_key segment_keeps segment_between
 
 -- ---- versions
 
--- the key of a version, with what stands behind it
+-- the key of a version, with what stands after it
 order_key-parts : (v : Parts) (s : List ℕ) → order_key v ++ s ≡ number_key v.epoch ++ (list_key number_key (without_trailing_zeros v.release) ++ (phase_rank v.pre v.post v.dev ∷ (number_key (phase_number v.pre) ++ (optional_key 0 v.post ++ (optional_key 255 v.dev ++ (list_key segment_key v.local ++ s))))))
 order_key-parts v s = simp append_assoc
 
@@ -200,7 +200,7 @@ version_cmp-then : (v w : Parts) (r : Ordering) → ordering_then (version_cmp v
 unfolding version_cmp
 version_cmp-then v w r = rw (release_cmp_without_zeros v.release w.release) (simp then_assoc)
 
--- the comparisons of two versions one by one, each with what stands behind
+-- the comparisons of two versions one by one, each with what stands after
 pub order_keeps : Keeps version_cmp order_key
 order_keeps v w s t =
     let K : List ℕ → List ℕ → Ordering = slice_cmp nat_cmp in
@@ -233,9 +233,9 @@ keys_order v w =
     (λ i. slice_cmp nat_cmp (sym (append-nil (order_key v)) i) (sym (append-nil (order_key w)) i))
     ∙ order_keeps v w [] [] ∙ then-Equal (version_cmp v w)
 
-pub keys_equal : (v w : Parts) → same v w ↔ (order_key v ≡ order_key w)
+pub keys_equal : (v w : Parts) → IsSame v w ↔ (order_key v ≡ order_key w)
 keys_equal v w = (
-  λ (tie : same v w). slice_cmp-IsAntisymmetric nat_cmp-IsAntisymmetric (order_key v) (order_key w) (keys_order v w ∙ tie),
+  λ (tie : IsSame v w). slice_cmp-IsAntisymmetric nat_cmp-IsAntisymmetric (order_key v) (order_key w) (keys_order v w ∙ tie),
   λ (one : order_key v ≡ order_key w). sym (keys_order v w)
       ∙ ap (λ (k : List ℕ). slice_cmp nat_cmp k (order_key w)) one ∙ tied_itself nat_list_cmp_total (order_key w),
 )

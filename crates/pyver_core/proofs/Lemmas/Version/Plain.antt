@@ -15,12 +15,12 @@ use Rattle.pyver_core.specs.Version.Parts.{Parts}
 use Rattle.pyver_core.specs.declared.version.error.VersionError.TheVariants.{NumberTooLarge}
 use Rattle.pyver_core.specs.declared.version.part.LocalPart.{LocalPart}
 use Rattle.pyver_core.specs.declared.version.part.PreKind.{PreKind}
-use Rattle.pyver_core.proofs.Lemmas.Outcomes.{within-false}
-use Rattle.pyver_core.proofs.Lemmas.Version.Complete.Whole.{version_again}
-use Rattle.pyver_core.proofs.Lemmas.Version.Decimal.{decimal_is_text}
+use Rattle.pyver_core.proofs.Lemmas.Parsed.Outcomes.{within-false}
+use Rattle.pyver_core.proofs.Lemmas.Version.Reading.Complete.Whole.{version_complete}
+use Rattle.pyver_core.proofs.Lemmas.Version.Normal.Decimal.{decimal_is_text}
 use Rattle.pyver_core.proofs.Lemmas.Version.FromParts.{release_spells}
-use Rattle.pyver_core.proofs.Lemmas.Version.Limits.{has_large-append}
-use Rattle.pyver_core.proofs.Lemmas.Version.NormalForm.{normal_spells_parts}
+use Rattle.pyver_core.proofs.Lemmas.Version.Grammar.Limits.{has_large-append}
+use Rattle.pyver_core.proofs.Lemmas.Version.Normal.Spells.{normal_spells_parts}
 
 -- ---- one more digit, and one more number
 
@@ -68,7 +68,7 @@ pub plain_is_read : (text : List ℕ) (p : Parts) → IsPlain text p → has_lar
 unfolding parsed_version
 plain_is_read text p is fits =
     let spells = plain_spells text p is in
-    rw (version_again text p spells) (within-false NumberTooLarge (numbers p) p fits)
+    rw (version_complete text p spells) (within-false NumberTooLarge (numbers p) p fits)
 
 -- ---- the first byte of a text, where it is a digit
 

@@ -1,4 +1,4 @@
-use Rattle.pyver_core.proofs.Lemmas.Version.Complete.Whole.{one_spelling_at}
+use Rattle.pyver_core.proofs.Lemmas.Version.Reading.Complete.Whole.{one_spelling_at}
 use Rattle.pyver_core.proofs.Lemmas.Version.FromParts.{normal_spells}
 use Rattle.pyver_core.proofs.laws.one_spelling.Goals as goal
 

@@ -5,7 +5,9 @@ ghost use Rattle.pyver_core.specs.Inner.Limit.{Makes};
 ghost use Rattle.pyver_core.specs.Set.Reading.{operand_of};
 ghost use Rattle.pyver_core.specs.Inner.SpecifierDraft.{base_prefix, draft_specifier};
 
-use super::operand::{read_arbitrary, read_compatible, read_prefix, read_public};
+use super::operand::{
+    read_arbitrary_text, read_compatible_version, read_prefix, read_public_version,
+};
 use crate::set::{Operator, ReleasePrefix, Specifier};
 use crate::version::reading::{Base, Draft, read_version};
 use crate::version::{Label, VersionError};
@@ -58,7 +60,7 @@ fn to_prefix(base: &Base<'_>, alloc: Global) -> Result<ReleasePrefix, VersionErr
     ensures { Makes (λ p. p) result (base_prefix base.now) (base.now.epoch ∷ base.now.release) }
 {
     let epoch = base.epoch.number()?;
-    let release = base.release.numbers(alloc)?;
+    let release = base.release.to_numbers(alloc)?;
     Ok(ReleasePrefix::new(epoch, release))
 }
 
@@ -69,7 +71,7 @@ fn to_label(text: &str, alloc: Global) -> Result<Label, AllocError>
     Ok(Label::new(String::from_str(alloc, text)?))
 }
 
-/// What stands behind the operator, read in its terms.
+/// What stands after the operator, read in its terms.
 #[tactic(auto, unfolding(crate::specs::Set::Reading::operand_of))]
 pub(crate) fn read_operand(operator: Operator, text: &str) -> Option<SpecifierDraft<'_>>
     ensures { option_map draft_specifier result ≡ operand_of operator text.now }
@@ -84,11 +86,11 @@ pub(crate) fn read_operand(operator: Operator, text: &str) -> Option<SpecifierDr
             Some(base) => SpecifierDraft::NotEqualPrefix(base),
             None => SpecifierDraft::NotEqual(read_version(bytes)?),
         },
-        Operator::AtMost => SpecifierDraft::AtMost(read_public(bytes)?),
-        Operator::AtLeast => SpecifierDraft::AtLeast(read_public(bytes)?),
-        Operator::Before => SpecifierDraft::Before(read_public(bytes)?),
-        Operator::After => SpecifierDraft::After(read_public(bytes)?),
-        Operator::Compatible => SpecifierDraft::Compatible(read_compatible(bytes)?),
-        Operator::Arbitrary => SpecifierDraft::Arbitrary(read_arbitrary(text)?),
+        Operator::AtMost => SpecifierDraft::AtMost(read_public_version(bytes)?),
+        Operator::AtLeast => SpecifierDraft::AtLeast(read_public_version(bytes)?),
+        Operator::Before => SpecifierDraft::Before(read_public_version(bytes)?),
+        Operator::After => SpecifierDraft::After(read_public_version(bytes)?),
+        Operator::Compatible => SpecifierDraft::Compatible(read_compatible_version(bytes)?),
+        Operator::Arbitrary => SpecifierDraft::Arbitrary(read_arbitrary_text(text)?),
     })
 }

@@ -1,15 +1,15 @@
-//! What stands behind the operator of a specifier.
+//! What stands after the operator of a specifier.
 
 ghost use Rattle.std.specs.Prelude.{◌≡◌, option_map};
 ghost use Rattle.std.specs.List.{prefix_len};
 ghost use Rattle.pyver_core.specs.Inner.Draft.{draft_parts};
-ghost use Rattle.pyver_core.specs.Set.Grammar.{is_arbitrary};
-ghost use Rattle.pyver_core.specs.Set.Reading.{arbitrary_of, compatible_of, is_star, prefix_of};
-ghost use Rattle.pyver_core.specs.Set.Reading.{public_of};
+ghost use Rattle.pyver_core.specs.Set.Grammar.{is_arbitrary_byte};
+ghost use Rattle.pyver_core.specs.Set.Reading.{arbitrary_text_of, compatible_version_of, is_star};
+ghost use Rattle.pyver_core.specs.Set.Reading.{prefix_of, public_version_of};
 ghost use Rattle.pyver_core.specs.Inner.SpecifierDraft.{base_prefix};
 
 use crate::version::reading::{Base, Draft, read_base, read_version};
-use pytext::{is_blank, is_white, past_white, past_white_bytes};
+use pytext::{after_white, after_white_bytes, is_blank, is_white};
 
 /// Whether `.*` is all that stands there, but for white space.
 fn is_star(bytes: &[u8]) -> bool
@@ -26,46 +26,46 @@ fn is_star(bytes: &[u8]) -> bool
 pub(super) fn read_prefix(bytes: &[u8]) -> Option<Base<'_>>
     ensures { option_map base_prefix result ≡ prefix_of bytes.now }
 {
-    let (base, rest) = read_base(past_white_bytes(bytes))?;
+    let (base, rest) = read_base(after_white_bytes(bytes))?;
     is_star(rest).then_some(base)
 }
 
 /// A version without a local part.
-#[tactic(auto, unfolding(crate::specs::Set::Reading::public_of))]
-pub(super) fn read_public(bytes: &[u8]) -> Option<Draft<'_>>
-    ensures { option_map draft_parts result ≡ public_of bytes.now }
+#[tactic(auto, unfolding(crate::specs::Set::Reading::public_version_of))]
+pub(super) fn read_public_version(bytes: &[u8]) -> Option<Draft<'_>>
+    ensures { option_map draft_parts result ≡ public_version_of bytes.now }
 {
     let draft = read_version(bytes)?;
     draft.local.is_empty().then_some(draft)
 }
 
 /// A version without a local part and with two numbers or more in its release.
-#[tactic(auto, unfolding(crate::specs::Set::Reading::compatible_of))]
-pub(super) fn read_compatible(bytes: &[u8]) -> Option<Draft<'_>>
-    ensures { option_map draft_parts result ≡ compatible_of bytes.now }
+#[tactic(auto, unfolding(crate::specs::Set::Reading::compatible_version_of))]
+pub(super) fn read_compatible_version(bytes: &[u8]) -> Option<Draft<'_>>
+    ensures { option_map draft_parts result ≡ compatible_version_of bytes.now }
 {
-    let draft = read_public(bytes)?;
-    draft.base.release.has_two().then_some(draft)
+    let draft = read_public_version(bytes)?;
+    draft.base.release.has_two_numbers().then_some(draft)
 }
 
 fn is_arbitrary_byte(byte: u8) -> bool
-    ensures { result ≡ is_arbitrary byte }
+    ensures { result ≡ is_arbitrary_byte byte }
 {
     !(is_white(byte) || matches!(byte, b';' | b')' | b','))
 }
 
 fn arbitrary_len(bytes: &[u8]) -> usize
-    ensures { result ≡ prefix_len is_arbitrary bytes.now }
+    ensures { result ≡ prefix_len is_arbitrary_byte bytes.now }
 {
     bytes.iter().take_while(|b| is_arbitrary_byte(**b)).count()
 }
 
 /// The text behind `===`, which has no white space, `;`, `)` or `,` in it.
-#[tactic(auto, unfolding(crate::specs::Set::Reading::arbitrary_of))]
-pub(super) fn read_arbitrary(text: &str) -> Option<&str>
-    ensures { option_map (λ t. t.now) result ≡ arbitrary_of text.now }
+#[tactic(auto, unfolding(crate::specs::Set::Reading::arbitrary_text_of))]
+pub(super) fn read_arbitrary_text(text: &str) -> Option<&str>
+    ensures { option_map (λ t. t.now) result ≡ arbitrary_text_of text.now }
 {
-    let text = past_white(text);
+    let text = after_white(text);
     let (run, rest) = text.split_at(arbitrary_len(text.as_bytes()));
     (!run.is_empty() && is_blank(rest.as_bytes())).then_some(run)
 }

@@ -1,11 +1,11 @@
-//! The operator at the front of a specifier.
+//! The operator that a specifier begins with.
 
 ghost use Rattle.std.specs.Prelude.{◌≡◌, option_map};
-ghost use Rattle.pyver_core.specs.Set.Reading.{behind_operator, operator_at};
+ghost use Rattle.pyver_core.specs.Set.Reading.{after_operator, operator_at};
 
 use crate::set::Operator;
 
-/// The longest operator at the front of the text.
+/// The longest operator that the text begins with.
 #[tactic(auto, unfolding(crate::specs::Set::Reading::operator_at))]
 fn longest_operator(text: &str) -> Option<Operator>
     ensures { result ≡ option_map (λ cut. cut.0) (operator_at text.now) }
@@ -23,22 +23,22 @@ fn longest_operator(text: &str) -> Option<Operator>
     }
 }
 
-/// The text behind the operator.
-fn past_operator(text: &str, operator: Operator) -> Option<&str>
-    ensures { option_map (λ rest. rest.now) result ≡ behind_operator operator text.now }
+/// The text after the operator.
+fn after_operator(text: &str, operator: Operator) -> Option<&str>
+    ensures { option_map (λ rest. rest.now) result ≡ after_operator operator text.now }
 {
     text.strip_prefix(operator.as_str())
 }
 
 impl Operator {
-    /// The longest operator at the front of a text, and the text behind it (PEP 440, "Version
+    /// The longest operator that the text begins with, and the text after it (PEP 440, "Version
     /// specifiers"). It takes no memory.
-    #[tactic(auto, using(crate::proofs::Lemmas::Set::Operators::no_cut))]
-    pub fn at_front(text: &str) -> Option<(Operator, &str)>
+    #[tactic(auto, using(crate::proofs::Lemmas::Set::Reading::Operators::no_cut))]
+    pub fn read(text: &str) -> Option<(Operator, &str)>
         ensures { option_map (λ cut. (cut.0, cut.1.now)) result ≡ operator_at text.now }
     {
         let operator = longest_operator(text)?;
-        let rest = past_operator(text, operator)?;
+        let rest = after_operator(text, operator)?;
         Some((operator, rest))
     }
 }

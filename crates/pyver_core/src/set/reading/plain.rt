@@ -8,7 +8,7 @@ ghost use Rattle.pyver_core.specs.Version.Grammar.{has_large};
 
 use crate::set::{Operator, Specifier};
 use crate::version::Version;
-use pytext::past_white;
+use pytext::after_white;
 use std::alloc::{AllocError, Global};
 
 /// How many numbers the release of a version has at least behind this operator, where a version
@@ -58,7 +58,7 @@ pub(crate) fn read_plain_operand(
     let Some(least) = least_numbers(operator) else {
         return Ok(None);
     };
-    match Version::parse_plain(alloc, past_white(text), least)? {
+    match Version::parse_plain(alloc, after_white(text), least)? {
         Some(version) => Ok(with_version(operator, version)),
         None => Ok(None),
     }

@@ -12,7 +12,7 @@ use crate::version::VersionError;
 use std::alloc::Global;
 use std::marker::Model;
 
-/// A release: its first number, and the text with the others at its front.
+/// A release: its first number, and the text that begins with the others.
 #[derive(Drop)]
 pub(crate) struct Release<'a> {
     first: Digits<'a>,
@@ -33,14 +33,14 @@ impl Release<'_> {
     ghost use Rattle.pyver_core.specs.Inner.Limit.{Makes};
 
     /// Whether there are two numbers or more.
-    pub(crate) fn has_two(&self) -> bool
+    pub(crate) fn has_two_numbers(&self) -> bool
         ensures { result ≡ nat_le 2 (length self.now) }
     {
-        scan::dotted(self.others).is_some()
+        scan::read_dotted_number(self.others).is_some()
     }
 
     /// The numbers.
-    pub(crate) fn numbers(&self, alloc: Global) -> Result<Vec<u128>, VersionError>
+    pub(crate) fn to_numbers(&self, alloc: Global) -> Result<Vec<u128>, VersionError>
         ensures made { Makes (λ v. v.items) result self.now self.now }
         ensures not_empty { IfOk result (λ v. v.items ≢ []) }
     {
@@ -58,7 +58,7 @@ pub(crate) struct Base<'a> {
 }
 
 /// The text behind the prefix `v`, or the text.
-fn past_prefix(bytes: &[u8]) -> &[u8]
+fn after_prefix(bytes: &[u8]) -> &[u8]
     ensures { result.now ≡ after_prefix bytes.now }
 {
     match bytes {
@@ -67,44 +67,44 @@ fn past_prefix(bytes: &[u8]) -> &[u8]
     }
 }
 
-/// The epoch, the first number of the release, and the text behind it.
+/// The epoch, the first number of the release, and the text after it.
 #[tactic(auto, unfolding(crate::specs::Version::Reading::head_at))]
-fn head(bytes: &[u8]) -> Option<(Digits<'_>, Digits<'_>, &[u8])>
+fn read_head(bytes: &[u8]) -> Option<(Digits<'_>, Digits<'_>, &[u8])>
     ensures { option_map (λ x. ((x.0, x.1), x.2.now)) result ≡ head_at bytes.now }
 {
-    let (first, rest) = scan::number(bytes)?;
+    let (first, rest) = scan::read_number(bytes)?;
     match rest {
         [b'!', rest @ ..] => {
-            let (second, rest) = scan::number(rest)?;
+            let (second, rest) = scan::read_number(rest)?;
             Some((first, second, rest))
         }
         _ => Some((Digits::zero(), first, rest)),
     }
 }
 
-/// The text behind numbers with a dot before each.
-fn past_dotted_numbers(bytes: &[u8]) -> &[u8]
+/// The text after numbers with a dot before each.
+fn after_dotted_numbers(bytes: &[u8]) -> &[u8]
     ensures { result.now ≡ (many_at dotted_number_at bytes.now).1 }
 {
     let mut rest = bytes;
-    while let Some((_, after)) = scan::dotted(rest) {
+    while let Some((_, after)) = scan::read_dotted_number(rest) {
         rest = after;
     }
     rest
 }
 
-/// The epoch and the release, behind the prefix, and the text behind them.
+/// The epoch and the release, after the prefix, and the text after them.
 #[tactic(auto, unfolding(crate::specs::Version::Reading::base_at))]
 pub(crate) fn read_base(bytes: &[u8]) -> Option<(Base<'_>, &[u8])>
     ensures { option_map (λ x. (base_of x.0, x.1.now)) result ≡ base_at bytes.now }
 {
-    let (epoch, first, others) = head(past_prefix(bytes))?;
-    let rest = past_dotted_numbers(others);
+    let (epoch, first, others) = read_head(after_prefix(bytes))?;
+    let rest = after_dotted_numbers(others);
     let release = Release { first, others };
     Some((Base { epoch, release }, rest))
 }
 
-/// The numbers, and those at the front of the text with a dot before each.
+/// The numbers, and those that the text begins with, with a dot before each.
 pub(super) fn with_dotted_numbers(
     mut numbers: Vec<u128>,
     bytes: &[u8],
@@ -113,7 +113,7 @@ pub(super) fn with_dotted_numbers(
         (many_at dotted_number_at bytes.now).0 }
 {
     let mut rest = bytes;
-    while let Some((next, after)) = scan::dotted(rest) {
+    while let Some((next, after)) = scan::read_dotted_number(rest) {
         numbers.push(next.number()?)?;
         rest = after;
     }

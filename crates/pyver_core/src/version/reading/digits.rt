@@ -24,7 +24,8 @@ impl<'a> Model for Digits<'a> {
 }
 
 impl<'a> Digits<'a> {
-    ghost use Rattle.std.specs.Prelude.{◌≡◌, ◌<◌, ◌^◌, true, SomeIff, [], ◌∷◌};
+    ghost use Rattle.std.specs.Prelude.{◌≡◌, ◌<◌, true, SomeIff, [], ◌∷◌};
+    ghost use Rattle.pytext.specs.Digits.{number_limit};
     ghost use Rattle.pyver_core.specs.Inner.Limit.{Makes};
     ghost use Rattle.std.specs.Char.{is_ascii_digit};
     ghost use Rattle.std.specs.List.{list_all};
@@ -47,7 +48,7 @@ impl<'a> Digits<'a> {
 
     /// The number, where it isn't past the limit.
     pub(crate) fn value(&self) -> Option<u128>
-        ensures { SomeIff result (self.now < 2 ^ 128) self.now }
+        ensures { SomeIff result (self.now < number_limit) self.now }
     {
         digits_value(self.digits)
     }

@@ -11,7 +11,7 @@ use super::digits::Digits;
 use super::local::{Local, read_local};
 use super::tagged::{read_dev, read_post, read_pre};
 use crate::version::{PreKind, Version, VersionError, VersionParts};
-use pytext::{is_blank, past_white_bytes};
+use pytext::{after_white_bytes, is_blank};
 use std::alloc::Global;
 
 /// The parts of a version as they stand in its text. It holds no memory.
@@ -24,7 +24,7 @@ pub(crate) struct Draft<'a> {
     pub(crate) local: Local<'a>,
 }
 
-/// The parts behind the release, and the text behind them.
+/// The parts after the release, and the text after them.
 #[tactic(auto, unfolding(crate::specs::Version::Reading::parts_at))]
 fn read_parts<'a>(base: Base<'a>, bytes: &'a [u8]) -> (Draft<'a>, &'a [u8])
     ensures { (draft_parts result.0, result.1.now) ≡ parts_at (base_of base.entry) bytes.now }
@@ -48,7 +48,7 @@ fn read_parts<'a>(base: Base<'a>, bytes: &'a [u8]) -> (Draft<'a>, &'a [u8])
 pub(crate) fn read_version(bytes: &[u8]) -> Option<Draft<'_>>
     ensures { option_map draft_parts result ≡ version_of bytes.now }
 {
-    let (base, rest) = read_base(past_white_bytes(bytes))?;
+    let (base, rest) = read_base(after_white_bytes(bytes))?;
     let (draft, rest) = read_parts(base, rest);
     is_blank(rest).then_some(draft)
 }
@@ -81,11 +81,11 @@ impl Draft<'_> {
         ensures { Makes (λ v. v) result (draft_parts self.now) (numbers (draft_parts self.now)) }
     {
         let epoch = self.base.epoch.number()?;
-        let release = self.base.release.numbers(alloc)?;
+        let release = self.base.release.to_numbers(alloc)?;
         let pre = optional_pre(&self.pre)?;
         let post = optional_number(&self.post)?;
         let dev = optional_number(&self.dev)?;
-        let local = self.local.segments(alloc)?;
+        let local = self.local.to_segments(alloc)?;
         let parts = VersionParts {
             epoch,
             release,

@@ -10,7 +10,7 @@ use crate::version::{LocalPart, VersionError};
 use std::alloc::Global;
 use std::marker::Model;
 
-/// A local part: the text with its segments at the front. Contracts see the segments.
+/// A local part: the text that begins with its segments. Contracts see the segments.
 #[derive(Drop)]
 pub(crate) struct Local<'a> {
     text: &'a [u8],
@@ -37,47 +37,47 @@ impl Local<'_> {
     pub(crate) fn is_empty(&self) -> bool
         ensures { result ≡ (length self.now == 0) }
     {
-        scan::added(self.text).is_none()
+        scan::read_added_segment(self.text).is_none()
     }
 
     /// The segments.
     #[tactic(auto, unfolding(crate::specs::Version::Reading::local_at))]
-    pub(crate) fn segments(&self, alloc: Global) -> Result<Vec<LocalPart>, VersionError>
+    pub(crate) fn to_segments(&self, alloc: Global) -> Result<Vec<LocalPart>, VersionError>
         ensures { Makes (λ v. v.items) result self.now (flat_map number_in_segment self.now) }
     {
         let mut segments = Vec::new(alloc);
-        let Some((first, rest)) = scan::added(self.text) else {
+        let Some((first, rest)) = scan::read_added_segment(self.text) else {
             return Ok(segments);
         };
-        segments.push(first.segment(alloc)?)?;
+        segments.push(first.to_local_part(alloc)?)?;
         with_separated_segments(alloc, segments, rest)
     }
 }
 
-/// The text behind segments with a separator before each.
-fn past_separated_segments(bytes: &[u8]) -> &[u8]
+/// The text after segments with a separator before each.
+fn after_separated_segments(bytes: &[u8]) -> &[u8]
     ensures { result.now ≡ (many_at separated_segment_at bytes.now).1 }
 {
     let mut rest = bytes;
-    while let Some((_, after)) = scan::separated(rest) {
+    while let Some((_, after)) = scan::read_separated_segment(rest) {
         rest = after;
     }
     rest
 }
 
-/// The local part, and the text behind it.
+/// The local part, and the text after it.
 #[tactic(auto, unfolding(crate::specs::Version::Reading::local_at))]
 pub(crate) fn read_local(bytes: &[u8]) -> (Local<'_>, &[u8])
     ensures { (result.0, result.1.now) ≡ local_at bytes.now }
 {
-    let rest = match scan::added(bytes) {
-        Some((_, after)) => past_separated_segments(after),
+    let rest = match scan::read_added_segment(bytes) {
+        Some((_, after)) => after_separated_segments(after),
         None => bytes,
     };
     (Local { text: bytes }, rest)
 }
 
-/// The segments, and those at the front of the text with a separator before each.
+/// The segments, and those that the text begins with, with a separator before each.
 pub(super) fn with_separated_segments(
     alloc: Global,
     mut segments: Vec<LocalPart>,
@@ -88,8 +88,8 @@ pub(super) fn with_separated_segments(
         (flat_map number_in_segment (many_at separated_segment_at bytes.now).0) }
 {
     let mut rest = bytes;
-    while let Some((next, after)) = scan::separated(rest) {
-        segments.push(next.segment(alloc)?)?;
+    while let Some((next, after)) = scan::read_separated_segment(rest) {
+        segments.push(next.to_local_part(alloc)?)?;
         rest = after;
     }
     Ok(segments)

@@ -1,21 +1,17 @@
-//! The front of a text: separators, numbers and words.
+//! What a text begins with: separators, numbers and words.
 
 ghost use Rattle.std.specs.Prelude.{◌≡◌, option_map};
 ghost use Rattle.std.specs.Char.{is_ascii_alphanumeric};
 ghost use Rattle.std.specs.List.{prefix_len};
 ghost use Rattle.std.specs.Str.{str_to_ascii_lowercase};
-ghost use Rattle.pyver_core.specs.Version.Reading.{after_separator, count_at};
-ghost use Rattle.pyver_core.specs.Version.Reading.{number_at, tail_at, word_at, either_at};
-ghost use Rattle.pyver_core.specs.Version.Reading.{pre_word_at, post_word_at, dotted_number_at};
-ghost use Rattle.pyver_core.specs.Version.Reading.{segment_at, separated_segment_at};
-ghost use Rattle.pyver_core.specs.Version.Reading.{added_segment_at};
+ghost use Rattle.pyver_core.specs.Version.Reading as reading;
 
 use super::digits::Digits;
 use super::segment::Segment;
 use crate::version::PreKind;
 use pytext::digits_len;
 
-pub(super) fn run_len(bytes: &[u8]) -> usize
+pub(super) fn alphanumeric_len(bytes: &[u8]) -> usize
     ensures { result ≡ prefix_len is_ascii_alphanumeric bytes.now }
 {
     bytes
@@ -24,9 +20,9 @@ pub(super) fn run_len(bytes: &[u8]) -> usize
         .count()
 }
 
-/// The text behind a separator, or the text.
-pub(super) fn past_separator(bytes: &[u8]) -> &[u8]
-    ensures { result.now ≡ after_separator bytes.now }
+/// The text after a separator, or the text.
+pub(super) fn after_separator(bytes: &[u8]) -> &[u8]
+    ensures { result.now ≡ reading.after_separator bytes.now }
 {
     match bytes {
         [b'-' | b'_' | b'.', rest @ ..] => rest,
@@ -34,101 +30,102 @@ pub(super) fn past_separator(bytes: &[u8]) -> &[u8]
     }
 }
 
-/// Digits or none, and the text behind them.
-#[tactic(auto, using(pytext::proofs::Fronts::fronts))]
-pub(super) fn count(bytes: &[u8]) -> (Digits<'_>, &[u8])
-    ensures { (result.0, result.1.now) ≡ count_at bytes.now }
+/// Digits or none, and the text after them.
+#[tactic(auto, using(pytext::proofs::BytesLemmas::prefixes))]
+pub(super) fn read_count(bytes: &[u8]) -> (Digits<'_>, &[u8])
+    ensures { (result.0, result.1.now) ≡ reading.count_at bytes.now }
 {
     let (digits, rest) = bytes.split_at(digits_len(bytes));
     (Digits::new(digits), rest)
 }
 
-/// One digit or more, and the text behind them.
-pub(super) fn number(bytes: &[u8]) -> Option<(Digits<'_>, &[u8])>
-    ensures { option_map (λ x. (x.0, x.1.now)) result ≡ number_at bytes.now }
+/// One digit or more, and the text after them.
+pub(super) fn read_number(bytes: &[u8]) -> Option<(Digits<'_>, &[u8])>
+    ensures { option_map (λ x. (x.0, x.1.now)) result ≡ reading.number_at bytes.now }
 {
     match bytes {
-        [b'0'..=b'9', ..] => Some(count(bytes)),
+        [b'0'..=b'9', ..] => Some(read_count(bytes)),
         _ => None,
     }
 }
 
 /// A dot and a number.
 #[tactic(auto, unfolding(crate::specs::Version::Reading::dotted_number_at))]
-pub(super) fn dotted(bytes: &[u8]) -> Option<(Digits<'_>, &[u8])>
-    ensures { option_map (λ x. (x.0, x.1.now)) result ≡ dotted_number_at bytes.now }
+pub(super) fn read_dotted_number(bytes: &[u8]) -> Option<(Digits<'_>, &[u8])>
+    ensures { option_map (λ x. (x.0, x.1.now)) result ≡ reading.dotted_number_at bytes.now }
 {
     match bytes {
-        [b'.', rest @ ..] => number(rest),
+        [b'.', rest @ ..] => read_number(rest),
         _ => None,
     }
 }
 
-/// The text behind the word, letter case ignored.
-pub(super) fn word<'a>(bytes: &'a [u8], word: &[u8]) -> Option<&'a [u8]>
+/// The text after the word, letter case ignored.
+pub(super) fn after_word<'a>(bytes: &'a [u8], word: &[u8]) -> Option<&'a [u8]>
     requires { str_to_ascii_lowercase word.now ≡ word.now }
-    ensures { option_map (λ rest. rest.now) result ≡ word_at word.now bytes.now }
+    ensures { option_map (λ rest. rest.now) result ≡ reading.after_word word.now bytes.now }
 {
-    let (front, rest) = bytes.split_at_checked(word.len())?;
-    front.eq_ignore_ascii_case(word).then_some(rest)
+    let (first, rest) = bytes.split_at_checked(word.len())?;
+    first.eq_ignore_ascii_case(word).then_some(rest)
 }
 
-/// The text behind the longer word, or else behind the shorter.
-fn either_word<'a>(bytes: &'a [u8], longer: &[u8], shorter: &[u8]) -> Option<&'a [u8]>
+/// The text after the longer word, or else after the shorter.
+fn after_either_word<'a>(bytes: &'a [u8], longer: &[u8], shorter: &[u8]) -> Option<&'a [u8]>
     requires longer { str_to_ascii_lowercase longer.now ≡ longer.now }
     requires shorter { str_to_ascii_lowercase shorter.now ≡ shorter.now }
-    ensures { option_map (λ rest. rest.now) result ≡ either_at longer.now shorter.now bytes.now }
+    ensures { option_map (λ rest. rest.now) result
+        ≡ reading.after_either_word longer.now shorter.now bytes.now }
 {
-    match word(bytes, longer) {
+    match after_word(bytes, longer) {
         Some(rest) => Some(rest),
-        None => word(bytes, shorter),
+        None => after_word(bytes, shorter),
     }
 }
 
-/// The word of a pre-release, and the text behind it.
+/// The word of a pre-release, and the text after it.
 #[tactic(auto, unfolding(crate::specs::Version::Reading::pre_word_at))]
-pub(super) fn pre_word(bytes: &[u8]) -> Option<(PreKind, &[u8])>
-    ensures { option_map (λ x. (x.0, x.1.now)) result ≡ pre_word_at bytes.now }
+pub(super) fn read_pre_word(bytes: &[u8]) -> Option<(PreKind, &[u8])>
+    ensures { option_map (λ x. (x.0, x.1.now)) result ≡ reading.pre_word_at bytes.now }
 {
-    if let Some(rest) = either_word(bytes, b"alpha", b"a") {
+    if let Some(rest) = after_either_word(bytes, b"alpha", b"a") {
         return Some((PreKind::A, rest));
     }
-    if let Some(rest) = either_word(bytes, b"beta", b"b") {
+    if let Some(rest) = after_either_word(bytes, b"beta", b"b") {
         return Some((PreKind::B, rest));
     }
-    if let Some(rest) = either_word(bytes, b"preview", b"pre") {
+    if let Some(rest) = after_either_word(bytes, b"preview", b"pre") {
         return Some((PreKind::Rc, rest));
     }
-    let rest = either_word(bytes, b"rc", b"c")?;
+    let rest = after_either_word(bytes, b"rc", b"c")?;
     Some((PreKind::Rc, rest))
 }
 
-/// The text behind the word of a post-release.
-#[tactic(auto, unfolding(crate::specs::Version::Reading::post_word_at))]
-pub(super) fn post_word(bytes: &[u8]) -> Option<&[u8]>
-    ensures { option_map (λ rest. rest.now) result ≡ post_word_at bytes.now }
+/// The text after the word of a post-release.
+#[tactic(auto, unfolding(crate::specs::Version::Reading::after_post_word))]
+pub(super) fn after_post_word(bytes: &[u8]) -> Option<&[u8]>
+    ensures { option_map (λ rest. rest.now) result ≡ reading.after_post_word bytes.now }
 {
-    match word(bytes, b"post") {
+    match after_word(bytes, b"post") {
         Some(rest) => Some(rest),
-        None => either_word(bytes, b"rev", b"r"),
+        None => after_either_word(bytes, b"rev", b"r"),
     }
 }
 
-/// What stands behind a word: at most one separator, digits or none.
-pub(super) fn tail(bytes: &[u8]) -> (Digits<'_>, &[u8])
-    ensures { (result.0, result.1.now) ≡ tail_at bytes.now }
+/// What stands after a word: at most one separator, digits or none.
+pub(super) fn read_trailing_count(bytes: &[u8]) -> (Digits<'_>, &[u8])
+    ensures { (result.0, result.1.now) ≡ reading.trailing_count_at bytes.now }
 {
-    count(past_separator(bytes))
+    read_count(after_separator(bytes))
 }
 
-/// A segment of a local part, and the text behind it.
+/// A segment of a local part, and the text after it.
 #[tactic(auto, unfolding(crate::specs::Version::Reading::segment_at))]
-pub(super) fn segment(bytes: &[u8]) -> Option<(Segment<'_>, &[u8])>
-    ensures { option_map (λ x. (x.0, x.1.now)) result ≡ segment_at bytes.now }
+pub(super) fn read_segment(bytes: &[u8]) -> Option<(Segment<'_>, &[u8])>
+    ensures { option_map (λ x. (x.0, x.1.now)) result ≡ reading.segment_at bytes.now }
 {
     match bytes {
         [first, ..] if first.is_ascii_alphanumeric() => {
-            let (run, rest) = bytes.split_at(run_len(bytes));
+            let (run, rest) = bytes.split_at(alphanumeric_len(bytes));
             Some((Segment::new(run), rest))
         }
         _ => None,
@@ -137,22 +134,22 @@ pub(super) fn segment(bytes: &[u8]) -> Option<(Segment<'_>, &[u8])>
 
 /// A separator and a segment.
 #[tactic(auto, unfolding(crate::specs::Version::Reading::separated_segment_at))]
-pub(super) fn separated(bytes: &[u8]) -> Option<(Segment<'_>, &[u8])>
-    ensures { option_map (λ x. (x.0, x.1.now)) result ≡ separated_segment_at bytes.now }
+pub(super) fn read_separated_segment(bytes: &[u8]) -> Option<(Segment<'_>, &[u8])>
+    ensures { option_map (λ x. (x.0, x.1.now)) result ≡ reading.separated_segment_at bytes.now }
 {
     match bytes {
-        [b'-' | b'_' | b'.', rest @ ..] => segment(rest),
+        [b'-' | b'_' | b'.', rest @ ..] => read_segment(rest),
         _ => None,
     }
 }
 
 /// `+` and a segment.
 #[tactic(auto, unfolding(crate::specs::Version::Reading::added_segment_at))]
-pub(super) fn added(bytes: &[u8]) -> Option<(Segment<'_>, &[u8])>
-    ensures { option_map (λ x. (x.0, x.1.now)) result ≡ added_segment_at bytes.now }
+pub(super) fn read_added_segment(bytes: &[u8]) -> Option<(Segment<'_>, &[u8])>
+    ensures { option_map (λ x. (x.0, x.1.now)) result ≡ reading.added_segment_at bytes.now }
 {
     match bytes {
-        [b'+', rest @ ..] => segment(rest),
+        [b'+', rest @ ..] => read_segment(rest),
         _ => None,
     }
 }

@@ -48,7 +48,7 @@ impl<'a> Segment<'a> {
     }
 
     /// The segment, with its text in lower case.
-    pub(crate) fn segment(&self, alloc: Global) -> Result<LocalPart, VersionError>
+    pub(crate) fn to_local_part(&self, alloc: Global) -> Result<LocalPart, VersionError>
         ensures { Makes (λ s. s) result self.now (number_in_segment self.now) }
     {
         if are_digits(self.run) {

@@ -1,79 +1,78 @@
-//! The parts behind the release: pre, post and dev.
+//! The parts after the release: pre, post and dev.
 
 ghost use Rattle.std.specs.Prelude.{◌≡◌, option_map};
-ghost use Rattle.pyver_core.specs.Version.Reading.{dashed_number_at, optional_at, tagged_pre_at};
-ghost use Rattle.pyver_core.specs.Version.Reading.{dashed_or_tagged_post_at, tagged_post_at};
-ghost use Rattle.pyver_core.specs.Version.Reading.{tagged_dev_at};
+ghost use Rattle.pyver_core.specs.Version.Reading as reading;
 
 use super::digits::Digits;
 use super::scan;
 use crate::version::PreKind;
 
 #[tactic(auto, unfolding(crate::specs::Version::Reading::tagged_pre_at))]
-fn tagged_pre(bytes: &[u8]) -> Option<(PreKind, Digits<'_>, &[u8])>
-    ensures { option_map (λ x. ((x.0, x.1), x.2.now)) result ≡ tagged_pre_at bytes.now }
+fn read_tagged_pre(bytes: &[u8]) -> Option<(PreKind, Digits<'_>, &[u8])>
+    ensures { option_map (λ x. ((x.0, x.1), x.2.now)) result ≡ reading.tagged_pre_at bytes.now }
 {
-    let (kind, rest) = scan::pre_word(scan::past_separator(bytes))?;
-    let (number, rest) = scan::tail(rest);
+    let (kind, rest) = scan::read_pre_word(scan::after_separator(bytes))?;
+    let (number, rest) = scan::read_trailing_count(rest);
     Some((kind, number, rest))
 }
 
 #[tactic(auto, unfolding(crate::specs::Version::Reading::tagged_post_at))]
-fn tagged_post(bytes: &[u8]) -> Option<(Digits<'_>, &[u8])>
-    ensures { option_map (λ x. (x.0, x.1.now)) result ≡ tagged_post_at bytes.now }
+fn read_tagged_post(bytes: &[u8]) -> Option<(Digits<'_>, &[u8])>
+    ensures { option_map (λ x. (x.0, x.1.now)) result ≡ reading.tagged_post_at bytes.now }
 {
-    let rest = scan::post_word(scan::past_separator(bytes))?;
-    Some(scan::tail(rest))
+    let rest = scan::after_post_word(scan::after_separator(bytes))?;
+    Some(scan::read_trailing_count(rest))
 }
 
 /// `-` and digits.
 #[tactic(auto, unfolding(crate::specs::Version::Reading::dashed_number_at))]
-fn dashed(bytes: &[u8]) -> Option<(Digits<'_>, &[u8])>
-    ensures { option_map (λ x. (x.0, x.1.now)) result ≡ dashed_number_at bytes.now }
+fn read_dashed_number(bytes: &[u8]) -> Option<(Digits<'_>, &[u8])>
+    ensures { option_map (λ x. (x.0, x.1.now)) result ≡ reading.dashed_number_at bytes.now }
 {
     match bytes {
-        [b'-', rest @ ..] => scan::number(rest),
+        [b'-', rest @ ..] => scan::read_number(rest),
         _ => None,
     }
 }
 
 #[tactic(auto, unfolding(crate::specs::Version::Reading::tagged_dev_at))]
-fn tagged_dev(bytes: &[u8]) -> Option<(Digits<'_>, &[u8])>
-    ensures { option_map (λ x. (x.0, x.1.now)) result ≡ tagged_dev_at bytes.now }
+fn read_tagged_dev(bytes: &[u8]) -> Option<(Digits<'_>, &[u8])>
+    ensures { option_map (λ x. (x.0, x.1.now)) result ≡ reading.tagged_dev_at bytes.now }
 {
-    let rest = scan::word(scan::past_separator(bytes), b"dev")?;
-    Some(scan::tail(rest))
+    let rest = scan::after_word(scan::after_separator(bytes), b"dev")?;
+    Some(scan::read_trailing_count(rest))
 }
 
-/// The pre-release, and the text behind it.
+/// The pre-release, and the text after it.
 pub(super) fn read_pre(bytes: &[u8]) -> (Option<(PreKind, Digits<'_>)>, &[u8])
-    ensures { (result.0, result.1.now) ≡ optional_at tagged_pre_at bytes.now }
+    ensures { (result.0, result.1.now) ≡ reading.optional_at reading.tagged_pre_at bytes.now }
 {
-    match tagged_pre(bytes) {
+    match read_tagged_pre(bytes) {
         Some((kind, number, rest)) => (Some((kind, number)), rest),
         None => (None, bytes),
     }
 }
 
-/// The number of the post-release, and the text behind it.
+/// The number of the post-release, and the text after it.
 #[tactic(auto, unfolding(crate::specs::Version::Reading::dashed_or_tagged_post_at))]
 pub(super) fn read_post(bytes: &[u8]) -> (Option<Digits<'_>>, &[u8])
-    ensures { (result.0, result.1.now) ≡ optional_at dashed_or_tagged_post_at bytes.now }
+    ensures { (result.0, result.1.now)
+        ≡ reading.optional_at reading.dashed_or_tagged_post_at bytes.now }
 {
-    if let Some((number, rest)) = dashed(bytes) {
+    if let Some((number, rest)) = read_dashed_number(bytes) {
         return (Some(number), rest);
     }
-    match tagged_post(bytes) {
+    match read_tagged_post(bytes) {
         Some((number, rest)) => (Some(number), rest),
         None => (None, bytes),
     }
 }
 
-/// The number of the developmental release, and the text behind it.
+/// The number of the developmental release, and the text after it.
 pub(super) fn read_dev(bytes: &[u8]) -> (Option<Digits<'_>>, &[u8])
-    ensures { (result.0, result.1.now) ≡ optional_at tagged_dev_at bytes.now }
+    ensures { (result.0, result.1.now) ≡ reading.optional_at reading.tagged_dev_at bytes.now }
 {
-    match tagged_dev(bytes) {
+    match read_tagged_dev(bytes) {
         Some((number, rest)) => (Some(number), rest),
         None => (None, bytes),
     }

@@ -1,7 +1,7 @@
 use Rattle.std.proofs.Common.{◌∙◌, ◌+◌, ap, sym, drop, arith}
 use Rattle.pywheel_core.specs.Choice.{least_rank, rank_from}
 use Rattle.pywheel_core.specs.Tag.{rank_of}
-use Rattle.pywheel_core.proofs.Choosing.{rank_end, rank_step}
+use Rattle.pywheel_core.proofs.Lemmas.Choice.Steps.{rank_end, rank_step}
 use Rattle.pywheel_core.proofs.choice.best_rank.Goals as goal
 
 pub loop-tag-preserved : goal.loop-tag-preserved

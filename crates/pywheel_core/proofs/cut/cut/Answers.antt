@@ -2,7 +2,7 @@ use Rattle.std.proofs.Common.{◌≡◌, ◌+◌, ◌-◌, ◌≤◌, length, ta
 use Rattle.std.specs.List.{prefix_len}
 use Rattle.std.proofs.lemmas.List.Sums.{prefix_len-le-length}
 use Rattle.pywheel_core.specs.Inner.Cut.{is_undashed}
-use Rattle.pywheel_core.proofs.Cuts.{before_dash, behind_dash, cut_nowhere, cut_there}
+use Rattle.pywheel_core.proofs.Lemmas.Texts.Cuts.{before_dash, behind_dash, cut_nowhere, cut_there}
 use Rattle.pywheel_core.proofs.cut.cut.Goals as goal
 
 pub returns-then-place-text : goal.returns-then-place-text

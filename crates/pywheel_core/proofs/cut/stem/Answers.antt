@@ -1,4 +1,4 @@
-use Rattle.pywheel_core.proofs.Cuts.{stem_is}
+use Rattle.pywheel_core.proofs.Lemmas.Texts.Cuts.{stem_is}
 use Rattle.pywheel_core.proofs.cut.stem.Goals as goal
 
 pub returns : goal.returns

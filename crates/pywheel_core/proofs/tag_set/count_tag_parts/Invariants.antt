@@ -1,6 +1,6 @@
 use Rattle.std.proofs.Common.{◌≡◌, ◌==◌, ◌+◌, ◌≤◌, count_by, drop, length}
 use Rattle.pywheel_core.specs.Tag.{are_tag_parts, pieces}
-use Rattle.pywheel_core.proofs.Counting.{goes_on}
+use Rattle.pywheel_core.proofs.Lemmas.Tag.Counts.{goes_on}
 use Rattle.pywheel_core.proofs.tag_set.count_tag_parts.Given as goal
 
 abbrev pub invariant-loop-byte : goal.invariant-loop-byte

@@ -1,6 +1,6 @@
 use Rattle.std.specs.Rc.{rc_str_bytes}
 use Rattle.pywheel_core.specs.Inner.Lent.{set_of}
-use Rattle.pywheel_core.proofs.Lowering.{set_read, set_refused}
+use Rattle.pywheel_core.proofs.Lemmas.Tag.Lowering.{set_read, set_refused}
 use Rattle.pywheel_core.proofs.tag_set.read_tag_set.Goals as goal
 
 pub returns-in_default : goal.returns-in_default

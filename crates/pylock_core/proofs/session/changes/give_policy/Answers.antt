@@ -1,6 +1,6 @@
 use Rattle.std.proofs.Common.{◌≡◌, ◌∙◌, ◌++◌, Ok, length, ap, sym}
 use Rattle.std.specs.Str.{bytes_eq}
-use Rattle.pyver_core.specs.Name.{norm}
+use Rattle.pyver_core.specs.Name.{normal_name}
 use Rattle.pylock_core.specs.Inner.Again.{stored}
 use Rattle.pylock_core.specs.Inner.Index.{list_at}
 use Rattle.pylock_core.specs.Inner.Parts.{IsSession, state_of}
@@ -60,7 +60,7 @@ returns-clause-session c =
 pub returns-clause-left : goal.returns-clause-left
 returns-clause-left c =
     let p = c.args.parts.now in
-    let normal : c.as_str.result.now ≡ norm c.args.name = c.as_str.ensures.text ∙ c.in_ok-name.ensures ∙ ap norm c.into_string.ensures in
+    let normal : c.as_str.result.now ≡ normal_name c.args.name = c.as_str.ensures.text ∙ c.in_ok-name.ensures ∙ ap normal_name c.into_string.ensures in
     let policies = c.set_policy.ensures.policies c.as_str.result.now c.in_ok-number.ensures.found
     ∙ (λ i. with_policy (c.in_ok-number.ensures.kept.policies i) (normal i) c.args.policy) in
     record {

@@ -3,7 +3,7 @@ use Rattle.std.specs.Global.{Global}
 use Rattle.std.specs.declared.vec.Vec.{Vec}
 use Rattle.std.proofs.lemmas.List.{get_or_default, get_or-map}
 use Rattle.pywheel_core.specs.Choice.{best_from}
-use Rattle.pywheel_core.proofs.Choosing.{best_end}
+use Rattle.pywheel_core.proofs.Lemmas.Choice.Steps.{best_end}
 use Rattle.pylock_readers.specs.Entry.{EntryValue}
 use Rattle.pylock_core.specs.Inner.Index.{list_at}
 use Rattle.pylock_core.specs.Inner.TagSets.{AreNumbers, names_in, set_number, with_build}

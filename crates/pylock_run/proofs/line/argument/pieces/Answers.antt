@@ -14,7 +14,7 @@ loop-piece-init c =
 pub loop-piece-preserved : goal.loop-piece-preserved
 loop-piece-preserved c =
     one_piece c.args.text.now c.loop-piece.piece-iterator c.next.new.self c.in-Some.piece (map (λ t. t.now) c.loop-piece.texts.items) _
-    c.in-Some.ensures.steps c.loop-piece.invariant c.in_ok-push_filled.ensures
+    c.in-Some.ensures.steps c.loop-piece.invariant c.in_ok-push_nonempty.ensures
 
 pub returns : goal.returns
 returns c = ap Ok (sym (all_pieces c.args.text.now c.loop-piece.piece-iterator c.next.new.self (map (λ t. t.now) c.loop-piece.texts.items)

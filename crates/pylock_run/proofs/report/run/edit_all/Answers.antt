@@ -10,7 +10,7 @@ returns-in_err-buffer g c =
 pub returns-in_err-editing : goal.returns-in_err-editing
 returns-in_err-editing g c =
     let p = err_from_is_err_and c.from_residual-in_err-editing.result c.from_residual-in_err-editing.ensures.1 in
-    rw (p.1, p.2) (stops_at_first c.args.session.state _ _ _ c.in_err-editing.field-0.0 c.in_err-editing.ensures.front c.in_err-editing.ensures.fault)
+    rw (p.1, p.2) (stops_at_first c.args.session.state _ _ _ c.in_err-editing.field-0.0 c.in_err-editing.ensures.prefix c.in_err-editing.ensures.fault)
 
 pub returns-in_err-feed_all : goal.returns-in_err-feed_all
 returns-in_err-feed_all g c =
@@ -18,17 +18,17 @@ returns-in_err-feed_all g c =
     let begun = c.in_ok-editing.ensures in
     rw (p.1, p.2) (stops_between c.args.session.state _ _ _ _ _ _ c.in_err-feed_all.field-0.0 begun.editing begun.written c.in_err-feed_all.ensures.fault)
 
-pub returns-in_err-end : goal.returns-in_err-end
-returns-in_err-end g c =
-    let p = err_from_is_err_and c.from_residual-in_err-end.result c.from_residual-in_err-end.ensures.1 in
+pub returns-in_err-write_last_answer : goal.returns-in_err-write_last_answer
+returns-in_err-write_last_answer g c =
+    let p = err_from_is_err_and c.from_residual-in_err-write_last_answer.result c.from_residual-in_err-write_last_answer.ensures.1 in
     let begun = c.in_ok-editing.ensures in
     let fed = c.in_ok-feed_all.ensures in
-    rw (p.1, p.2) (stops_at_last c.args.session.state _ _ _ _ _ _ _ _ c.in_err-end.field-0.0 begun.editing begun.written fed.edited
-    c.in_err-end.ensures.front c.in_err-end.ensures.fault)
+    rw (p.1, p.2) (stops_at_last c.args.session.state _ _ _ _ _ _ _ _ c.in_err-write_last_answer.field-0.0 begun.editing begun.written fed.edited
+    c.in_err-write_last_answer.ensures.prefix c.in_err-write_last_answer.ensures.fault)
 
 pub returns : goal.returns
 returns g c =
     let begun = c.in_ok-editing.ensures in
     let fed = c.in_ok-feed_all.ensures in
-    let ended = c.in_ok-end.ensures in
-    session_reports c.args.session.state _ _ _ _ _ _ _ _ _ _ begun.editing begun.written fed.edited fed.end ended.within ended.editing ended.written c.status-status.ensures
+    let complete = c.in_ok-write_last_answer.ensures in
+    session_reports c.args.session.state _ _ _ _ _ _ _ _ _ _ begun.editing begun.written fed.edited fed.end complete.within complete.editing complete.written c.status-status.ensures

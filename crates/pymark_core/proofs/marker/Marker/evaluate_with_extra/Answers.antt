@@ -1,5 +1,5 @@
 use Rattle.pymark_core.specs.Marker.View.{tree_view}
-use Rattle.pymark_core.proofs.ValueRefusals.{none_given}
+use Rattle.pymark_core.proofs.Lemmas.Marker.Value.Refusals.{none_given}
 use Rattle.pymark_core.proofs.marker.Marker.evaluate_with_extra.Goals as goal
 
 pub returns-clause-given : goal.returns-clause-given

@@ -1,7 +1,7 @@
 use Rattle.std.proofs.Common.{◌≡◌, false, sym, ◌∙◌}
 use Rattle.std.specs.Prelude.{codes}
 use Rattle.std.specs.Str.{bytes_eq}
-use Rattle.pymark_core.proofs.BuilderLemmas.{other_way, word_is_variable}
+use Rattle.pymark_core.proofs.Lemmas.Building.Steps.{other_way, word_is_variable}
 use Rattle.pymark_core.proofs.marker.builder.word_operand.Goals as goal
 
 pub returns : goal.returns

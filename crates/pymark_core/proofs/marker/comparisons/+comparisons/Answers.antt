@@ -1,4 +1,4 @@
-use Rattle.pymark_core.proofs.TreeView.{view_group}
+use Rattle.pymark_core.proofs.Lemmas.Marker.View.{view_group}
 use Rattle.pymark_core.proofs.marker.comparisons.+comparisons.Goals as goal
 
 pub push_atom-returns-in-Group : goal.push_atom-returns-in-Group

@@ -5,7 +5,7 @@ use Rattle.std.proofs.lemmas.Bool.{lt-ltb}
 use Rattle.std.proofs.lemmas.List.{take_all}
 use Rattle.std.proofs.lemmas.List.Sums.{sum_by_more_le}
 use Rattle.pymark_core.specs.Marker.Depth.{is_opening}
-use Rattle.pymark_core.proofs.DepthLemmas.{opened_in_chunks}
+use Rattle.pymark_core.proofs.Lemmas.Marker.Depth.{opened_in_chunks}
 use Rattle.pymark_core.proofs.marker.depth.opens_many.Goals as goal
 
 pub returns-then-count-gt-DEPTH_LIMIT : goal.returns-then-count-gt-DEPTH_LIMIT

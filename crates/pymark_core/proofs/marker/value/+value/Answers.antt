@@ -1,4 +1,4 @@
-use Rattle.pymark_core.proofs.TreeView.{view_group}
+use Rattle.pymark_core.proofs.Lemmas.Marker.View.{view_group}
 use Rattle.pymark_core.proofs.marker.value.+value.Goals as goal
 
 pub atom_value-returns-in-Group : goal.atom_value-returns-in-Group

@@ -2,7 +2,7 @@ use Rattle.std.proofs.Common.{◌≡◌, ◌+◌, ◌*◌, drop, map}
 use Rattle.std.specs.Option.{option_copied}
 use Rattle.pymark_core.specs.Marker.Value.{conjunction_value, value_with}
 use Rattle.pymark_core.specs.Marker.View.{atom_view, conjunction_view, tree_view}
-use Rattle.pymark_core.proofs.Turns.{and_onto, or_onto}
+use Rattle.pymark_core.proofs.Lemmas.Marker.Value.Turns.{and_onto, or_onto}
 use Rattle.pymark_core.proofs.marker.value.+value.Given as goal
 
 abbrev pub invariant-conjunction_value-loop-atom : goal.invariant-conjunction_value-loop-atom

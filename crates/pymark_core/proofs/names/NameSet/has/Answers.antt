@@ -1,6 +1,6 @@
 use Rattle.std.proofs.Common.{◌∙◌, ap, sym}
 use Rattle.std.specs.FinSet.{contains}
-use Rattle.pymark_core.proofs.Texts.{contains-seen}
+use Rattle.pymark_core.proofs.Lemmas.Environment.Names.{contains-seen}
 use Rattle.pymark_core.proofs.names.NameSet.has.Goals as goal
 
 pub returns-clause-has : goal.returns-clause-has

@@ -1,7 +1,7 @@
 use Rattle.std.proofs.Common.{◌∙◌, ap, sym}
 use Rattle.std.specs.FinSet.{insert}
-use Rattle.pyver_core.specs.Name.{norm}
-use Rattle.pymark_core.proofs.Texts.{normal-put, seen-put}
+use Rattle.pyver_core.specs.Name.{normal_name}
+use Rattle.pymark_core.proofs.Lemmas.Environment.Names.{normal-put, seen-put}
 use Rattle.pymark_core.proofs.names.NameSet.insert.Goals as goal
 
 pub returns-clause-set : goal.returns-clause-set
@@ -12,4 +12,4 @@ returns-clause-set c =
 pub invariant_of-self-2 : goal.invariant_of-self-2
 invariant_of-self-2 c =
     let is = c.into_string.ensures.text in
-    normal-put _ _ _ (ap norm is ∙ c.into_string.ensures.normal ∙ sym is) c.in_ok-insert.ensures.updates c.self.invariant
+    normal-put _ _ _ (ap normal_name is ∙ c.into_string.ensures.normal ∙ sym is) c.in_ok-insert.ensures.updates c.self.invariant

@@ -1,7 +1,7 @@
 use Rattle.std.proofs.Common.{◌∙◌, ap, map}
 use Rattle.std.specs.FinSet.{from_list}
 use Rattle.std.specs.Prelude.{string_bytes}
-use Rattle.pymark_core.proofs.Texts.{bytes_rise}
+use Rattle.pymark_core.proofs.Lemmas.Environment.Names.{bytes_rise}
 use Rattle.pymark_core.proofs.names.NameSet.iter.Goals as goal
 
 pub returns : goal.returns

@@ -1,4 +1,4 @@
-use Rattle.pymark_core.proofs.Texts.{normal-none}
+use Rattle.pymark_core.proofs.Lemmas.Environment.Names.{normal-none}
 use Rattle.pymark_core.proofs.names.NameSet.new.Goals as goal
 
 pub invariant_of-result : goal.invariant_of-result

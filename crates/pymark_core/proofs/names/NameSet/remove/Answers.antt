@@ -1,6 +1,6 @@
 use Rattle.std.proofs.Common.{◌∙◌}
 use Rattle.std.specs.FinSet.{remove}
-use Rattle.pymark_core.proofs.Texts.{normal-taken, seen-taken}
+use Rattle.pymark_core.proofs.Lemmas.Environment.Names.{normal-taken, seen-taken}
 use Rattle.pymark_core.proofs.names.NameSet.remove.Goals as goal
 
 pub returns : goal.returns

@@ -1,6 +1,6 @@
 use Rattle.std.proofs.Common.{◌∙◌, ap}
 use Rattle.std.specs.FinSet.{from_list}
-use Rattle.pymark_core.proofs.Texts.{seen-clone}
+use Rattle.pymark_core.proofs.Lemmas.Environment.Names.{seen-clone}
 use Rattle.pymark_core.proofs.names.NameSetClone.clone.Goals as goal
 
 pub returns : goal.returns

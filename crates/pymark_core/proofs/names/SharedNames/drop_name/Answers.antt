@@ -1,19 +1,19 @@
 use Rattle.std.proofs.Common.{◌≡◌, ◌∙◌, ap, false, option_map, sym, unwrap_or}
 use Rattle.std.specs.FinSet as set
-use Rattle.pyver_core.specs.Name.{norm}
-use Rattle.pymark_core.proofs.Texts.{none_taken, nothing_in}
+use Rattle.pyver_core.specs.Name.{normal_name}
+use Rattle.pymark_core.proofs.Lemmas.Environment.Names.{remove_stays, empty_contains}
 use Rattle.pymark_core.proofs.names.SharedNames.drop_name.Goals as goal
 use Rattle.pymark_core.proofs.names.SharedNames.drop_name.Goals.{In_default}
 
 -- where there is no set, no name is in
-none_in : (c : In_default) → false ≡ set.contains c.args.self.now (norm c.args.name.now)
+none_in : (c : In_default) → false ≡ set.contains c.args.self.now (normal_name c.args.name.now)
 none_in c =
-    nothing_in (norm c.args.name.now)
-    ∙ ap (λ s. set.contains s (norm c.args.name.now))
+    empty_contains (normal_name c.args.name.now)
+    ∙ ap (λ s. set.contains s (normal_name c.args.name.now))
     (ap (λ n. unwrap_or (option_map (λ names. names.value) n) set.empty) (sym c.in_default.is) ∙ c.self.view_is)
 
 pub returns-in_default-clause-set : goal.returns-in_default-clause-set
-returns-in_default-clause-set c = c.self.view_is ∙ none_taken _ _ (sym (none_in (goal.at.returns-in_default-clause-set c).In_default))
+returns-in_default-clause-set c = c.self.view_is ∙ remove_stays _ _ (sym (none_in (goal.at.returns-in_default-clause-set c).In_default))
 
 pub returns-in_default-clause-dropped : goal.returns-in_default-clause-dropped
 returns-in_default-clause-dropped c = none_in (goal.at.returns-in_default-clause-dropped c).In_default
@@ -21,6 +21,6 @@ returns-in_default-clause-dropped c = none_in (goal.at.returns-in_default-clause
 pub returns-then-not-has-clause-set : goal.returns-then-not-has-clause-set
 returns-then-not-has-clause-set c =
     let name = c.as_str.ensures.text ∙ c.in_ok-name.ensures in
-    sym c.deref.ensures ∙ none_taken _ _ (sym c.if-not-has.ensures.has) ∙ (λ i. set.remove (c.deref.ensures i) (name i))
-    ∙ ap (λ s. set.remove s (norm c.args.name.now))
+    sym c.deref.ensures ∙ remove_stays _ _ (sym c.if-not-has.ensures.has) ∙ (λ i. set.remove (c.deref.ensures i) (name i))
+    ∙ ap (λ s. set.remove s (normal_name c.args.name.now))
     (ap (λ n. unwrap_or (option_map (λ names. names.value) n) set.empty) (sym c.in-Some.is) ∙ c.self.view_is)

@@ -1,5 +1,5 @@
-use Rattle.pymark_core.proofs.RequirementAgain.{given_no_requirement}
-use Rattle.pymark_core.proofs.RequirementTakes.{given_requirement}
+use Rattle.pymark_core.proofs.Lemmas.Requirement.Complete.{given_no_requirement}
+use Rattle.pymark_core.proofs.Lemmas.Requirement.Sound.{given_requirement}
 use Rattle.pymark_core.proofs.requirement.Requirement.parse.Goals as goal
 
 pub returns-clause-ok : goal.returns-clause-ok

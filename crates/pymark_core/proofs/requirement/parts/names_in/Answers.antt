@@ -9,8 +9,8 @@ use Rattle.std.proofs.lemmas.Iterator.Splits.{YieldsList-from_str_split}
 use Rattle.std.proofs.lemmas.List.{map_push}
 use Rattle.std.proofs.lemmas.Result.{err_from_is_err_and}
 use Rattle.pymark_core.specs.Requirement.Reading.{names_in}
-use Rattle.pytext.proofs.Pieces.{next_piece, no_piece}
-use Rattle.pymark_core.proofs.NamesSoFar.{onto, onto_end, onto_fault, onto_more, onto_nothing}
+use Rattle.pytext.proofs.IteratorLemmas.{yields_next, yields_none}
+use Rattle.pymark_core.proofs.Lemmas.Requirement.Names.{onto, onto_end, onto_fault, onto_more, onto_nothing}
 use Rattle.pymark_core.proofs.requirement.parts.names_in.Goals as goal
 
 abbrev pieces : List ℕ → List (List ℕ)
@@ -27,7 +27,7 @@ taken : (text : List ℕ) (s t : Split ℕ) (x : Bor (List ℕ)) (names : List (
     → ((left : List (List ℕ)) × YieldsList (split_steps FindsChar (λ a b. b ≡ a)) (λ y. y.now) s left × (onto names (names_in left) ≡ names_in (pieces text)))
     → Taken text t x.now names
 taken text s t x names step i =
-    let n = next_piece (split_steps FindsChar (λ a b. b ≡ a)) (λ y. y.now) s i.0 i.1 x t step in
+    let n = yields_next (split_steps FindsChar (λ a b. b ≡ a)) (λ y. y.now) s i.0 i.1 x t step in
     (n.0, n.2, subst (λ left. onto names (names_in left) ≡ names_in (pieces text)) n.1 i.2)
 
 pub loop-piece-init : goal.loop-piece-init
@@ -59,6 +59,6 @@ loop-piece-preserved c =
 pub returns : goal.returns
 returns c =
     let i = c.loop-piece.invariant in
-    let none = no_piece (split_steps FindsChar (λ a b. b ≡ a)) (λ y. y.now) c.loop-piece.piece-iterator i.0 i.1 c.next.new.self c.in-None.ensures.steps in
+    let none = yields_none (split_steps FindsChar (λ a b. b ≡ a)) (λ y. y.now) c.loop-piece.piece-iterator i.0 i.1 c.next.new.self c.in-None.ensures.steps in
     let front = map string_bytes c.loop-piece.names.items in
     sym i.2 ∙ ap (λ left. onto front (names_in left)) none ∙ onto_end front

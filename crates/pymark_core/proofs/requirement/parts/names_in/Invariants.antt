@@ -5,7 +5,7 @@ use Rattle.std.specs.Str.Iter.{split_steps}
 use Rattle.std.specs.Str.Pattern.{FindsChar}
 use Rattle.std.proofs.lemmas.Iterator.{YieldsList}
 use Rattle.pymark_core.specs.Requirement.Reading.{names_in}
-use Rattle.pymark_core.proofs.NamesSoFar.{onto}
+use Rattle.pymark_core.proofs.Lemmas.Requirement.Names.{onto}
 use Rattle.pymark_core.proofs.requirement.parts.names_in.Given as goal
 
 -- the pieces that are left give the other names

@@ -3,7 +3,7 @@ use Rattle.pyver_core.specs.Parsed.{parsed_operand}
 use Rattle.pyver_core.specs.Set.Grammar.{specifier_numbers}
 use Rattle.pyver_core.specs.Set.Reading.{operand_of}
 use Rattle.pyver_core.specs.declared.set.error.SpecifierError.TheVariants.{NumberTooLarge}
-use Rattle.pyver_core.proofs.Lemmas.Outcomes.{within-false}
+use Rattle.pyver_core.proofs.Lemmas.Parsed.Outcomes.{within-false}
 use Rattle.pyver_core.proofs.set.operand.specifier_from_operand.Goals as goal
 
 pub returns-in-Ok : goal.returns-in-Ok

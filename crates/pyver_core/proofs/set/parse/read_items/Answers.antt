@@ -13,10 +13,10 @@ use Rattle.pyver_core.specs.Set.Grammar.{set_numbers}
 use Rattle.pyver_core.specs.declared.set.error.SpecifierError.TheVariants.{NumberTooLarge}
 use Rattle.pyver_core.specs.Inner.SpecifierDraft.{draft_specifier}
 use Rattle.pyver_core.specs.declared.set.specifier.Specifier.{Specifier}
-use Rattle.pytext.proofs.Pieces.{next_piece, no_piece}
-use Rattle.pyver_core.proofs.Lemmas.Set.Operators.{cut_read, uncut}
-use Rattle.pyver_core.proofs.Lemmas.Set.ReadSoFar.{ReadSoFar, read_blank, read_end, read_end_large, read_large, read_refused, read_start, read_within}
-use Rattle.pyver_core.proofs.Lemmas.Outcomes.{within-false, within-true}
+use Rattle.pytext.proofs.IteratorLemmas.{yields_next, yields_none}
+use Rattle.pyver_core.proofs.Lemmas.Set.Reading.Operators.{cut_read, uncut}
+use Rattle.pyver_core.proofs.Lemmas.Set.Reading.SoFar.{ReadSoFar, read_blank, read_end, read_end_large, read_large, read_refused, read_start, read_within}
+use Rattle.pyver_core.proofs.Lemmas.Parsed.Outcomes.{within-false, within-true}
 use Rattle.pyver_core.proofs.set.parse.read_items.Goals as goal
 
 abbrev pieces : List ℕ → List (List ℕ)
@@ -33,7 +33,7 @@ taken : (text : List ℕ) (s t : Split ℕ) (x : Bor (List ℕ)) (items : List S
     → ((left : List (List ℕ)) × YieldsList (split_steps FindsChar (λ a b. b ≡ a)) (λ y. y.now) s left × ReadSoFar left (pieces text) items is_large)
     → Taken text t x.now items is_large
 taken text s t x items is_large step i =
-    let n = next_piece (split_steps FindsChar (λ a b. b ≡ a)) (λ y. y.now) s i.0 i.1 x t step in
+    let n = yields_next (split_steps FindsChar (λ a b. b ≡ a)) (λ y. y.now) s i.0 i.1 x t step in
     (n.0, n.2, subst (λ left. ReadSoFar left (pieces text) items is_large) n.1 i.2)
 
 pub loop-piece-init : goal.loop-piece-init
@@ -55,7 +55,7 @@ returns-in_default c =
     let at = taken c.args.text.now c.loop-piece.piece-iterator c.next.new.self c.in-Some.piece c.loop-piece.items.items c.loop-piece.is_large
     c.in-Some.ensures.steps c.loop-piece.invariant in
     let other : list_all is_white c.in-Some.piece.now ≡ false = ap (list_all is_white) (sym c.as_bytes.ensures.value) ∙ sym c.is_blank.ensures ∙ c.if-is_blank.false in
-    let none = uncut c.in-Some.piece.now (ap operator_at (sym c.past_white.ensures) ∙ sym c.in_default.ensures) in
+    let none = uncut c.in-Some.piece.now (ap operator_at (sym c.after_white.ensures) ∙ sym c.in_default.ensures) in
     let refused = read_refused c.in-Some.piece.now at.0 (pieces c.args.text.now) c.loop-piece.items.items c.loop-piece.is_large other none at.2 in
     λ _. rw refused refl
 
@@ -65,8 +65,8 @@ returns-in_default-read_operand c =
     let at = taken c.args.text.now c.loop-piece.piece-iterator c.next.new.self c.in-Some.piece c.loop-piece.items.items c.loop-piece.is_large
     c.in-Some.ensures.steps c.loop-piece.invariant in
     let other : list_all is_white c.in-Some.piece.now ≡ false = ap (list_all is_white) (sym c.as_bytes.ensures.value) ∙ sym c.is_blank.ensures ∙ c.if-is_blank.false in
-    let read : specifier_of c.in-Some.piece.now ≡ operand_of c.in-Some-at_front.operator c.in-Some-at_front.operand.now =
-    cut_read c.in-Some.piece.now c.in-Some-at_front.operator c.in-Some-at_front.operand.now (ap operator_at (sym c.past_white.ensures) ∙ sym c.in-Some-at_front.ensures) in
+    let read : specifier_of c.in-Some.piece.now ≡ operand_of c.in-Some-read.operator c.in-Some-read.operand.now =
+    cut_read c.in-Some.piece.now c.in-Some-read.operator c.in-Some-read.operand.now (ap operator_at (sym c.after_white.ensures) ∙ sym c.in-Some-read.ensures) in
     let none : specifier_of c.in-Some.piece.now ≡ None = read ∙ rw c.in_default-read_operand.is at (sym c.read_operand.ensures) in
     let refused = read_refused c.in-Some.piece.now at.0 (pieces c.args.text.now) c.loop-piece.items.items c.loop-piece.is_large other none at.2 in
     λ _. rw refused refl
@@ -76,8 +76,8 @@ loop-piece-preserved-in-Some-2 c =
     let at = taken c.args.text.now c.loop-piece.piece-iterator c.next.new.self c.in-Some.piece c.loop-piece.items.items c.loop-piece.is_large
     c.in-Some.ensures.steps c.loop-piece.invariant in
     let other : list_all is_white c.in-Some.piece.now ≡ false = ap (list_all is_white) (sym c.as_bytes.ensures.value) ∙ sym c.is_blank.ensures ∙ c.if-is_blank.false in
-    let read : specifier_of c.in-Some.piece.now ≡ operand_of c.in-Some-at_front.operator c.in-Some-at_front.operand.now =
-    cut_read c.in-Some.piece.now c.in-Some-at_front.operator c.in-Some-at_front.operand.now (ap operator_at (sym c.past_white.ensures) ∙ sym c.in-Some-at_front.ensures) in
+    let read : specifier_of c.in-Some.piece.now ≡ operand_of c.in-Some-read.operator c.in-Some-read.operand.now =
+    cut_read c.in-Some.piece.now c.in-Some-read.operator c.in-Some-read.operand.now (ap operator_at (sym c.after_white.ensures) ∙ sym c.in-Some-read.ensures) in
     let found = rw c.in-Some-2.is at c.in_ok-specifier.ensures in (
       at.0,
       at.1,
@@ -90,8 +90,8 @@ loop-piece-preserved-then-not-is_within c =
     let at = taken c.args.text.now c.loop-piece.piece-iterator c.next.new.self c.in-Some.piece c.loop-piece.items.items c.loop-piece.is_large
     c.in-Some.ensures.steps c.loop-piece.invariant in
     let other : list_all is_white c.in-Some.piece.now ≡ false = ap (list_all is_white) (sym c.as_bytes.ensures.value) ∙ sym c.is_blank.ensures ∙ c.if-is_blank.false in
-    let read : specifier_of c.in-Some.piece.now ≡ operand_of c.in-Some-at_front.operator c.in-Some-at_front.operand.now =
-    cut_read c.in-Some.piece.now c.in-Some-at_front.operator c.in-Some-at_front.operand.now (ap operator_at (sym c.past_white.ensures) ∙ sym c.in-Some-at_front.ensures) in
+    let read : specifier_of c.in-Some.piece.now ≡ operand_of c.in-Some-read.operator c.in-Some-read.operand.now =
+    cut_read c.in-Some.piece.now c.in-Some-read.operator c.in-Some-read.operand.now (ap operator_at (sym c.after_white.ensures) ∙ sym c.in-Some-read.ensures) in
     let some : specifier_of c.in-Some.piece.now ≡ Some (draft_specifier c.in-Some-read_operand.draft) =
     read ∙ rw c.in-Some-read_operand.is at (sym c.read_operand.ensures) in
     let past = rw c.if-not-is_within.true at c.in_ok-is_within.ensures in (
@@ -106,8 +106,8 @@ loop-piece-preserved c =
     let at = taken c.args.text.now c.loop-piece.piece-iterator c.next.new.self c.in-Some.piece c.loop-piece.items.items c.loop-piece.is_large
     c.in-Some.ensures.steps c.loop-piece.invariant in
     let other : list_all is_white c.in-Some.piece.now ≡ false = ap (list_all is_white) (sym c.as_bytes.ensures.value) ∙ sym c.is_blank.ensures ∙ c.if-is_blank.false in
-    let read : specifier_of c.in-Some.piece.now ≡ operand_of c.in-Some-at_front.operator c.in-Some-at_front.operand.now =
-    cut_read c.in-Some.piece.now c.in-Some-at_front.operator c.in-Some-at_front.operand.now (ap operator_at (sym c.past_white.ensures) ∙ sym c.in-Some-at_front.ensures) in
+    let read : specifier_of c.in-Some.piece.now ≡ operand_of c.in-Some-read.operator c.in-Some-read.operand.now =
+    cut_read c.in-Some.piece.now c.in-Some-read.operator c.in-Some-read.operand.now (ap operator_at (sym c.after_white.ensures) ∙ sym c.in-Some-read.ensures) in
     let some : specifier_of c.in-Some.piece.now ≡ Some (draft_specifier c.in-Some-read_operand.draft) =
     read ∙ rw c.in-Some-read_operand.is at (sym c.read_operand.ensures) in
     let within = rw c.if-not-is_within.false at c.in_ok-is_within.ensures in (
@@ -121,7 +121,7 @@ pub returns-then-is_large : goal.returns-then-is_large
 unfolding set_of parsed_set
 returns-then-is_large c =
     let i = c.loop-piece.invariant in
-    let none = no_piece (split_steps FindsChar (λ a b. b ≡ a)) (λ y. y.now) c.loop-piece.piece-iterator i.0 i.1 c.next.new.self c.in-None.ensures.steps in
+    let none = yields_none (split_steps FindsChar (λ a b. b ≡ a)) (λ y. y.now) c.loop-piece.piece-iterator i.0 i.1 c.next.new.self c.in-None.ensures.steps in
     let r : ReadSoFar i.0 (pieces c.args.text.now) c.loop-piece.items.items true = rw c.if-is_large.true at i.2 in
     let all = read_end_large (pieces c.args.text.now) c.loop-piece.items.items (subst (λ left. ReadSoFar left (pieces c.args.text.now) c.loop-piece.items.items true) none r) in
     λ _. rw all.1 (within-true NumberTooLarge (set_numbers all.0) all.0 all.2)
@@ -130,7 +130,7 @@ pub returns : goal.returns
 unfolding set_of parsed_set
 returns c =
     let i = c.loop-piece.invariant in
-    let none = no_piece (split_steps FindsChar (λ a b. b ≡ a)) (λ y. y.now) c.loop-piece.piece-iterator i.0 i.1 c.next.new.self c.in-None.ensures.steps in
+    let none = yields_none (split_steps FindsChar (λ a b. b ≡ a)) (λ y. y.now) c.loop-piece.piece-iterator i.0 i.1 c.next.new.self c.in-None.ensures.steps in
     let r : ReadSoFar i.0 (pieces c.args.text.now) c.loop-piece.items.items false = rw c.if-is_large.false at i.2 in
     let all = read_end (pieces c.args.text.now) c.loop-piece.items.items (subst (λ left. ReadSoFar left (pieces c.args.text.now) c.loop-piece.items.items false) none r) in
     rw all.0 (within-false NumberTooLarge (set_numbers c.loop-piece.items.items) c.loop-piece.items.items all.1)

@@ -4,7 +4,7 @@ use Rattle.std.specs.Prelude.{◌==◌, ◌≡◌}
 use Rattle.std.specs.Str.Iter.{split_steps}
 use Rattle.std.specs.Str.Pattern.{FindsChar}
 use Rattle.std.proofs.lemmas.Iterator.{YieldsList}
-use Rattle.pyver_core.proofs.Lemmas.Set.ReadSoFar.{ReadSoFar}
+use Rattle.pyver_core.proofs.Lemmas.Set.Reading.SoFar.{ReadSoFar}
 use Rattle.pyver_core.proofs.set.parse.read_items.Given as goal
 
 abbrev pub invariant-loop-piece : goal.invariant-loop-piece

@@ -5,7 +5,7 @@ use Rattle.pyver_core.specs.contracts.version.order.PhaseOrd.TheImpl.{cmp-value}
 use Rattle.pyver_core.specs.declared.version.order.Phase.{Phase}
 use Rattle.pyver_core.specs.declared.version.order.Phase.TheVariants.{Developmental, Pre, Final}
 use Rattle.pyver_core.specs.declared.version.part.PreKind.TheVariants.{A, B, Rc}
-use Rattle.pyver_core.proofs.Lemmas.Version.Phases.{number_is, rank_is}
+use Rattle.pyver_core.proofs.Lemmas.Version.Order.Phases.{number_is, rank_is}
 use Rattle.pyver_core.proofs.version.order.compare_phases.Goals as goal
 
 -- the derived order goes by the rank and then by the number

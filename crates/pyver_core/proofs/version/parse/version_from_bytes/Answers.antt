@@ -7,7 +7,7 @@ use Rattle.pyver_core.specs.Version.Parts.{Parts}
 use Rattle.pyver_core.specs.Version.Reading.{version_of}
 use Rattle.pyver_core.specs.declared.version.error.VersionError.{VersionError}
 use Rattle.pyver_core.specs.declared.version.error.VersionError.TheVariants.{Syntax, NumberTooLarge, Memory}
-use Rattle.pyver_core.proofs.Lemmas.Outcomes.{within-false, within-true}
+use Rattle.pyver_core.proofs.Lemmas.Parsed.Outcomes.{within-false, within-true}
 use Rattle.pyver_core.proofs.version.parse.version_from_bytes.Goals as goal
 
 -- what is made of the parts that a text spells

@@ -1,7 +1,7 @@
 use Rattle.std.proofs.Common.{◌≡◌, ◌∙◌, ◌*◌, ℕ, List, ap, length, arith}
 use Rattle.pywheel_core.specs.Inner.Lent.{set_of}
 use Rattle.pywheel_core.specs.Tag.{pieces}
-use Rattle.pywheel_core.proofs.Pieces.{product_le}
+use Rattle.pywheel_core.proofs.Lemmas.Tag.Pieces.{product_le}
 use Rattle.pywheel_core.proofs.cut.TagSet.counts.Goals as goal
 
 pub returns-in_err-pairs : goal.returns-in_err-pairs

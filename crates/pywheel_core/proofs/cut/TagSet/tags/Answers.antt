@@ -2,20 +2,20 @@ use Rattle.std.proofs.Common.{◌≡◌, ◌∙◌, ◌++◌, Ok, ap, map, subst
 use Rattle.std.specs.List.{flat_map}
 use Rattle.std.specs.Rc.{rc_str_bytes}
 use Rattle.pywheel_core.specs.Inner.Lent.{lower_set, set_of}
-use Rattle.pywheel_core.specs.Inner.Pieces.{places_in}
-use Rattle.pywheel_core.specs.Inner.Places.{AreWithin, tag_at}
-use Rattle.pywheel_core.proofs.Lowering.{set_lowered}
-use Rattle.pywheel_core.proofs.Pieces.{SetStands, three_length}
+use Rattle.pywheel_core.specs.Inner.Pieces.{spans_in}
+use Rattle.pywheel_core.specs.Inner.Spans.{AreWithin, tag_at}
+use Rattle.pywheel_core.proofs.Lemmas.Tag.Lowering.{set_lowered}
+use Rattle.pywheel_core.proofs.Lemmas.Tag.Pieces.{SetStands, three_length}
 use Rattle.pywheel_core.proofs.cut.TagSet.tags.Goals as goal
 
 stands : (c : goal.After-as_slice-3) → SetStands (rc_str_bytes c.args.lower.now) (lower_set (set_of c.args.self.now))
-    (places_in c.in_ok-pythons.pythons) (places_in c.in_ok-abis.abis) (places_in c.in_ok-platforms.platforms)
-stands c = set_lowered c.args.text.now (rc_str_bytes c.args.lower.now) (set_of c.args.self.now) c.places.result
-    (places_in c.in_ok-pythons.pythons) (places_in c.in_ok-abis.abis) (places_in c.in_ok-platforms.platforms) c.requires.lower c.places.ensures
+    (spans_in c.in_ok-pythons.pythons) (spans_in c.in_ok-abis.abis) (spans_in c.in_ok-platforms.platforms)
+stands c = set_lowered c.args.text.now (rc_str_bytes c.args.lower.now) (set_of c.args.self.now) c.spans.result
+    (spans_in c.in_ok-pythons.pythons) (spans_in c.in_ok-abis.abis) (spans_in c.in_ok-platforms.platforms) c.requires.lower c.spans.ensures
     c.in_ok-pythons.ensures c.in_ok-abis.ensures c.in_ok-platforms.ensures c.requires.whole c.requires.set
 
-pub places-requires : goal.places-requires
-places-requires c = three_length c.args.text.now (set_of c.args.self.now) c.requires.whole
+pub spans-requires : goal.spans-requires
+spans-requires c = three_length c.args.text.now (set_of c.args.self.now) c.requires.whole
 
 pub push_tags-requires : goal.push_tags-requires
 push_tags-requires c =
@@ -31,9 +31,9 @@ push_tags-requires c =
 pub returns : goal.returns
 returns c =
     let text = rc_str_bytes c.args.lower.now in
-    let stand = set_lowered c.args.text.now text (set_of c.args.self.now) c.places.result
-    (places_in c.in_ok-pythons.pythons) (places_in c.in_ok-abis.abis) (places_in c.in_ok-platforms.platforms) c.requires.lower c.places.ensures
+    let stand = set_lowered c.args.text.now text (set_of c.args.self.now) c.spans.result
+    (spans_in c.in_ok-pythons.pythons) (spans_in c.in_ok-abis.abis) (spans_in c.in_ok-platforms.platforms) c.requires.lower c.spans.ensures
     c.in_ok-pythons.ensures c.in_ok-abis.ensures c.in_ok-platforms.ensures c.requires.whole c.requires.set in
-    let made : c.push_tags.new.tags.items ≡ flat_map (λ p. flat_map (λ b. map (λ q. tag_at text p b q) (places_in c.in_ok-platforms.platforms)) (places_in c.in_ok-abis.abis)) (places_in c.in_ok-pythons.pythons) =
+    let made : c.push_tags.new.tags.items ≡ flat_map (λ p. flat_map (λ b. map (λ q. tag_at text p b q) (spans_in c.in_ok-platforms.platforms)) (spans_in c.in_ok-abis.abis)) (spans_in c.in_ok-pythons.pythons) =
     c.in_ok-push_tags.ensures.added ∙ (λ i. c.in_ok-tags.ensures.items i ++ flat_map (λ p. flat_map (λ b. map (λ q. tag_at text p b q) (c.as_slice-3.ensures i)) (c.as_slice-2.ensures i)) (c.as_slice.ensures i)) in
     ap Ok (sym (made ∙ stand.tags))

@@ -1,5 +1,5 @@
 use Rattle.std.proofs.Common.{sym}
-use Rattle.pywheel_core.proofs.Cuts.{cut_says}
+use Rattle.pywheel_core.proofs.Lemmas.Texts.Cuts.{cut_says}
 use Rattle.pywheel_core.proofs.reader.WheelReader.learn.Goals as goal
 
 pub learn_head-requires-clause-name : goal.learn_head-requires-clause-name

@@ -1,7 +1,7 @@
 use Rattle.std.proofs.Common.{◌≡◌, ◌∙◌, Ok, ap, sym, true, string_bytes, arith}
 use Rattle.pyver_core.specs.Parsed.{parsed_version}
 use Rattle.pywheel_core.specs.Wheel.Name.{is_wheel_name}
-use Rattle.pywheel_core.proofs.HalvesLemmas.{head_before, head_text}
+use Rattle.pywheel_core.proofs.Lemmas.Wheel.Halves.{head_before, head_text}
 use Rattle.pywheel_core.proofs.reader.WheelReader.learn_head.Goals as goal
 
 pub invariant_of-self : goal.invariant_of-self

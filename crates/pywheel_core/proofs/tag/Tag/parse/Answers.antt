@@ -1,4 +1,4 @@
-use Rattle.pywheel_core.proofs.Listing.{given_no_tag, given_tag}
+use Rattle.pywheel_core.proofs.Lemmas.Tag.Listing.{given_no_tag, given_tag}
 use Rattle.pywheel_core.proofs.tag.Tag.parse.Goals as goal
 
 pub returns-clause-ok : goal.returns-clause-ok

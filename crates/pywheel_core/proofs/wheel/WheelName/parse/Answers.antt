@@ -1,4 +1,4 @@
-use Rattle.pywheel_core.proofs.Naming.{given_no_wheel, given_wheel}
+use Rattle.pywheel_core.proofs.Lemmas.Wheel.Grammar.{given_no_wheel, given_wheel}
 use Rattle.pywheel_core.proofs.wheel.WheelName.parse.Goals as goal
 
 pub returns-clause-ok : goal.returns-clause-ok

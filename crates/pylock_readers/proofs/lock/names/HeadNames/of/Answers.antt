@@ -2,7 +2,7 @@ use Rattle.std.proofs.Common.{◌≡◌, ◌∙◌, ◌++◌, ◌∷◌, [], ap,
 use Rattle.std.specs.BTreeSet.{insert_key}
 use Rattle.std.proofs.lemmas.List.{map-append}
 use Rattle.pylock_readers.specs.Inner.Strings.{has_text}
-use Rattle.pylock_readers.specs.Lock.Head.{distinct}
+use Rattle.pylock_readers.specs.Lock.Head.{distinct_texts}
 use Rattle.pylock_readers.proofs.DistinctLemmas.{holds_new, new_text, unseen, was_new}
 use Rattle.pylock_readers.proofs.lock.names.HeadNames.of.Goals as goal
 
@@ -15,13 +15,13 @@ loop-text-preserved-in_ok-push c =
     let rest = map string_bytes c.next.new.self.rest.items in
     let fresh = was_new (has_text keys (string_bytes copy)) c.in_ok-insert.field-0 c.in_ok-insert.ensures.added c.if-branch.true in
     let texts = ap (map string_bytes) c.in_ok-push.ensures.items ∙ map-append (λ (s : String Global). string_bytes s) c.loop-text.names.items _ ∙ ap (λ text. once ++ text ∷ []) (sym same) in (
-      ap (λ items. map string_bytes items ++ unseen c.insert.new.self.keys (distinct rest)) c.in_ok-push.ensures.items
-          ∙ ap (λ items. items ++ unseen c.insert.new.self.keys (distinct rest)) (map-append (λ (s : String Global). string_bytes s) c.loop-text.names.items _)
-          ∙ ap (λ keys. (once ++ string_bytes c.in-Some.text ∷ []) ++ unseen keys (distinct rest)) c.in_ok-insert.ensures.keys
-          ∙ ap (λ text. (once ++ text ∷ []) ++ unseen (insert_key string_cmp keys copy) (distinct rest)) (sym same)
+      ap (λ items. map string_bytes items ++ unseen c.insert.new.self.keys (distinct_texts rest)) c.in_ok-push.ensures.items
+          ∙ ap (λ items. items ++ unseen c.insert.new.self.keys (distinct_texts rest)) (map-append (λ (s : String Global). string_bytes s) c.loop-text.names.items _)
+          ∙ ap (λ keys. (once ++ string_bytes c.in-Some.text ∷ []) ++ unseen keys (distinct_texts rest)) c.in_ok-insert.ensures.keys
+          ∙ ap (λ text. (once ++ text ∷ []) ++ unseen (insert_key string_cmp keys copy) (distinct_texts rest)) (sym same)
           ∙ new_text once keys copy rest fresh
-          ∙ ap (λ text. once ++ unseen keys (distinct (text ∷ rest))) same
-          ∙ ap (λ texts. once ++ unseen keys (distinct (map string_bytes texts))) (sym c.in-Some.ensures.steps.0)
+          ∙ ap (λ text. once ++ unseen keys (distinct_texts (text ∷ rest))) same
+          ∙ ap (λ texts. once ++ unseen keys (distinct_texts (map string_bytes texts))) (sym c.in-Some.ensures.steps.0)
           ∙ c.loop-text.invariant.0,
       rw (c.in_ok-insert.ensures.keys, texts) (holds_new keys copy once c.loop-text.invariant.1),
     )

@@ -6,6 +6,6 @@ pub returns-in_ok-self-inside-in-Ok-clause-text : goal.returns-in_ok-self-inside
 unfolding end_line end_text
 returns-in_ok-self-inside-in-Ok-clause-text c = search rules
 
-pub returns-in_ok-push_refused-in-Err : goal.returns-in_ok-push_refused-in-Err
+pub returns-in_ok-push_line_refusal-in-Err : goal.returns-in_ok-push_line_refusal-in-Err
 unfolding end_line end_text
-returns-in_ok-push_refused-in-Err c = search rules
+returns-in_ok-push_line_refusal-in-Err c = search rules

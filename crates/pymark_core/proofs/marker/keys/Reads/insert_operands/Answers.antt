@@ -1,6 +1,6 @@
 use Rattle.std.proofs.Common.{◌||◌, ap, ◌∙◌}
 use Rattle.std.proofs.Math.Bool.{or_assoc}
-use Rattle.pymark_core.proofs.NoteLemmas.{both_read}
+use Rattle.pymark_core.proofs.Lemmas.Building.Notes.{both_read}
 use Rattle.pymark_core.specs.Marker.Keys.{is_flagged, operand_keys, has_key}
 use Rattle.pymark_core.proofs.marker.keys.Reads.insert_operands.Goals as goal
 

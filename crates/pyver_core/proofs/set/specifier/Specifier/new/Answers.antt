@@ -6,9 +6,9 @@ use Rattle.pyver_core.specs.Set.Reading.{operand_of}
 use Rattle.pyver_core.specs.declared.set.error.SpecifierError.TheVariants.{Syntax, NumberTooLarge, Memory}
 use Rattle.pyver_core.specs.declared.set.specifier.Operator.{Operator}
 use Rattle.pyver_core.specs.declared.set.specifier.Specifier.{Specifier}
-use Rattle.pyver_core.proofs.Lemmas.Outcomes.{answers}
-use Rattle.pyver_core.proofs.Lemmas.Set.Complete.{operand_again}
-use Rattle.pyver_core.proofs.Lemmas.Set.Sound.{operand_takes}
+use Rattle.pyver_core.proofs.Lemmas.Parsed.Outcomes.{answers}
+use Rattle.pyver_core.proofs.Lemmas.Set.Reading.Complete.{operand_complete}
+use Rattle.pyver_core.proofs.Lemmas.Set.Reading.Sound.{operand_sound}
 use Rattle.pyver_core.proofs.set.specifier.Specifier.new.Goals as goal
 
 pub returns : goal.returns
@@ -18,7 +18,7 @@ returns c =
     let text = c.args.operand.now in
     let IsMeant : Specifier → Type 0 = λ s. (operator_of s ≡ o) × IsOperand text s in
     let x = answers IsMeant specifier_numbers Memory Syntax NumberTooLarge (operand_of o text) c.specifier_from_operand.result (λ e. cc e) (λ e. cc e) (λ e. cc e)
-    (operand_takes o text) (λ s p. ap (λ (q : Operator). operand_of q text) (sym p.0) ∙ operand_again s text p.1) c.specifier_from_operand.ensures in
+    (operand_sound o text) (λ s p. ap (λ (q : Operator). operand_of q text) (sym p.0) ∙ operand_complete s text p.1) c.specifier_from_operand.ensures in
     record {
       ok = x.ok;
       fits = x.fits;

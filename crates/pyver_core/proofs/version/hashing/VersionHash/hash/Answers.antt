@@ -3,7 +3,7 @@ use Rattle.std.specs.Hash as fed
 use Rattle.std.specs.List.{fold}
 use Rattle.pyver_core.specs.Version.Hashing.{pre_input, segment_input, version_input}
 use Rattle.pyver_core.specs.Version.Hashing.{without_trailing_zeros}
-use Rattle.pyver_core.proofs.Lemmas.Version.Hashes.{hash_input-pre, hash_input-segment}
+use Rattle.pyver_core.proofs.Lemmas.Version.Hashing.Inputs.{hash_input-pre, hash_input-segment}
 use Rattle.pyver_core.proofs.version.hashing.VersionHash.hash.Goals as goal
 
 -- the parts, one after the other

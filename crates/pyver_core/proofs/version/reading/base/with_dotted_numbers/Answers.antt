@@ -3,8 +3,8 @@ use Rattle.std.proofs.lemmas.Result.{err_from_is_err_and}
 use Rattle.std.proofs.lemmas.Bool.{or_left}
 use Rattle.pyver_core.specs.Version.Grammar.{has_large}
 use Rattle.pyver_core.specs.Version.Reading.{dotted_number_at, many_at}
-use Rattle.pyver_core.proofs.Lemmas.Version.Limits.{or_false, Refuses-more, items_step, items_end, dotted_large}
-use Rattle.pyver_core.proofs.Lemmas.Version.Many.{dotted_shrinks, many_at-none}
+use Rattle.pyver_core.proofs.Lemmas.Version.Grammar.Limits.{or_false, Refuses-more, items_step, items_end, dotted_large}
+use Rattle.pyver_core.proofs.Lemmas.Version.Reading.Many.{dotted_shrinks, many_at-none}
 use Rattle.pyver_core.proofs.version.reading.base.with_dotted_numbers.Goals as goal
 
 pub returns-in_err-number : goal.returns-in_err-number

@@ -1,0 +1,28 @@
+use Rattle.std.proofs.Common.{◌≡◌, Bool, true, false, cond, Ok, Err}
+use Rattle.pytext.proofs.NeverLemmas.{Never}
+use Rattle.pylock_core.specs.Session.State.{State, apply}
+use Rattle.pylock_core.specs.declared.edit.Edit.{Edit}
+use Rattle.pylock_core.specs.declared.edit.Edit.TheVariants as edit
+use Rattle.pylock_core.specs.declared.edit.EditError.{EditError}
+use Rattle.pylock_core.specs.declared.edit.EditError.TheVariants.{Memory, NoEntry, TooMany, UnknownExtra, UnknownGroup}
+use Rattle.pylock_core.proofs.laws.answers_are_never_out_of_memory.Goals as goal
+
+tested : (b : Bool) (next : State) (refusal : EditError) → (refusal ≡ Memory → ⊥) → Never Memory (cond b (Ok next) (Err refusal))
+tested true next refusal other = λ e. cc e
+tested false next refusal other = λ e. other cc
+
+edit_wants_none : (edit : Edit) (state : State) → Never Memory (apply edit state)
+edit_wants_none (edit.Set variable text) state = λ e. cc e
+edit_wants_none (edit.Unset variable) state = λ e. cc e
+edit_wants_none (edit.AddExtra name) state = tested _ _ UnknownExtra (λ e. cc e)
+edit_wants_none (edit.DropExtra name) state = tested _ _ UnknownExtra (λ e. cc e)
+edit_wants_none (edit.AddGroup name) state = tested _ _ UnknownGroup (λ e. cc e)
+edit_wants_none (edit.DropGroup name) state = tested _ _ UnknownGroup (λ e. cc e)
+edit_wants_none (edit.Tags tags) state = λ e. cc e
+edit_wants_none (edit.Add entry) state = tested _ _ TooMany (λ e. cc e)
+edit_wants_none (edit.Put n entry) state = tested _ _ NoEntry (λ e. cc e)
+edit_wants_none (edit.Del n) state = tested _ _ NoEntry (λ e. cc e)
+edit_wants_none (edit.Policy name policy) state = λ e. cc e
+
+pub returns : goal.returns
+returns c = edit_wants_none

@@ -1,0 +1,5 @@
+pub mod Depth
+pub mod Reading
+pub mod Token
+pub mod Value
+pub mod View

@@ -1,0 +1,4 @@
+pub mod Complete
+pub mod Cuts
+pub mod Names
+pub mod Sound

@@ -1,0 +1,2 @@
+pub mod NeverMemory
+pub mod Outcomes

@@ -1,0 +1,5 @@
+pub mod Boundaries
+pub mod Complete
+pub mod Operators
+pub mod SoFar
+pub mod Sound

@@ -1,0 +1,3 @@
+pub mod InTurn
+pub mod Phases
+pub mod Zeros

@@ -1,0 +1,5 @@
+-- Lemmas on definitions that have several files of them.
+pub mod Choice
+pub mod Tag
+pub mod Texts
+pub mod Wheel
