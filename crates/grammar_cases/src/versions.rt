@@ -2,7 +2,8 @@
 
 use crate::told::{measure_text, printed_text, refused, value_or_refusal};
 use case_files::{text, texts};
-use pyver_core::{Label, LocalPart, Version, VersionParts};
+use pytext::Text;
+use pyver_core::{LocalPart, Version, VersionParts};
 use std::alloc::{AllocError, Global};
 use std::cmp::Ordering;
 use std::collections::HashSet;
@@ -119,7 +120,7 @@ fn local_of(alloc: Global, case: &Table, segments: &[LocalPart]) -> anyhow::Resu
     let mut local = Vec::new(alloc);
     if case.get("label").is_some() {
         let label = text(alloc, case, "label")?;
-        local.push(LocalPart::Text(Label::new(label)))?;
+        local.push(LocalPart::Text(Text::new(label)))?;
     }
     for segment in segments {
         local.push(segment.clone()?)?;
@@ -129,7 +130,7 @@ fn local_of(alloc: Global, case: &Table, segments: &[LocalPart]) -> anyhow::Resu
 
 /// The text that a label of `label` gives.
 pub(crate) fn label_text(alloc: Global, case: &Table) -> anyhow::Result<String> {
-    let label = Label::new(text(alloc, case, "label")?);
+    let label = Text::new(text(alloc, case, "label")?);
     Ok(label.into_string())
 }
 

@@ -1,9 +1,7 @@
 //! The record of what the name of a wheel says (PEP 427).
 
-ghost use Rattle.std.specs.Prelude.{◌≡◌, ◌++◌, IfOk, OnOk, codes, string_bytes};
-ghost use Rattle.std.specs.List.{join_by};
+ghost use Rattle.std.specs.Prelude.{◌≡◌, ◌++◌, OnOk};
 ghost use Rattle.pytext.specs.Agreement.{Gives};
-ghost use Rattle.pywheel_core.specs.Tag.{tag_text};
 ghost use Rattle.pylock_c.specs.Answer.{Tells};
 ghost use Rattle.pylock_c.specs.Record.{record_of};
 ghost use Rattle.pylock_c.specs.Slot.{object};
@@ -15,9 +13,8 @@ use crate::refusal::Refusal;
 use crate::slot::Slot;
 use crate::text::{keep_text, text};
 use pylock_run::{push_field, push_next_field};
-use pywheel_core::{Tag, WheelName};
+use pywheel_core::{WheelName, tags_text};
 use std::alloc::{AllocError, Global};
-use std::fmt::Write;
 
 fn wheel_record(alloc: Global, bytes: &[u8]) -> Result<Vec<u8>, Refusal>
     ensures { Gives Memory (λ made. made.items) result (wheel_record bytes.now) }
@@ -44,18 +41,4 @@ fn push_parts(alloc: Global, out: &mut Vec<u8>, wheel: &WheelName) -> Result<(),
     push_next_field(out, Some(wheel.version().text()))?;
     push_next_field(out, wheel.build_text())?;
     push_next_field(out, Some(tags.as_str()))
-}
-
-/// The tags with a space between them.
-fn tags_text(alloc: Global, tags: &[Tag]) -> Result<String, AllocError>
-    ensures { IfOk result (λ text. string_bytes text ≡ join_by tag_text (codes " ") tags.now) }
-{
-    let mut text = String::new(alloc);
-    if let Some((first, rest)) = tags.split_first() {
-        write!(text, "{first}")?;
-        for tag in rest {
-            write!(text, " {tag}")?;
-        }
-    }
-    Ok(text)
 }

@@ -1,2 +1,3 @@
 pub mod Session
 pub mod Inner
+pub mod Words

@@ -38,6 +38,7 @@ mod fate;
 pub mod laws;
 mod picked;
 mod session;
+mod words;
 
 pub use answer::{Answer, FaultCode, Pick, PickSource, Plan, Standing};
 pub use edit::{Edit, EditError, Policy};
@@ -48,3 +49,4 @@ pub use pylock_readers::{
     HeadNames, Lock, LockError, Sdist, Vcs, WheelFile, read_environment,
 };
 pub use session::Session;
+pub use words::{directory_word, fault_word, policy_word, verdict_word};

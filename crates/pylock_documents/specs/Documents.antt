@@ -17,8 +17,8 @@ use Rattle.pylock_core.specs.declared.answer.Answer.TheVariants.{Plan, Fault}
 use Rattle.pylock_core.specs.declared.answer.FaultCode.{FaultCode}
 use Rattle.pylock_core.specs.declared.answer.Pick.{Pick}
 use Rattle.pylock_core.specs.declared.fate.Fate.{Fate}
-use Rattle.pylock_reasons.specs.Reasons.{detail, head_detail}
-use Rattle.pylock_reasons.specs.Words.{fault_word, verdict_word}
+use Rattle.pylock_documents.specs.Reasons.{detail, head_detail}
+use Rattle.pylock_core.specs.Words.{fault_word, verdict_word}
 use Rattle.pylock_documents.specs.Source.{entry_rows, source_data}
 
 -- what may be absent, as a list of one item or none

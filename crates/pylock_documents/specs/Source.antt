@@ -7,7 +7,7 @@ use Rattle.pylock_readers.specs.Entry.{LocationValue, VcsValue}
 use Rattle.pylock_readers.specs.Entry.{file_name, place_of}
 use Rattle.pylock_core.specs.Session.Picks.{SourceValue, OfVcs, OfDirectory, OfArchive, OfWheel}
 use Rattle.pylock_core.specs.Session.Picks.{OfSdist}
-use Rattle.pylock_reasons.specs.Words.{directory_word}
+use Rattle.pylock_core.specs.Words.{directory_word}
 
 -- the place, and the two keys that may give it
 abbrev pub place_rows : LocationValue → List Row

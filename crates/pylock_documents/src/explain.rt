@@ -8,10 +8,10 @@ ghost use Rattle.pylock_json.specs.Json.{members_of, object_of, with_rows};
 ghost use Rattle.pylock_documents.specs.Documents.{explain_rows, fate_rows, head_data};
 ghost use Rattle.pylock_documents.specs.Documents.{verdict_data, verdict_rows};
 
+use crate::reasons::{detail, head_detail};
 use crate::source::entry_object;
-use pylock_core::{Entry, Fate, Session};
+use pylock_core::{Entry, Fate, Session, fault_word, verdict_word};
 use pylock_json::{Json, List, Object};
-use pylock_reasons::{detail, fault_word, head_detail, verdict_word};
 use std::alloc::{AllocError, Global};
 
 /// The document of what becomes of the head and of each entry, each judged for itself. It takes

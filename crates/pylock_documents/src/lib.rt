@@ -3,8 +3,11 @@
 //! lines have, each field under a name of its own, and of a fault its reason too. A field that is
 //! absent is left out.
 //!
-//! It stands on `pylock_core`, `pylock_reasons` and `pylock_json`. Begin with
-//! [`plan_document`]. Each call gives an [`Object`](pylock_json::Object); its text is that of
+//! [`detail`] and [`head_detail`] say why an entry has its fate, and why the head has its fault;
+//! lines for a person and printed lines have these reasons too. The words of fates and faults are
+//! those of `pylock_core`.
+//!
+//! It stands on `pylock_core` and `pylock_json`. Begin with [`plan_document`]. Each call gives an [`Object`](pylock_json::Object); its text is that of
 //! `pylock_json`'s `document`.
 //!
 //! The files of a lock, as lines or as a document, from `crates/pylock_program/src/reply.rt`:
@@ -24,6 +27,7 @@ mod explain;
 mod files;
 mod head;
 mod plan;
+mod reasons;
 mod refused;
 mod source;
 
@@ -31,4 +35,5 @@ pub use explain::explain_document;
 pub use files::files_document;
 pub use head::head_document;
 pub use plan::plan_document;
+pub use reasons::{detail, head_detail};
 pub use refused::refused_document;

@@ -8,14 +8,14 @@ ghost use Rattle.serde_json.specs.View.{members_view, view as data_of};
 ghost use Rattle.pylock_json.specs.Json.{members_of, object_of};
 ghost use Rattle.pylock_core.specs.Session.Fates.{fates};
 ghost use Rattle.pylock_core.specs.Session.State.{entry_at};
-ghost use Rattle.pylock_reasons.specs.Reasons.{detail};
+ghost use Rattle.pylock_documents.specs.Reasons.{detail};
 ghost use Rattle.pylock_documents.specs.Documents.{answer_rows, fate_in, fault_detail, fault_rows};
 ghost use Rattle.pylock_documents.specs.Documents.{pick_data};
 
+use crate::reasons::{detail, head_detail};
 use crate::source::source_object;
-use pylock_core::{Answer, Fate, FaultCode, Pick, Session};
+use pylock_core::{Answer, Fate, FaultCode, Pick, Session, fault_word};
 use pylock_json::{Json, List, Object};
-use pylock_reasons::{detail, fault_word, head_detail};
 use std::alloc::{AllocError, Global};
 
 /// The document of an answer on the state of its session: a plan with its sources, or the fault

@@ -45,7 +45,7 @@ use Rattle.pylock_run.specs.Report.{Report}
 use Rattle.pylock_program.specs.Text.Audit.{findings_text}
 use Rattle.pylock_program.specs.Text.Json.{json_text, lock_json}
 use Rattle.pylock_run.specs.Text.Field.{field, line_of}
-use Rattle.pylock_reasons.specs.Words.{fault_word}
+use Rattle.pylock_core.specs.Words.{fault_word}
 use Rattle.pylock_program.specs.Text.Files.{files_text}
 use Rattle.pylock_run.specs.Text.Refusal.{environment_text, lock_text}
 use Rattle.pylock_program.specs.declared.reply.queries.Query.{Query}

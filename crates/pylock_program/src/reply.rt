@@ -2,9 +2,7 @@
 
 ghost use Rattle.std.specs.Prelude.{◌≡◌, ◌++◌, ◌∷◌, IfOk, OnOk, Ok, Some};
 ghost use Rattle.std.specs.Prelude.{[], codes, map, string_bytes};
-ghost use Rattle.std.specs.List.{join_by};
 ghost use Rattle.pyver_core.specs.Name.{normal_name};
-ghost use Rattle.pywheel_core.specs.Tag.{tag_text};
 ghost use Rattle.pylock_program.specs.Reply.{reply, reply_of, version_answer, match_answer};
 ghost use Rattle.pylock_program.specs.Reply.{admits_answer, audit_answer, files_answer};
 ghost use Rattle.pylock_program.specs.Reply.{files_shown, findings_answer, refused_lock};
@@ -25,17 +23,18 @@ use crate::text::files::push_files;
 use crate::text::json::push_lock_json;
 use pylock_audit::{Found, audit, findings_document};
 use pylock_command::Form;
-use pylock_core::{Entry, EnvError, FaultCode, Lock, LockError, read_environment};
+use pylock_core::{
+    Entry, EnvError, FaultCode, Lock, LockError, fault_word, read_environment,
+};
 use pylock_documents::files_document;
 use pylock_json::push_document;
-use pylock_reasons::{fault_word, tag_text};
 use pylock_run::{
     RunFault, Sink, print, push_environment_error, push_field, push_last_word, push_lock_error,
     push_next_field,
 };
 use pymark_core::{Environment, EvalFault, Marker, MarkerError, Requirement, RequirementError};
 use pyver_core::{SpecifierError, SpecifierSet, Version, VersionError, is_name, normal_name};
-use pywheel_core::{Tag, WheelError, WheelName};
+use pywheel_core::{WheelError, WheelName, tags_text};
 use std::alloc::{AllocError, Global};
 
 /// Writes the reply of a one-shot command, and answers the program's status: 0 for an answer, 1
@@ -341,29 +340,10 @@ fn push_wheel_line(alloc: Global, out: &mut Vec<u8>, wheel: &WheelName) -> Resul
     push_field(out, Some(name.as_str()))?;
     push_next_field(out, Some(wheel.version().text()))?;
     push_next_field(out, wheel.build_text())?;
-    push_tags(alloc, out, wheel.tags())?;
+    let tags = tags_text(alloc, wheel.tags())?;
+    push_next_field(out, Some(tags.as_str()))?;
     out.push(b'\n')?;
     Ok(0)
-}
-
-/// Pushes a TAB and the field of tags.
-fn push_tags(alloc: Global, out: &mut Vec<u8>, tags: &[Tag]) -> Result<(), AllocError>
-    ensures { OnOk result (out.new.items
-        ≡ out.old.items ++ 9 ∷ field (Some (join_by tag_text (codes " ") tags.now))) }
-{
-    let texts = tag_texts(alloc, tags)?;
-    let text = texts.join(alloc, " ")?;
-    push_next_field(out, Some(text.as_str()))
-}
-
-fn tag_texts(alloc: Global, tags: &[Tag]) -> Result<Vec<String>, AllocError>
-    ensures { IfOk result (λ texts. map string_bytes texts.items ≡ map tag_text tags.now) }
-{
-    let mut texts = Vec::with_capacity(alloc, tags.len())?;
-    for tag in tags {
-        texts.push(tag_text(alloc, tag)?)?;
-    }
-    Ok(texts)
 }
 
 /// A text, which is the one field of its line.

@@ -1,8 +1,7 @@
 //! Runs of pylock: edit lines, the lines of an answer and of a refusal, and the edits of a session
 //! by all of an input, over sources and sinks of bytes.
 //!
-//! It stands on `pylock_core`, whose sessions it edits, and on the words of `pylock_reasons`. The
-//! host gives it a [`Source`] of bytes and a [`Sink`]; so it runs over memory too ([`Pieces`],
+//! It stands on `pylock_core`, whose sessions it edits. The host gives it a [`Source`] of bytes and a [`Sink`]; so it runs over memory too ([`Pieces`],
 //! [`Room`]), where its contracts say each byte.
 //!
 //! Begin with [`run`], whose contract is the headline of `docs/CONTRACTS.md`: the first answer, and

@@ -1,3 +1,4 @@
+pub mod Change
 pub mod Environment
 pub mod Inner
 pub mod Marker

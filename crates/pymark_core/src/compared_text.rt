@@ -119,10 +119,9 @@ impl Drop for SharedText {
 
 impl SharedText {
     /// The text, read.
-    pub(crate) fn new(alloc: Global, text: &str) -> Result<SharedText, AllocError>
-        ensures { IfOk result (λ shared. shared ≡ text.now) }
+    pub(crate) fn new(alloc: Global, text: String) -> Result<SharedText, AllocError>
+        ensures { IfOk result (λ shared. shared ≡ string_bytes text) }
     {
-        let text = String::from_str(alloc, text)?;
         let compared = Arc::new(alloc, ComparedText::new(alloc, text)?)?;
         Ok(SharedText { compared })
     }

@@ -18,9 +18,8 @@ use crate::fault::EvalFault;
 use crate::operand::{Comparator, Operand};
 use crate::substring::is_substring;
 use crate::variable::Var;
-use pyver_core::{
-    Label, NormalForm, Operator, Specifier, SpecifierError, VersionError, is_same_name,
-};
+use pytext::Text;
+use pyver_core::{NormalForm, Operator, Specifier, SpecifierError, VersionError, is_same_name};
 use std::alloc::{AllocError, Global};
 use std::marker::Model;
 
@@ -58,7 +57,7 @@ enum Test {
 enum Right {
     /// A quoted text, with what it reads as there. Few texts read as a specifier, so it has memory
     /// of its own.
-    Text(Label, Result<Box<Specifier>, SpecifierError>),
+    Text(Text, Result<Box<Specifier>, SpecifierError>),
     Variable(Var),
     Extra,
     Extras,

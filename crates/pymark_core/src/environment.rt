@@ -2,19 +2,21 @@
 //! "Installation").
 
 ghost use Rattle.std.specs.Prelude.{◌≡◌, not, option_map, replicate, IfOk, IsTrue, None, OnErr};
-ghost use Rattle.std.specs.Prelude.{OnOk, Some};
+ghost use Rattle.std.specs.Prelude.{OnOk, Some, string_bytes};
 ghost use Rattle.std.specs.FinSet as set;
 ghost use Rattle.pyver_core.specs.Name.{normal_name};
 ghost use Rattle.pyver_core.specs.Parsed.{parsed_version};
+ghost use Rattle.pymark_core.specs.Change.{changed};
 ghost use Rattle.pymark_core.specs.Environment.{AreNamesOf, empty_environment, has_extra};
 ghost use Rattle.pymark_core.specs.Environment.{has_group, variable_in, with_extra, with_group};
 ghost use Rattle.pymark_core.specs.Environment.{with_variable, without_extra, without_group};
 ghost use Rattle.pymark_core.specs.Environment.{without_variable};
 
+use crate::change::Change;
 use crate::compared_text::{ComparedText, SharedText};
 use crate::names::{Names, SharedNames};
 use crate::variable::Var;
-use pyver_core::{Version, VersionError};
+use pyver_core::{NormalName, Version, VersionError};
 use std::alloc::{AllocError, Global};
 use std::marker::Model;
 
@@ -106,6 +108,15 @@ impl Environment {
         ensures given { OnOk result (variable_in variable self.new ≡ Some text.now) }
         ensures err { OnErr result (self.new ≡ self.old) }
     {
+        self.set_text(variable, String::from_str(self.alloc, text)?)
+    }
+
+    /// The same of a text that it takes over.
+    fn set_text(&mut self, variable: Var, text: String) -> Result<(), AllocError>
+        ensures ok { OnOk result (self.new ≡ with_variable variable (string_bytes text) self.old) }
+        ensures given { OnOk result (variable_in variable self.new ≡ Some (string_bytes text)) }
+        ensures err { OnErr result (self.new ≡ self.old) }
+    {
         let shared = SharedText::new(self.alloc, text)?;
         self.variables[variable.number()] = Some(shared);
         Ok(())
@@ -135,7 +146,8 @@ impl Environment {
             (λ added. added ≡ not (set.contains self.old.extras (normal_name name.now))) }
         ensures err { OnErr result (self.new ≡ self.old) }
     {
-        self.extras.add(self.alloc, name)
+        self.extras
+            .insert(self.alloc, NormalName::new(self.alloc, name)?)
     }
 
     /// Asks for the extra of this name no more, and answers whether it was asked for. It takes the
@@ -146,7 +158,7 @@ impl Environment {
             (λ dropped. dropped ≡ set.contains self.old.extras (normal_name name.now)) }
         ensures err { OnErr result (self.new ≡ self.old) }
     {
-        self.extras.drop_name(self.alloc, name)
+        self.extras.remove(&NormalName::new(self.alloc, name)?)
     }
 
     /// Asks for the group of this name, and answers whether it wasn't asked for. Where there is no
@@ -157,7 +169,8 @@ impl Environment {
             (λ added. added ≡ not (set.contains self.old.groups (normal_name name.now))) }
         ensures err { OnErr result (self.new ≡ self.old) }
     {
-        self.groups.add(self.alloc, name)
+        self.groups
+            .insert(self.alloc, NormalName::new(self.alloc, name)?)
     }
 
     /// Asks for the group of this name no more, and answers whether it was asked for. It takes the
@@ -168,7 +181,32 @@ impl Environment {
             (λ dropped. dropped ≡ set.contains self.old.groups (normal_name name.now)) }
         ensures err { OnErr result (self.new ≡ self.old) }
     {
-        self.groups.drop_name(self.alloc, name)
+        self.groups.remove(&NormalName::new(self.alloc, name)?)
+    }
+
+    /// Makes the change. It takes the memory of a set that is shared, of a name that comes in, and
+    /// of what a variable's text reads as; where there is none, all stays.
+    pub fn apply(&mut self, change: Change) -> Result<(), AllocError>
+        ensures ok { OnOk result (self.new ≡ changed change self.old) }
+        ensures err { OnErr result (self.new ≡ self.old) }
+    {
+        match change {
+            Change::Set(variable, text) => self.set_text(variable, text.into_string())?,
+            Change::Unset(variable) => self.unset(variable),
+            Change::AddExtra(name) => {
+                self.extras.insert(self.alloc, name)?;
+            }
+            Change::DropExtra(name) => {
+                self.extras.remove(&name)?;
+            }
+            Change::AddGroup(name) => {
+                self.groups.insert(self.alloc, name)?;
+            }
+            Change::DropGroup(name) => {
+                self.groups.remove(&name)?;
+            }
+        }
+        Ok(())
     }
 
     /// Whether this very text is among the extras, which are in normal form. It takes no memory.

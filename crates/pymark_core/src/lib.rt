@@ -32,6 +32,7 @@
 //! ```
 #![tactic(auto)]
 
+mod change;
 mod compared_text;
 mod comparison;
 mod environment;
@@ -44,6 +45,7 @@ mod requirement;
 mod substring;
 mod variable;
 
+pub use change::Change;
 pub use comparison::Comparison;
 pub use environment::Environment;
 pub use fault::EvalFault;

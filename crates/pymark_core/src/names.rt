@@ -147,15 +147,12 @@ impl SharedNames {
         }
     }
 
-    /// Puts the normal form of the text in, and answers whether it was out. A name that is in takes
-    /// the memory of its normal form alone.
-    pub(crate) fn add(&mut self, alloc: Global, name: &str) -> Result<bool, AllocError>
-        ensures set { IfOk result (λ added. self.new ≡ set.insert self.old (normal_name name.now)) }
-        ensures added { IfOk result
-            (λ added. added ≡ not (set.contains self.old (normal_name name.now))) }
+    /// Puts the name in, and answers whether it was out. A name that is in takes no memory.
+    pub(crate) fn insert(&mut self, alloc: Global, name: NormalName) -> Result<bool, AllocError>
+        ensures set { IfOk result (λ added. self.new ≡ set.insert self.old name) }
+        ensures added { IfOk result (λ added. added ≡ not (set.contains self.old name)) }
         ensures err { OnErr result (self.new ≡ self.old) }
     {
-        let name = NormalName::new(alloc, name)?;
         let Some(names) = &mut self.names else {
             let mut names = NameSet::new(alloc);
             names.insert(name)?;
@@ -169,23 +166,19 @@ impl SharedNames {
         Ok(true)
     }
 
-    /// Takes the normal form of the text out, and answers whether it was in. A name that is out
-    /// takes the memory of its normal form alone.
-    pub(crate) fn drop_name(&mut self, alloc: Global, name: &str) -> Result<bool, AllocError>
-        ensures set { IfOk result
-            (λ dropped. self.new ≡ set.remove self.old (normal_name name.now)) }
-        ensures dropped { IfOk result
-            (λ dropped. dropped ≡ set.contains self.old (normal_name name.now)) }
+    /// Takes the name out, and answers whether it was in. A name that is out takes no memory.
+    pub(crate) fn remove(&mut self, name: &NormalName) -> Result<bool, AllocError>
+        ensures set { IfOk result (λ dropped. self.new ≡ set.remove self.old name.now) }
+        ensures dropped { IfOk result (λ dropped. dropped ≡ set.contains self.old name.now) }
         ensures err { OnErr result (self.new ≡ self.old) }
     {
-        let name = NormalName::new(alloc, name)?;
         let Some(names) = &mut self.names else {
             return Ok(false);
         };
         if !names.has(name.as_str()) {
             return Ok(false);
         }
-        Arc::make_mut(names)?.remove(&name);
+        Arc::make_mut(names)?.remove(name);
         Ok(true)
     }
 }

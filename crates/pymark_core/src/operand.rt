@@ -1,13 +1,14 @@
 //! What a comparison of a marker is made of (PEP 508, "Environment Markers").
 
 use crate::variable::Var;
-use pyver_core::{Label, Operator};
+use pytext::Text;
+use pyver_core::Operator;
 
 /// What stands left or right of a comparison's operator.
 #[derive(Debug, Drop)]
 pub enum Operand {
     /// A quoted text.
-    Text(Label),
+    Text(Text),
     /// A variable of the environment.
     Variable(Var),
     /// `extra`: the extra that a package's metadata is read for. In a lock it has no text.

@@ -2,7 +2,7 @@
 //! and digits with their number.
 //!
 //! It stands on `std` alone, and the crates that read texts stand on it. All calls take a borrowed
-//! text or its bytes, and none takes memory. White space is the six ASCII characters space, TAB,
+//! text or its bytes, and none takes memory but those of [`Text`], a text of its own. White space is the six ASCII characters space, TAB,
 //! LF, VT, FF and CR.
 //!
 //! Start with [`trim_white`] and [`after_white`], which take white space away. [`digits_value`] is
@@ -21,11 +21,13 @@
 //! crates above share, and `proofs/` the lemmas on them.
 #![tactic(auto)]
 
+mod any_text;
 mod bytes;
 mod digits;
 pub mod laws;
 mod white;
 
+pub use any_text::Text;
 pub use bytes::{is_name_byte, is_separator, is_white, is_word_byte};
 pub use digits::{are_digits, digits_len, digits_value, is_number};
 pub use white::{after_white, after_white_bytes, is_blank, trim_white};

@@ -32,4 +32,4 @@ mod version;
 
 pub use name::{NormalForm, NormalName, is_name, is_same_name, normal_name};
 pub use set::{Operator, ReleasePrefix, Specifier, SpecifierError, SpecifierSet};
-pub use version::{Label, LocalPart, PartsError, PreKind, Version, VersionError, VersionParts};
+pub use version::{LocalPart, PartsError, PreKind, Version, VersionError, VersionParts};

@@ -22,7 +22,7 @@ pub use from_parts::{PartsError, VersionParts};
 use normal::normal_text;
 pub(crate) use normal::{push_epoch, push_release};
 pub(crate) use order::{compare_fronts, compare_public, compare_to_public};
-pub use part::{Label, LocalPart, PreKind};
+pub use part::{LocalPart, PreKind};
 pub(crate) use parts_ref::PartsRef;
 use std::alloc::{AllocError, Global};
 use std::marker::Model;

@@ -1,12 +1,14 @@
 //! How tags and the names of wheels print.
 
-ghost use Rattle.std.specs.Prelude.{Some};
+ghost use Rattle.std.specs.Prelude.{◌≡◌, IfOk, Some, codes, string_bytes};
+ghost use Rattle.std.specs.List.{join_by};
 ghost use Rattle.pywheel_core.specs.Tag.{tag_text};
 ghost use Rattle.pywheel_core.specs.Wheel.Value.{wheel_text};
 
 use crate::tag::Tag;
 use crate::wheel::WheelName;
-use std::fmt;
+use std::alloc::{AllocError, Global};
+use std::fmt::{self, Write};
 
 /// The three parts, with `-` between them. Printing takes no memory; a width that is asked for
 /// isn't filled up to, since the three parts are no one text.
@@ -16,6 +18,20 @@ impl fmt::Display for Tag {
     fn fmt<W: fmt::Write>(&self, f: &mut fmt::Formatter<W>) -> fmt::Result {
         write!(f, "{}-{}-{}", self.python(), self.abi(), self.platform())
     }
+}
+
+/// The texts of the tags, with a space between two.
+pub fn tags_text(alloc: Global, tags: &[Tag]) -> Result<String, AllocError>
+    ensures { IfOk result (λ text. string_bytes text ≡ join_by tag_text (codes " ") tags.now) }
+{
+    let mut text = String::new(alloc);
+    if let Some((first, rest)) = tags.split_first() {
+        write!(text, "{first}")?;
+        for tag in rest {
+            write!(text, " {tag}")?;
+        }
+    }
+    Ok(text)
 }
 
 impl fmt::Debug for Tag {

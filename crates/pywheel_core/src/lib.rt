@@ -36,6 +36,7 @@ mod tag_set;
 mod wheel;
 
 pub use choice::{best_rank, choose};
+pub use display::tags_text;
 pub use error::{TagError, TagListError, WheelError};
 pub use reader::WheelReader;
 pub use tag::Tag;

@@ -13,8 +13,8 @@ use Rattle.pylock_core.specs.declared.answer.FaultCode.{FaultCode}
 use Rattle.pylock_core.specs.declared.fate.Fate.{Fate}
 use Rattle.pylock_run.specs.Text.Field.{field, line_of}
 use Rattle.pylock_program.specs.Text.Safe.{safe_field}
-use Rattle.pylock_reasons.specs.Reasons.{detail, head_detail}
-use Rattle.pylock_reasons.specs.Words.{fault_word, verdict_word}
+use Rattle.pylock_documents.specs.Reasons.{detail, head_detail}
+use Rattle.pylock_core.specs.Words.{fault_word, verdict_word}
 
 -- number, name, version, verdict, detail
 abbrev pub verdict_line : ℕ → EntryValue → List ℕ → Option (List ℕ) → List ℕ

@@ -1,8 +1,8 @@
 //! What a person is told of a fault.
 
 use crate::notes::tell_if_made;
-use pylock_core::{Answer, Fate, FaultCode, Session};
-use pylock_reasons::{detail, fault_word, head_detail, verdict_word};
+use pylock_core::{Answer, Fate, FaultCode, Session, fault_word, verdict_word};
+use pylock_documents::{detail, head_detail};
 use pylock_run::Sink;
 use std::alloc::{AllocError, Global};
 

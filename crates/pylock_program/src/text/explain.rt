@@ -12,8 +12,8 @@ ghost use Rattle.pylock_run.specs.Text.Field.{line_of};
 ghost use Rattle.pylock_program.specs.Text.Safe.{safe_field};
 
 use crate::text::safe::push_next_safe;
-use pylock_core::{Answer, Entry, Fate, Session};
-use pylock_reasons::{detail, fault_word, head_detail, verdict_word};
+use pylock_core::{Answer, Entry, Fate, Session, fault_word, verdict_word};
+use pylock_documents::{detail, head_detail};
 use pylock_run::{push_decimal, push_next_field, push_word};
 use std::alloc::{AllocError, Global};
 

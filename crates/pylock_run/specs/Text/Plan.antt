@@ -14,7 +14,7 @@ use Rattle.pylock_core.specs.declared.answer.Pick.{Pick}
 use Rattle.pylock_core.specs.declared.answer.PickSource.{PickSource}
 use Rattle.pylock_core.specs.declared.answer.PickSource.TheVariants as source
 use Rattle.pylock_run.specs.Text.Field.{field, line_of}
-use Rattle.pylock_reasons.specs.Words.{directory_word, fault_word}
+use Rattle.pylock_core.specs.Words.{directory_word, fault_word}
 
 -- the hashes: `ALGORITHM=VALUE` joined by `,`, absent where there are none
 abbrev pub hash_text : List ℕ × List ℕ → List ℕ

@@ -19,9 +19,8 @@ use crate::text::field::{push_decimal, push_escaped_text, push_last_word, push_n
 use crate::text::plain::push_plain_file;
 use pylock_core::{
     Answer, Archive, Directory, DistributionFile, Entry, FaultCode, Pick, PickedSource, Session,
-    Vcs,
+    Vcs, directory_word, fault_word,
 };
-use pylock_reasons::{directory_word, fault_word};
 use std::alloc::AllocError;
 
 fn push_hash(out: &mut Vec<u8>, hash: &(String, String)) -> Result<(), AllocError>

@@ -17,7 +17,7 @@ use super::tree::{Atom, Conjunction, Joined, Tree};
 use crate::comparison::Comparison;
 use crate::operand::{Comparator, Operand};
 use crate::variable::Var;
-use pyver_core::Label;
+use pytext::Text;
 use std::alloc::Global;
 use std::mem;
 
@@ -116,7 +116,7 @@ fn token_operand(alloc: Global, token: Token<'_>) -> Result<Operand, MarkerError
         Token::Word(letters) => word_operand(letters).ok_or(MarkerError::Syntax),
         Token::Quoted(text) => {
             let text = String::from_str(alloc, text)?;
-            Ok(Operand::Text(Label::new(text)))
+            Ok(Operand::Text(Text::new(text)))
         }
         Token::Open | Token::Close | Token::Sign(_) => Err(MarkerError::Syntax),
     }

@@ -1,4 +1,4 @@
 pub mod Admission
 pub mod Equality
-pub mod PlainOperand
+pub mod NormalOperand
 pub mod Reading

@@ -5,5 +5,5 @@ pub mod Hashing
 pub mod Normal
 pub mod Order
 pub mod OrderKey
-pub mod Plain
+pub mod NormalVersion
 pub mod Reading

@@ -1,5 +1,5 @@
 -- What is read of a specifier, seen as the specifier.
-use Rattle.pyver_core.specs.Inner.Draft.{draft_parts}
+use Rattle.pyver_core.specs.Inner.VersionDraft.{draft_parts}
 use Rattle.pyver_core.specs.Set.Prefix.{Prefix}
 use Rattle.pyver_core.specs.declared.version.reading.base.Base.{Base}
 use Rattle.pyver_core.specs.declared.set.reading.draft.SpecifierDraft.{SpecifierDraft}

@@ -8,7 +8,7 @@ ghost use Rattle.pyver_core.specs.Set.Grammar.{IsOperand, IsSpecifier, specifier
 ghost use Rattle.pyver_core.specs.Set.Normal.{operator_of};
 ghost use Rattle.pyver_core.specs.declared.set.specifier.Specifier.{Specifier};
 
-use super::reading::{read_operand, read_plain_operand};
+use super::reading::{read_normal_operand, read_operand};
 use crate::set::{Operator, Specifier, SpecifierError};
 use crate::version::VersionError;
 use pytext::after_white;
@@ -82,7 +82,7 @@ fn specifier_from_operand(
 ) -> Result<Specifier, SpecifierError>
     ensures { Gives SpecifierError.Memory (λ s. s) result (parsed_operand operator operand.now) }
 {
-    if let Some(specifier) = read_plain_operand(alloc, operator, operand)? {
+    if let Some(specifier) = read_normal_operand(alloc, operator, operand)? {
         return Ok(specifier);
     }
     let Some(draft) = read_operand(operator, operand) else {

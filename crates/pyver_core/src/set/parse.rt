@@ -10,7 +10,7 @@ ghost use Rattle.pyver_core.specs.Inner.SpecifierDraft.{draft_specifier};
 ghost use Rattle.pyver_core.specs.declared.set.specifier.Specifier.{Specifier};
 
 use super::normal::set_text;
-use super::reading::{SpecifierDraft, read_operand, read_plain_operand};
+use super::reading::{SpecifierDraft, read_normal_operand, read_operand};
 use crate::set::{Operator, Specifier, SpecifierError, SpecifierSet};
 use crate::version::VersionError;
 use pytext::{after_white, is_blank};
@@ -66,7 +66,7 @@ fn read_items(alloc: Global, text: &str) -> Result<Vec<Specifier>, SpecifierErro
         let Some((operator, operand)) = Operator::read(after_white(piece)) else {
             return Err(SpecifierError::Syntax);
         };
-        if let Some(specifier) = read_plain_operand(alloc, operator, operand)? {
+        if let Some(specifier) = read_normal_operand(alloc, operator, operand)? {
             items.push(specifier)?;
             continue;
         }

@@ -7,7 +7,8 @@ ghost use Rattle.pyver_core.specs.Inner.EqualityLaws.{specifier_equivalence};
 ghost use Rattle.pyver_core.specs.Inner.Operand.{lent_pieces};
 ghost use Rattle.pyver_core.specs.Set.Equality.{operand_pieces, specifier_eq};
 
-use crate::version::{Label, Version};
+use crate::version::Version;
+use pytext::Text;
 use std::alloc::AllocError;
 use std::marker::Model;
 
@@ -69,7 +70,7 @@ pub enum Specifier {
     /// `~=V`: the versions from V on whose release begins with that of V without its last number.
     Compatible(Version),
     /// `===T`: the version whose normal form is T, letter case ignored.
-    Arbitrary(Label),
+    Arbitrary(Text),
 }
 
 /// What stands after an operator, lent to be compared or written.
@@ -160,7 +161,7 @@ impl Specifier {
             | Specifier::Before(version)
             | Specifier::After(version)
             | Specifier::Compatible(version) => Operand::Text(version.text()),
-            Specifier::Arbitrary(label) => Operand::Text(label.as_str()),
+            Specifier::Arbitrary(text) => Operand::Text(text.as_str()),
         }
     }
 }
@@ -201,7 +202,7 @@ impl Clone for Specifier {
             Specifier::Before(version) => Specifier::Before(version.clone()?),
             Specifier::After(version) => Specifier::After(version.clone()?),
             Specifier::Compatible(version) => Specifier::Compatible(version.clone()?),
-            Specifier::Arbitrary(label) => Specifier::Arbitrary(label.clone()?),
+            Specifier::Arbitrary(text) => Specifier::Arbitrary(text.clone()?),
         })
     }
 }

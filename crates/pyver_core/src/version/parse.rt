@@ -2,12 +2,12 @@
 
 ghost use Rattle.std.specs.Prelude.{◌≡◌, ◌≤◌, IfOk, IfSome, IsErrOf, false, length};
 ghost use Rattle.pytext.specs.Agreement.{Gives};
-ghost use Rattle.pyver_core.specs.Inner.Plain.{IsPlain, plain_parts};
+ghost use Rattle.pyver_core.specs.Inner.NormalVersion.{IsNormalVersion, normal_parts};
 ghost use Rattle.pyver_core.specs.Version.Grammar.{Spells, IsLarge, has_large, numbers};
 ghost use Rattle.pyver_core.specs.Parsed.{parsed_version};
 ghost use Rattle.pyver_core.specs.Version.Parts.{Parts};
 
-use super::reading::{Plain, read_plain, read_version};
+use super::reading::{NormalVersion, read_normal, read_version};
 use crate::version::{Version, VersionError, VersionParts};
 use std::alloc::{AllocError, Global};
 
@@ -35,42 +35,41 @@ impl Version {
     /// The version of which the text is the normal form, where one look at the text finds it, and
     /// where its release has so many numbers. A text where none is found takes no memory.
     #[inline(always)]
-    pub(crate) fn parse_plain(
+    pub(crate) fn parse_normal(
         alloc: Global,
         text: &str,
         least: usize,
     ) -> Result<Option<Version>, AllocError>
-        ensures { IfOk result (λ found. IfSome found (λ v. IsPlain text.now v
+        ensures { IfOk result (λ found. IfSome found (λ v. IsNormalVersion text.now v
             × (has_large (numbers v) ≡ false) × (least ≤ length v.release))) }
     {
         let mut room = [0; MOST_NUMBERS];
-        match read_plain(text.as_bytes(), &mut room) {
-            Some(plain) if plain.count >= least => {
-                Ok(Some(Version::from_plain(alloc, text, &room, &plain)?))
+        match read_normal(text.as_bytes(), &mut room) {
+            Some(normal) if normal.count >= least => {
+                Ok(Some(Version::from_normal(alloc, text, &room, &normal)?))
             }
             _ => Ok(None),
         }
     }
 
-    /// The version of which the text is the normal form. It has two callers, each of which moves a
-    /// large value less where it stands in line.
+    /// The version of which the text is the normal form.
     #[inline(always)]
-    fn from_plain(
+    fn from_normal(
         alloc: Global,
         text: &str,
         room: &[u128],
-        plain: &Plain,
+        normal: &NormalVersion,
     ) -> Result<Version, AllocError>
-        requires within { plain.now.count ≤ length room.now }
-        requires plain { IsPlain text.now (plain_parts room.now plain.now) }
-        ensures { IfOk result (λ v. v ≡ plain_parts room.now plain.now) }
+        requires within { normal.now.count ≤ length room.now }
+        requires normal { IsNormalVersion text.now (normal_parts room.now normal.now) }
+        ensures { IfOk result (λ v. v ≡ normal_parts room.now normal.now) }
     {
         let parts = VersionParts {
             epoch: 0,
-            release: Vec::from_slice(alloc, &room[..plain.count])?,
-            pre: plain.pre,
-            post: plain.post,
-            dev: plain.dev,
+            release: Vec::from_slice(alloc, &room[..normal.count])?,
+            pre: normal.pre,
+            post: normal.post,
+            dev: normal.dev,
             local: Vec::new(alloc),
         };
         let text = String::from_str(alloc, text)?;
@@ -84,9 +83,8 @@ const MOST_NUMBERS: usize = 4;
 fn version_from_text(alloc: Global, text: &str) -> Result<Version, VersionError>
     ensures { Gives VersionError.Memory (λ v. v) result (parsed_version text.now) }
 {
-    let mut room = [0; MOST_NUMBERS];
-    match read_plain(text.as_bytes(), &mut room) {
-        Some(plain) => Ok(Version::from_plain(alloc, text, &room, &plain)?),
+    match Version::parse_normal(alloc, text, 1)? {
+        Some(version) => Ok(version),
         None => version_from_bytes(alloc, text.as_bytes()),
     }
 }

@@ -4,11 +4,11 @@ mod base;
 mod digits;
 mod draft;
 mod local;
-mod plain;
+mod normal_version;
 mod scan;
 mod segment;
 mod tagged;
 
 pub(crate) use base::{Base, read_base};
-pub(crate) use draft::{Draft, read_version};
-pub(crate) use plain::{Plain, read_plain};
+pub(crate) use draft::{VersionDraft, read_version};
+pub(crate) use normal_version::{NormalVersion, read_normal};

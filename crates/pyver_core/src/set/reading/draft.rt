@@ -9,22 +9,23 @@ use super::operand::{
     read_arbitrary_text, read_compatible_version, read_prefix, read_public_version,
 };
 use crate::set::{Operator, ReleasePrefix, Specifier};
-use crate::version::reading::{Base, Draft, read_version};
-use crate::version::{Label, VersionError};
-use std::alloc::{AllocError, Global};
+use crate::version::VersionError;
+use crate::version::reading::{Base, VersionDraft, read_version};
+use pytext::Text;
+use std::alloc::Global;
 
 /// A specifier as it stands in its text. It holds no memory.
 #[derive(Drop)]
 pub(crate) enum SpecifierDraft<'a> {
-    Equal(Draft<'a>),
+    Equal(VersionDraft<'a>),
     EqualPrefix(Base<'a>),
-    NotEqual(Draft<'a>),
+    NotEqual(VersionDraft<'a>),
     NotEqualPrefix(Base<'a>),
-    AtMost(Draft<'a>),
-    AtLeast(Draft<'a>),
-    Before(Draft<'a>),
-    After(Draft<'a>),
-    Compatible(Draft<'a>),
+    AtMost(VersionDraft<'a>),
+    AtLeast(VersionDraft<'a>),
+    Before(VersionDraft<'a>),
+    After(VersionDraft<'a>),
+    Compatible(VersionDraft<'a>),
     Arbitrary(&'a str),
 }
 
@@ -50,7 +51,7 @@ impl SpecifierDraft<'_> {
             SpecifierDraft::Before(draft) => Specifier::Before(draft.to_version(alloc)?),
             SpecifierDraft::After(draft) => Specifier::After(draft.to_version(alloc)?),
             SpecifierDraft::Compatible(draft) => Specifier::Compatible(draft.to_version(alloc)?),
-            SpecifierDraft::Arbitrary(text) => Specifier::Arbitrary(to_label(text, alloc)?),
+            SpecifierDraft::Arbitrary(text) => Specifier::Arbitrary(Text::copy_of(alloc, text)?),
         })
     }
 }
@@ -62,13 +63,6 @@ fn to_prefix(base: &Base<'_>, alloc: Global) -> Result<ReleasePrefix, VersionErr
     let epoch = base.epoch.number()?;
     let release = base.release.to_numbers(alloc)?;
     Ok(ReleasePrefix::new(epoch, release))
-}
-
-/// The text in memory of its own.
-fn to_label(text: &str, alloc: Global) -> Result<Label, AllocError>
-    ensures { IfOk result (λ label. label ≡ text.now) }
-{
-    Ok(Label::new(String::from_str(alloc, text)?))
 }
 
 /// What stands after the operator, read in its terms.

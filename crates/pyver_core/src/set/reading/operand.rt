@@ -2,13 +2,13 @@
 
 ghost use Rattle.std.specs.Prelude.{◌≡◌, option_map};
 ghost use Rattle.std.specs.List.{prefix_len};
-ghost use Rattle.pyver_core.specs.Inner.Draft.{draft_parts};
+ghost use Rattle.pyver_core.specs.Inner.VersionDraft.{draft_parts};
 ghost use Rattle.pyver_core.specs.Set.Grammar.{is_arbitrary_byte};
 ghost use Rattle.pyver_core.specs.Set.Reading.{arbitrary_text_of, compatible_version_of, is_star};
 ghost use Rattle.pyver_core.specs.Set.Reading.{prefix_of, public_version_of};
 ghost use Rattle.pyver_core.specs.Inner.SpecifierDraft.{base_prefix};
 
-use crate::version::reading::{Base, Draft, read_base, read_version};
+use crate::version::reading::{Base, VersionDraft, read_base, read_version};
 use pytext::{after_white, after_white_bytes, is_blank, is_white};
 
 /// Whether `.*` is all that stands there, but for white space.
@@ -32,7 +32,7 @@ pub(super) fn read_prefix(bytes: &[u8]) -> Option<Base<'_>>
 
 /// A version without a local part.
 #[tactic(auto, unfolding(crate::specs::Set::Reading::public_version_of))]
-pub(super) fn read_public_version(bytes: &[u8]) -> Option<Draft<'_>>
+pub(super) fn read_public_version(bytes: &[u8]) -> Option<VersionDraft<'_>>
     ensures { option_map draft_parts result ≡ public_version_of bytes.now }
 {
     let draft = read_version(bytes)?;
@@ -41,7 +41,7 @@ pub(super) fn read_public_version(bytes: &[u8]) -> Option<Draft<'_>>
 
 /// A version without a local part and with two numbers or more in its release.
 #[tactic(auto, unfolding(crate::specs::Set::Reading::compatible_version_of))]
-pub(super) fn read_compatible_version(bytes: &[u8]) -> Option<Draft<'_>>
+pub(super) fn read_compatible_version(bytes: &[u8]) -> Option<VersionDraft<'_>>
     ensures { option_map draft_parts result ≡ compatible_version_of bytes.now }
 {
     let draft = read_public_version(bytes)?;

@@ -1,7 +1,7 @@
 //! The epoch and the release, as they stand in a text.
 
 ghost use Rattle.std.specs.Prelude.{◌≡◌, ◌++◌, option_map};
-ghost use Rattle.pyver_core.specs.Inner.Draft.{base_of};
+ghost use Rattle.pyver_core.specs.Inner.VersionDraft.{base_of};
 ghost use Rattle.pyver_core.specs.Inner.Limit.{Makes};
 ghost use Rattle.pyver_core.specs.Version.Reading.{after_prefix, base_at, dotted_number_at};
 ghost use Rattle.pyver_core.specs.Version.Reading.{head_at, many_at};

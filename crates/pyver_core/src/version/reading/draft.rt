@@ -2,7 +2,7 @@
 
 ghost use Rattle.std.specs.Prelude.{◌≡◌, option_map};
 ghost use Rattle.pyver_core.specs.Version.Reading.{parts_at, version_of};
-ghost use Rattle.pyver_core.specs.Inner.Draft.{base_of, draft_parts};
+ghost use Rattle.pyver_core.specs.Inner.VersionDraft.{base_of, draft_parts};
 ghost use Rattle.pyver_core.specs.Inner.Limit.{Makes};
 ghost use Rattle.pyver_core.specs.Version.Grammar.{number_in, number_in_pre, numbers};
 
@@ -16,7 +16,7 @@ use std::alloc::Global;
 
 /// The parts of a version as they stand in its text. It holds no memory.
 #[derive(Drop)]
-pub(crate) struct Draft<'a> {
+pub(crate) struct VersionDraft<'a> {
     pub(crate) base: Base<'a>,
     pub(crate) pre: Option<(PreKind, Digits<'a>)>,
     pub(crate) post: Option<Digits<'a>>,
@@ -26,14 +26,14 @@ pub(crate) struct Draft<'a> {
 
 /// The parts after the release, and the text after them.
 #[tactic(auto, unfolding(crate::specs::Version::Reading::parts_at))]
-fn read_parts<'a>(base: Base<'a>, bytes: &'a [u8]) -> (Draft<'a>, &'a [u8])
+fn read_parts<'a>(base: Base<'a>, bytes: &'a [u8]) -> (VersionDraft<'a>, &'a [u8])
     ensures { (draft_parts result.0, result.1.now) ≡ parts_at (base_of base.entry) bytes.now }
 {
     let (pre, rest) = read_pre(bytes);
     let (post, rest) = read_post(rest);
     let (dev, rest) = read_dev(rest);
     let (local, rest) = read_local(rest);
-    let draft = Draft {
+    let draft = VersionDraft {
         base,
         pre,
         post,
@@ -45,7 +45,7 @@ fn read_parts<'a>(base: Base<'a>, bytes: &'a [u8]) -> (Draft<'a>, &'a [u8])
 
 /// The parts that the text spells, or `None` where it spells none.
 #[tactic(auto, unfolding(crate::specs::Version::Reading::version_of))]
-pub(crate) fn read_version(bytes: &[u8]) -> Option<Draft<'_>>
+pub(crate) fn read_version(bytes: &[u8]) -> Option<VersionDraft<'_>>
     ensures { option_map draft_parts result ≡ version_of bytes.now }
 {
     let (base, rest) = read_base(after_white_bytes(bytes))?;
@@ -75,7 +75,7 @@ fn optional_pre(
     }
 }
 
-impl Draft<'_> {
+impl VersionDraft<'_> {
     /// The version with these parts.
     pub(crate) fn to_version(&self, alloc: Global) -> Result<Version, VersionError>
         ensures { Makes (λ v. v) result (draft_parts self.now) (numbers (draft_parts self.now)) }

@@ -6,8 +6,8 @@ ghost use Rattle.std.specs.List.{list_all};
 ghost use Rattle.std.specs.Str.{str_to_ascii_lowercase};
 
 use super::digits::Digits;
-use crate::version::{Label, LocalPart, VersionError};
-use pytext::are_digits;
+use crate::version::{LocalPart, VersionError};
+use pytext::{Text, are_digits};
 use std::alloc::{AllocError, Global};
 use std::marker::Model;
 
@@ -56,7 +56,7 @@ impl<'a> Segment<'a> {
             return Ok(LocalPart::Number(number));
         }
         let text = lowercase(alloc, self.run)?;
-        Ok(LocalPart::Text(Label::new(text)))
+        Ok(LocalPart::Text(Text::new(text)))
     }
 }
 

@@ -1,7 +1,0 @@
-use Rattle.std.proofs.Common.{◌≡◌, drop}
-use Rattle.pylock_reasons.specs.Reasons.{best_tag}
-use Rattle.pylock_reasons.proofs.reasons.best_tag.Given as goal
-
--- none of the tags so far is one of the wheel's
-abbrev pub invariant-loop-tag : goal.invariant-loop-tag
-invariant-loop-tag l = best_tag l.own l.tags ≡ best_tag l.own (drop l.tag-index l.tags)

@@ -1,7 +1,0 @@
-use Rattle.std.proofs.Common.{◌≡◌, drop}
-use Rattle.pylock_reasons.specs.Reasons.{deciding_marker}
-use Rattle.pylock_reasons.proofs.reasons.deciding_marker.Given as goal
-
--- none of the markers so far decides
-abbrev pub invariant-loop-marker : goal.invariant-loop-marker
-invariant-loop-marker l = deciding_marker l.environment l.markers ≡ deciding_marker l.environment (drop l.marker-index l.markers)

@@ -1,0 +1,16 @@
+use Rattle.std.proofs.Common.{◌≡◌, ◌≤◌, ◌++◌, false, length, take}
+use Rattle.pyver_core.specs.Version.Grammar.{has_large}
+use Rattle.pyver_core.specs.Version.Normal.{release_text}
+use Rattle.pyver_core.proofs.version.reading.normal_version.read_release.Given as goal
+
+abbrev pub invariant-loop-next : goal.invariant-loop-next
+invariant-loop-next l = record {
+  some : 1 ≤ l.count;
+  few : l.count ≤ length l.room;
+  room : length l.room ≡ length l.initial.room;
+  fits : has_large (take l.count l.room) ≡ false;
+  text : l.bytes ≡ release_text (take l.count l.room) ++ l.rest;
+}
+
+abbrev pub decreases-loop-next : goal.decreases-loop-next
+decreases-loop-next l = length l.rest
