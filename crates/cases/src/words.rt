@@ -1,7 +1,7 @@
 //! The task of the words of a command line.
 
 use case_files::texts;
-use pylock_command::{CommandError, Request, Task, View, command};
+use pylock_command::{CommandError, Request, Task, command};
 use std::alloc::{AllocError, Global};
 use toml::Table;
 
@@ -14,7 +14,7 @@ pub(crate) fn answer_case(alloc: Global, case: &Table) -> anyhow::Result<String>
 
 fn task_text(alloc: Global, words: &[&str]) -> Result<String, AllocError> {
     match command(alloc, words) {
-        Ok(Task::Show(view, request)) => show_text(alloc, view, &request),
+        Ok(Task::Show(request)) => request_text(alloc, &request),
         Ok(task) => format!(in alloc; "{:?}", task),
         Err(CommandError::Refused(error)) => format!(in alloc; "refused {}", error.exit_code()),
         Err(CommandError::Memory) => String::from_str(alloc, "memory"),
@@ -22,8 +22,8 @@ fn task_text(alloc: Global, words: &[&str]) -> Result<String, AllocError> {
 }
 
 /// The task of `plan` or `explain`.
-fn show_text(alloc: Global, view: View, request: &Request<'_>) -> Result<String, AllocError> {
-    let (lock, environment) = (request.lock, request.environment);
+fn request_text(alloc: Global, request: &Request<'_>) -> Result<String, AllocError> {
+    let (view, lock, environment) = (request.view, request.lock, request.environment);
     let (choices, form) = (&request.choices, request.form);
     format!(in alloc; "{view:?}({lock:?}, {environment:?}, {choices:?}, {form:?})")
 }

@@ -74,8 +74,8 @@ view_word view.Explain = codes "explain"
 -- the subcommand of a task, and its texts
 abbrev pub call_of : Task → Option (Text × List Text)
 call_of Bare = None
-call_of (Show view request) =
-    Some (view_word view, request.lock.now ∷ request.environment.now ∷ [])
+call_of (Show request) =
+    Some (view_word request.view, request.lock.now ∷ request.environment.now ∷ [])
 call_of (Select lock env) = Some (codes "select", lock.now ∷ env.now ∷ [])
 call_of (Files lock form) = Some (codes "files", lock.now ∷ [])
 call_of (Audit lock form) = Some (codes "audit", lock.now ∷ [])
@@ -101,8 +101,8 @@ HasForm found form = IfSome found (λ p. form ≡ form_of p.1)
 
 -- the task that the words give
 abbrev pub IsTask : Option (Text × List Row) → Task → Type 0
-IsTask found (Show view request) =
-    IsCall found (call_of (Show view request)) × HasChoices found request.choices.items
+IsTask found (Show request) =
+    IsCall found (call_of (Show request)) × HasChoices found request.choices.items
     × HasForm found request.form
 IsTask found (Files lock form) = IsCall found (call_of (Files lock form)) × HasForm found form
 IsTask found (Audit lock form) = IsCall found (call_of (Audit lock form)) × HasForm found form

@@ -154,8 +154,8 @@ fn task_in<'a>(alloc: Global, name: &str, found: &ArgMatches<'a>) -> Result<Task
         → lacks_text name.now (rows_of (found_of found.now)) ≡ true) }
 {
     Ok(match name {
-        "plan" => Task::Show(View::Plan, request_of(alloc, found)?),
-        "explain" => Task::Show(View::Explain, request_of(alloc, found)?),
+        "plan" => Task::Show(request_of(alloc, View::Plan, found)?),
+        "explain" => Task::Show(request_of(alloc, View::Explain, found)?),
         "select" => Task::Select(text_of(found, "LOCK")?, text_of(found, "ENV")?),
         "files" => Task::Files(text_of(found, "LOCK")?, form_of(found)),
         "audit" => Task::Audit(text_of(found, "LOCK")?, form_of(found)),
@@ -170,7 +170,8 @@ fn task_in<'a>(alloc: Global, name: &str, found: &ArgMatches<'a>) -> Result<Task
 }
 
 /// What `plan` or `explain` is asked.
-fn request_of<'a>(alloc: Global, found: &ArgMatches<'a>) -> Result<Request<'a>, NoTask>
+fn request_of<'a>(alloc: Global, view: View, found: &ArgMatches<'a>) -> Result<Request<'a>, NoTask>
+    ensures view { IfOk result (λ r. r.view ≡ view) }
     ensures texts { IfOk result (λ r. HaveTexts (rows_of (found_of found.now))
         (codes "LOCK" ∷ codes "ENV" ∷ []) (r.lock.now ∷ r.environment.now ∷ [])) }
     ensures choices { IfOk result (λ r. AreChoices (rows_of (found_of found.now)) r.choices.items) }
@@ -180,6 +181,7 @@ fn request_of<'a>(alloc: Global, found: &ArgMatches<'a>) -> Result<Request<'a>, 
         ≡ true) }
 {
     Ok(Request {
+        view,
         lock: text_of(found, "LOCK")?,
         environment: text_of(found, "ENV")?,
         choices: choices_of(alloc, found)?,

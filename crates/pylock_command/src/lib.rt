@@ -10,7 +10,7 @@
 //!
 //! ```rust
 //! match command(alloc, words) {
-//!     Ok(Task::Show(view, request)) => show_text(alloc, view, &request),
+//!     Ok(Task::Show(request)) => request_text(alloc, &request),
 //!     Ok(task) => format!(in alloc; "{:?}", task),
 //!     Err(CommandError::Refused(error)) => format!(in alloc; "refused {}", error.exit_code()),
 //!     Err(CommandError::Memory) => String::from_str(alloc, "memory"),

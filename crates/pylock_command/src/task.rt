@@ -15,6 +15,8 @@ pub enum View {
 /// What `plan` and `explain` are asked.
 #[derive(Debug, Drop)]
 pub struct Request<'a> {
+    /// What is shown.
+    pub view: View,
     /// The path of the lock.
     pub lock: &'a str,
     /// The path of the environment.
@@ -31,7 +33,7 @@ pub enum Task<'a> {
     /// No subcommand.
     Bare,
     /// `plan` or `explain`, with what it is asked.
-    Show(View, Request<'a>),
+    Show(Request<'a>),
     /// `select`, with the paths of the lock and of the environment.
     Select(&'a str, &'a str),
     /// `files`, with the path of the lock, and the form of the answer.
