@@ -8,7 +8,7 @@ use Rattle.std.specs.Ordering.{match_ordering}
 use Rattle.std.specs.Str.{bytes_eq}
 use Rattle.std.specs.String.{string_cmp}
 use Rattle.std.proofs.lemmas.Map.Text.{is_eq-slice_cmp}
-use Rattle.pylock_readers.specs.Inner.Strings.{has_text, is_text}
+use Rattle.pylock_readers.specs.Text.{has_text, is_text}
 use Rattle.pylock_readers.specs.Lock.Head.{distinct_texts}
 use Rattle.pylock_readers.proofs.TableLemmas.{same_key_is}
 

@@ -12,7 +12,7 @@ use Rattle.toml.proofs.Views.{view-Boolean, view-lookup}
 use Rattle.toml.specs.Data.{Members, no_members, member, boolean, get_member, same_key}
 use Rattle.toml.specs.View.{view, members_view}
 use Rattle.toml.specs.declared.value.Value.{Value, Boolean}
-use Rattle.pylock_readers.specs.Inner.Taken.{table_without}
+use Rattle.pylock_readers.specs.Inner.Tables.{table_without}
 
 -- the value that was taken out of a table is the member of the key
 pub taken_member : (taken : Option Value) (key : List ℕ) (es : List (String Global × Value))

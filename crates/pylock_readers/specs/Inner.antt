@@ -1,3 +1,2 @@
 -- What serves the contracts of private functions alone.
-pub mod Strings
-pub mod Taken
+pub mod Tables

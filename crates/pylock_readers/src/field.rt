@@ -10,7 +10,7 @@ ghost use Rattle.pylock_readers.specs.declared.field.FieldError.TheVariants as f
 ghost use Rattle.pylock_readers.specs.Entry.Fields.{require, text_of, members_of, name_of};
 ghost use Rattle.pylock_readers.specs.Entry.Fields.{text_in};
 ghost use Rattle.pylock_readers.specs.Entry.Fields.{optional_text_in, flag_in, items_in};
-ghost use Rattle.pylock_readers.specs.Inner.Taken.{table_without};
+ghost use Rattle.pylock_readers.specs.Inner.Tables.{table_without};
 
 use pyver_core::{NormalName, is_name};
 use std::alloc::{AllocError, Global};

@@ -23,25 +23,25 @@ pub(crate) trait Condition: Clone + Drop {
     ghost use Rattle.pylock_readers.specs.declared.field.FieldError.{FieldError};
 
     /// What it is to contracts.
-    ghost Seen: { Type 0 };
+    ghost Meaning: { Type 0 };
 
-    ghost seen: { Self → Seen };
+    ghost meaning: { Self → Meaning };
 
     /// What a text says as such a condition.
-    ghost form: { List ℕ → Result Seen FieldError };
+    ghost form: { List ℕ → Result Meaning FieldError };
 
     fn read(alloc: Global, text: &str) -> Result<Self, FieldError>
-        ensures { Gives FieldError.Memory seen result (form text.now) };
+        ensures { Gives FieldError.Memory meaning result (form text.now) };
 
-    ghost copied: { (x copy : Self) → Self.is_clone x copy → seen copy ≡ seen x };
+    ghost same_meaning: { (x copy : Self) → Self.is_clone x copy → meaning copy ≡ meaning x };
 }
 
 impl Condition for Marker {
     ghost use Rattle.pymark_core.specs.Marker.Reading.{MarkerValue};
 
-    ghost Seen = { MarkerValue };
+    ghost Meaning = { MarkerValue };
 
-    ghost seen = { λ m. m };
+    ghost meaning = { λ m. m };
 
     ghost form = { λ text. or_refused field.Wrong (marker_of text) };
 
@@ -53,15 +53,15 @@ impl Condition for Marker {
         }
     }
 
-    ghost copied = { λ _ _ same. same };
+    ghost same_meaning = { λ _ _ same. same };
 }
 
 impl Condition for Rc<SpecifierSet> {
     ghost use Rattle.pyver_core.specs.declared.set.specifier.Specifier.{Specifier};
 
-    ghost Seen = { List Specifier };
+    ghost Meaning = { List Specifier };
 
-    ghost seen = { λ s. s.value };
+    ghost meaning = { λ s. s.value };
 
     ghost form = { λ text. or_refused field.Wrong (parsed_set text) };
 
@@ -69,7 +69,7 @@ impl Condition for Rc<SpecifierSet> {
         Ok(Rc::new(alloc, read_set(alloc, text)?)?)
     }
 
-    ghost copied = { λ _ _ same. same };
+    ghost same_meaning = { λ _ _ same. same };
 }
 
 /// The set of the text.
@@ -84,38 +84,38 @@ pub(crate) fn read_set(alloc: Global, text: &str) -> Result<SpecifierSet, FieldE
     }
 }
 
-/// The conditions that were read so far, by their texts.
-pub(crate) struct Shared<T: Condition> {
+/// The conditions that were read so far, by their texts; entries share them.
+pub(crate) struct ConditionTable<T: Condition> {
     table: BTreeMap<String, T>,
 }
 
-impl<T: Condition> Model for Shared<T> {
+impl<T: Condition> Model for ConditionTable<T> {
     ghost use Rattle.pywheel_core.specs.ReadTable.{AllRead};
 
     ghost Value = { Unit {0} };
 
     ghost view = { λ _. tt };
 
-    ghost invariant = { λ s. AllRead T.form T.seen s.table.entries };
+    ghost invariant = { λ s. AllRead T.form T.meaning s.table.entries };
 }
 
-impl<T: Condition> Drop for Shared<T> {
+impl<T: Condition> Drop for ConditionTable<T> {
     fn drop(self) {
-        let Shared { table: _ } = self;
+        let ConditionTable { table: _ } = self;
     }
 }
 
-impl<T: Condition> Shared<T> {
+impl<T: Condition> ConditionTable<T> {
     /// None yet.
-    pub(crate) fn new(alloc: Global) -> Shared<T> {
-        Shared {
+    pub(crate) fn new(alloc: Global) -> ConditionTable<T> {
+        ConditionTable {
             table: BTreeMap::new(alloc),
         }
     }
 
     /// The condition of the text.
     pub(crate) fn read(&mut self, alloc: Global, text: String) -> Result<T, FieldError>
-        ensures { Gives FieldError.Memory T.seen result (T.form (string_bytes text)) }
+        ensures { Gives FieldError.Memory T.meaning result (T.form (string_bytes text)) }
     {
         if let Some(known) = self.table.get(text.as_str()) {
             return Ok(known.clone()?);
@@ -129,8 +129,8 @@ impl<T: Condition> Shared<T> {
 /// What was read so far and entries have in common: markers, specifier sets, and the halves of the
 /// names of wheels.
 pub(crate) struct Interner {
-    pub(crate) markers: Shared<Marker>,
-    pub(crate) sets: Shared<Rc<SpecifierSet>>,
+    pub(crate) markers: ConditionTable<Marker>,
+    pub(crate) sets: ConditionTable<Rc<SpecifierSet>>,
     pub(crate) wheels: WheelReader,
 }
 
@@ -148,8 +148,8 @@ impl Interner {
     /// None yet.
     pub(crate) fn new(alloc: Global) -> Interner {
         Interner {
-            markers: Shared::new(alloc),
-            sets: Shared::new(alloc),
+            markers: ConditionTable::new(alloc),
+            sets: ConditionTable::new(alloc),
             wheels: WheelReader::new(alloc),
         }
     }

@@ -1,4 +1,5 @@
-//! Comparisons of markers (PEP 508, "Environment Markers").
+//! Comparisons of markers (PEP 508, "Environment Markers"). The order of code points is the byte
+//! order of UTF-8, so texts are compared by bytes.
 
 ghost use Rattle.std.specs.Prelude.{◌≡◌, IfOk, None, Result, Some, false, string_bytes, true};
 ghost use Rattle.std.specs.Option.{option_copied};

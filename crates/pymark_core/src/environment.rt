@@ -1,5 +1,6 @@
 //! The environment that markers are judged in (PEP 508, "Environment Markers"; PEP 751,
-//! "Installation").
+//! "Installation"). Texts and sets are shared with copies, so a copy is thirteen counts and reads
+//! nothing again.
 
 ghost use Rattle.std.specs.Prelude.{◌≡◌, not, option_map, replicate, IfOk, IsTrue, None, OnErr};
 ghost use Rattle.std.specs.Prelude.{OnOk, Some, string_bytes};

@@ -1,4 +1,5 @@
-//! Documents, a line at a time.
+//! Documents, a line at a time. Only what this short way gives has a clause; where it gives
+//! nothing, `toml` decides, so no refusal is proved here.
 ghost use Rattle.std.specs.Prelude.{◌≡◌, ◌<◌, ◌≤◌, IfOk, Some, length};
 ghost use Rattle.toml_parser.specs.Reading.{key_view};
 ghost use Rattle.toml.specs.View.{table_view, view};

@@ -1,4 +1,6 @@
 //! Texts cut at `-`: the parts of a tag, of a compressed tag set and of a wheel's name.
+//! These texts are short, so a look at each byte finds the `-` sooner than a search by words of
+//! eight bytes.
 
 ghost use Rattle.std.specs.Prelude.{◌≡◌, ◌+◌, Some, length, option_map, IfOk};
 ghost use Rattle.std.specs.List.{list_all, prefix_len};

@@ -1,5 +1,5 @@
 //! The two halves of the name of a wheel. Many wheels have one of them in common, so they are
-//! shared.
+//! shared: a lock with thousands of wheels has a few hundred ends (build tag and tag set).
 
 ghost use Rattle.pytext.specs.Agreement.{Gives};
 ghost use Rattle.pywheel_core.specs.Wheel.Halves.{end_in, end_value};

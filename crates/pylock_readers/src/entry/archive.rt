@@ -7,7 +7,7 @@ ghost use Rattle.pylock_readers.specs.Text.{text_pairs};
 
 use crate::entry::hashes::hashes;
 use crate::entry::location::Location;
-use crate::entry::sources::Source;
+use crate::entry::sources::SourceTable;
 use crate::field::{FieldError, into_table, optional_text, take};
 use std::alloc::Global;
 use std::marker::Model;
@@ -82,7 +82,7 @@ impl Archive {
 }
 
 #[tactic(auto, using(crate::proofs::kept), unfolding(crate::specs::Entry::Sources::archive_of))]
-impl Source for Archive {
+impl SourceTable for Archive {
     ghost form = { archive_of };
 
     fn read(alloc: Global, value: Value) -> Result<Archive, FieldError> {

@@ -3,7 +3,7 @@ ghost use Rattle.std.specs.Prelude.{◌≡◌};
 ghost use Rattle.std.specs.Option.{option_copied};
 ghost use Rattle.pylock_readers.specs.Entry.Sources.{directory_of};
 
-use crate::entry::sources::Source;
+use crate::entry::sources::SourceTable;
 use crate::field::{FieldError, flag, into_table, optional_text, take, text};
 use std::alloc::Global;
 use std::marker::Model;
@@ -70,7 +70,7 @@ impl Directory {
 }
 
 #[tactic(auto, using(crate::proofs::kept), unfolding(crate::specs::Entry::Sources::directory_of))]
-impl Source for Directory {
+impl SourceTable for Directory {
     ghost form = { directory_of };
 
     fn read(_alloc: Global, value: Value) -> Result<Directory, FieldError> {

@@ -8,7 +8,7 @@ ghost use Rattle.pylock_readers.specs.Text.{text_pairs};
 use crate::entry::file_name::file_name;
 use crate::entry::hashes::hashes;
 use crate::entry::location::Location;
-use crate::entry::sources::Source;
+use crate::entry::sources::SourceTable;
 use crate::field::{FieldError, into_table, optional_text, take};
 use std::alloc::{AllocError, Global};
 use std::marker::Model;
@@ -125,7 +125,7 @@ impl DistributionFile {
 }
 
 #[tactic(auto, using(crate::proofs::kept), unfolding(crate::specs::Entry::Sources::file_of))]
-impl Source for DistributionFile {
+impl SourceTable for DistributionFile {
     ghost form = { file_of };
 
     fn read(alloc: Global, value: Value) -> Result<DistributionFile, FieldError> {

@@ -91,7 +91,7 @@ fn last_of_path(path: &str) -> &str
 fn last_of_url(url: &str) -> &str
     ensures { result.now ≡ last_of_url url.now }
 {
-    last_segment(before(before(url, b'#'), b'?'))
+    last_segment(text_before(text_before(url, b'#'), b'?'))
 }
 
 #[tactic(auto, using(crate::proofs::FileNameLemmas::after_ascii))]
@@ -106,7 +106,7 @@ fn last_segment(path: &str) -> &str
 
 /// The text before the first such byte, or all of it, as nearly always.
 #[tactic(auto, using(crate::proofs::FileNameLemmas::before_none))]
-fn before(text: &str, end: u8) -> &str
+fn text_before(text: &str, end: u8) -> &str
     requires { end < 128 }
     ensures { result.now ≡ before_first (λ b. b == end) text.now }
 {

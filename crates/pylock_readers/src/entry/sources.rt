@@ -17,8 +17,8 @@ use std::alloc::Global;
 use std::marker::Model;
 use toml::{Table, Value};
 
-/// A kind of source that one key of an entry has.
-pub(crate) trait Source: Drop {
+/// The table of a source: what the value of one key of an entry has to be.
+pub(crate) trait SourceTable: Drop {
     ghost use Rattle.pylock_readers.specs.declared.field.FieldError.{FieldError};
 
     /// What a value says as such a source.
@@ -95,7 +95,7 @@ impl Sources {
 }
 
 /// The source of a key, in memory of its own.
-fn read_source<S: Source>(
+fn read_source<S: SourceTable>(
     alloc: Global,
     key: EntryKey,
     field: Option<Value>,

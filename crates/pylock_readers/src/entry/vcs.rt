@@ -5,7 +5,7 @@ ghost use Rattle.pylock_readers.specs.Entry.{place_of};
 ghost use Rattle.pylock_readers.specs.Entry.Sources.{vcs_of};
 
 use crate::entry::location::Location;
-use crate::entry::sources::Source;
+use crate::entry::sources::SourceTable;
 use crate::field::{FieldError, into_table, optional_text, take, text};
 use std::alloc::Global;
 use std::marker::Model;
@@ -89,7 +89,7 @@ impl Vcs {
 }
 
 #[tactic(auto, using(crate::proofs::kept), unfolding(crate::specs::Entry::Sources::vcs_of))]
-impl Source for Vcs {
+impl SourceTable for Vcs {
     ghost form = { vcs_of };
 
     fn read(_alloc: Global, value: Value) -> Result<Vcs, FieldError> {

@@ -7,7 +7,7 @@ ghost use Rattle.pylock_readers.specs.Entry.Fields.{read_each};
 ghost use Rattle.pylock_readers.specs.Entry.Sources.{file_of, files_in};
 
 use crate::entry::file::{DistributionFile, WheelFile};
-use crate::entry::sources::Source;
+use crate::entry::sources::SourceTable;
 use crate::field::{FieldError, items};
 use pywheel_core::{WheelError, WheelName, WheelReader};
 use std::alloc::{AllocError, Global};

@@ -163,11 +163,11 @@ fn read_requires_python(
     ensures { Gives LockError.Memory (λ s. s) result
         (head_requires_python_in (option_map view field)) }
 {
-    let set = optional_field(field, |value| set(alloc, value));
+    let set = optional_field(field, |value| specifier_set(alloc, value));
     or_refused(LockError::Head(HeadKey::RequiresPython), set)
 }
 
-fn set(alloc: Global, value: Value) -> Result<SpecifierSet, FieldError>
+fn specifier_set(alloc: Global, value: Value) -> Result<SpecifierSet, FieldError>
     ensures { Gives FieldError.Memory (λ s. s) result (set_field (view value)) }
 {
     let text = into_text(value)?;

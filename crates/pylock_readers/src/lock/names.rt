@@ -20,7 +20,7 @@ impl Model for HeadNames {
     ghost use Rattle.std.specs.Coded.{coded_list, coded_ℕ};
     ghost use Rattle.std.specs.List.{list_any};
     ghost use Rattle.std.specs.Str.{bytes_eq};
-    ghost use Rattle.pylock_readers.specs.Inner.Strings.{has_text};
+    ghost use Rattle.pylock_readers.specs.Text.{has_text};
 
     ghost Value = { List (List ℕ) };
 

@@ -1,4 +1,5 @@
-//! How deep the parentheses of a text are nested.
+//! How deep the parentheses of a text are nested: a pass of its own before the grammar, since depth
+//! is defined on every text, and one that is too deep and no marker besides is refused as too deep.
 
 ghost use Rattle.std.specs.Prelude.{◌≡◌, ◌+◌, ◌<◌, ◌≤◌, ◌^◌, ◌∷◌, ℕ, List, count_by, length};
 ghost use Rattle.std.specs.Prelude.{nat_lt};

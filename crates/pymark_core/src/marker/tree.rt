@@ -1,4 +1,5 @@
-//! The tree of a marker (PEP 508, "Environment Markers").
+//! The tree of a marker (PEP 508, "Environment Markers"). Each list is its last member and
+//! those before it, so building moves nothing and a marker of one comparison takes no list.
 
 use crate::comparison::Comparison;
 

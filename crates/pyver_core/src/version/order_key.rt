@@ -1,4 +1,5 @@
 //! The order key of a version (PEP 440, "Summary of permitted suffixes and relative ordering").
+//! Each code keeps its order whatever stands behind it, so the law is proved part by part.
 
 ghost use Rattle.std.specs.Prelude.{◌≡◌, ◌∷◌, ◌++◌, IfOk, OnOk};
 ghost use Rattle.pyver_core.specs.Inner.PartsRef.{parts_of};

@@ -1,4 +1,6 @@
-//! Reading versions from the left, without memory.
+//! Reading versions from the left, without memory. What is kept of a number is where its digits
+//! stand. Numbers are made once the whole text is known to be a version: so a refusal as syntax
+//! takes no memory, and a number past the limit is judged last.
 
 mod base;
 mod digits;

@@ -1,7 +1,7 @@
 use Rattle.std.proofs.Common.{◌≡◌, ◌∙◌, ◌++◌, ◌∷◌, [], ap, sym, map, string_bytes, string_cmp, String, Global, rules}
 use Rattle.std.specs.BTreeSet.{insert_key}
 use Rattle.std.proofs.lemmas.List.{map-append}
-use Rattle.pylock_readers.specs.Inner.Strings.{has_text}
+use Rattle.pylock_readers.specs.Text.{has_text}
 use Rattle.pylock_readers.specs.Lock.Head.{distinct_texts}
 use Rattle.pylock_readers.proofs.DistinctLemmas.{holds_new, new_text, unseen, was_new}
 use Rattle.pylock_readers.proofs.lock.names.HeadNames.of.Goals as goal

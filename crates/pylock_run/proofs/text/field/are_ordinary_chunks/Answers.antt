@@ -1,9 +1,9 @@
 use Rattle.std.proofs.Common.{◌≡◌, true, sym, ◌∙◌, subst}
 use Rattle.std.proofs.lemmas.List.{take_all}
 use Rattle.std.specs.List.{list_all}
-use Rattle.pylock_run.specs.Inner.Plain.{is_ordinary}
-use Rattle.pylock_run.proofs.PlainText.{all_by_chunks, all_by_last}
-use Rattle.pylock_run.proofs.text.field.are_plain_chunks.Goals as goal
+use Rattle.pylock_run.specs.Inner.OrdinaryBytes.{is_ordinary}
+use Rattle.pylock_run.proofs.OrdinaryBytesLemmas.{all_by_chunks, all_by_last}
+use Rattle.pylock_run.proofs.text.field.are_ordinary_chunks.Goals as goal
 
 pub returns-then-is_empty : goal.returns-then-is_empty
 returns-then-is_empty g c = λ _. all_by_chunks is_ordinary g.row.N c.args.text.now _

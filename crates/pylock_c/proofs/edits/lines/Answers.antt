@@ -2,7 +2,7 @@
 use Rattle.std.proofs.Common.{arith}
 use Rattle.std.proofs.lemmas.Iterator.Consumers.{map_from_collect}
 use Rattle.std.proofs.lemmas.Iterator.Splits.{YieldsList-from_str_split}
-use Rattle.pylock_c.proofs.sessions.commands.lines.Goals as goal
+use Rattle.pylock_c.proofs.edits.lines.Goals as goal
 
 pub returns : goal.returns
 returns c =

@@ -1,6 +1,9 @@
 //! The line of a wheel or an sdist whose texts stand in their fields as they are, as nearly all do:
-//! its room is made at once, its texts are put in their places with `-` between them, all of them
-//! are tested in one look, and then the marks of a line stand in place of each `-`.
+//! the quick way to `source_line` with `file_fields`. Any other line goes the slow way beside it,
+//! part by part (`push_source_line` of `plan.rt`).
+//!
+//! The room of the line is made at once, its texts are put in their places with `-` between them,
+//! all of them are tested in one look, and then the marks of a line stand in place of each `-`.
 
 ghost use Rattle.std.specs.Prelude.{◌≡◌, ◌++◌, ◌∷◌, ◌+◌, ◌<◌, ◌≤◌, length, take, drop, false, true};
 ghost use Rattle.std.specs.Prelude.{IfSome, IfOk, IsTrue};
@@ -9,11 +12,11 @@ ghost use Rattle.std.specs.Option.{option_copied};
 ghost use Rattle.pylock_readers.specs.Text.{text_pairs};
 ghost use Rattle.pylock_run.specs.Inner.FileLine.{file_line, file_line_size, joined_texts};
 ghost use Rattle.pylock_run.specs.Inner.FileLine.{AreOrdinary, AreShort, StandIn};
-ghost use Rattle.pylock_run.specs.Inner.Plain.{is_ordinary};
+ghost use Rattle.pylock_run.specs.Inner.OrdinaryBytes.{is_ordinary};
 ghost use Rattle.pylock_run.specs.Text.Field.{escaped_text, field};
 ghost use Rattle.pylock_run.specs.Text.Plan.{file_fields, hashes_text, source_line};
 
-use crate::text::field::is_plain_text;
+use crate::text::field::is_ordinary_text;
 use itoa::Buffer;
 use pylock_core::{DistributionFile, Entry};
 use std::alloc::AllocError;
@@ -37,7 +40,7 @@ struct FileTexts<'a> {
 
 /// Pushes the line of a wheel or an sdist if it has one hash and its texts are seen at once to
 /// stand in it as they are, and answers whether it did. The hashes are counted before all else.
-pub(crate) fn push_plain_file(
+pub(crate) fn push_file_line(
     out: &mut Vec<u8>,
     number: u64,
     entry: &Entry,
@@ -106,7 +109,7 @@ fn short_field<'a>(text: Option<&'a str>) -> Option<&'a [u8]>
 
 /// A text that is short. Where it is ordinary, it has no escapes.
 #[inline]
-#[tactic(auto, using(crate::proofs::PlainText::plain_stands))]
+#[tactic(auto, using(crate::proofs::OrdinaryBytesLemmas::ordinary_stands))]
 fn short_text<'a>(text: &'a str) -> Option<&'a [u8]>
     ensures stands { IfSome result (λ short. list_all is_ordinary short.now ≡ true
         → short.now ≡ escaped_text text.now) }
@@ -164,7 +167,7 @@ fn put_line(line: &mut [u8], start: usize, texts: &FileTexts<'_>) -> bool
     ensures front { take start line.new ≡ take start line.old }
 {
     put_texts(line, start, texts);
-    if !is_plain_text(&line[start..]) {
+    if !is_ordinary_text(&line[start..]) {
         return false;
     }
     put_marks(line, start, texts);

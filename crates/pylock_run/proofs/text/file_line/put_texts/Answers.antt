@@ -1,7 +1,7 @@
 use Rattle.std.proofs.Common.{◌∙◌, ◌≤◌, length, sym, arith}
 use Rattle.std.proofs.lemmas.List.{take_all}
-use Rattle.pylock_run.proofs.FileLines.{parts_joined}
-use Rattle.pylock_run.proofs.text.plain.put_texts.Goals as goal
+use Rattle.pylock_run.proofs.FileLineLemmas.{parts_joined}
+use Rattle.pylock_run.proofs.text.file_line.put_texts.Goals as goal
 
 pub returns : goal.returns
 returns c =

@@ -7,20 +7,20 @@ use Rattle.std.proofs.lemmas.Nat.{mod_below}
 use Rattle.std.specs.List.{list_all}
 use Rattle.std.specs.Simd.{first_chunks}
 use Rattle.pylock_run.specs.Text.Field.{escape_byte, escaped_text}
-use Rattle.pylock_run.specs.Inner.Plain.{is_ordinary}
+use Rattle.pylock_run.specs.Inner.OrdinaryBytes.{is_ordinary}
 
-ordinary_stands : (b : ℕ) → is_ordinary b ≡ true → escape_byte b ≡ b ∷ []
-ordinary_stands b ordinary =
+ordinary_byte_stands : (b : ℕ) → is_ordinary b ≡ true → escape_byte b ≡ b ∷ []
+ordinary_byte_stands b ordinary =
     let (above, other) = and_parts (nat_lt 13 b) _ ordinary in
     let high : 13 < b = ltb-true 13 b above in
     rw (ne_eqb b 9 (λ is. omega arith), ne_eqb b 10 (λ is. omega arith), ne_eqb b 13 (λ is. omega arith), not-true (b == 92) other) refl
 
 -- it stands in a field as it is
-pub plain_stands : (text : List ℕ) → list_all is_ordinary text ≡ true → escaped_text text ≡ text
-plain_stands [] plain = refl
-plain_stands (b ∷ bs) plain =
-    let (here, more) = and_parts (is_ordinary b) (list_all is_ordinary bs) plain in
-    ap (λ prefix. prefix ++ escaped_text bs) (ordinary_stands b here) ∙ ap (λ rest. b ∷ rest) (plain_stands bs more)
+pub ordinary_stands : (text : List ℕ) → list_all is_ordinary text ≡ true → escaped_text text ≡ text
+ordinary_stands [] ordinary = refl
+ordinary_stands (b ∷ bs) ordinary =
+    let (here, more) = and_parts (is_ordinary b) (list_all is_ordinary bs) ordinary in
+    ap (λ prefix. prefix ++ escaped_text bs) (ordinary_byte_stands b here) ∙ ap (λ rest. b ∷ rest) (ordinary_stands bs more)
 
 module _ {X : Type 0} (test : X → Bool) where
   all_joined : (xs ys : List X) → list_all test xs ≡ true → list_all test ys ≡ true → list_all test (xs ++ ys) ≡ true

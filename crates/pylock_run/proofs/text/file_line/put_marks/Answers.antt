@@ -1,8 +1,8 @@
 use Rattle.std.proofs.Common.{◌≡◌, ◌∙◌, ◌≤◌, ◌++◌, length, take, refl, ap, sym, arith}
 use Rattle.std.specs.Prelude.{codes}
 use Rattle.std.proofs.lemmas.List.{length-take-le, take_all}
-use Rattle.pylock_run.proofs.FileLines.{marked, parts_joined, stands_behind, up_to}
-use Rattle.pylock_run.proofs.text.plain.put_marks.Goals as goal
+use Rattle.pylock_run.proofs.FileLineLemmas.{marked, parts_joined, stands_behind, up_to}
+use Rattle.pylock_run.proofs.text.file_line.put_marks.Goals as goal
 
 pub returns : goal.returns
 returns c =
