@@ -13,42 +13,45 @@ const MOST_BYTES: usize = 247;
 /// What stands where something else is to stand: a text between backquotes, and another value as
 /// TOML or JSON on one line; of a long one its prefix.
 #[derive(Clone, Copy)]
-pub(crate) enum Shown<'a> {
+pub(crate) enum ShownValue<'a> {
     Nothing,
     Text(&'a str),
     Toml(&'a toml::Value),
     Json(&'a serde_json::Value),
 }
 
-impl<'a> Shown<'a> {
+impl<'a> ShownValue<'a> {
     /// The value of a key of a lock.
-    pub(crate) fn toml(field: Option<&'a toml::Value>) -> Shown<'a> {
+    pub(crate) fn toml(field: Option<&'a toml::Value>) -> ShownValue<'a> {
         match field {
-            None => Shown::Nothing,
-            Some(toml::Value::String(text)) => Shown::Text(text.as_str()),
-            Some(value) => Shown::Toml(value),
+            None => ShownValue::Nothing,
+            Some(toml::Value::String(text)) => ShownValue::Text(text.as_str()),
+            Some(value) => ShownValue::Toml(value),
         }
     }
 
     /// The value of a member of an environment.
-    pub(crate) fn json(member: Option<&'a serde_json::Value>) -> Shown<'a> {
+    pub(crate) fn json(member: Option<&'a serde_json::Value>) -> ShownValue<'a> {
         match member {
-            None => Shown::Nothing,
-            Some(serde_json::Value::String(text)) => Shown::Text(text.as_str()),
-            Some(value) => Shown::Json(value),
+            None => ShownValue::Nothing,
+            Some(serde_json::Value::String(text)) => ShownValue::Text(text.as_str()),
+            Some(value) => ShownValue::Json(value),
         }
     }
 }
 
-impl fmt::Display for Shown<'_> {
+impl fmt::Display for ShownValue<'_> {
     fn fmt<W: Write>(&self, f: &mut Formatter<W>) -> fmt::Result {
         match self {
-            Shown::Nothing => f.write_str("nothing"),
-            Shown::Text(text) => write_quoted(f, text),
-            Shown::Toml(value) => {
+            ShownValue::Nothing => f.write_str("nothing"),
+            ShownValue::Text(text) => write_quoted(f, text),
+            ShownValue::Toml(value) => {
                 write_prefix(f, InlineText::<MOST_BYTES>::of(OneLine(value)).as_str())
             }
-            Shown::Json(value) => write_prefix(f, InlineText::<MOST_BYTES>::of(*value).as_str()),
+            ShownValue::Json(value) => write_prefix(
+                f,
+                InlineText::<MOST_BYTES>::of(*value).as_str(),
+            ),
         }
     }
 }
