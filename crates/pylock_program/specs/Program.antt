@@ -12,8 +12,7 @@ use Rattle.pylock_run.specs.Report.Run.{IsRun}
 use Rattle.pylock_run.specs.Stream.{SourceValue, SinkValue}
 use Rattle.pylock_program.specs.declared.program.Failure.{Failure}
 use Rattle.pylock_program.specs.declared.program.Failure.TheVariants.{NotText, File, Read, Write}
-use Rattle.pylock_program.specs.declared.program.Failure.TheVariants.{Input, NamedFile}
-use Rattle.pylock_program.specs.declared.program.Failure.TheVariants.{Memory}
+use Rattle.pylock_program.specs.declared.program.Failure.TheVariants.{Input, NamedFile, Memory}
 use Rattle.pylock_program.specs.declared.reply.queries.Query.TheVariants as query
 use Rattle.pylock_run.specs.declared.report.fault.RunFault.{RunFault}
 use Rattle.pylock_run.specs.declared.report.fault.RunFault.TheVariants as run

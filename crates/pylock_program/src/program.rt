@@ -3,9 +3,8 @@
 ghost use Rattle.std.specs.Prelude.{◌≡◌, ◌≢◌, Err};
 ghost use Rattle.std.specs.Option.{option_copied};
 ghost use Rattle.std.specs.Result.{result_map_both};
-ghost use Rattle.pylock_program.specs.Program.{failure_message, failure_status};
-ghost use Rattle.pylock_program.specs.Program.{GivesNamed, Opens, OpensNamed};
-ghost use Rattle.pylock_program.specs.Program.{Performs, Replies, Runs, Tells};
+ghost use Rattle.pylock_program.specs.Program.{failure_message, failure_status, GivesNamed, Opens};
+ghost use Rattle.pylock_program.specs.Program.{OpensNamed, Performs, Replies, Runs, Tells};
 ghost use Rattle.pylock_program.specs.Program.{greeting, terminal_note, program_end};
 ghost use Rattle.pylock_program.specs.Reply.{audit_answer, files_answer, marker_answer, reply};
 ghost use Rattle.pylock_program.specs.Reply.{reply_of};

@@ -7,11 +7,10 @@ ghost use Rattle.pylock_program.specs.Reply.{reply, reply_of, version_answer, ma
 ghost use Rattle.pylock_program.specs.Reply.{admits_answer, audit_answer, files_answer};
 ghost use Rattle.pylock_program.specs.Reply.{files_shown, findings_answer, refused_lock};
 ghost use Rattle.pylock_program.specs.Reply.{truth_word, name_answer, marker_answer};
-ghost use Rattle.pylock_program.specs.Reply.{marker_answer_in};
-ghost use Rattle.pylock_program.specs.Reply.{value_answer};
-ghost use Rattle.pylock_program.specs.Reply.{requirement_answer, requirement_line, names_text};
-ghost use Rattle.pylock_program.specs.Reply.{specifiers_text, wheel_answer, wheel_line};
-ghost use Rattle.pylock_program.specs.Reply.{refusal_report, fault_report};
+ghost use Rattle.pylock_program.specs.Reply.{marker_answer_in, value_answer, requirement_answer};
+ghost use Rattle.pylock_program.specs.Reply.{requirement_line, names_text, specifiers_text};
+ghost use Rattle.pylock_program.specs.Reply.{wheel_answer, wheel_line, refusal_report};
+ghost use Rattle.pylock_program.specs.Reply.{fault_report};
 ghost use Rattle.pylock_run.specs.Report.Print.{Prints, Pushes};
 ghost use Rattle.pylock_run.specs.Text.Field.{field, line_of};
 
