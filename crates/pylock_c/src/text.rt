@@ -1,9 +1,9 @@
 //! Texts of C, and kept texts.
 
-ghost use Rattle.std.specs.Prelude.{◌≡◌, ℕ, List, None, Result, Some, option_map};
+ghost use Rattle.std.specs.Prelude.{◌≡◌, ℕ, List, None, Result, Some};
 ghost use Rattle.pytext.specs.Agreement.{Gives};
 ghost use Rattle.pylock_c.specs.Answer.{Tells, Writes};
-ghost use Rattle.pylock_c.specs.Slot.{object};
+ghost use Rattle.pylock_c.specs.Slot.{kept_object, object};
 ghost use Rattle.pylock_c.specs.declared.refusal.Refusal.{Refusal as Refused};
 ghost use Rattle.pylock_c.specs.declared.refusal.Refusal.TheVariants.{Memory};
 ghost use Rattle.pylock_c.specs.Text.{kept_text, text_in, text_length, text_of};
@@ -44,8 +44,7 @@ fn as_object(outcome: Result<Vec<u8>, Refusal>) -> Result<Object, Refusal>
 
 /// The bytes of a kept text.
 fn text_in(kept: &Option<Box<Object>>) -> Result<&[u8], Refusal>
-    ensures { Gives Memory (λ text. text.now) result
-        (text_in (option_map (λ kept. kept.value) kept.now)) }
+    ensures { Gives Memory (λ text. text.now) result (text_in (kept_object kept.now)) }
 {
     match kept.as_deref() {
         Some(Object::Text(text)) => Ok(text.as_slice()),
@@ -54,8 +53,7 @@ fn text_in(kept: &Option<Box<Object>>) -> Result<&[u8], Refusal>
 }
 
 fn text_length(kept: &Option<Box<Object>>) -> Result<usize, Refusal>
-    ensures { Gives Memory (λ length. length) result
-        (text_length (option_map (λ kept. kept.value) kept.now)) }
+    ensures { Gives Memory (λ length. length) result (text_length (kept_object kept.now)) }
 {
     Ok(text_in(kept)?.len())
 }

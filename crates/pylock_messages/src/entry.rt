@@ -1,72 +1,31 @@
 //! Why an entry of a lock is refused.
 
-use crate::form::Form;
-use crate::shown::Shown;
-use crate::sources::{Kind, wrong_source, wrong_wheels};
-use crate::wrong::{Fault, Wrong};
+use crate::sources::{SourceKind, wrong_source, wrong_wheels};
+use crate::value_form::ValueForm;
+use crate::wrong_part::{EntryLabel, Part, WrongPart};
 use pylock_readers::{EntryError, EntryKey};
 use pyver_core::is_name;
-use std::alloc::{AllocError, Global};
-use std::fmt;
 use toml::{Table, Value};
 
-/// An entry by its position, from 1, and by its name as written, where that is a name.
-#[derive(Clone, Copy)]
-struct Entry<'a> {
-    position: usize,
-    name: Option<&'a str>,
-}
-
-impl fmt::Display for Entry<'_> {
-    fn fmt<W: fmt::Write>(&self, f: &mut fmt::Formatter<W>) -> fmt::Result {
-        let position = self.position;
-        match self.name {
-            Some(name) => write!(f, "entry {position} (`{name}`)"),
-            None => write!(f, "entry {position}"),
-        }
-    }
-}
-
-/// Why the entry at this position of the document, from 1, is refused.
-pub(crate) fn entry_message(
-    alloc: Global,
-    name: &str,
-    document: &Table,
+/// What is wrong with the entry at this position of the document, from 1.
+pub(crate) fn wrong_entry<'a>(
+    document: &'a Table,
     position: usize,
     refusal: &EntryError,
-) -> Result<Option<String>, AllocError> {
-    match value_at(document, position) {
-        Some(Value::Table(table)) => table_message(alloc, name, table, position, refusal),
-        Some(value) => {
-            let fault = Fault::IsNot(Form::Table, Shown::toml(Some(value)));
-            Ok(Some(format!(in alloc; "{name}: entry {position} {fault}")?))
+) -> Option<WrongPart<'a>> {
+    let Some(Value::Array(entries)) = document.get("packages") else {
+        return None;
+    };
+    match entries.get(position.checked_sub(1)?)? {
+        Value::Table(table) => {
+            let name = name_of(table);
+            Some(wrong_key(table, refusal)?.of_entry(EntryLabel { position, name }))
         }
-        None => Ok(None),
+        value => {
+            let part = Part::Entry(position);
+            Some(WrongPart::in_lock(part, ValueForm::Table, Some(value)))
+        }
     }
-}
-
-fn value_at(document: &Table, position: usize) -> Option<&Value> {
-    match document.get("packages") {
-        Some(Value::Array(entries)) => entries.get(position.checked_sub(1)?),
-        _ => None,
-    }
-}
-
-fn table_message(
-    alloc: Global,
-    name: &str,
-    table: &Table,
-    position: usize,
-    refusal: &EntryError,
-) -> Result<Option<String>, AllocError> {
-    let Some(wrong) = wrong_key(table, refusal) else {
-        return Ok(None);
-    };
-    let entry = Entry {
-        position,
-        name: name_of(table),
-    };
-    Ok(Some(format!(in alloc; "{name}: {entry}: {wrong}")?))
 }
 
 fn name_of(entry: &Table) -> Option<&str> {
@@ -77,18 +36,22 @@ fn name_of(entry: &Table) -> Option<&str> {
 }
 
 /// The key that the entry is refused for; of a source the first of its keys that is wrong.
-fn wrong_key<'a>(entry: &'a Table, refusal: &EntryError) -> Option<Wrong<'a>> {
+fn wrong_key<'a>(entry: &'a Table, refusal: &EntryError) -> Option<WrongPart<'a>> {
     match refusal {
-        EntryError::Name => Some(Wrong::key(entry, "name", Form::Name)),
-        EntryError::Key(EntryKey::Version) => Some(Wrong::key(entry, "version", Form::Text)),
-        EntryError::Key(EntryKey::Vcs) => wrong_source(entry, Kind::Vcs),
-        EntryError::Key(EntryKey::Directory) => wrong_source(entry, Kind::Directory),
-        EntryError::Key(EntryKey::Archive) => wrong_source(entry, Kind::Archive),
-        EntryError::Key(EntryKey::Sdist) => wrong_source(entry, Kind::Sdist),
+        EntryError::Name => Some(WrongPart::key(entry, "name", ValueForm::Name)),
+        EntryError::Key(EntryKey::Version) => {
+            Some(WrongPart::key(entry, "version", ValueForm::Text))
+        }
+        EntryError::Key(EntryKey::Vcs) => wrong_source(entry, "vcs", SourceKind::Vcs),
+        EntryError::Key(EntryKey::Directory) => {
+            wrong_source(entry, "directory", SourceKind::Directory)
+        }
+        EntryError::Key(EntryKey::Archive) => wrong_source(entry, "archive", SourceKind::Archive),
+        EntryError::Key(EntryKey::Sdist) => wrong_source(entry, "sdist", SourceKind::File),
         EntryError::Key(EntryKey::Wheels) => wrong_wheels(entry),
-        EntryError::Marker => Some(Wrong::key(entry, "marker", Form::Marker)),
+        EntryError::Marker => Some(WrongPart::key(entry, "marker", ValueForm::Marker)),
         EntryError::RequiresPython => {
-            Some(Wrong::key(entry, "requires-python", Form::SpecifierSet))
+            Some(WrongPart::key(entry, "requires-python", ValueForm::SpecifierSet))
         }
         EntryError::Toml | EntryError::NotTable | EntryError::Memory => None,
     }

@@ -19,14 +19,14 @@
 
 mod entry;
 mod environment;
-mod form;
 mod lock;
 mod one_line;
-mod shown;
+mod shown_value;
 mod sources;
 mod syntax;
+mod value_form;
 mod visible;
-mod wrong;
+mod wrong_part;
 
 pub use environment::environment_message;
 pub use lock::lock_message;

@@ -1,11 +1,10 @@
 //! Why a lock is refused.
 
-use crate::entry::entry_message;
-use crate::form::Form;
-use crate::shown::Shown;
+use crate::entry::wrong_entry;
 use crate::syntax::{not_text, toml_message};
+use crate::value_form::ValueForm;
 use crate::visible::visible_line;
-use crate::wrong::{Fault, Part, Wrong};
+use crate::wrong_part::{Part, WrongPart, wrong_line};
 use pylock_readers::{HeadKey, Lock, LockError};
 use pymark_core::{Marker, MarkerError};
 use pyver_core::is_name;
@@ -32,18 +31,10 @@ fn message(
     lock: &[u8],
     refusal: &LockError,
 ) -> Result<Option<String>, AllocError> {
-    match std::str::from_utf8(lock) {
-        Ok(text) => text_message(alloc, name, text, refusal),
-        Err(fault) => Ok(Some(not_text(alloc, name, fault.valid_up_to())?)),
-    }
-}
-
-fn text_message(
-    alloc: Global,
-    name: &str,
-    text: &str,
-    refusal: &LockError,
-) -> Result<Option<String>, AllocError> {
+    let text = match std::str::from_utf8(lock) {
+        Ok(text) => text,
+        Err(fault) => return not_text(alloc, name, fault.valid_up_to()),
+    };
     match toml::table_from_str(alloc, text) {
         Ok(document) => document_message(alloc, name, &document, refusal),
         Err(fault) => toml_message(alloc, name, text, fault),
@@ -58,53 +49,39 @@ fn document_message(
 ) -> Result<Option<String>, AllocError> {
     match refusal {
         LockError::TooMany => Ok(Some(format!(in alloc; "{name}: more than 100000 entries")?)),
-        LockError::Entry(position, refusal) => entry_message(
-            alloc, name, document, *position, refusal,
-        ),
-        _ => match wrong_key(alloc, document, refusal)? {
-            Some(wrong) => Ok(Some(format!(in alloc; "{name}: {wrong}")?)),
-            None => Ok(None),
-        },
+        LockError::Head(HeadKey::Environments) => {
+            wrong_line(alloc, name, wrong_environments(alloc, document)?)
+        }
+        _ => wrong_line(alloc, name, wrong_key(document, refusal)),
     }
 }
 
-/// The key of the head that the lock is refused for, or the first wrong member of its list.
-fn wrong_key<'a>(
-    alloc: Global,
-    document: &'a Table,
-    refusal: &LockError,
-) -> Result<Option<Wrong<'a>>, AllocError> {
-    match refusal {
-        LockError::LockVersion => Ok(Some(Wrong::key(document, "lock-version", Form::LockVersion))),
-        LockError::CreatedBy => Ok(Some(Wrong::key(document, "created-by", Form::Text))),
-        LockError::Head(HeadKey::Environments) => wrong_environments(alloc, document),
-        LockError::Head(HeadKey::RequiresPython) => Ok(Some(Wrong::key(
-            document,
-            "requires-python",
-            Form::SpecifierSet,
-        ))),
-        LockError::Head(HeadKey::Extras) => Ok(wrong_names(document, "extras")),
-        LockError::Head(HeadKey::DependencyGroups) => Ok(wrong_names(
-            document,
-            "dependency-groups",
-        )),
-        LockError::Head(HeadKey::DefaultGroups) => Ok(wrong_names(document, "default-groups")),
-        LockError::Packages => Ok(Some(Wrong::key(document, "packages", Form::List))),
-        _ => Ok(None),
-    }
+/// The key that the lock is refused for, or the first wrong member of its list.
+fn wrong_key<'a>(document: &'a Table, refusal: &LockError) -> Option<WrongPart<'a>> {
+    let (key, form) = match refusal {
+        LockError::LockVersion => ("lock-version", ValueForm::LockVersion),
+        LockError::CreatedBy => ("created-by", ValueForm::Text),
+        LockError::Head(HeadKey::RequiresPython) => ("requires-python", ValueForm::SpecifierSet),
+        LockError::Head(HeadKey::Extras) => return wrong_names(document, "extras"),
+        LockError::Head(HeadKey::DependencyGroups) => {
+            return wrong_names(document, "dependency-groups");
+        }
+        LockError::Head(HeadKey::DefaultGroups) => return wrong_names(document, "default-groups"),
+        LockError::Packages => ("packages", ValueForm::List),
+        LockError::Entry(position, refusal) => return wrong_entry(document, *position, refusal),
+        _ => return None,
+    };
+    Some(WrongPart::key(document, key, form))
 }
 
-fn wrong_names<'a>(document: &'a Table, key: &'static str) -> Option<Wrong<'a>> {
-    match document.get(key) {
-        Some(Value::Array(names)) => wrong_name(key, names),
-        _ => Some(Wrong::key(document, key, Form::Names)),
-    }
-}
-
-fn wrong_name<'a>(key: &'static str, names: &'a [Value]) -> Option<Wrong<'a>> {
+fn wrong_names<'a>(document: &'a Table, key: &'static str) -> Option<WrongPart<'a>> {
+    let Some(Value::Array(names)) = document.get(key) else {
+        return Some(WrongPart::key(document, key, ValueForm::Names));
+    };
     for (at, name) in names.iter().enumerate() {
         if !is_name_text(name) {
-            return Some(member(key, at + 1, Form::Name, name));
+            let part = Part::Member(key, at + 1);
+            return Some(WrongPart::in_lock(part, ValueForm::Name, Some(name)));
         }
     }
     None
@@ -117,17 +94,17 @@ fn is_name_text(value: &Value) -> bool {
     }
 }
 
-fn wrong_environments(alloc: Global, document: &Table) -> Result<Option<Wrong<'_>>, AllocError> {
-    match document.get("environments") {
-        Some(Value::Array(markers)) => wrong_marker(alloc, markers),
-        _ => Ok(Some(Wrong::key(document, "environments", Form::Markers))),
-    }
-}
-
-fn wrong_marker(alloc: Global, markers: &[Value]) -> Result<Option<Wrong<'_>>, AllocError> {
+fn wrong_environments(
+    alloc: Global,
+    document: &Table,
+) -> Result<Option<WrongPart<'_>>, AllocError> {
+    let Some(Value::Array(markers)) = document.get("environments") else {
+        return Ok(Some(WrongPart::key(document, "environments", ValueForm::Markers)));
+    };
     for (at, marker) in markers.iter().enumerate() {
         if !is_marker(alloc, marker)? {
-            return Ok(Some(member("environments", at + 1, Form::Marker, marker)));
+            let part = Part::Member("environments", at + 1);
+            return Ok(Some(WrongPart::in_lock(part, ValueForm::Marker, Some(marker))));
         }
     }
     Ok(None)
@@ -141,12 +118,5 @@ fn is_marker(alloc: Global, value: &Value) -> Result<bool, AllocError> {
         Ok(_) => Ok(true),
         Err(MarkerError::Memory) => Err(AllocError),
         Err(_) => Ok(false),
-    }
-}
-
-fn member<'a>(key: &'static str, position: usize, form: Form, value: &'a Value) -> Wrong<'a> {
-    Wrong {
-        part: Part::Member(key, position),
-        fault: Fault::IsNot(form, Shown::toml(Some(value))),
     }
 }

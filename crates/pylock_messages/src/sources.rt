@@ -1,69 +1,36 @@
 //! Which key of a source is wrong.
 
-use crate::form::Form;
-use crate::shown::Shown;
-use crate::wrong::{Fault, Part, Wrong};
+use crate::value_form::ValueForm;
+use crate::wrong_part::{Part, PartFault, WrongPart};
 use toml::{Table, Value};
 
-/// The kinds of sources that are tables.
+/// The kinds of the tables of sources.
 #[derive(Clone, Copy)]
-pub(crate) enum Kind {
+pub(crate) enum SourceKind {
     Vcs,
     Directory,
     Archive,
-    Sdist,
+    /// An sdist or a wheel.
+    File,
 }
 
-/// What is wrong with a source: with one of its keys, or with the whole.
-#[derive(Clone, Copy)]
-struct Misfit<'a> {
-    key: Option<&'static str>,
-    fault: Fault<'a>,
-}
-
-impl Kind {
-    fn key(self) -> &'static str {
-        match self {
-            Kind::Vcs => "vcs",
-            Kind::Directory => "directory",
-            Kind::Archive => "archive",
-            Kind::Sdist => "sdist",
-        }
+/// What is wrong with the source of this kind at this key.
+pub(crate) fn wrong_source<'a>(
+    entry: &'a Table,
+    key: &'static str,
+    kind: SourceKind,
+) -> Option<WrongPart<'a>> {
+    match entry.get(key) {
+        Some(Value::Table(source)) => Some(wrong_key(source, kind)?.of_source(key)),
+        _ => Some(WrongPart::key(entry, key, ValueForm::Table)),
     }
-
-    fn misfit(self, source: &Table) -> Option<Misfit<'_>> {
-        match self {
-            Kind::Vcs => misfit_of_vcs(source),
-            Kind::Directory => misfit_of_directory(source),
-            Kind::Archive => misfit_of_archive(source),
-            Kind::Sdist => misfit_of_file(source),
-        }
-    }
-}
-
-/// What is wrong with the source of this kind.
-pub(crate) fn wrong_source(entry: &Table, kind: Kind) -> Option<Wrong<'_>> {
-    let key = kind.key();
-    let Some(Value::Table(source)) = entry.get(key) else {
-        return Some(Wrong::key(entry, key, Form::Table));
-    };
-    let Misfit { key: inner, fault } = kind.misfit(source)?;
-    let part = match inner {
-        Some(inner) => Part::Inner(key, inner),
-        None => Part::Key(key),
-    };
-    Some(Wrong { part, fault })
 }
 
 /// What is wrong with the key `wheels`.
-pub(crate) fn wrong_wheels(entry: &Table) -> Option<Wrong<'_>> {
-    match entry.get("wheels") {
-        Some(Value::Array(wheels)) => first_wrong_wheel(wheels),
-        _ => Some(Wrong::key(entry, "wheels", Form::Tables)),
-    }
-}
-
-fn first_wrong_wheel(wheels: &[Value]) -> Option<Wrong<'_>> {
+pub(crate) fn wrong_wheels(entry: &Table) -> Option<WrongPart<'_>> {
+    let Some(Value::Array(wheels)) = entry.get("wheels") else {
+        return Some(WrongPart::key(entry, "wheels", ValueForm::Tables));
+    };
     for (at, wheel) in wheels.iter().enumerate() {
         if let Some(wrong) = wrong_wheel(at + 1, wheel) {
             return Some(wrong);
@@ -72,93 +39,66 @@ fn first_wrong_wheel(wheels: &[Value]) -> Option<Wrong<'_>> {
     None
 }
 
-fn wrong_wheel(position: usize, wheel: &Value) -> Option<Wrong<'_>> {
-    let Value::Table(file) = wheel else {
-        return Some(Wrong {
-            part: Part::Wheel(position),
-            fault: Fault::IsNot(Form::Table, Shown::toml(Some(wheel))),
-        });
-    };
-    let Misfit { key, fault } = misfit_of_file(file)?;
-    let part = match key {
-        Some(key) => Part::OfWheel(position, key),
-        None => Part::Wheel(position),
-    };
-    Some(Wrong { part, fault })
-}
-
-fn misfit_of_vcs(vcs: &Table) -> Option<Misfit<'_>> {
-    required_text(vcs, "type")
-        .or(required_text(vcs, "commit-id"))
-        .or(location(vcs))
-        .or(text(vcs, "subdirectory"))
-}
-
-fn misfit_of_directory(directory: &Table) -> Option<Misfit<'_>> {
-    required_text(directory, "path")
-        .or(boolean(directory, "editable"))
-        .or(text(directory, "subdirectory"))
-}
-
-fn misfit_of_archive(archive: &Table) -> Option<Misfit<'_>> {
-    location(archive)
-        .or(hashes(archive))
-        .or(text(archive, "subdirectory"))
-}
-
-/// What is wrong with an sdist or a wheel.
-fn misfit_of_file(file: &Table) -> Option<Misfit<'_>> {
-    text(file, "name").or(location(file)).or(hashes(file))
-}
-
-fn location(source: &Table) -> Option<Misfit<'_>> {
-    text(source, "url")
-        .or(text(source, "path"))
-        .or(nowhere(source))
-}
-
-fn nowhere(source: &Table) -> Option<Misfit<'_>> {
-    if source.contains_key("url") || source.contains_key("path") {
-        return None;
+fn wrong_wheel(position: usize, wheel: &Value) -> Option<WrongPart<'_>> {
+    match wheel {
+        Value::Table(file) => Some(wrong_key(file, SourceKind::File)?.of_wheel(position)),
+        _ => {
+            let part = Part::Wheel(position);
+            Some(WrongPart::in_lock(part, ValueForm::Table, Some(wheel)))
+        }
     }
-    Some(Misfit {
-        key: None,
-        fault: Fault::LiesNowhere,
-    })
 }
 
-fn required_text<'a>(source: &'a Table, key: &'static str) -> Option<Misfit<'a>> {
+/// The first key of the source that is wrong, or what it lacks as a whole.
+fn wrong_key(source: &Table, kind: SourceKind) -> Option<WrongPart<'_>> {
+    match kind {
+        SourceKind::Vcs => required_text(source, "type")
+            .or(required_text(source, "commit-id"))
+            .or(location(source))
+            .or(text(source, "subdirectory")),
+        SourceKind::Directory => required_text(source, "path")
+            .or(boolean(source, "editable"))
+            .or(text(source, "subdirectory")),
+        SourceKind::Archive => location(source)
+            .or(hashes(source))
+            .or(text(source, "subdirectory")),
+        SourceKind::File => text(source, "name").or(location(source)).or(hashes(source)),
+    }
+}
+
+fn location(source: &Table) -> Option<WrongPart<'_>> {
+    let wrong = text(source, "url").or(text(source, "path"));
+    if source.contains_key("url") || source.contains_key("path") {
+        return wrong;
+    }
+    Some(WrongPart::new(Part::Whole, PartFault::LiesNowhere))
+}
+
+fn required_text<'a>(source: &'a Table, key: &'static str) -> Option<WrongPart<'a>> {
     match source.get(key) {
         Some(Value::String(_)) => None,
-        field => Some(is_not(key, Form::Text, field)),
+        _ => Some(WrongPart::key(source, key, ValueForm::Text)),
     }
 }
 
-fn text<'a>(source: &'a Table, key: &'static str) -> Option<Misfit<'a>> {
+fn text<'a>(source: &'a Table, key: &'static str) -> Option<WrongPart<'a>> {
     match source.get(key) {
         None | Some(Value::String(_)) => None,
-        field => Some(is_not(key, Form::Text, field)),
+        _ => Some(WrongPart::key(source, key, ValueForm::Text)),
     }
 }
 
-fn boolean<'a>(source: &'a Table, key: &'static str) -> Option<Misfit<'a>> {
+fn boolean<'a>(source: &'a Table, key: &'static str) -> Option<WrongPart<'a>> {
     match source.get(key) {
         None | Some(Value::Boolean(_)) => None,
-        field => Some(is_not(key, Form::Boolean, field)),
+        _ => Some(WrongPart::key(source, key, ValueForm::Boolean)),
     }
 }
 
-fn hashes(source: &Table) -> Option<Misfit<'_>> {
+fn hashes(source: &Table) -> Option<WrongPart<'_>> {
     match source.get("hashes") {
         None => None,
         Some(Value::Table(hashes)) if hashes.values().all(Value::is_str) => None,
-        field => Some(is_not("hashes", Form::TableOfTexts, field)),
-    }
-}
-
-fn is_not<'a>(key: &'static str, form: Form, field: Option<&'a Value>) -> Misfit<'a> {
-    Misfit {
-        key: Some(key),
-        fault: Fault::IsNot(form, Shown::toml(field)),
+        _ => Some(WrongPart::key(source, "hashes", ValueForm::TableOfTexts)),
     }
 }

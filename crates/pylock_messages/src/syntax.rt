@@ -6,8 +6,12 @@ use std::alloc::{AllocError, Global};
 const BYTE_ORDER_MARK: &[u8] = b"\xEF\xBB\xBF";
 
 /// That the byte at this offset is the first that is no UTF-8.
-pub(crate) fn not_text(alloc: Global, name: &str, offset: usize) -> Result<String, AllocError> {
-    format!(in alloc; "{name}: byte {offset} is not UTF-8 text")
+pub(crate) fn not_text(
+    alloc: Global,
+    name: &str,
+    offset: usize,
+) -> Result<Option<String>, AllocError> {
+    Ok(Some(format!(in alloc; "{name}: byte {offset} is not UTF-8 text")?))
 }
 
 /// Where the text is no TOML, and what `toml` says of it.

@@ -1,8 +1,8 @@
 //! Runs of pylock: edit lines, the lines of an answer and of a refusal, and the edits of a session
 //! by all of an input, over sources and sinks of bytes.
 //!
-//! It stands on `pylock_core`, whose sessions it edits. The host gives it a [`Source`] of bytes and a [`Sink`]; so it runs over memory too ([`Pieces`],
-//! [`Room`]), where its contracts say each byte.
+//! It stands on `pylock_core`, whose sessions it edits. The host gives it a [`Source`] of bytes and
+//! a [`Sink`]; so it runs over memory too ([`Pieces`], [`Room`]), where its contracts say each byte.
 //!
 //! Begin with [`run`], whose contract is the headline of `docs/CONTRACTS.md`: the first answer, and
 //! an answer after each edit line. [`open`] starts the session of a lock and an environment, and
@@ -32,7 +32,7 @@ mod stream;
 mod text;
 
 pub use files::{FILE_BYTES, Files, open_fault, read_both, read_file};
-pub use line::commands::{Command, policy_argument, text_label, variable_argument};
+pub use line::commands::{Command, policy_argument, variable_argument};
 pub use line::refusal::LineRefusal;
 pub use line::{LINE_LIMIT, read_line};
 pub use report::editing::push_current_answer;

@@ -1,6 +1,6 @@
 //! What a person is told of a refused lock or environment.
 
-use crate::document::Document;
+use crate::file::FileBytes;
 use crate::notes::tell;
 use pylock_messages::{environment_message, lock_message};
 use pylock_run::{RunFault, Sink};
@@ -12,8 +12,8 @@ pub(crate) fn tell_refusal<N: Sink>(
     alloc: Global,
     notes: &mut N,
     end: &Result<u8, RunFault>,
-    lock: Document<'_>,
-    environment: Document<'_>,
+    lock: &FileBytes<'_>,
+    environment: &FileBytes<'_>,
 ) {
     if is_refusal(end) && !tell_lock(alloc, notes, lock) {
         tell_environment(alloc, notes, environment);
@@ -25,7 +25,7 @@ pub(crate) fn tell_lock_refusal<N: Sink>(
     alloc: Global,
     notes: &mut N,
     end: &Result<u8, RunFault>,
-    lock: Document<'_>,
+    lock: &FileBytes<'_>,
 ) {
     if is_refusal(end) {
         tell_lock(alloc, notes, lock);
@@ -37,7 +37,7 @@ pub(crate) fn tell_environment_refusal<N: Sink>(
     alloc: Global,
     notes: &mut N,
     end: &Result<u8, RunFault>,
-    environment: Document<'_>,
+    environment: &FileBytes<'_>,
 ) {
     if is_refusal(end) {
         tell_environment(alloc, notes, environment);
@@ -50,8 +50,8 @@ fn is_refusal(end: &Result<u8, RunFault>) -> bool {
 }
 
 /// Tells where a lock is wrong, and answers whether it is refused.
-fn tell_lock<N: Sink>(alloc: Global, notes: &mut N, lock: Document<'_>) -> bool {
-    match lock_message(alloc, lock.path, lock.bytes) {
+fn tell_lock<N: Sink>(alloc: Global, notes: &mut N, lock: &FileBytes<'_>) -> bool {
+    match lock_message(alloc, lock.path, &lock.bytes) {
         Ok(Some(message)) => {
             tell(alloc, notes, message.as_str());
             true
@@ -62,8 +62,8 @@ fn tell_lock<N: Sink>(alloc: Global, notes: &mut N, lock: Document<'_>) -> bool 
 }
 
 /// Tells where an environment is wrong.
-fn tell_environment<N: Sink>(alloc: Global, notes: &mut N, environment: Document<'_>) {
-    if let Ok(Some(message)) = environment_message(alloc, environment.path, environment.bytes) {
+fn tell_environment<N: Sink>(alloc: Global, notes: &mut N, environment: &FileBytes<'_>) {
+    if let Ok(Some(message)) = environment_message(alloc, environment.path, &environment.bytes) {
         tell(alloc, notes, message.as_str());
     }
 }

@@ -16,7 +16,7 @@ ghost use Rattle.pylock_run.specs.Text.Plan.{plan_line, pick_text, answer_text, 
 ghost use Rattle.pylock_run.specs.Text.Plan.{source_line};
 
 use crate::text::field::{push_decimal, push_escaped_text, push_last_word, push_next_field};
-use crate::text::plain::push_plain_file;
+use crate::text::file_line::push_file_line;
 use pylock_core::{
     Answer, Archive, Directory, DistributionFile, Entry, FaultCode, Pick, PickedSource, Session,
     Vcs, directory_word, fault_word,
@@ -140,8 +140,8 @@ pub fn push_source_line(
         (option_map_or picked_fields (option_map lent_source source.entry) [])) }
 {
     let done = match source {
-        Some(PickedSource::Wheel(wheel)) => push_plain_file(out, number, entry, b"wheel", wheel)?,
-        Some(PickedSource::Sdist(sdist)) => push_plain_file(out, number, entry, b"sdist", sdist)?,
+        Some(PickedSource::Wheel(wheel)) => push_file_line(out, number, entry, b"wheel", wheel)?,
+        Some(PickedSource::Sdist(sdist)) => push_file_line(out, number, entry, b"sdist", sdist)?,
         _ => false,
     };
     if done {

@@ -1,0 +1,150 @@
+//! What is wrong with a part of a lock or of an environment.
+
+use crate::shown_value::ShownValue;
+use crate::value_form::ValueForm;
+use std::alloc::{AllocError, Global};
+use std::fmt;
+use std::fmt::{Formatter, Write};
+use toml::{Table, Value};
+
+/// A part that is not as it is to be, of an entry or of the whole text.
+#[derive(Clone, Copy)]
+pub(crate) struct WrongPart<'a> {
+    entry: Option<EntryLabel<'a>>,
+    part: Part,
+    fault: PartFault<'a>,
+}
+
+/// An entry by its position, from 1, and by its name as written, where that is a name.
+#[derive(Clone, Copy)]
+pub(crate) struct EntryLabel<'a> {
+    pub(crate) position: usize,
+    pub(crate) name: Option<&'a str>,
+}
+
+/// A part, by its keys and by its positions, which count from 1.
+#[derive(Clone, Copy)]
+pub(crate) enum Part {
+    /// The whole text, or the whole table of a source.
+    Whole,
+    Key(&'static str),
+    /// A member of the list of a key.
+    Member(&'static str, usize),
+    /// A key of the table of a key.
+    Inner(&'static str, &'static str),
+    Entry(usize),
+    Tag(usize),
+    Wheel(usize),
+    /// A key of a wheel.
+    OfWheel(usize, &'static str),
+}
+
+/// What is wrong with a part.
+#[derive(Clone, Copy)]
+pub(crate) enum PartFault<'a> {
+    /// This stands there, which is not of the form.
+    IsNot(ValueForm, ShownValue<'a>),
+    /// This text is no tag.
+    IsNoTag(ShownValue<'a>),
+    /// A source has neither a URL nor a path.
+    LiesNowhere,
+}
+
+impl<'a> WrongPart<'a> {
+    pub(crate) fn new(part: Part, fault: PartFault<'a>) -> WrongPart<'a> {
+        let entry = None;
+        WrongPart { entry, part, fault }
+    }
+
+    /// What stands in this part of a lock is not of the form.
+    pub(crate) fn in_lock(part: Part, form: ValueForm, field: Option<&'a Value>) -> WrongPart<'a> {
+        WrongPart::new(part, PartFault::IsNot(form, ShownValue::toml(field)))
+    }
+
+    /// The value of the key of the table is not of the form.
+    pub(crate) fn key(table: &'a Table, key: &'static str, form: ValueForm) -> WrongPart<'a> {
+        WrongPart::in_lock(Part::Key(key), form, table.get(key))
+    }
+
+    /// The same part, of this entry.
+    pub(crate) fn of_entry(self, entry: EntryLabel<'a>) -> WrongPart<'a> {
+        let WrongPart { part, fault, .. } = self;
+        let entry = Some(entry);
+        WrongPart { entry, part, fault }
+    }
+
+    /// The same part, of the source at this key.
+    pub(crate) fn of_source(self, key: &'static str) -> WrongPart<'a> {
+        let part = match self.part {
+            Part::Key(inner) => Part::Inner(key, inner),
+            _ => Part::Key(key),
+        };
+        WrongPart::new(part, self.fault)
+    }
+
+    /// The same part, of the wheel at this position.
+    pub(crate) fn of_wheel(self, position: usize) -> WrongPart<'a> {
+        let part = match self.part {
+            Part::Key(key) => Part::OfWheel(position, key),
+            _ => Part::Wheel(position),
+        };
+        WrongPart::new(part, self.fault)
+    }
+}
+
+/// The line on a part of the file of this name, where one is wrong.
+pub(crate) fn wrong_line(
+    alloc: Global,
+    name: &str,
+    wrong: Option<WrongPart<'_>>,
+) -> Result<Option<String>, AllocError> {
+    match wrong {
+        Some(wrong) => Ok(Some(format!(in alloc; "{name}: {wrong}")?)),
+        None => Ok(None),
+    }
+}
+
+impl fmt::Display for WrongPart<'_> {
+    fn fmt<W: Write>(&self, f: &mut Formatter<W>) -> fmt::Result {
+        let (part, fault) = (self.part, self.fault);
+        match self.entry {
+            Some(entry) => write!(f, "{entry}: {part} {fault}"),
+            None => write!(f, "{part} {fault}"),
+        }
+    }
+}
+
+impl fmt::Display for EntryLabel<'_> {
+    fn fmt<W: Write>(&self, f: &mut Formatter<W>) -> fmt::Result {
+        let position = self.position;
+        match self.name {
+            Some(name) => write!(f, "entry {position} (`{name}`)"),
+            None => write!(f, "entry {position}"),
+        }
+    }
+}
+
+impl fmt::Display for Part {
+    fn fmt<W: Write>(&self, f: &mut Formatter<W>) -> fmt::Result {
+        match self {
+            Part::Whole => f.write_str("the document"),
+            Part::Key(key) => write!(f, "`{key}`"),
+            Part::Member(key, position) => write!(f, "`{key} {position}`"),
+            Part::Inner(outer, key) => write!(f, "`{outer} {key}`"),
+            Part::Entry(position) => write!(f, "entry {position}"),
+            Part::Tag(position) => write!(f, "tag {position}"),
+            Part::Wheel(position) => write!(f, "wheel {position}"),
+            Part::OfWheel(position, key) => write!(f, "wheel {position}: `{key}`"),
+        }
+    }
+}
+
+impl fmt::Display for PartFault<'_> {
+    fn fmt<W: Write>(&self, f: &mut Formatter<W>) -> fmt::Result {
+        match self {
+            PartFault::IsNot(form, shown) => write!(f, "is not {form}: {shown}"),
+            PartFault::IsNoTag(shown) => { write!(f, "{shown} is not a tag (python-abi-platform)") }
+            PartFault::LiesNowhere => f.write_str("has neither `url` nor `path`"),
+        }
+    }
+}
