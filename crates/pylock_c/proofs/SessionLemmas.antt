@@ -8,7 +8,7 @@ use Rattle.pylock_run.specs.declared.line.refusal.LineRefusal.{LineRefusal}
 use Rattle.pylock_run.specs.declared.line.refusal.LineRefusal.TheVariants as line
 use Rattle.pylock_c.specs.Answer.{Tells}
 use Rattle.pylock_c.specs.Refusal.{line_refusal}
-use Rattle.pylock_c.specs.Sessions.{Counts, obeyed, obeyed_in}
+use Rattle.pylock_c.specs.Sessions.{Counts, session_after, obeyed_in}
 use Rattle.pylock_c.specs.Sets.{refuse_as}
 use Rattle.pylock_c.specs.declared.object.Object.{Object}
 use Rattle.pylock_c.specs.declared.object.Object.TheVariants as kind
@@ -19,7 +19,7 @@ use Rattle.pylock_c.specs.declared.refusal.Refusal.TheVariants.{Empty}
 pub refused_command : {definition : Result Command LineRefusal} {object : Object} {command : Command} {session after : SessionValue}
     {refused : LineRefusal} {refusal : Refusal} {result : Result ℕ Refusal} → definition ≡ Ok command → object ≡ kind.Session session
     → after ≡ session → result ≡ Err refusal → refusal ≡ line_refusal refused
-    → ((refused ≡ line.Memory → ⊥) → obeyed session command ≡ Err refused)
+    → ((refused ≡ line.Memory → ⊥) → session_after session command ≡ Err refused)
     → Counts (obeyed_in definition (Some object)) (Some object) (Some (kind.Session after)) result
 refused_command {definition = definition} {object = object} {command = command} {session = session} {after = after} {refused = refused} read is same fails code gives =
     subst (λ (r : Result ℕ Refusal). Counts (obeyed_in definition (Some object)) (Some object) (Some (kind.Session after)) r) (sym fails) (

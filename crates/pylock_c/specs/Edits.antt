@@ -10,8 +10,8 @@ use Rattle.pylock_readers.specs.Entry.{EntryValue}
 use Rattle.pylock_core.specs.declared.edit.Edit.{Edit}
 use Rattle.pylock_core.specs.declared.edit.Edit.TheVariants as edit
 use Rattle.pylock_run.specs.Line.{is_lf}
-use Rattle.pylock_run.specs.Line.Commands.{entry_argument, name_or, policy_argument}
-use Rattle.pylock_run.specs.Line.Commands.{tags_argument, variable_argument}
+use Rattle.pylock_run.specs.Line.Commands.{change_edit, edit_command, entry_argument, name_or}
+use Rattle.pylock_run.specs.Line.Commands.{policy_argument, tags_argument, variable_argument}
 use Rattle.pylock_run.specs.declared.line.commands.Command.{Command}
 use Rattle.pylock_run.specs.declared.line.commands.Command.TheVariants as command
 use Rattle.pylock_run.specs.declared.line.refusal.LineRefusal.{LineRefusal}
@@ -46,9 +46,7 @@ named_change change name = do
 
 -- a change of its environment
 abbrev pub change_command : Result Change LineRefusal → Result Command LineRefusal
-change_command read = do
-  change ← read
-  Ok (command.Edit (edit.Environment change))
+change_command read = edit_command (change_edit read)
 
 -- the texts of tags, with an LF between two; none where there is no text
 abbrev pub tag_texts : List ℕ → List (List ℕ)

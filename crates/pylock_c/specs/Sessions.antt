@@ -46,9 +46,9 @@ started read =
 -- ---- edits
 
 -- the session after a command, and how many judgements that made
-abbrev pub obeyed : SessionValue → Command → Result (SessionValue × ℕ) LineRefusal
-obeyed session command.Show = Ok (session, 0)
-obeyed session (command.Edit edit) = do
+abbrev pub session_after : SessionValue → Command → Result (SessionValue × ℕ) LineRefusal
+session_after session command.Show = Ok (session, 0)
+session_after session (command.Edit edit) = do
   state ← after_command session.state (command.Edit edit)
   Ok (session_at state (touched edit session.state), length (touched edit session.state))
 
@@ -57,7 +57,7 @@ abbrev pub obeyed_in : Result Command LineRefusal → Option Object
     → Result (Option Object × ℕ) Refusal
 obeyed_in read object = do
   session ← session_in object
-  after ← refuse_as line_refusal (read >>= obeyed session)
+  after ← refuse_as line_refusal (read >>= session_after session)
   Ok (Some (kind.Session after.0), after.1)
 
 -- an edit of what a slot keeps: the object after it and its judgements, or the refusal, which

@@ -3,11 +3,11 @@
 ghost use Rattle.std.specs.Prelude.{◌≡◌, IfOk, Result, map};
 ghost use Rattle.std.specs.List.{slice_split};
 ghost use Rattle.pytext.specs.Agreement.{Gives};
-ghost use Rattle.pymark_core.specs.declared.change.Change.{Change as Changed};
+ghost use Rattle.pymark_core.specs.declared.change.Change.{Change as ChangeValue};
 ghost use Rattle.pymark_core.specs.declared.change.Change.TheVariants as change;
 ghost use Rattle.pylock_core.specs.declared.edit.Edit.TheVariants as edit;
 ghost use Rattle.pylock_run.specs.Line.{is_lf};
-ghost use Rattle.pylock_run.specs.declared.line.refusal.LineRefusal.{LineRefusal as Unread};
+ghost use Rattle.pylock_run.specs.declared.line.refusal.LineRefusal.{LineRefusal as RefusalValue};
 ghost use Rattle.pylock_run.specs.declared.line.refusal.LineRefusal.TheVariants.{Memory};
 ghost use Rattle.pylock_c.specs.Edits.{change_command, entry_command, named_change};
 ghost use Rattle.pylock_c.specs.Edits.{policy_command, set_change, tag_texts, tags_command};
@@ -77,7 +77,8 @@ pub(crate) fn drop_group_change(alloc: Global, name: &[u8]) -> Result<Change, Li
 
 /// The command that changes the environment.
 pub(crate) fn change_command(change: Result<Change, LineRefusal>) -> Result<Command, LineRefusal>
-    ensures { (definition : Result Changed Unread) → Gives Memory (λ c. c) change definition
+    ensures { (definition : Result ChangeValue RefusalValue)
+        → Gives Memory (λ c. c) change definition
         → Gives Memory (λ c. c) result (change_command definition) }
 {
     Ok(Command::Edit(Edit::Environment(change?)))

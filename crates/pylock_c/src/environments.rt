@@ -2,9 +2,9 @@
 
 ghost use Rattle.std.specs.Prelude.{◌≡◌, None, Result, Some};
 ghost use Rattle.pytext.specs.Agreement.{Gives};
-ghost use Rattle.pymark_core.specs.declared.change.Change.{Change as Changed};
+ghost use Rattle.pymark_core.specs.declared.change.Change.{Change as ChangeValue};
 ghost use Rattle.pymark_core.specs.declared.change.Change.TheVariants as change;
-ghost use Rattle.pylock_run.specs.declared.line.refusal.LineRefusal.{LineRefusal as Unread};
+ghost use Rattle.pylock_run.specs.declared.line.refusal.LineRefusal.{LineRefusal as RefusalValue};
 ghost use Rattle.pylock_run.specs.declared.line.refusal.LineRefusal.TheVariants as line;
 ghost use Rattle.pylock_c.specs.Answer.{Edits, Tells};
 ghost use Rattle.pylock_c.specs.Edits.{named_change, set_change, unset_change};
@@ -40,7 +40,8 @@ pub extern "C" fn pylock_environment_new(alloc: Global, environment: &mut Slot) 
 
 /// Changes the environment that is kept. Where none is, the change isn't looked at.
 fn change_in(object: &mut Object, change: Result<Change, LineRefusal>) -> Result<(), Refusal>
-    ensures { (definition : Result Changed Unread) → Gives line.Memory (λ c. c) change definition
+    ensures { (definition : Result ChangeValue RefusalValue)
+        → Gives line.Memory (λ c. c) change definition
         → Edits (changed_in definition (Some object.old)) (Some object.old) (Some object.new)
         result }
 {
@@ -52,7 +53,8 @@ fn change_in(object: &mut Object, change: Result<Change, LineRefusal>) -> Result
 
 /// Changes the environment of a slot, and answers the code.
 fn change_slot(alloc: Global, slot: &mut Slot, change: Result<Change, LineRefusal>) -> i32
-    ensures { (definition : Result Changed Unread) → Gives line.Memory (λ c. c) change definition
+    ensures { (definition : Result ChangeValue RefusalValue)
+        → Gives line.Memory (λ c. c) change definition
         → Tells (changed_in definition (object slot.old)) (object slot.old) (object slot.new)
         result }
 {

@@ -6,16 +6,16 @@ ghost use Rattle.pymark_core.specs.declared.change.Change.TheVariants as change;
 ghost use Rattle.pylock_core.specs.declared.edit.Edit.TheVariants as edit;
 ghost use Rattle.pylock_run.specs.Line.{command_of};
 ghost use Rattle.pylock_run.specs.Report.{open_state};
-ghost use Rattle.pylock_run.specs.declared.line.commands.Command.{Command as Commanded};
+ghost use Rattle.pylock_run.specs.declared.line.commands.Command.{Command as CommandValue};
 ghost use Rattle.pylock_run.specs.declared.line.commands.Command.TheVariants as command;
-ghost use Rattle.pylock_run.specs.declared.line.refusal.LineRefusal.{LineRefusal as Unread};
+ghost use Rattle.pylock_run.specs.declared.line.refusal.LineRefusal.{LineRefusal as RefusalValue};
 ghost use Rattle.pylock_run.specs.declared.line.refusal.LineRefusal.TheVariants as line;
 ghost use Rattle.pylock_run.specs.declared.report.opening.OpenError.TheVariants as unopened;
 ghost use Rattle.pylock_c.specs.Answer.{Tells};
 ghost use Rattle.pylock_c.specs.Edits.{change_command, entry_command, named_change};
 ghost use Rattle.pylock_c.specs.Edits.{policy_command, set_change, tags_command, unset_change};
 ghost use Rattle.pylock_c.specs.Opening.{Opens};
-ghost use Rattle.pylock_c.specs.Sessions.{Counts, obeyed, obeyed_in, started};
+ghost use Rattle.pylock_c.specs.Sessions.{Counts, session_after, obeyed_in, started};
 ghost use Rattle.pylock_c.specs.Slot.{object};
 ghost use Rattle.pylock_c.specs.declared.object.Object.{Object as Kind};
 ghost use Rattle.pylock_c.specs.declared.refusal.Refusal.{Refusal as Refused};
@@ -62,7 +62,7 @@ pub extern "C" fn pylock_session_start(
 /// Obeys the command, and answers how many judgements that made.
 fn obey(session: &mut Session, command: Command) -> Result<u64, LineRefusal>
     ensures ok { Gives line.Memory (λ judgements. (session.new, judgements)) result
-        (obeyed session.old command) }
+        (session_after session.old command) }
     ensures err { OnErr result (session.new ≡ session.old) }
 {
     match command {
@@ -73,7 +73,7 @@ fn obey(session: &mut Session, command: Command) -> Result<u64, LineRefusal>
 
 /// Obeys the command in the session that is kept. Where none is, the command isn't looked at.
 fn obey_in(object: &mut Object, command: Result<Command, LineRefusal>) -> Result<u64, Refusal>
-    ensures { (definition : Result Commanded Unread)
+    ensures { (definition : Result CommandValue RefusalValue)
         → Gives line.Memory (λ c. c) command definition
         → Counts (obeyed_in definition (Some object.old)) (Some object.old) (Some object.new)
         result }
@@ -107,7 +107,8 @@ fn obey_slot(
     command: Result<Command, LineRefusal>,
     judged: &mut u64,
 ) -> i32
-    ensures { (definition : Result Commanded Unread) → Gives line.Memory (λ c. c) command definition
+    ensures { (definition : Result CommandValue RefusalValue)
+        → Gives line.Memory (λ c. c) command definition
         → Tells (obeyed_in definition (object slot.old)) (object slot.old, judged.old)
         (object slot.new, judged.new) result }
 {
@@ -123,175 +124,171 @@ fn obey_slot(
 #[unsafe(no_mangle)]
 pub extern "C" fn pylock_session_set(
     alloc: Global,
-    session: &mut Slot,
+    slot: &mut Slot,
     variable: &[u8],
     text: &[u8],
     judged: &mut u64,
 ) -> i32
-    ensures { Tells (obeyed_in (change_command (set_change variable.now text.now)) (object session.old))
-        (object session.old, judged.old) (object session.new, judged.new) result }
+    ensures { Tells (obeyed_in (change_command (set_change variable.now text.now)) (object slot.old))
+        (object slot.old, judged.old) (object slot.new, judged.new) result }
 {
-    obey_slot(alloc, session, change_command(set_change(alloc, variable, text)), judged)
+    obey_slot(alloc, slot, change_command(set_change(alloc, variable, text)), judged)
 }
 
 /// Leaves a variable without a text.
 #[unsafe(no_mangle)]
 pub extern "C" fn pylock_session_unset(
     alloc: Global,
-    session: &mut Slot,
+    slot: &mut Slot,
     variable: &[u8],
     judged: &mut u64,
 ) -> i32
-    ensures { Tells (obeyed_in (change_command (unset_change variable.now)) (object session.old))
-        (object session.old, judged.old) (object session.new, judged.new) result }
+    ensures { Tells (obeyed_in (change_command (unset_change variable.now)) (object slot.old))
+        (object slot.old, judged.old) (object slot.new, judged.new) result }
 {
-    obey_slot(alloc, session, change_command(unset_change(variable)), judged)
+    obey_slot(alloc, slot, change_command(unset_change(variable)), judged)
 }
 
 /// Asks for an extra.
 #[unsafe(no_mangle)]
 pub extern "C" fn pylock_session_add_extra(
     alloc: Global,
-    session: &mut Slot,
+    slot: &mut Slot,
     name: &[u8],
     judged: &mut u64,
 ) -> i32
-    ensures { Tells
-        (obeyed_in (change_command (named_change change.AddExtra name.now)) (object session.old))
-        (object session.old, judged.old) (object session.new, judged.new) result }
+    ensures { Tells (obeyed_in (change_command (named_change change.AddExtra name.now))
+        (object slot.old)) (object slot.old, judged.old) (object slot.new, judged.new) result }
 {
-    obey_slot(alloc, session, change_command(add_extra_change(alloc, name)), judged)
+    obey_slot(alloc, slot, change_command(add_extra_change(alloc, name)), judged)
 }
 
 /// Asks for an extra no more.
 #[unsafe(no_mangle)]
 pub extern "C" fn pylock_session_drop_extra(
     alloc: Global,
-    session: &mut Slot,
+    slot: &mut Slot,
     name: &[u8],
     judged: &mut u64,
 ) -> i32
-    ensures { Tells
-        (obeyed_in (change_command (named_change change.DropExtra name.now)) (object session.old))
-        (object session.old, judged.old) (object session.new, judged.new) result }
+    ensures { Tells (obeyed_in (change_command (named_change change.DropExtra name.now))
+        (object slot.old)) (object slot.old, judged.old) (object slot.new, judged.new) result }
 {
-    obey_slot(alloc, session, change_command(drop_extra_change(alloc, name)), judged)
+    obey_slot(alloc, slot, change_command(drop_extra_change(alloc, name)), judged)
 }
 
 /// Asks for a dependency group.
 #[unsafe(no_mangle)]
 pub extern "C" fn pylock_session_add_group(
     alloc: Global,
-    session: &mut Slot,
+    slot: &mut Slot,
     name: &[u8],
     judged: &mut u64,
 ) -> i32
-    ensures { Tells
-        (obeyed_in (change_command (named_change change.AddGroup name.now)) (object session.old))
-        (object session.old, judged.old) (object session.new, judged.new) result }
+    ensures { Tells (obeyed_in (change_command (named_change change.AddGroup name.now))
+        (object slot.old)) (object slot.old, judged.old) (object slot.new, judged.new) result }
 {
-    obey_slot(alloc, session, change_command(add_group_change(alloc, name)), judged)
+    obey_slot(alloc, slot, change_command(add_group_change(alloc, name)), judged)
 }
 
 /// Asks for a dependency group no more.
 #[unsafe(no_mangle)]
 pub extern "C" fn pylock_session_drop_group(
     alloc: Global,
-    session: &mut Slot,
+    slot: &mut Slot,
     name: &[u8],
     judged: &mut u64,
 ) -> i32
-    ensures { Tells
-        (obeyed_in (change_command (named_change change.DropGroup name.now)) (object session.old))
-        (object session.old, judged.old) (object session.new, judged.new) result }
+    ensures { Tells (obeyed_in (change_command (named_change change.DropGroup name.now))
+        (object slot.old)) (object slot.old, judged.old) (object slot.new, judged.new) result }
 {
-    obey_slot(alloc, session, change_command(drop_group_change(alloc, name)), judged)
+    obey_slot(alloc, slot, change_command(drop_group_change(alloc, name)), judged)
 }
 
 /// Puts these tags in place of those that were there.
 #[unsafe(no_mangle)]
 pub extern "C" fn pylock_session_tags(
     alloc: Global,
-    session: &mut Slot,
+    slot: &mut Slot,
     tags: &[u8],
     judged: &mut u64,
 ) -> i32
-    ensures { Tells (obeyed_in (tags_command tags.now) (object session.old))
-        (object session.old, judged.old) (object session.new, judged.new) result }
+    ensures { Tells (obeyed_in (tags_command tags.now) (object slot.old))
+        (object slot.old, judged.old) (object slot.new, judged.new) result }
 {
-    obey_slot(alloc, session, tags_command(alloc, tags), judged)
+    obey_slot(alloc, slot, tags_command(alloc, tags), judged)
 }
 
 /// Adds an entry behind all others.
 #[unsafe(no_mangle)]
 pub extern "C" fn pylock_session_add(
     alloc: Global,
-    session: &mut Slot,
+    slot: &mut Slot,
     entry: &[u8],
     judged: &mut u64,
 ) -> i32
-    ensures { Tells (obeyed_in (entry_command edit.Add entry.now) (object session.old))
-        (object session.old, judged.old) (object session.new, judged.new) result }
+    ensures { Tells (obeyed_in (entry_command edit.Add entry.now) (object slot.old))
+        (object slot.old, judged.old) (object slot.new, judged.new) result }
 {
-    obey_slot(alloc, session, add_command(alloc, entry), judged)
+    obey_slot(alloc, slot, add_command(alloc, entry), judged)
 }
 
 /// Puts an entry in place of that of the number.
 #[unsafe(no_mangle)]
 pub extern "C" fn pylock_session_put(
     alloc: Global,
-    session: &mut Slot,
+    slot: &mut Slot,
     number: u32,
     entry: &[u8],
     judged: &mut u64,
 ) -> i32
-    ensures { Tells (obeyed_in (entry_command (edit.Put number) entry.now) (object session.old))
-        (object session.old, judged.old) (object session.new, judged.new) result }
+    ensures { Tells (obeyed_in (entry_command (edit.Put number) entry.now) (object slot.old))
+        (object slot.old, judged.old) (object slot.new, judged.new) result }
 {
-    obey_slot(alloc, session, put_command(alloc, number, entry), judged)
+    obey_slot(alloc, slot, put_command(alloc, number, entry), judged)
 }
 
 /// Takes an entry out.
 #[unsafe(no_mangle)]
 pub extern "C" fn pylock_session_del(
     alloc: Global,
-    session: &mut Slot,
+    slot: &mut Slot,
     number: u32,
     judged: &mut u64,
 ) -> i32
-    ensures { Tells (obeyed_in (Ok (command.Edit (edit.Del number))) (object session.old))
-        (object session.old, judged.old) (object session.new, judged.new) result }
+    ensures { Tells (obeyed_in (Ok (command.Edit (edit.Del number))) (object slot.old))
+        (object slot.old, judged.old) (object slot.new, judged.new) result }
 {
-    obey_slot(alloc, session, Ok(Command::Edit(Edit::Del(number))), judged)
+    obey_slot(alloc, slot, Ok(Command::Edit(Edit::Del(number))), judged)
 }
 
 /// Says which files a package may be installed from.
 #[unsafe(no_mangle)]
 pub extern "C" fn pylock_session_policy(
     alloc: Global,
-    session: &mut Slot,
+    slot: &mut Slot,
     name: &[u8],
     policy: &[u8],
     judged: &mut u64,
 ) -> i32
-    ensures { Tells (obeyed_in (policy_command name.now policy.now) (object session.old))
-        (object session.old, judged.old) (object session.new, judged.new) result }
+    ensures { Tells (obeyed_in (policy_command name.now policy.now) (object slot.old))
+        (object slot.old, judged.old) (object slot.new, judged.new) result }
 {
-    obey_slot(alloc, session, policy_command(alloc, name, policy), judged)
+    obey_slot(alloc, slot, policy_command(alloc, name, policy), judged)
 }
 
 /// Makes the edit that an edit line says.
 #[unsafe(no_mangle)]
 pub extern "C" fn pylock_session_line(
     alloc: Global,
-    session: &mut Slot,
+    slot: &mut Slot,
     line: &[u8],
     judged: &mut u64,
 ) -> i32
-    ensures { Tells (obeyed_in (command_of line.now) (object session.old))
-        (object session.old, judged.old) (object session.new, judged.new) result }
+    ensures { Tells (obeyed_in (command_of line.now) (object slot.old))
+        (object slot.old, judged.old) (object slot.new, judged.new) result }
 {
-    obey_slot(alloc, session, read_line(alloc, line), judged)
+    obey_slot(alloc, slot, read_line(alloc, line), judged)
 }
 
 /// Empties the slot.

@@ -2,7 +2,8 @@
 //! by all of an input, over sources and sinks of bytes.
 //!
 //! It stands on `pylock_core`, whose sessions it edits. The host gives it a [`Source`] of bytes and
-//! a [`Sink`]; so it runs over memory too ([`Pieces`], [`Room`]), where its contracts say each byte.
+//! a [`Sink`]; so it runs over memory too ([`Pieces`], [`Room`]), where its contracts say each
+//! byte.
 //!
 //! Begin with [`run`], whose contract is the headline of `docs/CONTRACTS.md`: the first answer, and
 //! an answer after each edit line. [`open`] starts the session of a lock and an environment, and

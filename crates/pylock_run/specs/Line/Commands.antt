@@ -139,8 +139,8 @@ change_after word argument =
     else Err refusal.Command
 
 -- the edit of a change
-abbrev pub changed : Result Change LineRefusal → Result Edit LineRefusal
-changed read = read >>= λ change. Ok (edit.Environment change)
+abbrev pub change_edit : Result Change LineRefusal → Result Edit LineRefusal
+change_edit read = read >>= λ change. Ok (edit.Environment change)
 
 -- the edit that they ask for
 unfoldable pub edit_after : List ℕ → Option (List ℕ) → Result Edit LineRefusal
@@ -150,13 +150,14 @@ edit_after word argument =
     else if bytes_eq word (codes "put") then put_after argument
     else if bytes_eq word (codes "del") then del_after argument
     else if bytes_eq word (codes "policy") then policy_after argument
-    else changed (change_after word argument)
+    else change_edit (change_after word argument)
 
 -- the command of an edit
-abbrev pub edited : Result Edit LineRefusal → Result Command LineRefusal
-edited read = read >>= λ edit. Ok (command.Edit edit)
+abbrev pub edit_command : Result Edit LineRefusal → Result Command LineRefusal
+edit_command read = read >>= λ edit. Ok (command.Edit edit)
 
 -- what a command's word and its argument ask for
 unfoldable pub command_after : List ℕ → Option (List ℕ) → Result Command LineRefusal
 command_after word argument =
-    if bytes_eq word (codes "show") then show_after argument else edited (edit_after word argument)
+    if bytes_eq word (codes "show") then show_after argument
+    else edit_command (edit_after word argument)

@@ -125,8 +125,7 @@ pub fn push_next_field(out: &mut Vec<u8>, text: Option<&str>) -> Result<(), Allo
 pub fn push_last_word(out: &mut Vec<u8>, word: &[u8]) -> Result<(), AllocError>
     ensures { OnOk result (out.new.items ≡ out.old.items ++ line_of [] (word.now ∷ [])) }
 {
-    out.push(b'\t')?;
-    out.extend_from_slice(word)?;
+    push_word(out, word)?;
     out.push(b'\n')?;
     Ok(())
 }
