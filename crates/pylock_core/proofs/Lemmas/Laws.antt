@@ -1,0 +1,3 @@
+-- The laws of the definitions alone.
+pub mod Answers
+pub mod Fates
