@@ -7,7 +7,9 @@ use Rattle.std.proofs.lemmas.Slice.Eq.{bytes_eq-Decides}
 use Rattle.std.proofs.lemmas.Bool.{ne_eqb, eqb-true, eqb-false}
 use Rattle.std.proofs.lemmas.List.{get_or-map, get_or-set_same, get_or-set_other, length-map, length-set}
 use Rattle.std.specs.FinSet as set_of
-use Rattle.pyver_core.specs.Name.{normal_name}
+use Rattle.pymark_core.specs.Change.{changed, changed_key}
+use Rattle.pymark_core.specs.declared.change.Change.{Change}
+use Rattle.pymark_core.specs.declared.change.Change.TheVariants as change
 use Rattle.pymark_core.specs.Environment.{EnvironmentValue, Texts}
 use Rattle.pymark_core.specs.Marker.Keys.{key_number}
 use Rattle.pymark_core.specs.declared.marker.keys.Key.{Key}
@@ -18,7 +20,7 @@ use Rattle.pymark_core.specs.declared.variable.Var.{Var}
 use Rattle.pymark_core.specs.declared.variable.Var.TheVariants as var
 use Rattle.pywheel_core.specs.Tag.{TagValue}
 use Rattle.pylock_readers.specs.Entry.{EntryValue}
-use Rattle.pylock_core.specs.Inner.Again.{AllStand, AllWithin, DifferAt, after_head, changed, fresh_row, fresh_standing, has_head, key_of, row_anew, row_stood, rows_anew, standing_of, standings_anew, stood, stored}
+use Rattle.pylock_core.specs.Inner.Again.{AllStand, AllWithin, DifferAt, after_head, fresh_row, fresh_standing, has_head, row_anew, row_stood, rows_anew, standing_of, standings_anew, stood, stored}
 use Rattle.pylock_core.specs.Inner.Conditions.{Condition, IsUnder}
 use Rattle.pylock_core.specs.Inner.Index.{list_at}
 use Rattle.pylock_core.specs.Session.State.{Rises}
@@ -30,8 +32,6 @@ use Rattle.pylock_core.specs.Session.Judgement.{AgreeAtKey, IndexKey, Marked, Of
 use Rattle.pylock_core.specs.Session.Steps.{head_fault, standing}
 use Rattle.pylock_core.specs.declared.answer.Standing.{Standing}
 use Rattle.pylock_core.specs.declared.edit.Policy.{Policy}
-use Rattle.pylock_core.specs.declared.session.changes.Change.{Change}
-use Rattle.pylock_core.specs.declared.session.changes.Change.TheVariants as change
 use Rattle.pylock_core.specs.declared.edit.Policy.TheVariants.{Any}
 use Rattle.pylock_core.specs.declared.session.names.Names.{Names}
 use Rattle.pylock_core.specs.declared.session.parts.Parts.{Parts}
@@ -471,13 +471,13 @@ groups_apart e names (Of v) apart = refl
 groups_apart e names Extras apart = refl
 groups_apart e names Groups apart = absurd (apart refl)
 
-pub changed_differs : (change : Change) (e : EnvironmentValue) (other : Key) → (other ≡ key_of change → ⊥) → AgreeAt other e (changed change e)
+pub changed_differs : (change : Change) (e : EnvironmentValue) (other : Key) → (other ≡ changed_key change → ⊥) → AgreeAt other e (changed change e)
 changed_differs (change.Set variable text) e other apart = text_apart e variable (Some text) other apart
 changed_differs (change.Unset variable) e other apart = text_apart e variable None other apart
-changed_differs (change.AddExtra name) e other apart = extras_apart e (set_of.insert e.extras (normal_name name)) other apart
-changed_differs (change.DropExtra name) e other apart = extras_apart e (set_of.remove e.extras (normal_name name)) other apart
-changed_differs (change.AddGroup name) e other apart = groups_apart e (set_of.insert e.groups (normal_name name)) other apart
-changed_differs (change.DropGroup name) e other apart = groups_apart e (set_of.remove e.groups (normal_name name)) other apart
+changed_differs (change.AddExtra name) e other apart = extras_apart e (set_of.insert e.extras name) other apart
+changed_differs (change.DropExtra name) e other apart = extras_apart e (set_of.remove e.extras name) other apart
+changed_differs (change.AddGroup name) e other apart = groups_apart e (set_of.insert e.groups name) other apart
+changed_differs (change.DropGroup name) e other apart = groups_apart e (set_of.remove e.groups name) other apart
 
 -- ---- a policy
 

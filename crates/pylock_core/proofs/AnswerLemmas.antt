@@ -12,8 +12,8 @@ use Rattle.pywheel_core.specs.Tag.{TagValue}
 use Rattle.pywheel_core.specs.Wheel.Value.{WheelValue}
 use Rattle.pylock_readers.specs.Entry.{EntryValue, FileValue, VcsValue, DirectoryValue, ArchiveValue, wheel_name, wheel_names}
 use Rattle.pylock_core.specs.Session.Picks.{HasSource, IsFaultIn, IsPickAmong, StandsAmong}
-use Rattle.pylock_core.specs.Session.State.{Policies, State, policy_of}
-use Rattle.pylock_core.specs.Session.Steps.{FirstFault, answer, answer_after, answer_by, best_wheel, by_standing, head_fault, is_among, pick_before, picks, picks_after, put_before, sdist_source, slate, source_of, standing}
+use Rattle.pylock_core.specs.Session.State.{Policies, State, is_among, policy_of}
+use Rattle.pylock_core.specs.Session.Steps.{FirstFault, answer, answer_after, answer_by, best_wheel, by_standing, head_fault, pick_before, picks, picks_after, put_before, sdist_source, slate, source_of, standing}
 use Rattle.pylock_readers.specs.Entry.Kinds.{has_conflict}
 use Rattle.pylock_core.specs.declared.answer.Answer.{Answer}
 use Rattle.pylock_core.specs.declared.answer.Answer.TheVariants.{Plan, Fault}

@@ -8,8 +8,8 @@ use Rattle.pymark_core.specs.Environment.{EnvironmentValue}
 use Rattle.pywheel_core.specs.Tag.{TagValue}
 use Rattle.pylock_readers.specs.Entry.{EntryValue}
 use Rattle.pylock_core.specs.Session.Fates.{explained_answer, fate_by, fate_picks, first_active, first_slating_fault, own_fate, picked, stands_active}
-use Rattle.pylock_core.specs.Session.State.{NumbersRise, Policies, Rises, State, policy_of}
-use Rattle.pylock_core.specs.Session.Steps.{FirstFault, answer, answer_after, answer_by, by_standing, head_fault, is_among, pick_before, picks, picks_after, put_before, slate, source_of, standing}
+use Rattle.pylock_core.specs.Session.State.{NumbersRise, Policies, Rises, State, is_among, policy_of}
+use Rattle.pylock_core.specs.Session.Steps.{FirstFault, answer, answer_after, answer_by, by_standing, head_fault, pick_before, picks, picks_after, put_before, slate, source_of, standing}
 use Rattle.pylock_readers.specs.Entry.Kinds.{has_conflict}
 use Rattle.pylock_core.specs.declared.answer.FaultCode.TheVariants.{Ambiguous, Sources}
 use Rattle.pylock_core.specs.declared.answer.Pick.{Pick}

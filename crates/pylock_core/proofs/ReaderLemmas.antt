@@ -4,8 +4,7 @@ use Rattle.std.specs.List.{filter}
 use Rattle.std.proofs.lemmas.Bool.{ne_eqb, lt-ltb, le-ltb}
 use Rattle.pylock_core.specs.Inner.Index.{put_in, take_out, moved}
 use Rattle.std.specs.Str.{bytes_eq}
-use Rattle.pyver_core.specs.Name.{normal_name}
-use Rattle.pymark_core.specs.declared.marker.keys.Key.TheVariants.{Of, Extras, Groups}
+use Rattle.pymark_core.specs.Change.{changed_key}
 use Rattle.pylock_core.specs.Session.State.{NumbersRise, Rises, State}
 use Rattle.pylock_core.specs.Inner.Rows.{in_rows, passes}
 use Rattle.pylock_core.specs.Session.Judgement.{IndexKey, Marked, OfTags, numbers_where, and_head, entry_reads, head_reads, readers, touched}
@@ -111,15 +110,10 @@ pub readers_rise : (key : IndexKey) (state : State) → NumbersRise state → Ri
 readers_rise key state rise = head_rises (head_reads key state.head) (numbers_where (entry_reads key) state.entries) (filtered_rise (entry_reads key) 1 state.entries rise)
 
 pub touched_rises : (edit : Edit) (state : State) → NumbersRise state → Rises 0 (touched edit state)
-touched_rises (edit.Set variable text) state rise = readers_rise (Marked (Of variable)) state rise
-touched_rises (edit.Unset variable) state rise = readers_rise (Marked (Of variable)) state rise
-touched_rises (edit.AddExtra name) state rise = readers_rise (Marked Extras) state rise
-touched_rises (edit.DropExtra name) state rise = readers_rise (Marked Extras) state rise
-touched_rises (edit.AddGroup name) state rise = readers_rise (Marked Groups) state rise
-touched_rises (edit.DropGroup name) state rise = readers_rise (Marked Groups) state rise
+touched_rises (edit.Environment change) state rise = readers_rise (Marked (changed_key change)) state rise
 touched_rises (edit.Tags tags) state rise = readers_rise OfTags state rise
 touched_rises (edit.Add entry) state rise = (omega arith, tt)
 touched_rises (edit.Put n entry) state rise = (omega arith, tt)
 touched_rises (edit.Del n) state rise = tt
 touched_rises (edit.Policy name policy) state rise =
-    rises_from 1 0 (touched (edit.Policy name policy) state) (omega arith) (filtered_rise (λ entry. bytes_eq (normal_name name) entry.name) 1 state.entries rise)
+    rises_from 1 0 (touched (edit.Policy name policy) state) (omega arith) (filtered_rise (λ entry. bytes_eq name entry.name) 1 state.entries rise)

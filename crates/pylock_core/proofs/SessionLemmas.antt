@@ -13,8 +13,8 @@ use Rattle.pylock_core.specs.Inner.Parts.{IsJudged, IsNamed, IsSession, OfBoth, 
 use Rattle.pylock_core.specs.Inner.Pass.{NamesBelow, checked_standing, conflict_among, file_source, has_number, pick_rows, picks_after_rows, put_row, row_source, slate_rows, source_among}
 use Rattle.pylock_core.specs.Inner.Rows.{in_rows}
 use Rattle.pylock_core.specs.Session.Judgement.{all_numbers, verdict_of}
-use Rattle.pylock_core.specs.Session.State.{State, entry_at, if_entry, policy_of, with_entry, with_next, without}
-use Rattle.pylock_core.specs.Session.Steps.{FirstFault, answer, answer_after, answer_by, best_wheel, by_standing, is_among, pick_before, picks, picks_after, put_before, sdist_source, slate, source_of, standing}
+use Rattle.pylock_core.specs.Session.State.{State, entry_at, if_entry, is_among, policy_of, with_entry, with_next, without}
+use Rattle.pylock_core.specs.Session.Steps.{FirstFault, answer, answer_after, answer_by, best_wheel, by_standing, pick_before, picks, picks_after, put_before, sdist_source, slate, source_of, standing}
 use Rattle.pylock_readers.specs.Entry.Kinds.{has_conflict}
 use Rattle.pylock_core.specs.declared.answer.FaultCode.TheVariants.{Ambiguous, Sources as ManySources}
 use Rattle.pylock_core.specs.declared.answer.PickSource.TheVariants as source

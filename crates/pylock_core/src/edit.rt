@@ -4,26 +4,16 @@ ghost use Rattle.std.specs.Prelude.{◌≡◌};
 ghost use Rattle.pylock_core.specs.declared.edit.EditError.TheVariants.{Memory};
 
 use pylock_readers::Entry;
-use pymark_core::Var;
-use pyver_core::Label;
+use pymark_core::Change;
+use pyver_core::NormalName;
 use pywheel_core::TagList;
 use std::alloc::AllocError;
 
-/// An edit of a session. An entry is named by its number; a name is taken in normal form (PEP 503).
+/// An edit of a session. An entry is named by its number; a name is in normal form (PEP 503).
 #[derive(Drop)]
 pub enum Edit {
-    /// Gives the variable the text.
-    Set(Var, Label),
-    /// Leaves the variable without a text.
-    Unset(Var),
-    /// Asks for the extra.
-    AddExtra(Label),
-    /// Asks for the extra no more.
-    DropExtra(Label),
-    /// Asks for the dependency group.
-    AddGroup(Label),
-    /// Asks for the dependency group no more.
-    DropGroup(Label),
+    /// Changes the environment: a variable, an extra or a group.
+    Environment(Change),
     /// Puts these tags in place of those that were there.
     Tags(TagList),
     /// Adds the entry after all others, with the next number.
@@ -33,7 +23,7 @@ pub enum Edit {
     /// Takes the entry of this number out of the session; the number is never used again.
     Del(u32),
     /// Gives the name the policy.
-    Policy(Label, Policy),
+    Policy(NormalName, Policy),
 }
 
 /// Why an edit is refused.

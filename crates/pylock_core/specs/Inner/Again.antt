@@ -2,11 +2,9 @@
 use Rattle.std.specs.Prelude.{◌≡◌, ℕ, ◌-◌, ◌<◌, ◌==◌, Bool, false, List, [], ◌∷◌}
 use Rattle.std.specs.Prelude.{map, length, Option, Some, None, IsSome}
 use Rattle.std.specs.Prelude.{slice_index_or, slice_set, if◌then◌else◌}
-use Rattle.pymark_core.specs.Environment.{EnvironmentValue, with_extra, with_group, with_variable}
-use Rattle.pymark_core.specs.Environment.{without_extra, without_group, without_variable}
+use Rattle.pymark_core.specs.Environment.{EnvironmentValue}
 use Rattle.pymark_core.specs.Marker.Value.{AgreeAt}
 use Rattle.pymark_core.specs.declared.marker.keys.Key.{Key}
-use Rattle.pymark_core.specs.declared.marker.keys.Key.TheVariants.{Of, Extras, Groups}
 use Rattle.pywheel_core.specs.Tag.{TagValue}
 use Rattle.pylock_readers.specs.Entry.{EntryValue}
 use Rattle.pylock_core.specs.Inner.Rows.{in_rows}
@@ -14,11 +12,7 @@ use Rattle.pylock_core.specs.Session.Judgement.{numbers_where, verdict_of}
 use Rattle.pylock_core.specs.Session.Steps.{standing}
 use Rattle.pylock_core.specs.declared.answer.Standing.{Standing}
 use Rattle.pylock_core.specs.declared.answer.Standing.TheVariants.{Active}
-use Rattle.pylock_core.specs.declared.edit.Edit.{Edit}
-use Rattle.pylock_core.specs.declared.edit.Edit.TheVariants as edit
 use Rattle.pylock_core.specs.declared.edit.Policy.{Policy}
-use Rattle.pylock_core.specs.declared.session.changes.Change.{Change}
-use Rattle.pylock_core.specs.declared.session.changes.Change.TheVariants as change
 use Rattle.pylock_core.specs.declared.session.parts.Parts.{Parts}
 use Rattle.pylock_core.specs.declared.session.row.Row.{Row}
 
@@ -116,30 +110,3 @@ after_head (n ∷ numbers) = if n == 0 then numbers else n ∷ numbers
 -- two environments differ at this key alone
 abbrev pub DifferAt : Key → EnvironmentValue → EnvironmentValue → Type 0
 DifferAt key e f = (other : Key) → (other ≡ key → ⊥) → AgreeAt other e f
-
--- what a change makes of an environment
-abbrev pub changed : Change → EnvironmentValue → EnvironmentValue
-changed (change.Set variable text) e = with_variable variable text e
-changed (change.Unset variable) e = without_variable variable e
-changed (change.AddExtra name) e = with_extra name e
-changed (change.DropExtra name) e = without_extra name e
-changed (change.AddGroup name) e = with_group name e
-changed (change.DropGroup name) e = without_group name e
-
--- the key that it changes
-abbrev pub key_of : Change → Key
-key_of (change.Set variable text) = Of variable
-key_of (change.Unset variable) = Of variable
-key_of (change.AddExtra name) = Extras
-key_of (change.DropExtra name) = Extras
-key_of (change.AddGroup name) = Groups
-key_of (change.DropGroup name) = Groups
-
--- the edit that makes it
-abbrev pub edit_of : Change → Edit
-edit_of (change.Set variable text) = edit.Set variable text
-edit_of (change.Unset variable) = edit.Unset variable
-edit_of (change.AddExtra name) = edit.AddExtra name
-edit_of (change.DropExtra name) = edit.DropExtra name
-edit_of (change.AddGroup name) = edit.AddGroup name
-edit_of (change.DropGroup name) = edit.DropGroup name

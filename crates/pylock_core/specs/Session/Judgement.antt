@@ -3,7 +3,7 @@ use Rattle.std.specs.Prelude.{◌≡◌, ℕ, ◌+◌, Bool, true, false, ◌||�
 use Rattle.std.specs.Prelude.{filter, Option, Some, None, is_some}
 use Rattle.std.specs.List.{list_any}
 use Rattle.std.specs.Str.{bytes_eq}
-use Rattle.pyver_core.specs.Name.{normal_name}
+use Rattle.pymark_core.specs.Change.{changed_key}
 use Rattle.pymark_core.specs.Environment.{EnvironmentValue}
 use Rattle.pymark_core.specs.Marker.Keys.{reads}
 use Rattle.pymark_core.specs.Marker.Reading.{MarkerValue}
@@ -116,18 +116,13 @@ index_of state = map (λ key. readers key state) keys
 
 -- the numbers of what is judged again after an edit, in increasing order
 abbrev pub touched : Edit → State → List ℕ
-touched (edit.Set variable text) state = readers (Marked (Of variable)) state
-touched (edit.Unset variable) state = readers (Marked (Of variable)) state
-touched (edit.AddExtra name) state = readers (Marked Extras) state
-touched (edit.DropExtra name) state = readers (Marked Extras) state
-touched (edit.AddGroup name) state = readers (Marked Groups) state
-touched (edit.DropGroup name) state = readers (Marked Groups) state
+touched (edit.Environment change) state = readers (Marked (changed_key change)) state
 touched (edit.Tags tags) state = readers OfTags state
 touched (edit.Add entry) state = (state.last + 1) ∷ []
 touched (edit.Put n entry) state = n ∷ []
 touched (edit.Del n) state = []
 touched (edit.Policy name policy) state =
-    numbers_where (λ entry. bytes_eq (normal_name name) entry.name) state.entries
+    numbers_where (λ entry. bytes_eq name entry.name) state.entries
 
 -- the numbers that the start judges: the head and every entry
 abbrev pub all_numbers : State → List ℕ

@@ -10,9 +10,10 @@ use Rattle.std.specs.FinSet as set
 use Rattle.std.specs.List.{enumerate_from, list_any}
 use Rattle.std.specs.Ordering.{nat_cmp}
 use Rattle.std.specs.Str.{bytes_eq}
-use Rattle.pyver_core.specs.Name.{normal_name}
-use Rattle.pymark_core.specs.Environment.{EnvironmentValue, with_extra, with_group, with_variable}
-use Rattle.pymark_core.specs.Environment.{without_extra, without_group, without_variable}
+use Rattle.pymark_core.specs.Change.{changed}
+use Rattle.pymark_core.specs.Environment.{EnvironmentValue, with_group}
+use Rattle.pymark_core.specs.declared.change.Change.{Change}
+use Rattle.pymark_core.specs.declared.change.Change.TheVariants as change
 use Rattle.pywheel_core.specs.Tag.{TagValue}
 use Rattle.pylock_readers.specs.Entry.{EntryValue}
 use Rattle.pylock_readers.specs.Lock.{HeadValue, LockValue}
@@ -89,9 +90,9 @@ without n es = filter (λ e. not (n == e.0)) es
 abbrev pub with_entry : ℕ → EntryValue → List (ℕ × EntryValue) → List (ℕ × EntryValue)
 with_entry n entry es = map (λ e. (e.0, if n == e.0 then entry else e.1)) es
 
--- whether the name, in normal form, is one of these
-abbrev pub is_known : List (List ℕ) → List ℕ → Bool
-is_known names name = list_any (bytes_eq (normal_name name)) names
+-- whether one of the names is this one
+abbrev pub is_among : List (List ℕ) → List ℕ → Bool
+is_among names name = list_any (bytes_eq name) names
 
 -- the policy of a name in normal form
 abbrev pub policy_of : Policies → List ℕ → Policy
@@ -107,15 +108,22 @@ with_policy policies name Source = map_of.insert policies name Source
 abbrev pub in_environment : EnvironmentValue → State → State
 in_environment environment state = record state { environment = environment }
 
--- an extra may be asked for where the lock names it, a group where it names it, as a default or not
+-- an extra may change where the lock names it, a group where it names it, as a default or not
 abbrev pub if_extra : List ℕ → State → State → Result State EditError
-if_extra name state next = if is_known state.head.extras name then Ok next else Err UnknownExtra
+if_extra name state next = if is_among state.head.extras name then Ok next else Err UnknownExtra
 
 abbrev pub if_group : List ℕ → State → State → Result State EditError
 if_group name state next =
-    if is_known state.head.groups name || is_known state.head.default_groups name
+    if is_among state.head.groups name || is_among state.head.default_groups name
     then Ok next
     else Err UnknownGroup
+
+abbrev pub if_named : Change → State → State → Result State EditError
+if_named (change.AddExtra name) state next = if_extra name state next
+if_named (change.DropExtra name) state next = if_extra name state next
+if_named (change.AddGroup name) state next = if_group name state next
+if_named (change.DropGroup name) state next = if_group name state next
+if_named _ state next = Ok next
 
 abbrev pub if_entry : ℕ → State → State → Result State EditError
 if_entry n state next = if is_some (entry_at n state.entries) then Ok next else Err NoEntry
@@ -137,22 +145,12 @@ takes_memory _ = true
 
 -- the state after an edit, or why the edit is refused
 abbrev pub apply : Edit → State → Result State EditError
-apply (edit.Set variable text) state =
-    Ok (in_environment (with_variable variable text state.environment) state)
-apply (edit.Unset variable) state =
-    Ok (in_environment (without_variable variable state.environment) state)
-apply (edit.AddExtra name) state =
-    if_extra name state (in_environment (with_extra name state.environment) state)
-apply (edit.DropExtra name) state =
-    if_extra name state (in_environment (without_extra name state.environment) state)
-apply (edit.AddGroup name) state =
-    if_group name state (in_environment (with_group name state.environment) state)
-apply (edit.DropGroup name) state =
-    if_group name state (in_environment (without_group name state.environment) state)
+apply (edit.Environment change) state =
+    if_named change state (in_environment (changed change state.environment) state)
 apply (edit.Tags tags) state = Ok (record state { tags = tags })
 apply (edit.Add entry) state = with_next entry state
 apply (edit.Put n entry) state =
     if_entry n state (record state { entries = with_entry n entry state.entries })
 apply (edit.Del n) state = if_entry n state (record state { entries = without n state.entries })
 apply (edit.Policy name policy) state =
-    Ok (record state { policies = with_policy state.policies (normal_name name) policy })
+    Ok (record state { policies = with_policy state.policies name policy })

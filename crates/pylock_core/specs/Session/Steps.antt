@@ -2,8 +2,6 @@
 use Rattle.std.specs.Prelude.{ℕ, Bool, true, false, List, [], ◌∷◌}
 use Rattle.std.specs.Prelude.{Option, Some, None, option_map, Result, Ok}
 use Rattle.std.specs.Prelude.{Err, if◌then◌else◌}
-use Rattle.std.specs.List.{list_any}
-use Rattle.std.specs.Str.{bytes_eq}
 use Rattle.pytext.specs.Options.{either}
 use Rattle.pyver_core.specs.Version.Parts.{Parts}
 use Rattle.pyver_core.specs.Set.Admission.{admits_all}
@@ -22,7 +20,7 @@ use Rattle.pywheel_core.specs.Tag.{TagValue}
 use Rattle.pylock_readers.specs.Entry.{EntryValue, wheel_names}
 use Rattle.pylock_readers.specs.Entry.Kinds.{has_conflict}
 use Rattle.pylock_readers.specs.Lock.{HeadValue}
-use Rattle.pylock_core.specs.Session.State.{State, Policies, policy_of}
+use Rattle.pylock_core.specs.Session.State.{State, Policies, is_among, policy_of}
 use Rattle.pylock_core.specs.declared.answer.Answer.{Answer}
 use Rattle.pylock_core.specs.declared.answer.Answer.TheVariants.{Plan, Fault}
 use Rattle.pylock_core.specs.declared.answer.FaultCode.{FaultCode}
@@ -112,10 +110,6 @@ abbrev pub standing : EntryValue → EnvironmentValue → Standing
 standing entry environment =
     marked_standing entry.marker environment
     (by_check (python_check entry.requires_python environment))
-
--- whether one of the names is this one
-abbrev pub is_among : List (List ℕ) → List ℕ → Bool
-is_among names name = list_any (bytes_eq name) names
 
 -- the entry put before the slated rest, unless the rest has a fault
 abbrev pub put_before : ℕ × EntryValue → Result (List (ℕ × EntryValue)) FirstFault

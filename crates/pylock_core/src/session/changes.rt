@@ -3,15 +3,14 @@
 ghost use Rattle.std.specs.Prelude.{◌≡◌, ◌++◌, Ok, Err, IfOk, IfErr, None, OnErr, OnOk, ◌||◌};
 ghost use Rattle.std.specs.Prelude.{◌<◌, true, false, length, slice_index_or, slice_set};
 ghost use Rattle.std.specs.Prelude.{unwrap_or};
-ghost use Rattle.pylock_core.specs.Inner.Again.{AllWithin, DifferAt, changed, edit_of, key_of};
-ghost use Rattle.pylock_core.specs.Inner.Again.{row_stood, stood, stored};
+ghost use Rattle.pymark_core.specs.Change.{changed};
+ghost use Rattle.pylock_core.specs.Inner.Again.{AllWithin, DifferAt, row_stood, stood, stored};
 ghost use Rattle.pylock_core.specs.Inner.Edits.{Leaves};
 ghost use Rattle.pylock_core.specs.Inner.Parts.{IsSession, shown, state_of};
 ghost use Rattle.pylock_core.specs.Session.Judgement.{Marked, readers};
-ghost use Rattle.pylock_core.specs.Session.State.{apply, in_environment, is_known};
+ghost use Rattle.pylock_core.specs.Session.State.{apply, in_environment, is_among};
 ghost use Rattle.pylock_core.specs.declared.edit.Edit.TheVariants as edit;
-ghost use Rattle.pylock_core.specs.declared.edit.EditError.TheVariants.{Memory, UnknownExtra};
-ghost use Rattle.pylock_core.specs.declared.edit.EditError.TheVariants.{UnknownGroup};
+ghost use Rattle.pylock_core.specs.declared.edit.EditError.TheVariants.{UnknownExtra, UnknownGroup};
 
 use crate::edit::{EditError, Policy};
 use crate::session::judged::Judged;
@@ -21,97 +20,49 @@ use crate::session::parts::Parts;
 use crate::session::room::put_at;
 use crate::session::row::{Row, stand_row};
 use crate::session::verdict::{HeadVerdict, StandingAnew};
+use pylock_readers::Head;
 use pymark_core::laws::marker_reads;
-use pymark_core::{Environment, Key, Var};
-use pyver_core::{Label, NormalName};
+use pymark_core::{Change, Environment, Key};
+use pyver_core::NormalName;
 use pywheel_core::TagList;
 use std::alloc::AllocError;
 
-/// A change of an environment.
-#[derive(Drop)]
-pub(crate) enum Change {
-    Set(Var, Label),
-    Unset(Var),
-    AddExtra(Label),
-    DropExtra(Label),
-    AddGroup(Label),
-    DropGroup(Label),
-}
-
-impl Change {
-    /// The key at which the environment changes.
-    fn key(&self) -> Key
-        ensures { result ≡ key_of self.now }
-    {
-        match self {
-            Change::Set(variable, _) | Change::Unset(variable) => Key::Of(*variable),
-            Change::AddExtra(_) | Change::DropExtra(_) => Key::Extras,
-            Change::AddGroup(_) | Change::DropGroup(_) => Key::Groups,
-        }
-    }
-
-    /// Makes it.
-    fn make(&self, environment: &mut Environment) -> Result<(), AllocError>
-        ensures { OnOk result (environment.new ≡ changed self.now environment.old) }
-    {
-        match self {
-            Change::Set(variable, text) => environment.set(*variable, text.as_str())?,
-            Change::Unset(variable) => environment.unset(*variable),
-            Change::AddExtra(name) => {
-                environment.add_extra(name.as_str())?;
-            }
-            Change::DropExtra(name) => {
-                environment.drop_extra(name.as_str())?;
-            }
-            Change::AddGroup(name) => {
-                environment.add_group(name.as_str())?;
-            }
-            Change::DropGroup(name) => {
-                environment.drop_group(name.as_str())?;
-            }
-        }
-        Ok(())
-    }
-
-    /// Whether the lock lets it be made: it names the extra or the group.
-    fn is_known(&self, parts: &Parts) -> Result<(), EditError>
-        ensures ok { OnOk result (apply (edit_of self.now) (state_of parts.now)
-            ≡ Ok (in_environment (changed self.now parts.now.environment) (state_of parts.now))) }
-        ensures refused { IfErr result (λ error. (error ≡ Memory → ⊥)
-            → apply (edit_of self.now) (state_of parts.now) ≡ Err error) }
-    {
-        match self {
-            Change::Set(_, _) | Change::Unset(_) => Ok(()),
-            Change::AddExtra(name) | Change::DropExtra(name) => has_extra(parts, name.as_str()),
-            Change::AddGroup(name) | Change::DropGroup(name) => has_group(parts, name.as_str()),
-        }
-    }
-}
-
-/// Refuses a name whose normal form isn't that of an extra of the lock.
-fn has_extra(parts: &Parts, name: &str) -> Result<(), EditError>
-    ensures known { OnOk result (is_known parts.now.head.extras name.now ≡ true) }
-    ensures refused { IfErr result (λ error. (error ≡ Memory → ⊥)
-        → (error ≡ UnknownExtra) × (is_known parts.now.head.extras name.now ≡ false)) }
+/// Refuses a change of an extra or a group that the lock doesn't name.
+fn check_named(parts: &Parts, change: &Change) -> Result<(), EditError>
+    ensures ok { OnOk result (apply (edit.Environment change.now) (state_of parts.now)
+        ≡ Ok (in_environment (changed change.now parts.now.environment) (state_of parts.now))) }
+    ensures refused { IfErr result (λ error.
+        apply (edit.Environment change.now) (state_of parts.now) ≡ Err error) }
 {
-    let name = NormalName::new(parts.alloc, name)?;
-    if parts.head.extras().has(name.as_str()) {
+    match change {
+        Change::Set(_, _) | Change::Unset(_) => Ok(()),
+        Change::AddExtra(name) | Change::DropExtra(name) => check_extra(&parts.head, name),
+        Change::AddGroup(name) | Change::DropGroup(name) => check_group(&parts.head, name),
+    }
+}
+
+/// Refuses a name that isn't that of an extra of the lock.
+fn check_extra(head: &Head, name: &NormalName) -> Result<(), EditError>
+    ensures known { OnOk result (is_among head.now.extras name.now ≡ true) }
+    ensures refused { IfErr result (λ error.
+        (error ≡ UnknownExtra) × (is_among head.now.extras name.now ≡ false)) }
+{
+    if head.extras().has(name.as_str()) {
         return Ok(());
     }
     Err(EditError::UnknownExtra)
 }
 
-/// Refuses a name whose normal form isn't that of a group of the lock, a default one or not.
-fn has_group(parts: &Parts, name: &str) -> Result<(), EditError>
-    ensures known { OnOk result ((is_known parts.now.head.groups name.now
-        || is_known parts.now.head.default_groups name.now) ≡ true) }
-    ensures refused { IfErr result (λ error. (error ≡ Memory → ⊥)
-        → (error ≡ UnknownGroup) × ((is_known parts.now.head.groups name.now
-        || is_known parts.now.head.default_groups name.now) ≡ false)) }
+/// Refuses a name that isn't that of a group of the lock, a default one or not.
+fn check_group(head: &Head, name: &NormalName) -> Result<(), EditError>
+    ensures known { OnOk result ((is_among head.now.groups name.now
+        || is_among head.now.default_groups name.now) ≡ true) }
+    ensures refused { IfErr result (λ error. (error ≡ UnknownGroup)
+        × ((is_among head.now.groups name.now
+        || is_among head.now.default_groups name.now) ≡ false)) }
 {
-    let name = NormalName::new(parts.alloc, name)?;
-    let named = parts.head.groups().has(name.as_str());
-    let default = parts.head.default_groups().has(name.as_str());
+    let named = head.groups().has(name.as_str());
+    let default = head.default_groups().has(name.as_str());
     if named || default {
         return Ok(());
     }
@@ -190,12 +141,14 @@ pub(crate) fn edit_environment(
 ) -> Result<(), EditError>
     requires { IsSession parts.old }
     ensures session { IsSession parts.new }
-    ensures left { Leaves (edit_of change) parts.old parts.new judged.old judged.new result }
+    ensures left { Leaves (edit.Environment change) parts.old parts.new
+        judged.old judged.new result }
 {
-    change.is_known(parts)?;
+    check_named(parts, &change)?;
+    let key = change.key();
     let mut next = parts.environment.copy()?;
-    change.make(&mut next)?;
-    change_environment(parts, next, change.key(), judged)?;
+    next.apply(change)?;
+    change_environment(parts, next, key, judged)?;
     Ok(())
 }
 
@@ -218,7 +171,7 @@ pub(crate) fn set_tags(
 /// Gives the name the policy.
 pub(crate) fn give_policy(
     parts: &mut Parts,
-    name: Label,
+    name: NormalName,
     policy: Policy,
     judged: &mut Judged,
 ) -> Result<(), EditError>
@@ -227,7 +180,6 @@ pub(crate) fn give_policy(
     ensures left { Leaves (edit.Policy name policy) parts.old parts.new
         judged.old judged.new result }
 {
-    let name = NormalName::from_string(parts.alloc, name.into_string())?;
     let number = number_of(parts.alloc, &mut parts.names, name.as_str())?;
     let fresh = judge_name(parts, number, policy, judged)?;
     store(&mut parts.rows, fresh);

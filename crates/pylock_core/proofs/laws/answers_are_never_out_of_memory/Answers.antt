@@ -1,6 +1,8 @@
 use Rattle.std.proofs.Common.{◌≡◌, Bool, true, false, cond, Ok, Err}
 use Rattle.pytext.proofs.NeverLemmas.{Never}
-use Rattle.pylock_core.specs.Session.State.{State, apply}
+use Rattle.pymark_core.specs.declared.change.Change.{Change}
+use Rattle.pymark_core.specs.declared.change.Change.TheVariants as change
+use Rattle.pylock_core.specs.Session.State.{State, apply, if_named}
 use Rattle.pylock_core.specs.declared.edit.Edit.{Edit}
 use Rattle.pylock_core.specs.declared.edit.Edit.TheVariants as edit
 use Rattle.pylock_core.specs.declared.edit.EditError.{EditError}
@@ -11,13 +13,16 @@ tested : (b : Bool) (next : State) (refusal : EditError) → (refusal ≡ Memory
 tested true next refusal other = λ e. cc e
 tested false next refusal other = λ e. other cc
 
+change_wants_none : (change : Change) (state next : State) → Never Memory (if_named change state next)
+change_wants_none (change.Set variable text) state next = λ e. cc e
+change_wants_none (change.Unset variable) state next = λ e. cc e
+change_wants_none (change.AddExtra name) state next = tested _ _ UnknownExtra (λ e. cc e)
+change_wants_none (change.DropExtra name) state next = tested _ _ UnknownExtra (λ e. cc e)
+change_wants_none (change.AddGroup name) state next = tested _ _ UnknownGroup (λ e. cc e)
+change_wants_none (change.DropGroup name) state next = tested _ _ UnknownGroup (λ e. cc e)
+
 edit_wants_none : (edit : Edit) (state : State) → Never Memory (apply edit state)
-edit_wants_none (edit.Set variable text) state = λ e. cc e
-edit_wants_none (edit.Unset variable) state = λ e. cc e
-edit_wants_none (edit.AddExtra name) state = tested _ _ UnknownExtra (λ e. cc e)
-edit_wants_none (edit.DropExtra name) state = tested _ _ UnknownExtra (λ e. cc e)
-edit_wants_none (edit.AddGroup name) state = tested _ _ UnknownGroup (λ e. cc e)
-edit_wants_none (edit.DropGroup name) state = tested _ _ UnknownGroup (λ e. cc e)
+edit_wants_none (edit.Environment change) state = change_wants_none change state _
 edit_wants_none (edit.Tags tags) state = λ e. cc e
 edit_wants_none (edit.Add entry) state = tested _ _ TooMany (λ e. cc e)
 edit_wants_none (edit.Put n entry) state = tested _ _ NoEntry (λ e. cc e)

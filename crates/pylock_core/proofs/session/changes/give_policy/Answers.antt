@@ -1,6 +1,5 @@
 use Rattle.std.proofs.Common.{◌≡◌, ◌∙◌, ◌++◌, Ok, length, ap, sym}
 use Rattle.std.specs.Str.{bytes_eq}
-use Rattle.pyver_core.specs.Name.{normal_name}
 use Rattle.pylock_core.specs.Inner.Again.{stored}
 use Rattle.pylock_core.specs.Inner.Index.{list_at}
 use Rattle.pylock_core.specs.Inner.Parts.{IsSession, state_of}
@@ -60,12 +59,11 @@ returns-clause-session c =
 pub returns-clause-left : goal.returns-clause-left
 returns-clause-left c =
     let p = c.args.parts.now in
-    let normal : c.as_str.result.now ≡ normal_name c.args.name = c.as_str.ensures.text ∙ c.in_ok-name.ensures ∙ ap normal_name c.into_string.ensures in
     let policies = c.set_policy.ensures.policies c.as_str.result.now c.in_ok-number.ensures.found
-    ∙ (λ i. with_policy (c.in_ok-number.ensures.kept.policies i) (normal i) c.args.policy) in
+    ∙ (λ i. with_policy (c.in_ok-number.ensures.kept.policies i) (c.as_str.ensures.text i) c.args.policy) in
     record {
       applied = λ i. Ok (record (state_of p) { policies = sym policies i });
       judged = c.in_ok-fresh.ensures.judged ∙ ap (λ ns. c.args.judged.now ++ ns)
           (members_here (record p { names = c.number_of.new.names }) c.as_str.result.now c.in_ok-number.number (numbered (goal.at.returns-clause-left c).In_ok-number) c.in_ok-number.ensures.found
-          ∙ ap (λ name. numbers_where (λ entry. bytes_eq name entry.name) (in_rows 1 p.entries.items)) normal);
+          ∙ ap (λ name. numbers_where (λ entry. bytes_eq name entry.name) (in_rows 1 p.entries.items)) c.as_str.ensures.text);
     }
