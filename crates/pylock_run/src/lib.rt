@@ -47,7 +47,7 @@ pub use stream::wrapper::{FromRead, ToWrite};
 pub use stream::writer::write_all;
 pub use stream::{IoFault, Sink, Source};
 pub use text::field::{push_decimal, push_field, push_last_word, push_next_field, push_word};
-pub use text::plan::push_source_line;
+pub use text::plan::{push_answer, push_source_line};
 pub use text::refusal::{
     entry_word, head_word, push_environment_error, push_lock_error, push_refusal,
 };
