@@ -8,4 +8,4 @@ pub change_environment-requires-clause-differ : goal.change_environment-requires
 change_environment-requires-clause-differ c = λ other apart.
     let old = c.args.parts.now.environment in
     let made : c.apply.new.self ≡ changed c.args.change old = c.in_ok-apply.ensures.ok ∙ ap (changed c.args.change) c.in_ok-next.ensures in
-    subst (AgreeAt other old) (sym made) (changed_differs c.args.change old other (λ same. apart (same ∙ sym c.key.ensures)))
+    subst (AgreeAt other old) (sym made) (changed_differs c.args.change old other (λ same. apart (same ∙ sym c.key-key.ensures)))
