@@ -11,7 +11,7 @@ use Rattle.pylock_readers.specs.declared.error.LockError.{LockError}
 use Rattle.pylock_readers.specs.declared.error.LockError.TheVariants.{TooMany}
 use Rattle.pylock_audit.specs.Audit.{findings_of, head_findings, items_at, lock_findings, members_in, of_entries}
 use Rattle.pylock_audit.specs.Entry.{entry_findings}
-use Rattle.pylock_audit.specs.Finding.{FoundValue, found_at}
+use Rattle.pylock_audit.specs.Finding.{LockFindingValue, findings_at}
 use Rattle.pylock_audit.specs.Inner.Tables.{document_findings, looked_at, of_entries_by, of_tables}
 
 entries_by_tables : (head : HeadValue) (n : ℕ) (es : List EntryValue) (ds : Items)
@@ -20,7 +20,7 @@ entries_by_tables head n [] no_items = refl
 entries_by_tables head n (e ∷ es) no_items = refl
 entries_by_tables head n [] (item d ds) = refl
 entries_by_tables head n (e ∷ es) (item d ds) =
-    ap (λ rest. found_at n (Some e.name) (entry_findings head (members_in d) e) ++ rest) (entries_by_tables head (suc n) es ds)
+    ap (λ rest. findings_at n (Some e.name) (entry_findings head (members_in d) e) ++ rest) (entries_by_tables head (suc n) es ds)
 
 -- the lock of a head and entries
 abbrev lock_with : HeadValue → List EntryValue → LockValue
@@ -31,7 +31,7 @@ abbrev lock_by : Result ⊤ LockError → Result ⊤ LockError → Result HeadVa
 lock_by version creator head entries = version >>= (λ _. creator >>= (λ _. head >>= (λ head. entries >>= (λ es. Ok (lock_with head es)))))
 
 -- a lock has the findings that it has with these tables, with what those that were looked at gave
-abbrev Same : List FoundValue → Result LockValue LockError → Items → Items → Type 0
+abbrev Same : List LockFindingValue → Result LockValue LockError → Items → Items → Type 0
 Same found lock ds looked =
     (lock >>= (λ lock. Ok (found ++ of_entries lock.head 1 lock.entries ds)))
     ≡ (lock >>= (λ lock. Ok (found ++ of_entries_by lock.head 1 lock.entries (of_tables looked))))
@@ -43,17 +43,17 @@ room_unless many = if many then Err TooMany else Ok tt
 abbrev looked_unless : Bool → Items → Items
 looked_unless many ds = if many then no_items else ds
 
-by_entries : (found : List FoundValue) (head : HeadValue) (ds : Items) (es : Result (List EntryValue) LockError)
+by_entries : (found : List LockFindingValue) (head : HeadValue) (ds : Items) (es : Result (List EntryValue) LockError)
     → Same found (es >>= (λ es. Ok (lock_with head es))) ds ds
 by_entries found head ds (Err e) = refl
 by_entries found head ds (Ok es) = ap (λ rest. Ok (found ++ rest)) (sym (entries_by_tables head 1 es ds))
 
-by_count : (found : List FoundValue) (head : HeadValue) (ds : Items) (many : Bool)
+by_count : (found : List LockFindingValue) (head : HeadValue) (ds : Items) (many : Bool)
     → Same found ((room_unless many >>= (λ _. entries_of 1 ds)) >>= (λ es. Ok (lock_with head es))) ds (looked_unless many ds)
 by_count found head ds true = refl
 by_count found head ds false = by_entries found head ds (entries_of 1 ds)
 
-by_steps : (found : List FoundValue) (version : Result ⊤ LockError) (creator : Result ⊤ LockError) (head : Result HeadValue LockError) (packages : Option Data)
+by_steps : (found : List LockFindingValue) (version : Result ⊤ LockError) (creator : Result ⊤ LockError) (head : Result HeadValue LockError) (packages : Option Data)
     → Same found (lock_by version creator head (packages_in packages >>= (λ ds. room_for ds >>= (λ _. entries_of 1 ds)))) (items_at packages) (looked_at (items_at packages))
 by_steps found (Err e) creator head packages = refl
 by_steps found (Ok x) (Err e) head packages = refl
@@ -73,7 +73,7 @@ beside_tables : (document : Members)
 unfolding lock_in entries_in
 beside_tables document =
     by_steps
-    (found_at 0 None (head_findings document))
+    (findings_at 0 None (head_findings document))
     (lock_version_in (get_member (codes "lock-version") document))
     (created_by_in (get_member (codes "created-by") document))
     (head_in (get_member (codes "environments") document) (get_member (codes "requires-python") document) (get_member (codes "extras") document) (get_member (codes "dependency-groups") document) (get_member (codes "default-groups") document))

@@ -11,11 +11,12 @@ use Rattle.pylock_readers.specs.Lock.{HeadValue, LockValue}
 use Rattle.pylock_readers.specs.Lock.Reading.{document_in, lock_of}
 use Rattle.pylock_readers.specs.declared.error.LockError.{LockError}
 use Rattle.pylock_audit.specs.Entry.{entry_findings, text_at}
-use Rattle.pylock_audit.specs.Finding.{FindingValue, FoundValue, found_at, found_each, found_where}
+use Rattle.pylock_audit.specs.Finding.{FindingValue, LockFindingValue, finding_where}
+use Rattle.pylock_audit.specs.Finding.{findings_at, findings_each}
 use Rattle.pylock_audit.specs.Keys.{unknown_keys}
 use Rattle.pylock_audit.specs.Source.{text_where}
 use Rattle.pylock_audit.specs.declared.finding.FindingKind.TheVariants as kind
-use Rattle.pylock_audit.specs.declared.keys.Level.TheVariants as level
+use Rattle.pylock_audit.specs.declared.keys.LockTable.TheVariants as tables
 
 -- ---- the head
 
@@ -26,9 +27,9 @@ other_lock_version document =
 
 abbrev pub head_findings : Members → List FindingValue
 head_findings document =
-    found_each kind.LockVersion (other_lock_version document)
-    ++ found_each kind.UnknownKey (unknown_keys [] level.Head document)
-    ++ found_where (is_none (get_member (codes "packages") document)) kind.NoPackages None
+    findings_each kind.LockVersion (other_lock_version document)
+    ++ findings_each kind.UnknownKey (unknown_keys tables.Head document)
+    ++ finding_where (is_none (get_member (codes "packages") document)) kind.NoPackages None
 
 -- ---- the entries
 
@@ -38,11 +39,11 @@ members_in (table members) = members
 members_in d = no_members
 
 -- the findings of entries, the first of which has this number, with the tables that they are
-abbrev pub of_entries : HeadValue → ℕ → List EntryValue → Items → List FoundValue
+abbrev pub of_entries : HeadValue → ℕ → List EntryValue → Items → List LockFindingValue
 of_entries head number [] ds = []
 of_entries head number (entry ∷ entries) no_items = []
 of_entries head number (entry ∷ entries) (item d ds) =
-    found_at number (Some entry.name) (entry_findings head (members_in d) entry)
+    findings_at number (Some entry.name) (entry_findings head (members_in d) entry)
     ++ of_entries head (suc number) entries ds
 
 -- the list that a key has, or none
@@ -53,13 +54,13 @@ items_at field = no_items
 -- ---- the lock
 
 -- the findings of a document and of the lock that it is
-abbrev pub lock_findings : Members → LockValue → List FoundValue
+abbrev pub lock_findings : Members → LockValue → List LockFindingValue
 lock_findings document lock =
-    found_at 0 None (head_findings document)
+    findings_at 0 None (head_findings document)
     ++ of_entries lock.head 1 lock.entries (items_at (get_member (codes "packages") document))
 
 -- the findings of the lock that the bytes are, or its refusal
-unfoldable pub findings_of : List ℕ → Result (List FoundValue) LockError
+unfoldable pub findings_of : List ℕ → Result (List LockFindingValue) LockError
 findings_of bytes = do
   lock ← lock_of bytes
   document ← document_in bytes

@@ -21,13 +21,13 @@ use Rattle.pywheel_core.specs.Wheel.Value.{WheelValue}
 use Rattle.pylock_readers.specs.Entry.{EntryValue, FileValue, file_name, wheel_name, wheel_names}
 use Rattle.pylock_readers.specs.Entry.Kinds.{has_conflict, is_any, kinds, kinds_text}
 use Rattle.pylock_readers.specs.Lock.{HeadValue}
-use Rattle.pylock_core.specs.Session.Picks.{sources}
+use Rattle.pylock_core.specs.Session.Picks.{SourceValue, sources}
+use Rattle.pylock_core.specs.declared.answer.PickSource.{PickSource}
 use Rattle.pylock_audit.specs.FileName.{shown_file_name}
-use Rattle.pylock_audit.specs.Finding.{FindingValue, found_each, found_where, told_where}
+use Rattle.pylock_audit.specs.Finding.{FindingValue, findings_each, finding_where, told_where}
 use Rattle.pylock_audit.specs.Keys.{unknown_of_entry}
 use Rattle.pylock_audit.specs.Source.{name_where, over_sources, text_where}
 use Rattle.pylock_audit.specs.Unsafe.{has_control}
-use Rattle.pylock_audit.specs.declared.files.NamedWheel.{NamedWheel}
 use Rattle.pylock_audit.specs.declared.finding.FindingKind.{FindingKind}
 use Rattle.pylock_audit.specs.declared.finding.FindingKind.TheVariants as kind
 
@@ -74,13 +74,9 @@ ReadWheel = FileValue × Option WheelValue
 abbrev pub read_wheels : EntryValue → List ReadWheel
 read_wheels entry = map (λ file. (file, wheel_name file)) entry.wheels
 
--- a wheel that is lent
-abbrev pub lent_wheel : NamedWheel → ReadWheel
-lent_wheel wheel = (wheel.file.now, option_map (λ name. name.now) wheel.name)
-
 -- a wheel that is never chosen, since its name can't be read
 abbrev pub unnamed_wheel : ReadWheel → List FindingValue
-unnamed_wheel wheel = found_where (is_none wheel.1) kind.NoWheelName (shown_file_name wheel.0)
+unnamed_wheel wheel = finding_where (is_none wheel.1) kind.NoWheelName (shown_file_name wheel.0)
 
 -- the file name of a wheel whose parts a test finds
 abbrev pub wheel_where : (WheelValue → Bool) → ReadWheel → List (List ℕ)
@@ -166,49 +162,49 @@ same_file_names entry =
 
 abbrev pub of_names : Members → EntryValue → List FindingValue
 of_names members entry =
-    found_each kind.UnknownKey (unknown_of_entry members)
-    ++ found_each kind.NameForm (other_form members)
-    ++ found_each kind.Version (refused_version entry)
+    findings_each kind.UnknownKey (unknown_of_entry members)
+    ++ findings_each kind.NameForm (other_form members)
+    ++ findings_each kind.Version (refused_version entry)
 
 abbrev pub of_marker : HeadValue → EntryValue → List FindingValue
 of_marker head entry =
-    found_each kind.MarkerExtra (compares comparison_reads_extra entry.marker)
-    ++ found_each kind.UndeclaredName (compares (asks_undeclared head) entry.marker)
+    findings_each kind.MarkerExtra (compares comparison_reads_extra entry.marker)
+    ++ findings_each kind.UndeclaredName (compares (asks_undeclared head) entry.marker)
 
 abbrev pub of_kinds : EntryValue → List FindingValue
 of_kinds entry =
-    found_where (not (is_any (kinds entry))) kind.NoSource None
-    ++ found_where (has_conflict entry) kind.SeveralSources (Some (kinds_text entry))
+    finding_where (not (is_any (kinds entry))) kind.NoSource None
+    ++ finding_where (has_conflict entry) kind.SeveralSources (Some (kinds_text entry))
 
--- what each source gives to a kind
-abbrev pub over : FindingKind → EntryValue → List FindingValue
-over kind entry = found_each kind (over_sources kind (sources entry))
+-- what each of the sources gives to a kind
+abbrev pub over : FindingKind → List (PickSource × SourceValue) → List FindingValue
+over kind list = findings_each kind (over_sources kind list)
 
-abbrev pub of_hashes : EntryValue → List FindingValue
-of_hashes entry =
-    over kind.NoHash entry ++ over kind.WeakHash entry ++ over kind.OddHash entry
-    ++ over kind.BadHash entry
+abbrev pub of_hashes : List (PickSource × SourceValue) → List FindingValue
+of_hashes list =
+    over kind.NoHash list ++ over kind.WeakHash list ++ over kind.OddHash list
+    ++ over kind.BadHash list
 
 abbrev pub of_file_names : EntryValue → List FindingValue
 of_file_names entry =
     flat_map unnamed_wheel (read_wheels entry)
-    ++ found_each kind.OtherName (other_names entry)
-    ++ found_each kind.OtherVersion (other_versions entry)
-    ++ found_each kind.SameFileName (same_file_names entry)
+    ++ findings_each kind.OtherName (other_names entry)
+    ++ findings_each kind.OtherVersion (other_versions entry)
+    ++ findings_each kind.SameFileName (same_file_names entry)
 
-abbrev pub of_sources : EntryValue → List FindingValue
-of_sources entry =
-    over kind.UnsafeFileName entry ++ over kind.UnsafeSubdirectory entry
-    ++ over kind.NotHttps entry ++ over kind.Credentials entry ++ over kind.MovingCommit entry
+abbrev pub of_sources : List (PickSource × SourceValue) → List FindingValue
+of_sources list =
+    over kind.UnsafeFileName list ++ over kind.UnsafeSubdirectory list
+    ++ over kind.NotHttps list ++ over kind.Credentials list ++ over kind.MovingCommit list
 
 -- the version first, and then each source
-abbrev pub of_controls : EntryValue → List FindingValue
-of_controls entry =
-    found_each kind.ControlCharacter
+abbrev pub of_controls : EntryValue → List (PickSource × SourceValue) → List FindingValue
+of_controls entry list =
+    findings_each kind.ControlCharacter
     (text_where has_control (λ version. codes "version " ++ version) entry.version)
-    ++ over kind.ControlCharacter entry
+    ++ over kind.ControlCharacter list
 
 abbrev pub entry_findings : HeadValue → Members → EntryValue → List FindingValue
 entry_findings head members entry =
-    of_names members entry ++ of_marker head entry ++ of_kinds entry ++ of_hashes entry
-    ++ of_file_names entry ++ of_sources entry ++ of_controls entry
+    of_names members entry ++ of_marker head entry ++ of_kinds entry ++ of_hashes (sources entry)
+    ++ of_file_names entry ++ of_sources (sources entry) ++ of_controls entry (sources entry)

@@ -14,18 +14,18 @@ abbrev pub told_where : Bool → List ℕ → List (List ℕ)
 told_where counts text = if counts then text ∷ [] else []
 
 -- one finding where it stands, and one for each of these
-abbrev pub found_where : Bool → FindingKind → Option (List ℕ) → List FindingValue
-found_where stands kind detail = if stands then finding_of kind detail ∷ [] else []
+abbrev pub finding_where : Bool → FindingKind → Option (List ℕ) → List FindingValue
+finding_where stands kind detail = if stands then finding_of kind detail ∷ [] else []
 
-abbrev pub found_each : FindingKind → List (List ℕ) → List FindingValue
-found_each kind details = map (λ detail. finding_of kind (Some detail)) details
+abbrev pub findings_each : FindingKind → List (List ℕ) → List FindingValue
+findings_each kind details = map (λ detail. finding_of kind (Some detail)) details
 
 -- a finding of the head, which has the number 0 and no name, or of an entry
-pub record FoundValue : Type 0 where
+pub record LockFindingValue : Type 0 where
   pub number : ℕ
   pub name : Option (List ℕ)
   pub finding : FindingValue
 
-abbrev pub found_at : ℕ → Option (List ℕ) → List FindingValue → List FoundValue
-found_at number name findings =
+abbrev pub findings_at : ℕ → Option (List ℕ) → List FindingValue → List LockFindingValue
+findings_at number name findings =
     map (λ finding. record { number = number; name = name; finding = finding }) findings

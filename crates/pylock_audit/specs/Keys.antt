@@ -5,67 +5,89 @@ use Rattle.std.specs.List.{list_any}
 use Rattle.std.specs.Str.{bytes_eq}
 use Rattle.toml.specs.Data.{Data, Items, Members, array, get_member, item, member, no_items}
 use Rattle.toml.specs.Data.{no_members, table}
-use Rattle.pylock_audit.specs.declared.keys.Level.{Level}
-use Rattle.pylock_audit.specs.declared.keys.Level.TheVariants as level
+use Rattle.pylock_core.specs.declared.answer.PickSource.{PickSource}
+use Rattle.pylock_core.specs.declared.answer.PickSource.TheVariants as source
+use Rattle.pylock_audit.specs.declared.keys.LockTable.{LockTable}
+use Rattle.pylock_audit.specs.declared.keys.LockTable.TheVariants as tables
 
--- the keys that a table of this level may have
-abbrev pub named_keys : Level → List (List ℕ)
-named_keys level.Head =
-    codes "lock-version" ∷ codes "environments" ∷ codes "requires-python" ∷ codes "extras"
-    ∷ codes "dependency-groups" ∷ codes "default-groups" ∷ codes "created-by" ∷ codes "packages"
-    ∷ codes "tool" ∷ []
-named_keys level.Entry =
-    codes "name" ∷ codes "version" ∷ codes "marker" ∷ codes "requires-python"
-    ∷ codes "dependencies" ∷ codes "index" ∷ codes "vcs" ∷ codes "directory" ∷ codes "archive"
-    ∷ codes "sdist" ∷ codes "wheels" ∷ codes "attestation-identities" ∷ codes "tool" ∷ []
-named_keys level.Vcs =
-    codes "type" ∷ codes "url" ∷ codes "path" ∷ codes "requested-revision" ∷ codes "commit-id"
-    ∷ codes "subdirectory" ∷ []
-named_keys level.Directory = codes "path" ∷ codes "editable" ∷ codes "subdirectory" ∷ []
-named_keys level.Archive =
-    codes "url" ∷ codes "path" ∷ codes "size" ∷ codes "upload-time" ∷ codes "hashes"
-    ∷ codes "subdirectory" ∷ []
-named_keys level.File =
+-- the keys that an sdist or a wheel may have
+abbrev pub file_keys : List (List ℕ)
+file_keys =
     codes "name" ∷ codes "upload-time" ∷ codes "url" ∷ codes "path" ∷ codes "size"
     ∷ codes "hashes" ∷ []
 
-abbrev pub is_named : Level → List ℕ → Bool
-is_named level key = list_any (bytes_eq key) (named_keys level)
+-- the keys that a source may have
+abbrev pub source_keys : PickSource → List (List ℕ)
+source_keys source.Vcs =
+    codes "type" ∷ codes "url" ∷ codes "path" ∷ codes "requested-revision" ∷ codes "commit-id"
+    ∷ codes "subdirectory" ∷ []
+source_keys source.Directory = codes "path" ∷ codes "editable" ∷ codes "subdirectory" ∷ []
+source_keys source.Archive =
+    codes "url" ∷ codes "path" ∷ codes "size" ∷ codes "upload-time" ∷ codes "hashes"
+    ∷ codes "subdirectory" ∷ []
+source_keys (source.Wheel place) = file_keys
+source_keys source.Sdist = file_keys
+
+-- the keys that a table may have
+abbrev pub named_keys : LockTable → List (List ℕ)
+named_keys tables.Head =
+    codes "lock-version" ∷ codes "environments" ∷ codes "requires-python" ∷ codes "extras"
+    ∷ codes "dependency-groups" ∷ codes "default-groups" ∷ codes "created-by" ∷ codes "packages"
+    ∷ codes "tool" ∷ []
+named_keys tables.Entry =
+    codes "name" ∷ codes "version" ∷ codes "marker" ∷ codes "requires-python"
+    ∷ codes "dependencies" ∷ codes "index" ∷ codes "vcs" ∷ codes "directory" ∷ codes "archive"
+    ∷ codes "sdist" ∷ codes "wheels" ∷ codes "attestation-identities" ∷ codes "tool" ∷ []
+named_keys (tables.OfSource name) = source_keys name
+
+abbrev pub is_named : LockTable → List ℕ → Bool
+is_named lock_table key = list_any (bytes_eq key) (named_keys lock_table)
+
+-- the path of a key of the source
+abbrev pub source_path : PickSource → List ℕ
+source_path source.Vcs = codes "vcs "
+source_path source.Directory = codes "directory "
+source_path source.Archive = codes "archive "
+source_path (source.Wheel place) = codes "wheels " ++ decimal (place + 1) ++ codes " "
+source_path source.Sdist = codes "sdist "
+
+-- the same of a table
+abbrev pub table_path : LockTable → List ℕ
+table_path (tables.OfSource name) = source_path name
+table_path lock_table = []
 
 -- the keys of a table, in order of code point
 abbrev pub table_keys : Members → List (List ℕ)
 table_keys no_members = []
 table_keys (member key d rest) = key ∷ table_keys rest
 
--- those of them that aren't named, each behind the path of the table
-abbrev pub unknown_keys : List ℕ → Level → Members → List (List ℕ)
-unknown_keys path level members =
-    map (λ key. path ++ key) (filter (λ key. not (is_named level key)) (table_keys members))
+-- those of them that aren't named, each by its path
+abbrev pub unknown_keys : LockTable → Members → List (List ℕ)
+unknown_keys lock_table members =
+    map (λ key. table_path lock_table ++ key)
+    (filter (λ key. not (is_named lock_table key)) (table_keys members))
 
 -- those of a source, which is a table
-abbrev pub unknown_in : List ℕ → Level → Option Data → List (List ℕ)
-unknown_in path level (Some (table members)) = unknown_keys path level members
-unknown_in path level field = []
+abbrev pub unknown_in : PickSource → Option Data → List (List ℕ)
+unknown_in name (Some (table members)) = unknown_keys (tables.OfSource name) members
+unknown_in name field = []
 
 -- those of wheels, the first of them at this place
-abbrev pub wheel_path : ℕ → List ℕ
-wheel_path place = codes "wheels " ++ decimal place ++ codes " "
-
 abbrev pub unknown_of_wheels : ℕ → Items → List (List ℕ)
 unknown_of_wheels place no_items = []
 unknown_of_wheels place (item d ds) =
-    unknown_in (wheel_path place) level.File (Some d) ++ unknown_of_wheels (place + 1) ds
+    unknown_in (source.Wheel place) (Some d) ++ unknown_of_wheels (place + 1) ds
 
 abbrev pub unknown_in_wheels : Option Data → List (List ℕ)
-unknown_in_wheels (Some (array items)) = unknown_of_wheels 1 items
+unknown_in_wheels (Some (array items)) = unknown_of_wheels 0 items
 unknown_in_wheels field = []
 
 -- those of an entry: its own, and then those of its sources
 abbrev pub unknown_of_entry : Members → List (List ℕ)
 unknown_of_entry entry =
-    unknown_keys [] level.Entry entry
-    ++ unknown_in (codes "vcs ") level.Vcs (get_member (codes "vcs") entry)
-    ++ unknown_in (codes "directory ") level.Directory (get_member (codes "directory") entry)
-    ++ unknown_in (codes "archive ") level.Archive (get_member (codes "archive") entry)
+    unknown_keys tables.Entry entry
+    ++ unknown_in source.Vcs (get_member (codes "vcs") entry)
+    ++ unknown_in source.Directory (get_member (codes "directory") entry)
+    ++ unknown_in source.Archive (get_member (codes "archive") entry)
     ++ unknown_in_wheels (get_member (codes "wheels") entry)
-    ++ unknown_in (codes "sdist ") level.File (get_member (codes "sdist") entry)
+    ++ unknown_in source.Sdist (get_member (codes "sdist") entry)

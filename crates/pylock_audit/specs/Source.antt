@@ -10,11 +10,10 @@ use Rattle.pylock_readers.specs.Entry.{ArchiveValue, DirectoryValue, FileValue, 
 use Rattle.pylock_core.specs.Session.Picks.{OfArchive, OfDirectory, OfSdist, OfVcs, OfWheel}
 use Rattle.pylock_core.specs.Session.Picks.{SourceValue}
 use Rattle.pylock_core.specs.declared.answer.PickSource.{PickSource}
-use Rattle.pylock_core.specs.declared.answer.PickSource.TheVariants as source
 use Rattle.pylock_audit.specs.FileName.{shown_file_name, shown_name}
 use Rattle.pylock_audit.specs.Finding.{told_where}
 use Rattle.pylock_audit.specs.Hash.{Hash, is_bad, is_odd, is_weak}
-use Rattle.pylock_audit.specs.Keys.{wheel_path}
+use Rattle.pylock_audit.specs.Keys.{source_path}
 use Rattle.pylock_audit.specs.Unsafe.{has_control, is_unsafe_name, is_unsafe_path}
 use Rattle.pylock_audit.specs.Url.{has_credentials, is_https, is_safe_remote, shown_place}
 use Rattle.pylock_audit.specs.Url.{shown_url}
@@ -68,14 +67,6 @@ label (OfArchive archive) = codes "archive " ++ shown_place archive.location
 label (OfWheel file) = codes "wheel " ++ file_label file
 label (OfSdist file) = codes "sdist " ++ file_label file
 
--- the path of a key of the source
-abbrev pub source_path : PickSource → List ℕ
-source_path source.Vcs = codes "vcs "
-source_path source.Directory = codes "directory "
-source_path source.Archive = codes "archive "
-source_path (source.Wheel place) = wheel_path (place + 1)
-source_path source.Sdist = codes "sdist "
-
 -- ---- hashes
 
 abbrev pub without_hash : SourceValue → List Hash → List (List ℕ)
@@ -91,10 +82,16 @@ weakly_hashed s (hash ∷ hashes) =
     told_where (is_weak (hash ∷ hashes))
     (label s ++ codes " " ++ algorithms (hash ∷ hashes))
 
--- the hashes that a test finds, each by its algorithm
-abbrev pub tested_hashes : (Hash → Bool) → SourceValue → List Hash → List (List ℕ)
-tested_hashes test s hashes =
-    map (λ hash. label s ++ codes " " ++ hash.0) (filter test hashes)
+-- whether a kind of finding tells of a hash
+abbrev pub is_told : FindingKind → Hash → Bool
+is_told kind.OddHash hash = is_odd hash
+is_told kind.BadHash hash = is_bad hash
+is_told kind hash = false
+
+-- the hashes that a kind tells of, each by its algorithm
+abbrev pub tested_hashes : FindingKind → SourceValue → List Hash → List (List ℕ)
+tested_hashes kind s hashes =
+    map (λ hash. label s ++ codes " " ++ hash.0) (filter (is_told kind) hashes)
 
 abbrev pub over_hashes : (List Hash → List (List ℕ)) → SourceValue → List (List ℕ)
 over_hashes details s = option_map_or details (hashes_of s) []
@@ -189,8 +186,8 @@ controlled_texts name (OfSdist file) = controlled_file name file
 abbrev pub details : FindingKind → PickSource × SourceValue → List (List ℕ)
 details kind.NoHash s = over_hashes (without_hash s.1) s.1
 details kind.WeakHash s = over_hashes (weakly_hashed s.1) s.1
-details kind.OddHash s = over_hashes (tested_hashes is_odd s.1) s.1
-details kind.BadHash s = over_hashes (tested_hashes is_bad s.1) s.1
+details kind.OddHash s = over_hashes (tested_hashes kind.OddHash s.1) s.1
+details kind.BadHash s = over_hashes (tested_hashes kind.BadHash s.1) s.1
 details kind.UnsafeFileName s = option_map_or (name_where is_unsafe_name) (file_of s.1) []
 details kind.UnsafeSubdirectory s = text_where is_unsafe_path (λ path. path) (subdirectory_of s.1)
 details kind.NotHttps s = text_where (is_open_url s.1) shown_url (url_of s.1)

@@ -12,7 +12,7 @@ ghost use Rattle.pylock_audit.specs.Unsafe.{has_control};
 ghost use Rattle.pylock_audit.specs.Url.{shown_url};
 
 use crate::hash::Hash;
-use crate::source::key_path;
+use crate::keys::source_key_path;
 use crate::unsafe_text::{has_control, is_printable};
 use crate::url::shown_url;
 use pylock_core::{Archive, Directory, DistributionFile, PickSource, PickedSource, Vcs};
@@ -31,10 +31,8 @@ fn push_plainly(
 {
     match text {
         Some(text) if has_control(text) => {
-            let mut line = key_path(alloc, name, key)?;
-            line.push_str(" ")?;
-            line.push_str(text)?;
-            Ok(list.push(line)?)
+            let path = source_key_path(alloc, name, key)?;
+            Ok(list.push(format!(in alloc; "{path} {text}")?)?)
         }
         _ => Ok(()),
     }
@@ -52,10 +50,9 @@ fn push_url(
 {
     match url {
         Some(url) if has_control(url) => {
-            let mut line = key_path(alloc, name, "url")?;
-            line.push_str(" ")?;
-            line.push_str(shown_url(alloc, url)?.as_str())?;
-            Ok(list.push(line)?)
+            let path = source_key_path(alloc, name, "url")?;
+            let url = shown_url(alloc, url)?;
+            Ok(list.push(format!(in alloc; "{path} {url}")?)?)
         }
         _ => Ok(()),
     }
@@ -118,9 +115,8 @@ fn is_printable_hash(hash: &Hash) -> bool
 fn hash_shown(alloc: Global, hash: &Hash) -> Result<String, AllocError>
     ensures { IfOk result (λ text. string_bytes text ≡ hash_shown (text_pair hash.now)) }
 {
-    let mut text = String::from_str(alloc, hash.0.as_str())?;
-    text.push_str("=")?;
-    text.push_str(hash.1.as_str())?;
+    let (algorithm, value) = (hash.0.as_str(), hash.1.as_str());
+    let text = format!(in alloc; "{algorithm}={value}")?;
     Ok(text)
 }
 

@@ -3,14 +3,14 @@
 ghost use Rattle.std.specs.Prelude.{◌≡◌, IfOk, map};
 ghost use Rattle.serde_json.specs.View.{members_view, view as data_of};
 ghost use Rattle.pylock_json.specs.Json.{members_of, object_of};
-ghost use Rattle.pylock_audit.specs.Document.{findings_rows, found_rows};
+ghost use Rattle.pylock_audit.specs.Document.{findings_rows, finding_rows};
 
-use crate::finding::Found;
+use crate::finding::LockFinding;
 use pylock_json::{Json, List, Object};
 use std::alloc::{AllocError, Global};
 
 /// The document of findings, in their order. It takes memory for the object.
-pub fn findings_document(alloc: Global, found: &[Found]) -> Result<Object, AllocError>
+pub fn findings_document(alloc: Global, found: &[LockFinding]) -> Result<Object, AllocError>
     ensures { IfOk result (λ object. members_view object ≡ members_of (findings_rows found.now)) }
 {
     let findings = findings_list(alloc, found)?;
@@ -19,19 +19,19 @@ pub fn findings_document(alloc: Global, found: &[Found]) -> Result<Object, Alloc
     Ok(object)
 }
 
-fn findings_list(alloc: Global, found: &[Found]) -> Result<List, AllocError>
+fn findings_list(alloc: Global, found: &[LockFinding]) -> Result<List, AllocError>
     ensures { IfOk result (λ list. map data_of list
-        ≡ map (λ one. object_of (found_rows one)) found.now) }
+        ≡ map (λ one. object_of (finding_rows one)) found.now) }
 {
     let mut list = List::new(alloc);
     for one in found {
-        list.push(found_json(alloc, one)?)?;
+        list.push(finding_json(alloc, one)?)?;
     }
     Ok(list)
 }
 
-fn found_json(alloc: Global, found: &Found) -> Result<Json, AllocError>
-    ensures { IfOk result (λ json. data_of json ≡ object_of (found_rows found.now)) }
+fn finding_json(alloc: Global, found: &LockFinding) -> Result<Json, AllocError>
+    ensures { IfOk result (λ json. data_of json ≡ object_of (finding_rows found.now)) }
 {
     let mut object = Object::new(alloc);
     object.put_number(alloc, "id", found.number() as u64)?;

@@ -4,10 +4,10 @@ ghost use Rattle.std.specs.Prelude.{◌≡◌, ◌++◌, IfOk, OnOk, codes, map,
 ghost use Rattle.std.specs.Prelude.{string_bytes};
 ghost use Rattle.std.specs.Result.{is_err};
 ghost use Rattle.pyver_core.specs.Parsed.{parsed_version};
-ghost use Rattle.pylock_core.specs.Session.Picks.{lent_named, sources};
+ghost use Rattle.pylock_core.specs.Session.Picks.{lent_named};
 ghost use Rattle.pylock_audit.specs.Entry.{of_controls, of_hashes, of_kinds, of_marker};
 ghost use Rattle.pylock_audit.specs.Entry.{of_sources, refused_version};
-ghost use Rattle.pylock_audit.specs.Finding.{found_each};
+ghost use Rattle.pylock_audit.specs.Finding.{findings_each};
 ghost use Rattle.pylock_audit.specs.Inner.Tables.{entry_findings_by, of_names_by};
 ghost use Rattle.pylock_audit.specs.Source.{over_sources, text_where};
 ghost use Rattle.pylock_audit.specs.Unsafe.{has_control};
@@ -38,9 +38,9 @@ pub(crate) fn entry_findings(
     push_names(alloc, &mut findings, table, entry)?;
     push_marker(alloc, &mut findings, head, entry)?;
     push_kinds(alloc, &mut findings, entry)?;
-    push_hashes(alloc, &mut findings, list.as_slice(), entry)?;
+    push_hashes(alloc, &mut findings, list.as_slice())?;
     push_file_names(alloc, &mut findings, entry)?;
-    push_sources(alloc, &mut findings, list.as_slice(), entry)?;
+    push_sources(alloc, &mut findings, list.as_slice())?;
     push_controls(alloc, &mut findings, list.as_slice(), entry)?;
     Ok(findings)
 }
@@ -56,11 +56,8 @@ fn push_names(
         ≡ findings.old.items ++ of_names_by table entry.now) }
 {
     table.push(findings)?;
-    push_each(
-        findings,
-        FindingKind::Version,
-        refused_version(alloc, entry)?,
-    )
+    let versions = refused_version(alloc, entry)?;
+    push_each(findings, FindingKind::Version, versions)
 }
 
 /// The version, where it is none.
@@ -119,7 +116,7 @@ fn push_over(
     sources: &[NamedSource<'_>],
 ) -> Result<(), AllocError>
     ensures { OnOk result (findings.new.items ≡ findings.old.items
-        ++ found_each kind (over_sources kind (map lent_named sources.now))) }
+        ++ findings_each kind (over_sources kind (map lent_named sources.now))) }
 {
     push_each(findings, kind, over_sources(alloc, kind, sources)?)
 }
@@ -128,48 +125,46 @@ fn push_over(
 fn push_hashes(
     alloc: Global,
     findings: &mut Vec<Finding>,
-    list: &[NamedSource<'_>],
-    entry: &Entry,
+    sources: &[NamedSource<'_>],
 ) -> Result<(), AllocError>
-    requires { map lent_named list.now ≡ sources entry.now }
-    ensures { OnOk result (findings.new.items ≡ findings.old.items ++ of_hashes entry.now) }
+    ensures { OnOk result (findings.new.items
+        ≡ findings.old.items ++ of_hashes (map lent_named sources.now)) }
 {
-    push_over(alloc, findings, FindingKind::NoHash, list)?;
-    push_over(alloc, findings, FindingKind::WeakHash, list)?;
-    push_over(alloc, findings, FindingKind::OddHash, list)?;
-    push_over(alloc, findings, FindingKind::BadHash, list)
+    push_over(alloc, findings, FindingKind::NoHash, sources)?;
+    push_over(alloc, findings, FindingKind::WeakHash, sources)?;
+    push_over(alloc, findings, FindingKind::OddHash, sources)?;
+    push_over(alloc, findings, FindingKind::BadHash, sources)
 }
 
 /// Adds what its sources give by their names, paths, URLs and commits.
 fn push_sources(
     alloc: Global,
     findings: &mut Vec<Finding>,
-    list: &[NamedSource<'_>],
-    entry: &Entry,
+    sources: &[NamedSource<'_>],
 ) -> Result<(), AllocError>
-    requires { map lent_named list.now ≡ sources entry.now }
-    ensures { OnOk result (findings.new.items ≡ findings.old.items ++ of_sources entry.now) }
+    ensures { OnOk result (findings.new.items
+        ≡ findings.old.items ++ of_sources (map lent_named sources.now)) }
 {
-    push_over(alloc, findings, FindingKind::UnsafeFileName, list)?;
-    push_over(alloc, findings, FindingKind::UnsafeSubdirectory, list)?;
-    push_over(alloc, findings, FindingKind::NotHttps, list)?;
-    push_over(alloc, findings, FindingKind::Credentials, list)?;
-    push_over(alloc, findings, FindingKind::MovingCommit, list)
+    push_over(alloc, findings, FindingKind::UnsafeFileName, sources)?;
+    push_over(alloc, findings, FindingKind::UnsafeSubdirectory, sources)?;
+    push_over(alloc, findings, FindingKind::NotHttps, sources)?;
+    push_over(alloc, findings, FindingKind::Credentials, sources)?;
+    push_over(alloc, findings, FindingKind::MovingCommit, sources)
 }
 
 /// Adds its texts that have a control character.
 fn push_controls(
     alloc: Global,
     findings: &mut Vec<Finding>,
-    list: &[NamedSource<'_>],
+    sources: &[NamedSource<'_>],
     entry: &Entry,
 ) -> Result<(), AllocError>
-    requires { map lent_named list.now ≡ sources entry.now }
-    ensures { OnOk result (findings.new.items ≡ findings.old.items ++ of_controls entry.now) }
+    ensures { OnOk result (findings.new.items
+        ≡ findings.old.items ++ of_controls entry.now (map lent_named sources.now)) }
 {
     let versions = controlled_version(alloc, entry)?;
     push_each(findings, FindingKind::ControlCharacter, versions)?;
-    push_over(alloc, findings, FindingKind::ControlCharacter, list)
+    push_over(alloc, findings, FindingKind::ControlCharacter, sources)
 }
 
 fn controlled_version(alloc: Global, entry: &Entry) -> Result<Vec<String>, AllocError>

@@ -8,7 +8,7 @@ ghost use Rattle.pylock_audit.specs.FileName.{behind_at, is_named_by_url, masked
 ghost use Rattle.pylock_audit.specs.FileName.{may_name_user, shown_file_name, shown_name};
 
 use crate::keys::joined;
-use crate::url::{around_at, has_credentials};
+use crate::url::{around, has_credentials};
 use pylock_core::DistributionFile;
 use std::alloc::{AllocError, Global};
 
@@ -113,7 +113,7 @@ fn behind_at(text: &str) -> Option<&str>
 {
     let mut found = None;
     let mut left = text;
-    while let Some((_, back)) = around_at(left) {
+    while let Some((_, back)) = around(left, b'@') {
         found = Some(back);
         left = back;
     }

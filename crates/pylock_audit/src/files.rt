@@ -1,36 +1,29 @@
 //! What the file names of an entry say of the package and of each other.
 
-ghost use Rattle.std.specs.Prelude.{◌≡◌, ◌++◌, ◌∷◌, [], IfOk, List, OnOk, Some, map};
-ghost use Rattle.std.specs.Prelude.{option_and_then, option_map, slice_get, string_bytes, true, ℕ};
+ghost use Rattle.std.specs.Prelude.{◌≡◌, ◌++◌, [], IfOk, List, OnOk, Some, map, slice_get};
+ghost use Rattle.std.specs.Prelude.{string_bytes, true, ℕ};
 ghost use Rattle.std.specs.BTreeSet.{contains_text};
 ghost use Rattle.std.specs.List.{flat_map, list_any};
 ghost use Rattle.std.specs.Option.{option_copied, option_map_or};
 ghost use Rattle.std.specs.Str.{bytes_eq};
-ghost use Rattle.pywheel_core.specs.Texts.{cut_at};
 ghost use Rattle.pylock_readers.specs.Entry.{file_name, wheel_name};
 ghost use Rattle.pylock_audit.specs.Entry.{ends, first_version, fronts_behind, is_name_of};
-ghost use Rattle.pylock_audit.specs.Entry.{is_other_name, lent_wheel, with_name, with_names};
-ghost use Rattle.pylock_audit.specs.Entry.{is_other_sdist, is_other_version, is_sdist_name};
-ghost use Rattle.pylock_audit.specs.Entry.{read_wheels, of_file_names, other_names, other_sdist};
-ghost use Rattle.pylock_audit.specs.Entry.{other_versions, same_file_names, same_names};
-ghost use Rattle.pylock_audit.specs.Entry.{unnamed_wheel, wanted_version, wheel_where};
+ghost use Rattle.pylock_audit.specs.Entry.{is_other_name, is_other_sdist, is_other_version};
+ghost use Rattle.pylock_audit.specs.Entry.{is_sdist_name, of_file_names, other_names};
+ghost use Rattle.pylock_audit.specs.Entry.{other_versions, read_wheels, same_file_names};
+ghost use Rattle.pylock_audit.specs.Entry.{same_names, unnamed_wheel, wanted_version, wheel_where};
+ghost use Rattle.pylock_audit.specs.Entry.{with_name, with_names};
 ghost use Rattle.pylock_audit.specs.Inner.Names.{Holds};
 ghost use Rattle.pylock_audit.specs.Source.{name_where};
 
 use crate::file_name::{shown_file_name, shown_name};
 use crate::finding::{Finding, FindingKind, push_each, push_where};
+use crate::url::around;
 use pylock_core::{DistributionFile, Entry, Sdist, WheelFile};
 use pyver_core::{Version, VersionError, is_name, normal_name};
 use pywheel_core::WheelName;
 use std::alloc::{AllocError, Global};
 use std::collections::BTreeSet;
-
-/// A wheel, with what its file name says; nothing where that is absent or refused.
-#[derive(Clone, Copy)]
-struct NamedWheel<'a> {
-    file: &'a WheelFile,
-    name: Option<&'a WheelName>,
-}
 
 /// Adds what the file names of an entry give to a kind of finding.
 pub(crate) fn push_file_names(
@@ -40,41 +33,26 @@ pub(crate) fn push_file_names(
 ) -> Result<(), AllocError>
     ensures { OnOk result (findings.new.items ≡ findings.old.items ++ of_file_names entry.now) }
 {
-    let wheels = named_wheels(alloc, entry)?;
-    push_unnamed(alloc, findings, wheels.as_slice())?;
-    let names = other_names(alloc, entry, wheels.as_slice())?;
-    push_each(findings, FindingKind::OtherName, names)?;
-    let names = other_versions(alloc, entry, wheels.as_slice())?;
-    push_each(findings, FindingKind::OtherVersion, names)?;
-    let names = same_names(alloc, entry)?;
-    push_each(findings, FindingKind::SameFileName, names)
+    push_unnamed(alloc, findings, entry)?;
+    push_each(findings, FindingKind::OtherName, other_names(alloc, entry)?)?;
+    push_each(
+        findings,
+        FindingKind::OtherVersion,
+        other_versions(alloc, entry)?,
+    )?;
+    push_each(
+        findings,
+        FindingKind::SameFileName,
+        same_names(alloc, entry)?,
+    )
 }
 
-/// The wheels of an entry, each with what its file name says.
-fn named_wheels<'a>(alloc: Global, entry: &'a Entry) -> Result<Vec<NamedWheel<'a>>, AllocError>
-    ensures { IfOk result (λ list. map lent_wheel list.items ≡ read_wheels entry.now) }
-{
-    let mut list = Vec::with_capacity(alloc, entry.wheels().len())?;
-    for (place, file) in entry.wheels().iter().enumerate() {
-        list.push(named_wheel(entry, place, file))?;
-    }
-    Ok(list)
-}
-
-/// The wheel at this place.
-fn named_wheel<'a>(entry: &'a Entry, place: usize, file: &'a WheelFile) -> NamedWheel<'a>
-    requires { slice_get entry.now.wheels place ≡ Some file.now }
-    ensures { lent_wheel result ≡ (file.now, wheel_name file.now) }
-{
-    let name = name_at(entry, place);
-    NamedWheel { file, name }
-}
-
-/// What the file name of the wheel at this place says.
+/// What the file name of this wheel says, which stands at this place; nothing where the name is
+/// absent or refused.
 #[tactic(auto, using(crate::proofs::WheelLemmas::read_at))]
-fn name_at(entry: &Entry, place: usize) -> Option<&WheelName>
-    ensures { option_copied result
-        ≡ option_and_then wheel_name (slice_get entry.now.wheels place) }
+fn name_at<'a>(entry: &'a Entry, place: usize, file: &WheelFile) -> Option<&'a WheelName>
+    requires { slice_get entry.now.wheels place ≡ Some file.now }
+    ensures { option_copied result ≡ wheel_name file.now }
 {
     entry.wheel_names().get(place)?.as_ref()
 }
@@ -82,16 +60,12 @@ fn name_at(entry: &Entry, place: usize) -> Option<&WheelName>
 // ---- names that can't be read
 
 /// Adds the wheels that are never chosen, since their name can't be read.
-fn push_unnamed(
-    alloc: Global,
-    findings: &mut Vec<Finding>,
-    wheels: &[NamedWheel<'_>],
-) -> Result<(), AllocError>
-    ensures { OnOk result (findings.new.items ≡ findings.old.items
-        ++ flat_map unnamed_wheel (map lent_wheel wheels.now)) }
+fn push_unnamed(alloc: Global, findings: &mut Vec<Finding>, entry: &Entry) -> Result<(), AllocError>
+    ensures { OnOk result (findings.new.items
+        ≡ findings.old.items ++ flat_map unnamed_wheel (read_wheels entry.now)) }
 {
-    for wheel in wheels {
-        push_unnamed_wheel(alloc, findings, *wheel)?;
+    for (place, file) in entry.wheels().iter().enumerate() {
+        push_unnamed_wheel(alloc, findings, file, name_at(entry, place, file))?;
     }
     Ok(())
 }
@@ -99,64 +73,59 @@ fn push_unnamed(
 fn push_unnamed_wheel(
     alloc: Global,
     findings: &mut Vec<Finding>,
-    wheel: NamedWheel<'_>,
+    file: &WheelFile,
+    name: Option<&WheelName>,
 ) -> Result<(), AllocError>
     ensures { OnOk result (findings.new.items
-        ≡ findings.old.items ++ unnamed_wheel (lent_wheel wheel.entry)) }
+        ≡ findings.old.items ++ unnamed_wheel (file.now, option_copied name.entry)) }
 {
-    if wheel.name.is_some() {
+    if name.is_some() {
         return Ok(());
     }
-    let name = shown_file_name(alloc, wheel.file)?;
-    push_where(findings, true, FindingKind::NoWheelName, name)
+    push_where(
+        findings,
+        true,
+        FindingKind::NoWheelName,
+        shown_file_name(alloc, file)?,
+    )
 }
 
 // ---- other packages
 
 /// The file names of another package.
-fn other_names(
-    alloc: Global,
-    entry: &Entry,
-    wheels: &[NamedWheel<'_>],
-) -> Result<Vec<String>, AllocError>
-    requires { map lent_wheel wheels.now ≡ read_wheels entry.now }
+fn other_names(alloc: Global, entry: &Entry) -> Result<Vec<String>, AllocError>
     ensures { IfOk result (λ list. map string_bytes list.items ≡ other_names entry.now) }
 {
-    let mut list = wheels_of_others(alloc, entry.name(), wheels)?;
+    let mut list = Vec::new(alloc);
+    for (place, file) in entry.wheels().iter().enumerate() {
+        push_other_wheel(
+            alloc,
+            &mut list,
+            entry.name(),
+            file,
+            name_at(entry, place, file),
+        )?;
+    }
     push_other_sdist(alloc, &mut list, entry.name(), entry.sdist())?;
     Ok(list)
 }
 
-/// The file names of wheels that are of another package than this one.
-fn wheels_of_others(
-    alloc: Global,
-    name: &str,
-    wheels: &[NamedWheel<'_>],
-) -> Result<Vec<String>, AllocError>
-    ensures { IfOk result (λ list. map string_bytes list.items
-        ≡ flat_map (wheel_where (is_other_name name.now)) (map lent_wheel wheels.now)) }
-{
-    let mut list = Vec::new(alloc);
-    for wheel in wheels {
-        push_other_wheel(alloc, &mut list, name, *wheel)?;
-    }
-    Ok(list)
-}
-
+/// Adds the file name of a wheel, where that is of another package than this one.
 fn push_other_wheel(
     alloc: Global,
     list: &mut Vec<String>,
     name: &str,
-    wheel: NamedWheel<'_>,
+    file: &WheelFile,
+    wheel: Option<&WheelName>,
 ) -> Result<(), AllocError>
     ensures { OnOk result (map string_bytes list.new.items ≡ map string_bytes list.old.items
-        ++ wheel_where (is_other_name name.now) (lent_wheel wheel.entry)) }
+        ++ wheel_where (is_other_name name.now) (file.now, option_copied wheel.entry)) }
 {
-    let Some(parts) = wheel.name else {
+    let Some(parts) = wheel else {
         return Ok(());
     };
     if is_other_name(alloc, name, parts)? {
-        push_file_name(alloc, list, wheel.file)?;
+        push_file_name(alloc, list, file)?;
     }
     Ok(())
 }
@@ -192,21 +161,9 @@ fn push_other_sdist(
     ensures { OnOk result (map string_bytes list.new.items ≡ map string_bytes list.old.items
         ++ option_map_or (name_where (is_other_sdist name.now)) (option_copied sdist.entry) []) }
 {
-    match sdist {
-        Some(file) => push_sdist_of_another(alloc, list, name, file),
-        None => Ok(()),
-    }
-}
-
-fn push_sdist_of_another(
-    alloc: Global,
-    list: &mut Vec<String>,
-    name: &str,
-    file: &Sdist,
-) -> Result<(), AllocError>
-    ensures { OnOk result (map string_bytes list.new.items
-        ≡ map string_bytes list.old.items ++ name_where (is_other_sdist name.now) file.now) }
-{
+    let Some(file) = sdist else {
+        return Ok(());
+    };
     let Some(own) = file.file_name() else {
         return Ok(());
     };
@@ -242,7 +199,7 @@ fn has_front_of(alloc: Global, name: &str, file: &str) -> Result<bool, AllocErro
 {
     let mut front = String::new(alloc);
     let mut left = file;
-    while let Some((piece, rest)) = around_dash(left) {
+    while let Some((piece, rest)) = around(left, b'-') {
         front.push_str(piece)?;
         if is_name_of(alloc, name, front.as_str())? {
             return Ok(true);
@@ -251,13 +208,6 @@ fn has_front_of(alloc: Global, name: &str, file: &str) -> Result<bool, AllocErro
         left = rest;
     }
     Ok(false)
-}
-
-/// What stands before and behind the first `-`.
-fn around_dash(text: &str) -> Option<(&str, &str)>
-    ensures { option_map (λ cut. (cut.0.now, cut.1.now)) result ≡ cut_at 45 text.now }
-{
-    text.split_once('-')
 }
 
 /// Whether the text is a name whose normal form is this one.
@@ -270,16 +220,16 @@ fn is_name_of(alloc: Global, name: &str, text: &str) -> Result<bool, AllocError>
 // ---- other versions
 
 /// The file names of wheels of another version than the entry should have.
-fn other_versions(
-    alloc: Global,
-    entry: &Entry,
-    wheels: &[NamedWheel<'_>],
-) -> Result<Vec<String>, AllocError>
-    requires { map lent_wheel wheels.now ≡ read_wheels entry.now }
+fn other_versions(alloc: Global, entry: &Entry) -> Result<Vec<String>, AllocError>
     ensures { IfOk result (λ list. map string_bytes list.items ≡ other_versions entry.now) }
 {
     let wanted = wanted_version(alloc, entry)?;
-    wheels_of_versions(alloc, wanted.as_ref(), wheels)
+    let mut list = Vec::new(alloc);
+    for (place, file) in entry.wheels().iter().enumerate() {
+        let name = name_at(entry, place, file);
+        push_other_version(alloc, &mut list, wanted.as_ref(), file, name)?;
+    }
+    Ok(list)
 }
 
 /// The version that the files should have: the entry's, or where it has none that of its first
@@ -308,33 +258,20 @@ fn first_version(names: &[Option<WheelName>]) -> Result<Option<Version>, AllocEr
     Ok(None)
 }
 
-fn wheels_of_versions(
-    alloc: Global,
-    wanted: Option<&Version>,
-    wheels: &[NamedWheel<'_>],
-) -> Result<Vec<String>, AllocError>
-    ensures { IfOk result (λ list. map string_bytes list.items
-        ≡ flat_map (wheel_where (is_other_version (option_copied wanted.entry)))
-        (map lent_wheel wheels.now)) }
-{
-    let mut list = Vec::new(alloc);
-    for wheel in wheels {
-        push_other_version(alloc, &mut list, wanted, *wheel)?;
-    }
-    Ok(list)
-}
-
+/// Adds the file name of a wheel, where that is of another version than this one.
 fn push_other_version(
     alloc: Global,
     list: &mut Vec<String>,
     wanted: Option<&Version>,
-    wheel: NamedWheel<'_>,
+    file: &WheelFile,
+    wheel: Option<&WheelName>,
 ) -> Result<(), AllocError>
     ensures { OnOk result (map string_bytes list.new.items ≡ map string_bytes list.old.items
-        ++ wheel_where (is_other_version (option_copied wanted.entry)) (lent_wheel wheel.entry)) }
+        ++ wheel_where (is_other_version (option_copied wanted.entry))
+        (file.now, option_copied wheel.entry)) }
 {
-    match wheel.name {
-        Some(parts) if is_other_version(wanted, parts) => push_file_name(alloc, list, wheel.file),
+    match wheel {
+        Some(parts) if is_other_version(wanted, parts) => push_file_name(alloc, list, file),
         _ => Ok(()),
     }
 }
@@ -371,22 +308,9 @@ fn push_same_sdist(
     ensures { OnOk result (map string_bytes list.new.items ≡ map string_bytes list.old.items
         ++ option_map_or (name_where (contains_text earlier.now)) (option_copied sdist.entry) []) }
 {
-    match sdist {
-        Some(file) => push_where_earlier(alloc, list, earlier, file),
-        None => Ok(()),
-    }
-}
-
-/// Adds the file name of a file where an earlier file has it.
-fn push_where_earlier(
-    alloc: Global,
-    list: &mut Vec<String>,
-    earlier: &BTreeSet<String>,
-    file: &DistributionFile,
-) -> Result<(), AllocError>
-    ensures { OnOk result (map string_bytes list.new.items ≡ map string_bytes list.old.items
-        ++ name_where (contains_text earlier.now) file.now) }
-{
+    let Some(file) = sdist else {
+        return Ok(());
+    };
     match file.file_name() {
         Some(name) if earlier.contains(name) => Ok(list.push(shown_name(alloc, file, name)?)?),
         _ => Ok(()),

@@ -2,8 +2,8 @@
 
 ghost use Rattle.std.specs.Prelude.{◌≡◌, ◌++◌, IfOk, OnOk, map, option_map, string_bytes};
 ghost use Rattle.std.specs.Option.{option_copied};
-ghost use Rattle.pylock_audit.specs.Finding.{found_at, found_each};
-ghost use Rattle.pylock_audit.specs.Finding.{found_where, told_where};
+ghost use Rattle.pylock_audit.specs.Finding.{findings_at, findings_each};
+ghost use Rattle.pylock_audit.specs.Finding.{finding_where, told_where};
 ghost use Rattle.pylock_audit.specs.Words.{finding_word};
 
 use std::alloc::{AllocError, Global};
@@ -131,17 +131,17 @@ impl Finding {
 }
 
 /// A finding, and where it is.
-pub struct Found {
+pub struct LockFinding {
     number: usize,
     name: Option<String>,
     finding: Finding,
 }
 
-impl Model for Found {
+impl Model for LockFinding {
     ghost use Rattle.std.specs.Prelude.{option_map, string_bytes};
-    ghost use Rattle.pylock_audit.specs.Finding.{FoundValue};
+    ghost use Rattle.pylock_audit.specs.Finding.{LockFindingValue};
 
-    ghost Value = { FoundValue };
+    ghost Value = { LockFindingValue };
 
     ghost view = { λ f. record {
       number = f.number;
@@ -150,9 +150,9 @@ impl Model for Found {
     } };
 }
 
-impl Drop for Found {
+impl Drop for LockFinding {
     fn drop(self) {
-        let Found {
+        let LockFinding {
             number: _,
             name: _,
             finding: _,
@@ -160,7 +160,7 @@ impl Drop for Found {
     }
 }
 
-impl Found {
+impl LockFinding {
     /// The number of the entry, from 1; of the head it is 0.
     pub fn number(&self) -> usize
         ensures { result ≡ self.now.number }
@@ -202,7 +202,7 @@ pub(crate) fn push_where(
     detail: Option<String>,
 ) -> Result<(), AllocError>
     ensures { OnOk result (findings.new.items ≡ findings.old.items
-        ++ found_where stands kind (option_map string_bytes detail)) }
+        ++ finding_where stands kind (option_map string_bytes detail)) }
 {
     if stands {
         findings.push(Finding { kind, detail })?;
@@ -217,7 +217,7 @@ pub(crate) fn push_each(
     details: Vec<String>,
 ) -> Result<(), AllocError>
     ensures { OnOk result (findings.new.items ≡ findings.old.items
-        ++ found_each kind (map string_bytes details.items)) }
+        ++ findings_each kind (map string_bytes details.items)) }
 {
     for detail in details {
         findings.push(Finding {
@@ -229,41 +229,26 @@ pub(crate) fn push_each(
 }
 
 /// Adds the findings of the head or of an entry.
-pub(crate) fn push_found(
+pub(crate) fn push_findings_at(
     alloc: Global,
-    found: &mut Vec<Found>,
+    found: &mut Vec<LockFinding>,
     number: usize,
     name: Option<&str>,
     findings: Vec<Finding>,
 ) -> Result<(), AllocError>
     ensures { OnOk result (found.new.items ≡ found.old.items
-        ++ found_at number (option_copied name.entry) findings.items) }
+        ++ findings_at number (option_copied name.entry) findings.items) }
 {
     for finding in findings {
-        found.push(found_in(alloc, number, name, finding)?)?;
+        let name = match name {
+            Some(name) => Some(String::from_str(alloc, name)?),
+            None => None,
+        };
+        found.push(LockFinding {
+            number,
+            name,
+            finding,
+        })?;
     }
     Ok(())
-}
-
-fn found_in(
-    alloc: Global,
-    number: usize,
-    name: Option<&str>,
-    finding: Finding,
-) -> Result<Found, AllocError>
-    ensures { IfOk result (λ found. found ≡ record {
-      number = number;
-      name = option_copied name.entry;
-      finding = finding;
-    }) }
-{
-    let name = match name {
-        Some(name) => Some(String::from_str(alloc, name)?),
-        None => None,
-    };
-    Ok(Found {
-        number,
-        name,
-        finding,
-    })
 }

@@ -6,13 +6,15 @@ ghost use Rattle.toml.specs.View.{items_view, table_view, view};
 ghost use Rattle.pytext.specs.Agreement.{Gives};
 ghost use Rattle.pylock_audit.specs.Audit.{findings_of, head_findings, items_at};
 ghost use Rattle.pylock_audit.specs.Audit.{other_lock_version};
-ghost use Rattle.pylock_audit.specs.Finding.{found_at};
+ghost use Rattle.pylock_audit.specs.Finding.{findings_at};
 ghost use Rattle.pylock_audit.specs.Inner.Tables.{document_findings, entry_findings_by};
 ghost use Rattle.pylock_audit.specs.Inner.Tables.{lock_findings_by, of_entries_by, tables_in};
 
 use crate::entry::entry_findings;
-use crate::finding::{Finding, FindingKind, Found, push_each, push_found, push_where, told_where};
-use crate::keys::{Level, field, push_unknown};
+use crate::finding::{
+    Finding, FindingKind, LockFinding, push_each, push_findings_at, push_where, told_where,
+};
+use crate::keys::{LockTable, field, push_unknown};
 use crate::tables::{TableFindings, table_findings, text_at};
 use pylock_core::{Entry, Head, Lock, LockError};
 use pylock_readers::{MOST_ENTRIES, read_document};
@@ -28,7 +30,7 @@ use toml::{Table, Value};
 /// for the text of each finding, and for lists of the sources and the comparisons of one entry at a
 /// time.
 #[tactic(auto, using(crate::proofs::TableLemmas::read_once))]
-pub fn audit(alloc: Global, bytes: &[u8]) -> Result<Vec<Found>, LockError>
+pub fn audit(alloc: Global, bytes: &[u8]) -> Result<Vec<LockFinding>, LockError>
     ensures { Gives LockError.Memory (λ found. found.items) result (findings_of bytes.now) }
 {
     let document = read_document(alloc, bytes)?;
@@ -36,7 +38,7 @@ pub fn audit(alloc: Global, bytes: &[u8]) -> Result<Vec<Found>, LockError>
 }
 
 /// The findings of the lock that a document is, or its refusal.
-fn document_findings(alloc: Global, document: Table) -> Result<Vec<Found>, LockError>
+fn document_findings(alloc: Global, document: Table) -> Result<Vec<LockFinding>, LockError>
     ensures { Gives LockError.Memory (λ found. found.items) result
         (document_findings (table_view document)) }
 {
@@ -52,12 +54,12 @@ fn lock_findings(
     head: Vec<Finding>,
     tables: Vec<TableFindings>,
     lock: &Lock,
-) -> Result<Vec<Found>, AllocError>
+) -> Result<Vec<LockFinding>, AllocError>
     ensures { IfOk result (λ found. found.items
         ≡ lock_findings_by head.items tables.items lock.now) }
 {
     let mut found = Vec::new(alloc);
-    push_found(alloc, &mut found, 0, None, head)?;
+    push_findings_at(alloc, &mut found, 0, None, head)?;
     push_entries(alloc, &mut found, lock, tables)?;
     Ok(found)
 }
@@ -73,7 +75,7 @@ fn head_findings(alloc: Global, document: &Table) -> Result<Vec<Finding>, AllocE
     let versions = other_lock_version(alloc, document)?;
     push_each(&mut findings, FindingKind::LockVersion, versions)?;
     let mut paths = Vec::new(alloc);
-    push_unknown(alloc, &mut paths, "", Level::Head, document)?;
+    push_unknown(alloc, &mut paths, LockTable::Head, document)?;
     push_each(&mut findings, FindingKind::UnknownKey, paths)?;
     let is_absent = field(document, "packages").is_none();
     push_where(&mut findings, is_absent, FindingKind::NoPackages, None)?;
@@ -119,7 +121,7 @@ fn items_at(field: Option<&Value>) -> &[Value]
 /// Adds the findings of the entries, each with what its table gave.
 fn push_entries(
     alloc: Global,
-    found: &mut Vec<Found>,
+    found: &mut Vec<LockFinding>,
     lock: &Lock,
     tables: Vec<TableFindings>,
 ) -> Result<(), AllocError>
@@ -140,15 +142,15 @@ fn push_entries(
 /// Adds the findings of an entry, which has this number, with what its table gave.
 fn push_entry(
     alloc: Global,
-    found: &mut Vec<Found>,
+    found: &mut Vec<LockFinding>,
     head: &Head,
     number: usize,
     table: TableFindings,
     entry: &Entry,
 ) -> Result<(), AllocError>
     ensures { OnOk result (found.new.items ≡ found.old.items
-        ++ found_at number (Some entry.now.name) (entry_findings_by head.now table entry.now)) }
+        ++ findings_at number (Some entry.now.name) (entry_findings_by head.now table entry.now)) }
 {
     let findings = entry_findings(alloc, head, table, entry)?;
-    push_found(alloc, found, number, Some(entry.name()), findings)
+    push_findings_at(alloc, found, number, Some(entry.name()), findings)
 }

@@ -1,59 +1,40 @@
 //! The keys of a lock that PEP 751 doesn't name.
 
-ghost use Rattle.std.specs.Prelude.{◌≡◌, ◌+◌, ◌++◌, IfOk, OnOk, Some, map, not, option_map};
-ghost use Rattle.std.specs.Prelude.{string_bytes};
-ghost use Rattle.std.specs.List.{list_any};
+ghost use Rattle.std.specs.Prelude.{◌≡◌, ◌++◌, IfOk, OnOk, map, option_map, string_bytes};
 ghost use Rattle.toml.specs.Data.{get_member};
 ghost use Rattle.toml.specs.View.{items_view, table_view, view};
-ghost use Rattle.pylock_audit.specs.Keys.{is_named, table_keys, unknown_in, unknown_in_wheels};
-ghost use Rattle.pylock_audit.specs.Keys.{unknown_keys, unknown_of_entry, unknown_of_wheels};
-ghost use Rattle.pylock_audit.specs.Keys.{wheel_path};
+ghost use Rattle.pylock_audit.specs.Keys.{is_named, source_path, table_path, unknown_in};
+ghost use Rattle.pylock_audit.specs.Keys.{unknown_in_wheels, unknown_keys, unknown_of_entry};
+ghost use Rattle.pylock_audit.specs.Keys.{unknown_of_wheels};
 
+use pylock_core::PickSource;
 use std::alloc::{AllocError, Global};
 use toml::{Table, Value};
 
 /// The tables of a lock.
 #[derive(Clone, Copy)]
-pub(crate) enum Level {
+pub(crate) enum LockTable {
     /// The document.
     Head,
     /// A member of `packages`.
     Entry,
-    /// `packages.vcs`.
-    Vcs,
-    /// `packages.directory`.
-    Directory,
-    /// `packages.archive`.
-    Archive,
-    /// `packages.sdist`, or a member of `packages.wheels`.
-    File,
+    /// A source of an entry.
+    OfSource(PickSource),
 }
 
-/// Whether PEP 751 names the key in a table of this level. Letter case counts.
-fn is_named(level: Level, key: &str) -> bool
-    ensures { result ≡ is_named level key.now }
+/// Whether PEP 751 names the key in this table. Letter case counts.
+fn is_named(table: LockTable, key: &str) -> bool
+    ensures { result ≡ is_named table key.now }
 {
-    match level {
-        Level::Head => is_head_key(key),
-        Level::Entry => is_entry_key(key),
-        Level::Vcs => matches!(
-            key,
-            "type" | "url" | "path" | "requested-revision" | "commit-id" | "subdirectory"
-        ),
-        Level::Directory => matches!(key, "path" | "editable" | "subdirectory"),
-        Level::Archive => matches!(
-            key,
-            "url" | "path" | "size" | "upload-time" | "hashes" | "subdirectory"
-        ),
-        Level::File => matches!(
-            key,
-            "name" | "upload-time" | "url" | "path" | "size" | "hashes"
-        ),
+    match table {
+        LockTable::Head => is_head_key(key),
+        LockTable::Entry => is_entry_key(key),
+        LockTable::OfSource(name) => is_source_key(name, key),
     }
 }
 
 fn is_head_key(key: &str) -> bool
-    ensures { result ≡ is_named Level.Head key.now }
+    ensures { result ≡ is_named LockTable.Head key.now }
 {
     matches!(
         key,
@@ -70,7 +51,7 @@ fn is_head_key(key: &str) -> bool
 }
 
 fn is_entry_key(key: &str) -> bool
-    ensures { result ≡ is_named Level.Entry key.now }
+    ensures { result ≡ is_named LockTable.Entry key.now }
 {
     matches!(
         key,
@@ -90,32 +71,27 @@ fn is_entry_key(key: &str) -> bool
     )
 }
 
-/// The value of a key.
-pub(crate) fn field<'a>(table: &'a Table, key: &str) -> Option<&'a Value>
-    ensures { option_map (λ v. view v.now) result ≡ get_member key.now (table_view table.now) }
+fn is_source_key(name: PickSource, key: &str) -> bool
+    ensures { result ≡ is_named (LockTable.OfSource name) key.now }
 {
-    table.get(key)
+    match name {
+        PickSource::Vcs => matches!(
+            key,
+            "type" | "url" | "path" | "requested-revision" | "commit-id" | "subdirectory"
+        ),
+        PickSource::Directory => matches!(key, "path" | "editable" | "subdirectory"),
+        PickSource::Archive => matches!(
+            key,
+            "url" | "path" | "size" | "upload-time" | "hashes" | "subdirectory"
+        ),
+        PickSource::Wheel(_) | PickSource::Sdist => matches!(
+            key,
+            "name" | "upload-time" | "url" | "path" | "size" | "hashes"
+        ),
+    }
 }
 
-/// Adds the keys of a table that aren't named, each behind the path of the table.
-#[tactic(auto, using(crate::proofs::KeyLemmas::keys_shown))]
-pub(crate) fn push_unknown(
-    alloc: Global,
-    paths: &mut Vec<String>,
-    path: &str,
-    level: Level,
-    table: &Table,
-) -> Result<(), AllocError>
-    ensures { OnOk result (map string_bytes paths.new.items ≡ map string_bytes paths.old.items
-        ++ unknown_keys path.now level (table_view table.now)) }
-{
-    for key in table.keys() {
-        if !is_named(level, key.as_str()) {
-            paths.push(joined(alloc, path, key.as_str())?)?;
-        }
-    }
-    Ok(())
-}
+// ---- paths
 
 /// Two texts, one behind the other.
 pub(crate) fn joined(alloc: Global, front: &str, back: &str) -> Result<String, AllocError>
@@ -126,19 +102,80 @@ pub(crate) fn joined(alloc: Global, front: &str, back: &str) -> Result<String, A
     Ok(text)
 }
 
+/// The path of a key of a source. Wheels are counted from 1.
+pub(crate) fn source_key_path(
+    alloc: Global,
+    name: PickSource,
+    key: &str,
+) -> Result<String, AllocError>
+    ensures { IfOk result (λ text. string_bytes text ≡ source_path name ++ key.now) }
+{
+    match name {
+        PickSource::Vcs => joined(alloc, "vcs ", key),
+        PickSource::Directory => joined(alloc, "directory ", key),
+        PickSource::Archive => joined(alloc, "archive ", key),
+        PickSource::Wheel(place) => {
+            let number = place as u128 + 1;
+            let mut path = format!(in alloc; "wheels {number} ")?;
+            path.push_str(key)?;
+            Ok(path)
+        }
+        PickSource::Sdist => joined(alloc, "sdist ", key),
+    }
+}
+
+/// The path of a key of a table.
+fn key_path(alloc: Global, table: LockTable, key: &str) -> Result<String, AllocError>
+    ensures { IfOk result (λ text. string_bytes text ≡ table_path table ++ key.now) }
+{
+    match table {
+        LockTable::Head | LockTable::Entry => String::from_str(alloc, key),
+        LockTable::OfSource(name) => source_key_path(alloc, name, key),
+    }
+}
+
+// ---- the keys that aren't named
+
+/// The value of a key.
+pub(crate) fn field<'a>(table: &'a Table, key: &str) -> Option<&'a Value>
+    ensures { option_map (λ v. view v.now) result ≡ get_member key.now (table_view table.now) }
+{
+    table.get(key)
+}
+
+/// Adds the keys of a table that aren't named, each by its path.
+#[tactic(auto, using(crate::proofs::KeyLemmas::keys_shown))]
+pub(crate) fn push_unknown(
+    alloc: Global,
+    paths: &mut Vec<String>,
+    table: LockTable,
+    members: &Table,
+) -> Result<(), AllocError>
+    ensures { OnOk result (map string_bytes paths.new.items
+        ≡ map string_bytes paths.old.items ++ unknown_keys table (table_view members.now)) }
+{
+    for key in members.keys() {
+        if !is_named(table, key.as_str()) {
+            paths.push(key_path(alloc, table, key.as_str())?)?;
+        }
+    }
+    Ok(())
+}
+
 /// Adds those of a source, which is a table.
 fn push_unknown_in(
     alloc: Global,
     paths: &mut Vec<String>,
-    path: &str,
-    level: Level,
+    name: PickSource,
     field: Option<&Value>,
 ) -> Result<(), AllocError>
     ensures { OnOk result (map string_bytes paths.new.items ≡ map string_bytes paths.old.items
-        ++ unknown_in path.now level (option_map (λ v. view v.now) field.entry)) }
+        ++ unknown_in name (option_map (λ v. view v.now) field.entry)) }
 {
     match field {
-        Some(Value::Table(table)) => push_unknown(alloc, paths, path, level, table),
+        Some(Value::Table(source)) => {
+            push_unknown(alloc, paths, LockTable::OfSource(name), source)
+        }
         _ => Ok(()),
     }
 }
@@ -164,71 +201,12 @@ fn push_unknown_of_wheels(
     wheels: &[Value],
 ) -> Result<(), AllocError>
     ensures { OnOk result (map string_bytes paths.new.items ≡ map string_bytes paths.old.items
-        ++ unknown_of_wheels 1 (items_view wheels.now)) }
+        ++ unknown_of_wheels 0 (items_view wheels.now)) }
 {
     for (place, wheel) in wheels.iter().enumerate() {
-        push_unknown_of_wheel(alloc, paths, place, wheel)?;
+        push_unknown_in(alloc, paths, PickSource::Wheel(place), Some(wheel))?;
     }
     Ok(())
-}
-
-/// Adds those of the wheel at this place.
-fn push_unknown_of_wheel(
-    alloc: Global,
-    paths: &mut Vec<String>,
-    place: usize,
-    wheel: &Value,
-) -> Result<(), AllocError>
-    ensures { OnOk result (map string_bytes paths.new.items ≡ map string_bytes paths.old.items
-        ++ unknown_in (wheel_path (place + 1)) Level.File (Some (view wheel.now))) }
-{
-    match wheel {
-        Value::Table(table) => push_unknown_of_file(alloc, paths, place, table),
-        _ => Ok(()),
-    }
-}
-
-/// Adds those of the table of the wheel at this place, whose path is made where there are any.
-fn push_unknown_of_file(
-    alloc: Global,
-    paths: &mut Vec<String>,
-    place: usize,
-    file: &Table,
-) -> Result<(), AllocError>
-    ensures { OnOk result (map string_bytes paths.new.items ≡ map string_bytes paths.old.items
-        ++ unknown_keys (wheel_path (place + 1)) Level.File (table_view file.now)) }
-{
-    if !has_unknown(Level::File, file) {
-        return Ok(());
-    }
-    let path = wheel_path(alloc, place)?;
-    push_unknown(alloc, paths, path.as_str(), Level::File, file)
-}
-
-/// Whether a key of the table isn't named.
-#[tactic(auto, using(crate::proofs::KeyLemmas::keys_shown))]
-fn has_unknown(level: Level, table: &Table) -> bool
-    ensures { result
-        ≡ list_any (λ key. not (is_named level key)) (table_keys (table_view table.now)) }
-{
-    for key in table.keys() {
-        if !is_named(level, key.as_str()) {
-            return true;
-        }
-    }
-    false
-}
-
-/// The path of the wheel at this place, which is counted from 0 here and from 1 in the path.
-pub(crate) fn wheel_path(alloc: Global, place: usize) -> Result<String, AllocError>
-    ensures { IfOk result (λ path. string_bytes path ≡ wheel_path (place + 1)) }
-{
-    let number = place as u128 + 1;
-    let number = format!(in alloc; "{number}")?;
-    let mut path = String::from_str(alloc, "wheels ")?;
-    path.push_str(number.as_str())?;
-    path.push_str(" ")?;
-    Ok(path)
 }
 
 /// The keys of an entry and of its sources that aren't named.
@@ -237,24 +215,21 @@ pub(crate) fn unknown_of_entry(alloc: Global, entry: &Table) -> Result<Vec<Strin
         ≡ unknown_of_entry (table_view entry.now)) }
 {
     let mut paths = Vec::new(alloc);
-    push_unknown(alloc, &mut paths, "", Level::Entry, entry)?;
-    push_unknown_in(alloc, &mut paths, "vcs ", Level::Vcs, field(entry, "vcs"))?;
-    let directory = field(entry, "directory");
-    push_unknown_in(alloc, &mut paths, "directory ", Level::Directory, directory)?;
+    push_unknown(alloc, &mut paths, LockTable::Entry, entry)?;
+    push_unknown_in(alloc, &mut paths, PickSource::Vcs, field(entry, "vcs"))?;
     push_unknown_in(
         alloc,
         &mut paths,
-        "archive ",
-        Level::Archive,
+        PickSource::Directory,
+        field(entry, "directory"),
+    )?;
+    push_unknown_in(
+        alloc,
+        &mut paths,
+        PickSource::Archive,
         field(entry, "archive"),
     )?;
     push_unknown_in_wheels(alloc, &mut paths, field(entry, "wheels"))?;
-    push_unknown_in(
-        alloc,
-        &mut paths,
-        "sdist ",
-        Level::File,
-        field(entry, "sdist"),
-    )?;
+    push_unknown_in(alloc, &mut paths, PickSource::Sdist, field(entry, "sdist"))?;
     Ok(paths)
 }

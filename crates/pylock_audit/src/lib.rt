@@ -4,9 +4,10 @@
 //!
 //! It stands on `pylock_core`, for the lock, on `toml`, for the keys that a lock ignores, on
 //! `pylock_messages`, for control characters, and on `pylock_json`. Begin with [`audit`], of the
-//! bytes of a lock. It gives the findings in order, or the refusal of the lock; each [`Found`] has
-//! the number of its entry, a [`FindingKind`] and a detail. [`findings_document`] makes JSON of
-//! them. `docs/FORMATS.md` has the table of findings, at `pylock audit`.
+//! bytes of a lock. It gives the findings in order, or the refusal of the lock; each
+//! [`LockFinding`] has the number of its entry, a [`FindingKind`] and a detail.
+//! [`findings_document`] makes JSON of them. `docs/FORMATS.md` has the table of findings, at `pylock
+//! audit`.
 //!
 //! What the program does with them, from `crates/pylock_program/src/reply.rt`:
 //!
@@ -35,5 +36,5 @@ mod unsafe_text;
 mod url;
 
 pub use document::findings_document;
-pub use finding::{Finding, FindingKind, Found};
+pub use finding::{Finding, FindingKind, LockFinding};
 pub use findings::audit;

@@ -4,13 +4,13 @@ ghost use Rattle.std.specs.Prelude.{◌≡◌, ◌++◌, ◌∷◌, ◌&&◌, []
 ghost use Rattle.std.specs.Prelude.{option_map, string_bytes};
 ghost use Rattle.std.specs.List.{flat_map, list_all};
 ghost use Rattle.std.specs.Option.{option_copied, option_map_or};
-ghost use Rattle.pylock_readers.specs.Text.{text_pairs};
+ghost use Rattle.pylock_readers.specs.Text.{text_pair, text_pairs};
 ghost use Rattle.pylock_core.specs.Session.Picks.{lent_named, lent_source};
-ghost use Rattle.pylock_audit.specs.Hash.{is_bad, is_odd};
+ghost use Rattle.pylock_audit.specs.Keys.{source_path};
 ghost use Rattle.pylock_audit.specs.Source.{algorithms, details, file_label, file_of};
 ghost use Rattle.pylock_audit.specs.Source.{has_commit_hashes, hashes_of, is_commit_hash};
-ghost use Rattle.pylock_audit.specs.Source.{is_hash_digit, is_open_url, label, moving_commit};
-ghost use Rattle.pylock_audit.specs.Source.{name_where, over_hashes, over_sources, source_path};
+ghost use Rattle.pylock_audit.specs.Source.{is_hash_digit, is_open_url, is_told, label};
+ghost use Rattle.pylock_audit.specs.Source.{moving_commit, name_where, over_hashes, over_sources};
 ghost use Rattle.pylock_audit.specs.Source.{subdirectory_of, tested_hashes, text_where, url_of};
 ghost use Rattle.pylock_audit.specs.Source.{weakly_hashed, without_hash};
 ghost use Rattle.pylock_audit.specs.Unsafe.{is_unsafe_name, is_unsafe_path};
@@ -20,7 +20,7 @@ use crate::control::push_controlled;
 use crate::file_name::{shown_file_name, shown_name};
 use crate::finding::FindingKind;
 use crate::hash::{Hash, is_bad, is_odd, is_weak};
-use crate::keys::{joined, wheel_path};
+use crate::keys::{joined, source_key_path};
 use crate::unsafe_text::{is_unsafe_name, is_unsafe_path};
 use crate::url::{has_credentials, is_https, is_safe_remote, shown_url};
 use pylock_core::{DistributionFile, NamedSource, PickSource, PickedSource, Vcs};
@@ -112,28 +112,6 @@ fn label(alloc: Global, source: PickedSource<'_>) -> Result<String, AllocError>
     }
 }
 
-/// The path of a key of the source, but for the key.
-fn source_path(alloc: Global, name: PickSource) -> Result<String, AllocError>
-    ensures { IfOk result (λ text. string_bytes text ≡ source_path name) }
-{
-    match name {
-        PickSource::Vcs => String::from_str(alloc, "vcs "),
-        PickSource::Directory => String::from_str(alloc, "directory "),
-        PickSource::Archive => String::from_str(alloc, "archive "),
-        PickSource::Wheel(place) => wheel_path(alloc, place),
-        PickSource::Sdist => String::from_str(alloc, "sdist "),
-    }
-}
-
-/// The path of a key of the source.
-pub(crate) fn key_path(alloc: Global, name: PickSource, key: &str) -> Result<String, AllocError>
-    ensures { IfOk result (λ text. string_bytes text ≡ source_path name ++ key.now) }
-{
-    let mut text = source_path(alloc, name)?;
-    text.push_str(key)?;
-    Ok(text)
-}
-
 // ---- hashes
 
 /// Adds the label of a file, a space and a text.
@@ -146,10 +124,8 @@ fn push_labelled(
     ensures { OnOk result (map string_bytes list.new.items ≡ map string_bytes list.old.items
         ++ (label (lent_source source.entry) ++ codes " " ++ text.now) ∷ []) }
 {
-    let mut line = label(alloc, source)?;
-    line.push_str(" ")?;
-    line.push_str(text)?;
-    list.push(line)?;
+    let label = label(alloc, source)?;
+    list.push(format!(in alloc; "{label} {text}")?)?;
     Ok(())
 }
 
@@ -209,82 +185,40 @@ fn push_more(text: &mut String, hashes: &[Hash]) -> Result<(), AllocError>
     Ok(())
 }
 
-/// Adds the hashes that have what stands between hashes where a line shows them.
-fn push_odd_hashes(
+/// Adds the hashes that this kind of finding tells of.
+fn push_tested_hashes(
     alloc: Global,
     list: &mut Vec<String>,
+    kind: FindingKind,
     source: PickedSource<'_>,
 ) -> Result<(), AllocError>
     ensures { OnOk result (map string_bytes list.new.items ≡ map string_bytes list.old.items
-        ++ over_hashes (tested_hashes is_odd (lent_source source.entry))
+        ++ over_hashes (tested_hashes kind (lent_source source.entry))
         (lent_source source.entry)) }
 {
-    match hashes_of(source) {
-        Some(hashes) => push_odd_of(alloc, list, source, hashes),
-        None => Ok(()),
-    }
-}
-
-fn push_odd_of(
-    alloc: Global,
-    list: &mut Vec<String>,
-    source: PickedSource<'_>,
-    hashes: &[Hash],
-) -> Result<(), AllocError>
-    ensures { OnOk result (map string_bytes list.new.items ≡ map string_bytes list.old.items
-        ++ tested_hashes is_odd (lent_source source.entry) (text_pairs hashes.now)) }
-{
+    let Some(hashes) = hashes_of(source) else {
+        return Ok(());
+    };
     for hash in hashes {
-        if is_odd(hash) {
+        if is_told(kind, hash) {
             push_labelled(alloc, list, source, hash.0.as_str())?;
         }
     }
     Ok(())
 }
 
-/// Adds the hashes whose value is none of their algorithm.
-fn push_bad_hashes(
-    alloc: Global,
-    list: &mut Vec<String>,
-    source: PickedSource<'_>,
-) -> Result<(), AllocError>
-    ensures { OnOk result (map string_bytes list.new.items ≡ map string_bytes list.old.items
-        ++ over_hashes (tested_hashes is_bad (lent_source source.entry))
-        (lent_source source.entry)) }
+/// Whether this kind of finding tells of the hash.
+fn is_told(kind: FindingKind, hash: &Hash) -> bool
+    ensures { result ≡ is_told kind (text_pair hash.now) }
 {
-    match hashes_of(source) {
-        Some(hashes) => push_bad_of(alloc, list, source, hashes),
-        None => Ok(()),
+    match kind {
+        FindingKind::OddHash => is_odd(hash),
+        FindingKind::BadHash => is_bad(hash),
+        _ => false,
     }
-}
-
-fn push_bad_of(
-    alloc: Global,
-    list: &mut Vec<String>,
-    source: PickedSource<'_>,
-    hashes: &[Hash],
-) -> Result<(), AllocError>
-    ensures { OnOk result (map string_bytes list.new.items ≡ map string_bytes list.old.items
-        ++ tested_hashes is_bad (lent_source source.entry) (text_pairs hashes.now)) }
-{
-    for hash in hashes {
-        if is_bad(hash) {
-            push_labelled(alloc, list, source, hash.0.as_str())?;
-        }
-    }
-    Ok(())
 }
 
 // ---- names, paths and URLs
-
-/// Adds a copy of a text.
-fn push_copy(alloc: Global, list: &mut Vec<String>, text: &str) -> Result<(), AllocError>
-    ensures { OnOk result (map string_bytes list.new.items
-        ≡ map string_bytes list.old.items ++ text.now ∷ []) }
-{
-    list.push(String::from_str(alloc, text)?)?;
-    Ok(())
-}
 
 /// Adds a file name that names no file of its folder.
 fn push_unsafe_name(
@@ -295,20 +229,9 @@ fn push_unsafe_name(
     ensures { OnOk result (map string_bytes list.new.items ≡ map string_bytes list.old.items
         ++ option_map_or (name_where is_unsafe_name) (file_of (lent_source source.entry)) []) }
 {
-    match file_of(source) {
-        Some(file) => push_unsafe_of(alloc, list, file),
-        None => Ok(()),
-    }
-}
-
-fn push_unsafe_of(
-    alloc: Global,
-    list: &mut Vec<String>,
-    file: &DistributionFile,
-) -> Result<(), AllocError>
-    ensures { OnOk result (map string_bytes list.new.items
-        ≡ map string_bytes list.old.items ++ name_where is_unsafe_name file.now) }
-{
+    let Some(file) = file_of(source) else {
+        return Ok(());
+    };
     match file.file_name() {
         Some(name) if is_unsafe_name(name) => Ok(list.push(shown_name(alloc, file, name)?)?),
         _ => Ok(()),
@@ -325,7 +248,7 @@ fn push_unsafe_path(
         ++ text_where is_unsafe_path (λ path. path) (subdirectory_of (lent_source source.entry))) }
 {
     match subdirectory_of(source) {
-        Some(path) if is_unsafe_path(path) => push_copy(alloc, list, path),
+        Some(path) if is_unsafe_path(path) => Ok(list.push(String::from_str(alloc, path)?)?),
         _ => Ok(()),
     }
 }
@@ -368,7 +291,7 @@ fn push_credentials(
         (url_of (lent_source source.entry))) }
 {
     match url_of(source) {
-        Some(url) if has_credentials(url) => Ok(list.push(key_path(alloc, name, "url")?)?),
+        Some(url) if has_credentials(url) => Ok(list.push(source_key_path(alloc, name, "url")?)?),
         _ => Ok(()),
     }
 }
@@ -397,7 +320,9 @@ fn push_moving_commit(
         ≡ map string_bytes list.old.items ++ moving_commit (lent_source source.entry)) }
 {
     match source {
-        PickedSource::Vcs(vcs) if is_moving(vcs) => push_copy(alloc, list, vcs.commit_id()),
+        PickedSource::Vcs(vcs) if is_moving(vcs) => {
+            Ok(list.push(String::from_str(alloc, vcs.commit_id())?)?)
+        }
         _ => Ok(()),
     }
 }
@@ -425,8 +350,9 @@ fn push_details(
     match kind {
         FindingKind::NoHash => push_without_hash(alloc, list, source),
         FindingKind::WeakHash => push_weakly_hashed(alloc, list, source),
-        FindingKind::OddHash => push_odd_hashes(alloc, list, source),
-        FindingKind::BadHash => push_bad_hashes(alloc, list, source),
+        FindingKind::OddHash | FindingKind::BadHash => {
+            push_tested_hashes(alloc, list, kind, source)
+        }
         FindingKind::UnsafeFileName => push_unsafe_name(alloc, list, source),
         FindingKind::UnsafeSubdirectory => push_unsafe_path(alloc, list, source),
         FindingKind::NotHttps => push_open_url(alloc, list, source),

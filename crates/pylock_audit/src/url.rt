@@ -1,6 +1,6 @@
 //! What a URL names besides its place.
 
-ghost use Rattle.std.specs.Prelude.{◌≡◌, ◌==◌, IfOk, false, is_none, option_map, string_bytes};
+ghost use Rattle.std.specs.Prelude.{◌≡◌, ◌==◌, ◌<◌, IfOk, false, is_none, option_map, string_bytes};
 ghost use Rattle.std.specs.List.{list_any};
 ghost use Rattle.std.specs.Option.{option_copied};
 ghost use Rattle.pywheel_core.specs.Texts.{cut_at};
@@ -44,7 +44,7 @@ pub(crate) fn is_safe_remote(url: &str) -> bool
 fn is_remote_path(text: &str) -> bool
     ensures { result ≡ is_remote_path text.now }
 {
-    match around_colon(text) {
+    match around(text, b':') {
         Some((machine, _)) => has_byte(machine, b'@') && !has_byte(machine, b'/'),
         None => false,
     }
@@ -56,18 +56,12 @@ fn has_byte(text: &str, wanted: u8) -> bool
     text.bytes().any(|b| b == wanted)
 }
 
-/// What stands before and behind the first `:`.
-fn around_colon(text: &str) -> Option<(&str, &str)>
-    ensures { option_map (λ cut. (cut.0.now, cut.1.now)) result ≡ cut_at 58 text.now }
+/// What stands before and behind the first such byte.
+pub(crate) fn around(text: &str, mark: u8) -> Option<(&str, &str)>
+    requires { mark < 128 }
+    ensures { option_map (λ cut. (cut.0.now, cut.1.now)) result ≡ cut_at mark text.now }
 {
-    text.split_once(':')
-}
-
-/// What stands before and behind the first `@`.
-pub(crate) fn around_at(text: &str) -> Option<(&str, &str)>
-    ensures { option_map (λ cut. (cut.0.now, cut.1.now)) result ≡ cut_at 64 text.now }
-{
-    text.split_once('@')
+    text.split_once(mark as char)
 }
 
 /// What stands behind the first `://`.
@@ -165,7 +159,7 @@ fn masked(alloc: Global, url: &str) -> Result<String, AllocError>
 {
     let mut text = String::new(alloc);
     let mut left = url;
-    while let Some((front, back)) = around_colon(left) {
+    while let Some((front, back)) = around(left, b':') {
         text.push_str(front)?;
         if let Some(behind) = behind_slashes(back) {
             text.push_str("://***@")?;
@@ -198,7 +192,7 @@ fn behind_user(text: &str) -> &str
     ensures { result.now ≡ behind_user text.now }
 {
     let mut left = text;
-    while let Some((front, back)) = around_at(left) {
+    while let Some((front, back)) = around(left, b'@') {
         if has_end(front) {
             return left;
         }

@@ -7,10 +7,11 @@ use Rattle.pylock_readers.specs.Entry.{EntryValue}
 use Rattle.pylock_readers.specs.Lock.{HeadValue, LockValue}
 use Rattle.pylock_readers.specs.Lock.Reading.{item_count, lock_in, most_entries}
 use Rattle.pylock_readers.specs.declared.error.LockError.{LockError}
+use Rattle.pylock_core.specs.Session.Picks.{sources}
 use Rattle.pylock_audit.specs.Audit.{head_findings, items_at, members_in}
 use Rattle.pylock_audit.specs.Entry.{of_controls, of_file_names, of_hashes, of_kinds, of_marker}
 use Rattle.pylock_audit.specs.Entry.{of_sources, other_form, refused_version}
-use Rattle.pylock_audit.specs.Finding.{FindingValue, FoundValue, found_at, found_each}
+use Rattle.pylock_audit.specs.Finding.{FindingValue, LockFindingValue, findings_at, findings_each}
 use Rattle.pylock_audit.specs.Keys.{unknown_of_entry}
 use Rattle.pylock_audit.specs.declared.finding.FindingKind.TheVariants as kind
 
@@ -37,36 +38,40 @@ tables_in document = of_tables (looked_at (items_at (get_member (codes "packages
 
 -- the findings that they are
 abbrev pub told_by : TableValue → List FindingValue
-told_by table = found_each kind.UnknownKey table.unknown ++ found_each kind.NameForm table.name
+told_by table =
+    findings_each kind.UnknownKey table.unknown ++ findings_each kind.NameForm table.name
 
 -- those of the keys, the name and the version of an entry
 abbrev pub of_names_by : TableValue → EntryValue → List FindingValue
 of_names_by table entry =
-    found_each kind.UnknownKey table.unknown
-    ++ found_each kind.NameForm table.name
-    ++ found_each kind.Version (refused_version entry)
+    findings_each kind.UnknownKey table.unknown
+    ++ findings_each kind.NameForm table.name
+    ++ findings_each kind.Version (refused_version entry)
 
 -- those of an entry
 abbrev pub entry_findings_by : HeadValue → TableValue → EntryValue → List FindingValue
 entry_findings_by head table entry =
-    of_names_by table entry ++ of_marker head entry ++ of_kinds entry ++ of_hashes entry
-    ++ of_file_names entry ++ of_sources entry ++ of_controls entry
+    of_names_by table entry ++ of_marker head entry ++ of_kinds entry
+    ++ of_hashes (sources entry) ++ of_file_names entry ++ of_sources (sources entry)
+    ++ of_controls entry (sources entry)
 
 -- those of entries, the first of which has this number
-abbrev pub of_entries_by : HeadValue → ℕ → List EntryValue → List TableValue → List FoundValue
+abbrev pub of_entries_by : HeadValue → ℕ → List EntryValue → List TableValue
+    → List LockFindingValue
 of_entries_by head number entries [] = []
 of_entries_by head number [] (table ∷ tables) = []
 of_entries_by head number (entry ∷ entries) (table ∷ tables) =
-    found_at number (Some entry.name) (entry_findings_by head table entry)
+    findings_at number (Some entry.name) (entry_findings_by head table entry)
     ++ of_entries_by head (suc number) entries tables
 
 -- those of a lock, with these of its head
-abbrev pub lock_findings_by : List FindingValue → List TableValue → LockValue → List FoundValue
+abbrev pub lock_findings_by : List FindingValue → List TableValue → LockValue
+    → List LockFindingValue
 lock_findings_by head tables lock =
-    found_at 0 None head ++ of_entries_by lock.head 1 lock.entries tables
+    findings_at 0 None head ++ of_entries_by lock.head 1 lock.entries tables
 
 -- those of the lock that a document is, or its refusal
-abbrev pub document_findings : Members → Result (List FoundValue) LockError
+abbrev pub document_findings : Members → Result (List LockFindingValue) LockError
 document_findings document =
     lock_in document
     >>= (λ lock. Ok (lock_findings_by (head_findings document) (tables_in document) lock))

@@ -1,11 +1,11 @@
 use Rattle.std.proofs.Common.{◌≡◌, ◌++◌, filter, map, not, string_bytes}
 use Rattle.toml.specs.View.{table_view}
-use Rattle.pylock_audit.specs.Keys.{is_named, unknown_keys}
+use Rattle.pylock_audit.specs.Keys.{is_named, table_path, unknown_keys}
 use Rattle.pylock_audit.proofs.keys.push_unknown.Given as goal
 
 -- the paths so far, and those of the keys that are left
 abbrev pub invariant-loop-key : goal.invariant-loop-key
 invariant-loop-key l =
     map string_bytes l.paths.items
-    ++ map (λ key. l.path ++ key) (filter (λ key. not (is_named l.level key)) (map string_bytes l.key-iterator))
-    ≡ map string_bytes l.initial.paths.items ++ unknown_keys l.path l.level (table_view l.table)
+    ++ map (λ key. table_path l.table ++ key) (filter (λ key. not (is_named l.table key)) (map string_bytes l.key-iterator))
+    ≡ map string_bytes l.initial.paths.items ++ unknown_keys l.table (table_view l.members)

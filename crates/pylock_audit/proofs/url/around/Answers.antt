@@ -1,0 +1,6 @@
+use Rattle.std.proofs.Common.{arith}
+use Rattle.pywheel_core.proofs.Lemmas.Texts.Cuts.{split_once_is}
+use Rattle.pylock_audit.proofs.url.around.Goals as goal
+
+pub returns : goal.returns
+returns c = split_once_is c.args.mark c.args.text.now c.split_once.result (c.split_once.ensures.byte c.requires (λ w o f. f))
