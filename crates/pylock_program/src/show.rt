@@ -3,14 +3,15 @@
 ghost use Rattle.std.specs.Prelude.{◌≡◌, ◌++◌, IfOk, OnOk};
 ghost use Rattle.pylock_core.specs.Session.Steps.{answer};
 ghost use Rattle.pylock_program.specs.Choices.{after_choices};
-ghost use Rattle.pylock_program.specs.Show.{option_refusal_text, option_shown, refusal_shown};
+ghost use Rattle.pylock_program.specs.Show.{option_shown, refusal_shown};
 ghost use Rattle.pylock_program.specs.Show.{report_of_choices, request_report, view_shown};
 ghost use Rattle.pylock_run.specs.Report.{is_plan};
 ghost use Rattle.pylock_run.specs.Report.Print.{Prints, Pushes};
 
-use crate::choices::{make_choices, option_text, option_word};
+use crate::choices::{make_choices, option_words};
 use crate::notes::fault::tell_fault;
 use crate::notes::options::{tell_notes, tell_refused};
+use crate::program::REFUSED;
 use crate::text::explain::push_explanation;
 use crate::text::json::{push_option_json, push_refusal_json};
 use pylock_command::{Choice, Form, Request, View};
@@ -72,7 +73,7 @@ fn push_report<N: Sink>(
         Err(OpenError::Memory) => Err(AllocError),
         Err(refusal) => {
             push_open_error(alloc, out, request.form, &refusal)?;
-            Ok(2)
+            Ok(REFUSED)
         }
     }
 }
@@ -107,7 +108,7 @@ fn push_after_choices<N: Sink>(
 {
     let mut session = session;
     if let Some(choice) = make_choices(alloc, &mut session, &request.choices)? {
-        push_option_in(alloc, out, request.form, choice)?;
+        push_refused_option(alloc, out, request.form, choice)?;
         tell_refused(alloc, notes, request.lock, choice);
         return Ok(1);
     }
@@ -168,8 +169,8 @@ fn push_answered(
     }
 }
 
-/// Pushes a refused option.
-fn push_option_in(
+/// Pushes a refused option: its line, or the document of the line's words.
+fn push_refused_option(
     alloc: Global,
     out: &mut Vec<u8>,
     form: Form,
@@ -177,19 +178,13 @@ fn push_option_in(
 ) -> Result<(), AllocError>
     ensures { OnOk result (out.new.items ≡ out.old.items ++ option_shown form choice.entry) }
 {
-    match form {
-        Form::Lines => push_option_refusal(out, choice),
-        Form::Json => push_option_json(alloc, out, choice),
+    if matches!(form, Form::Json) {
+        return push_option_json(alloc, out, choice);
     }
-}
-
-/// Pushes the line of a refused option.
-fn push_option_refusal(out: &mut Vec<u8>, choice: Choice<'_>) -> Result<(), AllocError>
-    ensures { OnOk result (out.new.items ≡ out.old.items ++ option_refusal_text choice.entry) }
-{
+    let (word, text) = option_words(choice);
     out.extend_from_slice(b"refused\t")?;
-    out.extend_from_slice(option_word(choice).as_bytes())?;
-    push_next_field(out, option_text(choice))?;
+    out.extend_from_slice(word.as_bytes())?;
+    push_next_field(out, text)?;
     out.push(b'\n')?;
     Ok(())
 }
