@@ -233,34 +233,19 @@ fn one_edit(alloc: Global, edit: Edit) -> Result<Option<Vec<Edit>>, AllocError>
     Ok(Some(edits))
 }
 
-/// The word of an option, without its dashes.
-pub(crate) fn option_word(choice: Choice<'_>) -> &'static str
-    ensures { result.now ≡ (option_words choice.entry).0 }
+/// The word of an option, without its dashes, and its text, where it has one.
+pub(crate) fn option_words<'a>(choice: Choice<'a>) -> (&'static str, Option<&'a str>)
+    ensures { (result.0.now, option_copied result.1) ≡ option_words choice.entry }
 {
     match choice {
-        Choice::AllExtras => "all-extras",
-        Choice::Extra(_) => "extra",
-        Choice::NoDefaultGroups => "no-default-groups",
-        Choice::AllGroups => "all-groups",
-        Choice::Group(_) => "group",
-        Choice::NoGroup(_) => "no-group",
-        Choice::OnlyBinary(_) => "only-binary",
-        Choice::NoBinary(_) => "no-binary",
-        Choice::Set(_) => "set",
-    }
-}
-
-/// The text of an option, where it has one.
-pub(crate) fn option_text(choice: Choice<'_>) -> Option<&str>
-    ensures { option_copied result ≡ (option_words choice.entry).1 }
-{
-    match choice {
-        Choice::AllExtras | Choice::NoDefaultGroups | Choice::AllGroups => None,
-        Choice::Extra(text)
-        | Choice::Group(text)
-        | Choice::NoGroup(text)
-        | Choice::OnlyBinary(text)
-        | Choice::NoBinary(text)
-        | Choice::Set(text) => Some(text),
+        Choice::AllExtras => ("all-extras", None),
+        Choice::Extra(text) => ("extra", Some(text)),
+        Choice::NoDefaultGroups => ("no-default-groups", None),
+        Choice::AllGroups => ("all-groups", None),
+        Choice::Group(text) => ("group", Some(text)),
+        Choice::NoGroup(text) => ("no-group", Some(text)),
+        Choice::OnlyBinary(text) => ("only-binary", Some(text)),
+        Choice::NoBinary(text) => ("no-binary", Some(text)),
+        Choice::Set(text) => ("set", Some(text)),
     }
 }

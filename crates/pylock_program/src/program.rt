@@ -15,7 +15,7 @@ ghost use Rattle.pylock_program.specs.declared.program.Failure.TheVariants as fa
 
 use crate::file::FileBytes;
 use crate::notes::file::tell_file;
-use crate::notes::refusal::{tell_environment_refusal, tell_lock_refusal, tell_refusal};
+use crate::notes::refusal::tell_refusal;
 use crate::reply::queries::Query;
 use crate::reply::query;
 use crate::show::{Inputs, show};
@@ -25,6 +25,9 @@ use std::alloc::Global;
 use std::io::ErrorKind;
 
 const GREETING: &[u8] = b"pylock 1\n";
+
+/// The status where the lock or the environment is refused.
+pub(crate) const REFUSED: u8 = 2;
 
 /// Why the program ends without an answer.
 #[derive(Clone, Copy, Debug, PartialEq, Eq)]
@@ -179,7 +182,7 @@ fn run_select<F: Files, R: Source, W: Sink, N: Sink>(
     let lock = read_bytes(files, lock)?;
     let environment = read_bytes(files, environment)?;
     let end = run_whole(alloc, &lock.bytes, &environment.bytes, true, reader, writer);
-    tell_refusal(alloc, notes, &end, &lock, &environment);
+    tell_refusal(alloc, notes, &end, Some(&lock), Some(&environment));
     program_end(end)
 }
 
@@ -232,7 +235,7 @@ fn show_files<F: Files, W: Sink, N: Sink>(
         environment: &environment.bytes,
     };
     let end = show(alloc, request, inputs, writer, notes);
-    tell_refusal(alloc, notes, &end, &lock, &environment);
+    tell_refusal(alloc, notes, &end, Some(&lock), Some(&environment));
     program_end(end)
 }
 
@@ -251,7 +254,7 @@ fn list_files<F: Files, W: Sink, N: Sink>(
 {
     let lock = read_named(alloc, files, lock, notes)?;
     let end = query(alloc, Query::Files(&lock.bytes, form), writer);
-    tell_lock_refusal(alloc, notes, &end, &lock);
+    tell_refusal(alloc, notes, &end, Some(&lock), None);
     program_end(end)
 }
 
@@ -270,7 +273,7 @@ fn audit_lock<F: Files, W: Sink, N: Sink>(
 {
     let lock = read_named(alloc, files, lock, notes)?;
     let end = query(alloc, Query::Audit(&lock.bytes, form), writer);
-    tell_lock_refusal(alloc, notes, &end, &lock);
+    tell_refusal(alloc, notes, &end, Some(&lock), None);
     program_end(end)
 }
 
@@ -289,7 +292,7 @@ fn judge_marker<F: Files, W: Sink, N: Sink>(
 {
     let environment = read_bytes(files, environment)?;
     let end = query(alloc, Query::Marker(marker, &environment.bytes), writer);
-    tell_environment_refusal(alloc, notes, &end, &environment);
+    tell_refusal(alloc, notes, &end, None, Some(&environment));
     program_end(end)
 }
 

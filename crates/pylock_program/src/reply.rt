@@ -16,11 +16,12 @@ ghost use Rattle.pylock_run.specs.Text.Field.{field, line_of};
 
 pub mod queries;
 
+use crate::program::REFUSED;
 use crate::reply::queries::Query;
 use crate::text::audit::push_findings;
 use crate::text::files::push_files;
 use crate::text::json::push_lock_json;
-use pylock_audit::{Found, audit, findings_document};
+use pylock_audit::{LockFinding, audit, findings_document};
 use pylock_command::Form;
 use pylock_core::{Entry, EnvError, FaultCode, Lock, LockError, fault_word, read_environment};
 use pylock_documents::files_document;
@@ -106,7 +107,7 @@ fn push_refused_lock(
         Form::Lines => push_lock_error(out, error)?,
         Form::Json => push_lock_json(alloc, out, error)?,
     }
-    Ok(2)
+    Ok(REFUSED)
 }
 
 fn push_audit_of(
@@ -129,7 +130,7 @@ fn push_findings_in(
     alloc: Global,
     out: &mut Vec<u8>,
     form: Form,
-    found: &[Found],
+    found: &[LockFinding],
 ) -> Result<u8, AllocError>
     ensures { Pushes out.old.items out.new.items
         (reply_of (findings_answer form found.now)) result }
@@ -226,7 +227,7 @@ fn push_marker_in(
         Err(EnvError::Memory) => Err(AllocError),
         Err(error) => {
             push_environment_error(out, &error)?;
-            Ok(2)
+            Ok(REFUSED)
         }
     }
 }

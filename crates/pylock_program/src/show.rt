@@ -3,15 +3,15 @@
 ghost use Rattle.std.specs.Prelude.{◌≡◌, ◌++◌, IfOk, OnOk};
 ghost use Rattle.pylock_core.specs.Session.Steps.{answer};
 ghost use Rattle.pylock_program.specs.Choices.{after_choices};
-ghost use Rattle.pylock_program.specs.Show.{explain_shown, option_refusal_text, option_shown};
-ghost use Rattle.pylock_program.specs.Show.{plan_shown, refusal_shown, report_of_choices};
-ghost use Rattle.pylock_program.specs.Show.{request_report, view_shown};
+ghost use Rattle.pylock_program.specs.Show.{option_shown, refusal_shown};
+ghost use Rattle.pylock_program.specs.Show.{report_of_choices, request_report, view_shown};
 ghost use Rattle.pylock_run.specs.Report.{is_plan};
 ghost use Rattle.pylock_run.specs.Report.Print.{Prints, Pushes};
 
-use crate::choices::{make_choices, option_text, option_word};
+use crate::choices::{make_choices, option_words};
 use crate::notes::fault::tell_fault;
 use crate::notes::options::{tell_notes, tell_refused};
+use crate::program::REFUSED;
 use crate::text::explain::push_explanation;
 use crate::text::json::{push_option_json, push_refusal_json};
 use pylock_command::{Choice, Form, Request, View};
@@ -19,7 +19,7 @@ use pylock_core::{Answer, Session};
 use pylock_documents::{explain_document, plan_document};
 use pylock_json::push_document;
 use pylock_run::{
-    OpenError, RunFault, Sink, open, print, push_current_answer, push_next_field, push_refusal,
+    OpenError, RunFault, Sink, open, print, push_answer, push_next_field, push_refusal,
 };
 use std::alloc::{AllocError, Global};
 
@@ -73,7 +73,7 @@ fn push_report<N: Sink>(
         Err(OpenError::Memory) => Err(AllocError),
         Err(refusal) => {
             push_open_error(alloc, out, request.form, &refusal)?;
-            Ok(2)
+            Ok(REFUSED)
         }
     }
 }
@@ -108,16 +108,22 @@ fn push_after_choices<N: Sink>(
 {
     let mut session = session;
     if let Some(choice) = make_choices(alloc, &mut session, &request.choices)? {
-        push_option_in(alloc, out, request.form, choice)?;
+        push_refused_option(alloc, out, request.form, choice)?;
         tell_refused(alloc, notes, request.lock, choice);
         return Ok(1);
     }
-    let is_plan = push_view(alloc, out, request.view, request.form, &session)?;
+    let answer = session.answer()?;
+    push_answered(alloc, out, (request.view, request.form), &session, &answer)?;
     tell_notes(alloc, notes, &session, &request.choices);
-    if matches!(request.view, View::Plan) && !is_plan {
-        tell_fault(alloc, notes, &session);
+    match answer {
+        Answer::Plan(_) => Ok(0),
+        Answer::Fault { id, code } => {
+            if matches!(request.view, View::Plan) {
+                tell_fault(alloc, notes, &session, id, code);
+            }
+            Ok(1)
+        }
     }
-    Ok(if is_plan { 0 } else { 1 })
 }
 
 /// Pushes what `plan` or `explain` prints of the session as it stands, and answers whether its
@@ -134,41 +140,37 @@ pub fn push_view(
     ensures text { OnOk result (out.new.items
         ≡ out.old.items ++ view_shown view form session.now.state) }
 {
-    match (view, form) {
-        (View::Plan, Form::Lines) => push_current_answer(session, out),
-        (View::Explain, Form::Lines) => push_explanation(alloc, out, session),
-        (View::Plan, Form::Json) => push_plan_json(alloc, out, session),
-        (View::Explain, Form::Json) => push_explain_json(alloc, out, session),
-    }
-}
-
-/// Pushes the document of the answer, and answers whether that is a plan.
-fn push_plan_json(alloc: Global, out: &mut Vec<u8>, session: &Session) -> Result<bool, AllocError>
-    ensures plan { IfOk result (λ plan. plan ≡ is_plan (answer session.now.state)) }
-    ensures text { OnOk result (out.new.items
-        ≡ out.old.items ++ plan_shown Form.Json session.now.state) }
-{
     let answer = session.answer()?;
-    push_document(alloc, out, plan_document(alloc, session, &answer)?)?;
+    push_answered(alloc, out, (view, form), session, &answer)?;
     Ok(matches!(answer, Answer::Plan(_)))
 }
 
-/// Pushes the document of what becomes of each entry, and answers whether the answer is a plan.
-fn push_explain_json(
+/// Pushes the view of the session in the form, with the answer as it stands.
+fn push_answered(
     alloc: Global,
     out: &mut Vec<u8>,
+    asked: (View, Form),
     session: &Session,
-) -> Result<bool, AllocError>
-    ensures plan { IfOk result (λ plan. plan ≡ is_plan (answer session.now.state)) }
-    ensures text { OnOk result (out.new.items
-        ≡ out.old.items ++ explain_shown Form.Json session.now.state) }
+    answer: &Answer,
+) -> Result<(), AllocError>
+    requires { answer.now ≡ answer session.now.state }
+    ensures { OnOk result (out.new.items
+        ≡ out.old.items ++ view_shown asked.0 asked.1 session.now.state) }
 {
-    push_document(alloc, out, explain_document(alloc, session)?)?;
-    Ok(matches!(session.answer()?, Answer::Plan(_)))
+    match asked {
+        (View::Plan, Form::Lines) => push_answer(out, session, answer),
+        (View::Explain, Form::Lines) => push_explanation(alloc, out, session),
+        (View::Plan, Form::Json) => {
+            push_document(alloc, out, plan_document(alloc, session, answer)?)
+        }
+        (View::Explain, Form::Json) => {
+            push_document(alloc, out, explain_document(alloc, session)?)
+        }
+    }
 }
 
-/// Pushes a refused option.
-fn push_option_in(
+/// Pushes a refused option: its line, or the document of the line's words.
+fn push_refused_option(
     alloc: Global,
     out: &mut Vec<u8>,
     form: Form,
@@ -176,19 +178,13 @@ fn push_option_in(
 ) -> Result<(), AllocError>
     ensures { OnOk result (out.new.items ≡ out.old.items ++ option_shown form choice.entry) }
 {
-    match form {
-        Form::Lines => push_option_refusal(out, choice),
-        Form::Json => push_option_json(alloc, out, choice),
+    if matches!(form, Form::Json) {
+        return push_option_json(alloc, out, choice);
     }
-}
-
-/// Pushes the line of a refused option.
-fn push_option_refusal(out: &mut Vec<u8>, choice: Choice<'_>) -> Result<(), AllocError>
-    ensures { OnOk result (out.new.items ≡ out.old.items ++ option_refusal_text choice.entry) }
-{
+    let (word, text) = option_words(choice);
     out.extend_from_slice(b"refused\t")?;
-    out.extend_from_slice(option_word(choice).as_bytes())?;
-    push_next_field(out, option_text(choice))?;
+    out.extend_from_slice(word.as_bytes())?;
+    push_next_field(out, text)?;
     out.push(b'\n')?;
     Ok(())
 }
