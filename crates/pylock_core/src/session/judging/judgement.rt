@@ -130,7 +130,7 @@ fn after_head(numbers: &[u32]) -> &[u32]
 }
 
 /// The verdict on the head, judged again if it reads what changes.
-fn head_again(
+fn judge_head(
     parts: &Parts,
     environment: &Environment,
     reads: bool,
@@ -164,7 +164,7 @@ pub(crate) fn judge_key(
         ≡ judged.old ++ readers (Marked key) (state_of parts.now)) }
 {
     let numbers = parts.index[key.number()].as_slice();
-    let verdict = head_again(parts, environment, has_head(numbers), judged)?;
+    let verdict = judge_head(parts, environment, has_head(numbers), judged)?;
     let fresh = standings(parts, environment, after_head(numbers), judged)?;
     Ok((verdict, fresh))
 }
