@@ -56,23 +56,17 @@ fn may_name_user(file: &DistributionFile) -> bool
 fn is_named_by_url(file: &DistributionFile) -> bool
     ensures { result ≡ is_named_by_url file.now }
 {
-    !is_present(file.name()) && !ends_in_name(file.path())
+    !is_written(file.name()) && !ends_in_name(file.path())
 }
 
 /// Whether the text is there, and isn't empty.
-fn is_present(text: Option<&str>) -> bool
+fn is_written(text: Option<&str>) -> bool
     ensures { result ≡ is_some (option_and_then text_unless_empty (option_copied text.entry)) }
 {
     match text {
-        Some(text) => has_bytes(text),
+        Some(text) => !text.is_empty(),
         None => false,
     }
-}
-
-fn has_bytes(text: &str) -> bool
-    ensures { result ≡ is_some (text_unless_empty text.now) }
-{
-    !text.is_empty()
 }
 
 /// Whether the path is there, and ends in a file name.
