@@ -12,7 +12,7 @@ use Rattle.pylock_core.specs.Session.State.{State, first, apply}
 use Rattle.pylock_core.specs.Session.Steps.{answer}
 use Rattle.pylock_core.specs.declared.answer.Answer.{Answer}
 use Rattle.pylock_core.specs.declared.answer.Answer.TheVariants as answers
-use Rattle.pylock_run.specs.Line.{input_lines, complete_lines, command_of}
+use Rattle.pylock_run.specs.Line.{input_lines, command_of}
 use Rattle.pylock_run.specs.Line.Refusal.{edit_refusal}
 use Rattle.pylock_run.specs.Text.Plan.{answer_text}
 use Rattle.pylock_run.specs.Text.Refusal.{line_refusal_text, refusal_text}

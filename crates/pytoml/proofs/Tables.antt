@@ -7,7 +7,7 @@ use Rattle.std.specs.BTreeMap.{insert_entry, is_at, get}
 use Rattle.std.specs.Cmp.Lexicographic.{slice_cmp}
 use Rattle.std.specs.Map.{lookup}
 use Rattle.toml.specs.Data.{Data, Members, get_member}
-use Rattle.toml.specs.Tables.{Nodes, close, insert, get_node, put, value, key_value}
+use Rattle.toml.specs.Tables.{Nodes, close, insert, put, value, key_value}
 use Rattle.toml.specs.View.{view, members_view, table_view}
 use Rattle.toml.specs.declared.value.Value.{Value}
 use Rattle.toml.proofs.Views.{Entry, view-lookup}

@@ -10,7 +10,7 @@ use Rattle.std.proofs.lemmas.Bool.{cases_Bool}
 use Rattle.pymark_core.proofs.Lemmas.Marker.View.{view_group}
 use Rattle.pymark_core.specs.Inner.Building.{frame_view, comparison_ended_by, stage_atom}
 use Rattle.pymark_core.specs.Marker.Reading as reading
-use Rattle.pymark_core.specs.Marker.Reading.{ReaderState, Stage, at_atom, at_operator, at_in, at_rest, at_right, state_after_closing, tree_at_end, frame_tree, token_operand, word_operand}
+use Rattle.pymark_core.specs.Marker.Reading.{Stage, at_atom, at_operator, at_in, at_rest, at_right, state_after_closing, tree_at_end, frame_tree, token_operand, word_operand}
 use Rattle.pymark_core.specs.Marker.Token.{Token}
 use Rattle.pymark_core.specs.Marker.View.{atom_view, tree_view}
 use Rattle.pymark_core.specs.Variables.{variable_of}

@@ -1,5 +1,4 @@
-use Rattle.std.proofs.Common.{◌≡◌, ◌∙◌, ◌<◌, ◌≤◌, ℕ, List, drop, ap, sym, subst, arith}
-use Rattle.pymark_core.specs.Inner.Passed.{BeginsNowhere}
+use Rattle.std.proofs.Common.{◌∙◌, ap, sym}
 use Rattle.pymark_core.specs.Marker.Value.{is_substring}
 use Rattle.pymark_core.proofs.Lemmas.Marker.Value.Substrings.{behind_passed, fewer_passed}
 use Rattle.pymark_core.proofs.substring.is_far_in.Goals as goal

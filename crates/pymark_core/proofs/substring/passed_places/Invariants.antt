@@ -1,4 +1,4 @@
-use Rattle.std.proofs.Common.{◌≡◌, ◌-◌, ◌≤◌}
+use Rattle.std.proofs.Common.{◌-◌, ◌≤◌}
 use Rattle.pymark_core.specs.Inner.Passed.{BeginsNowhere}
 use Rattle.pymark_core.proofs.substring.passed_places.Given as goal
 

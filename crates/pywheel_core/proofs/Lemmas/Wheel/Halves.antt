@@ -1,18 +1,15 @@
 -- What two halves say, the whole name says.
-use Rattle.std.proofs.Common.{◌≡◌, ℕ, true, codes, List, [], ◌∷◌, ◌++◌, drop, Option, Some, ok_or, Result, Ok, string_bytes, refl, sym, subst, ap, ◌∙◌}
+use Rattle.std.proofs.Common.{◌≡◌, ℕ, true, codes, List, [], ◌∷◌, ◌++◌, drop, Option, Some, ok_or, Ok, string_bytes, sym, ap, ◌∙◌}
 use Rattle.std.proofs.lemmas.List.{append_assoc}
 use Rattle.pytext.proofs.ResultsLemmas.{bind_ok, ok_or_some}
 use Rattle.pytext.specs.Options as options
 use Rattle.pytext.specs.Results.{◌>>=◌}
 use Rattle.pyver_core.specs.Parsed.{parsed_version}
 use Rattle.pyver_core.specs.Version.Parts.{Parts}
-use Rattle.pywheel_core.specs.Texts.{cut_at}
 use Rattle.pywheel_core.specs.Wheel.Cut.{WheelParts, end_of, parts_of, stem_of}
 use Rattle.pywheel_core.specs.Wheel.Halves.{EndValue, IsHead, end_in, wheel_of_halves}
 use Rattle.pywheel_core.specs.Wheel.Name.{is_wheel_name}
-use Rattle.pywheel_core.specs.Wheel.Reading.{build_in, name_in, tag_set_in, version_in, version_or, wheel_in, wheel_of}
-use Rattle.pywheel_core.specs.Wheel.Value.{WheelValue}
-use Rattle.pywheel_core.specs.declared.error.WheelError.{WheelError}
+use Rattle.pywheel_core.specs.Wheel.Reading.{build_in, tag_set_in, version_in, version_or, wheel_in, wheel_of}
 use Rattle.pywheel_core.specs.declared.error.WheelError.TheVariants as wheel
 use Rattle.pywheel_core.specs.declared.halves.NameHead.{NameHead}
 use Rattle.pywheel_core.proofs.Lemmas.Texts.Cuts.{Lacks, cut_joined}

@@ -3,9 +3,9 @@ use Rattle.std.proofs.Common.{◌≡◌, ℕ, zero, suc, ◌+◌, ◌<◌, ◌�
 use Rattle.std.proofs.lemmas.List.{get_or-drop, get_or_append_left, length-append, take-append-drop}
 use Rattle.std.proofs.lemmas.Slice.Eq.{bytes_eq-Decides}
 use Rattle.std.proofs.Math.Bool.{or-true}
-use Rattle.std.proofs.lemmas.Bool.{and_cases, cases_lt, eqb-false, true≢false}
+use Rattle.std.proofs.lemmas.Bool.{and_cases, cases_lt, eqb-false}
 use Rattle.std.proofs.Math.Logic.{◌↔◌}
-use Rattle.std.proofs.Math.Seq.{drop_at, take-append_seam}
+use Rattle.std.proofs.Math.Seq.{take-append_seam}
 use Rattle.std.specs.List.{starts_with}
 use Rattle.std.specs.Str.Iter.{HasSubslice}
 use Rattle.pymark_core.specs.Inner.Passed.{BeginsNowhere}

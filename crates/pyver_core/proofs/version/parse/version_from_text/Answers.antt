@@ -1,4 +1,3 @@
-use Rattle.std.proofs.Common.{sym}
 use Rattle.pyver_core.proofs.Lemmas.Version.NormalVersion.{normal_is_read}
 use Rattle.pyver_core.proofs.version.parse.version_from_text.Goals as goal
 
