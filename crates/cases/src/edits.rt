@@ -1,32 +1,35 @@
 //! The edits of a session, written as the lines of a run.
 
 use pylock_core::{Edit, Entry, Policy};
-use pymark_core::Var;
-use pyver_core::Label;
+use pymark_core::{Change, Var};
+use pytext::Text;
+use pyver_core::NormalName;
 use pywheel_core::TagList;
-use std::alloc::{AllocError, Global};
+use std::alloc::Global;
 
 /// The edit of a line.
 pub(crate) fn read_edit(alloc: Global, line: &str) -> anyhow::Result<Edit> {
     let (word, rest) = line.split_once(' ').unwrap_or((line, ""));
     match word {
-        "set" => set(alloc, rest),
-        "unset" => Ok(Edit::Unset(variable(rest)?)),
-        "extra+" => Ok(Edit::AddExtra(label(alloc, rest)?)),
-        "extra-" => Ok(Edit::DropExtra(label(alloc, rest)?)),
-        "group+" => Ok(Edit::AddGroup(label(alloc, rest)?)),
-        "group-" => Ok(Edit::DropGroup(label(alloc, rest)?)),
         "tags" => tags(alloc, rest),
         "add" => Ok(Edit::Add(entry(alloc, rest)?)),
         "put" => put(alloc, rest),
         "del" => Ok(Edit::Del(rest.parse()?)),
         "policy" => policy(alloc, rest),
-        _ => Err(anyhow::anyhow!("no edit begins with {word}")),
+        _ => Ok(Edit::Environment(read_change(alloc, word, rest)?)),
     }
 }
 
-fn label(alloc: Global, text: &str) -> Result<Label, AllocError> {
-    Ok(Label::new(String::from_str(alloc, text)?))
+fn read_change(alloc: Global, word: &str, rest: &str) -> anyhow::Result<Change> {
+    match word {
+        "set" => set(alloc, rest),
+        "unset" => Ok(Change::Unset(variable(rest)?)),
+        "extra+" => Ok(Change::AddExtra(NormalName::new(alloc, rest)?)),
+        "extra-" => Ok(Change::DropExtra(NormalName::new(alloc, rest)?)),
+        "group+" => Ok(Change::AddGroup(NormalName::new(alloc, rest)?)),
+        "group-" => Ok(Change::DropGroup(NormalName::new(alloc, rest)?)),
+        _ => Err(anyhow::anyhow!("no edit begins with {word}")),
+    }
 }
 
 fn variable(name: &str) -> anyhow::Result<Var> {
@@ -51,10 +54,10 @@ fn entry(alloc: Global, text: &str) -> anyhow::Result<Entry> {
     }
 }
 
-fn set(alloc: Global, rest: &str) -> anyhow::Result<Edit> {
+fn set(alloc: Global, rest: &str) -> anyhow::Result<Change> {
     let (name, text) = parts(rest)?;
     let variable = variable(name)?;
-    Ok(Edit::Set(variable, label(alloc, text)?))
+    Ok(Change::Set(variable, Text::copy_of(alloc, text)?))
 }
 
 fn put(alloc: Global, rest: &str) -> anyhow::Result<Edit> {
@@ -66,7 +69,7 @@ fn put(alloc: Global, rest: &str) -> anyhow::Result<Edit> {
 fn policy(alloc: Global, rest: &str) -> anyhow::Result<Edit> {
     let (name, word) = parts(rest)?;
     let policy = policy_of(word)?;
-    Ok(Edit::Policy(label(alloc, name)?, policy))
+    Ok(Edit::Policy(NormalName::new(alloc, name)?, policy))
 }
 
 fn policy_of(word: &str) -> anyhow::Result<Policy> {

@@ -1,7 +1,7 @@
 //! The task of the words of a command line.
 
 use case_files::texts;
-use pylock_command::{CommandError, command};
+use pylock_command::{CommandError, Request, Task, command};
 use std::alloc::{AllocError, Global};
 use toml::Table;
 
@@ -14,8 +14,16 @@ pub(crate) fn answer_case(alloc: Global, case: &Table) -> anyhow::Result<String>
 
 fn task_text(alloc: Global, words: &[&str]) -> Result<String, AllocError> {
     match command(alloc, words) {
+        Ok(Task::Show(request)) => request_text(alloc, &request),
         Ok(task) => format!(in alloc; "{:?}", task),
         Err(CommandError::Refused(error)) => format!(in alloc; "refused {}", error.exit_code()),
         Err(CommandError::Memory) => String::from_str(alloc, "memory"),
     }
+}
+
+/// The task of `plan` or `explain`.
+fn request_text(alloc: Global, request: &Request<'_>) -> Result<String, AllocError> {
+    let (view, lock, environment) = (request.view, request.lock, request.environment);
+    let (choices, form) = (&request.choices, request.form);
+    format!(in alloc; "{view:?}({lock:?}, {environment:?}, {choices:?}, {form:?})")
 }

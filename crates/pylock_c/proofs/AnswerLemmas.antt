@@ -1,11 +1,11 @@
 -- What a call leaves in a buffer, and what it answers of a slot.
 use Rattle.std.proofs.Common.{◌≡◌, ℕ, ℤ, pos, List, length, refl, sym, subst, if◌then◌else◌}
-use Rattle.std.specs.Prelude.{Option, Result, Ok, Err}
+use Rattle.std.specs.Prelude.{Option, None, Result, Ok, Err}
 use Rattle.pylock_c.specs.Answer.{Tells, Writes, is_short, written as buffer_after}
 use Rattle.pylock_c.specs.Refusal.{number}
 use Rattle.pylock_c.specs.declared.object.Object.{Object}
 use Rattle.pylock_c.specs.declared.refusal.Refusal.{Refusal}
-use Rattle.pylock_c.specs.declared.refusal.Refusal.TheVariants.{Memory}
+use Rattle.pylock_c.specs.declared.refusal.Refusal.TheVariants.{Empty, Memory}
 
 pub writes_ok : {definition : Result (List ℕ) Refusal} {bytes old new : List ℕ} {needed : ℕ} {code : ℤ}
     → definition ≡ Ok bytes → code ≡ (if is_short old bytes then pos 4 else pos 0)
@@ -34,6 +34,11 @@ at_slot definition {before = before} {after = after} {new = new} {code' = code'}
     subst (λ (o : Option Object). Tells (definition o) o new code') was
     (subst (λ (n : Option Object). Tells (definition before) before n code') (sym is)
     (subst (λ (z : ℤ). Tells (definition before) before after z) (sym same) tells))
+
+-- and of an empty slot
+pub at_empty : (definition : Option Object → Result (Option Object) Refusal) {old new : Option Object} {code : ℤ}
+    → definition None ≡ Err Empty → None ≡ old → new ≡ None → code ≡ pos 3 → Tells (definition old) old new code
+at_empty definition refused was is same = at_slot definition was is same (Err Empty, λ _. refused, refl, refl)
 
 -- an object in its slot, and a value at its place
 pub told_with : {T : Type 0} {definition : Result (Option Object × T) Refusal} {old new : Option Object} {before after : T}

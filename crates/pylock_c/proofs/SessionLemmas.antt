@@ -1,28 +1,29 @@
 -- What a call on a session leaves behind.
-use Rattle.std.proofs.Common.{◌≡◌, ◌∙◌, ℕ, ℤ, ap, sym, subst}
-use Rattle.std.specs.Prelude.{Option, Some, Result, Ok, Err}
+use Rattle.std.proofs.Common.{◌≡◌, ◌∙◌, ℕ, ℤ, pos, ap, refl, sym, subst}
+use Rattle.std.specs.Prelude.{Option, None, Some, Result, Ok, Err}
 use Rattle.pytext.specs.Results.{◌>>=◌}
 use Rattle.pylock_core.specs.Session.Judgement.{SessionValue}
+use Rattle.pylock_run.specs.declared.line.commands.Command.{Command}
 use Rattle.pylock_run.specs.declared.line.refusal.LineRefusal.{LineRefusal}
 use Rattle.pylock_run.specs.declared.line.refusal.LineRefusal.TheVariants as line
 use Rattle.pylock_c.specs.Answer.{Tells}
-use Rattle.pylock_c.specs.Refusal.{line_refusal}
-use Rattle.pylock_c.specs.Sessions.{Counts, edited, edited_in}
-use Rattle.pylock_c.specs.Sets.{refuse_as}
+use Rattle.pylock_c.specs.Refusal.{line_refusal, refuse_as}
+use Rattle.pylock_c.specs.Sessions.{Counts, session_after, obeyed_in}
 use Rattle.pylock_c.specs.declared.object.Object.{Object}
 use Rattle.pylock_c.specs.declared.object.Object.TheVariants as kind
 use Rattle.pylock_c.specs.declared.refusal.Refusal.{Refusal}
-use Rattle.pylock_c.specs.declared.sessions.ask.Ask.{Ask}
+use Rattle.pylock_c.specs.declared.refusal.Refusal.TheVariants.{Empty}
 
--- an edit that is refused
-pub refused_edit : (ask : Ask) {object : Object} {session after : SessionValue} {refused : LineRefusal} {refusal : Refusal}
-    {result : Result ℕ Refusal} → object ≡ kind.Session session → after ≡ session → result ≡ Err refusal
-    → refusal ≡ line_refusal refused → ((refused ≡ line.Memory → ⊥) → edited ask session ≡ Err refused)
-    → Counts (edited_in ask (Some object)) (Some object) (Some (kind.Session after)) result
-refused_edit ask {object = object} {session = session} {after = after} {refused = refused} is same fails code gives =
-    subst (λ (r : Result ℕ Refusal). Counts (edited_in ask (Some object)) (Some object) (Some (kind.Session after)) r) (sym fails) (
+-- a command that was read and is refused
+pub refused_command : {definition : Result Command LineRefusal} {object : Object} {command : Command} {session after : SessionValue}
+    {refused : LineRefusal} {refusal : Refusal} {result : Result ℕ Refusal} → definition ≡ Ok command → object ≡ kind.Session session
+    → after ≡ session → result ≡ Err refusal → refusal ≡ line_refusal refused
+    → ((refused ≡ line.Memory → ⊥) → session_after session command ≡ Err refused)
+    → Counts (obeyed_in definition (Some object)) (Some object) (Some (kind.Session after)) result
+refused_command {definition = definition} {object = object} {command = command} {session = session} {after = after} {refused = refused} read is same fails code gives =
+    subst (λ (r : Result ℕ Refusal). Counts (obeyed_in definition (Some object)) (Some object) (Some (kind.Session after)) r) (sym fails) (
       ap Some (ap kind.Session same ∙ sym is),
-      λ not. ap (λ o. edited_in ask (Some o)) is
+      λ not. ap (λ d. obeyed_in d (Some object)) read ∙ ap (λ o. obeyed_in (Ok command) (Some o)) is
           ∙ ap (λ e. refuse_as line_refusal e >>= λ after. Ok (Some (kind.Session after.0), after.1)) (gives (λ short. not (code ∙ ap line_refusal short)))
           ∙ ap Err (sym code),
     )
@@ -35,3 +36,8 @@ at_slot definition {before = before} {after = after} {new = new} {count = count}
     subst (λ (o : Option Object). Tells (definition o) (o, count) (new, judged) code') was
     (subst (λ (n : Option Object). Tells (definition before) (before, count) (n, judged) code') (sym is)
     (subst (λ (z : ℤ). Tells (definition before) (before, count) (after, judged) z) (sym same) tells))
+
+-- and of an empty slot
+pub at_empty : (definition : Option Object → Result (Option Object × ℕ) Refusal) {old new : Option Object} {judged : ℕ} {code : ℤ}
+    → definition None ≡ Err Empty → None ≡ old → new ≡ None → code ≡ pos 3 → Tells (definition old) (old, judged) (new, judged) code
+at_empty definition refused was is same = at_slot definition was is same (Err Empty, λ _. refused, refl, refl)

@@ -1,5 +1,6 @@
 pub mod Answer
 pub mod Answers
+pub mod Edits
 pub mod Environments
 pub mod Kept
 pub mod Markers

@@ -1,5 +1,4 @@
 -- The sessions of C: a lock in an environment, edited and answered again.
-pub mod Asked
 use Rattle.std.specs.Prelude.{◌≡◌, ℕ, ◌++◌, Bool, decimal, length, map, List, [], ◌∷◌}
 use Rattle.std.specs.Prelude.{Option, Some, Result, Ok, Err}
 use Rattle.std.specs.Result.{result_map_both}
@@ -17,15 +16,12 @@ use Rattle.pylock_run.specs.declared.line.commands.Command.{Command}
 use Rattle.pylock_run.specs.declared.line.commands.Command.TheVariants as command
 use Rattle.pylock_run.specs.declared.line.refusal.LineRefusal.{LineRefusal}
 use Rattle.pylock_run.specs.declared.report.opening.OpenError.{OpenError}
-use Rattle.pylock_c.specs.Refusal.{line_refusal}
-use Rattle.pylock_c.specs.Sessions.Asked.{asked}
-use Rattle.pylock_c.specs.Sets.{refuse_as}
+use Rattle.pylock_c.specs.Refusal.{line_refusal, refuse_as}
 use Rattle.pylock_c.specs.declared.object.Object.{Object}
 use Rattle.pylock_c.specs.declared.object.Object.TheVariants as kind
 use Rattle.pylock_c.specs.declared.refusal.Refusal.{Refusal}
 use Rattle.pylock_c.specs.declared.refusal.Refusal.TheVariants as refusal
 use Rattle.pylock_c.specs.declared.refusal.Refusal.TheVariants.{Memory}
-use Rattle.pylock_c.specs.declared.sessions.ask.Ask.{Ask}
 
 abbrev pub session_in : Option Object → Result SessionValue Refusal
 session_in (Some (kind.Session session)) = Ok session
@@ -49,21 +45,19 @@ started read =
 -- ---- edits
 
 -- the session after a command, and how many judgements that made
-abbrev pub after : SessionValue → Command → Result (SessionValue × ℕ) LineRefusal
-after session command.Show = Ok (session, 0)
-after session (command.Edit edit) = do
+abbrev pub session_after : SessionValue → Command → Result (SessionValue × ℕ) LineRefusal
+session_after session command.Show = Ok (session, 0)
+session_after session (command.Edit edit) = do
   state ← after_command session.state (command.Edit edit)
   Ok (session_at state (touched edit session.state), length (touched edit session.state))
 
-abbrev pub edited : Ask → SessionValue → Result (SessionValue × ℕ) LineRefusal
-edited ask session = asked ask >>= after session
-
--- the same of a slot
-abbrev pub edited_in : Ask → Option Object → Result (Option Object × ℕ) Refusal
-edited_in ask object = do
+-- what a slot keeps after a command that was read; a slot with no session is refused first
+abbrev pub obeyed_in : Result Command LineRefusal → Option Object
+    → Result (Option Object × ℕ) Refusal
+obeyed_in read object = do
   session ← session_in object
-  edited ← refuse_as line_refusal (edited ask session)
-  Ok (Some (kind.Session edited.0), edited.1)
+  after ← refuse_as line_refusal (read >>= session_after session)
+  Ok (Some (kind.Session after.0), after.1)
 
 -- an edit of what a slot keeps: the object after it and its judgements, or the refusal, which
 -- leaves the slot

@@ -42,8 +42,7 @@ fn report(
     lock: &[u8],
     environment: &[u8],
 ) -> Result<(Object, i32), Refusal>
-    ensures { Gives Memory (λ told. (Some told.0, told.1)) result
-        (reported
+    ensures { Gives Memory (λ told. (Some told.0, told.1)) result (reported
         (report_after form (view_shown view form) (open_state lock.now environment.now) [])) }
 {
     let mut out = Vec::new(alloc);

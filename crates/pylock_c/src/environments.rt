@@ -1,24 +1,27 @@
 //! Environments that markers are judged in (PEP 508).
 
-ghost use Rattle.std.specs.Prelude.{◌≡◌, None, OnErr, Some, option_map};
+ghost use Rattle.std.specs.Prelude.{◌≡◌, None, Result, Some};
 ghost use Rattle.pytext.specs.Agreement.{Gives};
+ghost use Rattle.pymark_core.specs.declared.change.Change.{Change as ChangeValue};
+ghost use Rattle.pymark_core.specs.declared.change.Change.TheVariants as change;
+ghost use Rattle.pylock_run.specs.declared.line.refusal.LineRefusal.{LineRefusal as RefusalValue};
+ghost use Rattle.pylock_run.specs.declared.line.refusal.LineRefusal.TheVariants as line;
 ghost use Rattle.pylock_c.specs.Answer.{Edits, Tells};
-ghost use Rattle.pylock_c.specs.Environments.{changed, changed_in, new_environment};
-ghost use Rattle.pylock_c.specs.Environments.{variable_named};
+ghost use Rattle.pylock_c.specs.Edits.{named_change, set_change, unset_change};
+ghost use Rattle.pylock_c.specs.Environments.{changed_in, new_environment};
 ghost use Rattle.pylock_c.specs.Slot.{object};
-ghost use Rattle.pylock_c.specs.declared.environments.change.Change.TheVariants as change;
 ghost use Rattle.pylock_c.specs.declared.refusal.Refusal.TheVariants.{Memory};
 
-pub(crate) mod change;
-
 use crate::answer::{done, keep};
-use crate::environments::change::Change;
+use crate::edits::{
+    add_extra_change, add_group_change, drop_extra_change, drop_group_change, set_change,
+    unset_change,
+};
 use crate::object::Object;
 use crate::refusal::Refusal;
 use crate::slot::Slot;
-use crate::text::text;
 use pylock_run::LineRefusal;
-use pymark_core::{Environment, Var};
+use pymark_core::{Change, Environment};
 use std::alloc::Global;
 
 fn new_environment(alloc: Global) -> Result<Object, Refusal>
@@ -35,94 +38,31 @@ pub extern "C" fn pylock_environment_new(alloc: Global, environment: &mut Slot) 
     keep(alloc, new_environment(alloc), environment)
 }
 
-/// The variable of markers that has this name.
-fn variable(name: &str) -> Result<Var, Refusal>
-    ensures { Gives Memory (λ variable. variable) result (variable_named name.now) }
-{
-    Var::of(name).ok_or(Refusal::Edit(LineRefusal::Variable))
-}
-
-fn set(environment: &mut Environment, name: &[u8], bytes: &[u8]) -> Result<(), Refusal>
-    ensures ok { Gives Memory (λ done. environment.new) result
-        (changed (change.Set name.entry bytes.entry) environment.old) }
-    ensures err { OnErr result (environment.new ≡ environment.old) }
-{
-    let name = text(name)?;
-    let text = text(bytes)?;
-    environment.set(variable(name)?, text)?;
-    Ok(())
-}
-
-fn unset(environment: &mut Environment, name: &[u8]) -> Result<(), Refusal>
-    ensures ok { Gives Memory (λ done. environment.new) result
-        (changed (change.Unset name.entry) environment.old) }
-    ensures err { OnErr result (environment.new ≡ environment.old) }
-{
-    environment.unset(variable(text(name)?)?);
-    Ok(())
-}
-
-/// Changes the environment.
-fn make(environment: &mut Environment, change: Change<'_>) -> Result<(), Refusal>
-    ensures ok { Gives Memory (λ done. environment.new) result
-        (changed change.entry environment.old) }
-    ensures err { OnErr result (environment.new ≡ environment.old) }
-{
-    match change {
-        Change::Set(name, bytes) => set(environment, name, bytes)?,
-        Change::Unset(name) => unset(environment, name)?,
-        Change::AddExtra(bytes) => {
-            environment.add_extra(text(bytes)?)?;
-        }
-        Change::DropExtra(bytes) => {
-            environment.drop_extra(text(bytes)?)?;
-        }
-        Change::AddGroup(bytes) => {
-            environment.add_group(text(bytes)?)?;
-        }
-        Change::DropGroup(bytes) => {
-            environment.drop_group(text(bytes)?)?;
-        }
-    }
-    Ok(())
-}
-
-/// Changes the environment that is kept.
-fn make_in(object: &mut Object, change: Change<'_>) -> Result<(), Refusal>
-    ensures { Edits (changed_in change.entry (Some object.old)) (Some object.old)
-        (Some object.new) result }
+/// Changes the environment that is kept. Where none is, the change isn't looked at.
+fn change_in(object: &mut Object, change: Result<Change, LineRefusal>) -> Result<(), Refusal>
+    ensures { (definition : Result ChangeValue RefusalValue)
+        → Gives line.Memory (λ c. c) change definition
+        → Edits (changed_in definition (Some object.old)) (Some object.old) (Some object.new)
+        result }
 {
     match object {
-        Object::Environment(environment) => make(environment, change),
+        Object::Environment(environment) => Ok(environment.apply(change?)?),
         _ => Err(Refusal::Empty),
     }
 }
 
-/// Changes the environment that is taken out of a slot, and gives it back.
-fn make_taken(
-    kept: Option<Box<Object>>,
-    change: Change<'_>,
-) -> (Option<Box<Object>>, Result<(), Refusal>)
-    ensures { Edits (changed_in change.entry (option_map (λ kept. kept.value) kept))
-        (option_map (λ kept. kept.value) kept) (option_map (λ kept. kept.value) result.0)
-        result.1 }
-{
-    match kept {
-        Some(mut object) => {
-            let outcome = make_in(&mut object, change);
-            (Some(object), outcome)
-        }
-        None => (None, Err(Refusal::Empty)),
-    }
-}
-
 /// Changes the environment of a slot, and answers the code.
-fn make_in_slot(alloc: Global, slot: &mut Slot, change: Change<'_>) -> i32
-    ensures { Tells (changed_in change.entry (object slot.old)) (object slot.old)
-        (object slot.new) result }
+fn change_slot(alloc: Global, slot: &mut Slot, change: Result<Change, LineRefusal>) -> i32
+    ensures { (definition : Result ChangeValue RefusalValue)
+        → Gives line.Memory (λ c. c) change definition
+        → Tells (changed_in definition (object slot.old)) (object slot.old) (object slot.new)
+        result }
 {
-    let (kept, outcome) = make_taken(slot.take(alloc), change);
-    slot.put(alloc, kept);
+    let Some(mut object) = slot.take(alloc) else {
+        return Refusal::Empty.number();
+    };
+    let outcome = change_in(&mut object, change);
+    slot.put(alloc, Some(object));
     done(outcome)
 }
 
@@ -130,79 +70,59 @@ fn make_in_slot(alloc: Global, slot: &mut Slot, change: Change<'_>) -> i32
 #[unsafe(no_mangle)]
 pub extern "C" fn pylock_environment_set(
     alloc: Global,
-    environment: &mut Slot,
+    slot: &mut Slot,
     variable: &[u8],
     text: &[u8],
 ) -> i32
-    ensures { Tells (changed_in (change.Set variable.entry text.entry) (object environment.old))
-        (object environment.old) (object environment.new) result }
+    ensures { Tells (changed_in (set_change variable.now text.now) (object slot.old))
+        (object slot.old) (object slot.new) result }
 {
-    make_in_slot(alloc, environment, Change::Set(variable, text))
+    change_slot(alloc, slot, set_change(alloc, variable, text))
 }
 
 /// Leaves a variable without a text.
 #[unsafe(no_mangle)]
-pub extern "C" fn pylock_environment_unset(
-    alloc: Global,
-    environment: &mut Slot,
-    variable: &[u8],
-) -> i32
-    ensures { Tells (changed_in (change.Unset variable.entry) (object environment.old))
-        (object environment.old) (object environment.new) result }
+pub extern "C" fn pylock_environment_unset(alloc: Global, slot: &mut Slot, variable: &[u8]) -> i32
+    ensures { Tells (changed_in (unset_change variable.now) (object slot.old))
+        (object slot.old) (object slot.new) result }
 {
-    make_in_slot(alloc, environment, Change::Unset(variable))
+    change_slot(alloc, slot, unset_change(variable))
 }
 
 /// Asks for an extra.
 #[unsafe(no_mangle)]
-pub extern "C" fn pylock_environment_add_extra(
-    alloc: Global,
-    environment: &mut Slot,
-    name: &[u8],
-) -> i32
-    ensures { Tells (changed_in (change.AddExtra name.entry) (object environment.old))
-        (object environment.old) (object environment.new) result }
+pub extern "C" fn pylock_environment_add_extra(alloc: Global, slot: &mut Slot, name: &[u8]) -> i32
+    ensures { Tells (changed_in (named_change change.AddExtra name.now) (object slot.old))
+        (object slot.old) (object slot.new) result }
 {
-    make_in_slot(alloc, environment, Change::AddExtra(name))
+    change_slot(alloc, slot, add_extra_change(alloc, name))
 }
 
 /// Asks for an extra no more.
 #[unsafe(no_mangle)]
-pub extern "C" fn pylock_environment_drop_extra(
-    alloc: Global,
-    environment: &mut Slot,
-    name: &[u8],
-) -> i32
-    ensures { Tells (changed_in (change.DropExtra name.entry) (object environment.old))
-        (object environment.old) (object environment.new) result }
+pub extern "C" fn pylock_environment_drop_extra(alloc: Global, slot: &mut Slot, name: &[u8]) -> i32
+    ensures { Tells (changed_in (named_change change.DropExtra name.now) (object slot.old))
+        (object slot.old) (object slot.new) result }
 {
-    make_in_slot(alloc, environment, Change::DropExtra(name))
+    change_slot(alloc, slot, drop_extra_change(alloc, name))
 }
 
 /// Asks for a dependency group.
 #[unsafe(no_mangle)]
-pub extern "C" fn pylock_environment_add_group(
-    alloc: Global,
-    environment: &mut Slot,
-    name: &[u8],
-) -> i32
-    ensures { Tells (changed_in (change.AddGroup name.entry) (object environment.old))
-        (object environment.old) (object environment.new) result }
+pub extern "C" fn pylock_environment_add_group(alloc: Global, slot: &mut Slot, name: &[u8]) -> i32
+    ensures { Tells (changed_in (named_change change.AddGroup name.now) (object slot.old))
+        (object slot.old) (object slot.new) result }
 {
-    make_in_slot(alloc, environment, Change::AddGroup(name))
+    change_slot(alloc, slot, add_group_change(alloc, name))
 }
 
 /// Asks for a dependency group no more.
 #[unsafe(no_mangle)]
-pub extern "C" fn pylock_environment_drop_group(
-    alloc: Global,
-    environment: &mut Slot,
-    name: &[u8],
-) -> i32
-    ensures { Tells (changed_in (change.DropGroup name.entry) (object environment.old))
-        (object environment.old) (object environment.new) result }
+pub extern "C" fn pylock_environment_drop_group(alloc: Global, slot: &mut Slot, name: &[u8]) -> i32
+    ensures { Tells (changed_in (named_change change.DropGroup name.now) (object slot.old))
+        (object slot.old) (object slot.new) result }
 {
-    make_in_slot(alloc, environment, Change::DropGroup(name))
+    change_slot(alloc, slot, drop_group_change(alloc, name))
 }
 
 /// Empties the slot.

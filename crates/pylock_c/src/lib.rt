@@ -19,6 +19,7 @@ ghost use Rattle.std.specs.Prelude.{◌≡◌};
 
 mod answer;
 mod answers;
+mod edits;
 mod environments;
 mod kept;
 mod loose;

@@ -1,11 +1,11 @@
 //! Markers (PEP 508).
 
-ghost use Rattle.std.specs.Prelude.{◌≡◌, None, Some, option_map};
+ghost use Rattle.std.specs.Prelude.{◌≡◌, None, Some};
 ghost use Rattle.pytext.specs.Agreement.{Gives};
 ghost use Rattle.pylock_c.specs.Answer.{Tells, Writes};
 ghost use Rattle.pylock_c.specs.Markers.{environment_in, marker_in, marker_text_in, parsed};
 ghost use Rattle.pylock_c.specs.Markers.{value_in, value_with_extra_in};
-ghost use Rattle.pylock_c.specs.Slot.{object};
+ghost use Rattle.pylock_c.specs.Slot.{kept_object, object};
 ghost use Rattle.pylock_c.specs.declared.refusal.Refusal.TheVariants.{Memory};
 
 use crate::answer::{keep, tell, write};
@@ -31,8 +31,7 @@ pub extern "C" fn pylock_marker_parse(alloc: Global, marker: &mut Slot, text: &[
 }
 
 fn marker_in(kept: &Option<Box<Object>>) -> Result<&Marker, Refusal>
-    ensures { Gives Memory (λ marker. marker.now) result
-        (marker_in (option_map (λ kept. kept.value) kept.now)) }
+    ensures { Gives Memory (λ marker. marker.now) result (marker_in (kept_object kept.now)) }
 {
     match kept.as_deref() {
         Some(Object::Marker(marker)) => Ok(marker),
@@ -41,8 +40,7 @@ fn marker_in(kept: &Option<Box<Object>>) -> Result<&Marker, Refusal>
 }
 
 fn marker_text_in(kept: &Option<Box<Object>>) -> Result<&[u8], Refusal>
-    ensures { Gives Memory (λ text. text.now) result
-        (marker_text_in (option_map (λ kept. kept.value) kept.now)) }
+    ensures { Gives Memory (λ text. text.now) result (marker_text_in (kept_object kept.now)) }
 {
     Ok(marker_in(kept)?.text().as_bytes())
 }
@@ -67,7 +65,7 @@ pub extern "C" fn pylock_marker_text(
 
 fn environment_in(kept: &Option<Box<Object>>) -> Result<&Environment, Refusal>
     ensures { Gives Memory (λ environment. environment.now) result
-        (environment_in (option_map (λ kept. kept.value) kept.now)) }
+        (environment_in (kept_object kept.now)) }
 {
     match kept.as_deref() {
         Some(Object::Environment(environment)) => Ok(environment),
@@ -80,9 +78,8 @@ fn value_in(
     marker: &Option<Box<Object>>,
     environment: &Option<Box<Object>>,
 ) -> Result<bool, Refusal>
-    ensures { Gives Memory (λ value. value) result
-        (value_in (option_map (λ kept. kept.value) marker.now)
-        (option_map (λ kept. kept.value) environment.now)) }
+    ensures { Gives Memory (λ value. value) result (value_in (kept_object marker.now)
+        (kept_object environment.now)) }
 {
     let marker = marker_in(marker)?;
     let environment = environment_in(environment)?;
@@ -116,9 +113,8 @@ fn value_with_extra_in(
     environment: &Option<Box<Object>>,
     extra: &[u8],
 ) -> Result<bool, Refusal>
-    ensures { Gives Memory (λ value. value) result
-        (value_with_extra_in (option_map (λ kept. kept.value) marker.now)
-        (option_map (λ kept. kept.value) environment.now) extra.now) }
+    ensures { Gives Memory (λ value. value) result (value_with_extra_in (kept_object marker.now)
+        (kept_object environment.now) extra.now) }
 {
     let marker = marker_in(marker)?;
     let environment = environment_in(environment)?;

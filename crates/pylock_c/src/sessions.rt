@@ -1,31 +1,38 @@
 //! Sessions: a lock in an environment (PEP 751), edited and answered again.
 
-ghost use Rattle.std.specs.Prelude.{◌≡◌, ℕ, None, OnErr, Option, Result, Some, option_map};
+ghost use Rattle.std.specs.Prelude.{◌≡◌, ℕ, None, Ok, OnErr, Option, Result, Some};
 ghost use Rattle.pytext.specs.Agreement.{Gives};
+ghost use Rattle.pymark_core.specs.declared.change.Change.TheVariants as change;
+ghost use Rattle.pylock_core.specs.declared.edit.Edit.TheVariants as edit;
+ghost use Rattle.pylock_run.specs.Line.{command_of};
 ghost use Rattle.pylock_run.specs.Report.{open_state};
+ghost use Rattle.pylock_run.specs.declared.line.commands.Command.{Command as CommandValue};
+ghost use Rattle.pylock_run.specs.declared.line.commands.Command.TheVariants as command;
+ghost use Rattle.pylock_run.specs.declared.line.refusal.LineRefusal.{LineRefusal as RefusalValue};
 ghost use Rattle.pylock_run.specs.declared.line.refusal.LineRefusal.TheVariants as line;
 ghost use Rattle.pylock_run.specs.declared.report.opening.OpenError.TheVariants as unopened;
 ghost use Rattle.pylock_c.specs.Answer.{Tells};
+ghost use Rattle.pylock_c.specs.Edits.{change_command, entry_command, named_change};
+ghost use Rattle.pylock_c.specs.Edits.{policy_command, set_change, tags_command, unset_change};
 ghost use Rattle.pylock_c.specs.Opening.{Opens};
-ghost use Rattle.pylock_c.specs.Sessions.{Counts, edited, edited_in, started};
+ghost use Rattle.pylock_c.specs.Sessions.{Counts, session_after, obeyed_in, started};
 ghost use Rattle.pylock_c.specs.Slot.{object};
 ghost use Rattle.pylock_c.specs.declared.object.Object.{Object as Kind};
 ghost use Rattle.pylock_c.specs.declared.refusal.Refusal.{Refusal as Refused};
-ghost use Rattle.pylock_c.specs.declared.sessions.ask.Ask.TheVariants as ask;
 
-pub(crate) mod ask;
-mod commands;
 mod standing;
 
 use crate::answer::OK;
+use crate::edits::{
+    add_command, add_extra_change, add_group_change, change_command, drop_extra_change,
+    drop_group_change, policy_command, put_command, set_change, tags_command, unset_change,
+};
 use crate::object::Object;
 use crate::opening::open_into;
 use crate::refusal::Refusal;
-use crate::sessions::ask::Ask;
-use crate::sessions::commands::command;
 use crate::slot::Slot;
-use pylock_core::Session;
-use pylock_run::{Command, LineRefusal, OpenError, open};
+use pylock_core::{Edit, Session};
+use pylock_run::{Command, LineRefusal, OpenError, open, read_line};
 use std::alloc::Global;
 
 /// The session on a lock and an environment.
@@ -52,45 +59,28 @@ pub extern "C" fn pylock_session_start(
     open_into(alloc, started(alloc, lock, environment), session, words)
 }
 
-/// Makes the edit, and answers how many judgements it made.
-fn make(alloc: Global, session: &mut Session, ask: Ask<'_>) -> Result<u64, LineRefusal>
+/// Obeys the command, and answers how many judgements that made.
+fn obey(session: &mut Session, command: Command) -> Result<u64, LineRefusal>
     ensures ok { Gives line.Memory (λ judgements. (session.new, judgements)) result
-        (edited ask.entry session.old) }
+        (session_after session.old command) }
     ensures err { OnErr result (session.new ≡ session.old) }
 {
-    match command(alloc, ask)? {
+    match command {
         Command::Show => Ok(0),
         Command::Edit(edit) => Ok(session.edit(edit)?),
     }
 }
 
-/// Edits the session that is kept.
-fn make_in(alloc: Global, object: &mut Object, ask: Ask<'_>) -> Result<u64, Refusal>
-    ensures { Counts (edited_in ask.entry (Some object.old)) (Some object.old) (Some object.new)
+/// Obeys the command in the session that is kept. Where none is, the command isn't looked at.
+fn obey_in(object: &mut Object, command: Result<Command, LineRefusal>) -> Result<u64, Refusal>
+    ensures { (definition : Result CommandValue RefusalValue)
+        → Gives line.Memory (λ c. c) command definition
+        → Counts (obeyed_in definition (Some object.old)) (Some object.old) (Some object.new)
         result }
 {
     match object {
-        Object::Session(session) => Ok(make(alloc, session, ask)?),
+        Object::Session(session) => Ok(obey(session, command?)?),
         _ => Err(Refusal::Empty),
-    }
-}
-
-/// Edits the session that is taken out of a slot, and gives it back.
-fn make_taken(
-    alloc: Global,
-    kept: Option<Box<Object>>,
-    ask: Ask<'_>,
-) -> (Option<Box<Object>>, Result<u64, Refusal>)
-    ensures { Counts (edited_in ask.entry (option_map (λ kept. kept.value) kept))
-        (option_map (λ kept. kept.value) kept) (option_map (λ kept. kept.value) result.0)
-        result.1 }
-{
-    match kept {
-        Some(mut object) => {
-            let outcome = make_in(alloc, &mut object, ask);
-            (Some(object), outcome)
-        }
-        None => (None, Err(Refusal::Empty)),
     }
 }
 
@@ -110,13 +100,23 @@ fn count(outcome: Result<u64, Refusal>, judged: &mut u64) -> i32
     }
 }
 
-/// Edits the session of a slot, and answers the code.
-fn make_in_slot(alloc: Global, slot: &mut Slot, ask: Ask<'_>, judged: &mut u64) -> i32
-    ensures { Tells (edited_in ask.entry (object slot.old)) (object slot.old, judged.old)
+/// Obeys the command in the session of a slot, and answers the code.
+fn obey_slot(
+    alloc: Global,
+    slot: &mut Slot,
+    command: Result<Command, LineRefusal>,
+    judged: &mut u64,
+) -> i32
+    ensures { (definition : Result CommandValue RefusalValue)
+        → Gives line.Memory (λ c. c) command definition
+        → Tells (obeyed_in definition (object slot.old)) (object slot.old, judged.old)
         (object slot.new, judged.new) result }
 {
-    let (kept, outcome) = make_taken(alloc, slot.take(alloc), ask);
-    slot.put(alloc, kept);
+    let Some(mut object) = slot.take(alloc) else {
+        return Refusal::Empty.number();
+    };
+    let outcome = obey_in(&mut object, command);
+    slot.put(alloc, Some(object));
     count(outcome, judged)
 }
 
@@ -124,171 +124,171 @@ fn make_in_slot(alloc: Global, slot: &mut Slot, ask: Ask<'_>, judged: &mut u64) 
 #[unsafe(no_mangle)]
 pub extern "C" fn pylock_session_set(
     alloc: Global,
-    session: &mut Slot,
+    slot: &mut Slot,
     variable: &[u8],
     text: &[u8],
     judged: &mut u64,
 ) -> i32
-    ensures { Tells (edited_in (ask.Set variable.entry text.entry) (object session.old))
-        (object session.old, judged.old) (object session.new, judged.new) result }
+    ensures { Tells (obeyed_in (change_command (set_change variable.now text.now)) (object slot.old))
+        (object slot.old, judged.old) (object slot.new, judged.new) result }
 {
-    make_in_slot(alloc, session, Ask::Set(variable, text), judged)
+    obey_slot(alloc, slot, change_command(set_change(alloc, variable, text)), judged)
 }
 
 /// Leaves a variable without a text.
 #[unsafe(no_mangle)]
 pub extern "C" fn pylock_session_unset(
     alloc: Global,
-    session: &mut Slot,
+    slot: &mut Slot,
     variable: &[u8],
     judged: &mut u64,
 ) -> i32
-    ensures { Tells (edited_in (ask.Unset variable.entry) (object session.old))
-        (object session.old, judged.old) (object session.new, judged.new) result }
+    ensures { Tells (obeyed_in (change_command (unset_change variable.now)) (object slot.old))
+        (object slot.old, judged.old) (object slot.new, judged.new) result }
 {
-    make_in_slot(alloc, session, Ask::Unset(variable), judged)
+    obey_slot(alloc, slot, change_command(unset_change(variable)), judged)
 }
 
 /// Asks for an extra.
 #[unsafe(no_mangle)]
 pub extern "C" fn pylock_session_add_extra(
     alloc: Global,
-    session: &mut Slot,
+    slot: &mut Slot,
     name: &[u8],
     judged: &mut u64,
 ) -> i32
-    ensures { Tells (edited_in (ask.AddExtra name.entry) (object session.old))
-        (object session.old, judged.old) (object session.new, judged.new) result }
+    ensures { Tells (obeyed_in (change_command (named_change change.AddExtra name.now))
+        (object slot.old)) (object slot.old, judged.old) (object slot.new, judged.new) result }
 {
-    make_in_slot(alloc, session, Ask::AddExtra(name), judged)
+    obey_slot(alloc, slot, change_command(add_extra_change(alloc, name)), judged)
 }
 
 /// Asks for an extra no more.
 #[unsafe(no_mangle)]
 pub extern "C" fn pylock_session_drop_extra(
     alloc: Global,
-    session: &mut Slot,
+    slot: &mut Slot,
     name: &[u8],
     judged: &mut u64,
 ) -> i32
-    ensures { Tells (edited_in (ask.DropExtra name.entry) (object session.old))
-        (object session.old, judged.old) (object session.new, judged.new) result }
+    ensures { Tells (obeyed_in (change_command (named_change change.DropExtra name.now))
+        (object slot.old)) (object slot.old, judged.old) (object slot.new, judged.new) result }
 {
-    make_in_slot(alloc, session, Ask::DropExtra(name), judged)
+    obey_slot(alloc, slot, change_command(drop_extra_change(alloc, name)), judged)
 }
 
 /// Asks for a dependency group.
 #[unsafe(no_mangle)]
 pub extern "C" fn pylock_session_add_group(
     alloc: Global,
-    session: &mut Slot,
+    slot: &mut Slot,
     name: &[u8],
     judged: &mut u64,
 ) -> i32
-    ensures { Tells (edited_in (ask.AddGroup name.entry) (object session.old))
-        (object session.old, judged.old) (object session.new, judged.new) result }
+    ensures { Tells (obeyed_in (change_command (named_change change.AddGroup name.now))
+        (object slot.old)) (object slot.old, judged.old) (object slot.new, judged.new) result }
 {
-    make_in_slot(alloc, session, Ask::AddGroup(name), judged)
+    obey_slot(alloc, slot, change_command(add_group_change(alloc, name)), judged)
 }
 
 /// Asks for a dependency group no more.
 #[unsafe(no_mangle)]
 pub extern "C" fn pylock_session_drop_group(
     alloc: Global,
-    session: &mut Slot,
+    slot: &mut Slot,
     name: &[u8],
     judged: &mut u64,
 ) -> i32
-    ensures { Tells (edited_in (ask.DropGroup name.entry) (object session.old))
-        (object session.old, judged.old) (object session.new, judged.new) result }
+    ensures { Tells (obeyed_in (change_command (named_change change.DropGroup name.now))
+        (object slot.old)) (object slot.old, judged.old) (object slot.new, judged.new) result }
 {
-    make_in_slot(alloc, session, Ask::DropGroup(name), judged)
+    obey_slot(alloc, slot, change_command(drop_group_change(alloc, name)), judged)
 }
 
 /// Puts these tags in place of those that were there.
 #[unsafe(no_mangle)]
 pub extern "C" fn pylock_session_tags(
     alloc: Global,
-    session: &mut Slot,
+    slot: &mut Slot,
     tags: &[u8],
     judged: &mut u64,
 ) -> i32
-    ensures { Tells (edited_in (ask.Tags tags.entry) (object session.old))
-        (object session.old, judged.old) (object session.new, judged.new) result }
+    ensures { Tells (obeyed_in (tags_command tags.now) (object slot.old))
+        (object slot.old, judged.old) (object slot.new, judged.new) result }
 {
-    make_in_slot(alloc, session, Ask::Tags(tags), judged)
+    obey_slot(alloc, slot, tags_command(alloc, tags), judged)
 }
 
 /// Adds an entry behind all others.
 #[unsafe(no_mangle)]
 pub extern "C" fn pylock_session_add(
     alloc: Global,
-    session: &mut Slot,
+    slot: &mut Slot,
     entry: &[u8],
     judged: &mut u64,
 ) -> i32
-    ensures { Tells (edited_in (ask.Add entry.entry) (object session.old))
-        (object session.old, judged.old) (object session.new, judged.new) result }
+    ensures { Tells (obeyed_in (entry_command edit.Add entry.now) (object slot.old))
+        (object slot.old, judged.old) (object slot.new, judged.new) result }
 {
-    make_in_slot(alloc, session, Ask::Add(entry), judged)
+    obey_slot(alloc, slot, add_command(alloc, entry), judged)
 }
 
 /// Puts an entry in place of that of the number.
 #[unsafe(no_mangle)]
 pub extern "C" fn pylock_session_put(
     alloc: Global,
-    session: &mut Slot,
+    slot: &mut Slot,
     number: u32,
     entry: &[u8],
     judged: &mut u64,
 ) -> i32
-    ensures { Tells (edited_in (ask.Put number entry.entry) (object session.old))
-        (object session.old, judged.old) (object session.new, judged.new) result }
+    ensures { Tells (obeyed_in (entry_command (edit.Put number) entry.now) (object slot.old))
+        (object slot.old, judged.old) (object slot.new, judged.new) result }
 {
-    make_in_slot(alloc, session, Ask::Put(number, entry), judged)
+    obey_slot(alloc, slot, put_command(alloc, number, entry), judged)
 }
 
 /// Takes an entry out.
 #[unsafe(no_mangle)]
 pub extern "C" fn pylock_session_del(
     alloc: Global,
-    session: &mut Slot,
+    slot: &mut Slot,
     number: u32,
     judged: &mut u64,
 ) -> i32
-    ensures { Tells (edited_in (ask.Del number) (object session.old))
-        (object session.old, judged.old) (object session.new, judged.new) result }
+    ensures { Tells (obeyed_in (Ok (command.Edit (edit.Del number))) (object slot.old))
+        (object slot.old, judged.old) (object slot.new, judged.new) result }
 {
-    make_in_slot(alloc, session, Ask::Del(number), judged)
+    obey_slot(alloc, slot, Ok(Command::Edit(Edit::Del(number))), judged)
 }
 
 /// Says which files a package may be installed from.
 #[unsafe(no_mangle)]
 pub extern "C" fn pylock_session_policy(
     alloc: Global,
-    session: &mut Slot,
+    slot: &mut Slot,
     name: &[u8],
     policy: &[u8],
     judged: &mut u64,
 ) -> i32
-    ensures { Tells (edited_in (ask.Policy name.entry policy.entry) (object session.old))
-        (object session.old, judged.old) (object session.new, judged.new) result }
+    ensures { Tells (obeyed_in (policy_command name.now policy.now) (object slot.old))
+        (object slot.old, judged.old) (object slot.new, judged.new) result }
 {
-    make_in_slot(alloc, session, Ask::Policy(name, policy), judged)
+    obey_slot(alloc, slot, policy_command(alloc, name, policy), judged)
 }
 
 /// Makes the edit that an edit line says.
 #[unsafe(no_mangle)]
 pub extern "C" fn pylock_session_line(
     alloc: Global,
-    session: &mut Slot,
+    slot: &mut Slot,
     line: &[u8],
     judged: &mut u64,
 ) -> i32
-    ensures { Tells (edited_in (ask.Line line.entry) (object session.old))
-        (object session.old, judged.old) (object session.new, judged.new) result }
+    ensures { Tells (obeyed_in (command_of line.now) (object slot.old))
+        (object slot.old, judged.old) (object slot.new, judged.new) result }
 {
-    make_in_slot(alloc, session, Ask::Line(line), judged)
+    obey_slot(alloc, slot, read_line(alloc, line), judged)
 }
 
 /// Empties the slot.

@@ -1,11 +1,11 @@
 //! Versions, specifier sets and names (PEP 440, PEP 503).
 
-ghost use Rattle.std.specs.Prelude.{◌≡◌, None, Some, option_map};
+ghost use Rattle.std.specs.Prelude.{◌≡◌, None, Some};
 ghost use Rattle.pytext.specs.Agreement.{Gives};
 ghost use Rattle.pylock_c.specs.Answer.{Tells, Writes};
 ghost use Rattle.pylock_c.specs.Sets.{admits_in, admits_of, is_name_of, name_of, parsed, set_in};
 ghost use Rattle.pylock_c.specs.Sets.{set_of, set_text_in, version_of};
-ghost use Rattle.pylock_c.specs.Slot.{object};
+ghost use Rattle.pylock_c.specs.Slot.{kept_object, object};
 ghost use Rattle.pylock_c.specs.declared.refusal.Refusal.TheVariants.{Memory};
 
 use crate::answer::{keep, tell, write, write_made};
@@ -87,8 +87,7 @@ pub extern "C" fn pylock_set_parse(alloc: Global, set: &mut Slot, text: &[u8]) -
 }
 
 fn set_in(kept: &Option<Box<Object>>) -> Result<&SpecifierSet, Refusal>
-    ensures { Gives Memory (λ set. set.now) result
-        (set_in (option_map (λ kept. kept.value) kept.now)) }
+    ensures { Gives Memory (λ set. set.now) result (set_in (kept_object kept.now)) }
 {
     match kept.as_deref() {
         Some(Object::Set(set)) => Ok(set),
@@ -97,8 +96,7 @@ fn set_in(kept: &Option<Box<Object>>) -> Result<&SpecifierSet, Refusal>
 }
 
 fn set_text_in(kept: &Option<Box<Object>>) -> Result<&[u8], Refusal>
-    ensures { Gives Memory (λ text. text.now) result
-        (set_text_in (option_map (λ kept. kept.value) kept.now)) }
+    ensures { Gives Memory (λ text. text.now) result (set_text_in (kept_object kept.now)) }
 {
     Ok(set_in(kept)?.text().as_bytes())
 }
@@ -122,8 +120,7 @@ pub extern "C" fn pylock_set_text(
 }
 
 fn admits_in(alloc: Global, kept: &Option<Box<Object>>, bytes: &[u8]) -> Result<bool, Refusal>
-    ensures { Gives Memory (λ admits. admits) result
-        (admits_in (option_map (λ kept. kept.value) kept.now) bytes.now) }
+    ensures { Gives Memory (λ admits. admits) result (admits_in (kept_object kept.now) bytes.now) }
 {
     let set = set_in(kept)?;
     let version = version(alloc, bytes)?;

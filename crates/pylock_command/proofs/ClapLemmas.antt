@@ -1,71 +1,16 @@
--- What clap's matches tell of a subcommand.
-use Rattle.std.proofs.Common.{◌≡◌, ◌||◌, Bool, false, not, List, [], ◌∷◌, Option, None, Some, refl, true, inl, inr, is_some, subst, sym, ap, ◌∙◌}
+-- What clap's matches tell of the program's words.
+use Rattle.std.proofs.Common.{◌≡◌, List, [], refl, true, inl, inr, subst, sym, ap, ◌∙◌}
 use Rattle.std.proofs.lemmas.Bool.{and_parts}
-use Rattle.std.proofs.lemmas.List.Elements.{All-cons, All-nil}
-use Rattle.clap.proofs.WalkLemmas.{first_value-rows}
-use Rattle.clap.specs.Words.{Row, Text, first_of, first_value, found_of, rows_of, subcommand_rows_of}
 use Rattle.clap.proofs.OnLiterals.{clap_on_literals}
-use Rattle.clap.specs.Words.{App, HasKind, HasMatchesOf, IsAmong, built, fault_of, is_simple, is_simple_and_free, kind_of, subcommand_of}
+use Rattle.clap.specs.Words.{App, HasKind, HasMatchesOf, IsAmong, Text, built, fault_of, is_simple, is_simple_and_free, kind_of, subcommand_of, subcommand_rows_of}
 use Rattle.clap.specs.Faults.{is_free_app}
 use Rattle.clap.specs.declared.error.kind.ErrorKind.TheVariants.{MissingRequiredArgument, OutOfMemory}
 use Rattle.clap.specs.declared.error.Error.{Error}
-use Rattle.pylock_command.specs.CommandLine.{HasTexts, HaveTexts, IsRefusal, IsTask, Keeps, is_lacking, lacks, lacks_plain_text, pylock_app}
+use Rattle.clap.specs.declared.parser.matches.ArgMatches.{ArgMatches}
+use Rattle.pylock_command.specs.CommandLine.{IsRefusal, IsTask, Keeps, is_lacking, pylock_app}
 use Rattle.pylock_command.specs.declared.command_line.CommandError.{CommandError}
 use Rattle.pylock_command.specs.declared.command_line.CommandError.TheVariants.{Refused, Memory}
-use Rattle.pylock_command.specs.declared.command_line.Task.{Task}
-use Rattle.clap.specs.declared.parser.matches.ArgMatches.{ArgMatches}
-
-or-true : (b : Bool) → (b || true) ≡ true
-or-true true = refl
-or-true false = refl
-
-abbrev HasText : List Row → Text × Text → Type 0
-HasText rows p = first_of p.0 rows ≡ Some p.1
-
--- the texts that the matches of a subcommand give
-module _ (found : ArgMatches) where
-  abbrev rows : List Row
-  rows = rows_of (found_of found)
-
-  given : (id text : Text) → Some text ≡ first_value (found_of found) id → HasText rows (id, text)
-  given id text gives = sym (gives ∙ first_value-rows (found_of found) id)
-
-  HaveTexts-one : (id text : Text) → Some text ≡ first_value (found_of found) id → HaveTexts rows ((id, text) ∷ [])
-  HaveTexts-one id text gives = All-cons (HasText rows) (id, text) [] (given id text gives) (All-nil (HasText rows))
-
-  pub HaveTexts-two : (id text other other_text : Text) → Some text ≡ first_value (found_of found) id → Some other_text ≡ first_value (found_of found) other
-      → HaveTexts rows ((id, text) ∷ (other, other_text) ∷ [])
-  HaveTexts-two id text other other_text gives gives_other =
-      All-cons (HasText rows) (id, text) ((other, other_text) ∷ []) (given id text gives) (HaveTexts-one other other_text gives_other)
-
-  pub lacks_one : (id : Text) → None ≡ first_value (found_of found) id → lacks rows id ≡ true
-  lacks_one id none = ap (λ (text : Option Text). not (is_some text)) (sym (none ∙ first_value-rows (found_of found) id))
-
-  pub lacks_first : (id other : Text) → None ≡ first_value (found_of found) id → (lacks rows id || lacks rows other) ≡ true
-  lacks_first id other none = ap (λ b. b || lacks rows other) (lacks_one id none)
-
-  pub lacks_second : (id other : Text) → None ≡ first_value (found_of found) other → (lacks rows id || lacks rows other) ≡ true
-  lacks_second id other none = ap (λ b. lacks rows id || b) (lacks_one other none) ∙ or-true (lacks rows id)
-
-  -- of a subcommand whose name is this word
-  module _ (name word : Text) (is : name ≡ word) where
-    pub HasTexts-of : (texts : List (Text × Text)) → HaveTexts rows texts → HasTexts (Some (name, rows)) word texts
-    HasTexts-of texts have = record {
-      rows = rows;
-      is_subcommand = ap (λ (n : Text). Some (n, rows)) is;
-      have_texts = have;
-    }
-
-    pub HasTexts-one : (id text : Text) → Some text ≡ first_value (found_of found) id → HasTexts (Some (name, rows)) word ((id, text) ∷ [])
-    HasTexts-one id text gives = HasTexts-of ((id, text) ∷ []) (HaveTexts-one id text gives)
-
-    pub HasTexts-two : (id text other other_text : Text) → Some text ≡ first_value (found_of found) id → Some other_text ≡ first_value (found_of found) other
-        → HasTexts (Some (name, rows)) word ((id, text) ∷ (other, other_text) ∷ [])
-    HasTexts-two id text other other_text gives gives_other =
-        HasTexts-of ((id, text) ∷ (other, other_text) ∷ []) (HaveTexts-two id text other other_text gives gives_other)
-
-    pub lacks_plain_text-of : lacks_plain_text word rows ≡ true → lacks_plain_text name rows ≡ true
-    lacks_plain_text-of lacking = ap (λ (n : Text). lacks_plain_text n rows) is ∙ lacking
+use Rattle.pylock_command.specs.declared.task.Task.{Task}
 
 pylock_app-is_simple_and_free : is_simple_and_free pylock_app ≡ true
 unfolding clap_on_literals pylock_app

@@ -1,6 +1,7 @@
 -- The options of `plan`, in clap's terms.
 use Rattle.std.specs.Prelude.{◌≡◌, ◌⊎◌, ◌++◌, Bool, List, [], ◌∷◌, Option, Some, None}
 use Rattle.std.specs.Prelude.{if◌then◌else◌, false, codes, fold, map, unwrap_or}
+use Rattle.std.specs.Borrow.{Bor}
 use Rattle.std.specs.Option.{option_map_or}
 use Rattle.std.specs.Str.{bytes_eq}
 use Rattle.clap.specs.Words.{App, Row, Rule, Text, all_of, first_of, new_rule, with_rule}
@@ -24,23 +25,25 @@ text_rule name = record (new_rule name) {
   value_names = 1;
 }
 
-abbrev pub extra_rules : List Rule
-extra_rules = flag_rule (codes "all-extras") ∷ text_rule (codes "extra") ∷ []
+-- what an option is to clap, by its name and by whether it takes a text, and a command with it
+abbrev pub option_rule : Bor Text × Option (Bor Text) × Bor Text → Rule
+option_rule (name, None, help) = flag_rule name.now
+option_rule (name, Some value, help) = text_rule name.now
 
-abbrev pub group_rules : List Rule
-group_rules = flag_rule (codes "no-default-groups") ∷ flag_rule (codes "all-groups")
-    ∷ text_rule (codes "group") ∷ text_rule (codes "no-group") ∷ []
+abbrev pub with_option : App → Bor Text × Option (Bor Text) × Bor Text → App
+with_option app option = with_rule app (option_rule option)
 
-abbrev pub other_rules : List Rule
-other_rules = text_rule (codes "only-binary") ∷ text_rule (codes "no-binary")
-    ∷ text_rule (codes "set") ∷ []
-
-abbrev pub with_rules : App → List Rule → App
-with_rules = fold with_rule
+-- the options of `plan`
+abbrev pub choice_rules : List Rule
+choice_rules =
+    flag_rule (codes "all-extras") ∷ text_rule (codes "extra")
+    ∷ flag_rule (codes "no-default-groups") ∷ flag_rule (codes "all-groups")
+    ∷ text_rule (codes "group") ∷ text_rule (codes "no-group")
+    ∷ text_rule (codes "only-binary") ∷ text_rule (codes "no-binary") ∷ text_rule (codes "set") ∷ []
 
 -- what the options of `plan` make of a command
 abbrev pub with_choices : App → App
-with_choices app = with_rules (with_rules (with_rules app extra_rules) group_rules) other_rules
+with_choices app = fold with_rule app choice_rules
 
 -- an option as it stands among the words: its name, and its text, if it takes one
 abbrev pub OptionWords : Type 0

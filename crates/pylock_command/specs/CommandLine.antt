@@ -1,6 +1,8 @@
 -- The program's command line, in clap's terms.
-use Rattle.std.specs.Prelude.{◌≡◌, ◌≢◌, ◌⊎◌, ◌||◌, Bool, true, false, not, if◌then◌else◌, codes}
-use Rattle.std.specs.Prelude.{List, [], ◌∷◌, Option, Some, None, IfSome, is_some, All, fold}
+use Rattle.std.specs.List.{list_any}
+use Rattle.std.specs.Prelude.{◌≡◌, ◌≢◌, ◌⊎◌, Bool, true, false, not, codes, List, [], ◌∷◌, map, find}
+use Rattle.std.specs.Prelude.{Option, Some, None, IfSome, IsSomeAnd, is_some, fold}
+use Rattle.std.specs.Option.{option_map_or}
 use Rattle.std.specs.Str.{bytes_eq}
 use Rattle.clap.specs.Words.{App, IsAmong, Row, Text, fault_of, first_of, kind_of, new_app}
 use Rattle.clap.specs.Words.{subcommand_of, with_subcommand}
@@ -13,13 +15,14 @@ use Rattle.pylock_command.specs.Subcommand.{Subcommand, row, subcommand_app}
 use Rattle.pylock_command.specs.declared.choice.Choice.{Choice}
 use Rattle.pylock_command.specs.declared.command_line.CommandError.{CommandError}
 use Rattle.pylock_command.specs.declared.command_line.CommandError.TheVariants.{Refused, Memory}
-use Rattle.pylock_command.specs.declared.command_line.Options.TheVariants as options
-use Rattle.pylock_command.specs.declared.command_line.Task.{Task}
-use Rattle.pylock_command.specs.declared.command_line.Task.TheVariants.{Bare, Plan, Explain}
-use Rattle.pylock_command.specs.declared.command_line.Task.TheVariants.{Select, Files, Audit}
-use Rattle.pylock_command.specs.declared.command_line.Task.TheVariants.{Version, Match, Name}
-use Rattle.pylock_command.specs.declared.command_line.Task.TheVariants.{Marker, Requirement, Wheel}
 use Rattle.pylock_command.specs.declared.form.Form.{Form}
+use Rattle.pylock_command.specs.declared.subcommand.Options.TheVariants as options
+use Rattle.pylock_command.specs.declared.task.Task.{Task}
+use Rattle.pylock_command.specs.declared.task.Task.TheVariants.{Bare, Show, Select, Files, Audit}
+use Rattle.pylock_command.specs.declared.task.Task.TheVariants.{Version, Match, Name}
+use Rattle.pylock_command.specs.declared.task.Task.TheVariants.{Marker, Requirement, Wheel}
+use Rattle.pylock_command.specs.declared.task.View.{View}
+use Rattle.pylock_command.specs.declared.task.View.TheVariants as view
 
 -- `pylock`, which tells its version
 abbrev pub top_app : App
@@ -46,40 +49,45 @@ subcommands =
 unfoldable pub pylock_app : App
 pylock_app = fold (λ app s. with_subcommand app (subcommand_app s).top) top_app subcommands
 
--- each of these arguments, by name, has this text
-abbrev pub HaveTexts : List Row → List (Text × Text) → Type 0
-HaveTexts rows = All (λ p. first_of p.0 rows ≡ Some p.1)
+-- the program's subcommand of this name
+abbrev pub subcommand_named : Text → Option Subcommand
+subcommand_named name = find (λ s. bytes_eq name s.name) subcommands
+
+-- an argument, by its name, has this text
+abbrev pub HasText : List Row → Text → Text → Type 0
+HasText rows id text = first_of id rows ≡ Some text
+
+-- the arguments of these names have these texts
+abbrev pub HaveTexts : List Row → List Text → List Text → Type 0
+HaveTexts rows ids texts = map (λ id. first_of id rows) ids ≡ map Some texts
 
 -- the words have this subcommand, with these texts of its arguments
-pub record HasTexts (found : Option (Text × List Row)) (name : Text) (texts : List (Text × Text))
-    : Type 0 where
-  pub rows : List Row
-  pub is_subcommand : found ≡ Some (name, rows)
-  pub have_texts : HaveTexts rows texts
+abbrev pub HasTexts : Option (Text × List Row) → Text → List Text → Type 0
+HasTexts found name texts = IsSomeAnd found (λ p. (p.0 ≡ name)
+    × HaveTexts p.1 (option_map_or (λ s. s.texts) (subcommand_named name) []) texts)
 
--- the paths of lock and environment, by the names of the arguments
-abbrev pub paths : Text → Text → List (Text × Text)
-paths lock env = (codes "LOCK", lock) ∷ (codes "ENV", env) ∷ []
+-- the name of the subcommand that shows this
+abbrev pub view_word : View → Text
+view_word view.Plan = codes "plan"
+view_word view.Explain = codes "explain"
 
--- the subcommand of a task, and the texts of its arguments by name
-abbrev pub call_of : Task → Option (Text × List (Text × Text))
+-- the subcommand of a task, and its texts
+abbrev pub call_of : Task → Option (Text × List Text)
 call_of Bare = None
-call_of (Plan lock env choices form) = Some (codes "plan", paths lock.now env.now)
-call_of (Explain lock env choices form) = Some (codes "explain", paths lock.now env.now)
-call_of (Select lock env) = Some (codes "select", paths lock.now env.now)
-call_of (Files lock form) = Some (codes "files", (codes "LOCK", lock.now) ∷ [])
-call_of (Audit lock form) = Some (codes "audit", (codes "LOCK", lock.now) ∷ [])
-call_of (Version text) = Some (codes "version", (codes "TEXT", text.now) ∷ [])
-call_of (Match set version) =
-    Some (codes "match", (codes "SET", set.now) ∷ (codes "VERSION", version.now) ∷ [])
-call_of (Name text) = Some (codes "name", (codes "TEXT", text.now) ∷ [])
-call_of (Marker text env) =
-    Some (codes "marker", (codes "TEXT", text.now) ∷ (codes "ENV", env.now) ∷ [])
-call_of (Requirement text) = Some (codes "requirement", (codes "TEXT", text.now) ∷ [])
-call_of (Wheel text) = Some (codes "wheel", (codes "TEXT", text.now) ∷ [])
+call_of (Show request) =
+    Some (view_word request.view, request.lock.now ∷ request.environment.now ∷ [])
+call_of (Select lock env) = Some (codes "select", lock.now ∷ env.now ∷ [])
+call_of (Files lock form) = Some (codes "files", lock.now ∷ [])
+call_of (Audit lock form) = Some (codes "audit", lock.now ∷ [])
+call_of (Version text) = Some (codes "version", text.now ∷ [])
+call_of (Match set version) = Some (codes "match", set.now ∷ version.now ∷ [])
+call_of (Name text) = Some (codes "name", text.now ∷ [])
+call_of (Marker text env) = Some (codes "marker", text.now ∷ env.now ∷ [])
+call_of (Requirement text) = Some (codes "requirement", text.now ∷ [])
+call_of (Wheel text) = Some (codes "wheel", text.now ∷ [])
 
 -- the words have no subcommand, or this one with these texts
-abbrev pub IsCall : Option (Text × List Row) → Option (Text × List (Text × Text)) → Type 0
+abbrev pub IsCall : Option (Text × List Row) → Option (Text × List Text) → Type 0
 IsCall found None = found ≡ None
 IsCall found (Some call) = HasTexts found call.0 call.1
 
@@ -93,12 +101,9 @@ HasForm found form = IfSome found (λ p. form ≡ form_of p.1)
 
 -- the task that the words give
 abbrev pub IsTask : Option (Text × List Row) → Task → Type 0
-IsTask found (Plan lock env choices form) =
-    IsCall found (call_of (Plan lock env choices form)) × HasChoices found choices.items
-    × HasForm found form
-IsTask found (Explain lock env choices form) =
-    IsCall found (call_of (Explain lock env choices form)) × HasChoices found choices.items
-    × HasForm found form
+IsTask found (Show request) =
+    IsCall found (call_of (Show request)) × HasChoices found request.choices.items
+    × HasForm found request.form
 IsTask found (Files lock form) = IsCall found (call_of (Files lock form)) × HasForm found form
 IsTask found (Audit lock form) = IsCall found (call_of (Audit lock form)) × HasForm found form
 IsTask found task = IsCall found (call_of task)
@@ -107,31 +112,10 @@ IsTask found task = IsCall found (call_of task)
 abbrev pub lacks : List Row → Text → Bool
 lacks rows id = not (is_some (first_of id rows))
 
--- the path of the lock is missing, or that of the environment
-abbrev pub lacks_path : List Row → Bool
-lacks_path rows = lacks rows (codes "LOCK") || lacks rows (codes "ENV")
-
--- a subcommand without `plan`'s options lacks a text, or it is none of the program's
-abbrev pub lacks_plain_text : Text → List Row → Bool
-lacks_plain_text name rows =
-    if bytes_eq name (codes "select") then lacks_path rows
-    else if bytes_eq name (codes "files") then lacks rows (codes "LOCK")
-    else if bytes_eq name (codes "audit") then lacks rows (codes "LOCK")
-    else if bytes_eq name (codes "version") then lacks rows (codes "TEXT")
-    else if bytes_eq name (codes "match")
-    then lacks rows (codes "SET") || lacks rows (codes "VERSION")
-    else if bytes_eq name (codes "name") then lacks rows (codes "TEXT")
-    else if bytes_eq name (codes "marker")
-    then lacks rows (codes "TEXT") || lacks rows (codes "ENV")
-    else if bytes_eq name (codes "requirement") then lacks rows (codes "TEXT")
-    else if bytes_eq name (codes "wheel") then lacks rows (codes "TEXT")
-    else true
-
 -- the words have a subcommand that lacks one of its texts, or that is none of the program's
 abbrev pub lacks_text : Text → List Row → Bool
 lacks_text name rows =
-    if bytes_eq name (codes "plan") || bytes_eq name (codes "explain") then lacks_path rows
-    else lacks_plain_text name rows
+    option_map_or (λ s. list_any (lacks rows) s.texts) (subcommand_named name) true
 
 abbrev pub is_lacking : Option (Text × List Row) → Bool
 is_lacking None = false

@@ -1,16 +1,55 @@
 //! The options of `plan` and `explain`: what clap is told of them, and what it found.
-ghost use Rattle.std.specs.Prelude.{◌≡◌, ◌++◌, List, false, map, IfOk, OnOk, Some, None};
+ghost use Rattle.std.specs.Prelude.{◌≡◌, ◌++◌, List, false, fold, map, IfOk, OnOk, Some, None};
 ghost use Rattle.clap.specs.Words.{found_of, rows_of, rule_of, with_rule};
-ghost use Rattle.pylock_command.specs.Choices.{AreChoices, AreOnFiles, OptionWords, extra_rules};
-ghost use Rattle.pylock_command.specs.Choices.{flag_of, flag_rule, group_rules, has_flag};
-ghost use Rattle.pylock_command.specs.Choices.{on_extras, on_groups, other_rules, text_rule};
-ghost use Rattle.pylock_command.specs.Choices.{texts_at, texts_of, with_choices, with_rules};
-ghost use Rattle.pylock_command.specs.Choices.{option_words};
+ghost use Rattle.pylock_command.specs.Choices.{AreChoices, AreOnFiles, OptionWords, flag_of};
+ghost use Rattle.pylock_command.specs.Choices.{has_flag, on_extras, on_groups, option_rule};
+ghost use Rattle.pylock_command.specs.Choices.{option_words, texts_at, texts_of, with_choices};
+ghost use Rattle.pylock_command.specs.Choices.{with_option};
 ghost use Rattle.pylock_command.specs.Commands.{Adds, IsLocal};
 
 use crate::choice::Choice;
 use clap::{Arg, ArgAction, ArgMatches, Command};
 use std::alloc::{AllocError, Global};
+
+/// An option: its name, what stands for its text in the help, where it takes one, and its help.
+type OptionHelp = (&'static str, Option<&'static str>, &'static str);
+
+/// The options, in the order of the help.
+const OPTIONS: [OptionHelp; 9] = [
+    ("all-extras", None, "Ask for each extra of the lock"),
+    (
+        "extra",
+        Some("NAME"),
+        "Ask for an extra of the lock: --extra test",
+    ),
+    ("no-default-groups", None, "Leave out the default groups"),
+    ("all-groups", None, "Ask for each group of the lock"),
+    (
+        "group",
+        Some("NAME"),
+        "Ask for a group of the lock: --group test",
+    ),
+    (
+        "no-group",
+        Some("NAME"),
+        "Leave out a group of the lock: --no-group dev",
+    ),
+    (
+        "only-binary",
+        Some("NAME"),
+        "Take wheels alone: --only-binary numpy, or :all:",
+    ),
+    (
+        "no-binary",
+        Some("NAME"),
+        "Take no wheels: --no-binary numpy, or :all:",
+    ),
+    (
+        "set",
+        Some("VARIABLE=VALUE"),
+        "Give a marker variable a text: --set os_name=nt",
+    ),
+];
 
 /// The command, which takes the options of `plan` and `explain` too.
 pub(crate) fn with_choices<'a>(
@@ -21,131 +60,24 @@ pub(crate) fn with_choices<'a>(
     ensures app { Adds with_choices command.entry result }
     ensures local { IsLocal result }
 {
-    let command = with_extra_options(alloc, command);
-    let command = with_group_options(alloc, command);
-    with_other_options(alloc, command)
+    with_each_option(alloc, command, &OPTIONS)
 }
 
-/// Adds the options on extras.
-fn with_extra_options<'a>(
+/// The command, which takes these options too.
+fn with_each_option<'a>(
     alloc: Global,
     command: Result<Command<'a>, AllocError>,
+    options: &[OptionHelp],
 ) -> Result<Command<'a>, AllocError>
     requires local { IsLocal command }
-    ensures app { Adds (λ app. with_rules app extra_rules) command.entry result }
+    ensures app { Adds (λ app. fold with_option app options.now) command.entry result }
     ensures local { IsLocal result }
 {
-    let command = with_flag(
-        alloc,
-        command,
-        "all-extras",
-        "Ask for each extra of the lock",
-    );
-    with_option(
-        alloc,
-        command,
-        "extra",
-        "NAME",
-        "Ask for an extra of the lock: --extra test",
-    )
-}
-
-/// Adds the options on dependency groups.
-fn with_group_options<'a>(
-    alloc: Global,
-    command: Result<Command<'a>, AllocError>,
-) -> Result<Command<'a>, AllocError>
-    requires local { IsLocal command }
-    ensures app { Adds (λ app. with_rules app group_rules) command.entry result }
-    ensures local { IsLocal result }
-{
-    let command = with_flag(
-        alloc,
-        command,
-        "no-default-groups",
-        "Leave out the default groups",
-    );
-    let command = with_flag(
-        alloc,
-        command,
-        "all-groups",
-        "Ask for each group of the lock",
-    );
-    let command = with_option(
-        alloc,
-        command,
-        "group",
-        "NAME",
-        "Ask for a group of the lock: --group test",
-    );
-    with_option(
-        alloc,
-        command,
-        "no-group",
-        "NAME",
-        "Leave out a group of the lock: --no-group dev",
-    )
-}
-
-/// Adds the options on files and on marker variables.
-fn with_other_options<'a>(
-    alloc: Global,
-    command: Result<Command<'a>, AllocError>,
-) -> Result<Command<'a>, AllocError>
-    requires local { IsLocal command }
-    ensures app { Adds (λ app. with_rules app other_rules) command.entry result }
-    ensures local { IsLocal result }
-{
-    let command = with_option(
-        alloc,
-        command,
-        "only-binary",
-        "NAME",
-        "Take wheels alone: --only-binary numpy, or :all:",
-    );
-    let command = with_option(
-        alloc,
-        command,
-        "no-binary",
-        "NAME",
-        "Take no wheels: --no-binary numpy, or :all:",
-    );
-    with_option(
-        alloc,
-        command,
-        "set",
-        "VARIABLE=VALUE",
-        "Give a marker variable a text: --set os_name=nt",
-    )
-}
-
-/// The command with one more option, which takes no text.
-pub(crate) fn with_flag<'a>(
-    alloc: Global,
-    command: Result<Command<'a>, AllocError>,
-    name: &'static str,
-    help: &'static str,
-) -> Result<Command<'a>, AllocError>
-    requires local { IsLocal command }
-    ensures app { Adds (λ app. with_rule app (flag_rule name.now)) command.entry result }
-    ensures local { IsLocal result }
-{
-    with_argument(command, flag(alloc, name, help))
-}
-
-/// The command with one more option, which takes a text.
-fn with_option<'a>(
-    alloc: Global,
-    command: Result<Command<'a>, AllocError>,
-    name: &'static str,
-    value: &'static str,
-    help: &'static str,
-) -> Result<Command<'a>, AllocError>
-    requires local { IsLocal command }
-    ensures app { Adds (λ app. with_rule app (text_rule name.now)) command.entry result }
-    ensures local { IsLocal result }
-{
-    with_argument(command, option(alloc, name, value, help))
+    let mut command = command;
+    for option in options {
+        command = with_argument(command, option_argument(alloc, *option));
+    }
+    command
 }
 
 /// The command with one more argument, unless memory ran out. Each step on the way to a command
@@ -163,27 +95,17 @@ pub(crate) fn with_argument<'a>(
     command?.arg(argument)
 }
 
-/// An option without a text.
-fn flag<'a>(alloc: Global, name: &'static str, help: &'static str) -> Arg<'a>
-    ensures rule { rule_of result ≡ flag_rule name.now }
+/// The argument that an option is to clap.
+pub(crate) fn option_argument<'a>(alloc: Global, option: OptionHelp) -> Arg<'a>
+    ensures rule { rule_of result ≡ option_rule option.entry }
     ensures local { result.global ≡ false }
 {
-    Arg::new(alloc, name)
-        .long(name)
-        .action(ArgAction::SetTrue)
-        .help(help)
-}
-
-/// An option with a text, which `value` stands for in the help.
-fn option<'a>(alloc: Global, name: &'static str, value: &'static str, help: &'static str) -> Arg<'a>
-    ensures rule { rule_of result ≡ text_rule name.now }
-    ensures local { result.global ≡ false }
-{
-    Arg::new(alloc, name)
-        .long(name)
-        .action(ArgAction::Append)
-        .value_name(value)
-        .help(help)
+    let (name, value, help) = option;
+    let argument = Arg::new(alloc, name).long(name).help(help);
+    match value {
+        None => argument.action(ArgAction::SetTrue),
+        Some(value) => argument.action(ArgAction::Append).value_name(value),
+    }
 }
 
 /// The options that the words have, in the order in which `Choice` names them.

@@ -4,7 +4,7 @@ ghost use Rattle.clap.specs.Words.{found_of, rows_of};
 ghost use Rattle.pylock_command.specs.Commands.{Adds, IsLocal};
 ghost use Rattle.pylock_command.specs.Form.{form_of, with_json};
 
-use crate::choices::{has_flag, with_flag};
+use crate::choices::{has_flag, option_argument, with_argument};
 use clap::{ArgMatches, Command};
 use std::alloc::{AllocError, Global};
 
@@ -26,12 +26,12 @@ pub(crate) fn with_json<'a>(
     ensures app { Adds with_json command.entry result }
     ensures local { IsLocal result }
 {
-    with_flag(
-        alloc,
-        command,
+    let json = (
         "json",
+        None,
         "Print one JSON document in place of the lines",
-    )
+    );
+    with_argument(command, option_argument(alloc, json))
 }
 
 /// The form that the words ask for.

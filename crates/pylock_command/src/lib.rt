@@ -1,5 +1,5 @@
 //! The command line of `pylock`, read by `clap`: from words to a task. The help texts stand here
-//! too.
+//! too (`src/help.rt`), and the list of the subcommands (`src/subcommand.rt`).
 //!
 //! It stands on `clap`, and knows nothing of locks: `pylock_program` does what the task says. Begin
 //! with [`command`], of the words, of which the first is the program's name. It gives the [`Task`],
@@ -10,6 +10,7 @@
 //!
 //! ```rust
 //! match command(alloc, words) {
+//!     Ok(Task::Show(request)) => request_text(alloc, &request),
 //!     Ok(task) => format!(in alloc; "{:?}", task),
 //!     Err(CommandError::Refused(error)) => format!(in alloc; "refused {}", error.exit_code()),
 //!     Err(CommandError::Memory) => String::from_str(alloc, "memory"),
@@ -21,7 +22,11 @@ mod choice;
 mod choices;
 mod command_line;
 mod form;
+mod help;
+mod subcommand;
+mod task;
 
 pub use choice::Choice;
-pub use command_line::{CommandError, Task, command};
+pub use command_line::{CommandError, command};
 pub use form::Form;
+pub use task::{Request, Task, View};

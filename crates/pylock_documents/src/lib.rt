@@ -34,6 +34,6 @@ mod source;
 pub use explain::explain_document;
 pub use files::files_document;
 pub use head::head_document;
-pub use plan::plan_document;
+pub use plan::{fault_detail, plan_document};
 pub use reasons::{detail, head_detail};
 pub use refused::refused_document;

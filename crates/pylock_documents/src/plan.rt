@@ -98,7 +98,7 @@ fn name_of(session: &Session, number: u32) -> Option<&str>
 }
 
 /// Why the entry of this number, or the head, has its fault.
-fn fault_detail(
+pub fn fault_detail(
     alloc: Global,
     session: &Session,
     number: u32,

@@ -1,10 +1,10 @@
 -- What the program does with its task, and how it ends.
 use Rattle.std.specs.Prelude.{◌≡◌, ◌≢◌, ℕ, List, codes, Option, Some, None, Result, Ok, Err}
 use Rattle.std.specs.Result.{result_map_both}
-use Rattle.pylock_command.specs.declared.command_line.Task.{Task}
-use Rattle.pylock_command.specs.declared.command_line.Task.TheVariants as task
-use Rattle.pylock_program.specs.Choices.{explain_report, plan_report}
+use Rattle.pylock_command.specs.declared.task.Task.{Task}
+use Rattle.pylock_command.specs.declared.task.Task.TheVariants as task
 use Rattle.pylock_program.specs.Reply.{audit_answer, files_answer, marker_answer, reply, reply_of}
+use Rattle.pylock_program.specs.Show.{request_report}
 use Rattle.pylock_run.specs.Files.{Reads}
 use Rattle.pylock_run.specs.Report.{Report, open_state}
 use Rattle.pylock_run.specs.Report.Print.{Prints}
@@ -12,8 +12,7 @@ use Rattle.pylock_run.specs.Report.Run.{IsRun}
 use Rattle.pylock_run.specs.Stream.{SourceValue, SinkValue}
 use Rattle.pylock_program.specs.declared.program.Failure.{Failure}
 use Rattle.pylock_program.specs.declared.program.Failure.TheVariants.{NotText, File, Read, Write}
-use Rattle.pylock_program.specs.declared.program.Failure.TheVariants.{Input, NamedFile}
-use Rattle.pylock_program.specs.declared.program.Failure.TheVariants.{Memory}
+use Rattle.pylock_program.specs.declared.program.Failure.TheVariants.{Input, NamedFile, Memory}
 use Rattle.pylock_program.specs.declared.reply.queries.Query.TheVariants as query
 use Rattle.pylock_run.specs.declared.report.fault.RunFault.{RunFault}
 use Rattle.pylock_run.specs.declared.report.fault.RunFault.TheVariants as run
@@ -126,12 +125,9 @@ abbrev pub Performs : Reads → Task → Outcome
 Performs gives task.Bare = Greets
 Performs gives (task.Select lock environment) =
     Opens gives lock.now (λ lock. Opens gives environment.now (Runs lock))
-Performs gives (task.Plan lock environment choices form) =
-    OpensNamed gives lock.now (λ lock. OpensNamed gives environment.now
-    (λ environment. Replies (plan_report form (open_state lock environment) choices.items)))
-Performs gives (task.Explain lock environment choices form) =
-    OpensNamed gives lock.now (λ lock. OpensNamed gives environment.now
-    (λ environment. Replies (explain_report form (open_state lock environment) choices.items)))
+Performs gives (task.Show request) =
+    OpensNamed gives request.lock.now (λ lock. OpensNamed gives request.environment.now
+    (λ environment. Replies (request_report request lock environment)))
 Performs gives (task.Files lock form) =
     OpensNamed gives lock.now (λ bytes. Replies (reply_of (files_answer form bytes)))
 Performs gives (task.Audit lock form) =

@@ -39,7 +39,7 @@ use Rattle.pylock_command.specs.declared.form.Form.TheVariants.{Lines, Json}
 use Rattle.pylock_readers.specs.Entry.{EntryValue}
 use Rattle.pylock_audit.specs.Audit.{findings_of}
 use Rattle.pylock_audit.specs.Document.{findings_rows}
-use Rattle.pylock_audit.specs.Finding.{FoundValue}
+use Rattle.pylock_audit.specs.Finding.{LockFindingValue}
 use Rattle.pylock_documents.specs.Documents.{files_rows}
 use Rattle.pylock_run.specs.Report.{Report}
 use Rattle.pylock_program.specs.Text.Audit.{findings_text}
@@ -209,11 +209,11 @@ files_answer form bytes = do
   Ok (files_shown form lock.entries)
 
 -- `audit LOCK`: what a careful reader would want to be told; status 1 where that is something
-abbrev pub findings_shown : Form → List FoundValue → List ℕ
+abbrev pub findings_shown : Form → List LockFindingValue → List ℕ
 findings_shown Lines found = findings_text found
 findings_shown Json found = json_text (findings_rows found)
 
-abbrev pub findings_answer : Form → List FoundValue → Result (List ℕ) Report
+abbrev pub findings_answer : Form → List LockFindingValue → Result (List ℕ) Report
 findings_answer form [] = Ok (findings_shown form [])
 findings_answer form (one ∷ others) =
     Err (record { text = findings_shown form (one ∷ others); status = 1 })

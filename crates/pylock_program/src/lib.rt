@@ -5,8 +5,8 @@
 //! and, for standard input and each output, a source or a sink of bytes of `pylock_run`, where
 //! `select` is, too.
 //!
-//! Begin with [`perform`], which does a whole task. [`plan`], [`explain`] and [`query`] are single
-//! commands, and [`push_view`] and [`push_reply`] push what they print onto bytes.
+//! Begin with [`perform`], which does a whole task. [`show`] is `plan` and `explain`, [`query`] the
+//! one-shot commands, and [`push_view`] and [`push_reply`] push what they print onto bytes.
 //!
 //! A whole task over texts in memory, from `crates/cases/src/plans.rt`:
 //!
@@ -19,14 +19,15 @@
 #![tactic(auto)]
 
 mod choices;
-mod document;
+mod file;
 mod notes;
 mod program;
 mod reply;
+mod show;
 mod text;
 
-pub use choices::{View, explain, plan, push_open_error, push_view};
-pub use document::Document;
 pub use program::{Failure, perform, terminal_note, words_failure};
+pub use pylock_command::View;
 pub use reply::queries::Query;
 pub use reply::{push_reply, query};
+pub use show::{Inputs, push_open_error, push_view, show};

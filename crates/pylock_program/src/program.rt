@@ -3,30 +3,31 @@
 ghost use Rattle.std.specs.Prelude.{◌≡◌, ◌≢◌, Err};
 ghost use Rattle.std.specs.Option.{option_copied};
 ghost use Rattle.std.specs.Result.{result_map_both};
-ghost use Rattle.pylock_program.specs.Program.{failure_message, failure_status};
-ghost use Rattle.pylock_program.specs.Program.{GivesNamed, Opens, OpensNamed};
-ghost use Rattle.pylock_program.specs.Program.{Performs, Replies, Runs, Tells};
+ghost use Rattle.pylock_program.specs.Program.{failure_message, failure_status, GivesNamed, Opens};
+ghost use Rattle.pylock_program.specs.Program.{OpensNamed, Performs, Replies, Runs, Tells};
 ghost use Rattle.pylock_program.specs.Program.{greeting, terminal_note, program_end};
 ghost use Rattle.pylock_program.specs.Reply.{audit_answer, files_answer, marker_answer, reply};
 ghost use Rattle.pylock_program.specs.Reply.{reply_of};
-ghost use Rattle.pylock_program.specs.Choices.{explain_report, plan_report};
-ghost use Rattle.pylock_run.specs.Report.{open_state};
+ghost use Rattle.pylock_program.specs.Show.{request_report};
 ghost use Rattle.pylock_run.specs.Report.Print.{Prints};
 ghost use Rattle.pylock_run.specs.Stream.{SourceValue};
 ghost use Rattle.pylock_program.specs.declared.program.Failure.TheVariants as failure;
 
-use crate::choices::{explain, plan};
-use crate::document::Document;
+use crate::file::FileBytes;
 use crate::notes::file::tell_file;
-use crate::notes::refusal::{tell_environment_refusal, tell_lock_refusal, tell_refusal};
+use crate::notes::refusal::tell_refusal;
 use crate::reply::queries::Query;
 use crate::reply::query;
-use pylock_command::{Choice, Form, Task};
-use pylock_run::{FileFault, Files, RunFault, Sink, Source, print, read_both, run_whole};
+use crate::show::{Inputs, show};
+use pylock_command::{Form, Request, Task};
+use pylock_run::{FileFault, Files, RunFault, Sink, Source, print, run_whole};
 use std::alloc::Global;
 use std::io::ErrorKind;
 
 const GREETING: &[u8] = b"pylock 1\n";
+
+/// The status where the lock or the environment is refused.
+pub(crate) const REFUSED: u8 = 2;
 
 /// Why the program ends without an answer.
 #[derive(Clone, Copy, Debug, PartialEq, Eq)]
@@ -141,30 +142,7 @@ pub fn perform<F: Files, R: Source, W: Sink, N: Sink>(
 {
     match task {
         Task::Bare => print_greeting(writer),
-        Task::Plan(lock, environment, choices, form) => {
-            plan_files(
-                alloc,
-                files,
-                form,
-                lock,
-                environment,
-                choices,
-                writer,
-                notes,
-            )
-        }
-        Task::Explain(lock, environment, choices, form) => {
-            explain_files(
-                alloc,
-                files,
-                form,
-                lock,
-                environment,
-                choices,
-                writer,
-                notes,
-            )
-        }
+        Task::Show(request) => show_files(alloc, files, &request, writer, notes),
         Task::Select(lock, environment) => {
             run_select(alloc, files, lock, environment, reader, writer, notes)
         }
@@ -201,32 +179,34 @@ fn run_select<F: Files, R: Source, W: Sink, N: Sink>(
         (λ lock. Opens (F.read_gives files.now) environment.now (Runs lock))
         (R.value reader.old) (R.value reader.new) (W.value writer.old) (W.value writer.new) result }
 {
-    let (lock_bytes, bytes) = read_both(files, lock, environment)?;
-    let end = run_whole(alloc, &lock_bytes, &bytes, true, reader, writer);
-    let lock = Document {
-        path: lock,
-        bytes: &lock_bytes,
-    };
-    let environment = Document {
-        path: environment,
-        bytes: &bytes,
-    };
-    tell_refusal(alloc, notes, &end, lock, environment);
+    let lock = read_bytes(files, lock)?;
+    let environment = read_bytes(files, environment)?;
+    let end = run_whole(alloc, &lock.bytes, &environment.bytes, true, reader, writer);
+    tell_refusal(alloc, notes, &end, Some(&lock), Some(&environment));
     program_end(end)
 }
 
-/// All bytes of a file; a person is told which file can't be read, and why.
-fn read_named<F: Files, N: Sink>(
+/// The file at a path.
+fn read_bytes<'a, F: Files>(files: &F, path: &'a str) -> Result<FileBytes<'a>, FileFault>
+    ensures { F.read_gives files.now path.now
+        (result_map_both (λ file. file.bytes.items) (λ fault. fault) result) }
+{
+    let bytes = files.read(path)?;
+    Ok(FileBytes { path, bytes })
+}
+
+/// The file at a path; a person is told which file can't be read, and why.
+fn read_named<'a, F: Files, N: Sink>(
     alloc: Global,
     files: &F,
-    path: &str,
+    path: &'a str,
     notes: &mut N,
-) -> Result<Vec<u8>, Failure>
+) -> Result<FileBytes<'a>, Failure>
     ensures { GivesNamed (F.read_gives files.now) path.now
-        (result_map_both (λ bytes. bytes.items) (λ failure. failure) result) }
+        (result_map_both (λ file. file.bytes.items) (λ failure. failure) result) }
 {
-    match files.read(path) {
-        Ok(bytes) => Ok(bytes),
+    match read_bytes(files, path) {
+        Ok(file) => Ok(file),
         Err(FileFault::Memory) => Err(Failure::Memory),
         Err(fault) => {
             tell_file(alloc, notes, path, fault);
@@ -235,67 +215,27 @@ fn read_named<F: Files, N: Sink>(
     }
 }
 
-/// Answers `plan` on the lock and the environment of two files.
-fn plan_files<F: Files, W: Sink, N: Sink>(
+/// Answers `plan` or `explain` on the lock and the environment of two files.
+fn show_files<F: Files, W: Sink, N: Sink>(
     alloc: Global,
     files: &F,
-    form: Form,
-    lock: &str,
-    environment: &str,
-    choices: Vec<Choice<'_>>,
+    request: &Request<'_>,
     writer: &mut W,
     notes: &mut N,
 ) -> Result<u8, Failure>
-    ensures { (source : SourceValue) → OpensNamed (F.read_gives files.now) lock.now
-        (λ lock. OpensNamed (F.read_gives files.now) environment.now
-        (λ environment. Replies
-        (plan_report form (open_state lock environment) choices.entry.items)))
+    ensures { (source : SourceValue) → OpensNamed (F.read_gives files.now) request.now.lock.now
+        (λ lock. OpensNamed (F.read_gives files.now) request.now.environment.now
+        (λ environment. Replies (request_report request.now lock environment)))
         source source (W.value writer.old) (W.value writer.new) result }
 {
-    let lock_bytes = read_named(alloc, files, lock, notes)?;
-    let bytes = read_named(alloc, files, environment, notes)?;
-    let lock = Document {
-        path: lock,
-        bytes: &lock_bytes,
+    let lock = read_named(alloc, files, request.lock, notes)?;
+    let environment = read_named(alloc, files, request.environment, notes)?;
+    let inputs = Inputs {
+        lock: &lock.bytes,
+        environment: &environment.bytes,
     };
-    let environment = Document {
-        path: environment,
-        bytes: &bytes,
-    };
-    let end = plan(alloc, form, lock, &bytes, &choices, writer, notes);
-    tell_refusal(alloc, notes, &end, lock, environment);
-    program_end(end)
-}
-
-/// Answers `explain` on the lock and the environment of two files.
-fn explain_files<F: Files, W: Sink, N: Sink>(
-    alloc: Global,
-    files: &F,
-    form: Form,
-    lock: &str,
-    environment: &str,
-    choices: Vec<Choice<'_>>,
-    writer: &mut W,
-    notes: &mut N,
-) -> Result<u8, Failure>
-    ensures { (source : SourceValue) → OpensNamed (F.read_gives files.now) lock.now
-        (λ lock. OpensNamed (F.read_gives files.now) environment.now
-        (λ environment. Replies
-        (explain_report form (open_state lock environment) choices.entry.items)))
-        source source (W.value writer.old) (W.value writer.new) result }
-{
-    let lock_bytes = read_named(alloc, files, lock, notes)?;
-    let bytes = read_named(alloc, files, environment, notes)?;
-    let lock = Document {
-        path: lock,
-        bytes: &lock_bytes,
-    };
-    let environment = Document {
-        path: environment,
-        bytes: &bytes,
-    };
-    let end = explain(alloc, form, lock, &bytes, &choices, writer, notes);
-    tell_refusal(alloc, notes, &end, lock, environment);
+    let end = show(alloc, request, inputs, writer, notes);
+    tell_refusal(alloc, notes, &end, Some(&lock), Some(&environment));
     program_end(end)
 }
 
@@ -312,13 +252,9 @@ fn list_files<F: Files, W: Sink, N: Sink>(
         (λ bytes. Replies (reply_of (files_answer form bytes)))
         source source (W.value writer.old) (W.value writer.new) result }
 {
-    let bytes = read_named(alloc, files, lock, notes)?;
-    let end = query(alloc, Query::Files(&bytes, form), writer);
-    let lock = Document {
-        path: lock,
-        bytes: &bytes,
-    };
-    tell_lock_refusal(alloc, notes, &end, lock);
+    let lock = read_named(alloc, files, lock, notes)?;
+    let end = query(alloc, Query::Files(&lock.bytes, form), writer);
+    tell_refusal(alloc, notes, &end, Some(&lock), None);
     program_end(end)
 }
 
@@ -335,13 +271,9 @@ fn audit_lock<F: Files, W: Sink, N: Sink>(
         (λ bytes. Replies (reply_of (audit_answer form bytes)))
         source source (W.value writer.old) (W.value writer.new) result }
 {
-    let bytes = read_named(alloc, files, lock, notes)?;
-    let end = query(alloc, Query::Audit(&bytes, form), writer);
-    let lock = Document {
-        path: lock,
-        bytes: &bytes,
-    };
-    tell_lock_refusal(alloc, notes, &end, lock);
+    let lock = read_named(alloc, files, lock, notes)?;
+    let end = query(alloc, Query::Audit(&lock.bytes, form), writer);
+    tell_refusal(alloc, notes, &end, Some(&lock), None);
     program_end(end)
 }
 
@@ -358,13 +290,9 @@ fn judge_marker<F: Files, W: Sink, N: Sink>(
         (λ bytes. Replies (reply_of (marker_answer marker.now bytes)))
         source source (W.value writer.old) (W.value writer.new) result }
 {
-    let bytes = files.read(environment)?;
-    let end = query(alloc, Query::Marker(marker, &bytes), writer);
-    let environment = Document {
-        path: environment,
-        bytes: &bytes,
-    };
-    tell_environment_refusal(alloc, notes, &end, environment);
+    let environment = read_bytes(files, environment)?;
+    let end = query(alloc, Query::Marker(marker, &environment.bytes), writer);
+    tell_refusal(alloc, notes, &end, None, Some(&environment));
     program_end(end)
 }
 

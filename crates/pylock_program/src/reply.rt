@@ -7,25 +7,23 @@ ghost use Rattle.pylock_program.specs.Reply.{reply, reply_of, version_answer, ma
 ghost use Rattle.pylock_program.specs.Reply.{admits_answer, audit_answer, files_answer};
 ghost use Rattle.pylock_program.specs.Reply.{files_shown, findings_answer, refused_lock};
 ghost use Rattle.pylock_program.specs.Reply.{truth_word, name_answer, marker_answer};
-ghost use Rattle.pylock_program.specs.Reply.{marker_answer_in};
-ghost use Rattle.pylock_program.specs.Reply.{value_answer};
-ghost use Rattle.pylock_program.specs.Reply.{requirement_answer, requirement_line, names_text};
-ghost use Rattle.pylock_program.specs.Reply.{specifiers_text, wheel_answer, wheel_line};
-ghost use Rattle.pylock_program.specs.Reply.{refusal_report, fault_report};
+ghost use Rattle.pylock_program.specs.Reply.{marker_answer_in, value_answer, requirement_answer};
+ghost use Rattle.pylock_program.specs.Reply.{requirement_line, names_text, specifiers_text};
+ghost use Rattle.pylock_program.specs.Reply.{wheel_answer, wheel_line, refusal_report};
+ghost use Rattle.pylock_program.specs.Reply.{fault_report};
 ghost use Rattle.pylock_run.specs.Report.Print.{Prints, Pushes};
 ghost use Rattle.pylock_run.specs.Text.Field.{field, line_of};
 
 pub mod queries;
 
+use crate::program::REFUSED;
 use crate::reply::queries::Query;
 use crate::text::audit::push_findings;
 use crate::text::files::push_files;
 use crate::text::json::push_lock_json;
-use pylock_audit::{Found, audit, findings_document};
+use pylock_audit::{LockFinding, audit, findings_document};
 use pylock_command::Form;
-use pylock_core::{
-    Entry, EnvError, FaultCode, Lock, LockError, fault_word, read_environment,
-};
+use pylock_core::{Entry, EnvError, FaultCode, Lock, LockError, fault_word, read_environment};
 use pylock_documents::files_document;
 use pylock_json::push_document;
 use pylock_run::{
@@ -109,7 +107,7 @@ fn push_refused_lock(
         Form::Lines => push_lock_error(out, error)?,
         Form::Json => push_lock_json(alloc, out, error)?,
     }
-    Ok(2)
+    Ok(REFUSED)
 }
 
 fn push_audit_of(
@@ -132,7 +130,7 @@ fn push_findings_in(
     alloc: Global,
     out: &mut Vec<u8>,
     form: Form,
-    found: &[Found],
+    found: &[LockFinding],
 ) -> Result<u8, AllocError>
     ensures { Pushes out.old.items out.new.items
         (reply_of (findings_answer form found.now)) result }
@@ -149,8 +147,8 @@ fn push_version(alloc: Global, out: &mut Vec<u8>, text: &str) -> Result<u8, Allo
 {
     match Version::parse(alloc, text) {
         Ok(version) => push_field_line(out, version.text()),
-        Err(VersionError::Syntax) => push_refusal(out, b"syntax"),
-        Err(VersionError::NumberTooLarge) => push_refusal(out, b"number"),
+        Err(VersionError::Syntax) => push_refusal_word(out, b"syntax"),
+        Err(VersionError::NumberTooLarge) => push_refusal_word(out, b"number"),
         Err(VersionError::Memory) => Err(AllocError),
     }
 }
@@ -161,8 +159,8 @@ fn push_match(alloc: Global, out: &mut Vec<u8>, set: &str, version: &str) -> Res
 {
     match SpecifierSet::parse(alloc, set) {
         Ok(set) => push_admits(alloc, out, &set, version),
-        Err(SpecifierError::Syntax) => push_refusal(out, b"set-syntax"),
-        Err(SpecifierError::NumberTooLarge) => push_refusal(out, b"set-number"),
+        Err(SpecifierError::Syntax) => push_refusal_word(out, b"set-syntax"),
+        Err(SpecifierError::NumberTooLarge) => push_refusal_word(out, b"set-number"),
         Err(SpecifierError::Memory) => Err(AllocError),
     }
 }
@@ -179,8 +177,8 @@ fn push_admits(
 {
     match Version::parse(alloc, version) {
         Ok(version) => push_truth(out, set.admits(&version)),
-        Err(VersionError::Syntax) => push_refusal(out, b"version-syntax"),
-        Err(VersionError::NumberTooLarge) => push_refusal(out, b"version-number"),
+        Err(VersionError::Syntax) => push_refusal_word(out, b"version-syntax"),
+        Err(VersionError::NumberTooLarge) => push_refusal_word(out, b"version-number"),
         Err(VersionError::Memory) => Err(AllocError),
     }
 }
@@ -189,7 +187,7 @@ fn push_name(alloc: Global, out: &mut Vec<u8>, text: &str) -> Result<u8, AllocEr
     ensures { Pushes out.old.items out.new.items (reply_of (name_answer text.now)) result }
 {
     if !is_name(text) {
-        return push_refusal(out, b"name");
+        return push_refusal_word(out, b"name");
     }
     let name = normal_name(alloc, text)?;
     push_field_line(out, name.as_str())
@@ -207,9 +205,9 @@ fn push_marker(
 {
     match Marker::parse(alloc, text) {
         Ok(marker) => push_marker_in(alloc, out, &marker, environment),
-        Err(MarkerError::TooDeep) => push_refusal(out, b"too-deep"),
-        Err(MarkerError::Syntax) => push_refusal(out, b"syntax"),
-        Err(MarkerError::SetMisuse) => push_refusal(out, b"set-misuse"),
+        Err(MarkerError::TooDeep) => push_refusal_word(out, b"too-deep"),
+        Err(MarkerError::Syntax) => push_refusal_word(out, b"syntax"),
+        Err(MarkerError::SetMisuse) => push_refusal_word(out, b"set-misuse"),
         Err(MarkerError::Memory) => Err(AllocError),
     }
 }
@@ -229,7 +227,7 @@ fn push_marker_in(
         Err(EnvError::Memory) => Err(AllocError),
         Err(error) => {
             push_environment_error(out, &error)?;
-            Ok(2)
+            Ok(REFUSED)
         }
     }
 }
@@ -256,12 +254,12 @@ fn push_requirement(alloc: Global, out: &mut Vec<u8>, text: &str) -> Result<u8, 
 {
     match Requirement::parse(alloc, text) {
         Ok(requirement) => push_requirement_line(alloc, out, &requirement),
-        Err(RequirementError::Name) => push_refusal(out, b"name"),
-        Err(RequirementError::Extras) => push_refusal(out, b"extras"),
-        Err(RequirementError::Specifier) => push_refusal(out, b"specifier"),
-        Err(RequirementError::Url) => push_refusal(out, b"url"),
-        Err(RequirementError::Marker) => push_refusal(out, b"marker"),
-        Err(RequirementError::Trailing) => push_refusal(out, b"trailing"),
+        Err(RequirementError::Name) => push_refusal_word(out, b"name"),
+        Err(RequirementError::Extras) => push_refusal_word(out, b"extras"),
+        Err(RequirementError::Specifier) => push_refusal_word(out, b"specifier"),
+        Err(RequirementError::Url) => push_refusal_word(out, b"url"),
+        Err(RequirementError::Marker) => push_refusal_word(out, b"marker"),
+        Err(RequirementError::Trailing) => push_refusal_word(out, b"trailing"),
         Err(RequirementError::Memory) => Err(AllocError),
     }
 }
@@ -323,12 +321,12 @@ fn push_wheel(alloc: Global, out: &mut Vec<u8>, text: &str) -> Result<u8, AllocE
 {
     match WheelName::parse(alloc, text) {
         Ok(wheel) => push_wheel_line(alloc, out, &wheel),
-        Err(WheelError::Extension) => push_refusal(out, b"extension"),
-        Err(WheelError::Parts) => push_refusal(out, b"parts"),
-        Err(WheelError::Name) => push_refusal(out, b"name"),
-        Err(WheelError::Version) => push_refusal(out, b"version"),
-        Err(WheelError::Build) => push_refusal(out, b"build"),
-        Err(WheelError::Tags) => push_refusal(out, b"tags"),
+        Err(WheelError::Extension) => push_refusal_word(out, b"extension"),
+        Err(WheelError::Parts) => push_refusal_word(out, b"parts"),
+        Err(WheelError::Name) => push_refusal_word(out, b"name"),
+        Err(WheelError::Version) => push_refusal_word(out, b"version"),
+        Err(WheelError::Build) => push_refusal_word(out, b"build"),
+        Err(WheelError::Tags) => push_refusal_word(out, b"tags"),
         Err(WheelError::Memory) => Err(AllocError),
     }
 }
@@ -365,7 +363,7 @@ fn push_truth(out: &mut Vec<u8>, truth: bool) -> Result<u8, AllocError>
     Ok(0)
 }
 
-fn push_refusal(out: &mut Vec<u8>, word: &[u8]) -> Result<u8, AllocError>
+fn push_refusal_word(out: &mut Vec<u8>, word: &[u8]) -> Result<u8, AllocError>
     ensures { Pushes out.old.items out.new.items (refusal_report word.now) result }
 {
     out.extend_from_slice(b"refused")?;

@@ -1,7 +1,7 @@
 //! What the program does with its task, over files in memory.
 
 use crate::check::{ENVIRONMENT, HEAD, Shelf, check_bytes};
-use pylock_command::{Form, Task};
+use pylock_command::{Form, Request, Task, View};
 use pylock_program::{Failure, perform, words_failure};
 use pylock_run::{FileFault, Pieces, Room, RunFault, open_fault, read_file};
 use std::alloc::{AllocError, Global};
@@ -39,8 +39,22 @@ fn check_noted<R: Abort + AllocGlobal>(
     Ok(())
 }
 
+/// `plan` or `explain` in a form, with the paths of the lock and of the environment.
+fn show<'a>(alloc: Global, view: View, form: Form, paths: (&'a str, &'a str)) -> Task<'a> {
+    let (lock, environment) = paths;
+    let choices = Vec::new(alloc);
+    Task::Show(Request {
+        view,
+        lock,
+        environment,
+        choices,
+        form,
+    })
+}
+
 #[test]
 fn refuses_either_file(rt: HostRuntime) -> Result<(), Fail> {
+    let alloc = rt.alloc();
     for (task, failure) in [
         (Task::Select("absent", "full"), Failure::File),
         (Task::Select("full", "absent"), Failure::Memory),
@@ -48,19 +62,19 @@ fn refuses_either_file(rt: HostRuntime) -> Result<(), Fail> {
         (Task::Select("lock", "absent"), Failure::File),
         (Task::Select("lock", "full"), Failure::Memory),
         (
-            Task::Plan("lock", "absent", Vec::new(rt.alloc()), Form::Lines),
+            show(alloc, View::Plan, Form::Lines, ("lock", "absent")),
             Failure::NamedFile,
         ),
         (
-            Task::Plan("full", "lock", Vec::new(rt.alloc()), Form::Json),
+            show(alloc, View::Plan, Form::Json, ("full", "lock")),
             Failure::Memory,
         ),
         (
-            Task::Explain("absent", "full", Vec::new(rt.alloc()), Form::Json),
+            show(alloc, View::Explain, Form::Json, ("absent", "full")),
             Failure::NamedFile,
         ),
         (
-            Task::Explain("lock", "full", Vec::new(rt.alloc()), Form::Lines),
+            show(alloc, View::Explain, Form::Lines, ("lock", "full")),
             Failure::Memory,
         ),
         (Task::Files("absent", Form::Lines), Failure::NamedFile),

@@ -1,8 +1,8 @@
 pub mod LineLemmas
 pub mod EditingLemmas
 pub mod TextLemmas
-pub mod PlainText
-pub mod FileLines
+pub mod OrdinaryBytesLemmas
+pub mod FileLineLemmas
 pub mod ReadLemmas
 pub mod WriteLemmas
 pub mod RunLemmas

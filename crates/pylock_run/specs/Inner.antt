@@ -6,4 +6,4 @@ pub mod Edited
 pub mod FileLine
 pub mod Hashes
 pub mod Pieces
-pub mod Plain
+pub mod OrdinaryBytes

@@ -1,8 +1,9 @@
 //! Runs of pylock: edit lines, the lines of an answer and of a refusal, and the edits of a session
 //! by all of an input, over sources and sinks of bytes.
 //!
-//! It stands on `pylock_core`, whose sessions it edits. The host gives it a [`Source`] of bytes and a [`Sink`]; so it runs over memory too ([`Pieces`],
-//! [`Room`]), where its contracts say each byte.
+//! It stands on `pylock_core`, whose sessions it edits. The host gives it a [`Source`] of bytes and
+//! a [`Sink`]; so it runs over memory too ([`Pieces`], [`Room`]), where its contracts say each
+//! byte.
 //!
 //! Begin with [`run`], whose contract is the headline of `docs/CONTRACTS.md`: the first answer, and
 //! an answer after each edit line. [`open`] starts the session of a lock and an environment, and
@@ -32,7 +33,7 @@ mod stream;
 mod text;
 
 pub use files::{FILE_BYTES, Files, open_fault, read_both, read_file};
-pub use line::commands::{Command, policy_argument, text_label, variable_argument};
+pub use line::commands::{Command, policy_argument, variable_argument};
 pub use line::refusal::LineRefusal;
 pub use line::{LINE_LIMIT, read_line};
 pub use report::editing::push_current_answer;
@@ -46,7 +47,7 @@ pub use stream::wrapper::{FromRead, ToWrite};
 pub use stream::writer::write_all;
 pub use stream::{IoFault, Sink, Source};
 pub use text::field::{push_decimal, push_field, push_last_word, push_next_field, push_word};
-pub use text::plan::push_source_line;
+pub use text::plan::{push_answer, push_source_line};
 pub use text::refusal::{
     entry_word, head_word, push_environment_error, push_lock_error, push_refusal,
 };

@@ -1,6 +1,6 @@
 //! The printed text, pushed onto the bytes that stand before it.
 
 pub mod field;
-mod plain;
+mod file_line;
 pub mod plan;
 pub mod refusal;

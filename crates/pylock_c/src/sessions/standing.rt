@@ -1,13 +1,13 @@
 //! What is told of a session as it stands.
 
-ghost use Rattle.std.specs.Prelude.{◌≡◌, ◌++◌, OnOk, Some, decimal, map, option_map};
+ghost use Rattle.std.specs.Prelude.{◌≡◌, ◌++◌, OnOk, Some, decimal, map};
 ghost use Rattle.pytext.specs.Agreement.{Gives};
 ghost use Rattle.pylock_run.specs.Text.Field.{fields_text};
 ghost use Rattle.pylock_program.specs.declared.choices.View.TheVariants.{Explain, Plan};
 ghost use Rattle.pylock_c.specs.Answer.{Tells};
 ghost use Rattle.pylock_c.specs.Answers.{form_of};
 ghost use Rattle.pylock_c.specs.Sessions.{judged_in, numbers_text, session_in, shown_in};
-ghost use Rattle.pylock_c.specs.Slot.{object};
+ghost use Rattle.pylock_c.specs.Slot.{kept_object, object};
 ghost use Rattle.pylock_c.specs.declared.refusal.Refusal.TheVariants.{Memory};
 
 use crate::answer::{keep, keep_with};
@@ -22,8 +22,7 @@ use pylock_run::push_decimal;
 use std::alloc::{AllocError, Global};
 
 fn session_in(kept: &Option<Box<Object>>) -> Result<&Session, Refusal>
-    ensures { Gives Memory (λ session. session.now) result
-        (session_in (option_map (λ kept. kept.value) kept.now)) }
+    ensures { Gives Memory (λ session. session.now) result (session_in (kept_object kept.now)) }
 {
     match kept.as_deref() {
         Some(Object::Session(session)) => Ok(session),
@@ -39,7 +38,7 @@ fn shown_in(
     kept: &Option<Box<Object>>,
 ) -> Result<(Object, bool), Refusal>
     ensures { Gives Memory (λ told. (Some told.0, told.1)) result
-        (shown_in view form (option_map (λ kept. kept.value) kept.now)) }
+        (shown_in view form (kept_object kept.now)) }
 {
     let session = session_in(kept)?;
     let mut text = Vec::new(alloc);
@@ -99,8 +98,7 @@ pub extern "C" fn pylock_session_explain(
 }
 
 fn judged_in(alloc: Global, kept: &Option<Box<Object>>) -> Result<Object, Refusal>
-    ensures { Gives Memory (λ kept. Some kept) result
-        (judged_in (option_map (λ kept. kept.value) kept.now)) }
+    ensures { Gives Memory (λ kept. Some kept) result (judged_in (kept_object kept.now)) }
 {
     let session = session_in(kept)?;
     let mut text = Vec::new(alloc);

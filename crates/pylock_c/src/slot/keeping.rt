@@ -1,7 +1,7 @@
 //! Objects into slots and out of them.
 
-ghost use Rattle.std.specs.Prelude.{◌≡◌, None, option_map};
-ghost use Rattle.pylock_c.specs.Slot.{object};
+ghost use Rattle.std.specs.Prelude.{◌≡◌, None};
+ghost use Rattle.pylock_c.specs.Slot.{kept_object, object};
 
 use crate::kept::Kept;
 use crate::loose::Loose;
@@ -13,7 +13,7 @@ use std::mem::replace;
 impl Slot {
     /// Takes the object out. The slot is empty then.
     pub(crate) fn take(&mut self, alloc: Global) -> Option<Box<Object>>
-        ensures taken { option_map (λ kept. kept.value) result ≡ object self.old }
+        ensures taken { kept_object result ≡ object self.old }
         ensures empty { object self.new ≡ None }
     {
         let empty = Slot {
@@ -25,13 +25,13 @@ impl Slot {
 
     /// Puts the object in, or leaves the slot empty. What the slot had is freed.
     pub(crate) fn put(&mut self, alloc: Global, kept: Option<Box<Object>>)
-        ensures { object self.new ≡ option_map (λ kept. kept.value) kept }
+        ensures { object self.new ≡ kept_object kept }
     {
         let _old = replace(self, Slot::of(kept)).into_box(alloc);
     }
 
     fn of(kept: Option<Box<Object>>) -> Slot
-        ensures { object result ≡ option_map (λ kept. kept.value) kept }
+        ensures { object result ≡ kept_object kept }
     {
         match kept {
             Some(kept) => Slot {
@@ -46,7 +46,7 @@ impl Slot {
     }
 
     fn into_box(self, alloc: Global) -> Option<Box<Object>>
-        ensures { option_map (λ kept. kept.value) result ≡ object self }
+        ensures { kept_object result ≡ object self }
     {
         let Slot { kept, full } = self;
         if full {

@@ -1,6 +1,6 @@
 //! What a person is told of options.
 
-use crate::choices::{option_text, option_word, split_at_equals};
+use crate::choices::{option_words, split_at_equals};
 use crate::notes::{tell, tell_if_made};
 use pylock_command::Choice;
 use pylock_core::Session;
@@ -15,8 +15,8 @@ pub(crate) fn tell_refused<N: Sink>(alloc: Global, notes: &mut N, lock: &str, ch
 }
 
 fn option_note(alloc: Global, lock: &str, choice: Choice<'_>) -> Result<String, AllocError> {
-    let word = option_word(choice);
-    let text = option_text(choice).unwrap_or("");
+    let (word, text) = option_words(choice);
+    let text = text.unwrap_or("");
     let why = refusal_reason(alloc, lock, choice)?;
     format!(in alloc; "--{word}: `{text}`: {why}")
 }
@@ -96,7 +96,7 @@ fn tell_missing<N: Sink>(alloc: Global, notes: &mut N, session: &Session, choice
     if name == ":all:" || !matches!(has_entry(alloc, session, name), Ok(false)) {
         return;
     }
-    let word = option_word(choice);
+    let (word, _) = option_words(choice);
     let text = format!(in alloc; "note: --{word}: no entry is named `{name}`");
     tell_if_made(alloc, notes, text);
 }

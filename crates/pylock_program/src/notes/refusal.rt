@@ -1,57 +1,37 @@
 //! What a person is told of a refused lock or environment.
 
-use crate::document::Document;
+use crate::file::FileBytes;
 use crate::notes::tell;
+use crate::program::REFUSED;
 use pylock_messages::{environment_message, lock_message};
 use pylock_run::{RunFault, Sink};
 use std::alloc::Global;
 
-/// Where a call on these files ended with the status of a refusal, tells where the lock is wrong,
-/// or else the environment.
+/// Where a call ended with the status of a refusal, tells where its lock is wrong, or else its
+/// environment.
 pub(crate) fn tell_refusal<N: Sink>(
     alloc: Global,
     notes: &mut N,
     end: &Result<u8, RunFault>,
-    lock: Document<'_>,
-    environment: Document<'_>,
+    lock: Option<&FileBytes<'_>>,
+    environment: Option<&FileBytes<'_>>,
 ) {
-    if is_refusal(end) && !tell_lock(alloc, notes, lock) {
+    if !matches!(end, Ok(REFUSED)) {
+        return;
+    }
+    if let Some(lock) = lock {
+        if tell_lock(alloc, notes, lock) {
+            return;
+        }
+    }
+    if let Some(environment) = environment {
         tell_environment(alloc, notes, environment);
     }
-}
-
-/// The same of a call on a lock alone.
-pub(crate) fn tell_lock_refusal<N: Sink>(
-    alloc: Global,
-    notes: &mut N,
-    end: &Result<u8, RunFault>,
-    lock: Document<'_>,
-) {
-    if is_refusal(end) {
-        tell_lock(alloc, notes, lock);
-    }
-}
-
-/// The same of a call on an environment alone.
-pub(crate) fn tell_environment_refusal<N: Sink>(
-    alloc: Global,
-    notes: &mut N,
-    end: &Result<u8, RunFault>,
-    environment: Document<'_>,
-) {
-    if is_refusal(end) {
-        tell_environment(alloc, notes, environment);
-    }
-}
-
-/// Whether a file is refused.
-fn is_refusal(end: &Result<u8, RunFault>) -> bool {
-    matches!(end, Ok(2))
 }
 
 /// Tells where a lock is wrong, and answers whether it is refused.
-fn tell_lock<N: Sink>(alloc: Global, notes: &mut N, lock: Document<'_>) -> bool {
-    match lock_message(alloc, lock.path, lock.bytes) {
+fn tell_lock<N: Sink>(alloc: Global, notes: &mut N, lock: &FileBytes<'_>) -> bool {
+    match lock_message(alloc, lock.path, &lock.bytes) {
         Ok(Some(message)) => {
             tell(alloc, notes, message.as_str());
             true
@@ -62,8 +42,8 @@ fn tell_lock<N: Sink>(alloc: Global, notes: &mut N, lock: Document<'_>) -> bool 
 }
 
 /// Tells where an environment is wrong.
-fn tell_environment<N: Sink>(alloc: Global, notes: &mut N, environment: Document<'_>) {
-    if let Ok(Some(message)) = environment_message(alloc, environment.path, environment.bytes) {
+fn tell_environment<N: Sink>(alloc: Global, notes: &mut N, environment: &FileBytes<'_>) {
+    if let Ok(Some(message)) = environment_message(alloc, environment.path, &environment.bytes) {
         tell(alloc, notes, message.as_str());
     }
 }

@@ -5,12 +5,12 @@ ghost use Rattle.std.specs.List.{flat_map};
 ghost use Rattle.pylock_program.specs.Text.Audit.{finding_line, findings_text};
 
 use crate::text::safe::push_next_safe;
-use pylock_audit::Found;
+use pylock_audit::LockFinding;
 use pylock_run::{push_decimal, push_next_field, push_word};
 use std::alloc::AllocError;
 
 /// Pushes `findings K` and a line for each finding.
-pub(crate) fn push_findings(out: &mut Vec<u8>, found: &[Found]) -> Result<(), AllocError>
+pub(crate) fn push_findings(out: &mut Vec<u8>, found: &[LockFinding]) -> Result<(), AllocError>
     ensures { OnOk result (out.new.items ≡ out.old.items ++ findings_text found.now) }
 {
     out.extend_from_slice(b"findings ")?;
@@ -19,7 +19,7 @@ pub(crate) fn push_findings(out: &mut Vec<u8>, found: &[Found]) -> Result<(), Al
     push_lines(out, found)
 }
 
-fn push_lines(out: &mut Vec<u8>, found: &[Found]) -> Result<(), AllocError>
+fn push_lines(out: &mut Vec<u8>, found: &[LockFinding]) -> Result<(), AllocError>
     ensures { OnOk result (out.new.items ≡ out.old.items ++ flat_map finding_line found.now) }
 {
     for one in found {
@@ -28,7 +28,7 @@ fn push_lines(out: &mut Vec<u8>, found: &[Found]) -> Result<(), AllocError>
     Ok(())
 }
 
-fn push_finding(out: &mut Vec<u8>, found: &Found) -> Result<(), AllocError>
+fn push_finding(out: &mut Vec<u8>, found: &LockFinding) -> Result<(), AllocError>
     ensures { OnOk result (out.new.items ≡ out.old.items ++ finding_line found.now) }
 {
     push_decimal(out, found.number() as u64)?;

@@ -1,36 +1,31 @@
 //! What becomes of the head and of each entry, and why, a line for each.
 
-ghost use Rattle.std.specs.Prelude.{◌≡◌, ◌++◌, ◌∷◌, [], IfOk, OnOk, Some};
+ghost use Rattle.std.specs.Prelude.{◌≡◌, ◌++◌, ◌∷◌, [], OnOk, Some};
 ghost use Rattle.std.specs.List.{flat_map};
 ghost use Rattle.std.specs.Option.{option_copied};
-ghost use Rattle.pylock_core.specs.Session.Steps.{answer};
-ghost use Rattle.pylock_run.specs.Report.{is_plan};
-ghost use Rattle.pylock_program.specs.Text.Explain.{entry_line, explain_text, fate_text};
-ghost use Rattle.pylock_program.specs.Text.Explain.{head_text};
+ghost use Rattle.pylock_program.specs.Text.Explain.{entry_line, explain_text, fate_text, head_text};
 ghost use Rattle.pylock_program.specs.Text.Explain.{verdict_line};
 ghost use Rattle.pylock_run.specs.Text.Field.{line_of};
 ghost use Rattle.pylock_program.specs.Text.Safe.{safe_field};
 
 use crate::text::safe::push_next_safe;
-use pylock_core::{Answer, Entry, Fate, Session, fault_word, verdict_word};
+use pylock_core::{Entry, Fate, Session, fault_word, verdict_word};
 use pylock_documents::{detail, head_detail};
 use pylock_run::{push_decimal, push_next_field, push_word};
 use std::alloc::{AllocError, Global};
 
-/// Pushes the lines of the head and of each entry, and answers whether the answer is a plan. Takes
-/// memory for the lines, for what `fates` and `answer` take, and for one detail at a time.
+/// Pushes the lines of the head and of each entry. Takes memory for the lines, for what `fates`
+/// takes, and for one detail at a time.
 pub(crate) fn push_explanation(
     alloc: Global,
     out: &mut Vec<u8>,
     session: &Session,
-) -> Result<bool, AllocError>
-    ensures plan { IfOk result (λ plan. plan ≡ is_plan (answer session.now.state)) }
-    ensures text { OnOk result (out.new.items ≡ out.old.items ++ explain_text session.now.state) }
+) -> Result<(), AllocError>
+    ensures { OnOk result (out.new.items ≡ out.old.items ++ explain_text session.now.state) }
 {
     push_head(alloc, out, session)?;
     let fates = session.fates()?;
-    push_fates(alloc, out, session, fates.as_slice())?;
-    Ok(matches!(session.answer()?, Answer::Plan(_)))
+    push_fates(alloc, out, session, fates.as_slice())
 }
 
 /// Pushes the line of the head.

@@ -17,13 +17,13 @@ use std::marker::Model;
 ///
 /// Contracts see its line.
 #[derive(Drop)]
-struct Named<'a> {
+struct SourceLine<'a> {
     number: usize,
     entry: &'a Entry,
     source: PickedSource<'a>,
 }
 
-impl<'a> Model for Named<'a> {
+impl<'a> Model for SourceLine<'a> {
     ghost use Rattle.std.specs.Prelude.{List, ℕ};
     ghost use Rattle.pylock_core.specs.Session.Picks.{lent_source};
     ghost use Rattle.pylock_run.specs.Text.Picked.{picked_fields};
@@ -43,53 +43,53 @@ pub(crate) fn push_files(
 ) -> Result<(), AllocError>
     ensures { OnOk result (out.new.items ≡ out.old.items ++ files_text entries.now) }
 {
-    let named = name_all(alloc, entries)?;
+    let lines = source_lines(alloc, entries)?;
     out.extend_from_slice(b"files ")?;
-    push_decimal(out, named.len() as u64)?;
+    push_decimal(out, lines.len() as u64)?;
     out.push(b'\n')?;
-    push_lines(out, named.as_slice())
+    push_lines(out, lines.as_slice())
 }
 
 /// The sources of all entries.
-fn name_all<'a>(alloc: Global, entries: &'a [Entry]) -> Result<Vec<Named<'a>>, AllocError>
-    ensures { IfOk result (λ named. named.items ≡ lines_from 1 entries.now) }
+fn source_lines<'a>(alloc: Global, entries: &'a [Entry]) -> Result<Vec<SourceLine<'a>>, AllocError>
+    ensures { IfOk result (λ lines. lines.items ≡ lines_from 1 entries.now) }
 {
-    let mut named = Vec::new(alloc);
+    let mut lines = Vec::new(alloc);
     for (position, entry) in entries.iter().enumerate() {
-        name_sources(&mut named, position + 1, entry)?;
+        push_sources(&mut lines, position + 1, entry)?;
     }
-    Ok(named)
+    Ok(lines)
 }
 
 /// Adds the sources of an entry.
 #[tactic(auto, using(crate::proofs::FilesLemmas::sources_named))]
-fn name_sources<'a>(
-    named: &mut Vec<Named<'a>>,
+fn push_sources<'a>(
+    lines: &mut Vec<SourceLine<'a>>,
     number: usize,
     entry: &'a Entry,
 ) -> Result<(), AllocError>
-    ensures { OnOk result (named.new.items
-        ≡ named.old.items ++ map (source_line number entry.now) (each_source entry.now)) }
+    ensures { OnOk result (lines.new.items
+        ≡ lines.old.items ++ map (source_line number entry.now) (each_source entry.now)) }
 {
-    name_one(named, number, entry, PickSource::Vcs.of(entry))?;
-    name_one(named, number, entry, PickSource::Directory.of(entry))?;
-    name_one(named, number, entry, PickSource::Archive.of(entry))?;
-    name_wheels(named, number, entry)?;
-    name_one(named, number, entry, PickSource::Sdist.of(entry))
+    push_source(lines, number, entry, PickSource::Vcs.of(entry))?;
+    push_source(lines, number, entry, PickSource::Directory.of(entry))?;
+    push_source(lines, number, entry, PickSource::Archive.of(entry))?;
+    push_wheels(lines, number, entry)?;
+    push_source(lines, number, entry, PickSource::Sdist.of(entry))
 }
 
 /// Adds a source of an entry, where it is there.
-fn name_one<'a>(
-    named: &mut Vec<Named<'a>>,
+fn push_source<'a>(
+    lines: &mut Vec<SourceLine<'a>>,
     number: usize,
     entry: &'a Entry,
     source: Option<PickedSource<'a>>,
 ) -> Result<(), AllocError>
-    ensures { OnOk result (named.new.items ≡ named.old.items ++ map (source_line number entry.now)
+    ensures { OnOk result (lines.new.items ≡ lines.old.items ++ map (source_line number entry.now)
         (optional_source picked_fields (option_map lent_source source.entry))) }
 {
     if let Some(source) = source {
-        named.push(Named {
+        lines.push(SourceLine {
             number,
             entry,
             source,
@@ -99,16 +99,16 @@ fn name_one<'a>(
 }
 
 /// Adds the wheels of an entry.
-fn name_wheels<'a>(
-    named: &mut Vec<Named<'a>>,
+fn push_wheels<'a>(
+    lines: &mut Vec<SourceLine<'a>>,
     number: usize,
     entry: &'a Entry,
 ) -> Result<(), AllocError>
-    ensures { OnOk result (named.new.items ≡ named.old.items ++ map (source_line number entry.now)
+    ensures { OnOk result (lines.new.items ≡ lines.old.items ++ map (source_line number entry.now)
         (map (file_fields (codes "wheel")) entry.now.wheels)) }
 {
     for wheel in entry.wheels() {
-        named.push(Named {
+        lines.push(SourceLine {
             number,
             entry,
             source: PickedSource::Wheel(wheel),
@@ -117,10 +117,10 @@ fn name_wheels<'a>(
     Ok(())
 }
 
-fn push_lines(out: &mut Vec<u8>, named: &[Named<'_>]) -> Result<(), AllocError>
-    ensures { OnOk result (out.new.items ≡ out.old.items ++ flat_map (λ line. line) named.now) }
+fn push_lines(out: &mut Vec<u8>, lines: &[SourceLine<'_>]) -> Result<(), AllocError>
+    ensures { OnOk result (out.new.items ≡ out.old.items ++ flat_map (λ line. line) lines.now) }
 {
-    for source in named {
+    for source in lines {
         push_source_line(out, source.number as u64, source.entry, Some(source.source))?;
     }
     Ok(())

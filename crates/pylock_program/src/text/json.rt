@@ -4,7 +4,7 @@ ghost use Rattle.std.specs.Prelude.{◌≡◌, ◌++◌, ◌∷◌, [], OnOk, ma
 ghost use Rattle.pylock_program.specs.Text.Json.{environment_json, lock_json, option_json};
 ghost use Rattle.pylock_program.specs.Text.Json.{refusal_json, words_json};
 
-use crate::choices::{option_text, option_word};
+use crate::choices::option_words;
 use pylock_command::Choice;
 use pylock_core::{EnvError, LockError};
 use pylock_documents::refused_document;
@@ -91,10 +91,9 @@ pub(crate) fn push_option_json(
 ) -> Result<(), AllocError>
     ensures { OnOk result (out.new.items ≡ out.old.items ++ option_json choice.entry) }
 {
-    let word = option_word(choice);
-    match option_text(choice) {
-        Some(text) => push_refused_pair(alloc, out, word, text),
-        None => push_refused(alloc, out, &[word]),
+    match option_words(choice) {
+        (word, Some(text)) => push_refused_pair(alloc, out, word, text),
+        (word, None) => push_refused(alloc, out, &[word]),
     }
 }
 

@@ -3,10 +3,10 @@ use Rattle.std.specs.Prelude.{◌≡◌, ℕ, ◌++◌, ◌+◌, ◌≤◌, List
 use Rattle.std.specs.List.{list_all}
 use Rattle.pylock_readers.specs.Entry.{EntryValue, FileValue}
 use Rattle.pylock_readers.specs.Entry.{file_name, place_of}
-use Rattle.pylock_run.specs.Inner.Plain.{is_ordinary}
+use Rattle.pylock_run.specs.Inner.OrdinaryBytes.{is_ordinary}
 use Rattle.pylock_run.specs.Text.Field.{field}
 use Rattle.pylock_run.specs.Text.Plan.{hashes_text}
-use Rattle.pylock_run.specs.declared.text.plain.FileTexts.{FileTexts}
+use Rattle.pylock_run.specs.declared.text.file_line.FileTexts.{FileTexts}
 
 -- the line of the texts
 abbrev pub file_line : FileTexts → List ℕ

@@ -3,9 +3,11 @@ use Rattle.std.specs.Prelude.{ℕ, codes, List, if◌then◌else◌, Option, Som
 use Rattle.std.specs.Option.{ok_or}
 use Rattle.std.specs.Result.{result_map_both}
 use Rattle.std.specs.Str.{bytes_eq}
-use Rattle.pyver_core.specs.Name.{is_name}
+use Rattle.pyver_core.specs.Name.{is_name, normal_name}
 use Rattle.pytext.specs.Results.{◌>>=◌}
 use Rattle.pymark_core.specs.Variables.{variable_of}
+use Rattle.pymark_core.specs.declared.change.Change.{Change}
+use Rattle.pymark_core.specs.declared.change.Change.TheVariants as change
 use Rattle.pymark_core.specs.declared.variable.Var.{Var}
 use Rattle.pywheel_core.specs.Tag.{TagValue, tags_of}
 use Rattle.pylock_readers.specs.Entry.{EntryValue}
@@ -28,9 +30,9 @@ use Rattle.pylock_run.specs.declared.line.refusal.LineRefusal.TheVariants as ref
 abbrev pub variable_argument : List ℕ → Result Var LineRefusal
 variable_argument name = ok_or (variable_of name) refusal.Variable
 
--- a name, or this refusal
+-- the normal form of a name, or this refusal
 abbrev pub name_or : LineRefusal → List ℕ → Result (List ℕ) LineRefusal
-name_or refused text = if is_name text then Ok text else Err refused
+name_or refused text = if is_name text then Ok (normal_name text) else Err refused
 
 abbrev pub entry_argument : List ℕ → Result EntryValue LineRefusal
 entry_argument text = result_map_both (λ entry. entry) entry_refusal (entry_of text)
@@ -53,20 +55,20 @@ show_after None = Ok command.Show
 show_after (Some argument) = Err refusal.Argument
 
 -- `set NAME VALUE`: the value is any text, also the empty one
-unfoldable pub set_after : Option (List ℕ) → Result Edit LineRefusal
+unfoldable pub set_after : Option (List ℕ) → Result Change LineRefusal
 set_after argument = do
   text ← required_argument argument
   cut ← split_at_space text
   variable ← variable_argument cut.0
-  Ok (edit.Set variable cut.1)
+  Ok (change.Set variable cut.1)
 
 -- `unset NAME`
-unfoldable pub unset_after : Option (List ℕ) → Result Edit LineRefusal
+unfoldable pub unset_after : Option (List ℕ) → Result Change LineRefusal
 unset_after argument = do
   text ← required_argument argument
   name ← nonempty_text text
   variable ← variable_argument name
-  Ok (edit.Unset variable)
+  Ok (change.Unset variable)
 
 -- The argument of `extra+` and `extra-`, and of `group+` and `group-`: a name. Whether the lock
 -- knows it is the edit's to judge, and refused by the same word.
@@ -76,29 +78,12 @@ name_after refused argument = do
   name ← nonempty_text text
   name_or refused name
 
--- `extra+ NAME`
-unfoldable pub add_extra_after : Option (List ℕ) → Result Edit LineRefusal
-add_extra_after argument = do
-  name ← name_after refusal.Extra argument
-  Ok (edit.AddExtra name)
-
--- `extra- NAME`
-unfoldable pub drop_extra_after : Option (List ℕ) → Result Edit LineRefusal
-drop_extra_after argument = do
-  name ← name_after refusal.Extra argument
-  Ok (edit.DropExtra name)
-
--- `group+ NAME`
-unfoldable pub add_group_after : Option (List ℕ) → Result Edit LineRefusal
-add_group_after argument = do
-  name ← name_after refusal.Group argument
-  Ok (edit.AddGroup name)
-
--- `group- NAME`
-unfoldable pub drop_group_after : Option (List ℕ) → Result Edit LineRefusal
-drop_group_after argument = do
-  name ← name_after refusal.Group argument
-  Ok (edit.DropGroup name)
+-- `extra+ NAME`, `extra- NAME`, `group+ NAME` and `group- NAME`
+abbrev pub named_after : (List ℕ → Change) → LineRefusal → Option (List ℕ)
+    → Result Change LineRefusal
+named_after change refused argument = do
+  name ← name_after refused argument
+  Ok (change name)
 
 -- `tags TAG TAG ..`: tags with spaces between them; without an argument, none
 unfoldable pub tags_after : Option (List ℕ) → Result Edit LineRefusal
@@ -142,26 +127,37 @@ policy_after argument = do
 
 -- ---- all of them
 
--- the edit that a command's word and its argument ask for
-unfoldable pub edit_after : List ℕ → Option (List ℕ) → Result Edit LineRefusal
-edit_after word argument =
+-- the change of the environment that a command's word and its argument ask for
+unfoldable pub change_after : List ℕ → Option (List ℕ) → Result Change LineRefusal
+change_after word argument =
     if bytes_eq word (codes "set") then set_after argument
     else if bytes_eq word (codes "unset") then unset_after argument
-    else if bytes_eq word (codes "extra+") then add_extra_after argument
-    else if bytes_eq word (codes "extra-") then drop_extra_after argument
-    else if bytes_eq word (codes "group+") then add_group_after argument
-    else if bytes_eq word (codes "group-") then drop_group_after argument
-    else if bytes_eq word (codes "tags") then tags_after argument
+    else if bytes_eq word (codes "extra+") then named_after change.AddExtra refusal.Extra argument
+    else if bytes_eq word (codes "extra-") then named_after change.DropExtra refusal.Extra argument
+    else if bytes_eq word (codes "group+") then named_after change.AddGroup refusal.Group argument
+    else if bytes_eq word (codes "group-") then named_after change.DropGroup refusal.Group argument
+    else Err refusal.Command
+
+-- the edit of a change
+abbrev pub change_edit : Result Change LineRefusal → Result Edit LineRefusal
+change_edit read = read >>= λ change. Ok (edit.Environment change)
+
+-- the edit that they ask for
+unfoldable pub edit_after : List ℕ → Option (List ℕ) → Result Edit LineRefusal
+edit_after word argument =
+    if bytes_eq word (codes "tags") then tags_after argument
     else if bytes_eq word (codes "add") then add_after argument
     else if bytes_eq word (codes "put") then put_after argument
     else if bytes_eq word (codes "del") then del_after argument
     else if bytes_eq word (codes "policy") then policy_after argument
-    else Err refusal.Command
+    else change_edit (change_after word argument)
 
-abbrev pub edited : Result Edit LineRefusal → Result Command LineRefusal
-edited read = read >>= λ edit. Ok (command.Edit edit)
+-- the command of an edit
+abbrev pub edit_command : Result Edit LineRefusal → Result Command LineRefusal
+edit_command read = read >>= λ edit. Ok (command.Edit edit)
 
 -- what a command's word and its argument ask for
 unfoldable pub command_after : List ℕ → Option (List ℕ) → Result Command LineRefusal
 command_after word argument =
-    if bytes_eq word (codes "show") then show_after argument else edited (edit_after word argument)
+    if bytes_eq word (codes "show") then show_after argument
+    else edit_command (edit_after word argument)

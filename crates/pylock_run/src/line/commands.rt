@@ -1,26 +1,23 @@
 //! The commands of an input.
 
-ghost use Rattle.std.specs.Prelude.{◌≡◌, IfOk};
+ghost use Rattle.std.specs.Prelude.{◌≡◌};
 ghost use Rattle.std.specs.Option.{option_copied};
 ghost use Rattle.pytext.specs.Agreement.{Gives};
-ghost use Rattle.pylock_run.specs.Line.Commands.{variable_argument, entry_argument};
-ghost use Rattle.pylock_run.specs.Line.Commands.{policy_argument, name_after};
-ghost use Rattle.pylock_run.specs.Line.Commands.{show_after, set_after, unset_after};
-ghost use Rattle.pylock_run.specs.Line.Commands.{add_extra_after};
-ghost use Rattle.pylock_run.specs.Line.Commands.{drop_extra_after, add_group_after};
-ghost use Rattle.pylock_run.specs.Line.Commands.{drop_group_after};
-ghost use Rattle.pylock_run.specs.Line.Commands.{tags_after, add_after, put_after, del_after};
-ghost use Rattle.pylock_run.specs.Line.Commands.{policy_after, edit_after, command_after};
+ghost use Rattle.pylock_run.specs.Line.Commands.{add_after, change_after, command_after, del_after};
+ghost use Rattle.pylock_run.specs.Line.Commands.{edit_after, name_after, policy_after};
+ghost use Rattle.pylock_run.specs.Line.Commands.{policy_argument, put_after, set_after, show_after};
+ghost use Rattle.pylock_run.specs.Line.Commands.{tags_after, unset_after, variable_argument};
 
 use crate::line::argument::{
     nonempty_text, number_argument, pieces_of, required_argument, split_at_space,
 };
 use crate::line::refusal::LineRefusal;
 use pylock_core::{Edit, Entry, Policy};
-use pymark_core::Var;
-use pyver_core::{Label, is_name};
+use pymark_core::{Change, Var};
+use pytext::Text;
+use pyver_core::{NormalName, is_name};
 use pywheel_core::TagList;
-use std::alloc::{AllocError, Global};
+use std::alloc::Global;
 
 /// What a line asks for.
 #[derive(Drop)]
@@ -63,69 +60,64 @@ fn read_edit(alloc: Global, word: &str, argument: Option<&str>) -> Result<Edit, 
         (edit_after word.now (option_copied argument.entry)) }
 {
     match word {
-        "set" => read_set(alloc, argument),
-        "unset" => read_unset(argument),
-        "extra+" => read_add_extra(alloc, argument),
-        "extra-" => read_drop_extra(alloc, argument),
-        "group+" => read_add_group(alloc, argument),
-        "group-" => read_drop_group(alloc, argument),
         "tags" => read_tags(alloc, argument),
         "add" => read_add(alloc, argument),
         "put" => read_put(alloc, argument),
         "del" => read_del(argument),
         "policy" => read_policy(alloc, argument),
+        _ => Ok(Edit::Environment(read_change(alloc, word, argument)?)),
+    }
+}
+
+#[tactic(auto, unfolding(crate::specs::Line::Commands::change_after))]
+fn read_change(alloc: Global, word: &str, argument: Option<&str>) -> Result<Change, LineRefusal>
+    ensures { Gives LineRefusal.Memory (λ c. c) result
+        (change_after word.now (option_copied argument.entry)) }
+{
+    match word {
+        "set" => read_set(alloc, argument),
+        "unset" => read_unset(argument),
+        "extra+" => Ok(Change::AddExtra(read_name(alloc, LineRefusal::Extra, argument)?)),
+        "extra-" => Ok(Change::DropExtra(read_name(alloc, LineRefusal::Extra, argument)?)),
+        "group+" => Ok(Change::AddGroup(read_name(alloc, LineRefusal::Group, argument)?)),
+        "group-" => Ok(Change::DropGroup(read_name(alloc, LineRefusal::Group, argument)?)),
         _ => Err(LineRefusal::Command),
     }
 }
 
 #[tactic(auto, unfolding(crate::specs::Line::Commands::set_after))]
-fn read_set(alloc: Global, argument: Option<&str>) -> Result<Edit, LineRefusal>
-    ensures { Gives LineRefusal.Memory (λ e. e) result (set_after (option_copied argument.entry)) }
+fn read_set(alloc: Global, argument: Option<&str>) -> Result<Change, LineRefusal>
+    ensures { Gives LineRefusal.Memory (λ c. c) result (set_after (option_copied argument.entry)) }
 {
     let (name, value) = split_at_space(required_argument(argument)?)?;
     let variable = variable_argument(name)?;
-    Ok(Edit::Set(variable, text_label(alloc, value)?))
+    Ok(Change::Set(variable, Text::copy_of(alloc, value)?))
 }
 
 #[tactic(auto, unfolding(crate::specs::Line::Commands::unset_after))]
-fn read_unset(argument: Option<&str>) -> Result<Edit, LineRefusal>
-    ensures { Gives LineRefusal.Memory (λ e. e) result
+fn read_unset(argument: Option<&str>) -> Result<Change, LineRefusal>
+    ensures { Gives LineRefusal.Memory (λ c. c) result
         (unset_after (option_copied argument.entry)) }
 {
     let variable = variable_argument(nonempty_text(required_argument(argument)?)?)?;
-    Ok(Edit::Unset(variable))
+    Ok(Change::Unset(variable))
 }
 
-#[tactic(auto, unfolding(crate::specs::Line::Commands::add_extra_after))]
-fn read_add_extra(alloc: Global, argument: Option<&str>) -> Result<Edit, LineRefusal>
-    ensures { Gives LineRefusal.Memory (λ e. e) result
-        (add_extra_after (option_copied argument.entry)) }
+/// The argument, which has to be a name.
+#[tactic(auto, unfolding(crate::specs::Line::Commands::name_after))]
+fn read_name(
+    alloc: Global,
+    unknown: LineRefusal,
+    argument: Option<&str>,
+) -> Result<NormalName, LineRefusal>
+    ensures { Gives LineRefusal.Memory (λ name. name) result
+        (name_after unknown (option_copied argument.entry)) }
 {
-    Ok(Edit::AddExtra(read_name(alloc, LineRefusal::Extra, argument)?))
-}
-
-#[tactic(auto, unfolding(crate::specs::Line::Commands::drop_extra_after))]
-fn read_drop_extra(alloc: Global, argument: Option<&str>) -> Result<Edit, LineRefusal>
-    ensures { Gives LineRefusal.Memory (λ e. e) result
-        (drop_extra_after (option_copied argument.entry)) }
-{
-    Ok(Edit::DropExtra(read_name(alloc, LineRefusal::Extra, argument)?))
-}
-
-#[tactic(auto, unfolding(crate::specs::Line::Commands::add_group_after))]
-fn read_add_group(alloc: Global, argument: Option<&str>) -> Result<Edit, LineRefusal>
-    ensures { Gives LineRefusal.Memory (λ e. e) result
-        (add_group_after (option_copied argument.entry)) }
-{
-    Ok(Edit::AddGroup(read_name(alloc, LineRefusal::Group, argument)?))
-}
-
-#[tactic(auto, unfolding(crate::specs::Line::Commands::drop_group_after))]
-fn read_drop_group(alloc: Global, argument: Option<&str>) -> Result<Edit, LineRefusal>
-    ensures { Gives LineRefusal.Memory (λ e. e) result
-        (drop_group_after (option_copied argument.entry)) }
-{
-    Ok(Edit::DropGroup(read_name(alloc, LineRefusal::Group, argument)?))
+    let text = nonempty_text(required_argument(argument)?)?;
+    if !is_name(text) {
+        return Err(unknown);
+    }
+    Ok(NormalName::new(alloc, text)?)
 }
 
 #[tactic(auto, unfolding(crate::specs::Line::Commands::tags_after))]
@@ -172,7 +164,7 @@ fn read_policy(alloc: Global, argument: Option<&str>) -> Result<Edit, LineRefusa
     if !is_name(name) {
         return Err(LineRefusal::Name);
     }
-    Ok(Edit::Policy(text_label(alloc, name)?, policy))
+    Ok(Edit::Policy(NormalName::new(alloc, name)?, policy))
 }
 
 /// The variable of markers that has this name; another name is refused as `Variable`.
@@ -192,28 +184,4 @@ pub fn policy_argument(word: &str) -> Result<Policy, LineRefusal>
         "source" => Ok(Policy::Source),
         _ => Err(LineRefusal::Argument),
     }
-}
-
-/// The argument, which has to be a name.
-#[tactic(auto, unfolding(crate::specs::Line::Commands::name_after))]
-fn read_name(
-    alloc: Global,
-    unknown: LineRefusal,
-    argument: Option<&str>,
-) -> Result<Label, LineRefusal>
-    ensures { Gives LineRefusal.Memory (λ l. l) result
-        (name_after unknown (option_copied argument.entry)) }
-{
-    let text = nonempty_text(required_argument(argument)?)?;
-    if !is_name(text) {
-        return Err(unknown);
-    }
-    Ok(text_label(alloc, text)?)
-}
-
-/// The text, as edits hold it. It takes memory for a copy.
-pub fn text_label(alloc: Global, text: &str) -> Result<Label, AllocError>
-    ensures { IfOk result (λ label. label ≡ text.now) }
-{
-    Ok(Label::new(String::from_str(alloc, text)?))
 }

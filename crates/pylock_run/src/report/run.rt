@@ -217,14 +217,8 @@ fn write_last_answer<W: Sink>(
     flush(last, writer)
 }
 
-/// Frees the session, or leaves its memory to the system.
-fn end_session(editing: Editing, leaves: bool) {
-    if leaves {
-        mem::forget(editing);
-    }
-}
-
-/// Edits a session by the whole input, and writes all answers and refusals.
+/// Edits a session by the whole input, and writes all answers and refusals. Then it frees the
+/// session, or leaves its memory to the system.
 fn edit_all<R: Source, W: Sink>(
     alloc: Global,
     session: Session,
@@ -241,7 +235,9 @@ fn edit_all<R: Source, W: Sink>(
     feed_all(&mut editing, &mut buffer, reader, &mut out, writer)?;
     write_last_answer(&mut editing, &mut out, writer)?;
     let status = editing.status();
-    end_session(editing, leaves);
+    if leaves {
+        mem::forget(editing);
+    }
     Ok(status)
 }
 

@@ -3,7 +3,7 @@
 ghost use Rattle.std.specs.Prelude.{◌≡◌, ◌++◌, ◌∷◌, ◌<◌, ◌≤◌, [], OnOk, IsTrue, decimal, true};
 ghost use Rattle.std.specs.List.{list_all};
 ghost use Rattle.std.specs.Option.{option_copied};
-ghost use Rattle.pylock_run.specs.Inner.Plain.{is_ordinary};
+ghost use Rattle.pylock_run.specs.Inner.OrdinaryBytes.{is_ordinary};
 ghost use Rattle.pylock_run.specs.Text.Field.{escape_byte, escaped_text, field, line_of};
 
 use itoa::Buffer;
@@ -30,11 +30,11 @@ pub fn push_field(out: &mut Vec<u8>, text: Option<&str>) -> Result<(), AllocErro
 }
 
 /// Pushes a text with its escapes.
-#[tactic(auto, using(crate::proofs::PlainText::plain_stands))]
+#[tactic(auto, using(crate::proofs::OrdinaryBytesLemmas::ordinary_stands))]
 pub fn push_escaped_text(out: &mut Vec<u8>, text: &str) -> Result<(), AllocError>
     ensures { OnOk result (out.new.items ≡ out.old.items ++ escaped_text text.now) }
 {
-    if is_plain_text(text.as_bytes()) {
+    if is_ordinary_text(text.as_bytes()) {
         out.extend_from_slice(text.as_bytes())?;
         Ok(())
     } else {
@@ -45,21 +45,21 @@ pub fn push_escaped_text(out: &mut Vec<u8>, text: &str) -> Result<(), AllocError
 /// Whether the text is seen at once to stand in a field as it is, as nearly each does. Of a longer
 /// text whole chunks are tested, the last of which may lie over the one before it.
 #[inline(never)]
-pub(crate) fn is_plain_text(text: &[u8]) -> bool
+pub(crate) fn is_ordinary_text(text: &[u8]) -> bool
     ensures { IsTrue result → list_all is_ordinary text.now ≡ true }
 {
     match text.len() {
-        64.. => are_plain_chunks::<64>(text),
-        32..64 => are_plain_chunks::<32>(text),
-        16..32 => are_plain_chunks::<16>(text),
-        8..16 => are_plain_chunks::<8>(text),
-        4..8 => are_plain_chunks::<4>(text),
+        64.. => are_ordinary_chunks::<64>(text),
+        32..64 => are_ordinary_chunks::<32>(text),
+        16..32 => are_ordinary_chunks::<16>(text),
+        8..16 => are_ordinary_chunks::<8>(text),
+        4..8 => are_ordinary_chunks::<4>(text),
         _ => are_ordinary(text),
     }
 }
 
 /// The same for a text of at least `N` bytes, by chunks of `N`.
-fn are_plain_chunks<const N: usize>(text: &[u8]) -> bool
+fn are_ordinary_chunks<const N: usize>(text: &[u8]) -> bool
     requires { (0 < N) × (N ≤ 64) }
     ensures { IsTrue result → list_all is_ordinary text.now ≡ true }
 {
@@ -125,8 +125,7 @@ pub fn push_next_field(out: &mut Vec<u8>, text: Option<&str>) -> Result<(), Allo
 pub fn push_last_word(out: &mut Vec<u8>, word: &[u8]) -> Result<(), AllocError>
     ensures { OnOk result (out.new.items ≡ out.old.items ++ line_of [] (word.now ∷ [])) }
 {
-    out.push(b'\t')?;
-    out.extend_from_slice(word)?;
+    push_word(out, word)?;
     out.push(b'\n')?;
     Ok(())
 }

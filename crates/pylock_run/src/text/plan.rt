@@ -5,20 +5,19 @@ ghost use Rattle.std.specs.List.{flat_map};
 ghost use Rattle.std.specs.Option.{option_map_or};
 ghost use Rattle.pylock_readers.specs.Text.{text_pairs};
 ghost use Rattle.pylock_core.specs.Session.Picks.{lent_source};
-ghost use Rattle.pylock_core.specs.declared.answer.Answer.TheVariants.{Plan};
 ghost use Rattle.pylock_run.specs.Inner.Hashes.{escaped_hash, more_hashes};
 ghost use Rattle.pylock_run.specs.Text.Picked.{picked_fields};
 ghost use Rattle.pylock_run.specs.Text.Field.{field, fields_text};
 ghost use Rattle.pylock_run.specs.Text.Plan.{hashes_text, revision, vcs_fields};
 ghost use Rattle.pylock_run.specs.Text.Plan.{directory_fields};
 ghost use Rattle.pylock_run.specs.Text.Plan.{archive_fields, file_fields};
-ghost use Rattle.pylock_run.specs.Text.Plan.{plan_line, pick_text, answer_text, fault_text};
+ghost use Rattle.pylock_run.specs.Text.Plan.{pick_text, answer_text};
 ghost use Rattle.pylock_run.specs.Text.Plan.{source_line};
 
 use crate::text::field::{push_decimal, push_escaped_text, push_last_word, push_next_field};
-use crate::text::plain::push_plain_file;
+use crate::text::file_line::push_file_line;
 use pylock_core::{
-    Answer, Archive, Directory, DistributionFile, Entry, FaultCode, Pick, PickedSource, Session,
+    Answer, Archive, Directory, DistributionFile, Entry, Pick, PickedSource, Session,
     Vcs, directory_word, fault_word,
 };
 use std::alloc::AllocError;
@@ -129,7 +128,8 @@ fn push_source(out: &mut Vec<u8>, source: Option<PickedSource<'_>>) -> Result<()
     }
 }
 
-/// Pushes the line of a source of an entry, which has this number.
+/// Pushes the line of a source of an entry, which has this number: at once where it is that of a
+/// file, as `file_line.rt` says, and else part by part.
 pub fn push_source_line(
     out: &mut Vec<u8>,
     number: u64,
@@ -140,26 +140,13 @@ pub fn push_source_line(
         (option_map_or picked_fields (option_map lent_source source.entry) [])) }
 {
     let done = match source {
-        Some(PickedSource::Wheel(wheel)) => push_plain_file(out, number, entry, b"wheel", wheel)?,
-        Some(PickedSource::Sdist(sdist)) => push_plain_file(out, number, entry, b"sdist", sdist)?,
+        Some(PickedSource::Wheel(wheel)) => push_file_line(out, number, entry, b"wheel", wheel)?,
+        Some(PickedSource::Sdist(sdist)) => push_file_line(out, number, entry, b"sdist", sdist)?,
         _ => false,
     };
     if done {
         return Ok(());
     }
-    push_line_parts(out, number, entry, source)
-}
-
-/// Pushes the line part by part, whatever its texts are.
-fn push_line_parts(
-    out: &mut Vec<u8>,
-    number: u64,
-    entry: &Entry,
-    source: Option<PickedSource<'_>>,
-) -> Result<(), AllocError>
-    ensures { OnOk result (out.new.items ≡ out.old.items ++ source_line number entry.now
-        (option_map_or picked_fields (option_map lent_source source.entry) [])) }
-{
     push_decimal(out, number)?;
     push_next_field(out, Some(entry.name()))?;
     push_next_field(out, entry.version())?;
@@ -169,18 +156,11 @@ fn push_line_parts(
 }
 
 #[tactic(auto, using(crate::proofs::TextLemmas::picked_source))]
-fn push_plan_line(out: &mut Vec<u8>, pick: &Pick, entry: &Entry) -> Result<(), AllocError>
-    ensures { OnOk result (out.new.items
-        ≡ out.old.items ++ plan_line pick.now.id pick.now.source entry.now) }
-{
-    push_source_line(out, u64::from(pick.id), entry, pick.source.of(entry))
-}
-
 fn push_pick(out: &mut Vec<u8>, session: &Session, pick: &Pick) -> Result<(), AllocError>
     ensures { OnOk result (out.new.items ≡ out.old.items ++ pick_text session.now.state pick.now) }
 {
     match session.entry(pick.id) {
-        Some(entry) => push_plan_line(out, pick, entry),
+        Some(entry) => push_source_line(out, u64::from(pick.id), entry, pick.source.of(entry)),
         None => Ok(()),
     }
 }
@@ -201,25 +181,17 @@ pub fn push_answer(out: &mut Vec<u8>, session: &Session, answer: &Answer) -> Res
         ≡ out.old.items ++ answer_text session.now.state answer.now) }
 {
     match answer {
-        Answer::Plan(plan) => push_plan(out, session, plan.picks()),
-        Answer::Fault { id, code } => push_fault(out, *id, *code),
+        Answer::Plan(plan) => {
+            let picks = plan.picks();
+            out.extend_from_slice(b"plan ")?;
+            push_decimal(out, picks.len() as u64)?;
+            out.push(b'\n')?;
+            push_picks(out, session, picks)
+        }
+        Answer::Fault { id, code } => {
+            out.extend_from_slice(b"fault ")?;
+            push_decimal(out, u64::from(*id))?;
+            push_last_word(out, fault_word(*code).as_bytes())
+        }
     }
-}
-
-fn push_plan(out: &mut Vec<u8>, session: &Session, picks: &[Pick]) -> Result<(), AllocError>
-    ensures { OnOk result (out.new.items
-        ≡ out.old.items ++ answer_text session.now.state (Plan picks.now)) }
-{
-    out.extend_from_slice(b"plan ")?;
-    push_decimal(out, picks.len() as u64)?;
-    out.push(b'\n')?;
-    push_picks(out, session, picks)
-}
-
-fn push_fault(out: &mut Vec<u8>, id: u32, code: FaultCode) -> Result<(), AllocError>
-    ensures { OnOk result (out.new.items ≡ out.old.items ++ fault_text id code) }
-{
-    out.extend_from_slice(b"fault ")?;
-    push_decimal(out, u64::from(id))?;
-    push_last_word(out, fault_word(code).as_bytes())
 }

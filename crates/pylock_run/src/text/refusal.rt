@@ -1,13 +1,11 @@
 //! Refusals of lines, of locks and of environments.
 
-ghost use Rattle.std.specs.Prelude.{◌≡◌, ◌++◌, ◌∷◌, [], OnOk};
+ghost use Rattle.std.specs.Prelude.{◌≡◌, ◌++◌, OnOk};
 ghost use Rattle.pylock_run.specs.Text.Field.{fields_text};
 ghost use Rattle.pylock_run.specs.Text.Refusal.{head_word, key_word, entry_word, lock_words};
 ghost use Rattle.pylock_run.specs.Text.Refusal.{lock_text};
 ghost use Rattle.pylock_run.specs.Text.Refusal.{environment_words, environment_text};
 ghost use Rattle.pylock_run.specs.Text.Refusal.{line_refusal_text, refusal_text};
-ghost use Rattle.pylock_readers.specs.declared.error.LockError.TheVariants.{Head, Entry};
-ghost use Rattle.pylock_readers.specs.declared.error.EnvError.TheVariants.{Tag};
 
 use crate::line::refusal::LineRefusal;
 use crate::report::opening::OpenError;
@@ -83,10 +81,17 @@ fn push_lock_words(out: &mut Vec<u8>, error: &LockError) -> Result<(), AllocErro
         LockError::Toml => push_word(out, b"toml"),
         LockError::LockVersion => push_word(out, b"lock-version"),
         LockError::CreatedBy => push_word(out, b"created-by"),
-        LockError::Head(key) => push_head(out, key),
+        LockError::Head(key) => {
+            push_word(out, b"head")?;
+            push_word(out, head_word(key).as_bytes())
+        }
         LockError::Packages => push_word(out, b"packages"),
         LockError::TooMany => push_word(out, b"too-many"),
-        LockError::Entry(position, error) => push_entry_error(out, *position, error),
+        LockError::Entry(position, error) => {
+            out.extend_from_slice(b"\tentry\t")?;
+            push_decimal(out, *position as u64)?;
+            push_word(out, entry_word(error).as_bytes())
+        }
         LockError::Memory => push_word(out, b"memory"),
     }
 }
@@ -98,38 +103,12 @@ fn push_environment_words(out: &mut Vec<u8>, error: &EnvError) -> Result<(), All
     match error {
         EnvError::Json => push_word(out, b"json"),
         EnvError::Shape => push_word(out, b"shape"),
-        EnvError::Tag(position) => push_tag(out, *position),
+        EnvError::Tag(position) => {
+            out.extend_from_slice(b"\ttag\t")?;
+            push_decimal(out, *position as u64)
+        }
         EnvError::Memory => push_word(out, b"memory"),
     }
-}
-
-fn push_head(out: &mut Vec<u8>, key: &HeadKey) -> Result<(), AllocError>
-    ensures { OnOk result (out.new.items
-        ≡ out.old.items ++ fields_text (lock_words (Head key.now))) }
-{
-    push_word(out, b"head")?;
-    push_word(out, head_word(key).as_bytes())
-}
-
-fn push_entry_error(
-    out: &mut Vec<u8>,
-    position: usize,
-    error: &EntryError,
-) -> Result<(), AllocError>
-    ensures { OnOk result (out.new.items
-        ≡ out.old.items ++ fields_text (lock_words (Entry position error.now))) }
-{
-    out.extend_from_slice(b"\tentry\t")?;
-    push_decimal(out, position as u64)?;
-    push_word(out, entry_word(error).as_bytes())
-}
-
-fn push_tag(out: &mut Vec<u8>, position: usize) -> Result<(), AllocError>
-    ensures { OnOk result (out.new.items
-        ≡ out.old.items ++ fields_text (environment_words (Tag position))) }
-{
-    out.extend_from_slice(b"\ttag\t")?;
-    push_decimal(out, position as u64)
 }
 
 /// The word of a key of the head.

@@ -12,16 +12,15 @@ returns-in_err-matches-clause-refused c =
     let error = err_from_is_err_and c.from_residual.result c.from_residual.ensures.1 in
     rw error.1 (IsRefusal-kept _ c.requires (texts c.args.words.now) _ _ error.2 c.in_err-matches.ensures.kinds)
 
-pub returns-in-Some-clause-taken : goal.returns-in-Some-clause-taken
-returns-in-Some-clause-taken c = fault_of-taken _ c.requires (texts c.args.words.now) c.in_ok-matches.ensures.kinds
+pub returns-in-Ok-clause-taken : goal.returns-in-Ok-clause-taken
+returns-in-Ok-clause-taken c = fault_of-taken _ c.requires (texts c.args.words.now) c.in_ok-matches.ensures.kinds
 
-pub returns-in-Some-clause-task : goal.returns-in-Some-clause-task
-returns-in-Some-clause-task c =
-    IsTask-told _ c.requires (texts c.args.words.now) c.in_ok-matches.matches c.in-Some.task c.in_ok-matches.ensures.ok.2
-    (rw c.in-Some.is at c.in_ok-found.ensures.some)
+pub returns-in-Ok-clause-task : goal.returns-in-Ok-clause-task
+returns-in-Ok-clause-task c =
+    IsTask-told _ c.requires (texts c.args.words.now) c.in_ok-matches.matches c.in-Ok.task c.in_ok-matches.ensures.ok.2 c.in-Ok.ensures.task
 
-pub returns-in_ok-error-in-None-clause-refused : goal.returns-in_ok-error-in-None-clause-refused
-returns-in_ok-error-in-None-clause-refused c =
-    IsRefusal-told _ c.requires (texts c.args.words.now) c.in_ok-matches.matches c.in_ok-error-in-None.field-0 c.in_ok-matches.ensures.ok.2
-    (rw c.in-None.is at c.in_ok-found.ensures.none)
-    c.in_ok-error-in-None.ensures.kind
+pub returns-in_ok-error-in-Err-Missing-clause-refused : goal.returns-in_ok-error-in-Err-Missing-clause-refused
+returns-in_ok-error-in-Err-Missing-clause-refused c =
+    IsRefusal-told _ c.requires (texts c.args.words.now) c.in_ok-matches.matches c.in_ok-error-in-Err-Missing.field-0 c.in_ok-matches.ensures.ok.2
+    (c.in-Err-Missing.ensures.lacks c.in-Err-Missing.field-0-is)
+    c.in_ok-error-in-Err-Missing.ensures.kind

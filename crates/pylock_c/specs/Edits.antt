@@ -1,0 +1,71 @@
+-- The changes and the commands of C. Their texts are judged as texts first, from the left.
+use Rattle.std.specs.Prelude.{ℕ, List, [], ◌∷◌, Result, Ok}
+use Rattle.std.specs.List.{slice_split}
+use Rattle.pytext.specs.Results.{◌>>=◌}
+use Rattle.pyver_core.specs.Name.{normal_name}
+use Rattle.pymark_core.specs.declared.change.Change.{Change}
+use Rattle.pymark_core.specs.declared.change.Change.TheVariants as change
+use Rattle.pylock_readers.specs.Entry.{EntryValue}
+use Rattle.pylock_core.specs.declared.edit.Edit.{Edit}
+use Rattle.pylock_core.specs.declared.edit.Edit.TheVariants as edit
+use Rattle.pylock_run.specs.Line.{is_lf}
+use Rattle.pylock_run.specs.Line.Commands.{change_edit, edit_command, entry_argument, name_or}
+use Rattle.pylock_run.specs.Line.Commands.{policy_argument, tags_argument, variable_argument}
+use Rattle.pylock_run.specs.declared.line.commands.Command.{Command}
+use Rattle.pylock_run.specs.declared.line.commands.Command.TheVariants as command
+use Rattle.pylock_run.specs.declared.line.refusal.LineRefusal.{LineRefusal}
+use Rattle.pylock_run.specs.declared.line.refusal.LineRefusal.TheVariants as line
+use Rattle.pylock_c.specs.Text.{text_argument}
+
+-- ---- changes of an environment
+
+abbrev pub set_change : List ℕ → List ℕ → Result Change LineRefusal
+set_change name value = do
+  name ← text_argument name
+  value ← text_argument value
+  variable ← variable_argument name
+  Ok (change.Set variable value)
+
+abbrev pub unset_change : List ℕ → Result Change LineRefusal
+unset_change name = do
+  name ← text_argument name
+  variable ← variable_argument name
+  Ok (change.Unset variable)
+
+-- of an extra or a dependency group, by any text: whether a lock knows it is an edit's to judge
+abbrev pub named_change : (List ℕ → Change) → List ℕ → Result Change LineRefusal
+named_change change name = do
+  name ← text_argument name
+  Ok (change (normal_name name))
+
+-- ---- commands of a session
+
+-- a change of its environment
+abbrev pub change_command : Result Change LineRefusal → Result Command LineRefusal
+change_command read = edit_command (change_edit read)
+
+-- the texts of tags, with an LF between two; none where there is no text
+abbrev pub tag_texts : List ℕ → List (List ℕ)
+tag_texts [] = []
+tag_texts (b ∷ bs) = slice_split is_lf (b ∷ bs)
+
+abbrev pub tags_command : List ℕ → Result Command LineRefusal
+tags_command bytes = do
+  text ← text_argument bytes
+  tags ← tags_argument (tag_texts text)
+  Ok (command.Edit (edit.Tags tags))
+
+-- an edit by the text of an entry
+abbrev pub entry_command : (EntryValue → Edit) → List ℕ → Result Command LineRefusal
+entry_command edit bytes = do
+  text ← text_argument bytes
+  entry ← entry_argument text
+  Ok (command.Edit (edit entry))
+
+abbrev pub policy_command : List ℕ → List ℕ → Result Command LineRefusal
+policy_command name word = do
+  name ← text_argument name
+  word ← text_argument word
+  policy ← policy_argument word
+  name ← name_or line.Name name
+  Ok (command.Edit (edit.Policy name policy))

@@ -1,0 +1,132 @@
+//! The changes and the commands that C gives, by their texts.
+
+ghost use Rattle.std.specs.Prelude.{◌≡◌, IfOk, Result, map};
+ghost use Rattle.std.specs.List.{slice_split};
+ghost use Rattle.pytext.specs.Agreement.{Gives};
+ghost use Rattle.pymark_core.specs.declared.change.Change.{Change as ChangeValue};
+ghost use Rattle.pymark_core.specs.declared.change.Change.TheVariants as change;
+ghost use Rattle.pylock_core.specs.declared.edit.Edit.TheVariants as edit;
+ghost use Rattle.pylock_run.specs.Line.{is_lf};
+ghost use Rattle.pylock_run.specs.declared.line.refusal.LineRefusal.{LineRefusal as RefusalValue};
+ghost use Rattle.pylock_run.specs.declared.line.refusal.LineRefusal.TheVariants.{Memory};
+ghost use Rattle.pylock_c.specs.Edits.{change_command, entry_command, named_change};
+ghost use Rattle.pylock_c.specs.Edits.{policy_command, set_change, tag_texts, tags_command};
+ghost use Rattle.pylock_c.specs.Edits.{unset_change};
+
+use crate::text::text;
+use pylock_core::{Edit, Entry};
+use pylock_run::{Command, LineRefusal, policy_argument, variable_argument};
+use pymark_core::Change;
+use pytext::Text;
+use pyver_core::{NormalName, is_name};
+use pywheel_core::TagList;
+use std::alloc::{AllocError, Global};
+
+pub(crate) fn set_change(
+    alloc: Global,
+    name: &[u8],
+    value: &[u8],
+) -> Result<Change, LineRefusal>
+    ensures { Gives Memory (λ change. change) result (set_change name.now value.now) }
+{
+    let name = text(name)?;
+    let value = text(value)?;
+    let variable = variable_argument(name)?;
+    Ok(Change::Set(variable, Text::copy_of(alloc, value)?))
+}
+
+pub(crate) fn unset_change(name: &[u8]) -> Result<Change, LineRefusal>
+    ensures { Gives Memory (λ change. change) result (unset_change name.now) }
+{
+    Ok(Change::Unset(variable_argument(text(name)?)?))
+}
+
+pub(crate) fn add_extra_change(alloc: Global, name: &[u8]) -> Result<Change, LineRefusal>
+    ensures { Gives Memory (λ change. change) result (named_change change.AddExtra name.now) }
+{
+    Ok(Change::AddExtra(NormalName::new(alloc, text(name)?)?))
+}
+
+pub(crate) fn drop_extra_change(alloc: Global, name: &[u8]) -> Result<Change, LineRefusal>
+    ensures { Gives Memory (λ change. change) result (named_change change.DropExtra name.now) }
+{
+    Ok(Change::DropExtra(NormalName::new(alloc, text(name)?)?))
+}
+
+pub(crate) fn add_group_change(alloc: Global, name: &[u8]) -> Result<Change, LineRefusal>
+    ensures { Gives Memory (λ change. change) result (named_change change.AddGroup name.now) }
+{
+    Ok(Change::AddGroup(NormalName::new(alloc, text(name)?)?))
+}
+
+pub(crate) fn drop_group_change(alloc: Global, name: &[u8]) -> Result<Change, LineRefusal>
+    ensures { Gives Memory (λ change. change) result (named_change change.DropGroup name.now) }
+{
+    Ok(Change::DropGroup(NormalName::new(alloc, text(name)?)?))
+}
+
+/// The command that changes the environment.
+pub(crate) fn change_command(change: Result<Change, LineRefusal>) -> Result<Command, LineRefusal>
+    ensures { (definition : Result ChangeValue RefusalValue)
+        → Gives Memory (λ c. c) change definition
+        → Gives Memory (λ c. c) result (change_command definition) }
+{
+    Ok(Command::Edit(Edit::Environment(change?)))
+}
+
+/// The texts of tags, with an LF between two.
+fn tag_texts(alloc: Global, text: &str) -> Result<Vec<&str>, AllocError>
+    ensures { IfOk result (λ texts. map (λ text. text.now) texts.items ≡ tag_texts text.now) }
+{
+    if text.is_empty() {
+        return Ok(Vec::new(alloc));
+    }
+    lines(alloc, text)
+}
+
+fn lines(alloc: Global, text: &str) -> Result<Vec<&str>, AllocError>
+    ensures { IfOk result (λ lines. map (λ line. line.now) lines.items
+        ≡ slice_split is_lf text.now) }
+{
+    text.split('\n').collect(alloc)
+}
+
+pub(crate) fn tags_command(alloc: Global, bytes: &[u8]) -> Result<Command, LineRefusal>
+    ensures { Gives Memory (λ command. command) result (tags_command bytes.now) }
+{
+    let texts = tag_texts(alloc, text(bytes)?)?;
+    Ok(Command::Edit(Edit::Tags(TagList::parse(alloc, &texts)?)))
+}
+
+pub(crate) fn add_command(alloc: Global, bytes: &[u8]) -> Result<Command, LineRefusal>
+    ensures { Gives Memory (λ command. command) result (entry_command edit.Add bytes.now) }
+{
+    let entry = Entry::read_text(alloc, text(bytes)?)?;
+    Ok(Command::Edit(Edit::Add(entry)))
+}
+
+pub(crate) fn put_command(
+    alloc: Global,
+    number: u32,
+    bytes: &[u8],
+) -> Result<Command, LineRefusal>
+    ensures { Gives Memory (λ command. command) result (entry_command (edit.Put number) bytes.now) }
+{
+    let entry = Entry::read_text(alloc, text(bytes)?)?;
+    Ok(Command::Edit(Edit::Put(number, entry)))
+}
+
+pub(crate) fn policy_command(
+    alloc: Global,
+    name: &[u8],
+    word: &[u8],
+) -> Result<Command, LineRefusal>
+    ensures { Gives Memory (λ command. command) result (policy_command name.now word.now) }
+{
+    let name = text(name)?;
+    let policy = policy_argument(text(word)?)?;
+    if !is_name(name) {
+        return Err(LineRefusal::Name);
+    }
+    Ok(Command::Edit(Edit::Policy(NormalName::new(alloc, name)?, policy)))
+}

@@ -1,0 +1,253 @@
+//! What the help says of the program and, below its options, of each subcommand.
+
+/// What the program is for, above its subcommands.
+pub(crate) const ABOUT: &str = "\
+Tells exactly what a pylock.toml installs in an environment, and why
+
+Example:
+  $ pylock plan pylock.toml env.json --extra science
+  plan 12
+  ..
+
+plan prints a line for each package to install. explain prints what becomes of
+each entry of the lock, and why. env.json is the environment of a Python: its
+marker variables and its wheel tags. Each command has --help; without a command
+pylock prints its name and major version.
+
+Status: 0, an answer; 1, a fault, a finding or a refused text; 2, the lock, the
+environment or the command line is refused; 3, standard error says why it ended
+early.";
+
+pub(crate) const PLAN: &str = "\
+Example, with spaces for the TABs:
+  $ pylock plan pylock.toml env.json --extra science --only-binary :all:
+  plan 12
+  1  acme-service  -  editable  -  .  -  -  -
+  ..
+
+Prints plan K and then K lines, one for each package to install. A line has
+nine fields with TAB between them: the entry's number, name, version, kind of
+source, file name, path or URL, hashes, VCS commit and subdirectory. An absent
+field is -. The lines are for programs: a field may hold any character of the
+lock but TAB and LF, which are written \\t and \\n.
+
+Where the lock can't be installed so, it prints fault ID, TAB and CODE instead.
+ID is the number of the entry at fault, or 0 for the head of the lock. The help
+of explain says what CODE means. Standard error tells the reason.
+
+The options count in the order of the list above. Of --only-binary and
+--no-binary the last that names a package counts, and :all: names each package.
+An option with a text may stand again; a text that begins with - is given as
+--extra=TEXT. Tags come from ENV alone: --set doesn't change them.
+--only-binary :all: leaves VCS sources, directories and archives, which are
+built all the same. A refused option prints refused, TAB, the option, TAB and
+its text.
+
+Status: 0, a plan; 1, a fault or a refused option; 2, the lock, the environment
+or the command line is refused; 3, a file can't be read, the output failed or
+memory ran out.";
+
+pub(crate) const EXPLAIN: &str = "\
+Example, with spaces for the TABs:
+  $ pylock explain pylock.toml env.json
+  head  ok  -
+  ..
+  7  colorama  0.4.6  skipped  sys_platform == 'win32'
+  ..
+
+Judges the head of the lock and each entry for itself, so all faults are seen
+at once. The first line is head, ok or a code, and DETAIL. Then each entry has
+a line: ID NAME VERSION VERDICT DETAIL. TAB stands between two fields, and an
+absent field is -. The options are those of plan, and mean the same.
+
+VERDICT is one of these, and DETAIL is what stands in parentheses:
+  skipped           its marker is false (the marker)
+  marker-unset      its marker reads a variable without a text (both)
+  marker-extra      its marker reads extra, which no lock gives (the marker)
+  marker-undefined  its marker has ~= or === where no versions are compared (the
+                    marker)
+  marker-number     its marker compares a number past 128 bits (the marker)
+  python-unknown    the version of Python isn't known (requires-python)
+  python-not-met    requires-python doesn't admit the Python (requires-python)
+  no-environment    of the head: none of the lock's environments is true
+  ambiguous         an earlier entry of its name applies too (its number)
+  sources           it has sources of several kinds (the kinds)
+  no-file           no file may be taken (its wheels, its sdist and the policy)
+  vcs, directory, editable, archive, wheel, sdist
+                    what is installed (a file name, or a place; of a wheel its
+                    best tag too)
+
+Status: 0, the answer of plan is a plan; 1, it is a fault, or an option is
+refused; 2, the lock, the environment or the command line is refused; 3, a file
+can't be read, the output failed or memory ran out.";
+
+pub(crate) const SELECT: &str = "\
+Example, with spaces for the TABs:
+  $ printf 'extra+ science\\nfly\\n' | pylock select pylock.toml env.json
+  plan 11
+  ..
+  plan 12
+  ..
+  refused 2  command
+
+Prints the answer, as plan does. Then it reads edits as lines from standard
+input and answers each: by the answer as it is then, or by refused N, TAB and a
+word, where line N is refused and changes nothing. The last answer counts.
+
+The edits:
+  show                print the answer again
+  set NAME VALUE      give a marker variable a text: set python_version 3.12
+  unset NAME          leave it without one: unset platform_release
+  extra+ NAME         ask for an extra of the lock: extra+ test
+  extra- NAME         ask for it no more: extra- test
+  group+ NAME         ask for a dependency group of the lock: group+ dev
+  group- NAME         ask for it no more: group- dev
+  tags TAG TAG ..     wheel tags, the most preferred first: tags py3-none-any
+  add ENTRY           one more entry: add {name = \"a\", directory = {path = \"a\"}}
+  put ID ENTRY        this entry in place of one: put 1 {name = \"a\"}
+  del ID              remove the entry with this number: del 1
+  policy NAME POLICY  files of this name, any, wheel or source: policy pip wheel
+
+Status: 0, the last answer is a plan and no line was refused; 1, otherwise;
+2, the lock, the environment or the command line is refused; 3, a line on
+standard error says why it ended early:
+  pylock: file    a file can't be read or has more than 268,435,456 bytes
+  pylock: read    a read of standard input failed
+  pylock: write   a write to standard output failed
+  pylock: input   the input has more than 1,000,000 lines or more than
+                  268,435,456 bytes
+  pylock: memory  memory ran out";
+
+pub(crate) const FILES: &str = "\
+Example:
+  $ pylock files pylock.toml
+  files 109
+  ..
+
+Prints files K and then K lines, one for each source of each entry. A line has
+the nine fields of a line of plan: the entry's number, name, version, kind of
+source, file name, path or URL, hashes, VCS commit and subdirectory. An absent
+field is -. The lines are for programs: a field may hold any character of the
+lock but TAB and LF, which are written \\t and \\n.
+
+Status: 0, the lines; 2, the lock or the command line is refused; 3, a file
+can't be read, the output failed or memory ran out.";
+
+pub(crate) const AUDIT: &str = "\
+Example, with spaces for the TABs:
+  $ pylock audit audited.toml
+  findings 22
+  0  -  lock-version  1.1
+  ..
+  17  requests  credentials  wheels 1 url
+  ..
+
+Prints findings K and then K lines, one for each finding: ID NAME FINDING
+DETAIL, with TAB between two fields. ID is the entry's number, or 0 for the
+head of the lock, and an absent field is -. A lock with findings is valid all
+the same.
+
+FINDING is one of these:
+  lock-version        the lock's version isn't 1.0
+  unknown-key         PEP 751 doesn't name the key
+  no-packages         the key packages is absent
+  name-form           the name isn't in normal form
+  version             the version is none by PEP 440
+  marker-extra        the marker reads extra, so it is a fault everywhere
+  undeclared-name     the marker asks for an extra or a group that the lock
+                      doesn't declare
+  no-source           the entry has no source
+  several-sources     the entry has sources of several kinds
+  no-hash             an archive, a wheel or an sdist has no hash
+  weak-hash           it has hashes, and none is of a strong algorithm
+  odd-hash            a hash has a , or a = in it
+  bad-hash            a hash isn't of its algorithm's number of 0 to 9, a to f
+  no-wheel-name       the file name of a wheel is absent or can't be read
+  other-name          a file is of another package
+  other-version       a wheel is of another version
+  same-file-name      an earlier wheel of the entry has the file name
+  unsafe-file-name    the file name of a wheel or an sdist has a /, a \\ or a
+                      control character, or is . or ..
+  unsafe-subdirectory the path begins with / or \\, has : as its second
+                      character, or has .. as a part
+  not-https           a URL isn't of https or file, nor that of a VCS by ssh
+  credentials         a URL has an @ in front of its host; one of ssh only where
+                      a password stands there
+  moving-commit       a commit of git or hg isn't a full hash
+  control-character   a text has a control character
+
+DETAIL shows what stands in front of such an @ as ***, and control characters
+as \\u{..}.
+
+Status: 0, nothing was found; 1, something was; 2, the lock or the command line
+is refused; 3, a file can't be read, the output failed or memory ran out.";
+
+pub(crate) const VERSION: &str = "\
+Example:
+  $ pylock version v1.0-RC.1
+  1.0rc1
+
+Prints the normal form, or refused, TAB and one of the words syntax and number.
+
+Status: 0, it is a version; 1, it is refused; 2, the command line is refused;
+3, the output failed or memory ran out.";
+
+pub(crate) const MATCH: &str = "\
+Example:
+  $ pylock match '>=2.8.1, ==2.8.*' 2.8.3
+  true
+
+Prints true or false, or refused, TAB and one of the words set-syntax,
+set-number, version-syntax and version-number.
+
+Status: 0, an answer; 1, a text is refused; 2, the command line is refused;
+3, the output failed or memory ran out.";
+
+pub(crate) const NAME: &str = "\
+Example:
+  $ pylock name Foo__Bar
+  foo-bar
+
+Prints the normal form, or refused, TAB and the word name.
+
+Status: 0, it is a name; 1, it is refused; 2, the command line is refused;
+3, the output failed or memory ran out.";
+
+pub(crate) const MARKER: &str = "\
+Example:
+  $ pylock marker 'os_name == \"posix\"' env.json
+  true
+
+Prints true or false, with no extra and no group asked for; or fault, TAB and
+one of the codes marker-unset, marker-extra, marker-undefined and
+marker-number, which the help of explain tells; or refused, TAB and one of the
+words too-deep, syntax and set-misuse; or the refusal of the environment, as
+select does.
+
+Status: 0, an answer; 1, a fault or a refused text; 2, the environment or the
+command line is refused; 3, a file can't be read, the output failed or memory
+ran out.";
+
+pub(crate) const REQUIREMENT: &str = "\
+Example, with spaces for the TABs:
+  $ pylock requirement 'requests[security] >= 2.8.1'
+  requests  security  >=2.8.1  -  -
+
+Prints name, extras, specifier set, URL and marker, with TAB between two; an
+absent part is -. Or prints refused, TAB and one of the words name, extras,
+specifier, url, marker and trailing.
+
+Status: 0, it is a requirement; 1, it is refused; 2, the command line is
+refused; 3, the output failed or memory ran out.";
+
+pub(crate) const WHEEL: &str = "\
+Example, with spaces for the TABs:
+  $ pylock wheel numpy-2.2.1-cp312-cp312-win_amd64.whl
+  numpy  2.2.1  -  cp312-cp312-win_amd64
+
+Prints name, version, build and tags, with TAB between two; an absent build is
+-. Or prints refused, TAB and one of the words extension, parts, name, version,
+build and tags.
+
+Status: 0, it is the name of a wheel; 1, it is refused; 2, the command line is
+refused; 3, the output failed or memory ran out.";
