@@ -1,4 +1,6 @@
-//! How the file name of an sdist or a wheel is shown.
+//! How the file name of an sdist or a wheel is shown. The rule looks at where the name comes from
+//! and not at what it says: behind the last `@`, also where the URL has a path with an `@`. What is
+//! compared and tested is the file name as the steps see it.
 
 ghost use Rattle.std.specs.Prelude.{◌≡◌, IfOk, is_some, option_and_then, option_map};
 ghost use Rattle.std.specs.Prelude.{string_bytes};

@@ -1,4 +1,5 @@
-//! What one source of an entry gives to each kind of finding.
+//! What one source of an entry gives to each kind of finding. Findings of one source at a time are
+//! one list over the sources, by the kind of finding.
 
 ghost use Rattle.std.specs.Prelude.{◌≡◌, ◌++◌, ◌∷◌, ◌&&◌, [], IfOk, OnOk, codes, map, not};
 ghost use Rattle.std.specs.Prelude.{option_map, string_bytes};

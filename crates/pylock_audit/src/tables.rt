@@ -1,4 +1,6 @@
-//! What the tables of entries give by themselves, before the document becomes a lock.
+//! What the tables of entries give by themselves, before the document becomes a lock. The reading
+//! of a lock moves its strings out; unknown keys and names as they are written stand in the
+//! document alone.
 
 ghost use Rattle.std.specs.Prelude.{◌≡◌, ◌++◌, IfOk, OnOk, map, option_and_then, option_map};
 ghost use Rattle.std.specs.Prelude.{string_bytes};

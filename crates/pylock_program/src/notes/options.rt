@@ -1,4 +1,5 @@
-//! What a person is told of options.
+//! What a person is told of options. Notes come in the order of the options, that on
+//! `python_version` last; an option that is refused is the only line.
 
 use crate::choices::{option_words, split_at_equals};
 use crate::notes::{tell, tell_if_made};

@@ -1,4 +1,6 @@
-//! The entries of a lock, one after the other (PEP 751, `packages`).
+//! The entries of a lock, one after the other (PEP 751, `packages`). Each table is freed as soon as
+//! its entry is read, so that its memory serves the next one's strings.
+
 ghost use Rattle.std.specs.Prelude.{◌≡◌, ◌≤◌, IfOk, OnOk, length, option_map, vec_len};
 ghost use Rattle.toml.specs.View.{view, items_view};
 ghost use Rattle.pytext.specs.Agreement.{Gives};

@@ -1,4 +1,6 @@
-//! What becomes of each entry, over the rows of a session.
+//! What becomes of each entry, over the rows of a session. An entry is ambiguous just where the
+//! first active entry of its name is another one, so no list of the names before it is carried
+//! along.
 
 ghost use Rattle.std.specs.Prelude.{◌≡◌, ◌<◌, ◌∷◌, [], ℕ, None, IfOk, length, slice_index_or};
 ghost use Rattle.pylock_core.specs.Inner.Answering.Fates.{first_active_row, row_fate, row_fates};

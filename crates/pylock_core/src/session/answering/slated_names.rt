@@ -1,4 +1,6 @@
-//! Which names are slated, by their numbers.
+//! Which names are slated, by their numbers. Stamps serve up to eight names for an entry, or 1,024
+//! in all where that is more; beyond that the numbers stand in an ordered set, so that lines which
+//! bring ever new names don't make answers slow.
 
 ghost use Rattle.std.specs.Prelude.{◌≡◌, ◌<◌, ◌||◌, ℕ, false, nat_eq, IfOk, OnOk};
 ghost use Rattle.pylock_core.specs.Inner.Answering.SlatedNames.{HasPlace, is_slated};

@@ -1,4 +1,6 @@
-//! The installation steps over the rows of a session (PEP 751, "Installation", steps 5 and 6).
+//! The installation steps over the rows of a session (PEP 751, "Installation", steps 5 and 6). It
+//! goes over the numbers of the entries that stand, so a session from which many were taken answers
+//! as fast as a new one. Step 5 makes no pick: where it has a fault, no memory is taken for a plan.
 
 ghost use Rattle.std.specs.Prelude.{◌≡◌, ℕ, [], length, false, IfOk, OnOk};
 ghost use Rattle.std.specs.Option.{option_copied};

@@ -1,4 +1,6 @@
-//! The best wheels of entries by a new list of tags, in which each tag set is ranked once.
+//! The best wheels of entries by a new list of tags, in which each tag set is ranked once. A start,
+//! an entry that comes in and a policy judge by `choose`: they judge one entry at a time, or
+//! everything once. Ranks live as long as the edit, so a refused one has nothing to undo.
 
 ghost use Rattle.std.specs.Prelude.{◌≡◌, ◌⊎◌, ℕ, ◌<◌, Option, Some, None, IfOk, IfSome, length};
 ghost use Rattle.std.specs.Prelude.{option_map, slice_index_or};

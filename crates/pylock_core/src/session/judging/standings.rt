@@ -1,4 +1,7 @@
-//! What an edit has found so far of how entries stand, by the numbers of their conditions.
+//! What an edit has found so far of how entries stand, by the numbers of their conditions. Of more
+//! conditions than places, two that share one are judged in turn, once for each change from the one
+//! to the other. The mix has no key: who chooses markers that share places loses what numbers gain,
+//! and no more.
 
 ghost use Rattle.std.specs.Prelude.{◌≡◌, ◌⊎◌, ℕ, Option, Some, None, IfOk, IfSome, slice_index_or};
 ghost use Rattle.pylock_core.specs.Inner.Judging.Standings.{IsFound};

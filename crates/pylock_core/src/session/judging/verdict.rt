@@ -1,4 +1,6 @@
-//! Verdicts on entries and on the head, which a session keeps. They are made here alone.
+//! Verdicts on entries and on the head, which a session keeps. They are made here alone. A verdict
+//! has private fields and no copy, and each that is made puts its number on the list of what was
+//! judged.
 
 ghost use Rattle.std.specs.Prelude.{◌≡◌, ◌<◌, ◌-◌, ◌++◌, ◌∷◌, [], None, IfOk, OnOk, length, IsSome};
 ghost use Rattle.std.specs.Prelude.{slice_index_or};

@@ -5,6 +5,9 @@
 //! Nothing is kept of a condition but its number: that an entry which comes in has the condition of
 //! another is seen by a look at a few that came in before. Where it isn't seen, the entry gets a
 //! number of its own, and is judged for itself.
+//!
+//! Markers are compared up to 512 bytes and sets up to 256, since a look at a text that another
+//! party chose costs an entry no more than a constant.
 
 ghost use Rattle.std.specs.Prelude.{◌≡◌, ◌≤◌, IfOk, IfSome, IsTrue};
 ghost use Rattle.std.specs.Option.{option_copied};

@@ -1,4 +1,6 @@
-//! The index of a session: for each key the numbers of what reads it.
+//! The index of a session: for each key the numbers of what reads it. The keys are asked by calls
+//! that are written out: array functions over 14 elements take over a hundred seconds to prove, and
+//! a loop needs a table as long as the calls.
 
 ghost use Rattle.std.specs.Prelude.{◌≡◌, ℕ, ◌<◌, false, [], IfOk, IsTrue, OnOk, length, map};
 ghost use Rattle.std.specs.Prelude.{replicate, slice_index_or, vec_len, vec_capacity};

@@ -1,4 +1,6 @@
-//! The names of a session: each has a number, and by the number its policy and its entries.
+//! The names of a session: each has a number, and by the number its policy and its entries. Numbers
+//! are found by an ordered table, so that no lock makes it slow. A name keeps its number when no
+//! entry has it any more.
 
 ghost use Rattle.std.specs.Prelude.{◌≡◌, ℕ, ◌+◌, ◌<◌, nat_eq, not, List, [], Some, None, IfOk};
 ghost use Rattle.std.specs.Prelude.{IfSome, OnOk, OnErr, IsSome, IsTrue, length, slice_set};

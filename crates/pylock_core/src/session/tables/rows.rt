@@ -1,4 +1,6 @@
-//! What an answer looks at: one small flat row for each entry.
+//! What an answer looks at: one small flat row for each entry. Rows stand at their numbers, which
+//! are never used again: an edit finds its row by index, and taking an entry out moves no row and
+//! takes no memory. An answer touches no text of an entry until it prints.
 
 ghost use Rattle.std.specs.Prelude.{◌≡◌, ◌<◌, None, length, slice_index_or, slice_set};
 ghost use Rattle.pylock_core.specs.Inner.Tables.Rows.{AllWithin, row_source};

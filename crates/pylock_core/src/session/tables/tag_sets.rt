@@ -1,5 +1,6 @@
 //! The compressed tag sets of a session's wheels. Equal ones have one number, so that a new list of
-//! tags ranks each of them once, whatever wheels have it.
+//! tags ranks each of them once, whatever wheels have it. Numbers are given by an ordered table
+//! over the text in lower case, so that no lock makes it slow.
 
 ghost use Rattle.std.specs.Prelude.{◌≡◌, ◌<◌, ◌++◌, ◌∷◌, [], Some, IfOk, OnOk, length, slice_set};
 ghost use Rattle.std.specs.BTreeMap.{btree_map_len};
