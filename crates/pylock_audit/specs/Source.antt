@@ -1,5 +1,5 @@
 -- What one source of an entry gives to each kind of finding.
-use Rattle.std.specs.Prelude.{ℕ, Bool, false, ◌==◌, ◌+◌, ◌&&◌, ◌||◌, ◌++◌, not, codes}
+use Rattle.std.specs.Prelude.{ℕ, Bool, false, ◌==◌, ◌&&◌, ◌||◌, ◌++◌, not, codes}
 use Rattle.std.specs.Prelude.{List, [], ◌∷◌, filter, length, map, Option, Some, None, unwrap_or}
 use Rattle.std.specs.Prelude.{if◌then◌else◌}
 use Rattle.std.specs.Int.{is_in_range}

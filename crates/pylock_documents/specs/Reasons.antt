@@ -22,7 +22,6 @@ use Rattle.pylock_core.specs.declared.answer.FaultCode.TheVariants as fault
 use Rattle.pylock_core.specs.declared.answer.PickSource.{PickSource}
 use Rattle.pylock_core.specs.declared.answer.PickSource.TheVariants as source
 use Rattle.pylock_core.specs.declared.edit.Policy.{Policy}
-use Rattle.pylock_core.specs.declared.edit.Policy.TheVariants as policy
 use Rattle.pylock_core.specs.declared.fate.Fate.{Fate}
 use Rattle.pylock_core.specs.declared.fate.Fate.TheVariants as fate
 use Rattle.pylock_readers.specs.Entry.Kinds.{kinds_text}

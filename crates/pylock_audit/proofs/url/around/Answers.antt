@@ -1,4 +1,3 @@
-use Rattle.std.proofs.Common.{arith}
 use Rattle.pywheel_core.proofs.Lemmas.Texts.Cuts.{split_once_is}
 use Rattle.pylock_audit.proofs.url.around.Goals as goal
 
