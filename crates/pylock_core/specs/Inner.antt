@@ -1,13 +1,6 @@
 -- What serves the contracts of private functions alone.
-pub mod Again
-pub mod Conditions
-pub mod Edits
-pub mod Fates
-pub mod Found
-pub mod Index
-pub mod Names
+pub mod Answering
+pub mod Editing
+pub mod Judging
 pub mod Parts
-pub mod Pass
-pub mod Rows
-pub mod Slated
-pub mod TagSets
+pub mod Tables

@@ -1,8 +1,7 @@
 -- The words of what becomes of an entry, and of what stands in its way.
-use Rattle.std.specs.Prelude.{ℕ, List, [], codes}
-use Rattle.std.specs.Prelude.{if◌then◌else◌}
+use Rattle.std.specs.Prelude.{ℕ, List, [], codes, if◌then◌else◌}
 use Rattle.std.specs.Option.{option_map_or}
-use Rattle.pylock_readers.specs.Entry.{EntryValue}
+use Rattle.pylock_readers.specs.Entry.{EntryValue, DirectoryValue}
 use Rattle.pylock_core.specs.declared.answer.FaultCode.{FaultCode}
 use Rattle.pylock_core.specs.declared.answer.FaultCode.TheVariants as fault
 use Rattle.pylock_core.specs.declared.answer.PickSource.{PickSource}
@@ -11,7 +10,6 @@ use Rattle.pylock_core.specs.declared.edit.Policy.{Policy}
 use Rattle.pylock_core.specs.declared.edit.Policy.TheVariants as policy
 use Rattle.pylock_core.specs.declared.fate.Fate.{Fate}
 use Rattle.pylock_core.specs.declared.fate.Fate.TheVariants as fate
-use Rattle.pylock_readers.specs.Entry.{DirectoryValue}
 
 abbrev pub fault_word : FaultCode → List ℕ
 fault_word fault.PythonUnknown = codes "python-unknown"

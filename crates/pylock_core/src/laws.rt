@@ -86,7 +86,7 @@ pub fn answers_are_never_out_of_memory()
 
 /// What becomes of each entry gives the answer: the head's fault; else the first fault of step 5
 /// that an entry has; else the first entry without a file; else the plan of all that is picked.
-#[tactic(auto, using(crate::proofs::FateLaw::fates_give))]
+#[tactic(auto, using(crate::proofs::Lemmas::Laws::fates_give))]
 pub fn fates_give()
     ensures { (state : State) → NumbersRise state → answer state ≡ explained_answer state }
 {}

@@ -1,24 +1,11 @@
 //! A session: the entries of a lock, edited and answered again.
 
-pub(crate) mod changes;
-pub(crate) mod conditions;
-pub(crate) mod edits;
-pub(crate) mod entries;
-pub(crate) mod fates;
-pub(crate) mod found;
-pub(crate) mod index;
-pub(crate) mod judged;
-pub(crate) mod judgement;
-pub(crate) mod names;
+pub(crate) mod answering;
+pub(crate) mod editing;
+pub(crate) mod judging;
 pub(crate) mod parts;
-pub(crate) mod pass;
-pub(crate) mod ranks;
-pub(crate) mod room;
-pub(crate) mod row;
-pub(crate) mod slated;
-pub(crate) mod start;
-pub(crate) mod tag_sets;
-pub(crate) mod verdict;
+pub(crate) mod start_and_edit;
+pub(crate) mod tables;
 
 ghost use Rattle.std.specs.Prelude.{◌≡◌, Ok, Err, IfOk, IfErr, OnOk, IsTrue, length};
 ghost use Rattle.std.specs.Option.{option_copied};
@@ -33,9 +20,11 @@ ghost use Rattle.pylock_core.specs.declared.edit.EditError.TheVariants.{Memory};
 use crate::answer::{Answer, FaultCode};
 use crate::edit::{Edit, EditError};
 use crate::fate::Fate;
-use crate::session::entries::entry_in;
-use crate::session::judged::{edit_parts, start};
-use crate::session::parts::{Parts, answer, fates};
+use crate::session::answering::fates::fates;
+use crate::session::answering::steps::answer;
+use crate::session::editing::entries::entry_in;
+use crate::session::parts::Parts;
+use crate::session::start_and_edit::{edit_parts, start_parts};
 use pylock_readers::{Entry, Head, Lock};
 use pymark_core::Environment;
 use pywheel_core::TagList;
@@ -99,7 +88,7 @@ impl Session {
         ensures judged { IfOk result (λ session. session.judged ≡ all_numbers session.state) }
         ensures rising { IfOk result (λ session. NumbersRise session.state) }
     {
-        let parts = start(alloc, lock, environment, tags)?;
+        let parts = start_parts(alloc, lock, environment, tags)?;
         Ok(Session { parts })
     }
 

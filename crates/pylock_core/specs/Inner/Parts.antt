@@ -1,28 +1,27 @@
 -- The parts of a session, and how they belong together.
-use Rattle.std.specs.Prelude.{◌≡◌, ℕ, ◌≤◌, true, List, [], ◌∷◌, map, length, Option, Some, None}
-use Rattle.std.specs.Prelude.{is_some}
+use Rattle.std.specs.Prelude.{◌≡◌, ℕ, ◌≤◌, true, List, ◌∷◌, map, length, Option, Some, None}
+use Rattle.std.specs.Prelude.{is_some, []}
 use Rattle.std.specs.Global.{Global}
 use Rattle.std.specs.Str.{bytes_eq}
 use Rattle.std.specs.declared.vec.Vec.{Vec}
 use Rattle.pymark_core.specs.Environment.{EnvironmentValue}
 use Rattle.pywheel_core.specs.Tag.{TagValue}
 use Rattle.pylock_readers.specs.Entry.{EntryValue}
-use Rattle.pylock_core.specs.Inner.Conditions.{Condition, HasNumber, IsUnder}
-use Rattle.pylock_core.specs.Inner.Names.{IsNames, members_named, number_named, policies_in}
-use Rattle.pylock_core.specs.Inner.Names.{policy_at}
-use Rattle.pylock_core.specs.Inner.Rows.{in_rows}
-use Rattle.pylock_core.specs.Inner.TagSets.{AreSets}
+use Rattle.pylock_core.specs.Inner.Tables.Conditions.{Condition, HasNumber, IsUnder}
+use Rattle.pylock_core.specs.Inner.Tables.Names.{IsNames, members_named, number_named, policies_in}
+use Rattle.pylock_core.specs.Inner.Tables.Names.{policy_at}
+use Rattle.pylock_core.specs.Session.State.{in_rows, State}
+use Rattle.pylock_core.specs.Inner.Tables.TagSets.{AreSets}
 use Rattle.pylock_core.specs.Session.Judgement.{SessionValue, VerdictValue, and_head, entry_reads}
 use Rattle.pylock_core.specs.Session.Judgement.{head_reads, keys, numbers_where, verdict_of}
 use Rattle.pylock_readers.specs.Lock.{HeadValue}
-use Rattle.pylock_core.specs.Session.State.{State}
 use Rattle.pylock_core.specs.Session.Steps.{head_fault}
-use Rattle.pylock_readers.specs.Entry.Kinds.{is_any}
+use Rattle.pylock_readers.specs.Entry.Kinds.{has_conflict}
 use Rattle.pylock_core.specs.declared.edit.Policy.{Policy}
-use Rattle.pylock_core.specs.declared.session.names.Names.{Names}
+use Rattle.pylock_core.specs.declared.session.tables.names.Names.{Names}
 use Rattle.pylock_core.specs.declared.session.parts.Parts.{Parts}
-use Rattle.pylock_core.specs.declared.session.row.Row.{Row}
-use Rattle.pylock_core.specs.declared.session.row.SourceKinds.{SourceKinds}
+use Rattle.pylock_core.specs.declared.session.tables.rows.Row.{Row}
+use Rattle.pylock_core.specs.declared.session.tables.rows.SourceKinds.{SourceKinds}
 
 -- ---- what the parts show
 
@@ -59,7 +58,7 @@ sources_of entry = record {
   directory = is_some entry.directory;
   archive = is_some entry.archive;
   sdist = is_some entry.sdist;
-  wheels = is_any entry.wheels;
+  conflict = has_conflict entry;
 }
 
 -- the name and the sources of an entry, which no judgement changes

@@ -1,7 +1,7 @@
 -- What becomes of each entry, judged for itself, and of the head: all faults at once, and not the
 -- first alone.
-use Rattle.std.specs.Prelude.{ℕ, ◌==◌, ◌&&◌, Bool, true, false, List, [], ◌∷◌, map}
-use Rattle.std.specs.Prelude.{Option, Some, None, option_map, Result, Ok, Err, if◌then◌else◌}
+use Rattle.std.specs.Prelude.{ℕ, ◌==◌, ◌&&◌, Bool, true, false, List, [], ◌∷◌, map, Option, Some}
+use Rattle.std.specs.Prelude.{None, option_map, Result, Ok, Err, if◌then◌else◌}
 use Rattle.std.specs.Option.{option_map_or}
 use Rattle.std.specs.Str.{bytes_eq}
 use Rattle.pytext.specs.Options.{either}
@@ -9,9 +9,8 @@ use Rattle.pymark_core.specs.Environment.{EnvironmentValue}
 use Rattle.pylock_readers.specs.Entry.{EntryValue}
 use Rattle.pylock_core.specs.Session.State.{State, policy_of}
 use Rattle.pylock_core.specs.Session.Steps.{FirstFault, answer_after, answer_by, by_standing}
-use Rattle.pylock_core.specs.Session.Steps.{head_fault, pick_before, source_of}
+use Rattle.pylock_core.specs.Session.Steps.{head_fault, pick_before, source_of, standing}
 use Rattle.pylock_readers.specs.Entry.Kinds.{has_conflict}
-use Rattle.pylock_core.specs.Session.Steps.{standing}
 use Rattle.pylock_core.specs.declared.answer.Answer.{Answer}
 use Rattle.pylock_core.specs.declared.answer.FaultCode.{FaultCode}
 use Rattle.pylock_core.specs.declared.answer.FaultCode.TheVariants as code

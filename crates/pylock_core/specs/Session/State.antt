@@ -1,9 +1,7 @@
 -- The state of a session, and what an edit makes of it.
-use Rattle.std.specs.Prelude.{ℕ, ◌+◌, ◌≤◌, Bool, true, false, not, ◌==◌, ◌||◌, nat_lt}
-use Rattle.std.specs.Prelude.{List, [], ◌∷◌}
-use Rattle.std.specs.Prelude.{◌++◌, map}
-use Rattle.std.specs.Prelude.{length, filter, Option, Some, None, is_some, unwrap_or, Result, Ok}
-use Rattle.std.specs.Prelude.{Err, if◌then◌else◌}
+use Rattle.std.specs.Prelude.{ℕ, ◌+◌, ◌≤◌, Bool, true, false, not, ◌==◌, ◌||◌, nat_lt, List, []}
+use Rattle.std.specs.Prelude.{◌∷◌, ◌++◌, map, length, filter, Option, Some, None, is_some}
+use Rattle.std.specs.Prelude.{unwrap_or, Result, Ok, Err, if◌then◌else◌}
 use Rattle.std.specs.Cmp.Lexicographic.{slice_cmp}
 use Rattle.std.specs.FinMap as map_of
 use Rattle.std.specs.FinSet as set
@@ -50,14 +48,14 @@ abbrev pub NumbersRise : State → Type 0
 NumbersRise state = Rises 1 (map (λ e. e.0) state.entries)
 
 -- the environment in which these groups are asked for beside those that were
-abbrev pub asking_for : List (List ℕ) → EnvironmentValue → EnvironmentValue
-asking_for [] environment = environment
-asking_for (group ∷ groups) environment = asking_for groups (with_group group environment)
+abbrev pub with_groups : List (List ℕ) → EnvironmentValue → EnvironmentValue
+with_groups [] environment = environment
+with_groups (group ∷ groups) environment = with_groups groups (with_group group environment)
 
 -- the environment with no extra asked for, and of the groups these
-abbrev pub asking : List (List ℕ) → EnvironmentValue → EnvironmentValue
-asking groups environment =
-    asking_for groups (record environment { extras = set.empty; groups = set.empty })
+abbrev pub asked_environment : List (List ℕ) → EnvironmentValue → EnvironmentValue
+asked_environment groups environment =
+    with_groups groups (record environment { extras = set.empty; groups = set.empty })
 
 -- the state at the start: the entries of the lock have the numbers 1, 2, .., no extra is asked for,
 -- and of the groups those that the lock names as the default
@@ -66,7 +64,7 @@ first lock environment tags = record {
   head = lock.head;
   entries = enumerate_from 1 lock.entries;
   last = length lock.entries;
-  environment = asking lock.head.default_groups environment;
+  environment = asked_environment lock.head.default_groups environment;
   tags = tags;
   policies = map_of.empty;
 }

@@ -1,21 +1,17 @@
-//! The parts of a session, and the answer that they give.
+//! The parts of a session, and those of one that has no entry.
 
-ghost use Rattle.std.specs.Prelude.{◌≡◌, IfOk};
+ghost use Rattle.std.specs.Prelude.{◌≡◌, ◌++◌, ◌∷◌, [], IfOk, map, string_bytes};
+ghost use Rattle.std.specs.FinMap as map_of;
 ghost use Rattle.pylock_core.specs.Inner.Parts.{IsSession, state_of};
-ghost use Rattle.pylock_core.specs.Session.Fates.{fates};
-ghost use Rattle.pylock_core.specs.Session.Steps.{answer};
+ghost use Rattle.pylock_core.specs.Session.State.{asked_environment};
 
-use crate::answer::Answer;
-use crate::fate::Fate;
-use crate::session::conditions::Conditions;
-use crate::session::fates::fates_of;
-use crate::session::index::Lists;
-use crate::session::judged::Judged;
-use crate::session::names::Names;
-use crate::session::pass::answer_of;
-use crate::session::row::Row;
-use crate::session::tag_sets::TagSets;
-use crate::session::verdict::HeadVerdict;
+use crate::session::judging::verdict::HeadVerdict;
+use crate::session::start_and_edit::Judged;
+use crate::session::tables::conditions::Conditions;
+use crate::session::tables::index::{KeyLists, head_index};
+use crate::session::tables::names::Names;
+use crate::session::tables::rows::Row;
+use crate::session::tables::tag_sets::TagSets;
 use pylock_readers::{Entry, Head};
 use pymark_core::Environment;
 use pywheel_core::TagList;
@@ -29,7 +25,7 @@ pub(crate) struct Parts {
     /// The numbers of the entries that stand, in increasing order.
     pub(crate) living: Vec<u32>,
     /// The numbers of what reads each key, 0 for the head.
-    pub(crate) index: Lists,
+    pub(crate) index: KeyLists,
     /// The row of the entry of number k stands at place k - 1.
     pub(crate) rows: Vec<Option<Row>>,
     pub(crate) names: Names,
@@ -64,31 +60,66 @@ impl Drop for Parts {
     }
 }
 
-/// The answer of the installation steps.
-pub(crate) fn answer(parts: &Parts) -> Result<Answer, AllocError>
-    requires { IsSession parts.now }
-    ensures { IfOk result (λ found. found ≡ answer (state_of parts.now)) }
-{
-    if let Some(code) = parts.head_verdict.fault() {
-        return Ok(Answer::Fault { id: 0, code });
+impl Parts {
+    /// The parts of a session that has no entry, with room for so many. The head is judged, and its
+    /// number goes onto the list.
+    pub(crate) fn without_entries(
+        alloc: Global,
+        head: Head,
+        environment: Environment,
+        tags: TagList,
+        room: usize,
+        mut judged: Judged,
+    ) -> Result<Parts, AllocError>
+        ensures session { IfOk result (λ parts. IsSession parts) }
+        ensures state { IfOk result (λ parts. state_of parts ≡ record {
+          head = head;
+          entries = [];
+          last = 0;
+          environment = asked_environment head.default_groups environment;
+          tags = tags;
+          policies = map_of.empty;
+        }) }
+        ensures judged { IfOk result (λ parts. parts.judged ≡ judged ++ 0 ∷ []) }
+    {
+        let environment = asked_environment(environment, head.default_groups().as_slice())?;
+        let head_verdict = HeadVerdict::new(alloc, &head, &environment, &mut judged)?;
+        let living = Vec::with_capacity(alloc, room)?;
+        let rows = Vec::with_capacity(alloc, room)?;
+        let names = Names::with_capacity(alloc, room)?;
+        let sets = TagSets::with_capacity(alloc, room)?;
+        let entries = Vec::with_capacity(alloc, room)?;
+        let index = head_index(alloc, &head)?;
+        let conditions = Conditions::none(alloc)?;
+        Ok(Parts {
+            alloc,
+            judged,
+            living,
+            index,
+            rows,
+            names,
+            sets,
+            conditions,
+            head,
+            head_verdict,
+            environment,
+            tags,
+            entries,
+        })
     }
-    answer_of(
-        parts.alloc,
-        parts.living.as_slice(),
-        parts.rows.as_slice(),
-        parts.names.policies.as_slice(),
-    )
 }
 
-/// What becomes of each entry, with its number.
-pub(crate) fn fates(parts: &Parts) -> Result<Vec<(u32, Fate)>, AllocError>
-    requires { IsSession parts.now }
-    ensures { IfOk result (λ found. found.items ≡ fates (state_of parts.now)) }
+/// The environment with no extra asked for, and of the groups these.
+fn asked_environment(
+    mut environment: Environment,
+    groups: &[String],
+) -> Result<Environment, AllocError>
+    ensures { IfOk result (λ asked.
+        asked ≡ asked_environment (map string_bytes groups.now) environment) }
 {
-    fates_of(
-        parts.alloc,
-        parts.living.as_slice(),
-        parts.rows.as_slice(),
-        parts.names.policies.as_slice(),
-    )
+    environment.ask_nothing();
+    for group in groups {
+        environment.add_group(group.as_str())?;
+    }
+    Ok(environment)
 }

@@ -1,4 +1,4 @@
-use Rattle.pylock_core.proofs.VerdictLemmas.{entry_same}
+use Rattle.pylock_core.proofs.Lemmas.Judging.Verdict.{entry_same}
 use Rattle.pylock_core.proofs.laws.entry_reads.Goals as goal
 
 pub returns : goal.returns

@@ -1,4 +1,4 @@
-use Rattle.pylock_core.proofs.AnswerLemmas.{fault_is}
+use Rattle.pylock_core.proofs.Lemmas.Laws.{fault_is}
 use Rattle.pylock_core.proofs.laws.fault_stands.Goals as goal
 
 pub returns : goal.returns

@@ -1,4 +1,4 @@
-use Rattle.pylock_core.proofs.VerdictLemmas.{head_same}
+use Rattle.pylock_core.proofs.Lemmas.Judging.Verdict.{head_same}
 use Rattle.pylock_core.proofs.laws.head_reads.Goals as goal
 
 pub returns : goal.returns

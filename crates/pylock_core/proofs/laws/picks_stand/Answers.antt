@@ -1,4 +1,4 @@
-use Rattle.pylock_core.proofs.AnswerLemmas.{plan_stands}
+use Rattle.pylock_core.proofs.Lemmas.Laws.{plan_stands}
 use Rattle.pylock_core.proofs.laws.picks_stand.Goals as goal
 
 pub returns : goal.returns

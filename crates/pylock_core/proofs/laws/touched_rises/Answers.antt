@@ -1,4 +1,4 @@
-use Rattle.pylock_core.proofs.ReaderLemmas.{touched_rises}
+use Rattle.pylock_core.proofs.Lemmas.Tables.Index.{touched_rises}
 use Rattle.pylock_core.proofs.laws.touched_rises.Goals as goal
 
 pub returns : goal.returns

@@ -1,5 +1,5 @@
-use Rattle.pylock_core.proofs.KeptLemmas.{verdicts_kept}
-use Rattle.pylock_core.proofs.ReaderLemmas.{numbers_rise}
+use Rattle.pylock_core.proofs.Lemmas.Session.{verdicts_kept}
+use Rattle.pylock_core.proofs.Lemmas.Tables.Index.{numbers_rise}
 use Rattle.pylock_core.proofs.session.Session.edit.Goals as goal
 
 pub returns-in_err-edit_parts-clause-verdicts : goal.returns-in_err-edit_parts-clause-verdicts

@@ -1,5 +1,5 @@
-use Rattle.pylock_core.proofs.KeptLemmas.{verdicts_kept}
-use Rattle.pylock_core.proofs.ReaderLemmas.{numbers_rise}
+use Rattle.pylock_core.proofs.Lemmas.Session.{verdicts_kept}
+use Rattle.pylock_core.proofs.Lemmas.Tables.Index.{numbers_rise}
 use Rattle.pylock_core.proofs.session.Session.start.Goals as goal
 
 pub returns-clause-verdicts : goal.returns-clause-verdicts

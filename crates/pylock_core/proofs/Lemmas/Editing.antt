@@ -1,0 +1,2 @@
+-- The edits of a session.
+pub mod Entries

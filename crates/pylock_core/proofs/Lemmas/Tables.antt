@@ -1,0 +1,7 @@
+-- What a session keeps of its entries.
+pub mod Conditions
+pub mod Index
+pub mod Names
+pub mod Room
+pub mod Rows
+pub mod TagSets

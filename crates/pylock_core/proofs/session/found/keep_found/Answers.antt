@@ -1,5 +1,0 @@
-use Rattle.pylock_core.proofs.FoundLemmas.{found_put}
-use Rattle.pylock_core.proofs.session.found.keep_found.Goals as goal
-
-pub returns-then-place-len : goal.returns-then-place-len
-returns-then-place-len c = found_put c.args.found.now.items _ _

@@ -1,0 +1,10 @@
+use Rattle.std.proofs.Common.{◌≡◌, length}
+use Rattle.pylock_core.specs.Inner.Tables.Rows.{AllWithin, with_standings}
+use Rattle.pylock_core.proofs.session.tables.rows.put_standings.Given as goal
+
+-- the standings that are left are to be put at their places
+abbrev pub invariant-loop-place : goal.invariant-loop-place
+invariant-loop-place l = record {
+  whole : with_standings l.place-iterator.rest.items l.rows.items ≡ with_standings l.fn.fresh.items l.fn.rows.items;
+  within : AllWithin (length l.rows.items) l.place-iterator.rest.items;
+}

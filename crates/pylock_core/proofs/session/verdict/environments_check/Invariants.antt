@@ -1,7 +1,0 @@
-use Rattle.std.proofs.Common.{◌≡◌, drop}
-use Rattle.pylock_core.specs.Session.Steps.{first_true}
-use Rattle.pylock_core.proofs.session.verdict.environments_check.Given as goal
-
--- the markers that are left decide
-abbrev pub invariant-loop-marker : goal.invariant-loop-marker
-invariant-loop-marker l = first_true (drop l.marker-index l.markers) l.environment ≡ first_true l.markers l.environment

@@ -1,0 +1,4 @@
+-- The answer of a session, and what becomes of each entry.
+pub mod Fates
+pub mod SlatedNames
+pub mod Steps

@@ -1,0 +1,6 @@
+//! The edits of a session.
+
+pub(crate) mod entries;
+pub(crate) mod environment;
+pub(crate) mod policies;
+pub(crate) mod tags;
