@@ -15,7 +15,7 @@ ghost use Rattle.pylock_c.specs.Answer.{Tells};
 ghost use Rattle.pylock_c.specs.Edits.{change_command, entry_command, named_change};
 ghost use Rattle.pylock_c.specs.Edits.{policy_command, set_change, tags_command, unset_change};
 ghost use Rattle.pylock_c.specs.Opening.{Opens};
-ghost use Rattle.pylock_c.specs.Sessions.{Counts, session_after, obeyed_in, started};
+ghost use Rattle.pylock_c.specs.Sessions.{Counts, obeyed_in, session_after, started};
 ghost use Rattle.pylock_c.specs.Slot.{object};
 ghost use Rattle.pylock_c.specs.declared.object.Object.{Object as Kind};
 ghost use Rattle.pylock_c.specs.declared.refusal.Refusal.{Refusal as Refused};

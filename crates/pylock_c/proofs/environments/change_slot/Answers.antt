@@ -1,5 +1,5 @@
 -- What is taken out of the slot is what it had, and what is put back is what it has.
-use Rattle.std.proofs.Common.{rules, refl, ◌≡◌}
+use Rattle.std.proofs.Common.{◌≡◌, refl, rules}
 use Rattle.std.specs.Prelude.{None, Some}
 use Rattle.pylock_c.specs.Environments.{changed_in}
 use Rattle.pylock_c.specs.Slot.{object}
