@@ -4,6 +4,7 @@ use Rattle.std.specs.Prelude.{ℕ, if◌then◌else◌, List, Result, Ok, Err, o
 use Rattle.pyver_core.specs.Version.Grammar.{has_large, numbers}
 use Rattle.pyver_core.specs.Version.Parts.{Parts}
 use Rattle.pyver_core.specs.Version.Reading.{version_of}
+use Rattle.pytext.specs.Results.{◌>>=◌}
 use Rattle.pyver_core.specs.Set.Grammar.{set_numbers, specifier_numbers}
 use Rattle.pyver_core.specs.Set.Reading.{operand_of, set_of, specifier_of}
 use Rattle.pyver_core.specs.declared.set.error.SpecifierError.{SpecifierError}

@@ -2,6 +2,7 @@
 use Rattle.std.specs.Prelude.{ℕ, Bool, false, ◌==◌, ◌&&◌, ◌||◌, if◌then◌else◌, List, [], ◌∷◌}
 use Rattle.std.specs.Prelude.{Option, Some, None, is_none, option_map}
 use Rattle.std.specs.List.{slice_split}
+use Rattle.pytext.specs.Options.{◌>>=◌}
 
 -- one more byte before what stands before the cut
 abbrev pub before_cut : ℕ → List ℕ × List ℕ → List ℕ × List ℕ

@@ -1,7 +1,7 @@
 -- The parts of a wheel's name (PEP 427, "File name convention").
 use Rattle.std.specs.Prelude.{ℕ, ◌-◌, bytes_eq, if◌then◌else◌, List, length, take, drop, codes}
 use Rattle.std.specs.Prelude.{Option, Some, None, is_some}
-use Rattle.pytext.specs.Options.{either}
+use Rattle.pytext.specs.Options.{◌>>=◌, either}
 use Rattle.pywheel_core.specs.Texts.{cut_at, three_parts}
 
 -- the parts as written; `tag_set` is the last three, with `-` between them

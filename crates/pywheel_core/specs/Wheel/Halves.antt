@@ -2,6 +2,7 @@
 -- and the version, each with `-` after it; and its end, which is what stands after them.
 use Rattle.std.specs.Prelude.{◌≡◌, ℕ, List, ◌++◌, Option, ok_or, Result, Ok, string_bytes}
 use Rattle.std.specs.Rc.{rc_str_bytes}
+use Rattle.pytext.specs.Results.{◌>>=◌}
 use Rattle.pywheel_core.specs.Tag.{TagValue}
 use Rattle.pywheel_core.specs.Wheel.Cut.{end_of, stem_of}
 use Rattle.pywheel_core.specs.Wheel.Reading.{build_in, tag_set_in, wheel_of}

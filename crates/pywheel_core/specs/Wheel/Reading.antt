@@ -4,6 +4,7 @@
 use Rattle.std.specs.Prelude.{ℕ, if◌then◌else◌, List, Option, Some, None, ok_or, Result, Ok, Err}
 use Rattle.std.specs.Str.{str_to_ascii_lowercase}
 use Rattle.pyver_core.specs.Version.Parts.{Parts}
+use Rattle.pytext.specs.Results.{◌>>=◌}
 use Rattle.pyver_core.specs.declared.version.error.VersionError.{VersionError}
 use Rattle.pyver_core.specs.Parsed.{parsed_version}
 use Rattle.pywheel_core.specs.Tag.{TagValue, is_tag_set, tags_in}
