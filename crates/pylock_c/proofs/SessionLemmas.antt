@@ -7,9 +7,8 @@ use Rattle.pylock_run.specs.declared.line.commands.Command.{Command}
 use Rattle.pylock_run.specs.declared.line.refusal.LineRefusal.{LineRefusal}
 use Rattle.pylock_run.specs.declared.line.refusal.LineRefusal.TheVariants as line
 use Rattle.pylock_c.specs.Answer.{Tells}
-use Rattle.pylock_c.specs.Refusal.{line_refusal}
+use Rattle.pylock_c.specs.Refusal.{line_refusal, refuse_as}
 use Rattle.pylock_c.specs.Sessions.{Counts, session_after, obeyed_in}
-use Rattle.pylock_c.specs.Sets.{refuse_as}
 use Rattle.pylock_c.specs.declared.object.Object.{Object}
 use Rattle.pylock_c.specs.declared.object.Object.TheVariants as kind
 use Rattle.pylock_c.specs.declared.refusal.Refusal.{Refusal}

@@ -1,7 +1,6 @@
 -- The changes and the commands of C. Their texts are judged as texts first, from the left.
-use Rattle.std.specs.Prelude.{ℕ, List, [], ◌∷◌, if◌then◌else◌, Result, Ok, Err}
+use Rattle.std.specs.Prelude.{ℕ, List, [], ◌∷◌, Result, Ok}
 use Rattle.std.specs.List.{slice_split}
-use Rattle.std.specs.Str.{is_utf8}
 use Rattle.pytext.specs.Results.{◌>>=◌}
 use Rattle.pyver_core.specs.Name.{normal_name}
 use Rattle.pymark_core.specs.declared.change.Change.{Change}
@@ -16,10 +15,7 @@ use Rattle.pylock_run.specs.declared.line.commands.Command.{Command}
 use Rattle.pylock_run.specs.declared.line.commands.Command.TheVariants as command
 use Rattle.pylock_run.specs.declared.line.refusal.LineRefusal.{LineRefusal}
 use Rattle.pylock_run.specs.declared.line.refusal.LineRefusal.TheVariants as line
-
--- the text that bytes are
-abbrev pub text_argument : List ℕ → Result (List ℕ) LineRefusal
-text_argument bytes = if is_utf8 bytes then Ok bytes else Err line.Text
+use Rattle.pylock_c.specs.Text.{text_argument}
 
 -- ---- changes of an environment
 

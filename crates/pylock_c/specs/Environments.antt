@@ -6,8 +6,7 @@ use Rattle.pymark_core.specs.Environment.{empty_environment}
 use Rattle.pymark_core.specs.declared.change.Change.{Change}
 use Rattle.pylock_run.specs.declared.line.refusal.LineRefusal.{LineRefusal}
 use Rattle.pylock_c.specs.Markers.{environment_in}
-use Rattle.pylock_c.specs.Refusal.{line_refusal}
-use Rattle.pylock_c.specs.Sets.{refuse_as}
+use Rattle.pylock_c.specs.Refusal.{line_refusal, refuse_as}
 use Rattle.pylock_c.specs.declared.object.Object.{Object}
 use Rattle.pylock_c.specs.declared.object.Object.TheVariants as kind
 use Rattle.pylock_c.specs.declared.refusal.Refusal.{Refusal}

@@ -4,8 +4,7 @@ use Rattle.pytext.specs.Results.{◌>>=◌}
 use Rattle.pymark_core.specs.Environment.{EnvironmentValue}
 use Rattle.pymark_core.specs.Marker.Reading.{MarkerValue, marker_of}
 use Rattle.pymark_core.specs.Marker.Value.{marker_value, value_with}
-use Rattle.pylock_c.specs.Refusal.{evaluation_refusal, marker_refusal}
-use Rattle.pylock_c.specs.Sets.{refuse_as}
+use Rattle.pylock_c.specs.Refusal.{evaluation_refusal, marker_refusal, refuse_as}
 use Rattle.pylock_c.specs.Text.{text_of}
 use Rattle.pylock_c.specs.declared.object.Object.{Object}
 use Rattle.pylock_c.specs.declared.object.Object.TheVariants as kind

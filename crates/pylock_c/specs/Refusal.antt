@@ -1,5 +1,6 @@
 -- The codes of `pylock.h`, and how what a library refuses refuses a call.
-use Rattle.std.specs.Prelude.{ℤ, pos}
+use Rattle.std.specs.Prelude.{ℤ, pos, Result}
+use Rattle.std.specs.Result.{result_map_both}
 use Rattle.pylock_run.specs.declared.line.refusal.LineRefusal.{LineRefusal}
 use Rattle.pylock_run.specs.declared.line.refusal.LineRefusal.TheVariants as line
 use Rattle.pymark_core.specs.declared.fault.EvalFault.{EvalFault}
@@ -113,3 +114,7 @@ abbrev pub line_refusal : LineRefusal → Refusal
 line_refusal line.Memory = refusal.Memory
 line_refusal line.Text = refusal.NotUtf8
 line_refusal refused = refusal.Edit refused
+
+-- what a library reads, or its refusal as the call's
+abbrev pub refuse_as : {V E : Type 0} → (E → Refusal) → Result V E → Result V Refusal
+refuse_as refusal read = result_map_both (λ v. v) refusal read

@@ -5,8 +5,7 @@ use Rattle.pyver_core.specs.Set.Normal.{specifier_text}
 use Rattle.pymark_core.specs.Requirement.Reading.{requirement_of}
 use Rattle.pymark_core.specs.Requirement.Value.{RequirementValue}
 use Rattle.pylock_c.specs.Record.{joined, record_of}
-use Rattle.pylock_c.specs.Refusal.{requirement_refusal}
-use Rattle.pylock_c.specs.Sets.{refuse_as}
+use Rattle.pylock_c.specs.Refusal.{refuse_as, requirement_refusal}
 use Rattle.pylock_c.specs.Text.{text_of}
 use Rattle.pylock_c.specs.declared.refusal.Refusal.{Refusal}
 

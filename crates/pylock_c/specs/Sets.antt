@@ -1,6 +1,5 @@
 -- Versions, specifier sets and names of C.
 use Rattle.std.specs.Prelude.{ℕ, Bool, List, Option, Some, Result, Ok, Err}
-use Rattle.std.specs.Result.{result_map_both}
 use Rattle.pytext.specs.Results.{◌>>=◌}
 use Rattle.pyver_core.specs.Name.{is_name, normal_name}
 use Rattle.pyver_core.specs.Parsed.{parsed_set, parsed_version}
@@ -8,16 +7,12 @@ use Rattle.pyver_core.specs.Set.Admission.{admits_all}
 use Rattle.pyver_core.specs.Set.Normal.{set_text}
 use Rattle.pyver_core.specs.Version.Parts.{Parts}
 use Rattle.pyver_core.specs.declared.set.specifier.Specifier.{Specifier}
-use Rattle.pylock_c.specs.Refusal.{set_refusal, version_refusal}
+use Rattle.pylock_c.specs.Refusal.{refuse_as, set_refusal, version_refusal}
 use Rattle.pylock_c.specs.Text.{text_of}
 use Rattle.pylock_c.specs.declared.object.Object.{Object}
 use Rattle.pylock_c.specs.declared.object.Object.TheVariants as kind
 use Rattle.pylock_c.specs.declared.refusal.Refusal.{Refusal}
 use Rattle.pylock_c.specs.declared.refusal.Refusal.TheVariants as refusal
-
--- what a library reads, or its refusal as the call's
-abbrev pub refuse_as : {V E : Type 0} → (E → Refusal) → Result V E → Result V Refusal
-refuse_as refusal read = result_map_both (λ v. v) refusal read
 
 abbrev pub version_of : List ℕ → Result Parts Refusal
 version_of bytes = do

@@ -2,14 +2,20 @@
 use Rattle.std.specs.Prelude.{ℕ, List, length, if◌then◌else◌, Option, Some, Result, Ok, Err}
 use Rattle.std.specs.Result.{result_map_both}
 use Rattle.std.specs.Str.{is_utf8}
+use Rattle.pylock_run.specs.declared.line.refusal.LineRefusal.{LineRefusal}
+use Rattle.pylock_run.specs.declared.line.refusal.LineRefusal.TheVariants as line
+use Rattle.pylock_c.specs.Refusal.{line_refusal, refuse_as}
 use Rattle.pylock_c.specs.declared.object.Object.{Object}
 use Rattle.pylock_c.specs.declared.object.Object.TheVariants as kind
 use Rattle.pylock_c.specs.declared.refusal.Refusal.{Refusal}
 use Rattle.pylock_c.specs.declared.refusal.Refusal.TheVariants as refusal
 
--- the text that bytes are
+-- the text that bytes are, as a library or an edit takes it
+abbrev pub text_argument : List ℕ → Result (List ℕ) LineRefusal
+text_argument bytes = if is_utf8 bytes then Ok bytes else Err line.Text
+
 abbrev pub text_of : List ℕ → Result (List ℕ) Refusal
-text_of bytes = if is_utf8 bytes then Ok bytes else Err refusal.NotUtf8
+text_of bytes = refuse_as line_refusal (text_argument bytes)
 
 -- the bytes of a kept text
 abbrev pub text_in : Option Object → Result (List ℕ) Refusal

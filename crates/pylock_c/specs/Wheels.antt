@@ -7,8 +7,7 @@ use Rattle.pywheel_core.specs.Tag.{tag_text}
 use Rattle.pywheel_core.specs.Wheel.Reading.{wheel_of}
 use Rattle.pywheel_core.specs.Wheel.Value.{WheelValue}
 use Rattle.pylock_c.specs.Record.{record_of}
-use Rattle.pylock_c.specs.Refusal.{wheel_refusal}
-use Rattle.pylock_c.specs.Sets.{refuse_as}
+use Rattle.pylock_c.specs.Refusal.{refuse_as, wheel_refusal}
 use Rattle.pylock_c.specs.Text.{text_of}
 use Rattle.pylock_c.specs.declared.refusal.Refusal.{Refusal}
 

@@ -11,8 +11,9 @@ ghost use Rattle.pylock_run.specs.declared.line.refusal.LineRefusal.{LineRefusal
 ghost use Rattle.pylock_run.specs.declared.line.refusal.LineRefusal.TheVariants.{Memory};
 ghost use Rattle.pylock_c.specs.Edits.{change_command, entry_command, named_change};
 ghost use Rattle.pylock_c.specs.Edits.{policy_command, set_change, tag_texts, tags_command};
-ghost use Rattle.pylock_c.specs.Edits.{text_argument, unset_change};
+ghost use Rattle.pylock_c.specs.Edits.{unset_change};
 
+use crate::text::text;
 use pylock_core::{Edit, Entry};
 use pylock_run::{Command, LineRefusal, policy_argument, variable_argument};
 use pymark_core::Change;
@@ -20,17 +21,6 @@ use pytext::Text;
 use pyver_core::{NormalName, is_name};
 use pywheel_core::TagList;
 use std::alloc::{AllocError, Global};
-
-/// The text that the bytes are.
-#[tactic(auto, using(crate::proofs::TextLemmas::utf8_tests))]
-fn text(bytes: &[u8]) -> Result<&str, LineRefusal>
-    ensures { Gives Memory (λ text. text.now) result (text_argument bytes.now) }
-{
-    match std::str::from_utf8(bytes) {
-        Ok(text) => Ok(text),
-        Err(_) => Err(LineRefusal::Text),
-    }
-}
 
 pub(crate) fn set_change(
     alloc: Global,

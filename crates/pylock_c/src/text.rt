@@ -2,26 +2,28 @@
 
 ghost use Rattle.std.specs.Prelude.{◌≡◌, ℕ, List, None, Result, Some};
 ghost use Rattle.pytext.specs.Agreement.{Gives};
+ghost use Rattle.pylock_run.specs.declared.line.refusal.LineRefusal.TheVariants as line;
 ghost use Rattle.pylock_c.specs.Answer.{Tells, Writes};
 ghost use Rattle.pylock_c.specs.Slot.{kept_object, object};
 ghost use Rattle.pylock_c.specs.declared.refusal.Refusal.{Refusal as Refused};
 ghost use Rattle.pylock_c.specs.declared.refusal.Refusal.TheVariants.{Memory};
-ghost use Rattle.pylock_c.specs.Text.{kept_text, text_in, text_length, text_of};
+ghost use Rattle.pylock_c.specs.Text.{kept_text, text_argument, text_in, text_length};
 
 use crate::answer::{keep, tell, write};
 use crate::object::{Bytes, Object};
 use crate::refusal::Refusal;
 use crate::slot::Slot;
+use pylock_run::LineRefusal;
 use std::alloc::Global;
 
 /// The text that the bytes are.
 #[tactic(auto, using(crate::proofs::TextLemmas::utf8_tests))]
-pub(crate) fn text(bytes: &[u8]) -> Result<&str, Refusal>
-    ensures { Gives Memory (λ text. text.now) result (text_of bytes.now) }
+pub(crate) fn text(bytes: &[u8]) -> Result<&str, LineRefusal>
+    ensures { Gives line.Memory (λ text. text.now) result (text_argument bytes.now) }
 {
     match std::str::from_utf8(bytes) {
         Ok(text) => Ok(text),
-        Err(_) => Err(Refusal::NotUtf8),
+        Err(_) => Err(LineRefusal::Text),
     }
 }
 

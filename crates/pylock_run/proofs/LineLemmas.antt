@@ -1,5 +1,5 @@
 -- Lemmas on the text of one line.
-use Rattle.std.proofs.Common.{◌≡◌, ℕ, ◌<◌, ◌≤◌, ◌^◌, List, [], ◌∷◌, length, Bool, true, false, cond, Result, Ok, Err, Some, None, arith, rules, not, ◌+◌, ◌==◌, ◌&&◌, ◌||◌, nat_le, get_or, refl, ap, sym, ◌∙◌, ⊎_elim, Option}
+use Rattle.std.proofs.Common.{◌≡◌, ℕ, ◌<◌, ◌≤◌, ◌^◌, List, [], ◌∷◌, length, Bool, true, false, cond, Result, Ok, Err, Some, None, arith, rules, not, ◌+◌, ◌==◌, ◌&&◌, ◌||◌, nat_le, refl, ap, sym, ◌∙◌, ⊎_elim, Option}
 use Rattle.std.specs.List.{list_all, list_any, position, position_or_len}
 use Rattle.std.specs.Char.{is_ascii_digit}
 use Rattle.std.specs.Str.{IsUtf8}

@@ -17,8 +17,8 @@ ghost use Rattle.pylock_run.specs.Text.Plan.{source_line};
 use crate::text::field::{push_decimal, push_escaped_text, push_last_word, push_next_field};
 use crate::text::file_line::push_file_line;
 use pylock_core::{
-    Answer, Archive, Directory, DistributionFile, Entry, Pick, PickedSource, Session,
-    Vcs, directory_word, fault_word,
+    Answer, Archive, Directory, DistributionFile, Entry, Pick, PickedSource, Session, Vcs,
+    directory_word, fault_word,
 };
 use std::alloc::AllocError;
 
