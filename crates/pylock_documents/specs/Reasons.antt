@@ -40,11 +40,11 @@ abbrev pub marker_detail : EnvironmentValue → MarkerValue → List ℕ
 marker_detail environment m = missing_variable (marker_value environment m.tree) ++ m.text
 
 -- the normal text of the set of a Python check, or the marker; `no-environment` has neither
-abbrev pub fault_detail : EnvironmentValue → Option (List Specifier) → Option MarkerValue
+abbrev pub condition_detail : EnvironmentValue → Option (List Specifier) → Option MarkerValue
     → FaultCode → Option (List ℕ)
-fault_detail environment set marker fault.PythonUnknown = option_map set_text set
-fault_detail environment set marker fault.PythonNotMet = option_map set_text set
-fault_detail environment set marker code = option_map (marker_detail environment) marker
+condition_detail environment set marker fault.PythonUnknown = option_map set_text set
+condition_detail environment set marker fault.PythonNotMet = option_map set_text set
+condition_detail environment set marker code = option_map (marker_detail environment) marker
 
 -- the first of the markers that isn't false: the one that decides, if one does
 abbrev pub is_false : Result Bool EvalFault → Bool
@@ -58,7 +58,7 @@ deciding_marker environment (m ∷ ms) =
 
 abbrev pub head_detail : HeadValue → EnvironmentValue → FaultCode → Option (List ℕ)
 head_detail head environment code =
-    fault_detail environment head.requires_python
+    condition_detail environment head.requires_python
     (deciding_marker environment head.environments) code
 
 -- ---- why: of sources
@@ -94,16 +94,18 @@ wheel_at tags entry index =
     (option_and_then (λ name. name) (slice_get (wheel_names entry) index)))
     (slice_get entry.wheels index)
 
--- the place of a source; of an sdist its file name, where it has one
-abbrev pub source_detail : List TagValue → EntryValue → PickSource → Option (List ℕ)
-source_detail tags entry source.Vcs = option_map (λ vcs. place_of vcs.location) entry.vcs
-source_detail tags entry source.Directory =
-    option_map (λ directory. directory.path) entry.directory
-source_detail tags entry source.Archive =
-    option_map (λ archive. place_of archive.location) entry.archive
-source_detail tags entry (source.Wheel index) = wheel_at tags entry index
-source_detail tags entry source.Sdist =
+-- the place of a source that is no wheel; of an sdist its file name, where it has one
+abbrev pub place_in : EntryValue → PickSource → Option (List ℕ)
+place_in entry source.Vcs = option_map (λ vcs. place_of vcs.location) entry.vcs
+place_in entry source.Directory = option_map (λ directory. directory.path) entry.directory
+place_in entry source.Archive = option_map (λ archive. place_of archive.location) entry.archive
+place_in entry (source.Wheel index) = None
+place_in entry source.Sdist =
     option_map (λ file. unwrap_or (file_name file) (place_of file.location)) entry.sdist
+
+abbrev pub source_detail : List TagValue → EntryValue → PickSource → Option (List ℕ)
+source_detail tags entry (source.Wheel index) = wheel_at tags entry index
+source_detail tags entry other = place_in entry other
 
 -- ---- why: of each fate
 
@@ -111,7 +113,7 @@ source_detail tags entry source.Sdist =
 abbrev pub detail : State → EntryValue → Fate → Option (List ℕ)
 detail state entry fate.Skipped = option_map (marker_detail state.environment) entry.marker
 detail state entry (fate.Faulty code) =
-    fault_detail state.environment entry.requires_python entry.marker code
+    condition_detail state.environment entry.requires_python entry.marker code
 detail state entry (fate.Ambiguous first) = Some (decimal first)
 detail state entry fate.Sources = Some (kinds_text entry)
 detail state entry (fate.NoFile policy) = Some (files_word entry policy)

@@ -1,6 +1,6 @@
 //! An answer: the plan, or the fault.
 
-ghost use Rattle.std.specs.Prelude.{◌≡◌, ◌++◌, IfOk, OnOk, map, option_and_then, option_map};
+ghost use Rattle.std.specs.Prelude.{◌≡◌, ◌++◌, IfOk, OnOk, map, option_map};
 ghost use Rattle.std.specs.Prelude.{string_bytes};
 ghost use Rattle.std.specs.List.{flat_map};
 ghost use Rattle.std.specs.Option.{option_copied};
@@ -8,7 +8,6 @@ ghost use Rattle.serde_json.specs.View.{members_view, view as data_of};
 ghost use Rattle.pylock_json.specs.Json.{members_of, object_of};
 ghost use Rattle.pylock_core.specs.Session.Fates.{fates};
 ghost use Rattle.pylock_core.specs.Session.State.{entry_at};
-ghost use Rattle.pylock_documents.specs.Reasons.{detail};
 ghost use Rattle.pylock_documents.specs.Documents.{answer_rows, fate_in, fault_detail, fault_rows};
 ghost use Rattle.pylock_documents.specs.Documents.{pick_data};
 
@@ -108,22 +107,9 @@ pub fn fault_detail(
     ensures { IfOk result (λ text. option_map string_bytes text
         ≡ fault_detail session.now.state number code) }
 {
-    match fate_of(session, number)? {
-        Some(fate) => entry_detail(alloc, session, number, fate),
-        None => head_detail(alloc, session.head(), session.environment(), code),
-    }
-}
-
-fn entry_detail(
-    alloc: Global,
-    session: &Session,
-    number: u32,
-    fate: Fate,
-) -> Result<Option<String>, AllocError>
-    ensures { IfOk result (λ text. option_map string_bytes text
-        ≡ option_and_then (λ entry. detail session.now.state entry fate)
-        (entry_at number session.now.state.entries)) }
-{
+    let Some(fate) = fate_of(session, number)? else {
+        return head_detail(alloc, session.head(), session.environment(), code);
+    };
     match session.entry(number) {
         Some(entry) => detail(alloc, session, entry, fate),
         None => Ok(None),

@@ -1,18 +1,16 @@
 //! Why an entry has what becomes of it, and why the head has its fault.
 
-ghost use Rattle.std.specs.Prelude.{◌≡◌, IfOk, Some, option_map, option_and_then, slice_get};
+ghost use Rattle.std.specs.Prelude.{◌≡◌, IfOk, option_and_then, option_map, slice_get};
 ghost use Rattle.std.specs.Prelude.{string_bytes, unwrap_or};
 ghost use Rattle.std.specs.Option.{option_copied};
-ghost use Rattle.pylock_documents.specs.Reasons.{best_tag, deciding_marker, detail, fault_detail};
-ghost use Rattle.pylock_documents.specs.Reasons.{files_word, has_tag, head_detail};
-ghost use Rattle.pylock_documents.specs.Reasons.{marker_detail, sdist_word, source_detail, wheel_at};
-ghost use Rattle.pylock_documents.specs.Reasons.{wheel_detail};
-ghost use Rattle.pylock_core.specs.Words.{policy_word};
-ghost use Rattle.pyver_core.specs.Set.Normal.{set_text};
 ghost use Rattle.pylock_readers.specs.Entry.{file_name, place_of, wheel_names};
+ghost use Rattle.pylock_documents.specs.Reasons.{best_tag, condition_detail, deciding_marker};
+ghost use Rattle.pylock_documents.specs.Reasons.{detail, files_word, has_tag, head_detail};
+ghost use Rattle.pylock_documents.specs.Reasons.{marker_detail, place_in, sdist_word};
+ghost use Rattle.pylock_documents.specs.Reasons.{source_detail, wheel_at, wheel_detail};
 
 use pylock_core::{
-    Entry, Fate, FaultCode, Head, PickSource, Policy, Session, WheelFile, policy_word,
+    Entry, Fate, FaultCode, Head, PickSource, Policy, Sdist, Session, WheelFile, policy_word,
 };
 use pymark_core::{Environment, EvalFault, Marker};
 use pyver_core::SpecifierSet;
@@ -32,7 +30,7 @@ pub fn detail(
 {
     match fate {
         Fate::Skipped => marker_of(alloc, session.environment(), entry.marker()),
-        Fate::Faulty(code) => fault_detail(
+        Fate::Faulty(code) => condition_detail(
             alloc,
             session.environment(),
             entry.requires_python(),
@@ -57,7 +55,7 @@ pub fn head_detail(
         ≡ head_detail head.now environment.now code) }
 {
     let marker = deciding_marker(alloc, environment, head.environments())?;
-    fault_detail(alloc, environment, head.requires_python(), marker, code)
+    condition_detail(alloc, environment, head.requires_python(), marker, code)
 }
 
 /// The first of the markers that isn't false.
@@ -80,7 +78,7 @@ fn deciding_marker<'a>(
 }
 
 /// The set of a Python check that has this fault, or the marker.
-fn fault_detail(
+fn condition_detail(
     alloc: Global,
     environment: &Environment,
     set: Option<&SpecifierSet>,
@@ -88,22 +86,14 @@ fn fault_detail(
     code: FaultCode,
 ) -> Result<Option<String>, AllocError>
     ensures { IfOk result (λ text. option_map string_bytes text
-        ≡ fault_detail environment.now (option_copied set.entry) (option_copied marker.entry)
+        ≡ condition_detail environment.now (option_copied set.entry) (option_copied marker.entry)
         code) }
 {
     match code {
-        FaultCode::PythonUnknown | FaultCode::PythonNotMet => set_of(alloc, set),
+        FaultCode::PythonUnknown | FaultCode::PythonNotMet => {
+            owned_text(alloc, set.map(|set| set.text()))
+        }
         _ => marker_of(alloc, environment, marker),
-    }
-}
-
-fn set_of(alloc: Global, set: Option<&SpecifierSet>) -> Result<Option<String>, AllocError>
-    ensures { IfOk result (λ text. option_map string_bytes text
-        ≡ option_map set_text (option_copied set.entry)) }
-{
-    match set {
-        Some(set) => Ok(Some(String::from_str(alloc, set.text())?)),
-        None => Ok(None),
     }
 }
 
@@ -147,11 +137,8 @@ fn marker_detail(
 fn files_text(alloc: Global, entry: &Entry, policy: Policy) -> Result<String, AllocError>
     ensures { IfOk result (λ text. string_bytes text ≡ files_word entry.now policy) }
 {
-    let wheels = format!(in alloc; "{}", entry.wheels().len())?;
-    let mut text = String::from_str(alloc, "wheels ")?;
-    text.push_str(wheels.as_str())?;
-    text.push_str(sdist_word(entry))?;
-    text.push_str(policy_word(policy))?;
+    let (wheels, sdist, policy) = (entry.wheels().len(), sdist_word(entry), policy_word(policy));
+    let text = format!(in alloc; "wheels {wheels}{sdist}{policy}")?;
     Ok(text)
 }
 
@@ -176,11 +163,8 @@ fn source_detail(
         ≡ source_detail tags.now entry.now source) }
 {
     match source {
-        PickSource::Vcs => owned_text(alloc, vcs_place(entry)),
-        PickSource::Directory => owned_text(alloc, directory_path(entry)),
-        PickSource::Archive => owned_text(alloc, archive_place(entry)),
         PickSource::Wheel(index) => wheel_at(alloc, tags, entry, index),
-        PickSource::Sdist => owned_text(alloc, sdist_file(entry)),
+        _ => owned_text(alloc, place_in(entry, source)),
     }
 }
 
@@ -193,35 +177,26 @@ fn owned_text(alloc: Global, text: Option<&str>) -> Result<Option<String>, Alloc
     }
 }
 
-fn vcs_place(entry: &Entry) -> Option<&str>
-    ensures { option_copied result ≡ option_map (λ vcs. place_of vcs.location) entry.now.vcs }
+/// The place of a source that is no wheel; of an sdist its file name, where it has one.
+fn place_in(entry: &Entry, source: PickSource) -> Option<&str>
+    ensures { option_copied result ≡ place_in entry.now source }
 {
-    Some(entry.vcs()?.place())
-}
-
-fn directory_path(entry: &Entry) -> Option<&str>
-    ensures { option_copied result
-        ≡ option_map (λ directory. directory.path) entry.now.directory }
-{
-    Some(entry.directory()?.path())
-}
-
-fn archive_place(entry: &Entry) -> Option<&str>
-    ensures { option_copied result
-        ≡ option_map (λ archive. place_of archive.location) entry.now.archive }
-{
-    Some(entry.archive()?.place())
+    Some(match source {
+        PickSource::Vcs => entry.vcs()?.place(),
+        PickSource::Directory => entry.directory()?.path(),
+        PickSource::Archive => entry.archive()?.place(),
+        PickSource::Wheel(_) => return None,
+        PickSource::Sdist => sdist_file(entry.sdist()?),
+    })
 }
 
 /// The file name of the sdist, or its place where it has none.
-fn sdist_file(entry: &Entry) -> Option<&str>
-    ensures { option_copied result ≡ option_map
-        (λ file. unwrap_or (file_name file) (place_of file.location)) entry.now.sdist }
+fn sdist_file(sdist: &Sdist) -> &str
+    ensures { result.now ≡ unwrap_or (file_name sdist.now) (place_of sdist.now.location) }
 {
-    let sdist = entry.sdist()?;
     match sdist.file_name() {
-        Some(name) => Some(name),
-        None => Some(sdist.place()),
+        Some(name) => name,
+        None => sdist.place(),
     }
 }
 

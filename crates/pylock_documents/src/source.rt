@@ -11,9 +11,7 @@ ghost use Rattle.pylock_documents.specs.Source.{archive_rows, directory_rows, en
 ghost use Rattle.pylock_documents.specs.Source.{file_rows, hash_row, hashes_data, revision_data};
 ghost use Rattle.pylock_documents.specs.Source.{source_data, source_rows, vcs_rows};
 
-use pylock_core::{
-    Archive, Directory, DistributionFile, Entry, PickedSource, Vcs, directory_word,
-};
+use pylock_core::{Archive, Directory, DistributionFile, Entry, PickedSource, Vcs, directory_word};
 use pylock_json::{Json, Object};
 use std::alloc::{AllocError, Global};
 
