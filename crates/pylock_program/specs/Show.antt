@@ -19,12 +19,9 @@ use Rattle.pylock_program.specs.Text.Explain.{explain_text}
 use Rattle.pylock_program.specs.Text.Json.{json_text, option_json, refusal_json}
 
 -- an option that is refused: its word, without the dashes, and its text
-abbrev pub option_refusal_text : Choice → List ℕ
-option_refusal_text choice =
-    line_of (codes "refused") ((option_words choice).0 ∷ field (option_words choice).1 ∷ [])
-
 abbrev pub option_shown : Form → Choice → List ℕ
-option_shown Lines choice = option_refusal_text choice
+option_shown Lines choice =
+    line_of (codes "refused") ((option_words choice).0 ∷ field (option_words choice).1 ∷ [])
 option_shown Json choice = option_json choice
 
 -- a refused lock or environment

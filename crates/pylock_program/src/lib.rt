@@ -5,8 +5,9 @@
 //! and, for standard input and each output, a source or a sink of bytes of `pylock_run`, where
 //! `select` is, too.
 //!
-//! Begin with [`perform`], which does a whole task. [`show`] is `plan` and `explain`, [`query`] the
-//! one-shot commands, and [`push_view`] and [`push_reply`] push what they print onto bytes.
+//! Begin with [`perform`], which does a whole task. [`show_request`] does `plan` and `explain`,
+//! [`query`] the one-shot commands, and [`push_view`] and [`push_reply`] push what they print onto
+//! bytes.
 //!
 //! A whole task over texts in memory, from `crates/cases/src/plans.rt`:
 //!
@@ -30,4 +31,4 @@ pub use program::{Failure, perform, terminal_note, words_failure};
 pub use pylock_command::View;
 pub use reply::queries::Query;
 pub use reply::{push_reply, query};
-pub use show::{Inputs, push_open_error, push_view, show};
+pub use show::{Inputs, push_open_error, push_view, show_request};

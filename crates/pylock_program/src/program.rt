@@ -18,7 +18,7 @@ use crate::notes::file::tell_file;
 use crate::notes::refusal::tell_refusal;
 use crate::reply::queries::Query;
 use crate::reply::query;
-use crate::show::{Inputs, show};
+use crate::show::{Inputs, show_request};
 use pylock_command::{Form, Request, Task};
 use pylock_run::{FileFault, Files, RunFault, Sink, Source, print, run_whole};
 use std::alloc::Global;
@@ -234,7 +234,7 @@ fn show_files<F: Files, W: Sink, N: Sink>(
         lock: &lock.bytes,
         environment: &environment.bytes,
     };
-    let end = show(alloc, request, inputs, writer, notes);
+    let end = show_request(alloc, request, inputs, writer, notes);
     tell_refusal(alloc, notes, &end, Some(&lock), Some(&environment));
     program_end(end)
 }

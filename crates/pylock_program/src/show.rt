@@ -1,7 +1,7 @@
 //! What `plan` and `explain` show of a lock in an environment.
 
 ghost use Rattle.std.specs.Prelude.{◌≡◌, ◌++◌, IfOk, OnOk};
-ghost use Rattle.pylock_core.specs.Session.Steps.{answer};
+ghost use Rattle.pylock_core.specs.Session.Steps.{answer as answer_of};
 ghost use Rattle.pylock_program.specs.Choices.{after_choices};
 ghost use Rattle.pylock_program.specs.Show.{option_shown, refusal_shown};
 ghost use Rattle.pylock_program.specs.Show.{report_of_choices, request_report, view_shown};
@@ -42,7 +42,7 @@ pub struct Inputs<'a> {
 ///
 /// It takes memory for the session, for the edits of one option at a time, and for what it writes:
 /// of `explain` for what becomes of each entry, and for one reason at a time.
-pub fn show<W: Sink, N: Sink>(
+pub fn show_request<W: Sink, N: Sink>(
     alloc: Global,
     request: &Request<'_>,
     inputs: Inputs<'_>,
@@ -136,7 +136,7 @@ pub fn push_view(
     form: Form,
     session: &Session,
 ) -> Result<bool, AllocError>
-    ensures plan { IfOk result (λ plan. plan ≡ is_plan (answer session.now.state)) }
+    ensures plan { IfOk result (λ plan. plan ≡ is_plan (answer_of session.now.state)) }
     ensures text { OnOk result (out.new.items
         ≡ out.old.items ++ view_shown view form session.now.state) }
 {
@@ -153,7 +153,7 @@ fn push_answered(
     session: &Session,
     answer: &Answer,
 ) -> Result<(), AllocError>
-    requires { answer.now ≡ answer session.now.state }
+    requires { answer.now ≡ answer_of session.now.state }
     ensures { OnOk result (out.new.items
         ≡ out.old.items ++ view_shown asked.0 asked.1 session.now.state) }
 {
