@@ -20,7 +20,7 @@ use crate::reply::queries::Query;
 use crate::reply::query;
 use crate::show::{Inputs, show_request};
 use pylock_command::{Form, Request, Task};
-use pylock_run::{FileFault, Files, RunFault, Sink, Source, print, run_whole};
+use pylock_run::{FileFault, Files, RunFault, Sink, Source, print, read_both, run_whole};
 use std::alloc::Global;
 use std::io::ErrorKind;
 
@@ -179,9 +179,16 @@ fn run_select<F: Files, R: Source, W: Sink, N: Sink>(
         (λ lock. Opens (F.read_gives files.now) environment.now (Runs lock))
         (R.value reader.old) (R.value reader.new) (W.value writer.old) (W.value writer.new) result }
 {
-    let lock = read_bytes(files, lock)?;
-    let environment = read_bytes(files, environment)?;
-    let end = run_whole(alloc, &lock.bytes, &environment.bytes, true, reader, writer);
+    let (lock_bytes, bytes) = read_both(files, lock, environment)?;
+    let end = run_whole(alloc, &lock_bytes, &bytes, true, reader, writer);
+    let lock = FileBytes {
+        path: lock,
+        bytes: lock_bytes,
+    };
+    let environment = FileBytes {
+        path: environment,
+        bytes,
+    };
     tell_refusal(alloc, notes, &end, Some(&lock), Some(&environment));
     program_end(end)
 }
