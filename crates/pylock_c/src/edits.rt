@@ -22,11 +22,7 @@ use pyver_core::{NormalName, is_name};
 use pywheel_core::TagList;
 use std::alloc::{AllocError, Global};
 
-pub(crate) fn set_change(
-    alloc: Global,
-    name: &[u8],
-    value: &[u8],
-) -> Result<Change, LineRefusal>
+pub(crate) fn set_change(alloc: Global, name: &[u8], value: &[u8]) -> Result<Change, LineRefusal>
     ensures { Gives Memory (λ change. change) result (set_change name.now value.now) }
 {
     let name = text(name)?;
@@ -105,11 +101,7 @@ pub(crate) fn add_command(alloc: Global, bytes: &[u8]) -> Result<Command, LineRe
     Ok(Command::Edit(Edit::Add(entry)))
 }
 
-pub(crate) fn put_command(
-    alloc: Global,
-    number: u32,
-    bytes: &[u8],
-) -> Result<Command, LineRefusal>
+pub(crate) fn put_command(alloc: Global, number: u32, bytes: &[u8]) -> Result<Command, LineRefusal>
     ensures { Gives Memory (λ command. command) result (entry_command (edit.Put number) bytes.now) }
 {
     let entry = Entry::read_text(alloc, text(bytes)?)?;

@@ -132,7 +132,8 @@ pub extern "C" fn pylock_session_set(
     ensures { Tells (obeyed_in (change_command (set_change variable.now text.now)) (object slot.old))
         (object slot.old, judged.old) (object slot.new, judged.new) result }
 {
-    obey_slot(alloc, slot, change_command(set_change(alloc, variable, text)), judged)
+    let change = set_change(alloc, variable, text);
+    obey_slot(alloc, slot, change_command(change), judged)
 }
 
 /// Leaves a variable without a text.
@@ -146,7 +147,8 @@ pub extern "C" fn pylock_session_unset(
     ensures { Tells (obeyed_in (change_command (unset_change variable.now)) (object slot.old))
         (object slot.old, judged.old) (object slot.new, judged.new) result }
 {
-    obey_slot(alloc, slot, change_command(unset_change(variable)), judged)
+    let change = unset_change(variable);
+    obey_slot(alloc, slot, change_command(change), judged)
 }
 
 /// Asks for an extra.
@@ -160,7 +162,8 @@ pub extern "C" fn pylock_session_add_extra(
     ensures { Tells (obeyed_in (change_command (named_change change.AddExtra name.now))
         (object slot.old)) (object slot.old, judged.old) (object slot.new, judged.new) result }
 {
-    obey_slot(alloc, slot, change_command(add_extra_change(alloc, name)), judged)
+    let change = add_extra_change(alloc, name);
+    obey_slot(alloc, slot, change_command(change), judged)
 }
 
 /// Asks for an extra no more.
@@ -174,7 +177,8 @@ pub extern "C" fn pylock_session_drop_extra(
     ensures { Tells (obeyed_in (change_command (named_change change.DropExtra name.now))
         (object slot.old)) (object slot.old, judged.old) (object slot.new, judged.new) result }
 {
-    obey_slot(alloc, slot, change_command(drop_extra_change(alloc, name)), judged)
+    let change = drop_extra_change(alloc, name);
+    obey_slot(alloc, slot, change_command(change), judged)
 }
 
 /// Asks for a dependency group.
@@ -188,7 +192,8 @@ pub extern "C" fn pylock_session_add_group(
     ensures { Tells (obeyed_in (change_command (named_change change.AddGroup name.now))
         (object slot.old)) (object slot.old, judged.old) (object slot.new, judged.new) result }
 {
-    obey_slot(alloc, slot, change_command(add_group_change(alloc, name)), judged)
+    let change = add_group_change(alloc, name);
+    obey_slot(alloc, slot, change_command(change), judged)
 }
 
 /// Asks for a dependency group no more.
@@ -202,7 +207,8 @@ pub extern "C" fn pylock_session_drop_group(
     ensures { Tells (obeyed_in (change_command (named_change change.DropGroup name.now))
         (object slot.old)) (object slot.old, judged.old) (object slot.new, judged.new) result }
 {
-    obey_slot(alloc, slot, change_command(drop_group_change(alloc, name)), judged)
+    let change = drop_group_change(alloc, name);
+    obey_slot(alloc, slot, change_command(change), judged)
 }
 
 /// Puts these tags in place of those that were there.
