@@ -8,10 +8,10 @@ use Rattle.pylock_core.specs.Session.Judgement.{SessionValue, all_numbers, index
 use Rattle.pylock_core.specs.Session.Judgement.{verdicts_of}
 use Rattle.pylock_core.specs.Session.State.{State}
 use Rattle.pylock_core.specs.Session.Steps.{answer}
-use Rattle.pylock_program.specs.Choices.{view_shown}
+use Rattle.pylock_program.specs.Show.{view_shown}
 use Rattle.pylock_run.specs.Report.{after_command, is_plan}
 use Rattle.pylock_run.specs.Text.Field.{fields_text}
-use Rattle.pylock_program.specs.declared.choices.View.{View}
+use Rattle.pylock_command.specs.declared.task.View.{View}
 use Rattle.pylock_run.specs.declared.line.commands.Command.{Command}
 use Rattle.pylock_run.specs.declared.line.commands.Command.TheVariants as command
 use Rattle.pylock_run.specs.declared.line.refusal.LineRefusal.{LineRefusal}

@@ -2,9 +2,9 @@
 
 ghost use Rattle.std.specs.Prelude.{◌≡◌, [], Some};
 ghost use Rattle.pytext.specs.Agreement.{Gives};
-ghost use Rattle.pylock_program.specs.Choices.{report_after, view_shown};
+ghost use Rattle.pylock_program.specs.Show.{report_after, view_shown};
 ghost use Rattle.pylock_run.specs.Report.{open_state};
-ghost use Rattle.pylock_program.specs.declared.choices.View.TheVariants.{Explain, Plan};
+ghost use Rattle.pylock_command.specs.declared.task.View.TheVariants.{Explain, Plan};
 ghost use Rattle.pylock_run.specs.declared.report.opening.OpenError.TheVariants as unopened;
 ghost use Rattle.pylock_program.specs.Reply.{reply};
 ghost use Rattle.pylock_program.specs.declared.reply.queries.Query.TheVariants as query;

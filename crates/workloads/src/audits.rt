@@ -5,8 +5,8 @@ use crate::draw::Draw;
 use crate::inputs::{Platform, environment};
 use crate::locks::push_lock;
 use crate::random::Random;
-use pylock_command::Form;
-use pylock_program::{Document, Query, explain, query};
+use pylock_command::{Form, Request, View};
+use pylock_program::{Inputs, Query, query, show_request};
 use pylock_run::ToWrite;
 use std::alloc::{AllocError, Global};
 
@@ -71,19 +71,18 @@ fn explained(alloc: Global, random: Random, lock: &[u8]) -> anyhow::Result<Vec<u
     let mut writer = ToWrite::new(&mut out);
     let mut notes = Vec::new(alloc);
     let mut beside = ToWrite::new(&mut notes);
-    let lock = Document {
-        path: "pylock.toml",
-        bytes: lock,
+    let request = Request {
+        view: View::Explain,
+        lock: "pylock.toml",
+        environment: "environment.json",
+        choices: Vec::new(alloc),
+        form: Form::Json,
     };
-    let end = explain(
-        alloc,
-        Form::Json,
+    let inputs = Inputs {
         lock,
-        environment.as_bytes(),
-        &[],
-        &mut writer,
-        &mut beside,
-    );
+        environment: environment.as_bytes(),
+    };
+    let end = show_request(alloc, &request, inputs, &mut writer, &mut beside);
     match end {
         Ok(status) => out.push(status)?,
         Err(fault) => return Err(anyhow::anyhow!("no explanation: {fault:?}")),

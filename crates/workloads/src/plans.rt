@@ -5,8 +5,8 @@ use crate::draw::Draw;
 use crate::inputs::{Platform, environment};
 use crate::locks::push_lock;
 use crate::random::Random;
-use pylock_command::{Choice, Form};
-use pylock_program::{Document, plan};
+use pylock_command::{Choice, Form, Request, View};
+use pylock_program::{Inputs, show_request};
 use pylock_run::ToWrite;
 use std::alloc::{AllocError, Global};
 
@@ -55,19 +55,15 @@ fn print_plan(
         Choice::OnlyBinary("core-data-1"),
     ];
     let choices = choices.get(..(round % 4) as usize).unwrap_or(&[]);
-    let lock = Document {
-        path: "pylock.toml",
-        bytes: lock,
+    let request = Request {
+        view: View::Plan,
+        lock: "pylock.toml",
+        environment: "environment.json",
+        choices: Vec::from_slice(alloc, choices)?,
+        form: Form::Lines,
     };
-    let end = plan(
-        alloc,
-        Form::Lines,
-        lock,
-        environment,
-        choices,
-        &mut writer,
-        &mut beside,
-    );
+    let inputs = Inputs { lock, environment };
+    let end = show_request(alloc, &request, inputs, &mut writer, &mut beside);
     match end {
         Ok(status) => out.push(status)?,
         Err(fault) => return Err(anyhow::anyhow!("no plan: {fault:?}")),

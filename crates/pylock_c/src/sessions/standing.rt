@@ -3,7 +3,7 @@
 ghost use Rattle.std.specs.Prelude.{◌≡◌, ◌++◌, OnOk, Some, decimal, map};
 ghost use Rattle.pytext.specs.Agreement.{Gives};
 ghost use Rattle.pylock_run.specs.Text.Field.{fields_text};
-ghost use Rattle.pylock_program.specs.declared.choices.View.TheVariants.{Explain, Plan};
+ghost use Rattle.pylock_command.specs.declared.task.View.TheVariants.{Explain, Plan};
 ghost use Rattle.pylock_c.specs.Answer.{Tells};
 ghost use Rattle.pylock_c.specs.Answers.{form_of};
 ghost use Rattle.pylock_c.specs.Sessions.{judged_in, numbers_text, session_in, shown_in};

@@ -1,8 +1,8 @@
 -- The form of the report is that of the flag.
 use Rattle.std.proofs.Common.{rules, ap, []}
-use Rattle.pylock_program.specs.Choices.{report_after, view_shown}
+use Rattle.pylock_program.specs.Show.{report_after, view_shown}
 use Rattle.pylock_run.specs.Report.{open_state}
-use Rattle.pylock_program.specs.declared.choices.View.TheVariants.{Explain}
+use Rattle.pylock_command.specs.declared.task.View.TheVariants.{Explain}
 use Rattle.pylock_c.specs.Answers.{reported}
 use Rattle.pylock_c.proofs.AnswerLemmas.{told_as}
 use Rattle.pylock_c.proofs.answers.pylock_explain.Goals as goal
