@@ -5,8 +5,8 @@ ghost use Rattle.pytext.specs.Agreement.{Gives};
 ghost use Rattle.pyver_core.specs.Set.Normal.{specifier_text};
 ghost use Rattle.pylock_run.specs.Text.Field.{field};
 ghost use Rattle.pylock_c.specs.Answer.{Tells};
-ghost use Rattle.pylock_c.specs.Record.{joined, record_of};
-ghost use Rattle.pylock_c.specs.Requirements.{parts_of, requirement_record};
+ghost use Rattle.pylock_c.specs.Record.{joined};
+ghost use Rattle.pylock_c.specs.Requirements.{requirement_record};
 ghost use Rattle.pylock_c.specs.Slot.{object};
 ghost use Rattle.pylock_c.specs.Text.{kept_text};
 ghost use Rattle.pylock_c.specs.declared.refusal.Refusal.TheVariants.{Memory};
@@ -24,7 +24,11 @@ fn requirement_record(alloc: Global, bytes: &[u8]) -> Result<Vec<u8>, Refusal>
 {
     let requirement = Requirement::parse(alloc, text(bytes)?)?;
     let mut out = Vec::new(alloc);
-    push_parts(alloc, &mut out, &requirement)?;
+    push_field(&mut out, Some(requirement.name()))?;
+    push_extras(alloc, &mut out, requirement.extras())?;
+    push_set(&mut out, requirement.set())?;
+    push_next_field(&mut out, requirement.url())?;
+    push_next_field(&mut out, requirement.marker().map(|marker| marker.text()))?;
     Ok(out)
 }
 
@@ -35,16 +39,6 @@ pub extern "C" fn pylock_requirement(alloc: Global, text: &[u8], slot: &mut Slot
         result }
 {
     keep_text(alloc, requirement_record(alloc, text), slot)
-}
-
-fn push_parts(alloc: Global, out: &mut Vec<u8>, requirement: &Requirement) -> Result<(), AllocError>
-    ensures { OnOk result (out.new.items ≡ out.old.items ++ record_of (parts_of requirement.now)) }
-{
-    push_field(out, Some(requirement.name()))?;
-    push_extras(alloc, out, requirement.extras())?;
-    push_set(out, requirement.set())?;
-    push_next_field(out, requirement.url())?;
-    push_next_field(out, requirement.marker().map(|marker| marker.text()))
 }
 
 /// Pushes a TAB and the field of extras.

@@ -45,7 +45,8 @@ fn version_record(alloc: Global, bytes: &[u8]) -> Result<Vec<u8>, Refusal>
 {
     let version = version(alloc, bytes)?;
     let mut out = Vec::new(alloc);
-    push_parts(alloc, &mut out, &version)?;
+    push_versions(alloc, &mut out, &version)?;
+    push_rest(alloc, &mut out, &version)?;
     Ok(out)
 }
 
@@ -60,13 +61,6 @@ pub extern "C" fn pylock_version(
     ensures { Writes (version_record text.now) out.old out.new needed.old needed.new result }
 {
     write_made(version_record(alloc, text), out, needed)
-}
-
-fn push_parts(alloc: Global, out: &mut Vec<u8>, version: &Version) -> Result<(), AllocError>
-    ensures { OnOk result (out.new.items ≡ out.old.items ++ record_of (parts_of version.now)) }
-{
-    push_versions(alloc, out, version)?;
-    push_rest(alloc, out, version)
 }
 
 /// Pushes the first three parts, which are versions.

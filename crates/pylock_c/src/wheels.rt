@@ -1,12 +1,10 @@
 //! The record of what the name of a wheel says (PEP 427).
 
-ghost use Rattle.std.specs.Prelude.{◌≡◌, ◌++◌, OnOk};
 ghost use Rattle.pytext.specs.Agreement.{Gives};
 ghost use Rattle.pylock_c.specs.Answer.{Tells};
-ghost use Rattle.pylock_c.specs.Record.{record_of};
 ghost use Rattle.pylock_c.specs.Slot.{object};
 ghost use Rattle.pylock_c.specs.Text.{kept_text};
-ghost use Rattle.pylock_c.specs.Wheels.{parts_of, wheel_record};
+ghost use Rattle.pylock_c.specs.Wheels.{wheel_record};
 ghost use Rattle.pylock_c.specs.declared.refusal.Refusal.TheVariants.{Memory};
 
 use crate::refusal::Refusal;
@@ -14,14 +12,18 @@ use crate::slot::Slot;
 use crate::text::{keep_text, text};
 use pylock_run::{push_field, push_next_field};
 use pywheel_core::{WheelName, tags_text};
-use std::alloc::{AllocError, Global};
+use std::alloc::Global;
 
 fn wheel_record(alloc: Global, bytes: &[u8]) -> Result<Vec<u8>, Refusal>
     ensures { Gives Memory (λ made. made.items) result (wheel_record bytes.now) }
 {
     let wheel = WheelName::parse(alloc, text(bytes)?)?;
+    let tags = tags_text(alloc, wheel.tags())?;
     let mut out = Vec::new(alloc);
-    push_parts(alloc, &mut out, &wheel)?;
+    push_field(&mut out, Some(wheel.name()))?;
+    push_next_field(&mut out, Some(wheel.version().text()))?;
+    push_next_field(&mut out, wheel.build_text())?;
+    push_next_field(&mut out, Some(tags.as_str()))?;
     Ok(out)
 }
 
@@ -31,14 +33,4 @@ pub extern "C" fn pylock_wheel(alloc: Global, text: &[u8], slot: &mut Slot) -> i
     ensures { Tells (kept_text (wheel_record text.now)) (object slot.old) (object slot.new) result }
 {
     keep_text(alloc, wheel_record(alloc, text), slot)
-}
-
-fn push_parts(alloc: Global, out: &mut Vec<u8>, wheel: &WheelName) -> Result<(), AllocError>
-    ensures { OnOk result (out.new.items ≡ out.old.items ++ record_of (parts_of wheel.now)) }
-{
-    let tags = tags_text(alloc, wheel.tags())?;
-    push_field(out, Some(wheel.name()))?;
-    push_next_field(out, Some(wheel.version().text()))?;
-    push_next_field(out, wheel.build_text())?;
-    push_next_field(out, Some(tags.as_str()))
 }

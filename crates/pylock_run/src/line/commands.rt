@@ -1,6 +1,5 @@
 //! The commands of an input.
 
-ghost use Rattle.std.specs.Prelude.{◌≡◌};
 ghost use Rattle.std.specs.Option.{option_copied};
 ghost use Rattle.pytext.specs.Agreement.{Gives};
 ghost use Rattle.pylock_run.specs.Line.Commands.{add_after, change_after, command_after, del_after};
