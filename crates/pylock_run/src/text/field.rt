@@ -44,6 +44,7 @@ pub fn push_escaped_text(out: &mut Vec<u8>, text: &str) -> Result<(), AllocError
 
 /// Whether the text is seen at once to stand in a field as it is, as nearly each does. Of a longer
 /// text whole chunks are tested, the last of which may lie over the one before it.
+// In line it cost the line of a file without a hash a sixth, and that of a directory a ninth.
 #[inline(never)]
 pub(crate) fn is_ordinary_text(text: &[u8]) -> bool
     ensures { IsTrue result → list_all is_ordinary text.now ≡ true }
