@@ -6,8 +6,8 @@
 //! `pylock_messages`, for control characters, and on `pylock_json`. Begin with [`audit`], of the
 //! bytes of a lock. It gives the findings in order, or the refusal of the lock; each
 //! [`LockFinding`] has the number of its entry, a [`FindingKind`] and a detail.
-//! [`findings_document`] makes JSON of them. `docs/FORMATS.md` has the table of findings, at `pylock
-//! audit`.
+//! [`findings_document`] makes JSON of them. `docs/FORMATS.md` has the table of findings, at
+//! `pylock audit`.
 //!
 //! What the program does with them, from `crates/pylock_program/src/reply.rt`:
 //!

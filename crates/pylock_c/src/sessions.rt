@@ -129,7 +129,8 @@ pub extern "C" fn pylock_session_set(
     text: &[u8],
     judged: &mut u64,
 ) -> i32
-    ensures { Tells (obeyed_in (change_command (set_change variable.now text.now)) (object slot.old))
+    ensures { Tells
+        (obeyed_in (change_command (set_change variable.now text.now)) (object slot.old))
         (object slot.old, judged.old) (object slot.new, judged.new) result }
 {
     let change = set_change(alloc, variable, text);

@@ -1,7 +1,7 @@
 -- The program's command line, in clap's terms.
 use Rattle.std.specs.List.{list_any}
-use Rattle.std.specs.Prelude.{◌≡◌, ◌≢◌, ◌⊎◌, Bool, true, false, not, codes, List, [], ◌∷◌, map, find}
-use Rattle.std.specs.Prelude.{Option, Some, None, IfSome, IsSomeAnd, is_some, fold}
+use Rattle.std.specs.Prelude.{◌≡◌, ◌≢◌, ◌⊎◌, Bool, true, false, not, codes, List, [], ◌∷◌, map}
+use Rattle.std.specs.Prelude.{find, Option, Some, None, IfSome, IsSomeAnd, is_some, fold}
 use Rattle.std.specs.Option.{option_map_or}
 use Rattle.std.specs.Str.{bytes_eq}
 use Rattle.clap.specs.Words.{App, IsAmong, Row, Text, fault_of, first_of, kind_of, new_app}

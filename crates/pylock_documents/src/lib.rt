@@ -1,7 +1,7 @@
 //! The answers of pylock as JSON documents: a plan or its fault, what becomes of each entry, the
 //! files of a lock, its head, and the words of a refusal. They have what the printed lines have,
-//! each field under a name of its own, and of a fault its reason too. A field that is absent is left
-//! out. The document of findings is `pylock_audit`'s.
+//! each field under a name of its own, and of a fault its reason too. A field that is absent is
+//! left out. The document of findings is `pylock_audit`'s.
 //!
 //! [`detail`] and [`head_detail`] say why an entry has its fate, and why the head has its fault;
 //! lines for a person and printed lines have these reasons too. The words of fates and faults are

@@ -49,15 +49,20 @@ empty_environment = record { variables = replicate 11 None; extras = set.empty; 
 
 -- the text of a variable
 abbrev pub variable_in : Var → EnvironmentValue → Option (List ℕ)
-variable_in variable environment = slice_index_or environment.variables (variable_number variable) None
+variable_in variable environment =
+    slice_index_or environment.variables (variable_number variable) None
 
 abbrev pub with_variable : Var → List ℕ → EnvironmentValue → EnvironmentValue
 with_variable variable text environment =
-    record environment { variables = slice_set environment.variables (variable_number variable) (Some text) }
+    record environment {
+      variables = slice_set environment.variables (variable_number variable) (Some text);
+    }
 
 abbrev pub without_variable : Var → EnvironmentValue → EnvironmentValue
 without_variable variable environment =
-    record environment { variables = slice_set environment.variables (variable_number variable) None }
+    record environment {
+      variables = slice_set environment.variables (variable_number variable) None;
+    }
 
 -- whether this very text is among the extras
 abbrev pub has_extra : List ℕ → EnvironmentValue → Bool

@@ -2,8 +2,8 @@
 //! and digits with their number.
 //!
 //! It stands on `std` alone, and the crates that read texts stand on it. All calls take a borrowed
-//! text or its bytes, and none takes memory but those of [`Text`], a text of its own. White space is the six ASCII characters space, TAB,
-//! LF, VT, FF and CR.
+//! text or its bytes, and none takes memory but those of [`Text`], a text of its own. White space
+//! is the six ASCII characters space, TAB, LF, VT, FF and CR.
 //!
 //! Start with [`trim_white`] and [`after_white`], which take white space away. [`digits_value`] is
 //! the number of some digits, where 128 bits hold it; it needs digits alone, which [`digits_len`]
