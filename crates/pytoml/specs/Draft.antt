@@ -1,6 +1,6 @@
 -- How the tables of a document that is being read stand to the nodes of TOML's rules. Only private
 -- clauses cite these words.
-use Rattle.std.specs.Prelude.{◌≡◌, ℕ, ◌+◌, ◌<◌, length, List, [], ◌∷◌, ◌++◌, map, take, drop}
+use Rattle.std.specs.Prelude.{◌≡◌, ℕ, suc, ◌+◌, ◌<◌, length, List, [], ◌∷◌, ◌++◌, map, take, drop}
 use Rattle.std.specs.Prelude.{Some, None, ⊤, option_map, option_and_then}
 use Rattle.std.specs.Prelude.{String, Result, IfOk, OnOk, string_bytes}
 use Rattle.std.specs.Borrow.{Bor}
@@ -8,7 +8,7 @@ use Rattle.std.specs.BTreeMap.{BTreeMap}
 use Rattle.std.specs.declared.alloc.Global.{Global}
 use Rattle.toml_parser.specs.Lexical.{Read, right_bracket}
 use Rattle.toml.specs.Data.{Data, table, array, Items, Members, push_item}
-use Rattle.toml.specs.Parse.{header_key, after_byte}
+use Rattle.toml.specs.Parse.{header_key, after_byte, lines, skip_bom}
 use Rattle.toml.specs.Tables.{Origin, Node, Nodes, no_nodes, open_table, open_array, insert}
 use Rattle.toml.specs.Tables.{get_node, close, Edit, along_header, array_table, Document}
 use Rattle.toml.specs.Tables.{Expression, define}
@@ -81,18 +81,24 @@ Stands d doc =
 
 -- ---- what the steps do
 
--- the draft stands for the document with this expression added
-abbrev pub Defines : Draft → Draft → Result ⊤ Unread → Expression → Type 0
-Defines old new result e =
-    (doc : Document) → Stands old doc
-    → OnOk result ((next : Document) × (define doc e ≡ Some next) × Stands new next)
+-- what lines are added to stands for the document with this expression added
+abbrev pub Defines : {D : Type 0} → (D → Document → Type 0) → D → D → Result ⊤ Unread → Expression
+    → Type 0
+Defines stands old new result e =
+    (doc : Document) → stands old doc
+    → OnOk result ((next : Document) × (define doc e ≡ Some next) × stands new next)
 
--- an expression was read, and the draft stands for the document with it added
-abbrev pub Adds : Draft → Draft → Result (Bor (List ℕ)) Unread → Read Expression → Type 0
-Adds old new result expected =
-    (doc : Document) → Stands old doc
+-- an expression was read, and it stands for the document with that added
+abbrev pub Adds : {D : Type 0} → (D → Document → Type 0) → D → D → Result (Bor (List ℕ)) Unread
+    → Read Expression → Type 0
+Adds stands old new result expected =
+    (doc : Document) → stands old doc
     → IfOk result (λ rest. (e : Expression) × (next : Document)
-    × (expected ≡ Some (e, rest.now)) × (define doc e ≡ Some next) × Stands new next)
+    × (expected ≡ Some (e, rest.now)) × (define doc e ≡ Some next) × stands new next)
+
+-- the lines of the text make this document
+abbrev pub IsDocument : List ℕ → Document → Type 0
+IsDocument text doc = lines (suc (length text)) (no_nodes, []) (skip_bom text) ≡ Some doc
 
 -- the rest of a header in double brackets
 abbrev pub array_header : List ℕ → Read Expression

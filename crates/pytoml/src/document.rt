@@ -1,12 +1,13 @@
 //! Documents, a line at a time. Only what this short way gives has a clause; where it gives
 //! nothing, `toml` decides, so no refusal is proved here.
-ghost use Rattle.std.specs.Prelude.{◌≡◌, ◌<◌, ◌≤◌, IfOk, Some, length};
+ghost use Rattle.std.specs.Prelude.{◌≡◌, ◌<◌, ◌≤◌, [], IfOk, OnOk, Some, length, string_bytes};
 ghost use Rattle.toml_parser.specs.Reading.{key_view};
 ghost use Rattle.toml.specs.View.{table_view, view};
 ghost use Rattle.toml.specs.Parse.{header_key, parse_document, parse_value};
 ghost use Rattle.toml.specs.Parse as spec;
 ghost use Rattle.pytoml.specs.Inner.{Reads, Shortens};
-ghost use Rattle.pytoml.specs.Draft.{Adds, array_header};
+ghost use Rattle.toml.specs.Tables.{Document, array_table, key_value, no_nodes, std_table};
+ghost use Rattle.pytoml.specs.Draft.{Adds, Defines, IsDocument, array_header};
 
 use crate::draft::Draft;
 use crate::fault::Unread;
@@ -18,18 +19,46 @@ use toml::{Table, Value};
 use toml_parser::text::{byte_at, first, skip};
 use toml_parser::{Key, RECURSION_LIMIT, dotted_key};
 
+/// What the lines of a document are added to.
+pub(crate) trait Lines {
+    /// The documents that it stands for.
+    ghost stands: { Self → Document → Type 0 };
+
+    /// Adds a pair.
+    fn put(&mut self, key: String, value: Value) -> Result<(), Unread>
+        ensures { Defines stands self.old self.new result
+            (([], string_bytes key), key_value (view value)) };
+
+    /// Begins the table of a header.
+    fn open_table(&mut self, alloc: Global, key: Key) -> Result<(), Unread>
+        ensures { Defines stands self.old self.new result (key_view key, std_table) };
+
+    /// Begins an element of an array of tables, which it may be the first of.
+    fn open_element(&mut self, alloc: Global, key: Key) -> Result<(), Unread>
+        ensures { Defines stands self.old self.new result (key_view key, array_table) };
+}
+
 /// The table that the text is, where the short way knows its shape.
 pub(crate) fn document(alloc: Global, s: &str) -> Result<Table, Unread>
     ensures { IfOk result (λ table. parse_document s.now ≡ Some (table_view table)) }
 {
     let mut draft = Draft::new(alloc);
+    add_lines(alloc, s, &mut draft)?;
+    draft.finish()
+}
+
+/// Adds the lines of a whole text to what stands for an empty document.
+pub(crate) fn add_lines<L: Lines>(alloc: Global, s: &str, draft: &mut L) -> Result<(), Unread>
+    requires { L.stands draft.old (no_nodes, []) }
+    ensures { OnOk result ((doc : Document) × L.stands draft.new doc × IsDocument s.now doc) }
+{
     let mut rest = past_mark(s);
     'lines: loop {
         let start = past_blank(rest);
         if start.is_empty() {
-            return draft.finish();
+            return Ok(());
         }
-        rest = line(alloc, start, &mut draft)?;
+        rest = line(alloc, start, draft)?;
     }
 }
 
@@ -58,8 +87,8 @@ fn past_mark(s: &str) -> &str
 }
 
 /// Adds what a line says, and gives what follows it.
-fn line<'a>(alloc: Global, s: &'a str, draft: &mut Draft) -> Result<&'a str, Unread>
-    ensures adds { Adds draft.old draft.new result (spec.line s.now) }
+fn line<'a, L: Lines>(alloc: Global, s: &'a str, draft: &mut L) -> Result<&'a str, Unread>
+    ensures adds { Adds L.stands draft.old draft.new result (spec.line s.now) }
     ensures shorter { IfOk result (λ rest. length rest.now < length s.now) }
 {
     let rest = expression(alloc, s, draft)?;
@@ -71,8 +100,8 @@ fn line<'a>(alloc: Global, s: &'a str, draft: &mut Draft) -> Result<&'a str, Unr
     }
 }
 
-fn expression<'a>(alloc: Global, s: &'a str, draft: &mut Draft) -> Result<&'a str, Unread>
-    ensures adds { Adds draft.old draft.new result (spec.expression s.now) }
+fn expression<'a, L: Lines>(alloc: Global, s: &'a str, draft: &mut L) -> Result<&'a str, Unread>
+    ensures adds { Adds L.stands draft.old draft.new result (spec.expression s.now) }
     ensures shorter { IfOk result (λ rest. length rest.now < length s.now) }
 {
     if first(s) == b'[' && byte_at(s, 1) == b'[' {
@@ -90,8 +119,8 @@ fn expression<'a>(alloc: Global, s: &'a str, draft: &mut Draft) -> Result<&'a st
 }
 
 /// The rest of a header in double brackets.
-fn array_header<'a>(alloc: Global, s: &'a str, draft: &mut Draft) -> Result<&'a str, Unread>
-    ensures adds { Adds draft.old draft.new result (array_header s.now) }
+fn array_header<'a, L: Lines>(alloc: Global, s: &'a str, draft: &mut L) -> Result<&'a str, Unread>
+    ensures adds { Adds L.stands draft.old draft.new result (array_header s.now) }
     ensures shorter { IfOk result (λ rest. length rest.now < length s.now) }
 {
     let (key, rest) = header_key(alloc, s)?;

@@ -10,6 +10,7 @@ ghost use Rattle.toml.specs.Tables.{no_nodes, std_table};
 ghost use Rattle.pytoml.specs.Draft.{Closes, Defines, HasKey, HasMore, IsClosed, Kept};
 ghost use Rattle.pytoml.specs.Draft.{Opens, OpensPath, Stands, Turns, key_of};
 
+use crate::document::Lines;
 use crate::fault::Unread;
 use crate::value::insert_new;
 use std::alloc::{AllocError, Global};
@@ -60,40 +61,6 @@ impl Draft {
             levels: Vec::new(alloc),
             table: Table::new(alloc),
         }
-    }
-
-    /// Adds a pair.
-    pub(crate) fn put(&mut self, key: String, value: Value) -> Result<(), Unread>
-        ensures { Defines self.old self.new result
-            (([], string_bytes key), key_value (view value)) }
-    {
-        insert_new(&mut self.table, key, value)
-    }
-
-    /// Begins the table of a header.
-    pub(crate) fn open_table(&mut self, alloc: Global, key: Key) -> Result<(), Unread>
-        ensures { Defines self.old self.new result (key_view key, std_table) }
-    {
-        let Key { path, last } = key;
-        let shared = self.shared(&path);
-        self.close_to(shared)?;
-        self.open_path(alloc, &path, shared)?;
-        self.open(alloc, last, Kind::Table)
-    }
-
-    /// Begins an element of an array of tables, which it may be the first of.
-    pub(crate) fn open_element(&mut self, alloc: Global, key: Key) -> Result<(), Unread>
-        ensures { Defines self.old self.new result (key_view key, array_table) }
-    {
-        let Key { path, last } = key;
-        let shared = self.shared(&path);
-        if shared == path.len() && self.has_key(shared, last.as_str()) {
-            self.close_to(shared + 1)?;
-            return self.next_element(alloc);
-        }
-        self.close_to(shared)?;
-        self.open_path(alloc, &path, shared)?;
-        self.open(alloc, last, Kind::Element(Vec::new(alloc)))
     }
 
     /// The table of the whole document.
@@ -196,6 +163,34 @@ impl Draft {
         };
         self.levels.push(level.with_element(element)?)?;
         Ok(())
+    }
+}
+
+impl Lines for Draft {
+    ghost stands = { Stands };
+
+    fn put(&mut self, key: String, value: Value) -> Result<(), Unread> {
+        insert_new(&mut self.table, key, value)
+    }
+
+    fn open_table(&mut self, alloc: Global, key: Key) -> Result<(), Unread> {
+        let Key { path, last } = key;
+        let shared = self.shared(&path);
+        self.close_to(shared)?;
+        self.open_path(alloc, &path, shared)?;
+        self.open(alloc, last, Kind::Table)
+    }
+
+    fn open_element(&mut self, alloc: Global, key: Key) -> Result<(), Unread> {
+        let Key { path, last } = key;
+        let shared = self.shared(&path);
+        if shared == path.len() && self.has_key(shared, last.as_str()) {
+            self.close_to(shared + 1)?;
+            return self.next_element(alloc);
+        }
+        self.close_to(shared)?;
+        self.open_path(alloc, &path, shared)?;
+        self.open(alloc, last, Kind::Element(Vec::new(alloc)))
     }
 }
 

@@ -8,7 +8,7 @@ use Rattle.pytoml.proofs.Lines.{array_header_is}
 use Rattle.pytoml.proofs.document.array_header.Goals as goal
 
 pub returns-clause-adds : goal.returns-clause-adds
-returns-clause-adds c = λ doc stands.
+returns-clause-adds g c = λ doc stands.
     let (next, defined, now) = c.in_ok-open_element.ensures doc stands in
     let rest = c.in_ok-key.rest.now in
     let closing : (first rest == 93) ≡ true = grind (arith, nat_tests, common_steps) in

@@ -12,14 +12,14 @@ use Rattle.pytoml.proofs.document.expression.Goals.{else-first-eq91-via-then-fir
 use Rattle.pytoml.proofs.document.expression.Goals as goal
 
 pub returns-then-byte_at-eq91-clause-adds : goal.returns-then-byte_at-eq91-clause-adds
-returns-then-byte_at-eq91-clause-adds c =
+returns-then-byte_at-eq91-clause-adds g c =
     let s = c.args.s.now in
     let brackets : (first s == 91 && slice_index s 1 == 91) ≡ true = grind (arith, nat_tests, common_steps) in
-    subst (Adds c.args.draft.now c.array_header.new.draft c.array_header.result)
+    subst (Adds g.L.Lines.stands c.args.draft.now c.array_header.new.draft c.array_header.result)
     (ap array_header c.skip.ensures.rest ∙ sym (expression_element s brackets)) c.array_header.ensures.adds
 
 pub returns-in_ok-open_table-clause-adds : goal.returns-in_ok-open_table-clause-adds
-returns-in_ok-open_table-clause-adds c = λ doc stands.
+returns-in_ok-open_table-clause-adds g c = λ doc stands.
     let s = c.args.s.now in
     let one : (first s == 91) ≡ true = grind (arith, nat_tests, common_steps) in
     let no_second : (first s == 91 && slice_index s 1 == 91) ≡ false =
@@ -33,7 +33,7 @@ returns-in_ok-open_table-clause-adds c = λ doc stands.
     ((k, std_table), next, expression_table s c.in_ok-key.rest.now k no_second one read, defined, now)
 
 pub returns-in_ok-put-clause-adds : goal.returns-in_ok-put-clause-adds
-returns-in_ok-put-clause-adds c = λ doc stands.
+returns-in_ok-put-clause-adds g c = λ doc stands.
     let s = c.args.s.now in
     let none : (first s == 91) ≡ false = grind (arith, nat_tests, common_steps) in
     let d = view c.in_ok-value.value in

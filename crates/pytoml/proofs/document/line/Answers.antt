@@ -8,7 +8,7 @@ use Rattle.pytoml.proofs.document.line.Goals.{then-is_empty, else-is_empty+in-35
 use Rattle.pytoml.proofs.document.line.Goals as goal
 
 pub returns-then-matches-clause-adds : goal.returns-then-matches-clause-adds
-returns-then-matches-clause-adds c = λ doc stands.
+returns-then-matches-clause-adds g c = λ doc stands.
     let rest = c.in_ok-rest.rest.now in
     let (e, next, read, defined, now) = c.in_ok-rest.ensures.adds doc stands in
     let here : ends_line c.past_ws-end.result.now ≡ true =

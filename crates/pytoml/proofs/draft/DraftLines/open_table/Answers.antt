@@ -4,7 +4,7 @@ use Rattle.toml.specs.Tables.{header, along_header}
 use Rattle.pytoml.specs.Draft.{in_table, path_of, plug}
 use Rattle.pytoml.proofs.Levels.{keys_are_path, table_opened}
 use Rattle.pytoml.proofs.Results.{on_ok_then}
-use Rattle.pytoml.proofs.draft.Draft.open_table.Goals as goal
+use Rattle.pytoml.proofs.draft.DraftLines.open_table.Goals as goal
 
 pub returns : goal.returns
 returns c = λ doc stands.

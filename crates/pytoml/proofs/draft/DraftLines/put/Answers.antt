@@ -2,7 +2,7 @@ use Rattle.std.proofs.Common.{refl, string_bytes}
 use Rattle.toml.specs.View.{view}
 use Rattle.pytoml.proofs.Levels.{pair_put}
 use Rattle.pytoml.proofs.Results.{on_both_ok}
-use Rattle.pytoml.proofs.draft.Draft.put.Goals as goal
+use Rattle.pytoml.proofs.draft.DraftLines.put.Goals as goal
 
 pub returns : goal.returns
 returns c = λ doc stands.

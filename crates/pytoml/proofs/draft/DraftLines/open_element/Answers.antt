@@ -7,7 +7,7 @@ use Rattle.toml.specs.View.{items_view}
 use Rattle.pytoml.specs.Draft.{in_array, path_of, plug}
 use Rattle.pytoml.proofs.Levels.{keys_are_path, element_opened, element_turned}
 use Rattle.pytoml.proofs.Results.{on_ok_then}
-use Rattle.pytoml.proofs.draft.Draft.open_element.Goals as goal
+use Rattle.pytoml.proofs.draft.DraftLines.open_element.Goals as goal
 
 pub returns-then-has_key : goal.returns-then-has_key
 returns-then-has_key c = λ doc stands.
