@@ -8,3 +8,4 @@ pub mod Steps
 pub mod Strings
 pub mod Lines
 pub mod Keys
+pub mod Others
