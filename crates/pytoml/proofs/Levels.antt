@@ -9,7 +9,7 @@ use Rattle.toml.specs.View.{array_view, table_view}
 use Rattle.toml.specs.declared.value.Value.{Value}
 use Rattle.toml.proofs.NodeLaws.{along_missing, get_node-insert, replace-insert}
 use Rattle.toml.proofs.Turns.{at_key_new, at_key_ok}
-use Rattle.pytoml.specs.Inner.{with_member}
+use Rattle.pytoml.specs.Members.{with_member}
 use Rattle.pytoml.specs.Draft.{Opened, in_table, in_array, wrapped, Ring, plug, path_of, IsDraft, Stands, IsKind, IsLevel, AreLevels, Closes, IsClosed, key_of}
 use Rattle.pytoml.specs.declared.draft.Draft.{Draft}
 use Rattle.pytoml.specs.declared.draft.Kind.{Kind}
@@ -109,6 +109,10 @@ last_closed all ls l inner_table outside_table rings inner split levels same clo
 no_rings : (rings : List Ring) → AreLevels [] rings → rings ≡ []
 no_rings [] all = refl
 no_rings (r ∷ rings) all = absurd all
+
+pub no_path : (rings : List Ring) → path_of rings ≡ [] → rings ≡ []
+no_path [] none = refl
+no_path (r ∷ rings) none = absurd (omega (arith, ap length none))
 
 -- with no table open there is nothing to put away
 pub none_closed : (all : List Level) (rings : List Ring) (n : ℕ) → all ≡ [] → AreLevels all rings → path_of rings ≡ take n (path_of rings)
@@ -242,7 +246,7 @@ element_opened p k n d doc rings more inner top is h none draft =
     )
 
 -- the next element of an array of tables, in the nodes around it
-next_in_array : (k : List ℕ) (done : Items) (inner around : Nodes)
+pub next_in_array : (k : List ℕ) (done : Items) (inner around : Nodes)
     → at_key k array_table (insert k (open_array done inner) around) ≡ Some (insert k (open_array (push_item done (table (close inner))) no_nodes) around)
 next_in_array k done inner around =
     at_key_ok k array_table (insert k (open_array done inner) around) _ (open_array done inner) (open_array (push_item done (table (close inner))) no_nodes)

@@ -9,3 +9,4 @@ pub mod Strings
 pub mod Lines
 pub mod Keys
 pub mod Others
+pub mod Outlines

@@ -6,7 +6,7 @@ use Rattle.std.proofs.lemmas.Option.{none-some}
 use Rattle.toml.specs.Data.{Data, get_member}
 use Rattle.toml.specs.Tables.{Node, Nodes, no_nodes, node, insert, get_node, replace, close, close_node, Edit, header_node, along_header}
 use Rattle.toml.proofs.NodeLaws.{along_found, get_node-insert, replace-insert}
-use Rattle.pytoml.specs.Inner.{with_member}
+use Rattle.pytoml.specs.Members.{with_member}
 use Rattle.pytoml.specs.Draft.{Opened, in_table, in_array, wrapped, Ring, plug, path_of}
 
 -- ---- nodes and the members that they close to

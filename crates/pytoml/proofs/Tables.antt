@@ -12,7 +12,7 @@ use Rattle.toml.specs.View.{view, members_view, table_view}
 use Rattle.toml.specs.declared.value.Value.{Value}
 use Rattle.toml.proofs.Views.{Entry, view-lookup}
 use Rattle.toml.proofs.Turns.{at_key_new}
-use Rattle.pytoml.specs.Inner.{with_member}
+use Rattle.pytoml.specs.Members.{with_member}
 use Rattle.pytoml.proofs.Rings.{absent_node, close-insert}
 
 match_members : (o : Ordering) (a b c : List Entry) → members_view (match_ordering o a b c) ≡ match_ordering o (members_view a) (members_view b) (members_view c)

@@ -14,7 +14,7 @@ use Rattle.toml.specs.Tables.{get_node, close, Edit, along_header, array_table, 
 use Rattle.toml.specs.Tables.{Expression, define}
 use Rattle.toml.specs.View.{array_view, table_view}
 use Rattle.toml.specs.declared.value.Value.{Value}
-use Rattle.pytoml.specs.Inner.{with_member}
+use Rattle.pytoml.specs.Members.{with_member}
 use Rattle.pytoml.specs.declared.draft.Draft.{Draft}
 use Rattle.pytoml.specs.declared.draft.Kind.{Kind}
 use Rattle.pytoml.specs.declared.draft.Kind.TheVariants.{Table, Element}

@@ -21,10 +21,3 @@ Shortens text r = IfOk r (λ p. length p.1.now < length text)
 -- a boolean, a number or a date-time as data
 abbrev pub read_scalar : List ℕ → Read Data
 read_scalar text = read_map scalar_data (unquoted text)
-
--- the members with another at its place in the order of the keys
-abbrev pub with_member : List ℕ → Data → Members → Members
-with_member k d no_members = member k d no_members
-with_member k d (member l e ms) =
-    match_ordering (slice_cmp nat_cmp k l) (member k d (member l e ms)) (member l d ms)
-    (member l e (with_member k d ms))

@@ -1,3 +1,5 @@
 pub mod Text
 pub mod Inner
 pub mod Draft
+pub mod Members
+pub mod Outline

@@ -5,8 +5,8 @@ ghost use Rattle.std.specs.Prelude.{◌≡◌, ◌≤◌, ◌-◌, [], IfOk, OnO
 ghost use Rattle.std.specs.Prelude.{length, map, string_bytes, take, vec_len};
 ghost use Rattle.toml_parser.specs.Reading.{key_view, path_view};
 ghost use Rattle.toml.specs.View.{table_view, view};
-ghost use Rattle.toml.specs.Tables.{Document, array_table, close, key_value};
-ghost use Rattle.toml.specs.Tables.{no_nodes, std_table};
+ghost use Rattle.toml.specs.Tables.{Document, close, get_node};
+ghost use Rattle.toml.specs.Tables.{no_nodes};
 ghost use Rattle.pytoml.specs.Draft.{Closes, Defines, HasKey, HasMore, IsClosed, Kept};
 ghost use Rattle.pytoml.specs.Draft.{Opens, OpensPath, Stands, Turns, key_of};
 
@@ -71,6 +71,18 @@ impl Draft {
         self.close_to(0)?;
         let Draft { levels: _, table } = self;
         Ok(table)
+    }
+
+    /// Closes all tables, where the root has no such key.
+    pub(crate) fn close_without(&mut self, key: &str) -> Result<(), Unread>
+        ensures { (doc : Document) → Stands self.old doc
+            → OnOk result (Stands self.new (doc.0, []) × (get_node key.now doc.0 ≡ None)) }
+    {
+        self.close_to(0)?;
+        if self.table.contains_key(key) {
+            return Err(Unread::Shape);
+        }
+        Ok(())
     }
 
     /// How many of the open tables, from the root on, a path goes through.

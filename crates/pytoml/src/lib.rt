@@ -28,6 +28,7 @@ mod document;
 mod draft;
 mod fault;
 mod key;
+mod outline;
 mod text;
 mod value;
 

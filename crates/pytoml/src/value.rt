@@ -6,7 +6,8 @@ ghost use Rattle.toml.specs.Data.{get_member, no_items};
 ghost use Rattle.toml.specs.View.{array_view, table_view, view};
 ghost use Rattle.toml.specs.Tables.{no_nodes};
 ghost use Rattle.toml.specs.Parse.{after_element, atom, items, members, scalar_data, val};
-ghost use Rattle.pytoml.specs.Inner.{Reads, Shortens, read_scalar, with_member};
+ghost use Rattle.pytoml.specs.Inner.{Reads, Shortens, read_scalar};
+ghost use Rattle.pytoml.specs.Members.{with_member};
 
 use crate::basic::basic_string;
 use crate::fault::Unread;

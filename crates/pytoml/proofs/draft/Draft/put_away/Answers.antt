@@ -1,7 +1,7 @@
 use Rattle.std.proofs.Common.{◌≡◌, ◌∙◌, ap, subst}
 use Rattle.toml.specs.View.{view, table_view, members_view}
 use Rattle.pytoml.specs.Draft.{Closes, key_of}
-use Rattle.pytoml.specs.Inner.{with_member}
+use Rattle.pytoml.specs.Members.{with_member}
 use Rattle.pytoml.proofs.Tables.{members_view-insert_entry}
 use Rattle.pytoml.proofs.draft.Draft.put_away.Goals as goal
 

@@ -1,0 +1,64 @@
+-- How a document from which the elements of one array of tables are handed out, at a key of the
+-- root, stands to the nodes of TOML's rules. Only private clauses cite these words.
+use Rattle.std.specs.Prelude.{◌≡◌, ℕ, List, [], ◌∷◌, Bool, false, None}
+use Rattle.toml_parser.specs.Strings.{Key}
+use Rattle.toml.specs.Data.{Items, no_items, push_item, same_key, table}
+use Rattle.toml.specs.Tables.{Document, Nodes, close, get_node, insert, open_array}
+use Rattle.pytoml.specs.Draft.{Stands}
+use Rattle.pytoml.specs.declared.draft.Draft.{Draft}
+use Rattle.pytoml.specs.declared.outline.Place.{Place}
+use Rattle.pytoml.specs.declared.outline.Place.TheVariants.{Before, Within, Behind}
+
+-- the first part of a header's key
+abbrev pub first_part : Key → List ℕ
+first_part ([], last) = last
+first_part (k ∷ path, last) = k
+
+-- the path of a header that doesn't go through the key
+abbrev pub IsOther : List ℕ → List (List ℕ) → Type 0
+IsOther key [] = ⊥
+IsOther key (k ∷ path) = same_key k key ≡ false
+
+-- an element is open: the rest and the element have drafts of their own
+pub record IsWithin (key : List ℕ) (taken : Items) (root element : Draft) (doc : Document)
+    : Type 0 where
+  pub rest : Nodes
+  pub rest_path : List (List ℕ)
+  pub inner : Nodes
+  pub path : List (List ℕ)
+  pub stands : Stands root (rest, rest_path)
+  pub absent : get_node key rest ≡ None
+  pub inside : Stands element (inner, path)
+  pub is : doc ≡ (insert key (open_array taken inner) rest, key ∷ path)
+
+-- the last element was taken
+pub record IsBehind (key : List ℕ) (taken : Items) (root : Draft) (nodes : Nodes) : Type 0 where
+  pub rest : Nodes
+  pub path : List (List ℕ)
+  pub done : Items
+  pub last : Nodes
+  pub stands : Stands root (rest, path)
+  pub absent : get_node key rest ≡ None
+  pub all : taken ≡ push_item done (table (close last))
+  pub is : nodes ≡ insert key (open_array done last) rest
+
+-- the same, where the header that was read last leads elsewhere
+abbrev pub IsElsewhere : List ℕ → Items → Draft → Document → Type 0
+IsElsewhere key taken root doc =
+    (behind : IsBehind key taken root doc.0) × (doc.1 ≡ behind.path) × IsOther key doc.1
+
+-- no element was met, and none taken
+abbrev pub IsBefore : Items → Draft → Document → Type 0
+IsBefore taken root doc = (taken ≡ no_items) × Stands root doc
+
+-- a document, by the place that its reading has come to
+abbrev pub StandsAt : List ℕ → Items → Draft → Place → Document → Type 0
+StandsAt key taken root Before doc = IsBefore taken root doc
+StandsAt key taken root (Within element) doc = IsWithin key taken root element doc
+StandsAt key taken root Behind doc = IsElsewhere key taken root doc
+
+-- the same, where no element is open
+abbrev pub IsLeft : List ℕ → Items → Draft → Place → Document → Type 0
+IsLeft key taken root Before doc = IsBefore taken root doc
+IsLeft key taken root (Within element) doc = ⊥
+IsLeft key taken root Behind doc = IsBehind key taken root doc.0
