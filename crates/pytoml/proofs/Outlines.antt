@@ -6,11 +6,11 @@ use Rattle.std.proofs.lemmas.Option.{none-some}
 use Rattle.std.proofs.lemmas.Slice.Eq.{bytes_eq-Decides}
 use Rattle.toml_parser.specs.Strings.{Key}
 use Rattle.toml.specs.Data.{Data, Items, no_items, item, Members, array, push_item, same_key, table}
-use Rattle.toml.specs.Tables.{Node, Nodes, no_nodes, open_table, open_array, implicit, insert, replace, get_node, close, close_node, Edit, header_node, by_header, along_header, at_found, at_key, redefine, new_node, Definition, std_table, array_table, key_value, put, Document, define}
+use Rattle.toml.specs.Tables.{Node, Nodes, no_nodes, open_table, open_array, implicit, insert, replace, get_node, close, Edit, header_node, by_header, along_header, at_found, at_key, redefine, new_node, Definition, std_table, array_table, key_value, put, Document, define}
 use Rattle.toml.proofs.Turns.{at_key_new}
 use Rattle.pytoml.specs.Draft.{Defines, Ring, Stands, in_array, plug}
 use Rattle.pytoml.specs.Members.{with_elements, with_member}
-use Rattle.pytoml.specs.Outline.{IsBefore, IsBehind, IsElsewhere, IsLeft, IsOther, IsWithin, StandsAt, first_part}
+use Rattle.pytoml.specs.Outline.{IsBehind, IsElsewhere, IsLeft, IsOther, IsWithin, StandsAt, StandsBy, first_part}
 use Rattle.pytoml.specs.declared.draft.Draft.{Draft}
 use Rattle.pytoml.specs.declared.fault.Unread.{Unread}
 use Rattle.pytoml.specs.declared.outline.Place.{Place}
@@ -146,8 +146,11 @@ elsewhere what is key taken old new doc b e other next defined stands =
     ap (header_edit e what) b.is ∙ header_other key e what n b.rest other ∙ ap (option_map (insert key n)) made in (
       (insert key n next.0, path),
       is doc e ∙ ap (option_map (λ root. (root, path))) along,
-      (record { rest = next.0; path = next.1; done = b.done; last = b.last; stands = stands; absent = header_absent key e what b.rest next.0 other b.absent made; all = b.all; is = refl },
-          leads, header_path key e other),
+      (
+        record { rest = next.0; path = next.1; done = b.done; last = b.last; stands = stands; absent = header_absent key e what b.rest next.0 other b.absent made; all = b.all; is = refl },
+        leads,
+        header_path key e other,
+      ),
     )
 
 -- a header that doesn't go through the key, where no element is open
@@ -204,7 +207,13 @@ within_put key taken root old new result e d doc w defines =
       (plug (r ∷ []) next.0, doc.1),
       of_pair doc e d ∙ ap (option_map (λ root. (root, doc.1))) along,
       record {
-        rest = w.rest; rest_path = w.rest_path; inner = next.0; path = next.1; stands = w.stands; absent = w.absent; inside = stands;
+        rest = w.rest;
+        rest_path = w.rest_path;
+        inner = next.0;
+        path = next.1;
+        stands = w.stands;
+        absent = w.absent;
+        inside = stands;
         is = ap (λ t. (plug (r ∷ []) next.0, t.1)) w.is ∙ ap (λ p. (plug (r ∷ []) next.0, key ∷ p)) leads;
       },
     )) (defines (w.inner, w.path) w.inside)
@@ -233,8 +242,11 @@ behind_put key taken old new result e d doc at defines =
     ap₂ (λ p ns. along_header p (put e d) ns) same b.is ∙ pair_other key b.path (put e d) n b.rest here ∙ ap (option_map (insert key n)) nodes in (
       (insert key n next.0, doc.1),
       of_pair doc e d ∙ ap (option_map (λ root. (root, doc.1))) along,
-      (record { rest = next.0; path = next.1; done = b.done; last = b.last; stands = stands; absent = pair_absent key b.path (put e d) b.rest next.0 here b.absent nodes; all = b.all; is = refl },
-          same ∙ leads, other),
+      (
+        record { rest = next.0; path = next.1; done = b.done; last = b.last; stands = stands; absent = pair_absent key b.path (put e d) b.rest next.0 here b.absent nodes; all = b.all; is = refl },
+        same ∙ leads,
+        other,
+      ),
     )) (defines (b.rest, b.path) b.stands)
 
 -- a pair where no element is open
@@ -244,6 +256,18 @@ pub rest_put : (key : List ℕ) (taken : Items) (place : Place) (old new : Draft
 rest_put key taken Before old new result e d doc other at defines = on_ok_then result (λ made. (made.0, made.1, (at.0, made.2))) (defines doc at.1)
 rest_put key taken (Within element) old new result e d doc other at defines = absurd (other element refl)
 rest_put key taken Behind old new result e d doc other at defines = behind_put key taken old new result e d doc at defines
+
+-- ---- over some elements that may have been taken
+
+-- the document that is made stands, with the elements as they were
+pub over : (holds : Items → Type 0) (key : List ℕ) (taken : Items) (root : Draft) (place : Place) (next : Option Document) → holds taken
+    → (made : Document) × (next ≡ Some made) × StandsAt key taken root place made → (made : Document) × (next ≡ Some made) × StandsBy holds key root place made
+over holds key taken root place next h made = (made.0, made.1, (taken, h, made.2))
+
+pub on_ok_over : (holds : Items → Type 0) (key : List ℕ) (taken : Items) (root : Draft) (place : Place) (next : Option Document) (result : Result ⊤ Unread) → holds taken
+    → OnOk result ((made : Document) × (next ≡ Some made) × StandsAt key taken root place made)
+    → OnOk result ((made : Document) × (next ≡ Some made) × StandsBy holds key root place made)
+on_ok_over holds key taken root place next result h made = on_ok_then result (over holds key taken root place next h) made
 
 -- ---- the elements
 

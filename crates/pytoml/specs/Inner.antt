@@ -2,11 +2,9 @@
 -- words.
 use Rattle.std.specs.Prelude.{◌≡◌, ℕ, ◌<◌, List, length, Some, Result, IfOk}
 use Rattle.std.specs.Borrow.{Bor}
-use Rattle.std.specs.Ordering.{nat_cmp, match_ordering}
-use Rattle.std.specs.Cmp.Lexicographic.{slice_cmp}
 use Rattle.toml_parser.specs.Lexical.{Read}
 use Rattle.toml_parser.specs.Numbers.{unquoted}
-use Rattle.toml.specs.Data.{Data, Members, no_members, member}
+use Rattle.toml.specs.Data.{Data}
 use Rattle.toml.specs.Parse.{read_map, scalar_data}
 use Rattle.pytoml.specs.declared.fault.Unread.{Unread}
 

@@ -1,6 +1,6 @@
 -- How a document from which the elements of one array of tables are handed out, at a key of the
 -- root, stands to the nodes of TOML's rules. Only private clauses cite these words.
-use Rattle.std.specs.Prelude.{◌≡◌, ℕ, List, [], ◌∷◌, Bool, false, None}
+use Rattle.std.specs.Prelude.{◌≡◌, ℕ, List, [], ◌∷◌, false, None}
 use Rattle.toml_parser.specs.Strings.{Key}
 use Rattle.toml.specs.Data.{Items, no_items, push_item, same_key, table}
 use Rattle.toml.specs.Tables.{Document, Nodes, close, get_node, insert, open_array}
@@ -62,3 +62,11 @@ abbrev pub IsLeft : List ℕ → Items → Draft → Place → Document → Type
 IsLeft key taken root Before doc = IsBefore taken root doc
 IsLeft key taken root (Within element) doc = ⊥
 IsLeft key taken root Behind doc = IsBehind key taken root doc.0
+
+-- the same two, over some elements that may have been taken
+abbrev pub StandsBy : (Items → Type 0) → List ℕ → Draft → Place → Document → Type 0
+StandsBy holds key root place doc =
+    (taken : Items) × holds taken × StandsAt key taken root place doc
+
+abbrev pub LeftBy : (Items → Type 0) → List ℕ → Draft → Place → Document → Type 0
+LeftBy holds key root place doc = (taken : Items) × holds taken × IsLeft key taken root place doc

@@ -7,11 +7,14 @@ ghost use Rattle.toml.specs.Parse.{header_key, parse_document, parse_value};
 ghost use Rattle.toml.specs.Parse as spec;
 ghost use Rattle.pytoml.specs.Inner.{Reads, Shortens};
 ghost use Rattle.toml.specs.Tables.{Document, array_table, key_value, no_nodes, std_table};
+ghost use Rattle.toml.specs.Data.{Items, no_items};
+ghost use Rattle.pytoml.specs.Members.{with_elements};
 ghost use Rattle.pytoml.specs.Draft.{Adds, Defines, IsDocument, array_header};
 
 use crate::draft::Draft;
 use crate::fault::Unread;
 use crate::key::key_equals;
+use crate::outline::{Elements, Outline};
 use crate::text::{past_blank, past_ws};
 use crate::value::value;
 use std::alloc::Global;
@@ -45,6 +48,22 @@ pub(crate) fn document(alloc: Global, s: &str) -> Result<Table, Unread>
     let mut draft = Draft::new(alloc);
     add_lines(alloc, s, &mut draft)?;
     draft.finish()
+}
+
+/// The table that the text is without the elements that are handed out, and who took those; where
+/// the short way knows its shape.
+pub(crate) fn document_without<E: Elements>(
+    alloc: Global,
+    s: &str,
+    elements: E,
+) -> Result<(Table, E), Unread>
+    requires { E.holds elements no_items }
+    ensures { IfOk result (λ read. (taken : Items) × E.holds read.1 taken
+        × (parse_document s.now ≡ Some (with_elements E.key taken (table_view read.0)))) }
+{
+    let mut outline = Outline::new(alloc, elements);
+    add_lines(alloc, s, &mut outline)?;
+    outline.finish()
 }
 
 /// Adds the lines of a whole text to what stands for an empty document.

@@ -18,9 +18,11 @@
 //! ```
 #![tactic(auto)]
 
-ghost use Rattle.std.specs.Prelude.{◌≡◌, Err, IfOk, None, Some};
+ghost use Rattle.std.specs.Prelude.{◌≡◌, Err, IfOk, IfSome, None, Some};
+ghost use Rattle.toml.specs.Data.{Items, no_items};
 ghost use Rattle.toml.specs.Parse.{parse_document, parse_value};
 ghost use Rattle.toml.specs.View.{table_view, view};
+ghost use Rattle.pytoml.specs.Members.{with_elements};
 ghost use Rattle.pytoml.specs.declared.fault.TomlError.TheVariants as fault;
 
 mod basic;
@@ -32,10 +34,11 @@ mod outline;
 mod text;
 mod value;
 
-use document::{document, whole_value};
+use document::{document, document_without, whole_value};
 pub use fault::TomlError;
 use fault::Unread;
-use std::alloc::Global;
+pub use outline::Elements;
+use std::alloc::{AllocError, Global};
 use toml::{Table, Value};
 
 /// The table that a document of TOML 1.1 is.
@@ -50,6 +53,28 @@ pub fn read_table(alloc: Global, text: &str) -> Result<Table, TomlError>
         Ok(table) => Ok(table),
         Err(Unread::Memory) => Err(TomlError::Memory),
         Err(Unread::Shape) => table_by_toml(alloc, text),
+    }
+}
+
+/// The table that a document of TOML 1.1 is without the elements of one array of tables, at the key
+/// of `elements`, to which they are handed in their order, each as soon as it is complete: so one
+/// element's table stands at a time. None where the text is of a shape that the short way
+/// doesn't know, a refused one among them; `elements` is let go then.
+///
+/// Takes memory for the table, for one element, and for what `elements` takes.
+pub fn read_table_without<E: Elements>(
+    alloc: Global,
+    text: &str,
+    elements: E,
+) -> Result<Option<(Table, E)>, AllocError>
+    requires { E.holds elements no_items }
+    ensures { IfOk result (λ read. IfSome read (λ r. (taken : Items) × E.holds r.1 taken
+        × (parse_document text.now ≡ Some (with_elements E.key taken (table_view r.0))))) }
+{
+    match document_without(alloc, text, elements) {
+        Ok(read) => Ok(Some(read)),
+        Err(Unread::Memory) => Err(AllocError),
+        Err(Unread::Shape) => Ok(None),
     }
 }
 

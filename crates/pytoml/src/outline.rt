@@ -1,14 +1,14 @@
 //! A document from which the elements of one array of tables at the root are handed out, each as
 //! soon as it is complete. The element that is being read has a draft of its own, and what is
 //! handed out is kept by whoever took it: so one element's table stands at a time.
-ghost use Rattle.std.specs.Prelude.{◌≡◌, ◌∷◌, [], IfOk, OnOk};
+ghost use Rattle.std.specs.Prelude.{◌≡◌, ℕ, List, ◌∷◌, [], IfOk, OnOk};
 ghost use Rattle.toml_parser.specs.Reading.{key_view};
 ghost use Rattle.toml.specs.Data.{Items, no_items, push_item, same_key, table};
 ghost use Rattle.toml.specs.Tables.{Document, array_table, close, no_nodes};
 ghost use Rattle.toml.specs.View.{table_view};
 ghost use Rattle.pytoml.specs.Members.{with_elements};
 ghost use Rattle.pytoml.specs.Draft.{Defines};
-ghost use Rattle.pytoml.specs.Outline.{IsLeft, StandsAt, first_part};
+ghost use Rattle.pytoml.specs.Outline.{LeftBy, StandsBy, first_part};
 
 use crate::document::Lines;
 use crate::draft::Draft;
@@ -20,13 +20,20 @@ use toml_parser::Key;
 
 /// Who takes the elements of an array of tables, one after the other.
 pub trait Elements: Drop {
-    /// The elements that were taken.
-    ghost taken: { Self → Items };
+    /// The key at which the array stands.
+    ghost key: { List ℕ };
 
-    /// Takes the next element.
+    /// What it is after these elements.
+    ghost holds: { Self → Items → Type 0 };
+
+    /// The key at which the array stands, in the root of the document.
+    fn key() -> &'static str
+        ensures { result.now ≡ key };
+
+    /// Takes the next element. Out of memory is the only refusal.
     fn take(&mut self, element: Table) -> Result<(), AllocError>
-        ensures { OnOk result (taken self.new
-            ≡ push_item (taken self.old) (table (table_view element))) };
+        ensures { OnOk result ((taken : Items) → holds self.old taken
+            → holds self.new (push_item taken (table (table_view element)))) };
 }
 
 /// How far the elements were read.
@@ -41,17 +48,15 @@ pub(crate) enum Place {
 }
 
 /// A document without the elements at the key, and who takes those.
-pub(crate) struct Outline<'k, E: Elements> {
-    key: &'k str,
+pub(crate) struct Outline<E: Elements> {
     root: Draft,
     place: Place,
     elements: E,
 }
 
-impl<'k, E: Elements> Drop for Outline<'k, E> {
+impl<E: Elements> Drop for Outline<E> {
     fn drop(self) {
         let Outline {
-            key: _,
             root: _,
             place: _,
             elements: _,
@@ -59,16 +64,14 @@ impl<'k, E: Elements> Drop for Outline<'k, E> {
     }
 }
 
-impl<'k, E: Elements> Outline<'k, E> {
+impl<E: Elements> Outline<E> {
     /// An empty document.
-    pub(crate) fn new(alloc: Global, key: &'k str, elements: E) -> Outline<'k, E>
-        requires { E.taken elements ≡ no_items }
-        ensures empty { StandsAt result.key.now (E.taken result.elements) result.root result.place
+    pub(crate) fn new(alloc: Global, elements: E) -> Outline<E>
+        requires { E.holds elements no_items }
+        ensures { StandsBy (E.holds result.elements) E.key result.root result.place
             (no_nodes, []) }
-        ensures key { result.key.now ≡ key.now }
     {
         Outline {
-            key,
             root: Draft::new(alloc),
             place: Place::Before,
             elements,
@@ -77,13 +80,13 @@ impl<'k, E: Elements> Outline<'k, E> {
 
     /// The table of the document without the elements, and who took those.
     pub(crate) fn finish(mut self) -> Result<(Table, E), Unread>
-        ensures { (doc : Document) → StandsAt self.entry.key.now (E.taken self.entry.elements) self.entry.root self.entry.place doc
-            → IfOk result (λ read. close doc.0
-            ≡ with_elements self.entry.key.now (E.taken read.1) (table_view read.0)) }
+        ensures { (doc : Document) → StandsBy (E.holds self.elements) E.key
+            self.root self.place doc
+            → IfOk result (λ read. (taken : Items) × E.holds read.1 taken × (close doc.0
+            ≡ with_elements E.key taken (table_view read.0))) }
     {
         self.leave()?;
         let Outline {
-            key: _,
             root,
             place: _,
             elements,
@@ -93,17 +96,17 @@ impl<'k, E: Elements> Outline<'k, E> {
 
     /// Whether a header goes through the key.
     fn is_ours(&self, key: &Key) -> bool
-        ensures { result ≡ same_key (first_part (key_view key.now)) self.now.key.now }
+        ensures { result ≡ same_key (first_part (key_view key.now)) E.key }
     {
-        first_part(key) == self.key
+        first_part(key) == E::key()
     }
 
     /// Hands over the element that is open, where one is.
     fn leave(&mut self) -> Result<(), Unread>
-        ensures left { (doc : Document)
-            → StandsAt self.old.key.now (E.taken self.old.elements) self.old.root self.old.place doc
-            → OnOk result (IsLeft self.new.key.now (E.taken self.new.elements) self.new.root self.new.place doc) }
-        ensures key { self.new.key.now ≡ self.old.key.now }
+        ensures { (doc : Document)
+            → StandsBy (E.holds self.old.elements) E.key self.old.root self.old.place doc
+            → OnOk result (LeftBy (E.holds self.new.elements) E.key self.new.root
+            self.new.place doc) }
     {
         match mem::replace(&mut self.place, Place::Behind) {
             Place::Within(element) => self.elements.take(element.finish()?)?,
@@ -114,20 +117,21 @@ impl<'k, E: Elements> Outline<'k, E> {
 
     /// Begins the next element.
     fn next_element(&mut self, alloc: Global) -> Result<(), Unread>
-        ensures { Defines (λ o doc. StandsAt o.key.now (E.taken o.elements) o.root o.place doc)
-            self.old self.new result (([], self.old.key.now), array_table) }
+        ensures { Defines
+            (λ o doc. StandsBy (E.holds o.elements) E.key o.root o.place doc)
+            self.old self.new result (([], E.key), array_table) }
     {
         self.leave()?;
         if let Place::Before = &self.place {
-            self.root.close_without(self.key)?;
+            self.root.close_without(E::key())?;
         }
         self.place = Place::Within(Draft::new(alloc));
         Ok(())
     }
 }
 
-impl<'k, E: Elements> Lines for Outline<'k, E> {
-    ghost stands = { λ o doc. StandsAt o.key.now (E.taken o.elements) o.root o.place doc };
+impl<E: Elements> Lines for Outline<E> {
+    ghost stands = { λ o doc. StandsBy (E.holds o.elements) E.key o.root o.place doc };
 
     fn put(&mut self, key: String, value: Value) -> Result<(), Unread> {
         match &mut self.place {

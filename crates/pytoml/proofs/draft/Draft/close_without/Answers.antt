@@ -1,10 +1,9 @@
-use Rattle.std.proofs.Common.{◌≡◌, ◌∙◌, [], None, false, is_some, nat_cmp, string_bytes, subst, sym, ap, ap₂}
+use Rattle.std.proofs.Common.{◌≡◌, ◌∙◌, None, false, is_some, nat_cmp, string_bytes, sym, ap, ap₂}
 use Rattle.std.specs.BTreeMap.{is_at}
 use Rattle.std.specs.Cmp.Lexicographic.{slice_cmp}
 use Rattle.std.specs.Map.{lookup}
 use Rattle.toml.specs.Data.{get_member}
 use Rattle.toml.specs.Tables.{get_node}
-use Rattle.toml.specs.View.{table_view}
 use Rattle.pytoml.specs.Draft.{plug}
 use Rattle.pytoml.proofs.Levels.{no_path}
 use Rattle.pytoml.proofs.Rings.{absent_node}
