@@ -1,15 +1,21 @@
--- Nodes at a key, beside what is done at other keys.
-use Rattle.std.proofs.Common.{◌≡◌, ℕ, cond, Bool, true, false, List, Some, nat_cmp, Ordering, Less, Equal, Greater, refl, sym, ap, ◌∙◌}
+-- Nodes and members at a key, beside what is done at other keys.
+use Rattle.std.proofs.Common.{◌≡◌, ℕ, cond, Bool, true, false, List, Some, nat_cmp, Ordering, Less, Equal, Greater, refl, sym, ap, ◌∙◌, Option, None}
+use Rattle.std.specs.Cmp.{tied_itself}
 use Rattle.std.proofs.lemmas.Cmp.{nat_list_cmp_total}
 use Rattle.std.specs.Cmp.Lexicographic.{slice_cmp}
-use Rattle.std.specs.Ordering.{is_eq, ordering_reverse}
-use Rattle.toml.specs.Data.{same_key}
+use Rattle.std.proofs.lemmas.Bool.{true≢false}
+use Rattle.std.specs.Ordering.{is_eq, match_ordering, ordering_reverse}
+use Rattle.toml.specs.Data.{Data, Items, no_items, item, Members, no_members, member, array, get_member, same_key}
+use Rattle.pytoml.specs.Members.{with_elements, with_member}
 use Rattle.toml.specs.Tables.{Node, Nodes, no_nodes, node, insert, get_node, replace}
 
 -- ---- the order of keys
 
 turned : (k l : List ℕ) (o : Ordering) → slice_cmp nat_cmp k l ≡ o → slice_cmp nat_cmp l k ≡ ordering_reverse o
 turned k l o is = nat_list_cmp_total.antisymm l k ∙ ap ordering_reverse is
+
+same_self : (k : List ℕ) → slice_cmp nat_cmp k k ≡ Equal
+same_self k = tied_itself nat_list_cmp_total k
 
 -- a key between two
 beyond : (k l m : List ℕ) → slice_cmp nat_cmp k m ≡ Less → slice_cmp nat_cmp l m ≡ Greater → slice_cmp nat_cmp l k ≡ Greater
@@ -99,3 +105,36 @@ get_node-replace_other k l x (node m z ns) other = by (get_node-replace_other k 
     by more Less is = rw is (rest more)
     by more Equal is = rw (is, other_same k l m other is)
     by more Greater is = rw is (rest more)
+
+-- ---- members
+
+apart : {A : Type 0} (o : Ordering) (x y : A) → is_eq o ≡ false → match_ordering o x y x ≡ x
+apart Less x y other = refl
+apart Equal x y other = absurd (true≢false other)
+apart Greater x y other = refl
+
+-- the member that was put, and the others
+pub with_member-there : (key : List ℕ) (d : Data) (ms : Members) → get_member key (with_member key d ms) ≡ Some d
+with_member-there key d no_members = rw (same_self key)
+with_member-there key d (member l e ms) = by (with_member-there key d ms) (slice_cmp nat_cmp key l) refl
+  where
+    by : get_member key (with_member key d ms) ≡ Some d → (o : Ordering) → slice_cmp nat_cmp key l ≡ o → get_member key (with_member key d (member l e ms)) ≡ Some d
+    by more Less is = rw (is, same_self key)
+    by more Equal is = rw (is, is)
+    by more Greater is = rw (is, is) more
+
+pub with_member-other : (other key : List ℕ) (d : Data) (ms : Members) → same_key other key ≡ false → get_member other (with_member key d ms) ≡ get_member other ms
+with_member-other other key d no_members differs = apart (slice_cmp nat_cmp other key) None (Some d) differs
+with_member-other other key d (member l e ms) differs = by (with_member-other other key d ms differs) (slice_cmp nat_cmp key l) refl
+  where
+    by : get_member other (with_member key d ms) ≡ get_member other ms → (o : Ordering) → slice_cmp nat_cmp key l ≡ o
+        → get_member other (with_member key d (member l e ms)) ≡ get_member other (member l e ms)
+    by more Less is = rw is (apart (slice_cmp nat_cmp other key) (get_member other (member l e ms)) (Some d) differs)
+    by more Equal is =
+        let differs_here : same_key other l ≡ false = other_same other key l differs is in
+        rw is (apart (slice_cmp nat_cmp other l) (get_member other ms) (Some d) differs_here ∙ sym (apart (slice_cmp nat_cmp other l) (get_member other ms) (Some e) differs_here))
+    by more Greater is = rw is (ap (λ rest. match_ordering (slice_cmp nat_cmp other l) rest (Some e) rest) more)
+
+pub with_elements-other : (other key : List ℕ) (taken : Items) (ms : Members) → same_key other key ≡ false → get_member other (with_elements key taken ms) ≡ get_member other ms
+with_elements-other other key no_items ms differs = refl
+with_elements-other other key (item d ds) ms differs = with_member-other other key (array (item d ds)) ms differs
