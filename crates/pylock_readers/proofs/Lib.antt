@@ -3,6 +3,7 @@ mod FileNameLemmas
 mod TableLemmas
 mod PrefixLemmas
 pub mod EntryLemmas
+pub mod ElementLemmas
 mod DistinctLemmas
 pub mod Joined
 mod TextLemmas

@@ -1,2 +1,3 @@
 -- What serves the contracts of private functions alone.
+pub mod Elements
 pub mod Tables

@@ -59,7 +59,8 @@ pub fn read_table(alloc: Global, text: &str) -> Result<Table, TomlError>
 /// The table that a document of TOML 1.1 is without the elements of one array of tables, at the key
 /// of `elements`, to which they are handed in their order, each as soon as it is complete: so one
 /// element's table stands at a time. None where the text is of a shape that the short way
-/// doesn't know, a refused one among them; `elements` is let go then, and [`read_table_by_toml`] decides.
+/// doesn't know, a refused one among them; `elements` is let go then, and [`read_table_by_toml`]
+/// decides.
 ///
 /// Takes memory for the table, for one element, and for what `elements` takes.
 pub fn read_table_without<E: Elements>(
@@ -93,8 +94,8 @@ pub fn read_value(alloc: Global, text: &str) -> Result<Value, TomlError>
     }
 }
 
-/// The table that a document of TOML 1.1 is, read by `toml` alone: for a text of which the short way
-/// is known to give none.
+/// The table that a document of TOML 1.1 is, read by `toml` alone: for a text of which the short
+/// way is known to give none.
 pub fn read_table_by_toml(alloc: Global, text: &str) -> Result<Table, TomlError>
     ensures ok { IfOk result (λ table. parse_document text.now ≡ Some (table_view table)) }
     ensures syntax { result ≡ Err fault.Syntax → parse_document text.now ≡ None }

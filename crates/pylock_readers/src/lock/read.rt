@@ -1,19 +1,22 @@
 //! Locks from their texts.
-ghost use Rattle.std.specs.Prelude.{◌≡◌, option_map};
+ghost use Rattle.std.specs.Prelude.{◌≡◌, ◌⊎◌, Err, IfErr, IfOk, Ok, option_map};
 ghost use Rattle.toml.specs.View.{view, table_view};
 ghost use Rattle.pytext.specs.Agreement.{Gives};
+ghost use Rattle.pytoml.specs.declared.fault.TomlError.TheVariants as fault;
 ghost use Rattle.pylock_readers.specs.Lock.Head.{created_by_in, is_lock_version};
 ghost use Rattle.pylock_readers.specs.Lock.Head.{lock_version_in};
+ghost use Rattle.pylock_readers.specs.Inner.Elements.{lock_of_text};
 ghost use Rattle.pylock_readers.specs.Lock.Reading.{document_in, document_of, lock_in, lock_of};
 
 use crate::error::LockError;
 use crate::field::{or_refused, take, text};
 use crate::lock::Lock;
+use crate::lock::elements::Packages;
 use crate::lock::head::Head;
 use crate::lock::packages::read_packages;
 use crate::text::as_text;
 use pytext::is_number;
-use pytoml::{TomlError, read_table};
+use pytoml::{TomlError, read_table, read_table_by_toml, read_table_without};
 use std::alloc::Global;
 use toml::{Table, Value};
 
@@ -28,8 +31,19 @@ impl Lock {
     pub fn read(alloc: Global, bytes: &[u8]) -> Result<Lock, LockError>
         ensures { Gives LockError.Memory (λ l. l) result (lock_of bytes.now) }
     {
-        let document = read_document(alloc, bytes)?;
-        Lock::from_document(alloc, document)
+        let text = as_text(bytes).ok_or(LockError::NotText)?;
+        Lock::read_text(alloc, text)
+    }
+
+    /// The lock that the text is. The entries are read as their tables come; where the text is of a
+    /// shape that doesn't allow it, from the whole document.
+    fn read_text(alloc: Global, text: &str) -> Result<Lock, LockError>
+        ensures { Gives LockError.Memory (λ l. l) result (lock_of_text text.now) }
+    {
+        match read_table_without(alloc, text, Packages::new(alloc))? {
+            Some((document, packages)) => packages.into_lock(alloc, document),
+            None => Lock::from_document(alloc, document_by_toml(alloc, text)?),
+        }
     }
 
     /// The lock of version 1 that a TOML document is (PEP 751, "File format"). The refusals are
@@ -64,14 +78,29 @@ pub fn read_document(alloc: Global, bytes: &[u8]) -> Result<Table, LockError>
 fn document(alloc: Global, text: &str) -> Result<Table, LockError>
     ensures { Gives LockError.Memory table_view result (document_of text.now) }
 {
-    match read_table(alloc, text) {
+    or_toml(read_table(alloc, text))
+}
+
+fn document_by_toml(alloc: Global, text: &str) -> Result<Table, LockError>
+    ensures { Gives LockError.Memory table_view result (document_of text.now) }
+{
+    or_toml(read_table_by_toml(alloc, text))
+}
+
+/// What was read, where any refusal but that of memory is that the text isn't TOML.
+fn or_toml(read: Result<Table, TomlError>) -> Result<Table, LockError>
+    ensures ok { IfOk result (λ table. read ≡ Ok table) }
+    ensures err { IfErr result (λ e. ((read ≡ Err fault.Syntax) × (e ≡ LockError.Toml))
+        ⊎ (e ≡ LockError.Memory)) }
+{
+    match read {
         Ok(table) => Ok(table),
         Err(TomlError::Memory) => Err(LockError::Memory),
         Err(_) => Err(LockError::Toml),
     }
 }
 
-fn require_lock_version(field: Option<Value>) -> Result<(), LockError>
+pub(crate) fn require_lock_version(field: Option<Value>) -> Result<(), LockError>
     ensures { Gives LockError.Memory (λ u. u) result
         (lock_version_in (option_map view field)) }
 {
@@ -93,7 +122,7 @@ fn is_lock_version(version: &str) -> bool
     }
 }
 
-fn require_creator(field: Option<Value>) -> Result<(), LockError>
+pub(crate) fn require_creator(field: Option<Value>) -> Result<(), LockError>
     ensures { Gives LockError.Memory (λ u. u) result
         (created_by_in (option_map view field)) }
 {

@@ -1,0 +1,138 @@
+//! The entries of a lock, each read from its table as soon as that is complete: whoever reads the
+//! document hands the tables out, so that one stands at a time (PEP 751, `packages`). What is
+//! refused of them is told when the document and the head are known.
+ghost use Rattle.std.specs.Prelude.{◌≡◌, ◌≤◌, IfOk, codes, length, vec_len};
+ghost use Rattle.toml.specs.Data.{no_items};
+ghost use Rattle.toml.specs.View.{table_view};
+ghost use Rattle.pytext.specs.Agreement.{Gives};
+ghost use Rattle.pylock_readers.specs.Inner.Elements.{HasRead, entries_read, lock_after, lock_with};
+
+use crate::entry::{Entry, read_entry};
+use crate::error::{EntryError, LockError};
+use crate::field::take;
+use crate::interner::Interner;
+use crate::lock::head::Head;
+use crate::lock::read::{require_creator, require_lock_version};
+use crate::lock::{Lock, MOST_ENTRIES};
+use pytoml::Elements;
+use std::alloc::{AllocError, Global};
+use toml::{Table, Value};
+
+/// The entries of the tables that came, to the first that is refused.
+pub(crate) struct Packages {
+    alloc: Global,
+    interner: Interner,
+    /// How many tables came, up to one more than a lock may have.
+    count: usize,
+    entries: Vec<Entry>,
+    /// Why the table behind those of the entries is refused.
+    refusal: Option<EntryError>,
+}
+
+impl Drop for Packages {
+    fn drop(self) {
+        let Packages {
+            alloc: _,
+            interner: _,
+            count: _,
+            entries: _,
+            refusal: _,
+        } = self;
+    }
+}
+
+impl Packages {
+    /// Before the first table.
+    pub(crate) fn new(alloc: Global) -> Packages
+        ensures { HasRead result.count result.entries.items result.refusal no_items }
+    {
+        Packages {
+            alloc,
+            interner: Interner::new(alloc),
+            count: 0,
+            entries: Vec::new(alloc),
+            refusal: None,
+        }
+    }
+
+    /// The lock of a document from which they were taken; where there was none, the document may have
+    /// them in another form.
+    #[tactic(auto, unfolding(crate::specs::Inner::Elements::lock_after))]
+    pub(crate) fn into_lock(self, alloc: Global, document: Table) -> Result<Lock, LockError>
+        requires { length self.entries.items ≤ self.count }
+        ensures { Gives LockError.Memory (λ l. l) result
+            (lock_after (table_view document) self.count self.entries.items self.refusal) }
+    {
+        if self.count == 0 {
+            Lock::from_document(alloc, document)
+        } else {
+            self.with_head(alloc, document)
+        }
+    }
+
+    /// The lock of the head that a document has.
+    #[tactic(auto, using(crate::proofs::kept), unfolding(crate::specs::Inner::Elements::lock_with))]
+    fn with_head(self, alloc: Global, mut document: Table) -> Result<Lock, LockError>
+        requires { length self.entries.items ≤ self.count }
+        ensures { Gives LockError.Memory (λ l. l) result (lock_with (table_view document)
+            (entries_read self.count self.entries.items self.refusal)) }
+    {
+        require_lock_version(take(&mut document, "lock-version"))?;
+        require_creator(take(&mut document, "created-by"))?;
+        let head = Head::read(alloc, document)?;
+        let entries = self.into_entries()?;
+        Ok(Lock::new(head, entries))
+    }
+
+    /// The entries, or the first refusal.
+    fn into_entries(self) -> Result<Vec<Entry>, LockError>
+        requires { length self.entries.items ≤ self.count }
+        ensures gives { Gives LockError.Memory (λ v. v.items) result
+            (entries_read self.count self.entries.items self.refusal) }
+        ensures within { IfOk result (λ v. vec_len v ≤ 100000) }
+    {
+        let Packages {
+            alloc: _,
+            interner: _,
+            count,
+            entries,
+            refusal,
+        } = self;
+        if count > MOST_ENTRIES {
+            return Err(LockError::TooMany);
+        }
+        match refusal {
+            Some(refusal) => Err(LockError::Entry(entries.len() + 1, refusal)),
+            None => Ok(entries),
+        }
+    }
+}
+
+impl Elements for Packages {
+    ghost key = { codes "packages" };
+
+    ghost holds = { λ packages taken.
+        HasRead packages.count packages.entries.items packages.refusal taken };
+
+    fn key() -> &'static str {
+        "packages"
+    }
+
+    fn take(&mut self, element: Table) -> Result<(), AllocError> {
+        if self.count > MOST_ENTRIES {
+            return Ok(());
+        }
+        self.count += 1;
+        if self.count > MOST_ENTRIES || self.refusal.is_some() {
+            return Ok(());
+        }
+        match read_entry(self.alloc, Value::Table(element), &mut self.interner) {
+            Ok(entry) => self.entries.push(entry)?,
+            Err(refusal) => match refusal {
+                EntryError::Memory => return Err(AllocError),
+                refusal => self.refusal = Some(refusal),
+            },
+        }
+        Ok(())
+    }
+}
