@@ -24,9 +24,10 @@ impl Lock {
     /// Reads a lock of version 1 (PEP 751, "File format"). The refusals come in the order of
     /// `LockError`; keys that are not named there are ignored.
     ///
-    /// Takes memory for the document and for the lock; strings move from the one to the other. A
-    /// document of many small values takes more than a hundred times the memory of its text, so the
-    /// system may end the process before it refuses the memory.
+    /// Takes memory for the lock, for the document's head and for one entry's table at a time; for
+    /// the whole document only where `packages` isn't written as tables of its own, or where
+    /// `toml` has to read the text. A document of many small values takes more than a hundred times
+    /// the memory of its text, so the system may end the process before it refuses the memory.
     #[tactic(auto, unfolding(crate::specs::Lock::Reading::lock_of))]
     pub fn read(alloc: Global, bytes: &[u8]) -> Result<Lock, LockError>
         ensures { Gives LockError.Memory (λ l. l) result (lock_of bytes.now) }
