@@ -1,15 +1,8 @@
 //! What is installed from the lock file of the Python packaging specifications (`pylock.toml`, PEP
 //! 751): the session on a lock, its edits, and the answer of the installation steps.
 //!
-//! It is for whoever writes an installer: a lock and an environment go in, a plan or the fault with
-//! its entry comes out. It stands on `pylock_readers`, whose items it gives too, and on what is
-//! below.
-//!
-//! Begin with [`Lock::read`], [`read_environment`] and [`Session::start`]. [`Session::answer`] is
-//! the plan. [`Session::edit`] changes the environment, what is asked for, a policy or an entry,
-//! and judges again exactly what the edit touches, where entries may share the judgement of one
-//! condition; a refused edit leaves the session as it was. [`Session::fates`] tells what becomes of
-//! each entry.
+//! The README beside `src/` says where to begin and what is proved. It gives the items of
+//! `pylock_readers` too.
 //!
 //! A session, from `crates/pylock_run/src/report/opening.rt`:
 //!

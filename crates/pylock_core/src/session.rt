@@ -12,7 +12,7 @@ ghost use Rattle.std.specs.Option.{option_copied};
 ghost use Rattle.pylock_core.specs.Session.Judgement.{all_numbers, index_of, touched, verdicts_of};
 ghost use Rattle.pylock_core.specs.Session.State.{NumbersRise, apply, entry_at, first, in_rows};
 ghost use Rattle.pylock_core.specs.Session.State.{takes_memory};
-ghost use Rattle.pylock_core.specs.Session.Fates.{fates};
+ghost use Rattle.pylock_core.specs.Session.Fates.{fate_at, fates};
 ghost use Rattle.pylock_core.specs.Session.Steps.{answer, head_fault};
 ghost use Rattle.pylock_core.specs.declared.edit.EditError.{EditError};
 ghost use Rattle.pylock_core.specs.declared.edit.EditError.TheVariants.{Memory};
@@ -20,7 +20,7 @@ ghost use Rattle.pylock_core.specs.declared.edit.EditError.TheVariants.{Memory};
 use crate::answer::{Answer, FaultCode};
 use crate::edit::{Edit, EditError};
 use crate::fate::Fate;
-use crate::session::answering::fates::fates;
+use crate::session::answering::fates::{fate_at, fates};
 use crate::session::answering::steps::answer;
 use crate::session::editing::entries::entry_in;
 use crate::session::parts::Parts;
@@ -135,6 +135,14 @@ impl Session {
         ensures { IfOk result (λ found. found.items ≡ fates self.now.state) }
     {
         fates(&self.parts)
+    }
+
+    /// What becomes of the entry of the number, judged for itself. Changes nothing. It takes no
+    /// memory, and time for each entry that stands.
+    pub fn fate(&self, number: u32) -> Option<Fate>
+        ensures { result ≡ fate_at number self.now.state }
+    {
+        fate_at(&self.parts, number)
     }
 
     /// The fault of the head, if it has one. It takes no memory.

@@ -1,6 +1,6 @@
 -- The documents of answers: the members of the object that each command shows.
-use Rattle.std.specs.Prelude.{ℕ, ◌+◌, ◌==◌, ◌++◌, List, [], ◌∷◌, codes, map, Option, Some, None}
-use Rattle.std.specs.Prelude.{find, option_and_then, option_map}
+use Rattle.std.specs.Prelude.{ℕ, ◌+◌, ◌++◌, List, [], ◌∷◌, codes, map, Option, Some, None}
+use Rattle.std.specs.Prelude.{option_and_then, option_map}
 use Rattle.std.specs.List.{flat_map}
 use Rattle.std.specs.Option.{option_map_or}
 use Rattle.serde_json.specs.Data.{Data}
@@ -8,7 +8,7 @@ use Rattle.pylock_json.specs.Json.{Row, list_of, maybe, numbered, object_of, tex
 use Rattle.pyver_core.specs.Set.Normal.{set_text}
 use Rattle.pylock_readers.specs.Entry.{EntryValue}
 use Rattle.pylock_readers.specs.Lock.{HeadValue}
-use Rattle.pylock_core.specs.Session.Fates.{fates}
+use Rattle.pylock_core.specs.Session.Fates.{fate_at, fates}
 use Rattle.pylock_core.specs.Session.Picks.{source_in, sources}
 use Rattle.pylock_core.specs.Session.State.{State, entry_at}
 use Rattle.pylock_core.specs.Session.Steps.{head_fault}
@@ -34,10 +34,6 @@ pick_data state pick =
     (λ entry. where_there (source_data pick.id entry) (source_in entry pick.source))
     (entry_at pick.id state.entries) []
 
--- the fate of a number
-abbrev pub fate_in : ℕ → List (ℕ × Fate) → Option Fate
-fate_in number fs = option_map (λ f. f.1) (find (λ f. f.0 == number) fs)
-
 -- why: of the entry that has the fault, or of the head where it is no entry's
 abbrev pub detail_by : State → ℕ → FaultCode → Option Fate → Option (List ℕ)
 detail_by state number code None = head_detail state.head state.environment code
@@ -45,7 +41,7 @@ detail_by state number code (Some fate) =
     option_and_then (λ entry. detail state entry fate) (entry_at number state.entries)
 
 abbrev pub fault_detail : State → ℕ → FaultCode → Option (List ℕ)
-fault_detail state number code = detail_by state number code (fate_in number (fates state))
+fault_detail state number code = detail_by state number code (fate_at number state)
 
 abbrev pub fault_rows : State → ℕ → FaultCode → List Row
 fault_rows state number code =

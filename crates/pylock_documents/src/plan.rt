@@ -6,19 +6,18 @@ ghost use Rattle.std.specs.List.{flat_map};
 ghost use Rattle.std.specs.Option.{option_copied};
 ghost use Rattle.serde_json.specs.View.{members_view, view as data_of};
 ghost use Rattle.pylock_json.specs.Json.{members_of, object_of};
-ghost use Rattle.pylock_core.specs.Session.Fates.{fates};
 ghost use Rattle.pylock_core.specs.Session.State.{entry_at};
-ghost use Rattle.pylock_documents.specs.Documents.{answer_rows, fate_in, fault_detail, fault_rows};
+ghost use Rattle.pylock_documents.specs.Documents.{answer_rows, fault_detail, fault_rows};
 ghost use Rattle.pylock_documents.specs.Documents.{pick_data};
 
 use crate::reasons::{detail, head_detail};
 use crate::source::source_object;
-use pylock_core::{Answer, Fate, FaultCode, Pick, Session, fault_word};
+use pylock_core::{Answer, FaultCode, Pick, Session, fault_word};
 use pylock_json::{Json, List, Object};
 use std::alloc::{AllocError, Global};
 
 /// The document of an answer on the state of its session: a plan with its sources, or the fault
-/// and why. It takes memory for the object, and for a fault what `fates` takes.
+/// and why. It takes memory for the object, and for a fault its reason.
 pub fn plan_document(
     alloc: Global,
     session: &Session,
@@ -107,25 +106,11 @@ pub fn fault_detail(
     ensures { IfOk result (λ text. option_map string_bytes text
         ≡ fault_detail session.now.state number code) }
 {
-    let Some(fate) = fate_of(session, number)? else {
+    let Some(fate) = session.fate(number) else {
         return head_detail(alloc, session.head(), session.environment(), code);
     };
     match session.entry(number) {
         Some(entry) => detail(alloc, session, entry, fate),
         None => Ok(None),
     }
-}
-
-fn fate_of(session: &Session, number: u32) -> Result<Option<Fate>, AllocError>
-    ensures { IfOk result (λ fate. fate ≡ fate_in number (fates session.now.state)) }
-{
-    let fates = session.fates()?;
-    Ok(fate_in(fates.as_slice(), number))
-}
-
-fn fate_in(fates: &[(u32, Fate)], number: u32) -> Option<Fate>
-    ensures { result ≡ fate_in number fates.now }
-{
-    let (_, fate) = fates.iter().find(|fate| fate.0 == number)?;
-    Some(*fate)
 }

@@ -1,5 +1,6 @@
 pub mod BoundaryLemmas
 pub mod BytesLemmas
+pub mod DigitsLemmas
 pub mod IteratorLemmas
 pub mod NeverLemmas
 pub mod OptionsLemmas

@@ -40,6 +40,7 @@ pub fn digits_value(digits: &[u8]) -> Option<u128>
 }
 
 /// The number, where 64 bits hold it, as they hold nearly each: the short way.
+#[tactic(auto, using(crate::proofs::DigitsLemmas::digits))]
 fn short_value(digits: &[u8]) -> Option<u64>
     requires { list_all is_ascii_digit digits.now ≡ true }
     ensures { SomeIff result (digits_value 10 digits.now < 2 ^ 64) (digits_value 10 digits.now) }
@@ -51,6 +52,7 @@ fn short_value(digits: &[u8]) -> Option<u64>
     Some(value)
 }
 
+#[tactic(auto, using(crate::proofs::DigitsLemmas::digits))]
 fn long_value(digits: &[u8]) -> Option<u128>
     requires { list_all is_ascii_digit digits.now ≡ true }
     ensures { SomeIff result (digits_value 10 digits.now < number_limit)

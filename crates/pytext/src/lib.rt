@@ -1,13 +1,9 @@
 //! What the readers of Python's packaging formats look for in texts: classes of bytes, white space,
 //! and digits with their number.
 //!
-//! It stands on `std` alone, and the crates that read texts stand on it. All calls take a borrowed
-//! text or its bytes, and none takes memory but those of [`Text`], a text of its own. White space
-//! is the six ASCII characters space, TAB, LF, VT, FF and CR.
-//!
-//! Start with [`trim_white`] and [`after_white`], which take white space away. [`digits_value`] is
-//! the number of some digits, where 128 bits hold it; it needs digits alone, which [`digits_len`]
-//! finds. So `pywheel_core` reads the number of a build, in `crates/pywheel_core/src/build.rt`:
+//! It stands on `std` alone, and the crates that read texts stand on it. [`digits_value`] needs
+//! digits alone, which [`digits_len`] finds. So `pywheel_core` reads the number of a build, in
+//! `crates/pywheel_core/src/build.rt`:
 //!
 //! ```rust
 //! let digits = digits_len(text.as_bytes());
@@ -15,10 +11,6 @@
 //!     return Err(WheelError::Build);
 //! };
 //! ```
-//!
-//! Read next `specs/Bytes.antt` and `specs/White.antt`, which say what each call gives;
-//! `specs/Agreement.antt`, `Results.antt` and `Options.antt` have the forms of contracts that the
-//! crates above share, and `proofs/` the lemmas on them.
 #![tactic(auto)]
 
 mod any_text;

@@ -1,10 +1,10 @@
 -- The levels of a draft beside the rings that they stand for.
-use Rattle.std.proofs.Common.{◌≡◌, ℕ, zero, suc, ◌+◌, ◌-◌, ◌<◌, List, [], ◌∷◌, ◌++◌, map, take, drop, length, get_or, Vec, String, BTreeMap, Global, Option, Some, None, option_map, string_bytes, refl, sym, ap, ap₂, subst, ◌∙◌, arith, append-nil}
+use Rattle.std.proofs.Common.{◌≡◌, ℕ, ◌+◌, ◌-◌, ◌<◌, List, [], ◌∷◌, ◌++◌, map, take, drop, length, get_or, Vec, String, Global, Option, Some, None, option_map, string_bytes, refl, sym, ap, ap₂, subst, ◌∙◌, arith, append-nil}
 use Rattle.std.specs.Prelude.{⊤, Result, Ok, Err, OnOk, vec_len}
 use Rattle.std.proofs.lemmas.List.{map-append, take-append-drop, length-map, take_all, length-append, take_at, take_more, drop_more, get_or-map}
 use Rattle.toml_parser.specs.Reading.{path_view}
-use Rattle.toml.specs.Data.{Data, Items, no_items, Members, table, array, get_member, push_item}
-use Rattle.toml.specs.Tables.{Node, Nodes, no_nodes, open_table, open_array, implicit, header, insert, get_node, close, close_node, Edit, along_header, at_key, Definition, new_node, std_table, array_table, key_value, value, put, Document, define}
+use Rattle.toml.specs.Data.{Data, Items, Members, table, array, get_member, push_item}
+use Rattle.toml.specs.Tables.{Node, Nodes, no_nodes, open_table, open_array, implicit, insert, get_node, close, close_node, Edit, along_header, at_key, Definition, new_node, std_table, array_table, key_value, value, put, Document, define}
 use Rattle.toml.specs.View.{array_view, table_view}
 use Rattle.toml.specs.declared.value.Value.{Value}
 use Rattle.toml.proofs.NodeLaws.{along_missing, get_node-insert, replace-insert}
@@ -57,10 +57,7 @@ keys_are_path (l ∷ ls) [] all = absurd all
 keys_are_path (l ∷ ls) (r ∷ rs) all = ap₂ (λ a b. a ∷ b) (sym (all.0.key)) (keys_are_path ls rs all.1)
 
 pub levels_are_many : (ls : List Level) (rs : List Ring) → AreLevels ls rs → length ls ≡ length rs
-levels_are_many [] [] all = refl
-levels_are_many [] (r ∷ rs) all = absurd all
-levels_are_many (l ∷ ls) [] all = absurd all
-levels_are_many (l ∷ ls) (r ∷ rs) all = ap suc (levels_are_many ls rs all.1)
+levels_are_many ls rs all = omega (arith, ap length (keys_are_path ls rs all), length-map ls key_of, length-map rs (λ r. r.key))
 
 pub path-append : (rs qs : List Ring) → path_of (rs ++ qs) ≡ path_of rs ++ path_of qs
 path-append rs qs = map-append (λ r. r.key) rs qs
@@ -82,16 +79,16 @@ snoc_same (z ∷ xs) (w ∷ ys) x y e =
 -- ---- a table is put away
 
 -- what putting the innermost open table away leaves
-pub last_closed : (all ls : List Level) (l : Level) (inner_table outside_table : BTreeMap (String Global) Value) (rings : List Ring) (inner : Nodes)
-    → all ≡ ls ++ l ∷ [] → AreLevels all rings → close inner ≡ table_view inner_table → IsClosed l inner_table outside_table
-    → (fewer : List Ring) × (outside : Nodes) × AreLevels ls fewer × (close outside ≡ table_view outside_table)
+pub last_closed : (all ls : List Level) (l : Level) (inner_members outside_members : Members) (rings : List Ring) (inner : Nodes)
+    → all ≡ ls ++ l ∷ [] → AreLevels all rings → close inner ≡ inner_members → IsClosed l inner_members outside_members
+    → (fewer : List Ring) × (outside : Nodes) × AreLevels ls fewer × (close outside ≡ outside_members)
     × (plug fewer outside ≡ plug rings inner) × (path_of fewer ≡ take (length all - 1) (path_of rings))
-last_closed all ls l inner_table outside_table rings inner split levels same closed =
+last_closed all ls l inner_members outside_members rings inner split levels same closed =
     let (front, r, rings_are, before, level) = AreLevels-pop ls l rings (subst (λ t. AreLevels t rings) split levels) in
     let (d, closes, put) = closed in
     let x : Node = wrapped r.opened inner in
-    let d_is : d ≡ close_node x = closed_node l.kind r.opened inner (table_view inner_table) d level.kind same closes in
-    let outside_closes : close (insert r.key x r.around) ≡ table_view outside_table =
+    let d_is : d ≡ close_node x = closed_node l.kind r.opened inner inner_members d level.kind same closes in
+    let outside_closes : close (insert r.key x r.around) ≡ outside_members =
     close-insert r.key x r.around
     ∙ ap₂ (λ k e. with_member k e (close r.around)) level.key (sym d_is)
     ∙ ap (with_member (key_of l) d) level.around ∙ sym put in
@@ -106,23 +103,9 @@ last_closed all ls l inner_table outside_table rings inner split levels same clo
           ∙ take_at (path_of front) (r.key ∷ []) (length all - 1) (sym many)),
     )
 
-no_rings : (rings : List Ring) → AreLevels [] rings → rings ≡ []
-no_rings [] all = refl
-no_rings (r ∷ rings) all = absurd all
-
 pub no_path : (rings : List Ring) → path_of rings ≡ [] → rings ≡ []
 no_path [] none = refl
 no_path (r ∷ rings) none = absurd (omega (arith, ap length none))
-
--- with no table open there is nothing to put away
-pub none_closed : (all : List Level) (rings : List Ring) (n : ℕ) → all ≡ [] → AreLevels all rings → path_of rings ≡ take n (path_of rings)
-none_closed all rings n none levels =
-    let empty : rings ≡ [] = no_rings rings (subst (λ t. AreLevels t rings) none levels) in
-    rw empty (nothing n)
-  where
-    nothing : (n : ℕ) → [] ≡ take n (path_of [])
-    nothing zero = refl
-    nothing (suc n) = refl
 
 -- ---- a table is opened
 
@@ -141,12 +124,12 @@ along_opened rings inner k ps e none =
 
 -- the innermost open table was put away
 pub kept_last : (old new : Draft) (result : Result ⊤ Unread) (l : Level) (rings : List Ring) (inner : Nodes) → IsDraft old rings inner
-    → old.levels.items ≡ new.levels.items ++ l ∷ [] → OnOk result (IsClosed l old.table new.table)
+    → old.levels.items ≡ new.levels.items ++ l ∷ [] → OnOk result (IsClosed l (table_view old.table) (table_view new.table))
     → OnOk result ((fewer : List Ring) × (outside : Nodes) × IsDraft new fewer outside
     × (plug fewer outside ≡ plug rings inner) × (path_of fewer ≡ take (vec_len old.levels - 1) (path_of rings)))
 kept_last old new (Err e) l rings inner h split closed = tt
 kept_last old new (Ok u) l rings inner h split closed =
-    let (fewer, outside, levels, same, plugs, path) = last_closed old.levels.items new.levels.items l old.table new.table rings inner split h.levels h.table closed in
+    let (fewer, outside, levels, same, plugs, path) = last_closed old.levels.items new.levels.items l (table_view old.table) (table_view new.table) rings inner split h.levels h.table closed in
     let many : length old.levels.items - 1 ≡ vec_len old.levels - 1 = omega (arith, old.levels.ok) in
     (fewer, outside, record { levels = levels; table = same }, plugs, path ∙ ap (λ n. take n (path_of rings)) many)
 
@@ -156,20 +139,21 @@ whole_path d rings inner h =
     sym (take_all (vec_len d.levels) (path_of rings) (omega (arith, d.levels.ok, levels_are_many d.levels.items rings h.levels, length-map rings (λ r. r.key))))
 
 -- the key at a place, behind those before it
-pub next_key : (ls : List Level) (at : ℕ) (d : Level) → at < length ls → take (at + 1) (map key_of ls) ≡ take at (map key_of ls) ++ key_of (get_or ls at d) ∷ []
-next_key ls at d within =
-    take_more (map key_of ls) at (key_of d) (omega (arith, length-map ls key_of))
-    ∙ ap (λ k. take at (map key_of ls) ++ k ∷ []) (get_or-map key_of ls at d (key_of d) within)
-
-pub next_part : (ps : List (String Global)) (at : ℕ) (d : String Global) → at < length ps → take (at + 1) (path_view ps) ≡ take at (path_view ps) ++ string_bytes (get_or ps at d) ∷ []
-next_part ps at d within =
-    take_more (path_view ps) at (string_bytes d) (omega (arith, length-map ps string_bytes))
-    ∙ ap (λ k. take at (path_view ps) ++ k ∷ []) (get_or-map string_bytes ps at d (string_bytes d) within)
+pub next_key : {A : Type 0} (f : A → List ℕ) (xs : List A) (at : ℕ) (d : A) → at < length xs → take (at + 1) (map f xs) ≡ take at (map f xs) ++ f (get_or xs at d) ∷ []
+next_key f xs at d within =
+    take_more (map f xs) at (f d) (omega (arith, length-map xs f))
+    ∙ ap (λ k. take at (map f xs) ++ k ∷ []) (get_or-map f xs at d (f d) within)
 
 pub drop_part : (ps : List (String Global)) (at : ℕ) (d : String Global) → at < length ps → drop at (path_view ps) ≡ string_bytes (get_or ps at d) ∷ drop (at + 1) (path_view ps)
 drop_part ps at d within =
     drop_more (path_view ps) at (string_bytes d) (omega (arith, length-map ps string_bytes))
     ∙ ap (λ k. k ∷ drop (at + 1) (path_view ps)) (get_or-map string_bytes ps at d (string_bytes d) within)
+
+-- the part of a header's path that goes through open tables
+pub shared_path : (d : Draft) (rings : List Ring) (inner : Nodes) (n : ℕ) (p q : List (List ℕ)) → IsDraft d rings inner → q ≡ p
+    → take n q ≡ take n (map key_of d.levels.items) → take n (path_of rings) ≡ take n p
+shared_path d rings inner n p q draft same shared =
+    ap (take n) (sym (keys_are_path d.levels.items rings draft.levels)) ∙ sym shared ∙ ap (take n) same
 
 -- ---- headers
 
@@ -177,12 +161,12 @@ pub along_none : (e : Edit) (ns : Nodes) → along_header [] e ns ≡ e ns
 unfolding along_header
 along_none e ns = refl
 
-define_table : (doc : Document) (p : List (List ℕ)) (k : List ℕ) (root : Nodes) → along_header p (at_key k std_table) doc.0 ≡ Some root
+pub define_table : (doc : Document) (p : List (List ℕ)) (k : List ℕ) (root : Nodes) → along_header p (at_key k std_table) doc.0 ≡ Some root
     → define doc ((p, k), std_table) ≡ Some (root, p ++ k ∷ [])
 unfolding define
 define_table doc p k root made = ap (option_map (λ r. (r, p ++ k ∷ []))) made
 
-define_element : (doc : Document) (p : List (List ℕ)) (k : List ℕ) (root : Nodes) → along_header p (at_key k array_table) doc.0 ≡ Some root
+pub define_element : (doc : Document) (p : List (List ℕ)) (k : List ℕ) (root : Nodes) → along_header p (at_key k array_table) doc.0 ≡ Some root
     → define doc ((p, k), array_table) ≡ Some (root, p ++ k ∷ [])
 unfolding define
 define_element doc p k root made = ap (option_map (λ r. (r, p ++ k ∷ []))) made
@@ -195,6 +179,20 @@ pub record Leads (p : List (List ℕ)) (n : ℕ) (rings : List Ring) (inner : No
   pub shared : path_of fewer ≡ take n p
   pub path : path_of more ≡ path_of fewer ++ drop n p
   pub along : (edit : Edit) → option_map (plug fewer) (along_header (drop n p) edit outside) ≡ option_map (plug more) (edit top)
+
+-- it is given in the slices q and r of the path
+pub header_leads : (d : Draft) (rings fewer more : List Ring) (inner outside top : Nodes) (n : ℕ) (p q r : List (List ℕ)) → IsDraft d rings inner → q ≡ p → r ≡ p
+    → take n q ≡ take n (map key_of d.levels.items) → plug fewer outside ≡ plug rings inner → path_of fewer ≡ take n (path_of rings)
+    → path_of more ≡ path_of fewer ++ drop n r → ((edit : Edit) → option_map (plug fewer) (along_header (drop n r) edit outside) ≡ option_map (plug more) (edit top))
+    → Leads p n rings inner more top
+header_leads d rings fewer more inner outside top n p q r draft first second shared plugs path ways along = record {
+  fewer = fewer;
+  outside = outside;
+  plugs = plugs;
+  shared = path ∙ shared_path d rings inner n p q draft first shared;
+  path = ways ∙ ap (λ t. path_of fewer ++ drop n t) second;
+  along = λ edit. ap (λ t. option_map (plug fewer) (along_header (drop n t) edit outside)) (sym second) ∙ along edit;
+}
 
 leads_along : (p : List (List ℕ)) (n : ℕ) (rings more : List Ring) (inner top : Nodes) → Leads p n rings inner more top → (e : Edit)
     → along_header p e (plug rings inner) ≡ option_map (plug more) (e top)
@@ -217,32 +215,18 @@ opened_path : (p : List (List ℕ)) (k : List ℕ) (n : ℕ) (rings more : List 
     → Leads p n rings inner more top → path_of (more ++ record { around = top; key = k; opened = opened } ∷ []) ≡ p ++ k ∷ []
 opened_path p k n rings more inner top opened h = path-append more _ ∙ ap (λ t. t ++ k ∷ []) (leads_path p n rings more inner top h)
 
--- a header opens a table
-pub table_opened : (p : List (List ℕ)) (k : List ℕ) (n : ℕ) (d : Draft) (doc : Document) (rings more : List Ring) (inner top : Nodes)
-    → doc ≡ (plug rings inner, path_of rings) → Leads p n rings inner more top → get_node k top ≡ None
-    → IsDraft d (more ++ record { around = top; key = k; opened = in_table header } ∷ []) no_nodes
-    → (next : Document) × (define doc ((p, k), std_table) ≡ Some next) × Stands d next
-table_opened p k n d doc rings more inner top is h none draft =
-    let all : List Ring = more ++ record { around = top; key = k; opened = in_table header } ∷ [] in
-    let made = opened_along p k n rings more inner top std_table (in_table header) h none refl in
-    let doc_made : along_header p (at_key k std_table) doc.0 ≡ Some (plug all no_nodes) = ap (λ t. along_header p (at_key k std_table) t.0) is ∙ made in (
+-- a header opens a table, or the first element of an array of tables
+pub header_opened : (p : List (List ℕ)) (k : List ℕ) (n : ℕ) (d : Draft) (doc : Document) (rings more : List Ring) (inner top : Nodes) (what : Definition) (opened : Opened)
+    → ((root : Nodes) → along_header p (at_key k what) doc.0 ≡ Some root → define doc ((p, k), what) ≡ Some (root, p ++ k ∷ []))
+    → new_node what ≡ wrapped opened no_nodes → doc ≡ (plug rings inner, path_of rings) → Leads p n rings inner more top → get_node k top ≡ None
+    → IsDraft d (more ++ record { around = top; key = k; opened = opened } ∷ []) no_nodes
+    → (next : Document) × (define doc ((p, k), what) ≡ Some next) × Stands d next
+header_opened p k n d doc rings more inner top what opened defines new is h none draft =
+    let all : List Ring = more ++ record { around = top; key = k; opened = opened } ∷ [] in
+    let made = opened_along p k n rings more inner top what opened h none new in (
       (plug all no_nodes, p ++ k ∷ []),
-      define_table doc p k (plug all no_nodes) doc_made,
-      (all, no_nodes, draft, ap (λ t. (plug all no_nodes, t)) (sym (opened_path p k n rings more inner top (in_table header) h))),
-    )
-
--- a header opens the first element of an array of tables
-pub element_opened : (p : List (List ℕ)) (k : List ℕ) (n : ℕ) (d : Draft) (doc : Document) (rings more : List Ring) (inner top : Nodes)
-    → doc ≡ (plug rings inner, path_of rings) → Leads p n rings inner more top → get_node k top ≡ None
-    → IsDraft d (more ++ record { around = top; key = k; opened = in_array no_items } ∷ []) no_nodes
-    → (next : Document) × (define doc ((p, k), array_table) ≡ Some next) × Stands d next
-element_opened p k n d doc rings more inner top is h none draft =
-    let all : List Ring = more ++ record { around = top; key = k; opened = in_array no_items } ∷ [] in
-    let made = opened_along p k n rings more inner top array_table (in_array no_items) h none refl in
-    let doc_made : along_header p (at_key k array_table) doc.0 ≡ Some (plug all no_nodes) = ap (λ t. along_header p (at_key k array_table) t.0) is ∙ made in (
-      (plug all no_nodes, p ++ k ∷ []),
-      define_element doc p k (plug all no_nodes) doc_made,
-      (all, no_nodes, draft, ap (λ t. (plug all no_nodes, t)) (sym (opened_path p k n rings more inner top (in_array no_items) h))),
+      defines (plug all no_nodes) (ap (λ t. along_header p (at_key k what) t.0) is ∙ made),
+      (all, no_nodes, draft, ap (λ t. (plug all no_nodes, t)) (sym (opened_path p k n rings more inner top opened h))),
     )
 
 -- the next element of an array of tables, in the nodes around it

@@ -11,14 +11,14 @@ use Rattle.pytoml.specs.Draft.{Opened, in_table, in_array, wrapped, Ring, plug, 
 
 -- ---- nodes and the members that they close to
 
-close_match : (o : Ordering) (a b c : Nodes) → close (match_ordering o a b c) ≡ match_ordering o (close a) (close b) (close c)
-close_match Less a b c = refl
-close_match Equal a b c = refl
-close_match Greater a b c = refl
+pub match_through : {A B : Type 0} (f : A → B) (o : Ordering) (a b c : A) → f (match_ordering o a b c) ≡ match_ordering o (f a) (f b) (f c)
+match_through f Less a b c = refl
+match_through f Equal a b c = refl
+match_through f Greater a b c = refl
 
 pub close-insert : (k : List ℕ) (x : Node) (ns : Nodes) → close (insert k x ns) ≡ with_member k (close_node x) (close ns)
 close-insert k x no_nodes = refl
-close-insert k x (node l y ns) = close_match (slice_cmp nat_cmp k l) _ _ _ ∙ rw (close-insert k x ns)
+close-insert k x (node l y ns) = match_through close (slice_cmp nat_cmp k l) _ _ _ ∙ rw (close-insert k x ns)
 
 node_or : (o : Ordering) (x : Node) (rest : Option Node) (d : Option Data) → option_map close_node rest ≡ d
     → option_map close_node (match_ordering o rest (Some x) rest) ≡ match_ordering o d (Some (close_node x)) d

@@ -1,7 +1,6 @@
 -- A table as a map of its entries, and as the members that it stands for.
-use Rattle.std.proofs.Common.{◌≡◌, ℕ, false, nat_cmp, is_some, List, [], ◌∷◌, Option, Some, None, option_map, String, Global, BTreeMap, Ordering, Less, Equal, Greater, string_bytes, refl, sym, ap, ◌∙◌}
+use Rattle.std.proofs.Common.{◌≡◌, ℕ, false, nat_cmp, is_some, List, [], ◌∷◌, Option, Some, None, option_map, String, Global, BTreeMap, string_bytes, refl, sym, ap, ◌∙◌}
 use Rattle.std.specs.String.{string_cmp}
-use Rattle.std.specs.Ordering.{match_ordering}
 use Rattle.std.proofs.lemmas.Bool.{true≢false}
 use Rattle.std.specs.BTreeMap.{insert_entry, is_at, get}
 use Rattle.std.specs.Cmp.Lexicographic.{slice_cmp}
@@ -13,17 +12,12 @@ use Rattle.toml.specs.declared.value.Value.{Value}
 use Rattle.toml.proofs.Views.{Entry, view-lookup}
 use Rattle.toml.proofs.Turns.{at_key_new}
 use Rattle.pytoml.specs.Members.{with_member}
-use Rattle.pytoml.proofs.Rings.{absent_node, close-insert}
-
-match_members : (o : Ordering) (a b c : List Entry) → members_view (match_ordering o a b c) ≡ match_ordering o (members_view a) (members_view b) (members_view c)
-match_members Less a b c = refl
-match_members Equal a b c = refl
-match_members Greater a b c = refl
+use Rattle.pytoml.proofs.Rings.{absent_node, close-insert, match_through}
 
 -- what an insert leaves in the members
 pub members_view-insert_entry : (es : List Entry) (k : String Global) (v : Value) → members_view (insert_entry string_cmp es k v) ≡ with_member (string_bytes k) (view v) (members_view es)
 members_view-insert_entry [] k v = refl
-members_view-insert_entry (e ∷ es) k v = match_members (string_cmp k e.0) _ _ _ ∙ rw (members_view-insert_entry es k v)
+members_view-insert_entry (e ∷ es) k v = match_through members_view (string_cmp k e.0) _ _ _ ∙ rw (members_view-insert_entry es k v)
 
 -- what an insert found
 pub get_member-get : (k : String Global) (m : BTreeMap (String Global) Value) (found : Option Value) → found ≡ get string_cmp m k → option_map view found ≡ get_member (string_bytes k) (table_view m)

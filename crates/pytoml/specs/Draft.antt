@@ -2,10 +2,8 @@
 -- clauses cite these words.
 use Rattle.std.specs.Prelude.{◌≡◌, ℕ, suc, ◌+◌, ◌<◌, length, List, [], ◌∷◌, ◌++◌, map, take, drop}
 use Rattle.std.specs.Prelude.{Some, None, ⊤, option_map, option_and_then}
-use Rattle.std.specs.Prelude.{String, Result, IfOk, OnOk, string_bytes}
+use Rattle.std.specs.Prelude.{Result, IfOk, OnOk, string_bytes}
 use Rattle.std.specs.Borrow.{Bor}
-use Rattle.std.specs.BTreeMap.{BTreeMap}
-use Rattle.std.specs.declared.alloc.Global.{Global}
 use Rattle.toml_parser.specs.Lexical.{Read, right_bracket}
 use Rattle.toml.specs.Data.{Data, table, array, Items, Members, push_item}
 use Rattle.toml.specs.Parse.{header_key, after_byte, lines, skip_bom}
@@ -13,7 +11,6 @@ use Rattle.toml.specs.Tables.{Origin, Node, Nodes, no_nodes, open_table, open_ar
 use Rattle.toml.specs.Tables.{get_node, close, Edit, along_header, array_table, Document}
 use Rattle.toml.specs.Tables.{Expression, define}
 use Rattle.toml.specs.View.{array_view, table_view}
-use Rattle.toml.specs.declared.value.Value.{Value}
 use Rattle.pytoml.specs.Members.{with_member}
 use Rattle.pytoml.specs.declared.draft.Draft.{Draft}
 use Rattle.pytoml.specs.declared.draft.Kind.{Kind}
@@ -129,11 +126,9 @@ Closes Table inner d = d ≡ table inner
 Closes (Element done) inner d = d ≡ array (push_item (array_view done) (table inner))
 
 -- the table was put into what stands around it
-abbrev pub IsClosed : Level → BTreeMap (String Global) Value → BTreeMap (String Global) Value
-    → Type 0
+abbrev pub IsClosed : Level → Members → Members → Type 0
 IsClosed l inner outside =
-    (d : Data) × Closes l.kind (table_view inner) d
-    × (table_view outside ≡ with_member (key_of l) d (table_view l.around))
+    (d : Data) × Closes l.kind inner d × (outside ≡ with_member (key_of l) d (table_view l.around))
 
 -- a new table is open at this key of the innermost one
 abbrev pub Opens : Draft → Draft → Result ⊤ Unread → List ℕ → Kind → Type 0
@@ -153,11 +148,11 @@ OpensPath old new result path from =
     ≡ option_map (plug more) (edit top)))
 
 -- the level has one element more
-abbrev pub HasMore : Level → BTreeMap (String Global) Value → Level → Type 0
+abbrev pub HasMore : Level → Members → Level → Type 0
 HasMore old element new =
     (r : Ring) → IsLevel old r
     → (done : Items) × (r.opened ≡ in_array done)
-    × IsLevel new (record r { opened = in_array (push_item done (table (table_view element))) })
+    × IsLevel new (record r { opened = in_array (push_item done (table element)) })
 
 -- the innermost open table, an element of an array of tables, has ended, and the next has begun
 abbrev pub Turns : Draft → Draft → Result ⊤ Unread → Type 0

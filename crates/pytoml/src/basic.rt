@@ -95,6 +95,7 @@ fn run_len(s: &str) -> usize
 }
 
 /// Adds the character that an escape stands for, behind its backslash.
+#[tactic(auto, unfolding(toml_parser::specs::Strings::escape))]
 fn escape<'a>(text: &mut String, s: &'a str) -> Result<&'a str, Unread>
     ensures value { IfOk result (λ rest.
         Escapes s.now (string_bytes text.old) rest.now (string_bytes text.new)) }
@@ -107,6 +108,7 @@ fn escape<'a>(text: &mut String, s: &'a str) -> Result<&'a str, Unread>
     Ok(rest)
 }
 
+#[tactic(auto, unfolding(toml_parser::specs::Strings::escape_char))]
 fn escape_char(s: &str) -> Option<(char, &str)>
     ensures value { IfSome result (λ p. escape_char s.now ≡ Some (p.0, p.1.now)) }
     ensures within { IfSome result (λ p. length p.1.now ≤ length s.now) }
@@ -129,6 +131,7 @@ fn escape_char(s: &str) -> Option<(char, &str)>
 }
 
 /// The character that so many hex digits at the front write.
+#[tactic(auto, unfolding(toml_parser::specs::Strings::hex_escape))]
 fn hex_escape(s: &str, len: usize) -> Option<(char, &str)>
     requires { 0 < len }
     ensures value { IfSome result (λ p. hex_escape len s.now ≡ Some (p.0, p.1.now)) }

@@ -82,6 +82,7 @@ pub(crate) fn add_lines<L: Lines>(alloc: Global, s: &str, draft: &mut L) -> Resu
 }
 
 /// The value that the text is, where the short way knows its shape.
+#[tactic(auto, unfolding(toml::specs::Parse::parse_value))]
 pub(crate) fn whole_value(alloc: Global, s: &str) -> Result<Value, Unread>
     ensures { IfOk result (λ value. parse_value s.now ≡ Some (view value)) }
 {
@@ -94,6 +95,7 @@ pub(crate) fn whole_value(alloc: Global, s: &str) -> Result<Value, Unread>
 }
 
 /// Without a byte order mark.
+#[tactic(auto, unfolding(toml::specs::Parse::skip_bom))]
 fn past_mark(s: &str) -> &str
     ensures rest { result.now ≡ spec.skip_bom s.now }
     ensures within { length result.now ≤ length s.now }
@@ -151,14 +153,12 @@ fn array_header<'a, L: Lines>(alloc: Global, s: &'a str, draft: &mut L) -> Resul
 }
 
 /// The key of a header and its first closing bracket.
+#[tactic(auto, unfolding(toml::specs::Parse::header_key))]
 fn header_key(alloc: Global, s: &str) -> Result<(Key, &str), Unread>
     ensures value { Reads key_view result (header_key s.now) }
     ensures shorter { Shortens s.now result }
 {
-    let (key, rest) = match dotted_key(alloc, past_ws(s)) {
-        Ok(read) => read,
-        Err(refusal) => return Err(Unread::of(refusal)),
-    };
+    let (key, rest) = dotted_key(alloc, past_ws(s)).map_err(Unread::of)?;
     if first(rest) != b']' {
         return Err(Unread::Shape);
     }

@@ -133,7 +133,8 @@ impl Draft {
 
     /// Puts the open table into what stands around it.
     fn put_away(&mut self, level: Level) -> Result<(), Unread>
-        ensures closed { OnOk result (IsClosed level self.old.table self.new.table) }
+        ensures closed { OnOk result
+            (IsClosed level (table_view self.old.table) (table_view self.new.table)) }
         ensures levels { self.new.levels ≡ self.old.levels }
     {
         let Level { around, key, kind } = level;
@@ -209,7 +210,7 @@ impl Lines for Draft {
 impl Level {
     /// The level with one more element behind those that it has.
     fn with_element(self, element: Table) -> Result<Level, Unread>
-        ensures { IfOk result (λ level. HasMore self element level) }
+        ensures { IfOk result (λ level. HasMore self (table_view element) level) }
     {
         let Level { around, key, kind } = self;
         let Kind::Element(mut done) = kind else {

@@ -1,8 +1,11 @@
 //! Why a text gives no table.
 ghost use Rattle.std.specs.Prelude.{◌≡◌, ◌↔◌};
+ghost use Rattle.toml.specs.Errors.{IsMemory};
+ghost use Rattle.pytoml.specs.declared.fault.TomlError.TheVariants as fault;
 ghost use Rattle.pytoml.specs.declared.fault.Unread.TheVariants as unread;
 
 use std::alloc::AllocError;
+use toml::de::Error;
 use toml_parser::ParseError;
 
 /// Why a text is refused.
@@ -14,6 +17,19 @@ pub enum TomlError {
     /// Memory was refused.
     #[error("out of memory")]
     Memory,
+}
+
+impl TomlError {
+    /// What a refusal of `toml` is.
+    pub(crate) fn of(refusal: Error) -> TomlError
+        ensures { (result ≡ fault.Memory) ↔ IsMemory refusal }
+    {
+        if refusal.is_memory() {
+            TomlError::Memory
+        } else {
+            TomlError::Syntax
+        }
+    }
 }
 
 /// Why the short way gives nothing.

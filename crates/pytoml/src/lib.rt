@@ -6,8 +6,7 @@
 //! no line walks down from the root. A text that the short way doesn't know, a refused one among
 //! them, is read by `toml` itself.
 //!
-//! [`read_table`] reads a document, and [`read_value`] one value. So `pylock_readers` reads a lock,
-//! in `crates/pylock_readers/src/lock/read.rt`:
+//! So `pylock_readers` reads a lock, in `crates/pylock_readers/src/lock/read.rt`:
 //!
 //! ```rust
 //! match read_table(alloc, text) {
@@ -90,7 +89,7 @@ pub fn read_value(alloc: Global, text: &str) -> Result<Value, TomlError>
     match whole_value(alloc, text) {
         Ok(value) => Ok(value),
         Err(Unread::Memory) => Err(TomlError::Memory),
-        Err(Unread::Shape) => value_by_toml(alloc, text),
+        Err(Unread::Shape) => Value::from_str(alloc, text).map_err(TomlError::of),
     }
 }
 
@@ -100,20 +99,5 @@ pub fn read_table_by_toml(alloc: Global, text: &str) -> Result<Table, TomlError>
     ensures ok { IfOk result (λ table. parse_document text.now ≡ Some (table_view table)) }
     ensures syntax { result ≡ Err fault.Syntax → parse_document text.now ≡ None }
 {
-    match toml::table_from_str(alloc, text) {
-        Ok(table) => Ok(table),
-        Err(refusal) if refusal.is_memory() => Err(TomlError::Memory),
-        Err(_) => Err(TomlError::Syntax),
-    }
-}
-
-fn value_by_toml(alloc: Global, text: &str) -> Result<Value, TomlError>
-    ensures ok { IfOk result (λ value. parse_value text.now ≡ Some (view value)) }
-    ensures syntax { result ≡ Err fault.Syntax → parse_value text.now ≡ None }
-{
-    match Value::from_str(alloc, text) {
-        Ok(value) => Ok(value),
-        Err(refusal) if refusal.is_memory() => Err(TomlError::Memory),
-        Err(_) => Err(TomlError::Syntax),
-    }
+    toml::table_from_str(alloc, text).map_err(TomlError::of)
 }

@@ -80,19 +80,14 @@ pub(crate) fn simple_end(bytes: &[u8], from: usize) -> usize
         }
         at += 16;
     }
-    simple_end_slowly(bytes, at)
+    at + simple_len(&bytes[at..])
 }
 
-fn simple_end_slowly(bytes: &[u8], from: usize) -> usize
-    requires { from ≤ length bytes.now }
-    ensures end { result ≡ from + prefix_len is_simple (drop from bytes.now) }
+fn simple_len(bytes: &[u8]) -> usize
+    ensures len { result ≡ prefix_len is_simple bytes.now }
     ensures within { result ≤ length bytes.now }
 {
-    let mut at = from;
-    while at < bytes.len() && is_simple(bytes[at]) {
-        at += 1;
-    }
-    at
+    bytes.iter().take_while(|byte| is_simple(**byte)).count()
 }
 
 fn is_simple(byte: u8) -> bool
@@ -103,14 +98,9 @@ fn is_simple(byte: u8) -> bool
 
 /// How many bytes at the front stand for themselves in a basic string, tabs among them.
 pub(crate) fn plain_len(bytes: &[u8]) -> usize
-    ensures len { result ≡ prefix_len (is_plain 34 false) bytes.now }
-    ensures within { result ≤ length bytes.now }
+    ensures { result ≡ prefix_len (is_plain 34 false) bytes.now }
 {
-    let mut len = 0;
-    while len < bytes.len() && is_plain(bytes[len]) {
-        len += 1;
-    }
-    len
+    bytes.iter().take_while(|byte| is_plain(**byte)).count()
 }
 
 fn is_plain(byte: u8) -> bool

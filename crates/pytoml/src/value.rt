@@ -41,6 +41,7 @@ pub(crate) fn value(alloc: Global, s: &str, depth: usize) -> Result<(Value, &str
     }
 }
 
+#[tactic(auto, unfolding(toml::specs::Parse::atom))]
 fn atom(alloc: Global, s: &str) -> Result<(Value, &str), Unread>
     ensures value { Reads view result (atom s.now) }
     ensures shorter { Shortens s.now result }
@@ -68,10 +69,7 @@ fn string(alloc: Global, s: &str) -> Result<(String, &str), Unread>
             return Ok((String::new(alloc), skip(s, 2)));
         }
     }
-    match quoted(alloc, s) {
-        Ok(read) => Ok(read),
-        Err(refusal) => Err(Unread::of(refusal)),
-    }
+    quoted(alloc, s).map_err(Unread::of)
 }
 
 /// A boolean, a number or a date-time.
@@ -79,10 +77,8 @@ fn scalar(alloc: Global, s: &str) -> Result<(Value, &str), Unread>
     ensures value { Reads view result (read_scalar s.now) }
     ensures shorter { Shortens s.now result }
 {
-    match unquoted(alloc, s) {
-        Ok((scalar, rest)) => Ok((scalar_value(scalar), rest)),
-        Err(refusal) => Err(Unread::of(refusal)),
-    }
+    let (scalar, rest) = unquoted(alloc, s).map_err(Unread::of)?;
+    Ok((scalar_value(scalar), rest))
 }
 
 fn scalar_value(scalar: Scalar) -> Value
@@ -136,6 +132,7 @@ fn inline_table(alloc: Global, s: &str, depth: usize) -> Result<(Table, &str), U
 }
 
 /// After a comma, or at the closing bracket.
+#[tactic(auto, unfolding(toml::specs::Parse::after_element))]
 fn after_element(s: &str, closing: u8) -> Result<&str, Unread>
     ensures value { IfOk result (λ rest. after_element closing s.now ≡ Some rest.now) }
     ensures within { IfOk result (λ rest. length rest.now ≤ length s.now) }

@@ -1,11 +1,13 @@
 //! Specifier sets (PEP 440, "Version specifiers").
 
-ghost use Rattle.std.specs.Prelude.{◌≡◌, [], IfOk, IsTrue};
+ghost use Rattle.std.specs.Prelude.{◌≡◌, [], IfOk, IsTrue, List, Ok, string_bytes};
 ghost use Rattle.std.specs.Cmp.{partial_equiv_from_equiv};
 ghost use Rattle.pyver_core.specs.Inner.EqualityLaws.{set_equivalence};
 ghost use Rattle.pyver_core.specs.Set.Equality.{set_eq};
 ghost use Rattle.pyver_core.specs.Set.Normal.{set_text};
 ghost use Rattle.pyver_core.specs.Set.Admission.{admits_all};
+ghost use Rattle.pyver_core.specs.Parsed.{parsed_set};
+ghost use Rattle.pyver_core.specs.declared.set.specifier.Specifier.{Specifier};
 
 mod admission;
 mod error;
@@ -39,11 +41,6 @@ pub struct SpecifierSet {
 }
 
 impl Model for SpecifierSet {
-    ghost use Rattle.std.specs.Prelude.{◌≡◌, IsTrue, List, Ok, string_bytes};
-    ghost use Rattle.pyver_core.specs.Parsed.{parsed_set};
-    ghost use Rattle.pyver_core.specs.Set.Normal.{set_text};
-    ghost use Rattle.pyver_core.specs.declared.set.specifier.Specifier.{Specifier};
-
     ghost Value = { List Specifier };
 
     ghost view = { λ set. set.items.items };

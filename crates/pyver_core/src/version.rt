@@ -1,10 +1,10 @@
 //! Versions (PEP 440): their parts, texts and order.
 
-ghost use Rattle.std.specs.Prelude.{◌≡◌, ◌≢◌, [], IfOk};
+ghost use Rattle.std.specs.Prelude.{◌≡◌, ◌≢◌, [], IfOk, string_bytes};
 ghost use Rattle.pyver_core.specs.Inner.PartsRef.{parts_of};
 ghost use Rattle.pyver_core.specs.Version.Normal.{normal_text};
-ghost use Rattle.pyver_core.specs.Version.Parts.{base_release, is_postrelease, is_prerelease};
-ghost use Rattle.pyver_core.specs.Version.Parts.{public_part};
+ghost use Rattle.pyver_core.specs.Version.Parts.{Parts, base_release, is_postrelease};
+ghost use Rattle.pyver_core.specs.Version.Parts.{is_prerelease, public_part};
 
 mod error;
 mod from_parts;
@@ -36,10 +36,6 @@ pub struct Version {
 }
 
 impl Model for Version {
-    ghost use Rattle.std.specs.Prelude.{◌≡◌, ◌≢◌, [], string_bytes};
-    ghost use Rattle.pyver_core.specs.Version.Parts.{Parts};
-    ghost use Rattle.pyver_core.specs.Version.Normal.{normal_text};
-
     ghost Value = { Parts };
 
     ghost view = { λ v. v.parts };

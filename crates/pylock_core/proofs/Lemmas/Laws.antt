@@ -9,7 +9,7 @@ use Rattle.pymark_core.specs.Environment.{EnvironmentValue}
 use Rattle.pywheel_core.specs.Choice.{IsBest, best}
 use Rattle.pywheel_core.specs.Tag.{TagValue}
 use Rattle.pywheel_core.specs.Wheel.Value.{WheelValue}
-use Rattle.pylock_readers.specs.Entry.{EntryValue, FileValue, VcsValue, DirectoryValue, ArchiveValue, wheel_name, wheel_names}
+use Rattle.pylock_readers.specs.Entry.{EntryValue, wheel_name, wheel_names}
 use Rattle.pylock_core.specs.Session.Picks.{HasSource, IsFaultIn, IsPickAmong, StandsAmong}
 use Rattle.pylock_core.specs.Session.State.{Policies, State, is_among, policy_of, NumbersRise, Rises}
 use Rattle.pylock_core.specs.Session.Steps.{FirstFault, answer, answer_after, answer_by, best_wheel, by_standing, head_fault, pick_before, picks, picks_after, put_before, sdist_source, slate, source_of, standing}
@@ -85,21 +85,10 @@ either_has : (entry : EntryValue) (one other : Option PickSource) → Has entry 
 either_has entry None other h k = k
 either_has entry (Some s) other h k = h
 
-vcs_has : (entry : EntryValue) (vcs : Option VcsValue) → entry.vcs ≡ vcs → Has entry (option_map (λ v. kind.Vcs) vcs)
-vcs_has entry None is = tt
-vcs_has entry (Some v) is = ap is_some is
-
-directory_has : (entry : EntryValue) (directory : Option DirectoryValue) → entry.directory ≡ directory → Has entry (option_map (λ d. kind.Directory) directory)
-directory_has entry None is = tt
-directory_has entry (Some d) is = ap is_some is
-
-archive_has : (entry : EntryValue) (archive : Option ArchiveValue) → entry.archive ≡ archive → Has entry (option_map (λ a. kind.Archive) archive)
-archive_has entry None is = tt
-archive_has entry (Some a) is = ap is_some is
-
-sdist_has : (entry : EntryValue) (sdist : Option FileValue) → entry.sdist ≡ sdist → Has entry (option_map (λ file. kind.Sdist) sdist)
-sdist_has entry None is = tt
-sdist_has entry (Some file) is = ap is_some is
+-- where the source is there, the entry has what is chosen
+there_has : {X : Type 0} (entry : EntryValue) (chosen : PickSource) (source : Option X) → (is_some source ≡ true → HasSource chosen entry) → Has entry (option_map (λ x. chosen) source)
+there_has entry chosen None has = tt
+there_has entry chosen (Some x) has = has refl
 
 best_within : (entry : EntryValue) (tags : List TagValue) (chosen : Option ℕ) → IsBest (wheel_names entry) tags chosen → Has entry (option_map kind.Wheel chosen)
 best_within entry tags None h = tt
@@ -114,15 +103,15 @@ wheel_has stands entry tags Wheel = best_within entry tags (best (wheel_names en
 wheel_has stands entry tags Source = tt
 
 file_has : (entry : EntryValue) (policy : Policy) → Has entry (sdist_source entry policy)
-file_has entry Any = sdist_has entry entry.sdist refl
+file_has entry Any = there_has entry kind.Sdist entry.sdist (λ there. there)
 file_has entry Wheel = tt
-file_has entry Source = sdist_has entry entry.sdist refl
+file_has entry Source = there_has entry kind.Sdist entry.sdist (λ there. there)
 
 source_has : BestStands → (entry : EntryValue) (tags : List TagValue) (policy : Policy) → Has entry (source_of entry tags policy)
 source_has stands entry tags policy =
-    either_has entry _ _ (vcs_has entry entry.vcs refl)
-    (either_has entry _ _ (directory_has entry entry.directory refl)
-    (either_has entry _ _ (archive_has entry entry.archive refl)
+    either_has entry _ _ (there_has entry kind.Vcs entry.vcs (λ there. there))
+    (either_has entry _ _ (there_has entry kind.Directory entry.directory (λ there. there))
+    (either_has entry _ _ (there_has entry kind.Archive entry.archive (λ there. there))
     (either_has entry _ _ (wheel_has stands entry tags policy) (file_has entry policy))))
 
 -- ---- each pick names an entry that has its source

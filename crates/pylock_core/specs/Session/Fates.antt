@@ -7,7 +7,7 @@ use Rattle.std.specs.Str.{bytes_eq}
 use Rattle.pytext.specs.Options.{either}
 use Rattle.pymark_core.specs.Environment.{EnvironmentValue}
 use Rattle.pylock_readers.specs.Entry.{EntryValue}
-use Rattle.pylock_core.specs.Session.State.{State, policy_of}
+use Rattle.pylock_core.specs.Session.State.{State, entry_at, policy_of}
 use Rattle.pylock_core.specs.Session.Steps.{FirstFault, answer_after, answer_by, by_standing}
 use Rattle.pylock_core.specs.Session.Steps.{head_fault, pick_before, source_of, standing}
 use Rattle.pylock_readers.specs.Entry.Kinds.{has_conflict}
@@ -63,6 +63,10 @@ fate state e =
 -- what becomes of each entry, with its number
 abbrev pub fates : State → List (ℕ × Fate)
 fates state = map (λ e. (e.0, fate state e)) state.entries
+
+-- what becomes of the entry of the number
+abbrev pub fate_at : ℕ → State → Option Fate
+fate_at n state = option_map (λ entry. fate state (n, entry)) (entry_at n state.entries)
 
 -- ---- the answer that they give
 

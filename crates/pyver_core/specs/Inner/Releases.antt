@@ -29,7 +29,7 @@ slice_cmp-prepend_unless_trailing (suc m) xs zero (b ∷ ys) = refl
 slice_cmp-prepend_unless_trailing (suc m) xs (suc n) ys = refl
 
 -- one number of each release, and then the rest
-release_cmp-both : (x : ℕ) (xs : List ℕ) (y : ℕ) (ys : List ℕ)
+pub release_cmp-both : (x : ℕ) (xs : List ℕ) (y : ℕ) (ys : List ℕ)
     → release_cmp (x ∷ xs) (y ∷ ys) ≡ ordering_then (nat_cmp x y) (release_cmp xs ys)
 unfolding release_cmp
 release_cmp-both x xs y ys =

@@ -1,5 +1,5 @@
 -- The order of versions is total. The laws of `Ord` cite this.
-use Rattle.std.proofs.Common.{◌≡◌, ℕ, List, [], Option, Some, None, refl, sym, ap, subst}
+use Rattle.std.proofs.Common.{◌≡◌, ℕ, List, [], Option, Some, None, refl, sym, subst}
 use Rattle.std.specs.Ordering.{nat_cmp, on, ordering_then, then_cmp}
 use Rattle.std.specs.Option.{option_cmp}
 use Rattle.std.specs.Cmp.{IsTotalOrder, nat_cmp_total, on_total, then_total}
@@ -56,7 +56,7 @@ abbrev segment_rank_cmp : LocalPart → LocalPart → Ordering
 segment_rank_cmp = then_cmp (on segment_rank nat_cmp)
     (then_cmp (on segment_number nat_cmp) (on segment_letters (slice_cmp nat_cmp)))
 
-then-Equal : (r : Ordering) → ordering_then r Equal ≡ r
+pub then-Equal : (r : Ordering) → ordering_then r Equal ≡ r
 then-Equal Less = refl
 then-Equal Equal = refl
 then-Equal Greater = refl
@@ -74,36 +74,14 @@ segment_total = total_along segment_cmp segment_rank_cmp
     (on_total segment_letters nat_list_cmp_total)))
     segment_cmp-ranks
 
--- the six comparisons as one, the phase by its rank and its number
-abbrev joined_cmp : Parts → Parts → Ordering
-joined_cmp = then_cmp (on (λ (v : Parts). v.epoch) nat_cmp)
-    (then_cmp (on (λ (v : Parts). v.release) release_cmp)
-    (then_cmp (on (λ (v : Parts). phase_rank v.pre v.post v.dev) nat_cmp)
-    (then_cmp (on (λ (v : Parts). phase_number v.pre) nat_cmp)
-    (then_cmp (on (λ (v : Parts). v.post) (option_cmp nat_cmp))
-    (then_cmp (on (λ (v : Parts). v.dev) dev_cmp)
-    (on (λ (v : Parts). v.local) (slice_cmp segment_cmp)))))))
-
-joined_total : IsTotalOrder joined_cmp
-joined_total = then_total (on_total (λ (v : Parts). v.epoch) nat_cmp_total)
+-- the comparisons in turn, the phase by its rank and its number; behind them all are equal
+pub version_total : IsTotalOrder version_cmp
+unfolding version_cmp
+version_total = then_total (on_total (λ (v : Parts). v.epoch) nat_cmp_total)
     (then_total (on_total (λ (v : Parts). v.release) release_total)
     (then_total (on_total (λ (v : Parts). phase_rank v.pre v.post v.dev) nat_cmp_total)
     (then_total (on_total (λ (v : Parts). phase_number v.pre) nat_cmp_total)
     (then_total (on_total (λ (v : Parts). v.post) (options_total nat_cmp_total))
     (then_total (on_total (λ (v : Parts). v.dev) dev_total)
-    (on_total (λ (v : Parts). v.local) (lists_total segment_total)))))))
-
--- the last of the comparisons in turn
-version_cmp-joined : (v w : Parts) → version_cmp v w ≡ joined_cmp v w
-unfolding version_cmp
-version_cmp-joined v w =
-    let last = slice_cmp segment_cmp v.local w.local in
-    ap (λ (r : Ordering). ordering_then (nat_cmp v.epoch w.epoch)
-    (ordering_then (release_cmp v.release w.release)
-    (ordering_then (nat_cmp (phase_rank v.pre v.post v.dev) (phase_rank w.pre w.post w.dev))
-    (ordering_then (nat_cmp (phase_number v.pre) (phase_number w.pre))
-    (ordering_then (option_cmp nat_cmp v.post w.post) (ordering_then (dev_cmp v.dev w.dev) r))))))
-    (then-Equal last)
-
-pub version_total : IsTotalOrder version_cmp
-version_total = total_along version_cmp joined_cmp joined_total version_cmp-joined
+    (then_total (on_total (λ (v : Parts). v.local) (lists_total segment_total))
+    (on_total (λ (v : Parts). 0) nat_cmp_total)))))))

@@ -1,6 +1,7 @@
 //! Names in normal form (PEP 503, "Normalized Names"), which own their text.
 
-ghost use Rattle.std.specs.Prelude.{◌≡◌, false, IfOk, string_bytes};
+ghost use Rattle.std.specs.Prelude.{◌≡◌, ℕ, false, IfOk, List, string_bytes, unwrap_or};
+ghost use Rattle.std.specs.Coded.{coded_list, coded_ℕ};
 ghost use Rattle.pyver_core.specs.Inner.Names.{is_normal_rest, is_normal_byte};
 ghost use Rattle.pyver_core.specs.Name.{normal_name};
 
@@ -14,10 +15,6 @@ pub struct NormalName {
 }
 
 impl Model for NormalName {
-    ghost use Rattle.std.specs.Prelude.{◌≡◌, List, ℕ, string_bytes};
-    ghost use Rattle.std.specs.Coded.{coded_list, coded_ℕ};
-    ghost use Rattle.pyver_core.specs.Name.{normal_name};
-
     ghost Value = { List ℕ };
 
     ghost coded = { coded_list coded_ℕ };
@@ -84,8 +81,6 @@ pub struct NormalForm<'a> {
 }
 
 impl<'a> Model for NormalForm<'a> {
-    ghost use Rattle.std.specs.Prelude.{List, ℕ, unwrap_or};
-
     ghost Value = { List ℕ };
 
     ghost view = { λ n. unwrap_or n.made n.text.now };

@@ -4,8 +4,9 @@ ghost use Rattle.std.specs.Prelude.{◌≡◌, nat_eq};
 ghost use Rattle.std.specs.Cmp.{partial_equiv_from_equiv};
 ghost use Rattle.std.specs.Cmp.Lexicographic.{pointwise};
 ghost use Rattle.pyver_core.specs.Inner.EqualityLaws.{specifier_equivalence};
-ghost use Rattle.pyver_core.specs.Inner.Operand.{lent_pieces};
+ghost use Rattle.pyver_core.specs.Inner.Operand.{lent_pieces, lent_text};
 ghost use Rattle.pyver_core.specs.Set.Equality.{operand_pieces, specifier_eq};
+ghost use Rattle.pyver_core.specs.Set.Normal.{operand_text, operator_of, operator_text};
 
 use crate::version::Version;
 use pytext::Text;
@@ -105,8 +106,6 @@ impl ReleasePrefix {
 }
 
 impl Operator {
-    ghost use Rattle.pyver_core.specs.Set.Normal.{operator_text};
-
     /// The operator as it is written.
     pub fn as_str(self) -> &'static str
         ensures { result.now ≡ operator_text self }
@@ -125,10 +124,6 @@ impl Operator {
 }
 
 impl Specifier {
-    ghost use Rattle.pyver_core.specs.Inner.Operand.{lent_pieces, lent_text};
-    ghost use Rattle.pyver_core.specs.Set.Equality.{operand_pieces};
-    ghost use Rattle.pyver_core.specs.Set.Normal.{operand_text, operator_of};
-
     /// The operator.
     pub fn operator(&self) -> Operator
         ensures { result ≡ operator_of self.now }

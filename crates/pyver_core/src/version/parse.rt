@@ -80,11 +80,14 @@ impl Version {
 /// The most numbers of a release that is read in one look at the text.
 const MOST_NUMBERS: usize = 4;
 
+#[tactic(auto, using(crate::proofs::Lemmas::Version::NormalVersion::normal_is_read))]
 fn version_from_text(alloc: Global, text: &str) -> Result<Version, VersionError>
     ensures { Gives VersionError.Memory (λ v. v) result (parsed_version text.now) }
 {
-    match Version::parse_normal(alloc, text, 1)? {
-        Some(version) => Ok(version),
+    // Not by `parse_normal`: a large value is moved once less where it stands in line.
+    let mut room = [0; MOST_NUMBERS];
+    match read_normal(text.as_bytes(), &mut room) {
+        Some(normal) => Ok(Version::from_normal(alloc, text, &room, &normal)?),
         None => version_from_bytes(alloc, text.as_bytes()),
     }
 }

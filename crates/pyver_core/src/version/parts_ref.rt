@@ -1,6 +1,7 @@
 //! The parts of a version, lent: what a comparison reads, and what the normal form is written from.
 
 ghost use Rattle.std.specs.Prelude.{◌≡◌};
+ghost use Rattle.pyver_core.specs.Inner.PartsRef.{parts_of};
 ghost use Rattle.pyver_core.specs.Version.Parts.{public_part};
 
 use crate::version::{LocalPart, PreKind, VersionParts};
@@ -17,8 +18,6 @@ pub(crate) struct PartsRef<'a> {
 }
 
 impl VersionParts {
-    ghost use Rattle.pyver_core.specs.Inner.PartsRef.{parts_of};
-
     /// The parts, lent.
     pub(crate) fn as_parts_ref(&self) -> PartsRef<'_>
         ensures { parts_of result ≡ self.now }
@@ -35,8 +34,6 @@ impl VersionParts {
 }
 
 impl<'a> PartsRef<'a> {
-    ghost use Rattle.pyver_core.specs.Inner.PartsRef.{parts_of};
-
     /// The parts without the local part.
     pub(crate) fn public_part(&self) -> PartsRef<'a>
         ensures { parts_of result ≡ public_part (parts_of self.now) }

@@ -1,5 +1,5 @@
 -- Lemmas on what becomes of each entry.
-use Rattle.std.proofs.Common.{[], ◌≡◌, ◌∙◌, ℕ, Bool, true, false, ◌+◌, ◌&&◌, nat_eq, List, ◌∷◌, ◌++◌, Option, None, Some, append_assoc, cond, ap, map, refl, sym}
+use Rattle.std.proofs.Common.{[], ◌≡◌, ◌∙◌, ℕ, suc, zero, Bool, true, false, ◌+◌, ◌&&◌, nat_eq, List, ◌∷◌, ◌++◌, Option, None, Some, append_assoc, cond, ap, map, option_map, get_or, refl, sym, arith}
 use Rattle.std.specs.Str.{bytes_eq}
 use Rattle.pytext.specs.Options.{either}
 use Rattle.pymark_core.specs.Environment.{EnvironmentValue}
@@ -7,9 +7,10 @@ use Rattle.pywheel_core.specs.Tag.{TagValue}
 use Rattle.pylock_readers.specs.Entry.{EntryValue}
 use Rattle.pylock_core.specs.Inner.Answering.Fates.{fate_among, first_active_row, numbered_fate, row_fate, row_fates}
 use Rattle.pylock_core.specs.Inner.Tables.Names.{IsNames, number_named, policies_in, policy_at}
-use Rattle.pylock_core.specs.Inner.Parts.{IsJudged, IsNamed, IsSession, OfRows, state_of}
+use Rattle.pylock_core.specs.Inner.Parts.{IsJudged, IsNamed, IsSession, OfBoth, OfRows, state_of}
 use Rattle.pylock_core.specs.Inner.Answering.Steps.{is_active}
-use Rattle.pylock_core.specs.Session.Fates.{fate_by, fates, first_active, own_fate, stands_active}
+use Rattle.pylock_core.specs.Inner.Tables.Rows.{row_at}
+use Rattle.pylock_core.specs.Session.Fates.{fate, fate_at, fate_by, fates, first_active, own_fate, stands_active}
 use Rattle.pylock_core.specs.Session.State.{in_rows, policy_of}
 use Rattle.pylock_core.specs.Session.Steps.{source_of, standing}
 use Rattle.pylock_readers.specs.Entry.Kinds.{has_conflict}
@@ -19,7 +20,8 @@ use Rattle.pylock_core.specs.declared.session.tables.names.Names.{Names}
 use Rattle.pylock_core.specs.declared.session.parts.Parts.{Parts}
 use Rattle.pylock_core.specs.declared.session.tables.rows.Row.{Row}
 use Rattle.pylock_core.proofs.Lemmas.Parts.{NamedAndJudged, policy_here}
-use Rattle.pylock_core.proofs.Lemmas.Tables.Rows.{of_rows_and}
+use Rattle.pylock_core.proofs.Lemmas.Tables.Rows.{of_rows_and, of_rows_at}
+use Rattle.pylock_core.proofs.Lemmas.Editing.Entries.{entry_at_row, entry_at_zero}
 use Rattle.pylock_core.proofs.Lemmas.Tables.Names.{same_number}
 use Rattle.pylock_core.proofs.Lemmas.Answering.Steps.{source_of_row}
 
@@ -96,9 +98,30 @@ module _ (names : Names) (environment : EnvironmentValue) (tags : List TagValue)
       let one = fate_same k e r h.0 (first_active all environment e.name) (first_active_row every r.name) (first e.name r.name h.0.0.name) in
       λ i. (k, one i) ∷ fates_same all every first es rs (k + 1) h.1 i
 
+  -- and what becomes of one that may be there
+  fate_of_both : (all : List (ℕ × EntryValue)) (every : List (ℕ × Row)) → ((q : List ℕ) (n : ℕ) → number_named names q ≡ Some n → first_active all environment q ≡ first_active_row every n)
+      → (n : ℕ) (e : Option EntryValue) (r : Option Row) → OfBoth (NamedAndJudged names environment tags) e r
+      → option_map (λ r. fate_among every names.policies.items (n, r)) r ≡ option_map (λ e. (of_entry all (n, e)).1) e
+  fate_of_both all every first n None None h = refl
+  fate_of_both all every first n None (Some r) h = absurd h
+  fate_of_both all every first n (Some e) None h = absurd h
+  fate_of_both all every first n (Some e) (Some r) h =
+      ap Some (sym (fate_same n e r h (first_active all environment e.name) (first_active_row every r.name) (first e.name r.name h.0.name)))
+
 -- of a session
-pub session_fates : (parts : Parts) → IsSession parts → row_fates (in_rows 1 parts.rows.items) parts.names.policies.items ≡ fates (state_of parts)
-session_fates parts s =
-    let both = of_rows_and (IsNamed parts.names) (IsJudged parts.environment parts.tags parts.names.policies.items) parts.entries.items parts.rows.items s.named s.judged in
-    sym (fates_same parts.names parts.environment parts.tags s.names (in_rows 1 parts.entries.items) (in_rows 1 parts.rows.items)
-    (first_same parts.names parts.environment parts.tags s.names parts.entries.items parts.rows.items 1 both) parts.entries.items parts.rows.items 1 both)
+module _ (parts : Parts) (s : IsSession parts) where
+  both : OfRows (NamedAndJudged parts.names parts.environment parts.tags) parts.entries.items parts.rows.items
+  both = of_rows_and (IsNamed parts.names) (IsJudged parts.environment parts.tags parts.names.policies.items) parts.entries.items parts.rows.items s.named s.judged
+
+  first : (q : List ℕ) (n : ℕ) → number_named parts.names q ≡ Some n → first_active (in_rows 1 parts.entries.items) parts.environment q ≡ first_active_row (in_rows 1 parts.rows.items) n
+  first = first_same parts.names parts.environment parts.tags s.names parts.entries.items parts.rows.items 1 both
+
+  pub session_fates : row_fates (in_rows 1 parts.rows.items) parts.names.policies.items ≡ fates (state_of parts)
+  session_fates = sym (fates_same parts.names parts.environment parts.tags s.names (in_rows 1 parts.entries.items) (in_rows 1 parts.rows.items) first parts.entries.items parts.rows.items 1 both)
+
+  pub session_fate : (n : ℕ) → option_map (λ r. fate_among (in_rows 1 parts.rows.items) parts.names.policies.items (n, r)) (row_at parts.rows.items n) ≡ fate_at n (state_of parts)
+  session_fate zero = ap (option_map (λ e. fate (state_of parts) (zero, e))) (sym (entry_at_zero parts.entries.items))
+  session_fate (suc k) =
+      fate_of_both parts.names parts.environment parts.tags s.names (in_rows 1 parts.entries.items) (in_rows 1 parts.rows.items) first (suc k) (get_or parts.entries.items k None) (get_or parts.rows.items k None)
+      (of_rows_at (NamedAndJudged parts.names parts.environment parts.tags) parts.entries.items parts.rows.items k _ _ both refl refl)
+      ∙ ap (option_map (λ e. fate (state_of parts) (suc k, e))) (sym (entry_at_row (suc k) 1 k parts.entries.items (omega arith)))

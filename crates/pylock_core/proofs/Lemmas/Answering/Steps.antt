@@ -140,7 +140,7 @@ next_row : (rows : List (Option Row)) (place : ℕ) → row_at rows (place + 1) 
 next_row rows place = let same : place + 1 ≡ suc place = omega arith in ap (row_at rows) same
 
 -- the rows of the numbers of the entries that stand are all that stand
-pub living_rows : (P : EntryValue → Row → Type 0) (full : List (Option Row)) (m : ℕ) (es : List (Option EntryValue)) (rs : List (Option Row)) → OfRows P es rs
+living_rows : (P : EntryValue → Row → Type 0) (full : List (Option Row)) (m : ℕ) (es : List (Option EntryValue)) (rs : List (Option Row)) → OfRows P es rs
     → ((k n : ℕ) → n ≡ m + k → get_or full n None ≡ get_or rs k None)
     → numbered full (numbers_where (λ entry. true) (in_rows (m + 1) es)) ≡ in_rows (m + 1) rs
 living_rows P full m [] [] h at = refl
@@ -152,6 +152,11 @@ living_rows P full m (Some e ∷ es) (None ∷ rs) h at = absurd h.0
 living_rows P full m (Some e ∷ es) (Some r ∷ rs) h at =
     ap (λ row. and_row (m + 1) row (numbered full (numbers_where (λ entry. true) (in_rows (m + 1 + 1) es)))) (next_row full m ∙ at 0 m (omega arith))
     ∙ ap (λ rest. (m + 1, r) ∷ rest) (living_rows P full (m + 1) es rs h.1 (λ k n is. at (suc k) n (omega (arith, is))))
+
+pub session_rows : (parts : Parts) → IsSession parts → numbered parts.rows.items parts.living.items ≡ in_rows 1 parts.rows.items
+session_rows parts s =
+    ap (numbered parts.rows.items) s.living
+    ∙ living_rows (IsNamed parts.names) parts.rows.items 0 parts.entries.items parts.rows.items s.named (λ k n is. let same : n ≡ k = omega (arith, is) in ap (λ place. get_or parts.rows.items place None) same)
 
 abbrev Pairs : Names → EnvironmentValue → List TagValue → List (ℕ × EntryValue) → List (ℕ × Row) → Type 0
 Pairs names environment tags [] [] = Unit {0}

@@ -12,17 +12,16 @@ use Rattle.pywheel_core.specs.Tag.{TagValue}
 use Rattle.pylock_readers.specs.Entry.{EntryValue}
 use Rattle.pylock_core.specs.Inner.Judging.Judgement.{AllStand, after_head, fresh_row, fresh_standing, has_head, row_anew, rows_anew, standing_of, standings_anew}
 use Rattle.pylock_core.specs.Inner.Tables.Rows.{AllWithin, row_stood, with_standings, with_rows, passes}
-use Rattle.pylock_core.specs.Inner.Tables.Conditions.{Condition, IsUnder}
+use Rattle.pylock_core.specs.Inner.Tables.Conditions.{IsUnder}
 use Rattle.pylock_core.specs.Inner.Tables.Index.{list_at}
 use Rattle.pylock_core.specs.Session.State.{Rises}
 use Rattle.pylock_core.specs.Inner.Tables.Names.{policy_at}
 use Rattle.pylock_core.specs.Inner.Parts.{AreNumbered, IsJudged, IsNamed, IsSession, OfBoth, OfRows, state_of}
 use Rattle.pylock_core.specs.Inner.Answering.Steps.{has_number}
-use Rattle.pylock_core.specs.Session.Judgement.{IndexKey, Marked, OfTags, and_head, entry_reads, head_reads, keys, readers, verdict_of}
+use Rattle.pylock_core.specs.Session.Judgement.{IndexKey, VerdictValue, Marked, OfTags, and_head, entry_reads, head_reads, keys, readers, verdict_of}
 use Rattle.pylock_core.specs.Session.Steps.{standing}
 use Rattle.pylock_core.specs.declared.answer.Standing.{Standing}
 use Rattle.pylock_core.specs.declared.edit.Policy.{Policy}
-use Rattle.pylock_core.specs.declared.session.tables.names.Names.{Names}
 use Rattle.pylock_core.specs.declared.session.parts.Parts.{Parts}
 use Rattle.pylock_core.specs.declared.session.tables.rows.Row.{Row}
 use Rattle.pylock_core.proofs.Lemmas.Tables.Index.{passing, passing_rises, passing_row, with_row}
@@ -178,38 +177,29 @@ standings_within parts test environment fresh s is =
     (places_within (λ n. standing_of environment (get_or parts.entries.items (n - 1) None)) parts.entries.items (length parts.rows.items) (passing test 1 parts.entries.items)
     (session_even parts s) (all_stand test parts.entries.items (passing test 1 parts.entries.items) refl))
 
-named_row : (names : Names) (test : EntryValue → Bool) (environment : EnvironmentValue) (tags : List TagValue) (policy : ℕ → Policy) (e : Option EntryValue) (r : Option Row)
-    → OfBoth (IsNamed names) e r → OfBoth (IsNamed names) e (anew test environment tags policy e r)
-named_row names test environment tags policy None None h = tt
-named_row names test environment tags policy None (Some r) h = absurd h
-named_row names test environment tags policy (Some e) None h = absurd h
-named_row names test environment tags policy (Some e) (Some r) h = by (test e)
+-- what no verdict has a part in stays
+row_kept : (P : EntryValue → Row → Type 0) → ((e : EntryValue) (r : Row) (v : VerdictValue) → P e r → P e (record r { verdict = v }))
+    → (test : EntryValue → Bool) (environment : EnvironmentValue) (tags : List TagValue) (policy : ℕ → Policy) (e : Option EntryValue) (r : Option Row) → OfBoth P e r → OfBoth P e (anew test environment tags policy e r)
+row_kept P kept test environment tags policy None None h = tt
+row_kept P kept test environment tags policy None (Some r) h = absurd h
+row_kept P kept test environment tags policy (Some e) None h = absurd h
+row_kept P kept test environment tags policy (Some e) (Some r) h = by (test e)
   where
-    by : (b : Bool) → OfBoth (IsNamed names) (Some e) (cond b (row_anew environment tags policy (Some e) (Some r)) (Some r))
-    by true = record { name = h.name; sources = h.sources }
+    by : (b : Bool) → OfBoth P (Some e) (cond b (row_anew environment tags policy (Some e) (Some r)) (Some r))
+    by true = kept e r (verdict_of e environment tags (policy r.name)) h
     by false = h
 
 pub anew_named : (parts : Parts) (test : EntryValue → Bool) (environment : EnvironmentValue) (tags : List TagValue) (policy : ℕ → Policy) (rows : List (Option Row)) → IsSession parts
     → AreAnew parts test environment tags policy rows → OfRows (IsNamed parts.names) parts.entries.items rows
 anew_named parts test environment tags policy rows s is =
-    places_anew (IsNamed parts.names) (IsNamed parts.names) parts test environment tags policy rows (named_row parts.names test environment tags policy) s.named is
-
-under_row : (known : List Condition) (test : EntryValue → Bool) (environment : EnvironmentValue) (tags : List TagValue) (policy : ℕ → Policy) (e : Option EntryValue) (r : Option Row)
-    → OfBoth (IsUnder known) e r → OfBoth (IsUnder known) e (anew test environment tags policy e r)
-under_row known test environment tags policy None None h = tt
-under_row known test environment tags policy None (Some r) h = absurd h
-under_row known test environment tags policy (Some e) None h = absurd h
-under_row known test environment tags policy (Some e) (Some r) h = by (test e)
-  where
-    by : (b : Bool) → OfBoth (IsUnder known) (Some e) (cond b (row_anew environment tags policy (Some e) (Some r)) (Some r))
-    by true = h
-    by false = h
+    places_anew (IsNamed parts.names) (IsNamed parts.names) parts test environment tags policy rows
+    (row_kept (IsNamed parts.names) (λ e r v h. record { name = h.name; sources = h.sources }) test environment tags policy) s.named is
 
 pub anew_numbered : (parts : Parts) (test : EntryValue → Bool) (environment : EnvironmentValue) (tags : List TagValue) (policy : ℕ → Policy) (rows : List (Option Row)) → IsSession parts
     → AreAnew parts test environment tags policy rows → AreNumbered parts.conditions.count parts.entries.items rows
 anew_numbered parts test environment tags policy rows s is =
     let known = s.conditions.0 in
-    (known, s.conditions.1, places_anew (IsUnder known) (IsUnder known) parts test environment tags policy rows (under_row known test environment tags policy) s.conditions.2 is)
+    (known, s.conditions.1, places_anew (IsUnder known) (IsUnder known) parts test environment tags policy rows (row_kept (IsUnder known) (λ e r v h. h) test environment tags policy) s.conditions.2 is)
 
 -- an entry that passes has the policy that it is judged under; one that doesn't keeps its verdict
 pub record Suffices (parts : Parts) (test : EntryValue → Bool) (environment : EnvironmentValue) (tags : List TagValue) (policies : List Policy) (policy : ℕ → Policy) : Type 0 where

@@ -9,7 +9,7 @@ ghost use Rattle.pylock_core.specs.Inner.Tables.Names.{policy_at};
 ghost use Rattle.pylock_core.specs.Inner.Answering.Steps.{NamesBelow, numbered};
 ghost use Rattle.pylock_core.specs.Inner.Tables.Rows.{row_source};
 ghost use Rattle.pylock_core.specs.Inner.Parts.{IsSession, state_of};
-ghost use Rattle.pylock_core.specs.Session.Fates.{active_fate, fates, own_fate};
+ghost use Rattle.pylock_core.specs.Session.Fates.{active_fate, fate_at, fates, own_fate};
 
 use crate::answer::Standing;
 use crate::edit::Policy;
@@ -30,6 +30,34 @@ pub(crate) fn fates(parts: &Parts) -> Result<Vec<(u32, Fate)>, AllocError>
         parts.rows.as_slice(),
         parts.names.policies.as_slice(),
     )
+}
+
+/// What becomes of the entry of the number. It goes over the entries that stand, and takes no memory.
+pub(crate) fn fate_at(parts: &Parts, number: u32) -> Option<Fate>
+    requires { IsSession parts.now }
+    ensures { result ≡ fate_at number (state_of parts.now) }
+{
+    let rows = parts.rows.as_slice();
+    let Some(row) = row_in(rows, number) else {
+        return None;
+    };
+    let first = first_active_of(parts.living.as_slice(), rows, row.name);
+    Some(fate(number, row, first, parts.names.policies[row.name]))
+}
+
+/// The number of the first of these entries that has the name and is to be installed by its own.
+fn first_active_of(numbers: &[u32], rows: &[Option<Row>], name: usize) -> Option<u32>
+    ensures { result ≡ first_active_row (numbered rows.now numbers.now) name }
+{
+    for number in numbers {
+        let Some(row) = row_in(rows, *number) else {
+            continue;
+        };
+        if row.name == name && is_active(row) {
+            return Some(*number);
+        }
+    }
+    None
 }
 
 /// What becomes of the entries of these numbers. The policies are those of the names, by their

@@ -4,9 +4,6 @@ use Rattle.toml_parser.specs.Strings.{prepend}
 use Rattle.pytoml.proofs.Strings.{body_ends, on_and_on}
 use Rattle.pytoml.proofs.basic.more.Goals as goal
 
-pub pieces-init : goal.pieces-init
-pieces-init c = (search rules, omega arith, λ n h. (n, h, refl))
-
 pub returns-then-first-eq34-clause-value : goal.returns-then-first-eq34-clause-value
 returns-then-first-eq34-clause-value c n h =
     let l = c.pieces in

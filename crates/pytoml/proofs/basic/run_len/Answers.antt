@@ -7,11 +7,11 @@ use Rattle.pytoml.proofs.basic.run_len.Goals as goal
 
 pub returns-then-first-eq9-clause-plain : goal.returns-then-first-eq9-clause-plain
 returns-then-first-eq9-clause-plain c =
-    rw (c.plain_len.ensures.len, c.as_bytes.ensures.value) (all_run (is_plain 34 false) c.args.s.now)
+    rw (c.plain_len.ensures, c.as_bytes.ensures.value) (all_run (is_plain 34 false) c.args.s.now)
 
 pub returns-then-first-eq9-clause-boundary : goal.returns-then-first-eq9-clause-boundary
 returns-then-first-eq9-clause-boundary c =
-    rw (c.plain_len.ensures.len, c.as_bytes.ensures.value) (IsCharBoundary-wide_run (is_plain 34 false) c.args.s.now (λ b e. grind (arith, nat_tests)))
+    rw (c.plain_len.ensures, c.as_bytes.ensures.value) (IsCharBoundary-wide_run (is_plain 34 false) c.args.s.now (λ b e. grind (arith, nat_tests)))
 
 pub returns-else-first-eq9-clause-plain : goal.returns-else-first-eq9-clause-plain
 returns-else-first-eq9-clause-plain c =

@@ -1,11 +1,13 @@
 -- Where the epochs and the releases of two versions differ they decide, and else what stands behind.
-use Rattle.std.proofs.Common.{◌≡◌, ◌≢◌, ℕ, zero, suc, ◌-◌, ◌≤◌, List, [], ◌∷◌, length, take, drop, refl, sym, ◌∙◌, ap, arith}
+use Rattle.std.proofs.Common.{◌≡◌, ◌≢◌, ℕ, zero, suc, ◌≤◌, List, [], ◌∷◌, length, take, drop, refl, sym, ◌∙◌, ap, arith}
 use Rattle.std.specs.Ordering.{nat_cmp, ordering_then}
 use Rattle.std.specs.Cmp.Lexicographic.{slice_cmp}
 use Rattle.std.specs.declared.cmp.Ordering.{Ordering}
 use Rattle.std.specs.declared.cmp.Ordering.TheVariants.{Less, Equal, Greater}
 use Rattle.pyver_core.specs.Version.Order.{release_cmp, version_cmp}
+use Rattle.pyver_core.specs.Version.OrderLaws.{then-Equal}
 use Rattle.pyver_core.specs.Version.Parts.{Parts, base_release}
+use Rattle.pyver_core.specs.Inner.Releases.{release_cmp-both}
 use Rattle.pyver_core.specs.Inner.Tails.{tail_cmp}
 
 joined : (a b rest : Ordering) → ordering_then (ordering_then a b) rest ≡ ordering_then a (ordering_then b rest)
@@ -17,11 +19,6 @@ decided : (front tail : Ordering) → front ≢ Equal → ordering_then front ta
 decided Less tail other = refl
 decided Equal tail other = absurd (other refl)
 decided Greater tail other = refl
-
-then_equal : (front : Ordering) → ordering_then front Equal ≡ front
-then_equal Less = refl
-then_equal Equal = refl
-then_equal Greater = refl
 
 -- a version compares by its front, and then by its tail
 fronts_then_tails : (v w : Parts) (front : Ordering)
@@ -52,16 +49,7 @@ pub fronts_of_bases : (v w : Parts) (front : Ordering)
     → version_cmp (base_release v) (base_release w) ≡ front
 unfolding tail_cmp
 fronts_of_bases v w front is =
-    sym (fronts_then_tails (base_release v) (base_release w) front is) ∙ then_equal front
-
--- one number of each release, and then the rest
-one_of_each : (x : ℕ) (xs : List ℕ) (y : ℕ) (ys : List ℕ)
-    → release_cmp (x ∷ xs) (y ∷ ys) ≡ ordering_then (nat_cmp x y) (release_cmp xs ys)
-unfolding release_cmp
-one_of_each x xs y ys =
-    let a : length (y ∷ ys) - length (x ∷ xs) ≡ length ys - length xs = omega arith in
-    let b : length (x ∷ xs) - length (y ∷ ys) ≡ length xs - length ys = omega arith in
-    rw (a, b) refl
+    sym (fronts_then_tails (base_release v) (base_release w) front is) ∙ then-Equal front
 
 -- the first numbers of two releases decide before the rest
 pub release_cmp_fronts : (n : ℕ) (a b : List ℕ) → n ≤ length a → n ≤ length b
@@ -71,6 +59,6 @@ release_cmp_fronts zero a b left right = refl
 release_cmp_fronts (suc n) [] b left right = absurd (omega arith)
 release_cmp_fronts (suc n) (x ∷ a) [] left right = absurd (omega arith)
 release_cmp_fronts (suc n) (x ∷ a) (y ∷ b) left right =
-    one_of_each x a y b
+    release_cmp-both x a y b
     ∙ ap (ordering_then (nat_cmp x y)) (release_cmp_fronts n a b (omega arith) (omega arith))
     ∙ sym (joined (nat_cmp x y) (slice_cmp nat_cmp (take n a) (take n b)) (release_cmp (drop n a) (drop n b)))

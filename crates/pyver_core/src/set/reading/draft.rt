@@ -2,6 +2,7 @@
 
 ghost use Rattle.std.specs.Prelude.{◌≡◌, ◌∷◌, IfOk, option_map};
 ghost use Rattle.pyver_core.specs.Inner.Limit.{Makes};
+ghost use Rattle.pyver_core.specs.Set.Grammar.{specifier_numbers};
 ghost use Rattle.pyver_core.specs.Set.Reading.{operand_of};
 ghost use Rattle.pyver_core.specs.Inner.SpecifierDraft.{base_prefix, draft_specifier};
 
@@ -30,10 +31,6 @@ pub(crate) enum SpecifierDraft<'a> {
 }
 
 impl SpecifierDraft<'_> {
-    ghost use Rattle.pyver_core.specs.Inner.Limit.{Makes};
-    ghost use Rattle.pyver_core.specs.Set.Grammar.{specifier_numbers};
-    ghost use Rattle.pyver_core.specs.Inner.SpecifierDraft.{draft_specifier};
-
     /// The specifier in memory of its own.
     pub(crate) fn to_specifier(&self, alloc: Global) -> Result<Specifier, VersionError>
         ensures { Makes (λ s. s) result (draft_specifier self.now)

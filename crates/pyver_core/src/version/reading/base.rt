@@ -1,6 +1,6 @@
 //! The epoch and the release, as they stand in a text.
 
-ghost use Rattle.std.specs.Prelude.{◌≡◌, ◌++◌, option_map};
+ghost use Rattle.std.specs.Prelude.{◌≡◌, ◌≢◌, ◌++◌, [], IfOk, length, nat_le, option_map};
 ghost use Rattle.pyver_core.specs.Inner.VersionDraft.{base_of};
 ghost use Rattle.pyver_core.specs.Inner.Limit.{Makes};
 ghost use Rattle.pyver_core.specs.Version.Reading.{after_prefix, base_at, dotted_number_at};
@@ -29,9 +29,6 @@ impl<'a> Model for Release<'a> {
 }
 
 impl Release<'_> {
-    ghost use Rattle.std.specs.Prelude.{◌≢◌, [], IfOk, length, nat_le};
-    ghost use Rattle.pyver_core.specs.Inner.Limit.{Makes};
-
     /// Whether there are two numbers or more.
     pub(crate) fn has_two_numbers(&self) -> bool
         ensures { result ≡ nat_le 2 (length self.now) }
@@ -83,6 +80,7 @@ fn read_head(bytes: &[u8]) -> Option<(Digits<'_>, Digits<'_>, &[u8])>
 }
 
 /// The text after numbers with a dot before each.
+#[tactic(auto, using(crate::proofs::Lemmas::Version::Reading::Many::dotted))]
 fn after_dotted_numbers(bytes: &[u8]) -> &[u8]
     ensures { result.now ≡ (many_at dotted_number_at bytes.now).1 }
 {

@@ -1,5 +1,12 @@
 //! Numbers as they stand in a text.
 
+ghost use Rattle.std.specs.Prelude.{◌≡◌, ◌<◌, ℕ, true, SomeIff, [], ◌∷◌};
+ghost use Rattle.std.specs.Char.{is_ascii_digit};
+ghost use Rattle.std.specs.List.{list_all};
+ghost use Rattle.std.specs.Str.Parse.{digits_value};
+ghost use Rattle.pytext.specs.Digits.{number_limit};
+ghost use Rattle.pyver_core.specs.Inner.Limit.{Makes};
+
 use crate::version::VersionError;
 use pytext::digits_value;
 use std::marker::Model;
@@ -11,11 +18,6 @@ pub(crate) struct Digits<'a> {
 }
 
 impl<'a> Model for Digits<'a> {
-    ghost use Rattle.std.specs.Prelude.{◌≡◌, ℕ, true};
-    ghost use Rattle.std.specs.Char.{is_ascii_digit};
-    ghost use Rattle.std.specs.List.{list_all};
-    ghost use Rattle.std.specs.Str.Parse.{digits_value};
-
     ghost Value = { ℕ };
 
     ghost view = { λ a. digits_value 10 a.digits.now };
@@ -24,13 +26,6 @@ impl<'a> Model for Digits<'a> {
 }
 
 impl<'a> Digits<'a> {
-    ghost use Rattle.std.specs.Prelude.{◌≡◌, ◌<◌, true, SomeIff, [], ◌∷◌};
-    ghost use Rattle.pytext.specs.Digits.{number_limit};
-    ghost use Rattle.pyver_core.specs.Inner.Limit.{Makes};
-    ghost use Rattle.std.specs.Char.{is_ascii_digit};
-    ghost use Rattle.std.specs.List.{list_all};
-    ghost use Rattle.std.specs.Str.Parse.{digits_value};
-
     /// The number that these digits write.
     pub(super) fn new(digits: &'a [u8]) -> Digits<'a>
         requires { list_all is_ascii_digit digits.now ≡ true }

@@ -1,9 +1,10 @@
 //! The local part, as it stands in a text.
 
-ghost use Rattle.std.specs.Prelude.{◌≡◌, ◌++◌, flat_map};
+ghost use Rattle.std.specs.Prelude.{◌≡◌, ◌==◌, ◌++◌, List, flat_map, length};
 ghost use Rattle.pyver_core.specs.Inner.Limit.{Makes};
 ghost use Rattle.pyver_core.specs.Version.Grammar.{number_in_segment};
 ghost use Rattle.pyver_core.specs.Version.Reading.{local_at, many_at, separated_segment_at};
+ghost use Rattle.pyver_core.specs.declared.version.part.LocalPart.{LocalPart};
 
 use super::scan;
 use crate::version::{LocalPart, VersionError};
@@ -17,21 +18,12 @@ pub(crate) struct Local<'a> {
 }
 
 impl<'a> Model for Local<'a> {
-    ghost use Rattle.std.specs.Prelude.{List};
-    ghost use Rattle.pyver_core.specs.declared.version.part.LocalPart.{LocalPart};
-    ghost use Rattle.pyver_core.specs.Version.Reading.{local_at};
-
     ghost Value = { List LocalPart };
 
     ghost view = { λ a. (local_at a.text.now).0 };
 }
 
 impl Local<'_> {
-    ghost use Rattle.std.specs.Prelude.{◌==◌, flat_map, length};
-    ghost use Rattle.pyver_core.specs.Version.Grammar.{number_in_segment};
-    ghost use Rattle.pyver_core.specs.Inner.Limit.{Makes};
-    ghost use Rattle.pyver_core.specs.Version.Reading.{local_at};
-
     /// Whether there is no local part.
     #[tactic(auto, unfolding(crate::specs::Version::Reading::local_at))]
     pub(crate) fn is_empty(&self) -> bool
@@ -55,6 +47,7 @@ impl Local<'_> {
 }
 
 /// The text after segments with a separator before each.
+#[tactic(auto, using(crate::proofs::Lemmas::Version::Reading::Many::separated))]
 fn after_separated_segments(bytes: &[u8]) -> &[u8]
     ensures { result.now ≡ (many_at separated_segment_at bytes.now).1 }
 {

@@ -4,6 +4,10 @@ ghost use Rattle.std.specs.Prelude.{◌≡◌, true, IfOk, string_bytes};
 ghost use Rattle.std.specs.Char.{is_ascii_alphanumeric};
 ghost use Rattle.std.specs.List.{list_all};
 ghost use Rattle.std.specs.Str.{str_to_ascii_lowercase};
+ghost use Rattle.pyver_core.specs.Inner.Limit.{Makes};
+ghost use Rattle.pyver_core.specs.Version.Grammar.{number_in_segment};
+ghost use Rattle.pyver_core.specs.Version.Reading.{segment_of};
+ghost use Rattle.pyver_core.specs.declared.version.part.LocalPart.{LocalPart};
 
 use super::digits::Digits;
 use crate::version::{LocalPart, VersionError};
@@ -18,12 +22,6 @@ pub(crate) struct Segment<'a> {
 }
 
 impl<'a> Model for Segment<'a> {
-    ghost use Rattle.std.specs.Prelude.{◌≡◌, true};
-    ghost use Rattle.std.specs.Char.{is_ascii_alphanumeric};
-    ghost use Rattle.std.specs.List.{list_all};
-    ghost use Rattle.pyver_core.specs.declared.version.part.LocalPart.{LocalPart};
-    ghost use Rattle.pyver_core.specs.Version.Reading.{segment_of};
-
     ghost Value = { LocalPart };
 
     ghost view = { λ a. segment_of a.run.now };
@@ -32,13 +30,6 @@ impl<'a> Model for Segment<'a> {
 }
 
 impl<'a> Segment<'a> {
-    ghost use Rattle.std.specs.Prelude.{◌≡◌, true};
-    ghost use Rattle.std.specs.Char.{is_ascii_alphanumeric};
-    ghost use Rattle.std.specs.List.{list_all};
-    ghost use Rattle.pyver_core.specs.Version.Grammar.{number_in_segment};
-    ghost use Rattle.pyver_core.specs.Inner.Limit.{Makes};
-    ghost use Rattle.pyver_core.specs.Version.Reading.{segment_of};
-
     /// The segment that these letters and digits spell.
     pub(super) fn new(run: &'a [u8]) -> Segment<'a>
         requires { list_all is_ascii_alphanumeric run.now ≡ true }

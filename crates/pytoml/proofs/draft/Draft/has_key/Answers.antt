@@ -16,4 +16,4 @@ returns-in-Some c = λ yes.
     let list : c.deref.result.now ≡ ls = c.deref.ensures.value in
     let within : at < length ls = grind (arith, nat_tests, common_steps) in
     let found : level ≡ get_or ls at level = c.in-Some.ensures.lookup.3.1 level ∙ ap (λ t. get_or t at level) list in
-    (within, next_key ls at level within ∙ ap (λ k. take at (map key_of ls) ++ k ∷ []) (ap key_of (sym found) ∙ key_is))
+    (within, next_key key_of ls at level within ∙ ap (λ k. take at (map key_of ls) ++ k ∷ []) (ap key_of (sym found) ∙ key_is))

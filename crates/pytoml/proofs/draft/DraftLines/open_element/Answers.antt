@@ -1,11 +1,11 @@
-use Rattle.std.proofs.Common.{◌≡◌, ◌+◌, ◌∙◌, ◌∷◌, ◌++◌, [], option_map, drop, take, string_bytes, sym, ap, ap₂, arith}
+use Rattle.std.proofs.Common.{◌≡◌, ◌+◌, ◌∙◌, ◌∷◌, ◌++◌, [], take, string_bytes, sym, ap, ap₂, arith, refl}
 use Rattle.std.proofs.lemmas.List.{take_all, length-map}
 use Rattle.toml_parser.specs.Reading.{path_view}
-use Rattle.toml.specs.Tables.{along_header}
+use Rattle.toml.specs.Tables.{array_table}
 use Rattle.toml.specs.Data.{no_items}
 use Rattle.toml.specs.View.{items_view}
-use Rattle.pytoml.specs.Draft.{in_array, path_of, plug}
-use Rattle.pytoml.proofs.Levels.{keys_are_path, element_opened, element_turned}
+use Rattle.pytoml.specs.Draft.{in_array, path_of}
+use Rattle.pytoml.proofs.Levels.{define_element, element_turned, header_leads, header_opened, keys_are_path, shared_path}
 use Rattle.pytoml.proofs.Results.{on_ok_then}
 use Rattle.pytoml.proofs.draft.DraftLines.open_element.Goals as goal
 
@@ -16,8 +16,7 @@ returns-then-has_key c = λ doc stands.
     let k = string_bytes c.args.key.last in
     let (rings, inner, draft, is) = stands in
     let keys = keys_are_path c.args.self.now.levels.items rings draft.levels in
-    let parts : path_view c.deref.result.now ≡ p = ap path_view c.deref.ensures.value in
-    let shared : take n (path_of rings) ≡ take n p = ap (take n) (sym keys) ∙ sym c.shared-shared.ensures.same ∙ ap (take n) parts in
+    let shared = shared_path c.args.self.now rings inner n p _ draft (ap path_view c.deref.ensures.value) c.shared-shared.ensures.same in
     let all : take n p ≡ p = take_all n p (omega (arith, length-map c.args.key.path.items string_bytes, c.args.key.path.ok)) in
     let here = c.has_key.ensures c.if-has_key.true in
     let next : take (n + 1) (path_of rings) ≡ p ++ k ∷ [] =
@@ -29,24 +28,12 @@ returns-then-has_key c = λ doc stands.
 
 pub returns : goal.returns
 returns c = λ doc stands.
-    let n = c.shared-shared.result in
     let p = path_view c.args.key.path.items in
     let k = string_bytes c.args.key.last in
     let (rings, inner, draft, is) = stands in
-    let keys = keys_are_path c.args.self.now.levels.items rings draft.levels in
-    let parts : path_view c.deref.result.now ≡ p = ap path_view c.deref.ensures.value in
-    let parts_again : path_view c.deref-2.result.now ≡ p = ap path_view c.deref-2.ensures.value in
-    let shared : take n (path_of rings) ≡ take n p = ap (take n) (sym keys) ∙ sym c.shared-shared.ensures.same ∙ ap (take n) parts in
     let (fewer, outside, kept, plugs, path) = c.in_ok-close_to-2.ensures.kept rings inner draft in
     let (more, top, opened, ways, along) = c.in_ok-open_path.ensures fewer outside kept in
-    on_ok_then c.open.result
-    (λ found. element_opened p k n c.open.new.self doc rings more inner top is
-    (record {
-      fewer = fewer;
-      outside = outside;
-      plugs = plugs;
-      shared = path ∙ shared;
-      path = ways ∙ ap (λ t. path_of fewer ++ drop n t) parts_again;
-      along = λ edit. ap (λ t. option_map (plug fewer) (along_header (drop n t) edit outside)) (sym parts_again) ∙ along edit;
-    }) found.0 found.1)
+    let leads = header_leads c.args.self.now rings fewer more inner outside top c.shared-shared.result p _ _ draft (ap path_view c.deref.ensures.value) (ap path_view c.deref-2.ensures.value)
+    c.shared-shared.ensures.same plugs path ways along in
+    on_ok_then c.open.result (λ found. header_opened p k _ c.open.new.self doc rings more inner top array_table (in_array no_items) (define_element doc p k) refl is leads found.0 found.1)
     (c.open.ensures more top (in_array no_items) opened (sym (ap items_view c.new.ensures.items)))

@@ -33,10 +33,10 @@ read_start all = record {
   large = λ e. absurd (let n : false ≡ true = e in cc);
 }
 
-pub read_blank : (piece : List ℕ) (left all : List (List ℕ)) (items : List Specifier) (is_large : Bool) → list_all is_white piece ≡ true
+pub read_blank : {piece : List ℕ} {left all : List (List ℕ)} {items : List Specifier} {is_large : Bool} → list_all is_white piece ≡ true
     → ReadSoFar (piece ∷ left) all items is_large → ReadSoFar left all items is_large
 unfolding specifiers_of
-read_blank piece left all items is_large blank r = record {
+read_blank blank r = record {
   so_far = r.so_far;
   whole = rw blank at r.whole;
   small = r.small;
@@ -44,10 +44,10 @@ read_blank piece left all items is_large blank r = record {
 }
 
 -- a piece that is no specifier
-pub read_refused : (piece : List ℕ) (left all : List (List ℕ)) (items : List Specifier) (is_large : Bool) → list_all is_white piece ≡ false
+pub read_refused : {piece : List ℕ} {left all : List (List ℕ)} {items : List Specifier} {is_large : Bool} → list_all is_white piece ≡ false
     → specifier_of piece ≡ None → ReadSoFar (piece ∷ left) all items is_large → specifiers_of all ≡ None
 unfolding specifiers_of
-read_refused piece left all items is_large other none r = rw (other, none) at r.whole
+read_refused other none r = rw (other, none) at r.whole
 
 one-more : (so_far : List Specifier) (s : Specifier) (o : Option (List Specifier))
     → option_map (λ rest. so_far ++ rest) (option_map (λ others. s ∷ others) o) ≡ option_map (λ rest. (so_far ++ s ∷ []) ++ rest) o
@@ -67,10 +67,10 @@ more-numbers so_far s =
     ∙ has_large-append (flat_map specifier_numbers so_far) (specifier_numbers s)
 
 -- a specifier that is put after the others
-pub read_within : (piece : List ℕ) (left all : List (List ℕ)) (items : List Specifier) (is_large : Bool) (s : Specifier) → list_all is_white piece ≡ false
+pub read_within : {piece : List ℕ} {left all : List (List ℕ)} {items : List Specifier} {is_large : Bool} (s : Specifier) → list_all is_white piece ≡ false
     → specifier_of piece ≡ Some s → has_large (specifier_numbers s) ≡ false → ReadSoFar (piece ∷ left) all items is_large
     → ReadSoFar left all (items ++ s ∷ []) is_large
-read_within piece left all items is_large s other some within r = record {
+read_within {piece} {left} {all} s other some within r = record {
   so_far = r.so_far ++ s ∷ [];
   whole = more-whole piece left all r.so_far s other some r.whole;
   small = λ e. (ap (λ xs. xs ++ s ∷ []) (r.small e).0, more-numbers r.so_far s ∙ or_false _ _ (r.small e).1 ∙ within);
@@ -78,25 +78,25 @@ read_within piece left all items is_large s other some within r = record {
 }
 
 -- one with a number past the limit
-pub read_large : (piece : List ℕ) (left all : List (List ℕ)) (items more : List Specifier) (is_large : Bool) (s : Specifier) → list_all is_white piece ≡ false
+pub read_large : {piece : List ℕ} {left all : List (List ℕ)} {items more : List Specifier} {is_large : Bool} (s : Specifier) → list_all is_white piece ≡ false
     → specifier_of piece ≡ Some s → has_large (specifier_numbers s) ≡ true → ReadSoFar (piece ∷ left) all items is_large
     → ReadSoFar left all more true
-read_large piece left all items more is_large s other some past r = record {
+read_large {piece} {left} {all} s other some past r = record {
   so_far = r.so_far ++ s ∷ [];
   whole = more-whole piece left all r.so_far s other some r.whole;
   small = λ e. absurd (let n : true ≡ false = e in cc);
   large = λ _. more-numbers r.so_far s ∙ or_right _ _ past;
 }
 
-pub read_end : (all : List (List ℕ)) (items : List Specifier) → ReadSoFar [] all items false
+pub read_end : {all : List (List ℕ)} {items : List Specifier} → ReadSoFar [] all items false
     → (specifiers_of all ≡ Some items) × (has_large (flat_map specifier_numbers items) ≡ false)
 unfolding specifiers_of
-read_end all items r =
+read_end {all} {items} r =
     let same = (r.small refl).0 in
     let within : has_large (flat_map specifier_numbers items) ≡ false = ap (λ xs. has_large (flat_map specifier_numbers xs)) same ∙ (r.small refl).1 in
     (r.whole ∙ ap Some (append-nil r.so_far ∙ sym same), within)
 
-pub read_end_large : (all : List (List ℕ)) (items : List Specifier) → ReadSoFar [] all items true
+pub read_end_large : {all : List (List ℕ)} {items : List Specifier} → ReadSoFar [] all items true
     → (specifiers : List Specifier) × (specifiers_of all ≡ Some specifiers) × (has_large (flat_map specifier_numbers specifiers) ≡ true)
 unfolding specifiers_of
-read_end_large all items r = (r.so_far, r.whole ∙ ap Some (append-nil r.so_far), r.large refl)
+read_end_large r = (r.so_far, r.whole ∙ ap Some (append-nil r.so_far), r.large refl)

@@ -1,5 +1,5 @@
 -- Reading one item after the other, without the bound that the definition counts down.
-use Rattle.std.proofs.Common.{◌≡◌, ℕ, zero, suc, ◌<◌, ◌≤◌, Bool, List, [], ◌∷◌, length, Option, Some, None, refl, ap, arith, inl, inr}
+use Rattle.std.proofs.Common.{◌≡◌, ℕ, zero, suc, ◌<◌, ◌≤◌, Bool, List, [], ◌∷◌, length, Option, Some, None, refl, sym, ap, arith, inl, inr}
 use Rattle.std.specs.Char.{is_ascii_digit, is_ascii_alphanumeric}
 use Rattle.std.specs.List.{prefix_len}
 use Rattle.std.proofs.lemmas.List.{length-drop}
@@ -7,6 +7,7 @@ use Rattle.std.proofs.lemmas.Option.{cond_some}
 use Rattle.pytext.specs.Bytes.{is_separator, starts}
 use Rattle.pyver_core.specs.Version.Grammar.{is_dot}
 use Rattle.pyver_core.specs.Version.Reading.{prepend_item, behind_at, many_up_to, many_at, count_at, number_at, dotted_number_at, segment_at, separated_segment_at}
+use Rattle.pyver_core.specs.declared.version.part.LocalPart.{LocalPart}
 use Rattle.pytext.proofs.OptionsLemmas.{option_cases}
 use Rattle.std.proofs.lemmas.Bool.{cases_Bool}
 
@@ -75,3 +76,31 @@ many_at-some read shrinks [] x e = absurd (omega (arith, shrinks [] x e))
 many_at-some read shrinks (b ∷ text) x e =
     let less : length x.1 < length (b ∷ text) = shrinks (b ∷ text) x e in
     rw e (ap (λ r. prepend_item x.0 r) (many_up_to-fuel read shrinks (length text) (length x.1) x.1 (omega arith) (omega arith)))
+
+-- ---- the text behind the items
+
+behind_one : {X : Type 0} (read : List ℕ → Option (X × List ℕ)) → Shrinks read → (text : List ℕ) (x : X) (rest : List ℕ) → Some (x, rest) ≡ read text
+    → ((many_at read rest).1 ≡ (many_at read text).1) × (length rest < length text)
+behind_one {X} read shrinks text x rest e =
+    (sym (ap (λ (r : List X × List ℕ). r.1) (many_at-some read shrinks text (x, rest) (sym e))), shrinks text (x, rest) (sym e))
+
+behind_all : {X : Type 0} (read : List ℕ → Option (X × List ℕ)) (text : List ℕ) → None ≡ read text → text ≡ (many_at read text).1
+behind_all {X} read text e = sym (ap (λ (r : List X × List ℕ). r.1) (many_at-none read text (sym e)))
+
+pub behind_dotted : (text : List ℕ) (n : ℕ) (rest : List ℕ) → Some (n, rest) ≡ dotted_number_at text
+    → ((many_at dotted_number_at rest).1 ≡ (many_at dotted_number_at text).1) × (length rest < length text)
+behind_dotted = behind_one dotted_number_at dotted_shrinks
+
+pub behind_all_dotted : (text : List ℕ) → None ≡ dotted_number_at text → text ≡ (many_at dotted_number_at text).1
+behind_all_dotted = behind_all dotted_number_at
+
+pub behind_separated : (text : List ℕ) (s : LocalPart) (rest : List ℕ) → Some (s, rest) ≡ separated_segment_at text
+    → ((many_at separated_segment_at rest).1 ≡ (many_at separated_segment_at text).1) × (length rest < length text)
+behind_separated = behind_one separated_segment_at separated_shrinks
+
+pub behind_all_separated : (text : List ℕ) → None ≡ separated_segment_at text → text ≡ (many_at separated_segment_at text).1
+behind_all_separated = behind_all separated_segment_at
+
+pub ruleset dotted = (behind_dotted, behind_all_dotted)
+
+pub ruleset separated = (behind_separated, behind_all_separated)

@@ -1,9 +1,8 @@
-use Rattle.std.proofs.Common.{◌≡◌, ◌∙◌, List, None, get_or, IfOk, ℕ, subst, ap, arith}
+use Rattle.std.proofs.Common.{◌≡◌, ◌∙◌, List, IfOk, ℕ, subst, ap}
 use Rattle.pylock_core.specs.Inner.Answering.Fates.{row_fates}
-use Rattle.pylock_core.specs.Inner.Parts.{IsNamed}
 use Rattle.pylock_core.specs.declared.fate.Fate.{Fate}
 use Rattle.pylock_core.proofs.Lemmas.Answering.Fates.{session_fates}
-use Rattle.pylock_core.proofs.Lemmas.Answering.Steps.{living_rows}
+use Rattle.pylock_core.proofs.Lemmas.Answering.Steps.{session_rows}
 use Rattle.pylock_core.proofs.Lemmas.Parts.{session_below}
 use Rattle.pylock_core.proofs.session.answering.fates.fates.Goals as goal
 
@@ -13,7 +12,6 @@ fates_of-requires c = rw (c.as_slice-2.ensures.value, c.as_slice-3.ensures.value
 pub returns : goal.returns
 returns c =
     let p = c.args.parts.now in
-    let given = rw (c.as_slice.ensures.value, c.as_slice-2.ensures.value, c.as_slice-3.ensures.value, c.requires.living) at c.fates_of.ensures in
-    let rows = living_rows (IsNamed p.names) p.rows.items 0 p.entries.items p.rows.items c.requires.named (λ k n is. let same : n ≡ k = omega (arith, is) in ap (λ place. get_or p.rows.items place None) same) in
+    let given = rw (c.as_slice.ensures.value, c.as_slice-2.ensures.value, c.as_slice-3.ensures.value) at c.fates_of.ensures in
     subst (λ (x : List (ℕ × Fate)). IfOk c.fates_of.result (λ found. found.items ≡ x))
-    (ap (λ es. row_fates es p.names.policies.items) rows ∙ session_fates p c.requires) given
+    (ap (λ es. row_fates es p.names.policies.items) (session_rows p c.requires) ∙ session_fates p c.requires) given

@@ -1,9 +1,8 @@
-use Rattle.std.proofs.Common.{◌≡◌, ◌∙◌, [], None, get_or, IfOk, subst, sym, ap, arith}
-use Rattle.pylock_core.specs.Inner.Parts.{IsNamed}
+use Rattle.std.proofs.Common.{◌≡◌, ◌∙◌, [], IfOk, subst, sym, ap}
 use Rattle.pylock_core.specs.Inner.Answering.Steps.{picks_after_rows, slate_rows}
 use Rattle.pylock_core.specs.Session.Steps.{answer_by}
 use Rattle.pylock_core.specs.declared.answer.Answer.{Answer}
-use Rattle.pylock_core.proofs.Lemmas.Answering.Steps.{living_rows, session_answer}
+use Rattle.pylock_core.proofs.Lemmas.Answering.Steps.{session_answer, session_rows}
 use Rattle.pylock_core.proofs.Lemmas.Parts.{session_below}
 use Rattle.pylock_core.proofs.session.answering.steps.answer.Goals as goal
 
@@ -13,7 +12,6 @@ answer_of-requires c = rw (c.as_slice-2.ensures.value, c.as_slice-3.ensures.valu
 pub returns : goal.returns
 returns c =
     let p = c.args.parts.now in
-    let given = rw (c.as_slice.ensures.value, c.as_slice-2.ensures.value, c.as_slice-3.ensures.value, c.requires.living) at c.answer_of.ensures in
-    let rows = living_rows (IsNamed p.names) p.rows.items 0 p.entries.items p.rows.items c.requires.named (λ k n is. let same : n ≡ k = omega (arith, is) in ap (λ place. get_or p.rows.items place None) same) in
+    let given = rw (c.as_slice.ensures.value, c.as_slice-2.ensures.value, c.as_slice-3.ensures.value) at c.answer_of.ensures in
     subst (λ (x : Answer). IfOk c.answer_of.result (λ found. found ≡ x))
-    (ap (λ es. answer_by (picks_after_rows (slate_rows es []) p.names.policies.items)) rows ∙ session_answer p c.requires (sym c.fault.ensures ∙ c.in_default.is)) given
+    (ap (λ es. answer_by (picks_after_rows (slate_rows es []) p.names.policies.items)) (session_rows p c.requires) ∙ session_answer p c.requires (sym c.fault.ensures ∙ c.in_default.is)) given
