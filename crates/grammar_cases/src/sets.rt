@@ -117,7 +117,7 @@ fn are_seen_same(alloc: Global, left: &str, right: &str) -> anyhow::Result<bool>
 }
 
 /// The specifier of `operator` and `operand`, or why it is refused.
-pub(crate) fn make(alloc: Global, case: &Table) -> anyhow::Result<String> {
+pub(crate) fn make_specifier(alloc: Global, case: &Table) -> anyhow::Result<String> {
     let operator = text(alloc, case, "operator")?;
     let operand = text(alloc, case, "operand")?;
     match operator_of(operator.as_str()) {

@@ -81,7 +81,7 @@ fn is_read_back(alloc: Global, version: &Version, printed: &str) -> anyhow::Resu
 /// What `long_version` says of the version that is made of a copy of the parts of `version`: with
 /// the text `label` before the other segments of the local part, and without a number in the
 /// release, where the case says so. Or why no version has them.
-pub(crate) fn make(alloc: Global, case: &Table) -> anyhow::Result<String> {
+pub(crate) fn make_version(alloc: Global, case: &Table) -> anyhow::Result<String> {
     let text = text(alloc, case, "version")?;
     let version = Version::parse(alloc, text.as_str())?;
     let parts = parts_of(alloc, case, &version)?;

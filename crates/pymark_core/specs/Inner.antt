@@ -2,4 +2,4 @@ pub mod Building
 pub mod LentToken
 pub mod Nesting
 pub mod Passed
-pub mod Source
+pub mod SourceParts

@@ -9,7 +9,7 @@ ghost use Rattle.pymark_core.specs.Marker.ComparisonView.{IsRead, ReadsAs, compa
 ghost use Rattle.pymark_core.specs.Marker.ComparisonView.{left_operand, right_of, right_operand};
 ghost use Rattle.pymark_core.specs.Marker.ComparisonView.{unboxed};
 ghost use Rattle.pymark_core.specs.Marker.Asked.{extra_asked, group_asked, comparison_reads_extra};
-ghost use Rattle.pymark_core.specs.Marker.Asked.{is_extra, quoted_text};
+ghost use Rattle.pymark_core.specs.Marker.Asked.{quoted_text};
 ghost use Rattle.pymark_core.specs.Marker.Value as value;
 ghost use Rattle.pyver_core.specs.Parsed.{parsed_operand};
 
@@ -105,7 +105,11 @@ impl Comparison {
     pub fn has_extra(&self) -> bool
         ensures { result ≡ comparison_reads_extra self.now }
     {
-        matches!(self.left, Left::Extra) || self.test.has_extra()
+        matches!(self.left, Left::Extra)
+            || matches!(
+                self.test,
+                Test::By(_, Right::Extra) | Test::In(Operand::Extra) | Test::NotIn(Operand::Extra)
+            )
     }
 
     /// The text that is asked for among the extras: a quoted one left of `in` or `not in`, with
@@ -233,18 +237,6 @@ impl Right {
             Right::Extra => Ok(extra),
             Right::Extras | Right::Groups => Err(EvalFault::Undefined),
         }
-    }
-}
-
-impl Test {
-    /// Whether `extra` stands on the right.
-    fn has_extra(&self) -> bool
-        ensures { result ≡ is_extra (right_of self.now) }
-    {
-        matches!(
-            self,
-            Test::By(_, Right::Extra) | Test::In(Operand::Extra) | Test::NotIn(Operand::Extra)
-        )
     }
 }
 
@@ -488,11 +480,6 @@ fn compare_names(operator: Operator, left: &str, right: &str) -> Result<bool, Ev
     match operator {
         Operator::Equal => Ok(is_same_name(left, right)),
         Operator::NotEqual => Ok(!is_same_name(left, right)),
-        Operator::AtMost
-        | Operator::AtLeast
-        | Operator::Before
-        | Operator::After
-        | Operator::Compatible
-        | Operator::Arbitrary => Err(EvalFault::Undefined),
+        _ => Err(EvalFault::Undefined),
     }
 }

@@ -71,20 +71,15 @@ impl Environment {
     pub fn get(&self, variable: Var) -> Option<&str>
         ensures { option_map (λ text. text.now) result ≡ variable_in variable self.now }
     {
-        match self.compared_text(variable) {
-            Some(compared) => Some(compared.text()),
-            None => None,
-        }
+        Some(self.compared_text(variable)?.text())
     }
 
     /// The text of the variable, with what it reads as.
     pub(crate) fn compared_text(&self, variable: Var) -> Option<&ComparedText>
         ensures { option_map (λ compared. compared.now) result ≡ variable_in variable self.now }
     {
-        match &self.variables[variable.number()] {
-            Some(shared) => Some(shared.compared_text()),
-            None => None,
-        }
+        let shared = self.variables[variable.number()].as_ref()?;
+        Some(shared.compared_text())
     }
 
     /// The version that the text of the variable spells, or why it spells none; nothing where the
@@ -94,10 +89,7 @@ impl Environment {
         ensures { option_map (λ read. read.now) result
             ≡ option_map parsed_version (variable_in variable self.now) }
     {
-        match self.compared_text(variable) {
-            Some(compared) => Some(compared.version()),
-            None => None,
-        }
+        Some(self.compared_text(variable)?.version())
     }
 
     /// Gives the variable the text, which is read as a version here and never again. It keeps a

@@ -23,6 +23,7 @@ pub fn one_tree()
 {}
 
 /// The tree that `tree_text` gives is the text's, and it gives the tree of every text that has one.
+#[tactic(auto, using(crate::proofs::Lemmas::Marker::Reading::Answers::text_is))]
 pub fn tree_text_is_complete()
     ensures sound { (text : List ℕ) (tree : Tree)
         → tree_text text ≡ Some tree → MarkerText text tree }
@@ -43,6 +44,7 @@ pub fn marker_of_is_complete()
 
 /// A marker reads nothing but its keys: two environments that agree on them give it the same value
 /// or the same fault.
+#[tactic(auto, using(crate::proofs::Lemmas::Marker::Value::Agreement::tree_agrees))]
 pub fn marker_reads()
     ensures { (tree : Tree) (e f : EnvironmentValue)
         → ((k : Key) → reads k tree ≡ true → AgreeAt k e f)
@@ -50,6 +52,7 @@ pub fn marker_reads()
 {}
 
 /// Where `extra` is no operand of a marker, its value with any text for `extra` is its value.
+#[tactic(auto, using(crate::proofs::Lemmas::Marker::Value::WithoutExtra::tree_same))]
 pub fn marker_without_extra()
     ensures { (extra : List ℕ) (environment : EnvironmentValue) (tree : Tree)
         → reads_extra tree ≡ false
@@ -57,6 +60,7 @@ pub fn marker_without_extra()
 {}
 
 /// With a text for `extra` too, a marker reads nothing of the environment but its keys.
+#[tactic(auto, using(crate::proofs::Lemmas::Marker::Value::Agreement::tree_agrees))]
 pub fn marker_with_extra_reads()
     ensures { (tree : Tree) (extra : List ℕ) (e f : EnvironmentValue)
         → ((k : Key) → reads k tree ≡ true → AgreeAt k e f)
@@ -74,6 +78,7 @@ pub fn requirement_of_is_complete()
 
 /// The reading of a marker or of a requirement is never out of memory, nor is a marker's value,
 /// with a text for `extra` or without: only a call may answer it.
+#[tactic(auto, using(crate::proofs::Lemmas::Memory::never_memory))]
 pub fn answers_are_never_out_of_memory()
     ensures marker { (text : List ℕ) → marker_of text ≡ Err MarkerError.Memory → ⊥ }
     ensures value { (environment : EnvironmentValue) (tree : Tree)

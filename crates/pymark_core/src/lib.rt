@@ -2,14 +2,8 @@
 //! 508).
 //!
 //! It is for whoever asks whether `python_version >= "3.8"` holds, or reads `requests[security] >=
-//! 2` into its parts. It stands on `pyver_core`, `pytext` and `thiserror`.
-//!
-//! Start with [`Marker::parse`] and [`Marker::evaluate`]. An [`Environment`] has a text for each
-//! variable that is set, and the extras and groups that are asked for. A marker that can't be
-//! judged is a fault, and the first one in the text is given ([`EvalFault`]). [`Marker::reads`]
-//! says what a marker looks at, so that it isn't judged again for nothing. [`Requirement::parse`]
-//! reads a requirement. Then read `specs/Marker/Grammar.antt` (which texts are markers),
-//! `specs/Marker/Value.antt` (what they are worth) and [`laws`].
+//! 2` into its parts. `README.md` says where to begin and what is proved; of what is defined,
+//! `specs/Marker/Grammar.antt` and `specs/Marker/Value.antt` say most.
 //!
 //! What a marker is worth, where `extra` has a text or none, from
 //! `crates/grammar_cases/src/markers.rt`:

@@ -66,18 +66,16 @@ struct Parsed {
 }
 
 impl Model for Marker {
+    ghost use Rattle.std.specs.Prelude.{◌≡◌, IsTrue, Some, string_bytes};
     ghost use Rattle.pymark_core.specs.Marker.Coding.{marker_code};
-    ghost use Rattle.pymark_core.specs.Marker.Reading.{MarkerValue};
+    ghost use Rattle.pymark_core.specs.Marker.Keys.{is_flagged, reads};
+    ghost use Rattle.pymark_core.specs.Marker.Reading.{MarkerValue, tree_text};
+    ghost use Rattle.pymark_core.specs.Marker.View.{tree_view};
+    ghost use Rattle.pymark_core.specs.declared.marker.keys.Key.{Key};
 
     ghost Value = { MarkerValue };
 
     ghost coded = { marker_code };
-
-    ghost use Rattle.std.specs.Prelude.{◌≡◌, IsTrue, Some, string_bytes};
-    ghost use Rattle.pymark_core.specs.Marker.Keys.{is_flagged, reads};
-    ghost use Rattle.pymark_core.specs.Marker.Reading.{tree_text};
-    ghost use Rattle.pymark_core.specs.Marker.View.{tree_view};
-    ghost use Rattle.pymark_core.specs.declared.marker.keys.Key.{Key};
 
     ghost view = { λ m. record {
       text = string_bytes m.parsed.value.text;
@@ -104,6 +102,7 @@ impl Marker {
     /// isn't a marker; then `SetMisuse` to a marker in which `extras` or `dependency_groups` stands
     /// anywhere but right of `in` or `not in`. It takes time linear in the text, no recursion, and
     /// memory for the text, for its comparisons, for their quoted texts and for lists of its parts.
+    #[tactic(auto, using(crate::proofs::Lemmas::Marker::Reading::Answers::given_marker))]
     pub fn parse(alloc: Global, text: &str) -> Result<Marker, MarkerError>
         ensures ok { IfOk result (λ m. MarkerText text.now m.tree) }
         ensures text { IfOk result (λ m. m.text ≡ trim_white text.now) }
@@ -150,6 +149,7 @@ impl Marker {
     ///
     /// It takes memory where `evaluate` does, and besides only for `extra` with `in` or `not in`,
     /// for the normal form of a text that doesn't stand in it already.
+    #[tactic(auto, using(crate::proofs::Lemmas::Marker::Value::Refusals::none_given))]
     pub fn evaluate_with_extra(
         &self,
         alloc: Global,
@@ -233,6 +233,7 @@ impl fmt::Display for Marker {
     }
 }
 
+#[tactic(auto, using(crate::proofs::Lemmas::Marker::Reading::Answers::marker_answers))]
 fn read_marker(alloc: Global, text: &str) -> Result<Marker, MarkerError>
     ensures { Gives MarkerError.Memory (λ m. m) result (marker_of text.now) }
 {
@@ -244,16 +245,12 @@ fn read_marker(alloc: Global, text: &str) -> Result<Marker, MarkerError>
         return Err(MarkerError::SetMisuse);
     }
     let bare = trim_white(text);
-    let is_bare = bare == text;
-    let mixed = mix(bare);
-    let text = String::from_str(alloc, bare)?;
-    let keys = notes.reads;
     let parsed = Parsed {
-        text,
+        text: String::from_str(alloc, bare)?,
         tree,
-        keys,
-        is_bare,
-        mixed,
+        keys: notes.reads,
+        is_bare: bare == text,
+        mixed: mix(bare),
     };
     Ok(share_parsed(alloc, parsed)?)
 }

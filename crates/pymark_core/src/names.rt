@@ -40,6 +40,7 @@ impl Drop for NameSet {
 
 impl NameSet {
     /// The empty set. It takes no memory.
+    #[tactic(auto, using(crate::proofs::Lemmas::Environment::Names::normal_none))]
     pub(crate) fn new(alloc: Global) -> NameSet
         ensures { result ≡ set.empty }
     {
@@ -148,6 +149,7 @@ impl SharedNames {
     }
 
     /// Puts the name in, and answers whether it was out. A name that is in takes no memory.
+    #[tactic(auto, using(crate::proofs::Lemmas::Environment::Names::insert_or_stay))]
     pub(crate) fn insert(&mut self, alloc: Global, name: NormalName) -> Result<bool, AllocError>
         ensures set { IfOk result (λ added. self.new ≡ set.insert self.old name) }
         ensures added { IfOk result (λ added. added ≡ not (set.contains self.old name)) }
@@ -167,6 +169,7 @@ impl SharedNames {
     }
 
     /// Takes the name out, and answers whether it was in. A name that is out takes no memory.
+    #[tactic(auto, using(crate::proofs::Lemmas::Environment::Names::remove_stays))]
     pub(crate) fn remove(&mut self, name: &NormalName) -> Result<bool, AllocError>
         ensures set { IfOk result (λ dropped. self.new ≡ set.remove self.old name.now) }
         ensures dropped { IfOk result (λ dropped. dropped ≡ set.contains self.old name.now) }
@@ -228,9 +231,6 @@ impl<'a> Iterator for Names<'a> {
     ghost remaining = { item_count (λ rest. rest) };
 
     fn next(&mut self) -> Option<&'a str> {
-        match &mut self.rest {
-            Some(rest) => Some(rest.next()?.as_str()),
-            None => None,
-        }
+        Some(self.rest.as_mut()?.next()?.as_str())
     }
 }

@@ -65,6 +65,7 @@ impl Requirement {
     ///
     /// White space (TAB, LF, VT, FF, CR, space) may stand before, between and after the parts. It
     /// takes memory for each part, and for the marker as [`Marker::parse`] does.
+    #[tactic(auto, using(crate::proofs::given_requirement, crate::proofs::given_no_requirement))]
     pub fn parse(alloc: Global, text: &str) -> Result<Requirement, RequirementError>
         ensures ok { IfOk result (λ r. RequirementText text.now r) }
         ensures refused { IfErr result (λ e. e ≢ RequirementError.Memory
@@ -101,10 +102,7 @@ impl Requirement {
     pub fn url(&self) -> Option<&str>
         ensures { option_map (λ url. url.now) result ≡ self.now.url }
     {
-        match &self.url {
-            Some(url) => Some(url.as_str()),
-            None => None,
-        }
+        Some(self.url.as_ref()?.as_str())
     }
 
     /// The marker. It takes no memory.
@@ -124,7 +122,7 @@ impl Clone for Requirement {
             name: self.name.clone()?,
             extras: self.extras.clone()?,
             set: self.set.clone()?,
-            url: own_text(*self.name.allocator(), self.url())?,
+            url: self.url.clone()?,
             marker: copy_marker(&self.marker)?,
         })
     }
@@ -152,10 +150,8 @@ fn own_text(alloc: Global, text: Option<&str>) -> Result<Option<String>, AllocEr
     ensures { IfOk result
         (λ own. option_map string_bytes own ≡ option_map (λ t. t.now) text.entry) }
 {
-    match text {
-        Some(text) => Ok(Some(String::from_str(alloc, text)?)),
-        None => Ok(None),
-    }
+    let Some(text) = text else { return Ok(None) };
+    Ok(Some(String::from_str(alloc, text)?))
 }
 
 /// The same marker in memory of its own, if there is one.

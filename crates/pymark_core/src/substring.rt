@@ -100,6 +100,7 @@ fn may_begin(part: &[u8], whole: &[u8], from: usize) -> bool
 
 /// Whether three bytes of the part, the first, the middle and the last, stand where they would if
 /// the part began at this place. They are handed in, so that a loop over places loads them once.
+#[tactic(auto, using(crate::proofs::Lemmas::Marker::Value::Substrings::unlike_bytes_at))]
 #[inline(always)]
 fn is_alike_at(part: &[u8], whole: &[u8], place: usize, bytes: (u8, u8, u8)) -> bool
     requires some { 0 < length part.now }

@@ -1,11 +1,11 @@
 -- What marks tell: a tag without them is none of the tags.
-use Rattle.std.proofs.Common.{◌≡◌, Bool, true, false, ◌&&◌, nat_lt, List, [], ◌∷◌, ◌++◌, length, Some, None, refl, sym, subst, inl, inr, arith}
+use Rattle.std.proofs.Common.{◌≡◌, Bool, false, nat_lt, List, [], ◌∷◌, ◌++◌, length, Some, None, refl, sym, subst, inl, inr, arith}
 use Rattle.std.proofs.lemmas.Bool.Decides.{nat_tests}
-use Rattle.std.proofs.lemmas.Bool.{and_parts, cases_Bool, cond-false}
-use Rattle.std.specs.Cmp.Lexicographic.{bytes_decides}
+use Rattle.std.proofs.lemmas.Bool.{cases_Bool, cond-false}
 use Rattle.std.specs.List.{list_any, position_or_len}
-use Rattle.pywheel_core.specs.Inner.Marks.{AreMarked, IsMarked}
-use Rattle.pywheel_core.specs.Tag.{TagValue, rank_of, tag_eq, text_eq, with_tag}
+use Rattle.pywheel_core.specs.Marks.{AreMarked, IsMarked}
+use Rattle.pywheel_core.specs.Tag.{TagValue, rank_of, tag_eq, with_tag}
+use Rattle.pywheel_core.specs.TagLaws.{same_tag}
 
 pub all_kept : (old new : List Bool) (tags : List TagValue) → ((t : TagValue) → IsMarked old t → IsMarked new t) → AreMarked old tags → AreMarked new tags
 all_kept old new [] kept all = tt
@@ -25,19 +25,9 @@ marked_with old new tags t kept here all =
       | inr e ↦ rw e (one_more new tags t before here)
     ]
 
-same_parts : (t u : TagValue) → tag_eq t u ≡ true → t ≡ u
-same_parts t u e =
-    let p = and_parts (text_eq t.python u.python) (text_eq t.abi u.abi && text_eq t.platform u.platform) e in
-    let q = and_parts (text_eq t.abi u.abi) (text_eq t.platform u.platform) p.1 in
-    λ i. record {
-      python = (bytes_decides t.python u.python).0 p.0 i;
-      abi = (bytes_decides t.abi u.abi).0 q.0 i;
-      platform = (bytes_decides t.platform u.platform).0 q.1 i;
-    }
-
 apart : (flags : List Bool) (t u : TagValue) → IsMarked flags u → (IsMarked flags t → ⊥) → tag_eq t u ≡ false
 apart flags t u here none = elim (cases_Bool (tag_eq t u)) [
-  | inl e ↦ absurd (none (subst (IsMarked flags) (sym (same_parts t u e)) here))
+  | inl e ↦ absurd (none (subst (IsMarked flags) (sym (same_tag t u e)) here))
   | inr e ↦ e
 ]
 
@@ -53,3 +43,6 @@ unmarked flags t tags all none =
     let e = passes_all flags t tags all none in
     let least : nat_lt (length tags) (length tags) ≡ false = grind (arith, nat_tests) in
     rw e (cond-false (nat_lt (length tags) (length tags)) (Some (length tags)) None least)
+
+-- marks that came to others
+pub ruleset marks_kept = (all_kept, marked_with)

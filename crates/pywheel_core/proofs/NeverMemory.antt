@@ -82,3 +82,6 @@ wheel_never_memory text =
     never_then wheel.Memory (ok_or (stem_of text) wheel.Extension) _ (never_or wheel.Memory wheel.Extension (stem_of text) (λ e. cc e))
     (λ stem. never_then wheel.Memory (ok_or (parts_of stem) wheel.Parts) (λ parts. wheel_in parts)
     (never_or wheel.Memory wheel.Parts (parts_of stem) (λ e. cc e)) (λ parts. parts_never_memory parts))
+
+-- none of the three readings is out of memory
+pub ruleset never_memory = (tag_never_memory, tags_never_memory, wheel_never_memory)

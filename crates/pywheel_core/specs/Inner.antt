@@ -1,6 +1,4 @@
 -- What serves contracts inside the crate alone.
 pub mod Cut
 pub mod Lent
-pub mod Marks
 pub mod Pieces
-pub mod Spans

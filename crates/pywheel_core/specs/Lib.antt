@@ -1,6 +1,8 @@
 pub mod Choice
 pub mod Inner
+pub mod Marks
 pub mod ReadTable
+pub mod Spans
 pub mod Tag
 pub mod TagLaws
 pub mod Texts

@@ -21,6 +21,7 @@ pub(crate) struct RankedWheel<'a> {
 /// first there (PEP 425, "Use"); then the greater build (PEP 427, "File name convention"); then the
 /// earlier position, which is a rule of this crate's own. `None` among the wheels is never chosen.
 /// It takes no memory and looks at each tag once.
+#[tactic(auto, using(crate::proofs::Lemmas::Choice::Best::given_best))]
 pub fn choose(wheels: &[Option<WheelName>], tags: &TagList) -> Option<usize>
     ensures best { IsBest wheels.now tags.now result }
     ensures exact { result ≡ best wheels.now tags.now }
@@ -37,6 +38,7 @@ fn best_position(wheels: &[Option<WheelName>], tags: &TagList) -> Option<usize>
 }
 
 /// The best wheel, with its rank.
+#[tactic(auto, unfolding(crate::specs::Choice::best_from))]
 fn best_ranked<'a>(wheels: &'a [Option<WheelName>], tags: &TagList) -> Option<RankedWheel<'a>>
     ensures { option_map ranked_wheel result ≡ best_from None 0 wheels.now tags.now }
 {
@@ -68,6 +70,7 @@ fn rank_wheel<'a>(
 /// The rank of the wheel's best tag: the least position in the list of one of its tags (PEP 425,
 /// "Use"). `None` where none of its tags is in the list. It takes no memory and looks at each tag
 /// of the wheel once.
+#[tactic(auto, unfolding(crate::specs::Choice::rank_from))]
 pub fn best_rank(wheel: &WheelName, tags: &TagList) -> Option<usize>
     ensures { result ≡ rank_from None wheel.now.tags tags.now }
 {

@@ -9,7 +9,7 @@ ghost use Rattle.std.specs.Rc.{rc_str_bytes};
 ghost use Rattle.std.specs.Str.{str_to_ascii_lowercase};
 ghost use Rattle.pywheel_core.specs.Inner.Lent.{IsCut, set_of, wheel_parts};
 ghost use Rattle.pywheel_core.specs.Inner.Cut.{is_undashed};
-ghost use Rattle.pywheel_core.specs.Inner.Spans.{spans_of};
+ghost use Rattle.pywheel_core.specs.Spans.{spans_of};
 ghost use Rattle.pytext.specs.Bytes.{is_word_byte};
 ghost use Rattle.pywheel_core.specs.Tag.{is_tag, is_tag_part};
 ghost use Rattle.pywheel_core.specs.Texts.{cut_at, three_parts};
@@ -52,10 +52,11 @@ pub(crate) fn lower_text(alloc: Global, text: &str) -> Result<RcStr, AllocError>
 }
 
 /// What stands before the first `-`, and what stands after it.
+#[tactic(auto, using(crate::proofs::Lemmas::Texts::Cuts::cut_is))]
 pub(crate) fn cut(text: &str) -> Option<(&str, &str)>
     ensures { option_map (λ x. (x.0.now, x.1.now)) result ≡ cut_at 45 text.now }
 {
-    let place = undashed_len(text.as_bytes());
+    let place = undashed_len(text);
     if place == text.len() {
         return None;
     }
@@ -63,10 +64,10 @@ pub(crate) fn cut(text: &str) -> Option<(&str, &str)>
 }
 
 /// How many bytes stand before the first `-`: all where there is none.
-fn undashed_len(bytes: &[u8]) -> usize
-    ensures { result ≡ prefix_len is_undashed bytes.now }
+fn undashed_len(text: &str) -> usize
+    ensures { result ≡ prefix_len is_undashed text.now }
 {
-    bytes.iter().take_while(|byte| **byte != b'-').count()
+    text.as_bytes().iter().take_while(|b| **b != b'-').count()
 }
 
 /// The three parts of a text with two `-`.
@@ -87,7 +88,7 @@ pub(crate) fn three_parts(text: &str) -> Option<TagSet<'_>>
 }
 
 /// What stands before `.whl`.
-#[tactic(auto, unfolding(crate::specs::Wheel::Cut::stem_of))]
+#[tactic(auto, using(crate::proofs::Lemmas::Texts::Cuts::stem_is))]
 pub(crate) fn stem(text: &str) -> Option<&str>
     ensures { option_map (λ x. x.now) result ≡ stem_of text.now }
 {

@@ -55,22 +55,10 @@ impl fmt::Display for WheelName {
 
     #[tactic(auto, unfolding(crate::specs::Wheel::Value::wheel_text))]
     fn fmt<W: fmt::Write>(&self, f: &mut fmt::Formatter<W>) -> fmt::Result {
+        let (name, version, set) = (self.name(), self.version(), self.tag_set());
         match self.build_text() {
-            Some(build) => write!(
-                f,
-                "{}-{}-{}-{}.whl",
-                self.name(),
-                self.version(),
-                build,
-                self.tag_set()
-            ),
-            None => write!(
-                f,
-                "{}-{}-{}.whl",
-                self.name(),
-                self.version(),
-                self.tag_set()
-            ),
+            Some(build) => write!(f, "{name}-{version}-{build}-{set}.whl"),
+            None => write!(f, "{name}-{version}-{set}.whl"),
         }
     }
 }

@@ -82,6 +82,7 @@ pub fn tag_set_has_the_tags()
 
 /// The reading of a tag, of a list of tags or of the name of a wheel is never out of memory: only
 /// a call may answer it.
+#[tactic(auto, using(crate::proofs::NeverMemory::never_memory))]
 pub fn answers_are_never_out_of_memory()
     ensures tag { (text : List ℕ) → tag_of text ≡ Err TagError.Memory → ⊥ }
     ensures tags { (texts : List (List ℕ)) → tags_of texts ≡ Err TagListError.Memory → ⊥ }

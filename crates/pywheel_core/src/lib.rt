@@ -1,14 +1,8 @@
 //! Tags, wheel names and the choice of a wheel (PEP 425, PEP 427).
 //!
-//! It is for whoever has the file names of some wheels and the list of tags that a Python supports,
-//! and asks which wheel fits best. It stands on `pyver_core`, `pytext`, `indexmap` and `thiserror`.
-//!
-//! Begin with [`WheelName::parse`], [`TagList::parse`] and [`choose`]. In a list of tags the most
-//! preferred stands first, and the position of a tag is its rank. The best wheel has the tag of the
-//! least rank, then the greatest build, then the first position. A choice takes no memory. A name
-//! that can't be read may stand in the list as `None`, and is never chosen. Whoever reads the names
-//! of many wheels does it by a [`WheelReader`], which reads what they have in common once. Of what
-//! is defined, `specs/Wheel/Grammar.antt` and `specs/Choice.antt` say most.
+//! In a list of tags the most preferred stands first, and the position of a tag is its rank. A name
+//! that can't be read may stand among the wheels as `None`, and is never chosen. `README.md` says
+//! where to begin; of what is defined, `specs/Wheel/Grammar.antt` and `specs/Choice.antt` say most.
 //!
 //! The best of some wheels, or `None`, from `crates/grammar_cases/src/wheels.rt`:
 //!

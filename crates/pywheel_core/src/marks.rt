@@ -1,8 +1,8 @@
 //! Marks of the parts of tags. Most tags that a list lacks have a part with a mark that no tag of
 //! the list has there, so a few bytes tell that it lacks them.
 
-ghost use Rattle.std.specs.Prelude.{◌≡◌, ◌<◌, ℕ, IfOk, IsTrue, false, slice_index_or, true};
-ghost use Rattle.pywheel_core.specs.Inner.Marks.{IsMarked, mark_of};
+ghost use Rattle.std.specs.Prelude.{◌≡◌, ◌<◌, ℕ, IsTrue, false, slice_index_or, true};
+ghost use Rattle.pywheel_core.specs.Marks.{IsMarked, mark_of};
 ghost use Rattle.pywheel_core.specs.Tag.{TagValue};
 
 use crate::tag::Tag;
@@ -72,7 +72,7 @@ impl Marks {
 }
 
 /// The mark of a part.
-#[tactic(auto, unfolding(crate::specs::Inner::Marks::mark_of))]
+#[tactic(auto, unfolding(crate::specs::Marks::mark_of))]
 fn mark(part: &str) -> usize
     ensures mark { result ≡ mark_of part.now }
     ensures small { result < 256 }

@@ -112,6 +112,7 @@ impl WheelReader {
 
     /// Reads the head of a name, and keeps it if it is one. Where the extension is another or the
     /// end is long, it reads nothing.
+    #[tactic(auto, using(crate::proofs::Lemmas::Texts::Cuts::cut_lacks))]
     fn learn(&mut self, text: &str) -> Result<(), AllocError> {
         if stem(text).is_none() {
             return Ok(());

@@ -1,7 +1,7 @@
 //! Spans in a text, and what stands there.
 
 ghost use Rattle.std.specs.Prelude.{◌≡◌};
-ghost use Rattle.pywheel_core.specs.Inner.Spans.{IsAsciiText, IsWithin, at};
+ghost use Rattle.pywheel_core.specs.Spans.{IsAsciiText, IsWithin, at};
 
 /// Where a piece stands in a text.
 #[derive(Clone, Copy)]

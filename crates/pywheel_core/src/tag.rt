@@ -4,7 +4,7 @@ ghost use Rattle.std.specs.Prelude.{◌≡◌, IfOk, IsErrOf};
 ghost use Rattle.std.specs.Cmp.{partial_equiv_from_equiv};
 ghost use Rattle.std.specs.Rc.{rc_str_bytes};
 ghost use Rattle.pytext.specs.Agreement.{Gives};
-ghost use Rattle.pywheel_core.specs.Inner.Spans.{IsAsciiText, IsWithin, tag_at};
+ghost use Rattle.pywheel_core.specs.Spans.{IsAsciiText, IsWithin, tag_at};
 ghost use Rattle.pywheel_core.specs.Tag.{TagText, TagValue, tag_eq, tag_of};
 ghost use Rattle.pywheel_core.specs.TagLaws.{alike, fed_tag, tag_equiv};
 
@@ -28,7 +28,7 @@ pub struct Tag {
 
 impl Model for Tag {
     ghost use Rattle.std.specs.Rc.{rc_str_bytes};
-    ghost use Rattle.pywheel_core.specs.Inner.Spans.{IsAsciiText, IsWithin, tag_at};
+    ghost use Rattle.pywheel_core.specs.Spans.{IsAsciiText, IsWithin, tag_at};
     ghost use Rattle.pywheel_core.specs.Tag.{TagValue};
 
     ghost Value = { TagValue };
@@ -71,6 +71,7 @@ impl Tag {
     /// The tag that the text is, in any case: three parts joined by `-`, each one or more ASCII
     /// letters, digits and `_` (PEP 425, "Details"). It takes the memory of one text as long as the
     /// given one, and none where the shape is refused.
+    #[tactic(auto, using(crate::proofs::Lemmas::Tag::Listing::given_text))]
     pub fn parse(alloc: Global, text: &str) -> Result<Tag, TagError>
         ensures ok { IfOk result (λ t. TagText text.now t) }
         ensures shape { IsErrOf result TagError.Shape → (t : TagValue) → TagText text.now t → ⊥ }

@@ -2,7 +2,7 @@
 
 ghost use Rattle.std.specs.Prelude.{◌≡◌, ◌==◌, List, [], Err, IfOk, IsOk, OnErr, OnOk, length, map};
 ghost use Rattle.pytext.specs.Agreement.{Gives};
-ghost use Rattle.pywheel_core.specs.Inner.Marks.{AreAllMarked};
+ghost use Rattle.pywheel_core.specs.Marks.{AreAllMarked};
 ghost use Rattle.pywheel_core.specs.Tag.{TagValue, at_position, rank_of, tag_of, tags_of, with_tag};
 
 use crate::error::{TagError, TagListError};
@@ -22,7 +22,7 @@ pub struct TagList {
 
 impl Model for TagList {
     ghost use Rattle.std.specs.Prelude.{List};
-    ghost use Rattle.pywheel_core.specs.Inner.Marks.{AreAllMarked};
+    ghost use Rattle.pywheel_core.specs.Marks.{AreAllMarked};
     ghost use Rattle.pywheel_core.specs.Tag.{TagValue};
 
     ghost Value = { List TagValue };
@@ -74,7 +74,8 @@ impl TagList {
         ensures memory { OnErr result (result ≡ Err TagListError.Memory) }
     {
         add_marks(&mut self.marks, &tag);
-        add_tag(&mut self.tags, tag)
+        self.tags.insert_full(tag)?;
+        Ok(())
     }
 
     /// The position of the tag, from 0, among the distinct tags. It takes no memory.
@@ -131,6 +132,7 @@ impl fmt::Debug for TagList {
 }
 
 /// Adds the marks of the tag, where there are marks.
+#[tactic(auto, using(crate::proofs::MarksLemmas::marks_kept))]
 fn add_marks(marks: &mut Option<Marks>, tag: &Tag)
     ensures kept { (tags : List TagValue) → AreAllMarked marks.old tags
         → AreAllMarked marks.new tags }
@@ -140,16 +142,6 @@ fn add_marks(marks: &mut Option<Marks>, tag: &Tag)
     if let Some(marks) = marks {
         marks.add(tag);
     }
-}
-
-/// Puts the tag behind the others, where it isn't among them.
-fn add_tag(tags: &mut IndexSet<Tag>, tag: Tag) -> Result<(), TagListError>
-    ensures added { OnOk result (tags.new.keys ≡ with_tag tags.old.keys tag) }
-    ensures kept { OnErr result (tags.new.keys ≡ tags.old.keys) }
-    ensures memory { OnErr result (result ≡ Err TagListError.Memory) }
-{
-    tags.insert_full(tag)?;
-    Ok(())
 }
 
 /// The same marks, where there are marks.

@@ -7,8 +7,7 @@ ghost use Rattle.std.specs.Rc.{rc_str_bytes};
 ghost use Rattle.std.specs.Str.{str_to_ascii_lowercase};
 ghost use Rattle.pytext.specs.Agreement.{Gives};
 ghost use Rattle.pywheel_core.specs.Inner.Lent.{lower_set, set_of};
-ghost use Rattle.pywheel_core.specs.Inner.Spans.{AreWithin, IsAsciiText, IsWithin, spans_from};
-ghost use Rattle.pywheel_core.specs.Inner.Spans.{tag_at};
+ghost use Rattle.pywheel_core.specs.Spans.{AreWithin, IsAsciiText, IsWithin, spans_from, tag_at};
 ghost use Rattle.pywheel_core.specs.Inner.Pieces.{AreCountable, counts_of, spans_in};
 ghost use Rattle.pywheel_core.specs.Tag.{are_tag_parts, is_tag_set, pieces, tags_in};
 ghost use Rattle.pywheel_core.specs.Texts.{cut_at, three_parts};
@@ -190,6 +189,7 @@ fn cut_at_dot(text: &str) -> Option<(&str, &str)>
 }
 
 /// How many pieces there are, where all can stand in a tag: none is empty.
+#[tactic(auto, using(crate::proofs::Lemmas::Tag::Counts::whole_part))]
 fn count_tag_parts(part: &[u8]) -> Option<usize>
     ensures { SomeIff result (are_tag_parts (pieces part.now) ≡ true) (length (pieces part.now)) }
 {
@@ -218,6 +218,7 @@ enum PieceSpans {
 
 impl PieceSpans {
     /// Those in a text where the part stands at `start`.
+    #[tactic(auto, using(crate::proofs::Lemmas::Texts::Cuts::one_span))]
     fn of(alloc: Global, start: usize, part: &str, count: usize) -> Result<PieceSpans, WheelError>
         requires start { start + length part.now < 2 ^ 64 }
         requires count { count ≡ length (pieces part.now) }
@@ -248,6 +249,7 @@ impl PieceSpans {
 }
 
 /// The spans of the two pieces in a text where the part stands at `start`.
+#[tactic(auto, using(crate::proofs::Lemmas::Texts::Cuts::two_spans_are))]
 fn two_spans(start: usize, part: &str) -> Option<[Span; 2]>
     requires start { start + length part.now < 2 ^ 64 }
     requires two { length (pieces part.now) ≡ 2 }
@@ -267,6 +269,7 @@ fn two_spans(start: usize, part: &str) -> Option<[Span; 2]>
 
 /// The spans of the pieces in a text where the part stands at `start`, in a list with room for
 /// `count`.
+#[tactic(auto, using(crate::proofs::Lemmas::Texts::Cuts::spans_are))]
 fn list_spans(
     alloc: Global,
     start: usize,

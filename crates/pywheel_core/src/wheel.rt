@@ -115,8 +115,7 @@ impl WheelName {
     pub fn build_text(&self) -> Option<&str>
         ensures { option_map (λ b. b.now) result ≡ self.now.build }
     {
-        let build = self.end.build.as_ref()?;
-        Some(build.as_str())
+        Some(self.end.build.as_ref()?.as_str())
     }
 
     /// The tags: all combinations of the three parts' pieces (PEP 425, "Compressed Tag Sets"). The
@@ -189,6 +188,7 @@ pub(crate) fn is_wheel_name(name: &str) -> bool
 }
 
 /// Whether a name may have these bytes, among which no two `_` stand in a row.
+#[tactic(auto, using(crate::proofs::Lemmas::Wheel::Name::name_goes_on_all))]
 fn are_name_bytes(bytes: &[u8]) -> bool
     ensures { result ≡ (list_all is_wheel_name_byte bytes.now && not (has_pair 95 bytes.now)) }
 {

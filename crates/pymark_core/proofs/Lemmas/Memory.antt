@@ -129,3 +129,6 @@ requirement_never_memory text =
     (λ name. never_then refusal.Memory (extras_at (after_white name.1)) _ (extras_at_never_memory (after_white name.1))
     (λ extras. never_then refusal.Memory (source_at (after_white extras.1)) _ (source_at_never_memory (after_white extras.1))
     (λ source. never_then refusal.Memory (marker_in source.marker) _ (marker_in_never_memory source.marker) (λ marker e. cc e))))
+
+-- neither the readings nor the value are out of memory
+pub ruleset never_memory = (marker_never_memory, value_never_memory, requirement_never_memory)

@@ -36,11 +36,6 @@ abbrev pub text_before_quote : ℕ → List ℕ → Option (List ℕ × List ℕ
 text_before_quote quote text =
     option_map (λ inside. (inside, drop (length inside + 1) text)) (quoted_at quote text)
 
--- the same, where the text begins with the first quote
-abbrev pub quotation_at : ℕ → List ℕ → Option (List ℕ × List ℕ)
-quotation_at quote text =
-    option_map (λ inside. (inside, drop (length inside + 2) text)) (quoted_at quote (drop 1 text))
-
 -- the next token of a text, after white space: none where no token stands there, and no token where
 -- the text ends
 abbrev pub next_token : List ℕ → Option (Option (token.Token × List ℕ))

@@ -77,8 +77,8 @@ extras_at text = extras_from text (after_byte 91 text)
 
 -- ---- the URL or the specifiers
 
--- what stands behind the name and the extras, and the text of a marker
-pub record Source : Type 0 where
+-- the parts of what stands behind the name and the extras
+pub record SourceParts : Type 0 where
   pub set : List Specifier
   pub url : Option (List ℕ)
   pub marker : Option (List ℕ)
@@ -93,7 +93,7 @@ abbrev pub url_len : List ℕ → ℕ
 url_len text = prefix_len (λ b. not (is_white b)) text
 
 -- the URL behind `@`
-unfoldable pub url_source : List ℕ → Result Source RequirementError
+unfoldable pub url_source : List ℕ → Result SourceParts RequirementError
 url_source text =
     if url_len text == 0 then Err refusal.Url
     else (marker_text_at (after_white (drop (url_len text) text)) >>= λ marker.
@@ -120,21 +120,21 @@ cut_or_whole text None = (text, None)
 cut_or_whole text (Some cut) = (cut.0, Some cut.1)
 
 -- the specifiers in such a cut
-abbrev pub cut_source : List ℕ × Option (List ℕ) → Result Source RequirementError
+abbrev pub cut_source : List ℕ × Option (List ℕ) → Result SourceParts RequirementError
 cut_source cut = do
   inner ← ok_or (within_parentheses (trim_white cut.0)) refusal.Specifier
   set ← refused_as refusal.Specifier (parsed_set inner)
   Ok (record { set = set; url = None; marker = cut.1 })
 
 -- the specifiers up to `;` or the end
-unfoldable pub set_source : List ℕ → Result Source RequirementError
+unfoldable pub set_source : List ℕ → Result SourceParts RequirementError
 set_source text = cut_source (cut_or_whole text (cut_around 59 text))
 
-abbrev pub source_from : List ℕ → Option (List ℕ) → Result Source RequirementError
+abbrev pub source_from : List ℕ → Option (List ℕ) → Result SourceParts RequirementError
 source_from text None = set_source text
 source_from text (Some rest) = url_source (after_white rest)
 
-unfoldable pub source_at : List ℕ → Result Source RequirementError
+unfoldable pub source_at : List ℕ → Result SourceParts RequirementError
 source_at text = source_from text (after_byte 64 text)
 
 -- ---- the marker

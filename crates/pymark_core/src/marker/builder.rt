@@ -7,8 +7,6 @@ ghost use Rattle.pymark_core.specs.Inner.Building.{outer_view, state_view, stage
 ghost use Rattle.pymark_core.specs.Inner.LentToken.{token_view};
 ghost use Rattle.pymark_core.specs.Marker.Reading as reading;
 ghost use Rattle.pymark_core.specs.Marker.View.{atom_view, tree_view};
-ghost use Rattle.pymark_core.specs.Variables.{variable_of};
-ghost use Rattle.pymark_core.specs.declared.operand.Operand.TheVariants.{Variable};
 
 use super::error::MarkerError;
 use super::notes::Notes;
@@ -83,13 +81,6 @@ impl Frame {
     }
 }
 
-/// The variable of this name.
-fn variable_operand(letters: &str) -> Option<Operand>
-    ensures { result ≡ option_map Variable (variable_of letters.now) }
-{
-    Var::of(letters).map(Operand::Variable)
-}
-
 /// The operand of a word.
 fn word_operand(letters: &str) -> Option<Operand>
     ensures { result ≡ reading.word_operand letters.now }
@@ -103,7 +94,7 @@ fn word_operand(letters: &str) -> Option<Operand>
     if letters == "dependency_groups" {
         return Some(Operand::Groups);
     }
-    variable_operand(letters)
+    Var::of(letters).map(Operand::Variable)
 }
 
 /// The operand of a token.
@@ -114,10 +105,7 @@ fn token_operand(alloc: Global, token: Token<'_>) -> Result<Operand, MarkerError
 {
     match token {
         Token::Word(letters) => word_operand(letters).ok_or(MarkerError::Syntax),
-        Token::Quoted(text) => {
-            let text = String::from_str(alloc, text)?;
-            Ok(Operand::Text(Text::new(text)))
-        }
+        Token::Quoted(text) => Ok(Operand::Text(Text::new(String::from_str(alloc, text)?))),
         Token::Open | Token::Close | Token::Sign(_) => Err(MarkerError::Syntax),
     }
 }

@@ -22,6 +22,7 @@ struct Nesting {
 
 impl Nesting {
     /// Passes over one byte.
+    #[tactic(auto, using(crate::proofs::Lemmas::Marker::Depth::passed))]
     fn pass_byte(&mut self, byte: u8)
         requires room { (self.old.opened + 1 < 2 ^ 64) × (self.old.closed + 1 < 2 ^ 64) }
         requires flat { self.old.opened ≤ self.old.closed + depth_limit }

@@ -1,6 +1,6 @@
 //! What of an environment a marker reads.
 
-ghost use Rattle.std.specs.Prelude.{◌≡◌, ◌<◌, ◌||◌, ◌++◌, List, Bool, false};
+ghost use Rattle.std.specs.Prelude.{◌≡◌, ◌<◌, ◌||◌, List, Bool, false};
 ghost use Rattle.pymark_core.specs.Marker.Keys.{has_key, is_flagged, is_key, key_number};
 ghost use Rattle.pymark_core.specs.Marker.Keys.{operand_keys};
 ghost use Rattle.pymark_core.specs.declared.marker.keys.Key.{Key};
@@ -69,18 +69,8 @@ impl Reads {
         self.flags[key.number()]
     }
 
-    /// Adds the keys that the operands of a comparison are.
-    pub(super) fn insert_operands(&mut self, left: &Operand, right: &Operand)
-        ensures { (key : Key) → is_flagged self.new key
-            ≡ (is_flagged self.old key
-            || has_key key (operand_keys left.now ++ operand_keys right.now)) }
-    {
-        self.insert_operand(left);
-        self.insert_operand(right);
-    }
-
     /// Adds the key that the operand is, if it is one.
-    fn insert_operand(&mut self, operand: &Operand)
+    pub(super) fn insert_operand(&mut self, operand: &Operand)
         ensures { (key : Key) → is_flagged self.new key
             ≡ (is_flagged self.old key || has_key key (operand_keys operand.now)) }
     {

@@ -1,7 +1,7 @@
 //! What is noted of a marker's comparisons while they are read.
 
 ghost use Rattle.std.specs.Prelude.{◌≡◌, ◌||◌, false};
-ghost use Rattle.pymark_core.specs.Marker.Grammar.{is_operator, is_misuse, is_set};
+ghost use Rattle.pymark_core.specs.Marker.Grammar.{is_misuse, is_set};
 ghost use Rattle.pymark_core.specs.Marker.Keys.{comparison_reads, is_flagged};
 ghost use Rattle.pymark_core.specs.declared.marker.keys.Key.{Key};
 
@@ -23,12 +23,6 @@ fn is_set(operand: &Operand) -> bool
     matches!(operand, Operand::Extras | Operand::Groups)
 }
 
-fn is_operator(comparator: Comparator) -> bool
-    ensures { result ≡ is_operator comparator }
-{
-    matches!(comparator, Comparator::By(_))
-}
-
 /// Whether a set stands anywhere but right of `in` or `not in`.
 fn is_misuse(left: &Operand, comparator: Comparator, right: &Operand) -> bool
     ensures { result ≡ is_misuse (record {
@@ -37,7 +31,7 @@ fn is_misuse(left: &Operand, comparator: Comparator, right: &Operand) -> bool
       right = right.now;
     }) }
 {
-    is_set(left) || is_set(right) && is_operator(comparator)
+    is_set(left) || is_set(right) && matches!(comparator, Comparator::By(_))
 }
 
 impl Notes {
@@ -66,9 +60,8 @@ impl Notes {
           right = right.now;
         })) }
     {
-        self.reads.insert_operands(left, right);
-        if is_misuse(left, comparator, right) {
-            self.misuse = true;
-        }
+        self.reads.insert_operand(left);
+        self.reads.insert_operand(right);
+        self.misuse |= is_misuse(left, comparator, right);
     }
 }

@@ -4,7 +4,7 @@ ghost use Rattle.std.specs.Prelude.{◌≡◌, ◌<◌, IsTrue, drop, length, ok
 ghost use Rattle.std.specs.List.{prefix_len};
 ghost use Rattle.pytext.specs.Agreement.{Gives};
 ghost use Rattle.pymark_core.specs.Inner.LentToken.{next_token, lent_next, lent_pair, lent_token};
-ghost use Rattle.pymark_core.specs.Inner.LentToken.{quotation_at, text_before_quote};
+ghost use Rattle.pymark_core.specs.Inner.LentToken.{text_before_quote};
 ghost use Rattle.pymark_core.specs.Inner.LentToken.{first_token, token_and_rest};
 ghost use Rattle.pymark_core.specs.Marker.Token as token;
 ghost use Rattle.pytext.specs.Bytes.{is_word_byte};
@@ -105,19 +105,8 @@ fn after_first(text: &str) -> &str
     text.split_at(1).1
 }
 
-/// What stands between two of these quotes, with the first of which the text begins, and the text
-/// after them.
-#[tactic(auto, using(crate::proofs::Lemmas::Marker::Token::First::quotation_at))]
-fn quotation(quote: u8, text: &str) -> Option<(&str, &str)>
-    requires some { 0 < length text.now }
-    requires first { slice_index text.now 0 ≡ quote }
-    requires ascii { quote < 128 }
-    ensures { option_map lent_pair result ≡ quotation_at quote text.now }
-{
-    text_before_quote(quote, after_first(text))
-}
-
 /// The token of a text that begins with this byte, and the text after it.
+#[tactic(auto, using(crate::proofs::Lemmas::Marker::Token::First::quotation_at))]
 fn token_by(first: u8, text: &str) -> Option<(Token<'_>, &str)>
     requires some { 0 < length text.now }
     requires first { slice_index text.now 0 ≡ first }
@@ -130,7 +119,7 @@ fn token_by(first: u8, text: &str) -> Option<(Token<'_>, &str)>
         return Some((Token::Close, after_first(text)));
     }
     if is_quote(first) {
-        let (inside, rest) = quotation(first, text)?;
+        let (inside, rest) = text_before_quote(first, after_first(text))?;
         return Some((Token::Quoted(inside), rest));
     }
     if is_word_byte(first) {

@@ -1,11 +1,11 @@
 //! The parts of a requirement's text (PEP 508, "Grammar"), read from the left.
 
 ghost use Rattle.std.specs.Prelude.{◌≡◌, ◌==◌, ◌<◌, [], option_map, map, string_bytes, IfOk};
-ghost use Rattle.std.specs.List.{list_all, prefix_len, slice_split};
+ghost use Rattle.std.specs.List.{prefix_len, slice_split};
 ghost use Rattle.pytext.specs.Agreement.{Gives};
 ghost use Rattle.pytext.specs.Bytes.{is_name_byte, is_white};
 ghost use Rattle.pyver_core.specs.Parsed.{parsed_set};
-ghost use Rattle.pymark_core.specs.Inner.Source.{source_view};
+ghost use Rattle.pymark_core.specs.Inner.SourceParts.{source_parts};
 ghost use Rattle.pymark_core.specs.Requirement.Reading as reading;
 
 use super::error::RequirementError;
@@ -13,9 +13,9 @@ use pytext::{after_white, is_blank, is_name_byte, is_white, trim_white};
 use pyver_core::{SpecifierError, SpecifierSet, is_name};
 use std::alloc::{AllocError, Global};
 
-/// What stands behind the name and the extras.
+/// The parts of what stands behind the name and the extras.
 #[derive(Drop)]
-pub(super) struct Source<'a> {
+pub(super) struct SourceParts<'a> {
     /// The specifiers, none where a URL stands.
     pub(super) set: SpecifierSet,
     pub(super) url: Option<&'a str>,
@@ -35,18 +35,13 @@ fn after_byte(byte: u8, text: &str) -> Option<&str>
     }
 }
 
-/// What stands before and behind the first `]`.
-fn cut_at_bracket(text: &str) -> Option<(&str, &str)>
-    ensures { option_map (λ cut. (cut.0.now, cut.1.now)) result ≡ reading.cut_around 93 text.now }
+/// What stands before and behind the first of these ASCII characters.
+#[inline(always)]
+fn cut_around(mark: char, text: &str) -> Option<(&str, &str)>
+    requires { mark < 128 }
+    ensures { option_map (λ cut. (cut.0.now, cut.1.now)) result ≡ reading.cut_around mark text.now }
 {
-    text.split_once(']')
-}
-
-/// What stands before and behind the first `;`.
-fn cut_at_semicolon(text: &str) -> Option<(&str, &str)>
-    ensures { option_map (λ cut. (cut.0.now, cut.1.now)) result ≡ reading.cut_around 59 text.now }
-{
-    text.split_once(';')
+    text.split_once(mark)
 }
 
 fn name_len(text: &str) -> usize
@@ -93,7 +88,7 @@ fn extras_after_bracket(alloc: Global, text: &str) -> Result<(Vec<String>, &str)
     ensures { Gives RequirementError.Memory (λ x. (map string_bytes x.0.items, x.1.now)) result
         (reading.extras_after_bracket text.now) }
 {
-    let (inner, rest) = cut_at_bracket(text).ok_or(RequirementError::Extras)?;
+    let (inner, rest) = cut_around(']', text).ok_or(RequirementError::Extras)?;
     Ok((extras_in(alloc, inner)?, rest))
 }
 
@@ -135,8 +130,8 @@ fn read_extra(alloc: Global, piece: &str) -> Result<String, RequirementError>
 
 /// The URL behind `@`, or the specifiers, and the text of the marker.
 #[tactic(auto, unfolding(crate::specs::Requirement::Reading::source_at))]
-pub(super) fn read_source(alloc: Global, text: &str) -> Result<Source<'_>, RequirementError>
-    ensures { Gives RequirementError.Memory source_view result (reading.source_at text.now) }
+pub(super) fn read_source(alloc: Global, text: &str) -> Result<SourceParts<'_>, RequirementError>
+    ensures { Gives RequirementError.Memory source_parts result (reading.source_at text.now) }
 {
     match after_byte(b'@', text) {
         Some(rest) => read_url(alloc, after_white(rest)),
@@ -155,15 +150,15 @@ fn url_len(text: &str) -> usize
 
 /// The URL, which goes on to the next white space, and the text of the marker.
 #[tactic(auto, unfolding(crate::specs::Requirement::Reading::url_source))]
-fn read_url(alloc: Global, text: &str) -> Result<Source<'_>, RequirementError>
-    ensures { Gives RequirementError.Memory source_view result (reading.url_source text.now) }
+fn read_url(alloc: Global, text: &str) -> Result<SourceParts<'_>, RequirementError>
+    ensures { Gives RequirementError.Memory source_parts result (reading.url_source text.now) }
 {
     let (url, rest) = text.split_at(url_len(text));
     if url.is_empty() {
         return Err(RequirementError::Url);
     }
     let marker = read_marker_text(after_white(rest))?;
-    Ok(Source {
+    Ok(SourceParts {
         set: no_specifiers(alloc)?,
         url: Some(url),
         marker,
@@ -200,7 +195,7 @@ fn cut_marker(text: &str) -> (&str, Option<&str>)
     ensures { (result.0.now, option_map (λ t. t.now) result.1)
         ≡ reading.cut_or_whole text.now (reading.cut_around 59 text.now) }
 {
-    match cut_at_semicolon(text) {
+    match cut_around(';', text) {
         Some((declared, marker)) => (declared, Some(marker)),
         None => (text, None),
     }
@@ -208,12 +203,12 @@ fn cut_marker(text: &str) -> (&str, Option<&str>)
 
 /// The specifiers up to `;` or the end, and the text of the marker.
 #[tactic(auto, unfolding(crate::specs::Requirement::Reading::set_source))]
-fn read_set(alloc: Global, text: &str) -> Result<Source<'_>, RequirementError>
-    ensures { Gives RequirementError.Memory source_view result (reading.set_source text.now) }
+fn read_set(alloc: Global, text: &str) -> Result<SourceParts<'_>, RequirementError>
+    ensures { Gives RequirementError.Memory source_parts result (reading.set_source text.now) }
 {
     let (declared, marker) = cut_marker(text);
     let inner = within_parentheses(trim_white(declared)).ok_or(RequirementError::Specifier)?;
-    Ok(Source {
+    Ok(SourceParts {
         set: parse_set(alloc, inner)?,
         url: None,
         marker,

@@ -14,7 +14,7 @@ use Rattle.pymark_core.specs.Inner.Building.{NotesGain, NotesOf, comparison_ende
 use Rattle.pymark_core.specs.Marker.Comparison.{ComparisonValue}
 use Rattle.pymark_core.specs.Marker.Grammar.{atom_comparisons, comparisons, conjunction_comparisons, is_misuse}
 use Rattle.pymark_core.specs.Marker.Keys.{comparison_reads, is_flagged}
-use Rattle.pymark_core.specs.Marker.Reading.{Frame, ReaderState, Stage, at_atom, at_operator, at_in, at_right, at_rest, state_after_atom, state_after_start, state_after_closing, stage_after_left, stage_after_not, stage_after_right, empty_frame, tree_at_end, final_tree, frame_conjunction, frame_tree, token_operand, next_state_at, read_tokens, with_stage, initial_state, next_state, tree_text}
+use Rattle.pymark_core.specs.Marker.Reading.{Frame, ReaderState, Stage, at_atom, at_operator, at_in, at_right, at_rest, state_after_atom, state_after_start, state_after_closing, stage_after_left, stage_after_not, stage_after_right, empty_frame, tree_at_end, final_tree, frame_conjunction, frame_tree, token_operand, next_state_at, read_tokens, with_stage, next_state, tree_text}
 use Rattle.pymark_core.specs.Marker.Token.{Token, opening, closing, sign, word, quoted, tokens}
 use Rattle.pymark_core.specs.Marker.Tree.{Tree, Conjunction, Atom, leaf, group, conjunction_of, tree_of}
 use Rattle.pymark_core.specs.declared.marker.error.MarkerError.TheVariants.{Syntax}
@@ -234,9 +234,6 @@ kept_end notes state tree kept e = record {
   reads = λ key. kept.reads key ∙ sym (final_tree_any (comparison_reads key) state tree e);
   misuse = kept.misuse ∙ sym (final_tree_any is_misuse state tree e);
 }
-
-pub kept_start : (notes : Notes) → ((key : Key) → is_flagged notes.reads key ≡ false) → notes.misuse ≡ false → Kept notes initial_state
-kept_start notes reads misuse = record { reads = reads; misuse = misuse }
 
 -- what stays true while a marker is read: what is left, read from here, is the tree of the whole text
 pub record Reading (text rest : List ℕ) (state : ReaderState) (notes : Notes) : Type 0 where

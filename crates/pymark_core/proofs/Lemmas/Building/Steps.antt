@@ -8,7 +8,7 @@ use Rattle.std.proofs.lemmas.Bool.Decides.{nat_tests}
 use Rattle.std.proofs.lemmas.Slice.Eq.{bytes_eq-Decides}
 use Rattle.std.proofs.lemmas.Bool.{cases_Bool}
 use Rattle.pymark_core.proofs.Lemmas.Marker.View.{view_group}
-use Rattle.pymark_core.specs.Inner.Building.{frame_view, comparison_ended_by, stage_atom}
+use Rattle.pymark_core.specs.Inner.Building.{frame_view, comparison_ended_by}
 use Rattle.pymark_core.specs.Marker.Reading as reading
 use Rattle.pymark_core.specs.Marker.Reading.{Stage, at_atom, at_operator, at_in, at_rest, at_right, state_after_closing, tree_at_end, frame_tree, token_operand, word_operand}
 use Rattle.pymark_core.specs.Marker.Token.{Token}
@@ -65,14 +65,6 @@ pub some_open : (items : List Frame) (stage : Stage) (inner : reading.Frame) →
 some_open [] stage inner e = absurd cc
 some_open (x ∷ xs) stage inner e =
     some_outer (reverse (map frame_view (x ∷ xs))) stage inner (omega (arith, length-reverse (map frame_view (x ∷ xs)), length-map (x ∷ xs) frame_view))
-
-pub no_end : (outer : List reading.Frame) (stage : Stage) (inner : reading.Frame) → stage_atom stage ≡ None → tree_at_end outer stage inner ≡ None
-no_end [] at_atom inner e = refl
-no_end [] (at_operator left) inner e = refl
-no_end [] (at_in left) inner e = refl
-no_end [] (at_right left comparator) inner e = refl
-no_end [] (at_rest atom) inner e = absurd cc
-no_end (frame ∷ outer) stage inner e = refl
 
 -- whether a parenthesis is open
 pub ruleset open_or_none = (none_open, some_open)

@@ -121,6 +121,9 @@ module _ {Y : Type 0} (s n : BTreeSet (String Y)) (k : List ℕ) where
   ]
 
 -- no name at all
-pub normal-none : {Y : Type 0} (s : BTreeSet (String Y)) → s.keys ≡ [] → AreNormal (seen s)
-normal-none s none q there =
+pub normal_none : {Y : Type 0} (s : BTreeSet (String Y)) → s.keys ≡ [] → AreNormal (seen s)
+normal_none s none q there =
     let contradiction : false ≡ true = (rw none at (sym (contains-seen s q) ∙ there)) in absurd cc
+
+-- where no set was, or a name is in already
+pub ruleset insert_or_stay = (empty_contains, insert_stays)

@@ -145,3 +145,6 @@ pub opened_in_chunks : (size count : ℕ) (text rest : List ℕ) (chunks : List 
     → chunks ≡ first_chunks size count text → rest ≡ drop (count * size) text
     → sum_by (count_by is_opening) chunks + count_by is_opening rest ≡ count_by is_opening text
 opened_in_chunks size count text rest chunks front back = rw (front, back) (sum_chunks (λ x. cond (is_opening x) 1 0) size count text)
+
+-- one byte more, whatever it is
+pub ruleset passed = (inside_ends, inside_stays, quotation, one_opened, one_closed, passed_over)

@@ -19,7 +19,7 @@ use Rattle.pytext.proofs.BytesLemmas.{drop_exact, prefix_len_exact, take_exact}
 use Rattle.pytext.proofs.WhiteLemmas.{after_white_exact}
 use Rattle.pymark_core.specs.Marker.Reading.{MarkerValue}
 use Rattle.pymark_core.specs.Requirement.Grammar.{ExtrasText, IsExtras, IsWithin, Lacks, MarkerPart, RequirementText, SetPart, SourceText, UrlText}
-use Rattle.pymark_core.specs.Requirement.Reading.{Source, cut_around, after_byte, cut_or_whole, cut_source, extras_at, extras_after_bracket, extras_from, extras_in, marker_in, marker_text_at, name_at, names_in, refused_as, requirement_of, set_source, source_at, source_from, url_len, url_source, within_from, within_parentheses, before_last}
+use Rattle.pymark_core.specs.Requirement.Reading.{SourceParts, cut_around, after_byte, cut_or_whole, cut_source, extras_at, extras_after_bracket, extras_from, extras_in, marker_in, marker_text_at, name_at, names_in, refused_as, requirement_of, set_source, source_at, source_from, url_len, url_source, within_from, within_parentheses, before_last}
 use Rattle.pymark_core.specs.Requirement.Value.{RequirementValue}
 use Rattle.pymark_core.specs.declared.requirement.error.RequirementError.{RequirementError}
 use Rattle.pymark_core.specs.declared.requirement.error.RequirementError.TheVariants as refusal
@@ -119,10 +119,10 @@ not_nothing (b ∷ rest) some = eqb-suc-zero (length rest)
 
 url_cut : (text url rest : List ℕ) (marker : Option (List ℕ)) (n : ℕ) → n ≡ length url → (url ≡ [] → ⊥) → take n text ≡ url
     → marker_text_at (after_white (drop n text)) ≡ Ok marker
-    → cond {A = Result Source RequirementError} (n == 0) (Err refusal.Url) (marker_text_at (after_white (drop n text)) >>= λ m. Ok (record { set = []; url = Some (take n text); marker = m }))
+    → cond {A = Result SourceParts RequirementError} (n == 0) (Err refusal.Url) (marker_text_at (after_white (drop n text)) >>= λ m. Ok (record { set = []; url = Some (take n text); marker = m }))
     ≡ Ok (record { set = []; url = Some url; marker = marker })
 url_cut text url rest marker n len some front last =
-    ap (λ t. cond {A = Result Source RequirementError} t (Err refusal.Url) (marker_text_at (after_white (drop n text)) >>= λ m. Ok (record { set = []; url = Some (take n text); marker = m })))
+    ap (λ t. cond {A = Result SourceParts RequirementError} t (Err refusal.Url) (marker_text_at (after_white (drop n text)) >>= λ m. Ok (record { set = []; url = Some (take n text); marker = m })))
     (ap (λ k. k == 0) len ∙ not_nothing url some)
     ∙ (λ i. last i >>= λ m. Ok (record { set = []; url = Some (front i); marker = m }))
 
@@ -227,7 +227,7 @@ requirement_complete text parts r =
     ∙ ap (λ m. m >>= λ marker. Ok (record { name = parts.name; extras = parts.extras; set = parts.set; url = parts.url; marker = marker }))
     (source_marker r.source parts.set parts.url parts.marker r.is_source)
   where
-    after_source : List ℕ → List (List ℕ) → Source → Result RequirementValue RequirementError
+    after_source : List ℕ → List (List ℕ) → SourceParts → Result RequirementValue RequirementError
     after_source name extras source = marker_in source.marker >>= λ marker. Ok (record { name = name; extras = extras; set = source.set; url = source.url; marker = marker })
 
     after_extras : List ℕ → List (List ℕ) × List ℕ → Result RequirementValue RequirementError

@@ -21,7 +21,7 @@ use Rattle.pytext.proofs.WhiteLemmas.{after_white_splits}
 use Rattle.pytext.proofs.ResultsLemmas.{bind_ok, if_ok, ok_or_some}
 use Rattle.pymark_core.specs.Marker.Reading.{MarkerValue, marker_of}
 use Rattle.pymark_core.specs.Requirement.Grammar.{ExtrasText, IsExtras, IsGap, IsWithin, Lacks, MarkerPart, RequirementText, SourceText}
-use Rattle.pymark_core.specs.Requirement.Reading.{Source, cut_around, before_last, after_byte, cut_or_whole, extra_in, extras_at, extras_after_bracket, extras_from, extras_in, marker_in, marker_text_at, name_at, names_in, refused_as, requirement_of, set_source, source_at, source_from, url_len, url_source, within_from, within_parentheses}
+use Rattle.pymark_core.specs.Requirement.Reading.{SourceParts, cut_around, before_last, after_byte, cut_or_whole, extra_in, extras_at, extras_after_bracket, extras_from, extras_in, marker_in, marker_text_at, name_at, names_in, refused_as, requirement_of, set_source, source_at, source_from, url_len, url_source, within_from, within_parentheses}
 use Rattle.pymark_core.specs.Requirement.Value.{RequirementValue}
 use Rattle.pymark_core.specs.declared.requirement.error.RequirementError.{RequirementError}
 use Rattle.pymark_core.specs.declared.requirement.error.RequirementError.TheVariants as refusal
@@ -179,15 +179,15 @@ not_empty n text url some len front none =
     let is : (n == 0) ≡ true = (Decides-eqb n 0).1 zero_long in
     absurd cc
 
-url_sound : (text rest : List ℕ) (s : Source) (marker : Option MarkerValue) → text ≡ 64 ∷ rest → url_source (after_white rest) ≡ Ok s → marker_in s.marker ≡ Ok marker
+url_sound : (text rest : List ℕ) (s : SourceParts) (marker : Option MarkerValue) → text ≡ 64 ∷ rest → url_source (after_white rest) ≡ Ok s → marker_in s.marker ≡ Ok marker
     → SourceText text s.set s.url marker
 unfolding url_source
 url_sound text rest s marker at e m =
     let space : ℕ → Bool = λ b. not (is_white b) in
     let t = after_white rest in
     let n = url_len t in
-    let found : (part : Option (List ℕ)) → Source = λ part. record { set = []; url = Some (take n t); marker = part } in
-    elim (cond_cases {X = Result Source RequirementError} (n == 0) (Err refusal.Url) (marker_text_at (after_white (drop n t)) >>= λ part. Ok (found part)) (Ok s) e) [
+    let found : (part : Option (List ℕ)) → SourceParts = λ part. record { set = []; url = Some (take n t); marker = part } in
+    elim (cond_cases {X = Result SourceParts RequirementError} (n == 0) (Err refusal.Url) (marker_text_at (after_white (drop n t)) >>= λ part. Ok (found part)) (Ok s) e) [
       | inl w ↦ absurd cc
       | inr w ↦
           let part = bind_ok (marker_text_at (after_white (drop n t))) (λ part. Ok (found part)) s w.1 in
@@ -198,7 +198,7 @@ url_sound text rest s marker at e m =
           let cut : t ≡ take n t ++ (second.0 ++ part_of part.0) =
           sym (take-append-drop n t) ∙ ap (λ x. take n t ++ x) second.1 ∙ ap (λ x. take n t ++ (second.0 ++ x)) last in
           let behind : drop n t ≡ second.0 ++ part_of part.0 = second.1 ∙ ap (λ x. second.0 ++ x) last in
-          subst (λ (x : Source). marker_in x.marker ≡ Ok marker → SourceText text x.set x.url marker) is
+          subst (λ (x : SourceParts). marker_in x.marker ≡ Ok marker → SourceText text x.set x.url marker) is
           (λ m. (
             refl,
             not_empty n t (take n t) w.0 (length-prefix_len space t) refl,
@@ -250,17 +250,17 @@ cut_sound text = by (cut_around 59 text) refl
     by None is = (sym (append-nil text), cut_around_absent 59 text is)
     by (Some cut) is = cut_around_sound 59 text cut.0 cut.1 is
 
-set_sound : (text : List ℕ) (s : Source) (marker : Option MarkerValue) → starts (λ b. b == 64) text ≡ false → set_source text ≡ Ok s → marker_in s.marker ≡ Ok marker
+set_sound : (text : List ℕ) (s : SourceParts) (marker : Option MarkerValue) → starts (λ b. b == 64) text ≡ false → set_source text ≡ Ok s → marker_in s.marker ≡ Ok marker
     → SourceText text s.set s.url marker
 unfolding set_source
 set_sound text s marker no_url e m =
     let cut = cut_or_whole text (cut_around 59 text) in
     let cuts = cut_sound text in
-    let found : (set : List Specifier) → Source = λ set. record { set = set; url = None; marker = cut.1 } in
+    let found : (set : List Specifier) → SourceParts = λ set. record { set = set; url = None; marker = cut.1 } in
     let inner = bind_ok (ok_or (within_parentheses (trim_white cut.0)) refusal.Specifier) (λ inner. refused_as refusal.Specifier (parsed_set inner) >>= λ set. Ok (found set)) s e in
     let set = bind_ok (refused_as refusal.Specifier (parsed_set inner.0)) (λ set. Ok (found set)) s inner.2 in
     let is : found set.0 ≡ s = cc in
-    subst (λ (x : Source). marker_in x.marker ≡ Ok marker → SourceText text x.set x.url marker) is
+    subst (λ (x : SourceParts). marker_in x.marker ≡ Ok marker → SourceText text x.set x.url marker) is
     (λ m. record {
       declared = cut.0;
       inner = inner.0;
@@ -274,7 +274,7 @@ set_sound text s marker no_url e m =
     })
     m
 
-source_sound : (text : List ℕ) (s : Source) (marker : Option MarkerValue) → source_at text ≡ Ok s → marker_in s.marker ≡ Ok marker → SourceText text s.set s.url marker
+source_sound : (text : List ℕ) (s : SourceParts) (marker : Option MarkerValue) → source_at text ≡ Ok s → marker_in s.marker ≡ Ok marker → SourceText text s.set s.url marker
 unfolding source_at
 source_sound text s marker e m = by (after_byte 64 text) refl e
   where

@@ -334,3 +334,6 @@ one_best wheels tags (Some p) (Some q) x y = elim (cases_Bool (p == q)) [
 
 pub best_is_one : (wheels : List (Option WheelValue)) (tags : List TagValue) (p : Option ℕ) → IsBest wheels tags p → p ≡ best wheels tags
 best_is_one wheels tags p h = one_best wheels tags p (best wheels tags) h (is_best wheels tags)
+
+pub given_best : (wheels : List (Option WheelValue)) (tags : List TagValue) (p : Option ℕ) → p ≡ best wheels tags → IsBest wheels tags p
+given_best wheels tags p is = subst (IsBest wheels tags) (sym is) (is_best wheels tags)

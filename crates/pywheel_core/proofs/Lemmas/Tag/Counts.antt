@@ -48,3 +48,6 @@ goes_on_all s = (goes_on_is s).1
 
 pub one_more : (s : List ℕ) → 1 + count_by (λ b. b == 46) s ≡ length (pieces s)
 one_more s = let e = length-slice_split (λ b. b == 46) s in omega (arith, e)
+
+-- before the first byte
+pub ruleset whole_part = (goes_on_all, one_more)

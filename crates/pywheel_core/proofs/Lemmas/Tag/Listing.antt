@@ -101,3 +101,5 @@ given_no_tag text (Err f) h e u x =
     let made = tag_made text u x in
     let refused = h (λ m. let z : tag.Shape ≡ tag.Memory = sym shape ∙ m in absurd cc) in
     absurd cc
+
+pub ruleset given_text = (given_tag, given_no_tag)

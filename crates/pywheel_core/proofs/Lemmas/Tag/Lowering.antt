@@ -8,7 +8,7 @@ use Rattle.std.specs.Str.{str_to_ascii_lowercase}
 use Rattle.pytext.proofs.OptionsLemmas.{option_cases}
 use Rattle.std.proofs.lemmas.Bool.{cases_Bool}
 use Rattle.pywheel_core.specs.Inner.Lent.{lower_set}
-use Rattle.pywheel_core.specs.Inner.Spans.{spans_from, spans_of}
+use Rattle.pywheel_core.specs.Spans.{spans_from, spans_of}
 use Rattle.pytext.specs.Bytes.{is_word_byte}
 use Rattle.pywheel_core.specs.Tag.{TAGS_LIMIT, TagParts, TagValue, are_tag_parts, is_tag, is_tag_part, is_tag_set, pieces, tag_of, tag_with, tags_in}
 use Rattle.pywheel_core.specs.Texts.{before_cut, cut_at, three_parts}

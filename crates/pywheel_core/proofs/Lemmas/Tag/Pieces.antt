@@ -14,7 +14,7 @@ use Rattle.std.proofs.lemmas.List.Folds.{flat_map-map, list_all-append}
 use Rattle.std.proofs.lemmas.List.Splits.{join_with_byte-slice_split, length-slice_split}
 use Rattle.std.proofs.lemmas.Bool.{and_parts}
 use Rattle.pytext.proofs.OptionsLemmas.{option_cases}
-use Rattle.pywheel_core.specs.Inner.Spans.{AreWithin, IsAsciiText, IsWithin, at, spans_from, spans_of, tag_at}
+use Rattle.pywheel_core.specs.Spans.{AreWithin, IsAsciiText, IsWithin, at, spans_from, spans_of, tag_at}
 use Rattle.pytext.specs.Bytes.{is_word_byte}
 use Rattle.pywheel_core.specs.Tag.{TagParts, are_tag_parts, has_tag_parts, is_tag, is_tag_part, is_tag_set, pieces, tag_of, tag_with, tags_in, triples}
 use Rattle.pywheel_core.specs.Texts.{cut_at, three_parts}

@@ -1,11 +1,10 @@
 -- Texts cut at a byte: what std's words say, in the words of `cut_at` and `pieces_at`.
 use Rattle.std.proofs.Common.{◌≡◌, ℕ, suc, ◌+◌, ◌-◌, ◌<◌, true, false, ◌==◌, bytes_eq, codes, List, [], ◌∷◌, ◌++◌, length, get_or, take, drop, Option, Some, None, option_map, MatchOption, Bor, refl, sym, subst, ap, ◌∙◌, inl, inr, arith}
 use Rattle.std.proofs.lemmas.Bool.Decides.{Decides-eqb, nat_tests}
-use Rattle.std.proofs.lemmas.List.{append_assoc, append_cancel_left, take-append-drop}
+use Rattle.std.proofs.lemmas.List.{append_assoc, append_cancel_left, take-append-drop, length-append}
 use Rattle.std.proofs.lemmas.List.Elements.{All-cons}
 use Rattle.std.proofs.lemmas.List.Splits.{length-slice_split, slice_split_at, slice_split_none}
 use Rattle.std.proofs.lemmas.Option.{same_Some}
-use Rattle.std.proofs.lemmas.List.{length-append}
 use Rattle.std.specs.Cmp.Lexicographic.{bytes_decides}
 use Rattle.std.specs.Str.Pattern.{FindsTextSuffix, StripsSuffix}
 use Rattle.std.specs.List.{All, after_first, before_first, list_any, position_or_len, prefix_len}
@@ -17,7 +16,7 @@ use Rattle.pywheel_core.specs.Inner.Cut.{is_undashed}
 use Rattle.pytext.proofs.OptionsLemmas.{option_cases}
 use Rattle.std.proofs.lemmas.Bool.{cases_Bool, or_parts}
 use Rattle.pywheel_core.specs.Texts.{before_cut, cut_at, pieces_at}
-use Rattle.pywheel_core.specs.Inner.Spans.{spans_from}
+use Rattle.pywheel_core.specs.Spans.{spans_from}
 use Rattle.pywheel_core.specs.Tag.{pieces}
 use Rattle.pywheel_core.specs.Wheel.Cut.{stem_of}
 use Rattle.pywheel_core.specs.declared.span.Span.{Span}
@@ -94,6 +93,9 @@ cut_says c (b ∷ s) x y h = elim (cases_Bool (b == c)) [
       ]
 ]
 
+pub cut_lacks : (c : ℕ) (s x y : List ℕ) → Some (x, y) ≡ cut_at c s → Lacks c x
+cut_lacks c s x y h = (cut_says c s x y (sym h)).1
+
 pub no_cut_says : (c : ℕ) (s : List ℕ) → cut_at c s ≡ None → Lacks c s
 no_cut_says c [] h = refl
 no_cut_says c (b ∷ s) h = elim (cases_Bool (b == c)) [
@@ -158,8 +160,8 @@ one_piece s h = elim (option_cases (cut_at 46 s)) [
       absurd (omega (arith, h, two, more))
 ]
 
-pub one_span : (start : ℕ) (s : List ℕ) → length (pieces s) ≡ 1 → spans_from start (pieces s) ≡ record { start = start; end = start + length s } ∷ []
-one_span start s h = ap (spans_from start) (one_piece s h)
+pub one_span : (start count : ℕ) (s : List ℕ) → count ≡ length (pieces s) → count ≡ 1 → spans_from start (pieces s) ≡ record { start = start; end = start + length s } ∷ []
+one_span start count s is one = ap (spans_from start) (one_piece s (sym is ∙ one))
 
 -- ---- a part that is two pieces
 
@@ -204,3 +206,11 @@ pub behind_dash : (s : List ℕ) → IsUtf8 s → prefix_len is_undashed s < len
 behind_dash s utf8 h =
     let n = prefix_len is_undashed s in
     IsCharBoundary-after_ascii s n utf8 h (undashed-ascii (get_or s n 0) (prefix_len_stops is_undashed s 0 h))
+
+-- a text cut at its first `-`, by the place of this
+pub ruleset cut_is = (before_dash, behind_dash, cut_nowhere, cut_there)
+
+-- the spans of two pieces, and of several
+pub ruleset two_spans_are = (length_step, two_pieces)
+
+pub ruleset spans_are = (length_step, spans_step, spans_last)

@@ -1,5 +1,5 @@
 -- What two halves say, the whole name says.
-use Rattle.std.proofs.Common.{◌≡◌, ℕ, true, codes, List, [], ◌∷◌, ◌++◌, drop, Option, Some, ok_or, Ok, string_bytes, sym, ap, ◌∙◌}
+use Rattle.std.proofs.Common.{◌≡◌, ℕ, true, codes, List, [], ◌∷◌, ◌++◌, Option, Some, ok_or, Ok, string_bytes, sym, ap, ◌∙◌}
 use Rattle.std.proofs.lemmas.List.{append_assoc}
 use Rattle.pytext.proofs.ResultsLemmas.{bind_ok, ok_or_some}
 use Rattle.pytext.specs.Options as options
@@ -66,8 +66,3 @@ head_before name spelling text head ln ls is_name same spells whole rest end h =
     ∙ (ap (λ r. r >>= λ s. Ok (record { name = name; version = head.version; build = b.0; tag_set = s.0; tags = s.1 })) s.1
     ∙ (ap (λ n. Ok (record { name = n; version = head.version; build = b.0; tag_set = s.0.0; tags = s.0.1 })) (sym same)
     ∙ ap (λ e. Ok (wheel_of_halves head e)) is))))))
-
--- a text that begins with a head and ends with an end
-pub known_wheel : (text front rest : List ℕ) (n : ℕ) (head : NameHead) (end : EndValue) → text ≡ front ++ drop n text → rest ≡ drop n text → IsHead front head
-    → end_in rest ≡ Ok end → wheel_of text ≡ Ok (wheel_of_halves head end)
-known_wheel text front rest n head end whole behind is read = ap wheel_of (whole ∙ ap (λ l. front ++ l) (sym behind)) ∙ is rest end read

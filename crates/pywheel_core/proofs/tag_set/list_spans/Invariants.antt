@@ -1,7 +1,7 @@
 use denote.Shadow.{shadow}
 use denote.Text.{Utf8}
 use Rattle.std.proofs.Common.{◌≡◌, ◌+◌, ◌++◌, length}
-use Rattle.pywheel_core.specs.Inner.Spans.{spans_from}
+use Rattle.pywheel_core.specs.Spans.{spans_from}
 use Rattle.pywheel_core.specs.Tag.{pieces}
 use Rattle.pywheel_core.proofs.tag_set.list_spans.Given as goal
 

@@ -1,6 +1,6 @@
 use Rattle.std.proofs.Common.{◌≡◌, ◌++◌, map, take}
 use Rattle.std.specs.Rc.{rc_str_bytes}
-use Rattle.pywheel_core.specs.Inner.Spans.{tag_at}
+use Rattle.pywheel_core.specs.Spans.{tag_at}
 use Rattle.pywheel_core.proofs.tag_set.push_platforms.Given as goal
 
 abbrev pub invariant-loop-platform : goal.invariant-loop-platform

@@ -1,7 +1,7 @@
 use Rattle.std.proofs.Common.{◌≡◌, ◌++◌, map, take}
 use Rattle.std.specs.List.{flat_map}
 use Rattle.std.specs.Rc.{rc_str_bytes}
-use Rattle.pywheel_core.specs.Inner.Spans.{tag_at}
+use Rattle.pywheel_core.specs.Spans.{tag_at}
 use Rattle.pywheel_core.proofs.tag_set.push_tags.Given as goal
 
 abbrev pub invariant-loop-python : goal.invariant-loop-python

@@ -106,3 +106,12 @@ given_syntax text r gives is = refused text r Syntax (λ e. cc) gives is
 pub given_misuse : (text : List ℕ) (r : Result MarkerValue MarkerError) → Gives Memory (λ m. m) r (marker_of text) → IsErrOf r SetMisuse
     → (is_deep text ≡ false) × ((tree : Tree) × MarkerText text tree × (has_misuse tree ≡ true))
 given_misuse text r gives is = refused text r SetMisuse (λ e. cc) gives is
+
+-- the tree that is read is the text's, and the other way round
+pub ruleset text_is = (text_sound, text_complete)
+
+-- what a call gives
+pub ruleset given_marker = (given_ok, given_text, given_sound, given_deep)
+
+-- the answer, by what is known of the text
+pub ruleset marker_answers = (marker_deep, marker_refused, marker_misused, marker_taken)

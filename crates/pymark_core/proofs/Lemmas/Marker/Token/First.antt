@@ -8,7 +8,6 @@ use Rattle.pyver_core.specs.Set.Normal.{operator_text}
 use Rattle.pyver_core.specs.declared.set.specifier.Operator.{Operator}
 use Rattle.std.proofs.lemmas.Option.{cond_some}
 use Rattle.pytext.proofs.OptionsLemmas.{option_cases}
-use Rattle.pymark_core.specs.Inner.LentToken as lent
 use Rattle.pymark_core.specs.Inner.LentToken.{text_before_quote}
 use Rattle.pymark_core.specs.Marker.Token.{quoted_at, token_at, token_by}
 
@@ -40,7 +39,8 @@ unfolding token_at
 token_of_none [] none = refl
 token_of_none (b ∷ rest) none = absurd (grind (arith, nat_tests))
 
-pub quotation_at : (quote : ℕ) (text : List ℕ) → text_before_quote quote (drop 1 text) ≡ lent.quotation_at quote text
+-- the same, where the text begins with the first quote
+pub quotation_at : (quote : ℕ) (text : List ℕ) → text_before_quote quote (drop 1 text) ≡ option_map (λ inside. (inside, drop (length inside + 2) text)) (quoted_at quote (drop 1 text))
 quotation_at quote text = same_behind (quoted_at quote (drop 1 text)) text
   where
     same_behind : (o : Option (List ℕ)) (text : List ℕ) → option_map {U = List ℕ × List ℕ} (λ inside. (inside, drop (length inside + 1) (drop 1 text))) o ≡ option_map {U = List ℕ × List ℕ} (λ inside. (inside, drop (length inside + 2) text)) o

@@ -3,7 +3,7 @@ use Rattle.std.proofs.Common.{◌≡◌, ℕ, zero, suc, ◌+◌, ◌<◌, ◌�
 use Rattle.std.proofs.lemmas.List.{get_or-drop, get_or_append_left, length-append, take-append-drop}
 use Rattle.std.proofs.lemmas.Slice.Eq.{bytes_eq-Decides}
 use Rattle.std.proofs.Math.Bool.{or-true}
-use Rattle.std.proofs.lemmas.Bool.{and_cases, cases_lt, eqb-false}
+use Rattle.std.proofs.lemmas.Bool.{and_cases, eqb-false}
 use Rattle.std.proofs.Math.Logic.{◌↔◌}
 use Rattle.std.proofs.Math.Seq.{take-append_seam}
 use Rattle.std.specs.List.{starts_with}
@@ -106,13 +106,6 @@ behind_passed x [] (suc n) none = refl
 behind_passed x (b ∷ rest) (suc n) none =
     behind_passed x rest n (λ k _ below. none (suc k) (omega arith) (omega arith))
     ∙ sym (ap (λ t. t || is_substring x rest) (none 0 (omega arith) (omega arith)))
-
--- places, and more of them
-pub more_passed : (x y : List ℕ) (from to end : ℕ) → BeginsNowhere x y 0 to → from ≤ to → BeginsNowhere x y from end → BeginsNowhere x y 0 end
-more_passed x y from to end before reaches behind = λ k _ below. elim (cases_lt k to) [
-  | inl front ↦ before k (omega arith) front
-  | inr back ↦ behind k (omega arith) below
-]
 
 -- fewer places, of equal texts
 pub fewer_passed : (x y a b : List ℕ) (n m : ℕ) → a ≡ x → b ≡ y → n ≤ m → BeginsNowhere a b 0 m → BeginsNowhere x y 0 n

@@ -16,10 +16,3 @@ returns-in_default-clause-set c = c.self.view_is ∙ remove_stays _ _ (sym (none
 
 pub returns-in_default-clause-dropped : goal.returns-in_default-clause-dropped
 returns-in_default-clause-dropped c = none_in (goal.at.returns-in_default-clause-dropped c).In_default
-
-pub returns-then-not-has-clause-set : goal.returns-then-not-has-clause-set
-returns-then-not-has-clause-set c =
-    let name = c.as_str.ensures.text in
-    sym c.deref.ensures ∙ remove_stays _ _ (sym c.if-not-has.ensures.has) ∙ (λ i. set.remove (c.deref.ensures i) (name i))
-    ∙ ap (λ s. set.remove s c.args.name.now)
-    (ap (λ n. unwrap_or (option_map (λ names. names.value) n) set.empty) (sym c.in-Some.is) ∙ c.self.view_is)

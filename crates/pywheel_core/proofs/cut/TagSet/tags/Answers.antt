@@ -3,7 +3,7 @@ use Rattle.std.specs.List.{flat_map}
 use Rattle.std.specs.Rc.{rc_str_bytes}
 use Rattle.pywheel_core.specs.Inner.Lent.{lower_set, set_of}
 use Rattle.pywheel_core.specs.Inner.Pieces.{spans_in}
-use Rattle.pywheel_core.specs.Inner.Spans.{AreWithin, tag_at}
+use Rattle.pywheel_core.specs.Spans.{AreWithin, tag_at}
 use Rattle.pywheel_core.proofs.Lemmas.Tag.Lowering.{set_lowered}
 use Rattle.pywheel_core.proofs.Lemmas.Tag.Pieces.{SetStands, three_length}
 use Rattle.pywheel_core.proofs.cut.TagSet.tags.Goals as goal

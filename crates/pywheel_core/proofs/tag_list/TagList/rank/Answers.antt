@@ -1,5 +1,5 @@
 use Rattle.std.proofs.Common.{sym, subst}
-use Rattle.pywheel_core.specs.Inner.Marks.{AreAllMarked, AreMarked}
+use Rattle.pywheel_core.specs.Marks.{AreAllMarked, AreMarked}
 use Rattle.pywheel_core.proofs.MarksLemmas.{unmarked}
 use Rattle.pywheel_core.proofs.tag_list.TagList.rank.Goals as goal
 
