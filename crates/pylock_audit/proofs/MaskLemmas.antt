@@ -1,5 +1,5 @@
 -- A masked URL, from one `:` to the next.
-use Rattle.std.proofs.Common.{◌≡◌, ◌∙◌, ℕ, ◌==◌, List, [], ◌∷◌, ◌++◌, Some, None, ap, refl, sym, append_assoc}
+use Rattle.std.proofs.Common.{◌≡◌, ◌∙◌, ℕ, ◌==◌, List, [], ◌∷◌, ◌++◌, Some, None, ap, refl, sym, append_assoc, append-nil}
 use Rattle.std.proofs.lemmas.Bool.{or_parts}
 use Rattle.std.specs.List.{list_any}
 use Rattle.std.specs.Option.{option_map_or}
@@ -16,10 +16,7 @@ front_stays (b ∷ x) y l =
     rw both.0 (ap (λ t. b ∷ t) (front_stays x y both.1))
 
 all_stays : (x : List ℕ) → Lacks 58 x → masked x ≡ x
-all_stays [] l = refl
-all_stays (b ∷ x) l =
-    let both = or_parts (b == 58) (list_any (λ d. d == 58) x) l in
-    rw both.0 (ap (λ t. b ∷ t) (all_stays x both.1))
+all_stays x l = ap masked (sym (append-nil x)) ∙ front_stays x [] l ∙ append-nil x
 
 -- at a `:` before `//`
 pub at_scheme : (text s x y behind url : List ℕ) → cut_at 58 s ≡ Some (x, y) → behind_slashes y ≡ Some behind

@@ -1,6 +1,8 @@
 -- A set of file names that gains one.
-use Rattle.std.proofs.Common.{◌≡◌, ◌∙◌, ℕ, Bool, true, false, ◌||◌, cond, List, [], ◌∷◌, ◌++◌, String, Global, Option, Some, None, refl, sym, ap, append_assoc, append-nil, inl, inr}
-use Rattle.std.proofs.lemmas.Bool.{cases_Bool}
+use Rattle.std.proofs.Common.{◌≡◌, ◌∙◌, ℕ, Bool, true, false, ◌||◌, cond, List, [], ◌∷◌, ◌++◌, String, Global, Option, Some, None, refl, sym, ap, append_assoc, append-nil}
+use Rattle.std.proofs.Math.Bool.{or-false, or-true}
+use Rattle.std.proofs.lemmas.Bool.Decides.{Decides-like, same_from_decides}
+use Rattle.std.proofs.lemmas.List.Folds.{list_any-append}
 use Rattle.std.specs.BTreeSet.{BTreeSet, contains_text}
 use Rattle.std.specs.Cmp.Lexicographic.{bytes_decides}
 use Rattle.std.specs.List.{list_any}
@@ -13,40 +15,20 @@ use Rattle.pylock_audit.specs.Finding.{told_where}
 use Rattle.pylock_audit.specs.Inner.Names.{Holds}
 use Rattle.pylock_audit.specs.Source.{name_where, text_where}
 
-or_assoc : (a b c : Bool) → (a || (b || c)) ≡ ((a || b) || c)
-or_assoc true b c = refl
-or_assoc false b c = refl
-
-or_false : (a : Bool) → (a || false) ≡ a
-or_false true = refl
-or_false false = refl
-
-or_true : (a : Bool) → (a || true) ≡ true
-or_true true = refl
-or_true false = refl
-
-any_more : (p : List ℕ → Bool) (xs : List (List ℕ)) (x : List ℕ) → list_any p (xs ++ x ∷ []) ≡ (list_any p xs || p x)
-any_more p [] x = or_false (p x)
-any_more p (y ∷ ys) x = ap (λ b. p y || b) (any_more p ys x) ∙ or_assoc (p y) (list_any p ys) (p x)
-
-swap : (a b : List ℕ) → bytes_eq a b ≡ true → bytes_eq b a ≡ true
-swap a b is = (bytes_decides b a).1 (sym ((bytes_decides a b).0 is))
-
-differ : (a b : List ℕ) → bytes_eq a b ≡ false → bytes_eq b a ≡ false
-differ a b not = by (bytes_eq b a) refl
-  where
-    by : (c : Bool) → bytes_eq b a ≡ c → c ≡ false
-    by true is = absurd (let both : true ≡ false = sym (swap b a is) ∙ not in cc)
-    by false is = refl
+swap : (a b : List ℕ) → bytes_eq a b ≡ bytes_eq b a
+swap a b =
+    same_from_decides (bytes_eq a b) (bytes_eq b a) (bytes_decides a b)
+    (Decides-like (bytes_eq b a) (λ is. sym is) (λ is. sym is) (bytes_decides b a))
 
 pub holds_more : (old new : BTreeSet (String Global)) (name : List ℕ) (names : List (List ℕ))
     → ((q : List ℕ) → contains_text new q ≡ cond (bytes_eq name q) true (contains_text old q))
     → Holds old names → Holds new (names ++ name ∷ [])
 holds_more old new name names updated holds q =
-    updated q ∙ elim (cases_Bool (bytes_eq name q)) [
-      | inl is ↦ rw is (sym (any_more (bytes_eq q) names name ∙ ap (λ b. list_any (bytes_eq q) names || b) (swap name q is) ∙ or_true (list_any (bytes_eq q) names)))
-      | inr is ↦ rw is (holds q ∙ sym (any_more (bytes_eq q) names name ∙ ap (λ b. list_any (bytes_eq q) names || b) (differ name q is) ∙ or_false (list_any (bytes_eq q) names)))
-    ]
+    updated q ∙ rw (swap name q, holds q) (by (bytes_eq q name) (list_any (bytes_eq q) names)) ∙ sym (list_any-append (bytes_eq q) names (name ∷ []))
+  where
+    by : (is has : Bool) → cond is true has ≡ (has || (is || false))
+    by true has = sym (or-true has)
+    by false has = sym (or-false has)
 
 -- one file more
 pub with_names_more : (files : List FileValue) (file : FileValue) (names : List (List ℕ))

@@ -1,5 +1,6 @@
 -- Who a URL names, one byte after another, and by its first `@`.
 use Rattle.std.proofs.Common.{◌≡◌, ◌∙◌, ℕ, ◌+◌, Bool, true, false, ◌==◌, ◌||◌, List, [], ◌∷◌, ◌++◌, length, Option, Some, None, option_map, is_some, unwrap_or, refl, ap, sym, inl, inr, arith}
+use Rattle.std.proofs.Math.Bool.{or-false, or_assoc}
 use Rattle.std.proofs.lemmas.Bool.{cases_Bool, or_parts}
 use Rattle.std.proofs.lemmas.List.{length-append}
 use Rattle.std.specs.List.{list_any}
@@ -35,14 +36,6 @@ user_is (b ∷ rest) = elim (cases_Bool (ends_authority b)) [
 
 -- ---- whether a `:` stands in the user
 
-or_assoc : (a b c : Bool) → ((a || b) || c) ≡ (a || (b || c))
-or_assoc true b c = refl
-or_assoc false b c = refl
-
-or_false : (a : Bool) → (a || false) ≡ a
-or_false true = refl
-or_false false = refl
-
 step : (colon colons : Bool) (b : ℕ) (o : Option Cut) (password : Bool) → colons ≡ (colon || b == 58)
     → option_map_or (λ (cut : Cut). colons || list_any (λ d. d == 58) cut.0) o password
     ≡ option_map_or (λ (cut : Cut). colon || list_any (λ d. d == 58) cut.0) (either (option_map (λ (cut : Cut). (b ∷ cut.0, cut.1)) o) None) password
@@ -52,7 +45,7 @@ step colon colons b (Some x) password same = ap (λ t. t || list_any (λ d. d ==
 at_step : (colon colons : Bool) (b : ℕ) (t : List ℕ) (o : Option Cut) (password : Bool) → colons ≡ (colon || b == 58)
     → option_map_or (λ (cut : Cut). colons || list_any (λ d. d == 58) cut.0) o colon
     ≡ option_map_or (λ (cut : Cut). colon || list_any (λ d. d == 58) cut.0) (either (option_map (λ (cut : Cut). (b ∷ cut.0, cut.1)) o) (Some ([], t))) password
-at_step colon colons b t None password same = sym (or_false colon)
+at_step colon colons b t None password same = sym (or-false colon)
 at_step colon colons b t (Some x) password same = ap (λ t. t || list_any (λ d. d == 58) x.0) same ∙ or_assoc colon (b == 58) (list_any (λ d. d == 58) x.0)
 
 pub password_is : (colon password : Bool) (text : List ℕ)

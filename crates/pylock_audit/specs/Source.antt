@@ -1,7 +1,6 @@
 -- What one source of an entry gives to each kind of finding.
-use Rattle.std.specs.Prelude.{ℕ, Bool, false, ◌==◌, ◌&&◌, ◌||◌, ◌++◌, not, codes}
-use Rattle.std.specs.Prelude.{List, [], ◌∷◌, filter, length, map, Option, Some, None, unwrap_or}
-use Rattle.std.specs.Prelude.{if◌then◌else◌}
+use Rattle.std.specs.Prelude.{ℕ, Bool, false, ◌==◌, ◌&&◌, ◌||◌, ◌++◌, not, codes, List, [], ◌∷◌}
+use Rattle.std.specs.Prelude.{filter, length, map, Option, Some, None, unwrap_or, if◌then◌else◌}
 use Rattle.std.specs.Int.{is_in_range}
 use Rattle.std.specs.List.{flat_map, join_by, list_all}
 use Rattle.std.specs.Option.{option_map_or}

@@ -2,8 +2,7 @@
 //! and not at what it says: behind the last `@`, also where the URL has a path with an `@`. What is
 //! compared and tested is the file name as the steps see it.
 
-ghost use Rattle.std.specs.Prelude.{◌≡◌, IfOk, is_some, option_and_then, option_map};
-ghost use Rattle.std.specs.Prelude.{string_bytes};
+ghost use Rattle.std.specs.Prelude.{◌≡◌, IfOk, is_some, option_and_then, option_map, string_bytes};
 ghost use Rattle.std.specs.Option.{option_copied};
 ghost use Rattle.pylock_readers.specs.Entry.FileName.{last_of_path, text_unless_empty};
 ghost use Rattle.pylock_audit.specs.FileName.{behind_at, is_named_by_url, masked_front};

@@ -35,16 +35,10 @@ pub(crate) fn push_file_names(
 {
     push_unnamed(alloc, findings, entry)?;
     push_each(findings, FindingKind::OtherName, other_names(alloc, entry)?)?;
-    push_each(
-        findings,
-        FindingKind::OtherVersion,
-        other_versions(alloc, entry)?,
-    )?;
-    push_each(
-        findings,
-        FindingKind::SameFileName,
-        same_names(alloc, entry)?,
-    )
+    let versions = other_versions(alloc, entry)?;
+    push_each(findings, FindingKind::OtherVersion, versions)?;
+    let names = same_names(alloc, entry)?;
+    push_each(findings, FindingKind::SameFileName, names)
 }
 
 /// What the file name of this wheel says, which stands at this place; nothing where the name is
@@ -82,12 +76,8 @@ fn push_unnamed_wheel(
     if name.is_some() {
         return Ok(());
     }
-    push_where(
-        findings,
-        true,
-        FindingKind::NoWheelName,
-        shown_file_name(alloc, file)?,
-    )
+    let file_name = shown_file_name(alloc, file)?;
+    push_where(findings, true, FindingKind::NoWheelName, file_name)
 }
 
 // ---- other packages
@@ -98,13 +88,8 @@ fn other_names(alloc: Global, entry: &Entry) -> Result<Vec<String>, AllocError>
 {
     let mut list = Vec::new(alloc);
     for (place, file) in entry.wheels().iter().enumerate() {
-        push_other_wheel(
-            alloc,
-            &mut list,
-            entry.name(),
-            file,
-            name_at(entry, place, file),
-        )?;
+        let name = name_at(entry, place, file);
+        push_other_wheel(alloc, &mut list, entry.name(), file, name)?;
     }
     push_other_sdist(alloc, &mut list, entry.name(), entry.sdist())?;
     Ok(list)

@@ -2,8 +2,7 @@
 
 ghost use Rattle.std.specs.Prelude.{◌≡◌, ◌++◌, IfOk, OnOk, map, option_map, string_bytes};
 ghost use Rattle.std.specs.Option.{option_copied};
-ghost use Rattle.pylock_audit.specs.Finding.{findings_at, findings_each};
-ghost use Rattle.pylock_audit.specs.Finding.{finding_where, told_where};
+ghost use Rattle.pylock_audit.specs.Finding.{findings_at, findings_each, finding_where, told_where};
 ghost use Rattle.pylock_audit.specs.Words.{finding_word};
 
 use std::alloc::{AllocError, Global};

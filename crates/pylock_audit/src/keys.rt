@@ -217,18 +217,10 @@ pub(crate) fn unknown_of_entry(alloc: Global, entry: &Table) -> Result<Vec<Strin
     let mut paths = Vec::new(alloc);
     push_unknown(alloc, &mut paths, LockTable::Entry, entry)?;
     push_unknown_in(alloc, &mut paths, PickSource::Vcs, field(entry, "vcs"))?;
-    push_unknown_in(
-        alloc,
-        &mut paths,
-        PickSource::Directory,
-        field(entry, "directory"),
-    )?;
-    push_unknown_in(
-        alloc,
-        &mut paths,
-        PickSource::Archive,
-        field(entry, "archive"),
-    )?;
+    let directory = field(entry, "directory");
+    push_unknown_in(alloc, &mut paths, PickSource::Directory, directory)?;
+    let archive = field(entry, "archive");
+    push_unknown_in(alloc, &mut paths, PickSource::Archive, archive)?;
     push_unknown_in_wheels(alloc, &mut paths, field(entry, "wheels"))?;
     push_unknown_in(alloc, &mut paths, PickSource::Sdist, field(entry, "sdist"))?;
     Ok(paths)

@@ -1,13 +1,6 @@
 //! What a careful reader of a lock would want to be told, though the lock is valid and the
-//! installation steps pass over it (PEP 751): a weak hash, a password in a URL, a file name that
-//! leaves its folder, and some twenty more.
-//!
-//! It stands on `pylock_core`, for the lock, on `toml`, for the keys that a lock ignores, on
-//! `pylock_messages`, for control characters, and on `pylock_json`. Begin with [`audit`], of the
-//! bytes of a lock. It gives the findings in order, or the refusal of the lock; each
-//! [`LockFinding`] has the number of its entry, a [`FindingKind`] and a detail.
-//! [`findings_document`] makes JSON of them. `docs/FORMATS.md` has the table of findings, at
-//! `pylock audit`.
+//! installation steps pass over it (PEP 751): each [`LockFinding`] has the number of its entry, a
+//! [`FindingKind`] and a detail.
 //!
 //! What the program does with them, from `crates/pylock_program/src/reply.rt`:
 //!

@@ -53,15 +53,11 @@ pub(crate) fn with_undeclared(
     told_where(alloc, found, marker.text())
 }
 
-fn any_undeclared(
-    alloc: Global,
-    head: &Head,
-    comparisons: &[&Comparison],
-) -> Result<bool, AllocError>
+fn any_undeclared(alloc: Global, head: &Head, compared: &[&Comparison]) -> Result<bool, AllocError>
     ensures { IfOk result (λ found. found
-        ≡ list_any (asks_undeclared head.now) (map (λ c. c.now) comparisons.now)) }
+        ≡ list_any (asks_undeclared head.now) (map (λ c. c.now) compared.now)) }
 {
-    for comparison in comparisons {
+    for comparison in compared {
         if asks_undeclared(alloc, head, comparison)? {
             return Ok(true);
         }
@@ -78,30 +74,22 @@ fn asks_undeclared(alloc: Global, head: &Head, comparison: &Comparison) -> Resul
     asks_undeclared_group(alloc, head, comparison.group_asked())
 }
 
-fn asks_undeclared_extra(
-    alloc: Global,
-    head: &Head,
-    asked: Option<&str>,
-) -> Result<bool, AllocError>
+fn asks_undeclared_extra(alloc: Global, head: &Head, name: Option<&str>) -> Result<bool, AllocError>
     ensures { IfOk result (λ found. found
-        ≡ is_undeclared head.now.extras (option_copied asked.entry)) }
+        ≡ is_undeclared head.now.extras (option_copied name.entry)) }
 {
-    let Some(name) = asked else {
+    let Some(name) = name else {
         return Ok(false);
     };
     let name = normal_name(alloc, name)?;
     Ok(!head.extras().has(name.as_str()))
 }
 
-fn asks_undeclared_group(
-    alloc: Global,
-    head: &Head,
-    asked: Option<&str>,
-) -> Result<bool, AllocError>
+fn asks_undeclared_group(alloc: Global, head: &Head, name: Option<&str>) -> Result<bool, AllocError>
     ensures { IfOk result (λ found. found
-        ≡ is_undeclared (head.now.groups ++ head.now.default_groups) (option_copied asked.entry)) }
+        ≡ is_undeclared (head.now.groups ++ head.now.default_groups) (option_copied name.entry)) }
 {
-    let Some(name) = asked else {
+    let Some(name) = name else {
         return Ok(false);
     };
     let name = normal_name(alloc, name)?;

@@ -2,10 +2,9 @@
 //! of a lock moves its strings out; unknown keys and names as they are written stand in the
 //! document alone.
 
-ghost use Rattle.std.specs.Prelude.{◌≡◌, ◌++◌, IfOk, OnOk, map, option_and_then, option_map};
-ghost use Rattle.std.specs.Prelude.{string_bytes};
+ghost use Rattle.std.specs.Prelude.{◌≡◌, ◌++◌, IfOk, OnOk, map, string_bytes};
 ghost use Rattle.std.specs.Option.{option_copied};
-ghost use Rattle.toml.specs.Data.{as_str, get_member};
+ghost use Rattle.toml.specs.Data.{as_str};
 ghost use Rattle.toml.specs.View.{items_view, table_view, view};
 ghost use Rattle.pylock_audit.specs.Audit.{members_in};
 ghost use Rattle.pylock_audit.specs.Entry.{other_form, text_at};

@@ -1,6 +1,6 @@
 //! Texts that do harm where they are used as they stand.
 
-ghost use Rattle.std.specs.Prelude.{◌≡◌, slice_get};
+ghost use Rattle.std.specs.Prelude.{◌≡◌};
 ghost use Rattle.std.specs.List.{list_all, list_any};
 ghost use Rattle.std.specs.Str.{chars};
 ghost use Rattle.pylock_audit.specs.Inner.Printable.{is_printable};

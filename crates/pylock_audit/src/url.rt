@@ -5,11 +5,9 @@ ghost use Rattle.std.specs.List.{list_any};
 ghost use Rattle.std.specs.Option.{option_copied};
 ghost use Rattle.pywheel_core.specs.Texts.{cut_at};
 ghost use Rattle.pylock_audit.specs.Inner.User.{password_after, user_in};
-ghost use Rattle.pylock_audit.specs.Url.{begins, behind_scheme, behind_slashes};
-ghost use Rattle.pylock_audit.specs.Url.{behind_user};
-ghost use Rattle.pylock_audit.specs.Url.{ends_authority, has_credentials, is_https};
-ghost use Rattle.pylock_audit.specs.Url.{is_remote_path, is_safe_remote, masked, names_alone};
-ghost use Rattle.pylock_audit.specs.Url.{shown_url};
+ghost use Rattle.pylock_audit.specs.Url.{begins, behind_scheme, behind_slashes, behind_user};
+ghost use Rattle.pylock_audit.specs.Url.{ends_authority, has_credentials, is_https, is_remote_path};
+ghost use Rattle.pylock_audit.specs.Url.{is_safe_remote, masked, names_alone, shown_url};
 
 use std::alloc::{AllocError, Global};
 

@@ -26,19 +26,19 @@ pub edited_err : {definition : Result (Option Object) Refusal} {old new : Option
     → Tells definition old new code
 edited_err {refusal = refusal} gives code same = (Err refusal, gives, code, same)
 
--- the same where a slot was taken out and put back
-pub at_slot : (definition : Option Object → Result (Option Object) Refusal) {before old after new : Option Object}
+-- the same where a slot was taken out and put back, with what its places `f` and `g` have besides
+pub at_slot : {X : Type 0} (f g : Option Object → X) (definition : Option Object → Result X Refusal) {before old after new : Option Object}
     {code code' : ℤ} → before ≡ old → new ≡ after → code' ≡ code
-    → Tells (definition before) before after code → Tells (definition old) old new code'
-at_slot definition {before = before} {after = after} {new = new} {code' = code'} was is same tells =
-    subst (λ (o : Option Object). Tells (definition o) o new code') was
-    (subst (λ (n : Option Object). Tells (definition before) before n code') (sym is)
-    (subst (λ (z : ℤ). Tells (definition before) before after z) (sym same) tells))
+    → Tells (definition before) (f before) (g after) code → Tells (definition old) (f old) (g new) code'
+at_slot f g definition {before = before} {after = after} {new = new} {code' = code'} was is same tells =
+    subst (λ (o : Option Object). Tells (definition o) (f o) (g new) code') was
+    (subst (λ (n : Option Object). Tells (definition before) (f before) (g n) code') (sym is)
+    (subst (λ (z : ℤ). Tells (definition before) (f before) (g after) z) (sym same) tells))
 
 -- and of an empty slot
-pub at_empty : (definition : Option Object → Result (Option Object) Refusal) {old new : Option Object} {code : ℤ}
-    → definition None ≡ Err Empty → None ≡ old → new ≡ None → code ≡ pos 3 → Tells (definition old) old new code
-at_empty definition refused was is same = at_slot definition was is same (Err Empty, λ _. refused, refl, refl)
+pub at_empty : {X : Type 0} (f : Option Object → X) (definition : Option Object → Result X Refusal) {old new : Option Object} {code : ℤ}
+    → definition None ≡ Err Empty → None ≡ old → new ≡ None → code ≡ pos 3 → Tells (definition old) (f old) (f new) code
+at_empty f definition refused was is same = at_slot f f definition was is same (Err Empty, λ _. refused, refl, refl)
 
 -- an object in its slot, and a value at its place
 pub told_with : {T : Type 0} {definition : Result (Option Object × T) Refusal} {old new : Option Object} {before after : T}

@@ -1,18 +1,16 @@
 -- What a call on a session leaves behind.
-use Rattle.std.proofs.Common.{◌≡◌, ◌∙◌, ℕ, ℤ, pos, ap, refl, sym, subst}
-use Rattle.std.specs.Prelude.{Option, None, Some, Result, Ok, Err}
+use Rattle.std.proofs.Common.{◌≡◌, ◌∙◌, ℕ, ap, sym, subst}
+use Rattle.std.specs.Prelude.{Some, Result, Ok, Err}
 use Rattle.pytext.specs.Results.{◌>>=◌}
 use Rattle.pylock_core.specs.Session.Judgement.{SessionValue}
 use Rattle.pylock_run.specs.declared.line.commands.Command.{Command}
 use Rattle.pylock_run.specs.declared.line.refusal.LineRefusal.{LineRefusal}
 use Rattle.pylock_run.specs.declared.line.refusal.LineRefusal.TheVariants as line
-use Rattle.pylock_c.specs.Answer.{Tells}
 use Rattle.pylock_c.specs.Refusal.{line_refusal, refuse_as}
 use Rattle.pylock_c.specs.Sessions.{Counts, session_after, obeyed_in}
 use Rattle.pylock_c.specs.declared.object.Object.{Object}
 use Rattle.pylock_c.specs.declared.object.Object.TheVariants as kind
 use Rattle.pylock_c.specs.declared.refusal.Refusal.{Refusal}
-use Rattle.pylock_c.specs.declared.refusal.Refusal.TheVariants.{Empty}
 
 -- a command that was read and is refused
 pub refused_command : {definition : Result Command LineRefusal} {object : Object} {command : Command} {session after : SessionValue}
@@ -27,17 +25,3 @@ refused_command {definition = definition} {object = object} {command = command} 
           ∙ ap (λ e. refuse_as line_refusal e >>= λ after. Ok (Some (kind.Session after.0), after.1)) (gives (λ short. not (code ∙ ap line_refusal short)))
           ∙ ap Err (sym code),
     )
-
--- where a slot was taken out and put back
-pub at_slot : (definition : Option Object → Result (Option Object × ℕ) Refusal) {before old after new : Option Object}
-    {count judged : ℕ} {code code' : ℤ} → before ≡ old → new ≡ after → code' ≡ code
-    → Tells (definition before) (before, count) (after, judged) code → Tells (definition old) (old, count) (new, judged) code'
-at_slot definition {before = before} {after = after} {new = new} {count = count} {judged = judged} {code' = code'} was is same tells =
-    subst (λ (o : Option Object). Tells (definition o) (o, count) (new, judged) code') was
-    (subst (λ (n : Option Object). Tells (definition before) (before, count) (n, judged) code') (sym is)
-    (subst (λ (z : ℤ). Tells (definition before) (before, count) (after, judged) z) (sym same) tells))
-
--- and of an empty slot
-pub at_empty : (definition : Option Object → Result (Option Object × ℕ) Refusal) {old new : Option Object} {judged : ℕ} {code : ℤ}
-    → definition None ≡ Err Empty → None ≡ old → new ≡ None → code ≡ pos 3 → Tells (definition old) (old, judged) (new, judged) code
-at_empty definition refused was is same = at_slot definition was is same (Err Empty, λ _. refused, refl, refl)

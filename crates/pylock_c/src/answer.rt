@@ -11,7 +11,7 @@ ghost use Rattle.pylock_c.specs.declared.refusal.Refusal.TheVariants.{Memory};
 use crate::object::Object;
 use crate::refusal::Refusal;
 use crate::slot::Slot;
-use std::alloc::{AllocError, Global};
+use std::alloc::Global;
 
 /// The code of a call that isn't refused.
 pub(crate) const OK: i32 = 0;
@@ -20,7 +20,7 @@ pub(crate) const OK: i32 = 0;
 const ROOM: i32 = 4;
 
 /// Leaves the value at its place, and answers the code.
-pub(crate) fn tell<T: Drop>(outcome: Result<T, Refusal>, place: &mut T) -> i32
+pub(crate) fn tell_value<T: Drop>(outcome: Result<T, Refusal>, place: &mut T) -> i32
     ensures { (definition : Result T Refused) → Gives Memory (λ x. x) outcome definition
         → Tells definition place.old place.new result }
 {
@@ -35,7 +35,7 @@ pub(crate) fn tell<T: Drop>(outcome: Result<T, Refusal>, place: &mut T) -> i32
 
 /// Leaves the object in the slot, and answers the code.
 #[tactic(auto, using(crate::proofs::AnswerLemmas::told))]
-pub(crate) fn keep(alloc: Global, outcome: Result<Object, Refusal>, slot: &mut Slot) -> i32
+pub(crate) fn keep_object(alloc: Global, outcome: Result<Object, Refusal>, slot: &mut Slot) -> i32
     ensures { (definition : Result (Option Kind) Refused)
         → Gives Memory (λ kept. Some kept) outcome definition
         → Tells definition (object slot.old) (object slot.new) result }
@@ -93,7 +93,7 @@ fn boxed(alloc: Global, outcome: Result<Object, Refusal>) -> Result<Box<Object>,
 
 /// The code of an edit.
 #[tactic(auto, using(crate::proofs::AnswerLemmas::told))]
-pub(crate) fn done(outcome: Result<(), Refusal>) -> i32
+pub(crate) fn edit_code(outcome: Result<(), Refusal>) -> i32
     ensures { (definition : Result (Option Kind) Refused) (old new : Option Kind)
         → Edits definition old new outcome → Tells definition old new result }
 {

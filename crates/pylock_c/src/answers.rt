@@ -16,7 +16,7 @@ ghost use Rattle.pylock_c.specs.declared.refusal.Refusal.TheVariants.{Memory};
 
 use crate::answer::keep_with;
 use crate::object::{Bytes, Object};
-use crate::opening::{leave, open_into};
+use crate::opening::{leave_object, open_into};
 use crate::refusal::Refusal;
 use crate::slot::Slot;
 use pylock_command::Form;
@@ -118,12 +118,8 @@ pub extern "C" fn pylock_files(
     ensures { Tells (reported (reply (query.Files lock.entry (form_of json))))
         (object out.old, status.old) (object out.new, status.new) result }
 {
-    keep_with(
-        alloc,
-        replied(alloc, Query::Files(lock, form_of(json))),
-        out,
-        status,
-    )
+    let told = replied(alloc, Query::Files(lock, form_of(json)));
+    keep_with(alloc, told, out, status)
 }
 
 /// What a careful reader of a lock would be told, as `pylock audit` prints it, and its status.
@@ -138,12 +134,8 @@ pub extern "C" fn pylock_audit(
     ensures { Tells (reported (reply (query.Audit lock.entry (form_of json))))
         (object out.old, status.old) (object out.new, status.new) result }
 {
-    keep_with(
-        alloc,
-        replied(alloc, Query::Audit(lock, form_of(json))),
-        out,
-        status,
-    )
+    let told = replied(alloc, Query::Audit(lock, form_of(json)));
+    keep_with(alloc, told, out, status)
 }
 
 #[tactic(auto, unfolding(crate::specs::Answers::head_of))]
@@ -204,8 +196,8 @@ fn keep_message(alloc: Global, message: Result<Option<String>, AllocError>, slot
     ensures { Says (object slot.old) (object slot.new) result }
 {
     match message {
-        Ok(Some(text)) => leave(alloc, Object::Text(Bytes::new(text.into_bytes())), 0, slot),
-        Ok(None) => leave(alloc, Object::Text(Bytes::new(Vec::new(alloc))), 0, slot),
+        Ok(Some(text)) => leave_object(alloc, Object::Text(Bytes::new(text.into_bytes())), 0, slot),
+        Ok(None) => leave_object(alloc, Object::Text(Bytes::new(Vec::new(alloc))), 0, slot),
         Err(AllocError) => 1,
     }
 }
@@ -223,9 +215,6 @@ pub extern "C" fn pylock_lock_message(alloc: Global, lock: &[u8], message: &mut 
 pub extern "C" fn pylock_environment_message(alloc: Global, json: &[u8], message: &mut Slot) -> i32
     ensures { Says (object message.old) (object message.new) result }
 {
-    keep_message(
-        alloc,
-        environment_message(alloc, "environment", json),
-        message,
-    )
+    let told = environment_message(alloc, "environment", json);
+    keep_message(alloc, told, message)
 }

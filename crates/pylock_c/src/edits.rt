@@ -9,9 +9,8 @@ ghost use Rattle.pylock_core.specs.declared.edit.Edit.TheVariants as edit;
 ghost use Rattle.pylock_run.specs.Line.{is_lf};
 ghost use Rattle.pylock_run.specs.declared.line.refusal.LineRefusal.{LineRefusal as RefusalValue};
 ghost use Rattle.pylock_run.specs.declared.line.refusal.LineRefusal.TheVariants.{Memory};
-ghost use Rattle.pylock_c.specs.Edits.{change_command, entry_command, named_change};
-ghost use Rattle.pylock_c.specs.Edits.{policy_command, set_change, tag_texts, tags_command};
-ghost use Rattle.pylock_c.specs.Edits.{unset_change};
+ghost use Rattle.pylock_c.specs.Edits.{change_command, entry_command, named_change, policy_command};
+ghost use Rattle.pylock_c.specs.Edits.{set_change, tag_texts, tags_command, unset_change};
 
 use crate::text::text;
 use pylock_core::{Edit, Entry};

@@ -12,7 +12,7 @@ ghost use Rattle.pylock_c.specs.Environments.{changed_in, new_environment};
 ghost use Rattle.pylock_c.specs.Slot.{object};
 ghost use Rattle.pylock_c.specs.declared.refusal.Refusal.TheVariants.{Memory};
 
-use crate::answer::{done, keep};
+use crate::answer::{edit_code, keep_object};
 use crate::edits::{
     add_extra_change, add_group_change, drop_extra_change, drop_group_change, set_change,
     unset_change,
@@ -35,7 +35,7 @@ fn new_environment(alloc: Global) -> Result<Object, Refusal>
 pub extern "C" fn pylock_environment_new(alloc: Global, environment: &mut Slot) -> i32
     ensures { Tells new_environment (object environment.old) (object environment.new) result }
 {
-    keep(alloc, new_environment(alloc), environment)
+    keep_object(alloc, new_environment(alloc), environment)
 }
 
 /// Changes the environment that is kept. Where none is, the change isn't looked at.
@@ -63,7 +63,7 @@ fn change_slot(alloc: Global, slot: &mut Slot, change: Result<Change, LineRefusa
     };
     let outcome = change_in(&mut object, change);
     slot.put(alloc, Some(object));
-    done(outcome)
+    edit_code(outcome)
 }
 
 /// Gives a variable a text.

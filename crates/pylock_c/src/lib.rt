@@ -1,11 +1,10 @@
 //! pylock for C: one export for each call. `include/pylock.h` declares them, and says what C has to
 //! uphold.
 //!
-//! It stands on the libraries whose calls it passes on. A call answers a code, 0 where all went
-//! well, and leaves what it gives at a place that the caller lends; a refused call leaves that
-//! place as it was. What is kept between calls stands in a slot, which the caller zeroes first and
-//! frees last. A text goes into a buffer of the caller's; one that is too small stays as it is, and
-//! the length that is needed is told.
+//! A call answers a code, 0 where all went well, and leaves what it gives at a place that the
+//! caller lends; a refused call leaves that place as it was. What is kept between calls stands in a
+//! slot, which the caller zeroes first and frees last. A text goes into a buffer of the caller's;
+//! one that is too small stays as it is, and the length that is needed is told.
 //!
 //! A name in normal form, from `tools/c/calls.c`:
 //!

@@ -8,7 +8,7 @@ ghost use Rattle.pylock_c.specs.Markers.{value_in, value_with_extra_in};
 ghost use Rattle.pylock_c.specs.Slot.{kept_object, object};
 ghost use Rattle.pylock_c.specs.declared.refusal.Refusal.TheVariants.{Memory};
 
-use crate::answer::{keep, tell, write};
+use crate::answer::{keep_object, tell_value, write};
 use crate::object::Object;
 use crate::refusal::Refusal;
 use crate::slot::Slot;
@@ -27,7 +27,7 @@ fn parsed(alloc: Global, bytes: &[u8]) -> Result<Object, Refusal>
 pub extern "C" fn pylock_marker_parse(alloc: Global, marker: &mut Slot, text: &[u8]) -> i32
     ensures { Tells (parsed text.now) (object marker.old) (object marker.new) result }
 {
-    keep(alloc, parsed(alloc, text), marker)
+    keep_object(alloc, parsed(alloc, text), marker)
 }
 
 fn marker_in(kept: &Option<Box<Object>>) -> Result<&Marker, Refusal>
@@ -101,7 +101,7 @@ pub extern "C" fn pylock_marker_evaluate(
 {
     let kept = marker.take(alloc);
     let judged_in = environment.take(alloc);
-    let code = tell(value_in(alloc, &kept, &judged_in), value);
+    let code = tell_value(value_in(alloc, &kept, &judged_in), value);
     marker.put(alloc, kept);
     environment.put(alloc, judged_in);
     code
@@ -138,7 +138,7 @@ pub extern "C" fn pylock_marker_evaluate_with_extra(
 {
     let kept = marker.take(alloc);
     let judged_in = environment.take(alloc);
-    let code = tell(value_with_extra_in(alloc, &kept, &judged_in, extra), value);
+    let code = tell_value(value_with_extra_in(alloc, &kept, &judged_in, extra), value);
     marker.put(alloc, kept);
     environment.put(alloc, judged_in);
     code

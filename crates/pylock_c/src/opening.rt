@@ -1,6 +1,6 @@
 //! What a call leaves that reads a lock or an environment.
 
-ghost use Rattle.std.specs.Prelude.{◌≡◌, ◌⊎◌, ℤ, IfOk, Result, Some};
+ghost use Rattle.std.specs.Prelude.{◌≡◌, IfOk, Result, Some};
 ghost use Rattle.pytext.specs.Agreement.{Gives};
 ghost use Rattle.pylock_run.specs.Text.Refusal.{refusal_text};
 ghost use Rattle.pylock_run.specs.declared.report.opening.OpenError.{OpenError as Unopened};
@@ -31,17 +31,17 @@ pub(crate) fn open_into(
         (object words.new) result }
 {
     match outcome {
-        Ok(kept) => leave(alloc, kept, 0, slot),
+        Ok(kept) => leave_object(alloc, kept, 0, slot),
         Err(OpenError::Memory) => 1,
         Err(refusal) => match line(alloc, &refusal) {
-            Ok(line) => leave(alloc, line, open_refusal(&refusal).number(), words),
+            Ok(line) => leave_object(alloc, line, open_refusal(&refusal).number(), words),
             Err(AllocError) => 1,
         },
     }
 }
 
 /// Leaves the object in the slot and answers this code, or that of memory.
-pub(crate) fn leave(alloc: Global, kept: Object, code: i32, slot: &mut Slot) -> i32
+pub(crate) fn leave_object(alloc: Global, kept: Object, code: i32, slot: &mut Slot) -> i32
     ensures { Leaves kept code (object slot.old) (object slot.new) result }
 {
     match Box::new(alloc, kept) {

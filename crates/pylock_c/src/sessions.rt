@@ -60,7 +60,7 @@ pub extern "C" fn pylock_session_start(
 }
 
 /// Obeys the command, and answers how many judgements that made.
-fn obey(session: &mut Session, command: Command) -> Result<u64, LineRefusal>
+fn obey_command(session: &mut Session, command: Command) -> Result<u64, LineRefusal>
     ensures ok { Gives line.Memory (λ judgements. (session.new, judgements)) result
         (session_after session.old command) }
     ensures err { OnErr result (session.new ≡ session.old) }
@@ -79,14 +79,14 @@ fn obey_in(object: &mut Object, command: Result<Command, LineRefusal>) -> Result
         result }
 {
     match object {
-        Object::Session(session) => Ok(obey(session, command?)?),
+        Object::Session(session) => Ok(obey_command(session, command?)?),
         _ => Err(Refusal::Empty),
     }
 }
 
 /// Leaves how many judgements an edit made, and answers the code.
 #[tactic(auto, using(crate::proofs::AnswerLemmas::told_with))]
-fn count(outcome: Result<u64, Refusal>, judged: &mut u64) -> i32
+fn tell_judged(outcome: Result<u64, Refusal>, judged: &mut u64) -> i32
     ensures { (definition : Result (Option Kind × ℕ) Refused) (old new : Option Kind)
         → Counts definition old new outcome
         → Tells definition (old, judged.old) (new, judged.new) result }
@@ -117,7 +117,7 @@ fn obey_slot(
     };
     let outcome = obey_in(&mut object, command);
     slot.put(alloc, Some(object));
-    count(outcome, judged)
+    tell_judged(outcome, judged)
 }
 
 /// Gives a variable a text.

@@ -8,7 +8,7 @@ ghost use Rattle.pylock_c.specs.Sets.{set_of, set_text_in, version_of};
 ghost use Rattle.pylock_c.specs.Slot.{kept_object, object};
 ghost use Rattle.pylock_c.specs.declared.refusal.Refusal.TheVariants.{Memory};
 
-use crate::answer::{keep, tell, write, write_made};
+use crate::answer::{keep_object, tell_value, write, write_made};
 use crate::object::Object;
 use crate::refusal::Refusal;
 use crate::slot::Slot;
@@ -41,7 +41,7 @@ fn admits(alloc: Global, specifiers: &[u8], bytes: &[u8]) -> Result<bool, Refusa
 pub extern "C" fn pylock_admits(alloc: Global, set: &[u8], version: &[u8], admits: &mut bool) -> i32
     ensures { Tells (admits_of set.now version.now) admits.old admits.new result }
 {
-    tell(self::admits(alloc, set, version), admits)
+    tell_value(self::admits(alloc, set, version), admits)
 }
 
 fn name(alloc: Global, bytes: &[u8]) -> Result<Vec<u8>, Refusal>
@@ -61,7 +61,7 @@ fn is_name_text(bytes: &[u8]) -> Result<bool, Refusal>
 pub extern "C" fn pylock_is_name(text: &[u8], is_name: &mut bool) -> i32
     ensures { Tells (is_name_of text.now) is_name.old is_name.new result }
 {
-    tell(is_name_text(text), is_name)
+    tell_value(is_name_text(text), is_name)
 }
 
 /// The normal form of the text as a name.
@@ -83,7 +83,7 @@ fn parsed(alloc: Global, bytes: &[u8]) -> Result<Object, Refusal>
 pub extern "C" fn pylock_set_parse(alloc: Global, set: &mut Slot, text: &[u8]) -> i32
     ensures { Tells (parsed text.now) (object set.old) (object set.new) result }
 {
-    keep(alloc, parsed(alloc, text), set)
+    keep_object(alloc, parsed(alloc, text), set)
 }
 
 fn set_in(kept: &Option<Box<Object>>) -> Result<&SpecifierSet, Refusal>
@@ -139,7 +139,7 @@ pub extern "C" fn pylock_set_admits(
     ensures told { Tells (admits_in (object set.old) version.now) admits.old admits.new result }
 {
     let kept = set.take(alloc);
-    let code = tell(admits_in(alloc, &kept, version), admits);
+    let code = tell_value(admits_in(alloc, &kept, version), admits);
     set.put(alloc, kept);
     code
 }

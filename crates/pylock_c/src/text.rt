@@ -9,7 +9,7 @@ ghost use Rattle.pylock_c.specs.declared.refusal.Refusal.{Refusal as Refused};
 ghost use Rattle.pylock_c.specs.declared.refusal.Refusal.TheVariants.{Memory};
 ghost use Rattle.pylock_c.specs.Text.{kept_text, text_argument, text_in, text_length};
 
-use crate::answer::{keep, tell, write};
+use crate::answer::{keep_object, tell_value, write};
 use crate::object::{Bytes, Object};
 use crate::refusal::Refusal;
 use crate::slot::Slot;
@@ -33,7 +33,7 @@ pub(crate) fn keep_text(alloc: Global, outcome: Result<Vec<u8>, Refusal>, slot: 
         → Gives Memory (λ bytes. bytes.items) outcome definition
         → Tells (kept_text definition) (object slot.old) (object slot.new) result }
 {
-    keep(alloc, as_object(outcome), slot)
+    keep_object(alloc, as_object(outcome), slot)
 }
 
 fn as_object(outcome: Result<Vec<u8>, Refusal>) -> Result<Object, Refusal>
@@ -67,7 +67,7 @@ pub extern "C" fn pylock_text_length(alloc: Global, text: &mut Slot, length: &mu
     ensures told { Tells (text_length (object text.old)) length.old length.new result }
 {
     let kept = text.take(alloc);
-    let code = tell(text_length(&kept), length);
+    let code = tell_value(text_length(&kept), length);
     text.put(alloc, kept);
     code
 }

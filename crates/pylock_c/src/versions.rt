@@ -70,10 +70,8 @@ fn push_versions(alloc: Global, out: &mut Vec<u8>, version: &Version) -> Result<
 {
     push_field(out, Some(version.text()))?;
     push_next_field(out, Some(public_part(alloc, version)?.text()))?;
-    push_next_field(
-        out,
-        Some(base(alloc, version.epoch(), version.release())?.text()),
-    )
+    let base = base(alloc, version.epoch(), version.release())?;
+    push_next_field(out, Some(base.text()))
 }
 
 /// Pushes the others behind them.

@@ -105,14 +105,7 @@ module _ (wheels sources : List (Bor Text)) (wheel source : ℕ) (d : Bor Text) 
         (whole.0, whole.1, pushed-before start rest whole.0 before after choice x pushed is whole.2);
   }
 
--- none of two options is pushed yet, and all of them
-pub none-merged : (wheels sources : List (Bor Text)) (choices : List Choice) → Merging wheels sources 0 0 (map option_words choices) choices
-none-merged wheels sources choices = record {
-  wheel_within = omega arith;
-  source_within = omega arith;
-  goes_on = λ rest whole. (rest, whole, refl);
-}
-
+-- all of two options were pushed
 pub all-merged : (wheels sources : List (Bor Text)) (wheel source : ℕ) (start : List OptionWords) (choices : List Choice) (rows : List Row)
     → Merging wheels sources wheel source start choices → length wheels ≤ wheel → length sources ≤ source
     → map (λ text. text.now) wheels ≡ texts_at (codes "only-binary") rows → map (λ text. text.now) sources ≡ texts_at (codes "no-binary") rows

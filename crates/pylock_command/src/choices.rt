@@ -124,39 +124,30 @@ pub(crate) fn choices_of<'a>(
 }
 
 /// Pushes what the words say of extras.
-fn push_on_extras<'a>(
-    choices: &mut Vec<Choice<'a>>,
-    found: &ArgMatches<'a>,
-) -> Result<(), AllocError>
-    ensures { OnOk result (map option_words choices.new.items
-        ≡ map option_words choices.old.items ++ on_extras (rows_of (found_of found.now))) }
+fn push_on_extras<'a>(list: &mut Vec<Choice<'a>>, found: &ArgMatches<'a>) -> Result<(), AllocError>
+    ensures { OnOk result (map option_words list.new.items
+        ≡ map option_words list.old.items ++ on_extras (rows_of (found_of found.now))) }
 {
-    push_flag(choices, found, "all-extras", Choice::AllExtras)?;
-    push_texts(choices, found, "extra", |name| Choice::Extra(name))
+    push_flag(list, found, "all-extras", Choice::AllExtras)?;
+    push_texts(list, found, "extra", |name| Choice::Extra(name))
 }
 
 /// Pushes what the words say of dependency groups.
-fn push_on_groups<'a>(
-    choices: &mut Vec<Choice<'a>>,
-    found: &ArgMatches<'a>,
-) -> Result<(), AllocError>
-    ensures { OnOk result (map option_words choices.new.items
-        ≡ map option_words choices.old.items ++ on_groups (rows_of (found_of found.now))) }
+fn push_on_groups<'a>(list: &mut Vec<Choice<'a>>, found: &ArgMatches<'a>) -> Result<(), AllocError>
+    ensures { OnOk result (map option_words list.new.items
+        ≡ map option_words list.old.items ++ on_groups (rows_of (found_of found.now))) }
 {
-    push_flag(choices, found, "no-default-groups", Choice::NoDefaultGroups)?;
-    push_flag(choices, found, "all-groups", Choice::AllGroups)?;
-    push_texts(choices, found, "group", |name| Choice::Group(name))?;
-    push_texts(choices, found, "no-group", |name| Choice::NoGroup(name))
+    push_flag(list, found, "no-default-groups", Choice::NoDefaultGroups)?;
+    push_flag(list, found, "all-groups", Choice::AllGroups)?;
+    push_texts(list, found, "group", |name| Choice::Group(name))?;
+    push_texts(list, found, "no-group", |name| Choice::NoGroup(name))
 }
 
 /// Pushes what the words say of files, in their order.
-fn push_on_files<'a>(
-    choices: &mut Vec<Choice<'a>>,
-    found: &ArgMatches<'a>,
-) -> Result<(), AllocError>
+fn push_on_files<'a>(list: &mut Vec<Choice<'a>>, found: &ArgMatches<'a>) -> Result<(), AllocError>
     ensures { OnOk result ((on_files : List OptionWords)
         × AreOnFiles (rows_of (found_of found.now)) on_files
-        × (map option_words choices.new.items ≡ map option_words choices.old.items ++ on_files)) }
+        × (map option_words list.new.items ≡ map option_words list.old.items ++ on_files)) }
 {
     let wheels = texts(found, "only-binary");
     let sources = texts(found, "no-binary");
@@ -166,10 +157,10 @@ fn push_on_files<'a>(
     while wheel < wheels.len() || source < sources.len() {
         let is_first = wheel_positions.get(wheel) < source_positions.get(source);
         if source == sources.len() || (wheel < wheels.len() && is_first) {
-            choices.push(Choice::OnlyBinary(wheels[wheel]))?;
+            list.push(Choice::OnlyBinary(wheels[wheel]))?;
             wheel += 1;
         } else {
-            choices.push(Choice::NoBinary(sources[source]))?;
+            list.push(Choice::NoBinary(sources[source]))?;
             source += 1;
         }
     }
@@ -178,17 +169,17 @@ fn push_on_files<'a>(
 
 /// Pushes an option without a text, if the words have it.
 fn push_flag<'a>(
-    choices: &mut Vec<Choice<'a>>,
+    list: &mut Vec<Choice<'a>>,
     found: &ArgMatches<'a>,
     name: &str,
     choice: Choice<'a>,
 ) -> Result<(), AllocError>
     requires { option_words choice ≡ (name.now, None) }
-    ensures { OnOk result (map option_words choices.new.items
-        ≡ map option_words choices.old.items ++ flag_of name.now (rows_of (found_of found.now))) }
+    ensures { OnOk result (map option_words list.new.items
+        ≡ map option_words list.old.items ++ flag_of name.now (rows_of (found_of found.now))) }
 {
     if has_flag(found, name) {
-        choices.push(choice)?;
+        list.push(choice)?;
     }
     Ok(())
 }
@@ -205,7 +196,7 @@ pub(crate) fn has_flag(found: &ArgMatches<'_>, name: &str) -> bool
 
 /// Pushes an option with each text that the words give it.
 fn push_texts<'a, F: Fn(&'a str) -> Choice<'a>>(
-    choices: &mut Vec<Choice<'a>>,
+    list: &mut Vec<Choice<'a>>,
     found: &ArgMatches<'a>,
     name: &str,
     choice: F,
@@ -213,11 +204,11 @@ fn push_texts<'a, F: Fn(&'a str) -> Choice<'a>>(
     requires called { F.IsAlwaysCallable choice }
     requires named { (text : _) (chosen : Choice) → F.post choice text chosen
         → option_words chosen ≡ (name.now, Some text.now) }
-    ensures { OnOk result (map option_words choices.new.items
-        ≡ map option_words choices.old.items ++ texts_of name.now (rows_of (found_of found.now))) }
+    ensures { OnOk result (map option_words list.new.items
+        ≡ map option_words list.old.items ++ texts_of name.now (rows_of (found_of found.now))) }
 {
     for text in texts(found, name) {
-        choices.push(choice(*text))?;
+        list.push(choice(*text))?;
     }
     Ok(())
 }

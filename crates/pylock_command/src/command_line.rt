@@ -64,7 +64,6 @@ enum NoTask {
 }
 
 impl From<AllocError> for NoTask {
-    ghost use Rattle.pylock_command.specs.Subcommand.{with_usage};
     ghost use Rattle.pylock_command.specs.declared.command_line.NoTask.TheVariants.{Memory};
 
     ghost from_gives = { λ _ none. none ≡ Memory };

@@ -1,10 +1,6 @@
-//! The command line of `pylock`, read by `clap`: from words to a task. The help texts stand here
-//! too (`src/help.rt`), and the list of the subcommands (`src/subcommand.rt`).
-//!
-//! It stands on `clap`, and knows nothing of locks: `pylock_program` does what the task says. Begin
-//! with [`command`], of the words, of which the first is the program's name. It gives the [`Task`],
-//! whose texts are lent from the words. Where clap refuses the words, or they ask for help or the
-//! version, its error has the text, the stream and the status.
+//! The command line of `pylock`, read by `clap`: from words, of which the first is the program's
+//! name, to a [`Task`]. Where clap refuses the words, or they ask for help or the version, its
+//! error has the text, the stream and the status.
 //!
 //! The task of some words, from `crates/cases/src/words.rt`:
 //!

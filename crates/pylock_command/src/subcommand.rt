@@ -4,7 +4,7 @@ ghost use Rattle.clap.specs.Words.{app_of, new_app, rule_of};
 ghost use Rattle.clap.specs.declared.builder.command.Command.TheViews.{out-Command as fields_of};
 ghost use Rattle.pylock_command.specs.Subcommand.{positional_rule, subcommand, subcommand_app};
 ghost use Rattle.pylock_command.specs.Subcommand.{with_positional};
-ghost use Rattle.pylock_command.specs.Commands.{Adds, IsCommand, IsLocal};
+ghost use Rattle.pylock_command.specs.Commands.{IsCommand, IsLocal};
 
 use crate::choices::{with_argument, with_choices};
 use crate::form::with_json;

@@ -1,7 +1,8 @@
 -- What is made of parts without floats has none.
-use Rattle.std.proofs.Common.{◌≡◌, ℕ, Bool, true, false, List, [], ◌∷◌, ◌++◌, refl, Less, Equal, Greater}
+use Rattle.std.proofs.Common.{◌≡◌, ℕ, false, List, [], ◌∷◌, ◌++◌, refl, Less, Equal, Greater}
+use Rattle.std.proofs.lemmas.Bool.{or_from, or_parts}
 use Rattle.std.proofs.lemmas.List.Elements.{All-head, All-tail}
-use Rattle.std.specs.Prelude.{◌||◌, All, Some, None}
+use Rattle.std.specs.Prelude.{All, Some, None}
 use Rattle.std.specs.Cmp.Lexicographic.{slice_cmp}
 use Rattle.std.specs.Ordering.{match_ordering, nat_cmp}
 use Rattle.std.specs.declared.cmp.Ordering.{Ordering}
@@ -10,18 +11,6 @@ use Rattle.serde_json.specs.Data.{Data, Members, no_members, member, put}
 use Rattle.serde_json.specs.View.{items_view, view}
 use Rattle.serde_json.specs.Written.{has_float, items_have_float, members_have_float}
 use Rattle.serde_json.specs.declared.value.Value.{Value}
-
-both : (a b : Bool) → a ≡ false → b ≡ false → (a || b) ≡ false
-both true b left right = left
-both false b left right = right
-
-left_of : (a b : Bool) → (a || b) ≡ false → a ≡ false
-left_of true b e = e
-left_of false b e = refl
-
-right_of : (a b : Bool) → (a || b) ≡ false → b ≡ false
-right_of true b e = absurd (let no : true ≡ false = e in cc)
-right_of false b e = e
 
 ordered : (o : Ordering) (a b c : Members) → members_have_float a ≡ false
     → members_have_float b ≡ false → members_have_float c ≡ false
@@ -33,23 +22,22 @@ ordered Greater a b c ha hb hc = hc
 -- a value is put at a key
 pub put_has_none : (k : List ℕ) (d : Data) (ms : Members) → has_float d ≡ false
     → members_have_float ms ≡ false → members_have_float (put k d ms) ≡ false
-put_has_none k d no_members value members = both (has_float d) false value refl
+put_has_none k d no_members value members = or_from (has_float d) false value refl
 put_has_none k d (member l e ms) value members =
-    let first = left_of (has_float e) (members_have_float ms) members in
-    let rest = right_of (has_float e) (members_have_float ms) members in
+    let (first, rest) = or_parts (has_float e) (members_have_float ms) members in
     ordered (slice_cmp nat_cmp k l) (member k d (member l e ms)) (member l d ms)
     (member l e (put k d ms))
-    (both (has_float d) (members_have_float (member l e ms)) value members)
-    (both (has_float d) (members_have_float ms) value rest)
-    (both (has_float e) (members_have_float (put k d ms)) first (put_has_none k d ms value rest))
+    (or_from (has_float d) (members_have_float (member l e ms)) value members)
+    (or_from (has_float d) (members_have_float ms) value rest)
+    (or_from (has_float e) (members_have_float (put k d ms)) first (put_has_none k d ms value rest))
 
 -- a value is pushed after a list
 pub push_has_none : (vs : List Value) (v : Value) → items_have_float (items_view vs) ≡ false
     → has_float (view v) ≡ false → items_have_float (items_view (vs ++ v ∷ [])) ≡ false
-push_has_none [] v items value = both (has_float (view v)) false value refl
+push_has_none [] v items value = or_from (has_float (view v)) false value refl
 push_has_none (first ∷ vs) v items value =
-    both (has_float (view first)) _ (left_of (has_float (view first)) _ items)
-    (push_has_none vs v (right_of (has_float (view first)) _ items) value)
+    let (one, rest) = or_parts (has_float (view first)) _ items in
+    or_from (has_float (view first)) _ one (push_has_none vs v rest value)
 
 -- a row is put, and rows are
 row_has_none : (row : Row) (ms : Members) → HasNone row → members_have_float ms ≡ false
@@ -71,7 +59,7 @@ pub list_has_none : (ds : List Data) → All (λ d. has_float d ≡ false) ds
     → has_float (list_of ds) ≡ false
 list_has_none [] values = refl
 list_has_none (d ∷ ds) values =
-    both (has_float d) (items_have_float (items_of ds)) (All-head (λ (x : Data). has_float x ≡ false) d ds values)
+    or_from (has_float d) (items_have_float (items_of ds)) (All-head (λ (x : Data). has_float x ≡ false) d ds values)
     (list_has_none ds (All-tail (λ (x : Data). has_float x ≡ false) d ds values))
 
 pub texts_have_none : (texts : List (List ℕ)) → has_float (texts_of texts) ≡ false

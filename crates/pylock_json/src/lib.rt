@@ -1,10 +1,4 @@
-//! JSON documents that are built member by member, and whose text is that of `serde_json`.
-//!
-//! It is for whoever prints an answer as JSON. It stands on `serde_json` alone, and knows nothing
-//! of locks. A member that is absent is left out, and no number is a float.
-//!
-//! Begin with [`Object::new`], put its members, and take its text with [`document`], or push it
-//! with [`push_document`]. From `crates/pylock_program_tests/src/json.rt`:
+//! JSON documents that are built member by member. From `crates/pylock_program_tests/src/json.rt`:
 //!
 //! ```rust
 //! let mut object = Object::new(alloc);
@@ -14,10 +8,6 @@
 //! let text = object.into_json().to_text(alloc)?;
 //! assert_eq!(rt; text.as_str(), "{\"a\":\"x\",\"b\":2}");
 //! ```
-//!
-//! Its `specs/` has the definitions for those who say what a document shows: `Json` says what an
-//! object of rows is, each a key with a value that may be absent. [`laws`] says that no float comes
-//! in.
 #![tactic(auto)]
 
 mod json;

@@ -1,12 +1,5 @@
-//! What a person is told beside what is printed: where a refused lock or environment is wrong, and
-//! texts that are safe to show at a terminal. It is told on standard error, in a line each.
-//!
-//! It stands on `pylock_readers`, `toml` and `serde_json`. It is called once a text is refused, and
-//! reads that text again; so what is right is read no slower. No contract says what a message is.
-//!
-//! Begin with [`lock_message`] and [`environment_message`], of the name of a file and its bytes;
-//! they give `None` where nothing is wrong. [`push_visible`] writes a text with its control
-//! characters as `\u{..}`.
+//! What a person is told on standard error, in a line each: where a refused lock or environment is
+//! wrong, or `None` where nothing is; and texts that are safe to show at a terminal.
 //!
 //! The line on a refused lock, or `none`, from `crates/cases/src/messages.rt`:
 //!

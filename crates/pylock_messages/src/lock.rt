@@ -94,12 +94,9 @@ fn is_name_text(value: &Value) -> bool {
     }
 }
 
-fn wrong_environments(
-    alloc: Global,
-    document: &Table,
-) -> Result<Option<WrongPart<'_>>, AllocError> {
-    let Some(Value::Array(markers)) = document.get("environments") else {
-        return Ok(Some(WrongPart::key(document, "environments", ValueForm::Markers)));
+fn wrong_environments(alloc: Global, lock: &Table) -> Result<Option<WrongPart<'_>>, AllocError> {
+    let Some(Value::Array(markers)) = lock.get("environments") else {
+        return Ok(Some(WrongPart::key(lock, "environments", ValueForm::Markers)));
     };
     for (at, marker) in markers.iter().enumerate() {
         if !is_marker(alloc, marker)? {

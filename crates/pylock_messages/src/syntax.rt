@@ -5,13 +5,9 @@ use std::alloc::{AllocError, Global};
 /// The byte order mark that a text may begin with, in UTF-8.
 const BYTE_ORDER_MARK: &[u8] = b"\xEF\xBB\xBF";
 
-/// That the byte at this offset is the first that is no UTF-8.
-pub(crate) fn not_text(
-    alloc: Global,
-    name: &str,
-    offset: usize,
-) -> Result<Option<String>, AllocError> {
-    Ok(Some(format!(in alloc; "{name}: byte {offset} is not UTF-8 text")?))
+/// That the byte at this place, from 0, is the first that is no UTF-8.
+pub(crate) fn not_text(alloc: Global, name: &str, at: usize) -> Result<Option<String>, AllocError> {
+    Ok(Some(format!(in alloc; "{name}: byte {at} is not UTF-8 text")?))
 }
 
 /// Where the text is no TOML, and what `toml` says of it.

@@ -1,13 +1,5 @@
-//! The commands of the program `pylock`, but for its words and its host: `plan` and `explain` with
-//! their options, the replies of the one-shot commands, and what a person is told besides.
-//!
-//! It stands on all the crates of pylock below it. The host gives it files ([`pylock_run::Files`])
-//! and, for standard input and each output, a source or a sink of bytes of `pylock_run`, where
-//! `select` is, too.
-//!
-//! Begin with [`perform`], which does a whole task. [`show_request`] does `plan` and `explain`,
-//! [`query`] the one-shot commands, and [`push_view`] and [`push_reply`] push what they print onto
-//! bytes.
+//! The commands of the program `pylock`. The host gives it files ([`pylock_run::Files`]) and, for
+//! standard input and each output, a source or a sink of bytes of `pylock_run`.
 //!
 //! A whole task over texts in memory, from `crates/cases/src/plans.rt`:
 //!

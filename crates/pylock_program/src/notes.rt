@@ -18,11 +18,7 @@ pub(crate) fn tell<N: Sink>(alloc: Global, notes: &mut N, text: &str) {
 }
 
 /// The same of a text that may have failed for memory.
-pub(crate) fn tell_if_made<N: Sink>(
-    alloc: Global,
-    notes: &mut N,
-    text: Result<String, AllocError>,
-) {
+pub(crate) fn tell_made<N: Sink>(alloc: Global, notes: &mut N, text: Result<String, AllocError>) {
     if let Ok(text) = text {
         tell(alloc, notes, text.as_str());
     }

@@ -1,7 +1,7 @@
 //! The replies of the one-shot commands.
 
 ghost use Rattle.std.specs.Prelude.{◌≡◌, ◌++◌, ◌∷◌, IfOk, OnOk, Ok, Some};
-ghost use Rattle.std.specs.Prelude.{[], codes, map, string_bytes};
+ghost use Rattle.std.specs.Prelude.{[], map, string_bytes};
 ghost use Rattle.pyver_core.specs.Name.{normal_name};
 ghost use Rattle.pylock_program.specs.Reply.{reply, reply_of, version_answer, match_answer};
 ghost use Rattle.pylock_program.specs.Reply.{admits_answer, audit_answer, files_answer};
@@ -51,8 +51,8 @@ pub fn push_reply(alloc: Global, out: &mut Vec<u8>, query: Query<'_>) -> Result<
     ensures { Pushes out.old.items out.new.items (reply query.entry) result }
 {
     match query {
-        Query::Files(lock, form) => push_files_of(alloc, out, form, lock),
-        Query::Audit(lock, form) => push_audit_of(alloc, out, form, lock),
+        Query::Files(lock, form) => push_listing(alloc, out, form, lock),
+        Query::Audit(lock, form) => push_audit(alloc, out, form, lock),
         Query::Version(text) => push_version(alloc, out, text),
         Query::Match(set, version) => push_match(alloc, out, set, version),
         Query::Name(text) => push_name(alloc, out, text),
@@ -62,12 +62,7 @@ pub fn push_reply(alloc: Global, out: &mut Vec<u8>, query: Query<'_>) -> Result<
     }
 }
 
-fn push_files_of(
-    alloc: Global,
-    out: &mut Vec<u8>,
-    form: Form,
-    lock: &[u8],
-) -> Result<u8, AllocError>
+fn push_listing(alloc: Global, out: &mut Vec<u8>, form: Form, lock: &[u8]) -> Result<u8, AllocError>
     ensures { Pushes out.old.items out.new.items
         (reply_of (files_answer form lock.now)) result }
 {
@@ -110,12 +105,7 @@ fn push_refused_lock(
     Ok(REFUSED)
 }
 
-fn push_audit_of(
-    alloc: Global,
-    out: &mut Vec<u8>,
-    form: Form,
-    lock: &[u8],
-) -> Result<u8, AllocError>
+fn push_audit(alloc: Global, out: &mut Vec<u8>, form: Form, lock: &[u8]) -> Result<u8, AllocError>
     ensures { Pushes out.old.items out.new.items
         (reply_of (audit_answer form lock.now)) result }
 {

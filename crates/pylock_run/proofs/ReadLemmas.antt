@@ -1,5 +1,5 @@
 -- How far the reading of a whole source has come.
-use Rattle.std.proofs.Common.{◌≡◌, ℕ, ◌+◌, ◌-◌, ◌<◌, ◌≤◌, List, [], ◌++◌, length, take, sym, ap, ◌∙◌, subst, length-append, arith, Result, Ok, Err, IfOk, OnErr, Some}
+use Rattle.std.proofs.Common.{◌≡◌, ℕ, ◌+◌, ◌-◌, ◌<◌, ◌≤◌, List, [], ◌++◌, length, take, ap, ◌∙◌, subst, length-append, arith, Result, Ok, Err, IfOk, OnErr, Some}
 use Rattle.std.proofs.KnownBytes.{Consumes-trans}
 use Rattle.std.specs.Io.KnownBytes.{Consumes, ReadConsumes}
 use Rattle.pylock_run.specs.Stream.{SourceValue, one_more}
@@ -13,19 +13,13 @@ pub record HasRead (limit : ℕ) (old new : SourceValue) (bytes : List ℕ) : Ty
   pub within : length bytes ≤ limit
   pub counted : new.failures ≡ old.failures
 
-within_after : (limit before more : ℕ) → before ≤ limit → more ≤ limit - before → before + more ≤ limit
-within_after limit before more fits rest = omega arith
-
-past_after : (limit before more : ℕ) → before ≤ limit → limit - before < more → limit < before + more
-past_after limit before more fits rest = omega arith
-
 -- what follows the bytes read so far, within what is left of the limit
 GivesWithin-after : (limit : ℕ) (old mid new : SourceValue) (bytes : List ℕ) → HasRead limit old mid bytes
     → GivesWithin (limit - length bytes) mid new → GivesWithin limit old new
 GivesWithin-after limit old mid new bytes read more = record {
   given = bytes ++ more.given;
   gave = Consumes-trans old.rest mid.rest new.rest bytes more.given read.gave more.gave;
-  within = subst (λ n. n ≤ limit) (sym (length-append bytes more.given)) (within_after limit (length bytes) (length more.given) read.within more.within);
+  within = omega (arith, length-append bytes more.given, read.within, more.within);
 }
 
 GivesPast-after : (limit : ℕ) (old mid new : SourceValue) (bytes : List ℕ) → HasRead limit old mid bytes
@@ -33,7 +27,7 @@ GivesPast-after : (limit : ℕ) (old mid new : SourceValue) (bytes : List ℕ) �
 GivesPast-after limit old mid new bytes read more = record {
   given = bytes ++ more.given;
   gave = Consumes-trans old.rest mid.rest new.rest bytes more.given read.gave more.gave;
-  past = subst (λ n. limit < n) (sym (length-append bytes more.given)) (past_after limit (length bytes) (length more.given) read.within more.past);
+  past = omega (arith, length-append bytes more.given, read.within, more.past);
 }
 
 cause_after : (limit : ℕ) (old mid new : SourceValue) (bytes : List ℕ) (fault : FileFault) → HasRead limit old mid bytes

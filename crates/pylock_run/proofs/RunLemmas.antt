@@ -29,14 +29,11 @@ HasCause-map step whole Write read write input memory cause = write cause
 HasCause-map step whole Input read write input memory cause = input cause
 HasCause-map step whole Memory read write input memory cause = memory cause
 
-past_limit : (complete begun limit : ℕ) → complete ≡ limit → complete + 1 ≤ begun → limit < begun
-past_limit complete begun limit same past = omega arith
-
 -- no byte of the piece could be taken
 pub feed_fault_from_take : (sink : SinkValue) (at : EditingValue) (bytes : List ℕ) (fault : RunFault) → 0 < length bytes → IsTakeFault at.complete fault
     → IsFeedFault sink sink (lines_begun (editing_after at bytes)) fault
 feed_fault_from_take sink at bytes fault some why =
-    HasCause-map _ _ fault (λ none. none) (λ none. absurd none) (λ complete. (past_limit at.complete _ most_lines complete (begun_past at bytes some), refl)) (λ memory. refl) why
+    HasCause-map _ _ fault (λ none. none) (λ none. absurd none) (λ complete. (omega (arith, complete, begun_past at bytes some), refl)) (λ memory. refl) why
 
 -- a prefix of what a part of the piece prints is a prefix of what the piece prints
 pub piece_prefix : (old new : SinkValue) (at : EditingValue) (bytes out taken : List ℕ) (n : ℕ) → taken ≡ out ++ bytes_text at (take n bytes)
@@ -133,15 +130,12 @@ held-more sink mid sink' start at xs ys before there after =
 done-more : (start at next : EditingValue) (xs ys : List ℕ) → at ≡ editing_after start xs → next ≡ editing_after at ys → next ≡ editing_after start (xs ++ ys)
 done-more start at next xs ys before after = after ∙ ap (λ a. editing_after a ys) before ∙ sym (editing_after-append start xs ys)
 
-size-more : (xs ys : List ℕ) (a b c : ℕ) → b ≡ a + length xs → c ≡ b + length ys → c ≡ a + length (xs ++ ys)
-size-more xs ys a b c before after = omega (arith, length-append xs ys)
-
 pub Edited-more : (source s source' : SourceValue) (sink k sink' : SinkValue) (start at next : EditingValue) (a b c : ℕ)
     → Edited source s sink k start at a b → Edited s source' k sink' at next b c → Edited source source' sink sink' start next a c
 Edited-more source s source' sink k sink' start at next a b c before after = record {
   given = before.given ++ after.given;
   gave = Consumes-trans source.rest s.rest source'.rest before.given after.given before.gave after.gave;
-  size = size-more before.given after.given a b c before.size after.size;
+  size = omega (arith, length-append before.given after.given, before.size, after.size);
   editing = done-more start at next before.given after.given before.editing after.editing;
   writes = writes-more sink k sink' start at before.given after.given before.writes before.editing after.writes;
   reads = after.reads ∙ before.reads;

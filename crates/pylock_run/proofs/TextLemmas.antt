@@ -2,21 +2,18 @@
 use Rattle.std.proofs.Common.{◌≡◌, ℕ, List, [], ◌∷◌, ◌++◌, false, cond, Some, refl, ap, sym, ◌∙◌, append_assoc, append-nil, map, eqb, ◌&&◌}
 use Rattle.std.specs.List.{join_with_byte}
 use Rattle.std.specs.Str.{bytes_eq}
-use Rattle.std.specs.Prelude.{codes}
+use Rattle.std.specs.Prelude.{codes, Option, None, option_map, slice_get}
 use Rattle.std.proofs.Math.Bool.{and-false}
 use Rattle.std.proofs.lemmas.List.Concat.{flat_map-append}
 use Rattle.pylock_run.specs.Text.Field.{escape_byte, escaped_text, field}
-use Rattle.pylock_run.specs.Text.Plan.{hash_text, hashes_text}
+use Rattle.pylock_run.specs.Text.Plan.{hash_text, hashes_text, vcs_fields, directory_fields, archive_fields, file_fields, source_fields}
 use Rattle.pylock_run.specs.Inner.Hashes.{escaped_hash, more_hashes}
-use Rattle.std.specs.Prelude.{Option, None, option_map}
 use Rattle.std.specs.Option.{option_map_or}
 use Rattle.pylock_readers.specs.Entry.{EntryValue}
 use Rattle.pylock_core.specs.Session.Picks.{SourceValue, OfVcs, OfDirectory, OfArchive, OfWheel, OfSdist, source_in}
 use Rattle.pylock_core.specs.declared.answer.PickSource.{PickSource}
 use Rattle.pylock_core.specs.declared.answer.PickSource.TheVariants as source
 use Rattle.pylock_run.specs.Text.Picked.{picked_fields}
-use Rattle.pylock_run.specs.Text.Plan.{vcs_fields, directory_fields, archive_fields, file_fields, source_fields}
-use Rattle.std.specs.Prelude.{slice_get}
 
 -- a text with another mark in it is not `-`
 not_dash : (mark : ℕ) (prefix rest : List ℕ) → eqb mark 45 ≡ false → bytes_eq (prefix ++ mark ∷ rest) (45 ∷ []) ≡ false

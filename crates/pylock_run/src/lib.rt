@@ -1,13 +1,6 @@
 //! Runs of pylock: edit lines, the lines of an answer and of a refusal, and the edits of a session
-//! by all of an input, over sources and sinks of bytes.
-//!
-//! It stands on `pylock_core`, whose sessions it edits. The host gives it a [`Source`] of bytes and
-//! a [`Sink`]; so it runs over memory too ([`Pieces`], [`Room`]), where its contracts say each
-//! byte.
-//!
-//! Begin with [`run`], whose contract is the headline of `docs/CONTRACTS.md`: the first answer, and
-//! an answer after each edit line. [`open`] starts the session of a lock and an environment, and
-//! [`read_line`] reads one line. The commands that stand on this are in `pylock_program`.
+//! by all of an input. The host gives a [`Source`] of bytes and a [`Sink`]; over memory
+//! ([`Pieces`], [`Room`]) the contracts say each byte. The commands are in `pylock_program`.
 //!
 //! A run over an input in memory, from `crates/cases/src/runs.rt`:
 //!

@@ -18,15 +18,15 @@ const ENTRIES: u64 = 60;
 const PAIRS: u64 = 60;
 
 /// Runs so many sessions, each on a lock of its own.
-pub(crate) fn make(alloc: Global, seed: u64, rounds: u64) -> anyhow::Result<u64> {
+pub(crate) fn run_sessions(alloc: Global, seed: u64, rounds: u64) -> anyhow::Result<u64> {
     let mut digest = Digest::new();
     for round in 0..rounds {
-        make_one(alloc, Random::new(seed, round), &mut digest)?;
+        run_session(alloc, Random::new(seed, round), &mut digest)?;
     }
     Ok(digest.end())
 }
 
-fn make_one(alloc: Global, random: Random, digest: &mut Digest) -> anyhow::Result<()> {
+fn run_session(alloc: Global, random: Random, digest: &mut Digest) -> anyhow::Result<()> {
     let lock = lock(alloc, random)?;
     let script = script(alloc, random)?;
     let environment = environment(alloc, random, Platform::Linux, 12)?;

@@ -16,17 +16,17 @@ const ENTRIES: [u64; 3] = [300, 1_500, 4_000];
 const LINES: u64 = 12_000;
 
 /// Runs so many sessions, each on a lock of its own.
-pub(crate) fn make(alloc: Global, seed: u64, rounds: u64) -> anyhow::Result<u64> {
+pub(crate) fn run_sessions(alloc: Global, seed: u64, rounds: u64) -> anyhow::Result<u64> {
     let mut digest = Digest::new();
     for round in 0..rounds {
         let entries = ENTRIES.get((round % 3) as usize).copied().unwrap_or(1);
         let lines = if rounds == 1 { LINES / 50 } else { LINES };
-        make_one(alloc, Random::new(seed, round), entries, lines, &mut digest)?;
+        run_session(alloc, Random::new(seed, round), entries, lines, &mut digest)?;
     }
     Ok(digest.end())
 }
 
-fn make_one(
+fn run_session(
     alloc: Global,
     random: Random,
     entries: u64,

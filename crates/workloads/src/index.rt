@@ -23,7 +23,7 @@ const WHEELS: u64 = 6;
 const REQUIREMENTS: u64 = 40;
 
 /// Reads the pages of so many projects.
-pub(crate) fn read(alloc: Global, seed: u64, projects: u64) -> anyhow::Result<u64> {
+pub(crate) fn read_projects(alloc: Global, seed: u64, projects: u64) -> anyhow::Result<u64> {
     let random = Random::new(seed, 0);
     let text = environment(alloc, random, Platform::Linux, 12)?;
     let (environment, tags) = match read_environment(alloc, text.as_bytes()) {

@@ -79,12 +79,12 @@ fn do_one<R: Print + AllocGlobal>(
 /// Does the job of this name, and answers its digest.
 fn job(alloc: Global, name: &str, seed: u64, sizes: Sizes) -> anyhow::Result<u64> {
     match name {
-        "plans" => plans::make(alloc, seed, sizes.plans),
-        "edits" => edits::make(alloc, seed, sizes.edits),
-        "matrix" => matrix::make(alloc, seed, sizes.matrix),
-        "index" => index::read(alloc, seed, sizes.index),
-        "audits" => audits::make(alloc, seed, sizes.audits),
-        "awkward" => awkward::make(alloc, seed, sizes.awkward),
+        "plans" => plans::plan_locks(alloc, seed, sizes.plans),
+        "edits" => edits::run_sessions(alloc, seed, sizes.edits),
+        "matrix" => matrix::run_sessions(alloc, seed, sizes.matrix),
+        "index" => index::read_projects(alloc, seed, sizes.index),
+        "audits" => audits::ask_locks(alloc, seed, sizes.audits),
+        "awkward" => awkward::run_sessions(alloc, seed, sizes.awkward),
         _ => Err(anyhow::anyhow!("no job is named {name}")),
     }
 }

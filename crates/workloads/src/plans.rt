@@ -14,15 +14,15 @@ use std::alloc::{AllocError, Global};
 const ENTRIES: [u64; 6] = [120, 400, 60, 1_000, 250, 2_000];
 
 /// Plans so many locks, each in an environment of its own.
-pub(crate) fn make(alloc: Global, seed: u64, rounds: u64) -> anyhow::Result<u64> {
+pub(crate) fn plan_locks(alloc: Global, seed: u64, rounds: u64) -> anyhow::Result<u64> {
     let mut digest = Digest::new();
     for round in 0..rounds {
-        make_one(alloc, Random::new(seed, round), round, &mut digest)?;
+        plan_lock(alloc, Random::new(seed, round), round, &mut digest)?;
     }
     Ok(digest.end())
 }
 
-fn make_one(alloc: Global, random: Random, round: u64, digest: &mut Digest) -> anyhow::Result<()> {
+fn plan_lock(alloc: Global, random: Random, round: u64, digest: &mut Digest) -> anyhow::Result<()> {
     let lock = lock(alloc, random, round)?;
     let platform = Platform::of(round);
     let environment = environment(alloc, random, platform, 9 + round % 5)?;

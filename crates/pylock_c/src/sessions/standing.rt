@@ -10,7 +10,7 @@ ghost use Rattle.pylock_c.specs.Sessions.{judged_in, numbers_text, session_in, s
 ghost use Rattle.pylock_c.specs.Slot.{kept_object, object};
 ghost use Rattle.pylock_c.specs.declared.refusal.Refusal.TheVariants.{Memory};
 
-use crate::answer::{keep, keep_with};
+use crate::answer::{keep_object, keep_with};
 use crate::answers::form_of;
 use crate::object::{Bytes, Object};
 use crate::refusal::Refusal;
@@ -47,7 +47,7 @@ fn shown_in(
 }
 
 /// Leaves what is printed of a session in a slot, and whether its answer is a plan.
-fn show(
+fn show_session(
     alloc: Global,
     view: View,
     form: Form,
@@ -78,7 +78,7 @@ pub extern "C" fn pylock_session_answer(
     ensures told { Tells (shown_in Plan (form_of json) (object session.old))
         (object out.old, is_plan.old) (object out.new, is_plan.new) result }
 {
-    show(alloc, View::Plan, form_of(json), session, out, is_plan)
+    show_session(alloc, View::Plan, form_of(json), session, out, is_plan)
 }
 
 /// What becomes of the head and of each entry of a session.
@@ -94,7 +94,7 @@ pub extern "C" fn pylock_session_explain(
     ensures told { Tells (shown_in Explain (form_of json) (object session.old))
         (object out.old, is_plan.old) (object out.new, is_plan.new) result }
 {
-    show(alloc, View::Explain, form_of(json), session, out, is_plan)
+    show_session(alloc, View::Explain, form_of(json), session, out, is_plan)
 }
 
 fn judged_in(alloc: Global, kept: &Option<Box<Object>>) -> Result<Object, Refusal>
@@ -120,7 +120,7 @@ pub extern "C" fn pylock_session_judged(
     let kept = session.take(alloc);
     let judged = judged_in(alloc, &kept);
     session.put(alloc, kept);
-    keep(alloc, judged, numbers)
+    keep_object(alloc, judged, numbers)
 }
 
 /// Pushes a record of numbers.

@@ -1,6 +1,6 @@
 //! What a person is told of a fault.
 
-use crate::notes::tell_if_made;
+use crate::notes::tell_made;
 use pylock_core::{FaultCode, Session, fault_word};
 use pylock_documents::fault_detail;
 use pylock_run::Sink;
@@ -14,7 +14,7 @@ pub(crate) fn tell_fault<N: Sink>(
     number: u32,
     code: FaultCode,
 ) {
-    tell_if_made(alloc, notes, fault_text(alloc, session, number, code));
+    tell_made(alloc, notes, fault_text(alloc, session, number, code));
 }
 
 fn fault_text(

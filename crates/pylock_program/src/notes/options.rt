@@ -2,7 +2,7 @@
 //! `python_version` last; an option that is refused is the only line.
 
 use crate::choices::{option_words, split_at_equals};
-use crate::notes::{tell, tell_if_made};
+use crate::notes::tell_made;
 use pylock_command::Choice;
 use pylock_core::Session;
 use pylock_run::Sink;
@@ -12,7 +12,7 @@ use std::alloc::{AllocError, Global};
 
 /// Tells why an option is refused. `lock` is the path of the lock as it was given.
 pub(crate) fn tell_refused<N: Sink>(alloc: Global, notes: &mut N, lock: &str, choice: Choice<'_>) {
-    tell_if_made(alloc, notes, option_note(alloc, lock, choice));
+    tell_made(alloc, notes, option_note(alloc, lock, choice));
 }
 
 fn option_note(alloc: Global, lock: &str, choice: Choice<'_>) -> Result<String, AllocError> {
@@ -66,7 +66,7 @@ pub(crate) fn tell_notes<N: Sink>(
 fn tell_half_set<N: Sink>(alloc: Global, notes: &mut N, set: Var, left: Var) {
     let (set, left) = (set.name(), left.name());
     let text = format!(in alloc; "note: --set {set} leaves {left} and the tags as they are");
-    tell_if_made(alloc, notes, text);
+    tell_made(alloc, notes, text);
 }
 
 /// Whether one of the options sets the variable.
@@ -99,7 +99,7 @@ fn tell_missing<N: Sink>(alloc: Global, notes: &mut N, session: &Session, choice
     }
     let (word, _) = option_words(choice);
     let text = format!(in alloc; "note: --{word}: no entry is named `{name}`");
-    tell_if_made(alloc, notes, text);
+    tell_made(alloc, notes, text);
 }
 
 /// Whether an entry has the name, whose normal form counts.

@@ -39,11 +39,8 @@ pub(crate) fn push_lock_json(
         LockError::TooMany => push_refused(alloc, out, &["lock", "too-many"]),
         LockError::Entry(position, error) => {
             let position = format!(in alloc; "{position}")?;
-            push_refused(
-                alloc,
-                out,
-                &["lock", "entry", position.as_str(), entry_word(error)],
-            )
+            let words = ["lock", "entry", position.as_str(), entry_word(error)];
+            push_refused(alloc, out, &words)
         }
         LockError::Memory => push_refused(alloc, out, &["lock", "memory"]),
     }
@@ -97,6 +94,7 @@ pub(crate) fn push_option_json(
     }
 }
 
+/// Pushes the document of two words, whose lifetimes become one here, as an array wants.
 fn push_refused_pair<'a>(
     alloc: Global,
     out: &mut Vec<u8>,

@@ -1,8 +1,7 @@
 -- The editing of a session byte by byte: what `report` says of the lines, as a run has it in hand
 -- after a part of the input.
 use Rattle.std.specs.Prelude.{ℕ, ◌+◌, ◌==◌, ◌++◌, ◌||◌, Bool, false, if◌then◌else◌, length, take}
-use Rattle.std.specs.Prelude.{min}
-use Rattle.std.specs.Prelude.{List, [], ◌∷◌, Result, Ok, Err}
+use Rattle.std.specs.Prelude.{min, List, [], ◌∷◌, Result, Ok, Err}
 use Rattle.std.specs.Result.{is_err}
 use Rattle.pylock_core.specs.Session.State.{State}
 use Rattle.pylock_core.specs.Session.Steps.{answer}

@@ -1,8 +1,7 @@
 -- The line of a wheel or an sdist, in the parts that are put in their places.
 use Rattle.std.specs.Prelude.{◌≡◌, ℕ, ◌++◌, ◌+◌, ◌≤◌, List, ◌∷◌, length, codes, Some, true}
 use Rattle.std.specs.List.{list_all}
-use Rattle.pylock_readers.specs.Entry.{EntryValue, FileValue}
-use Rattle.pylock_readers.specs.Entry.{file_name, place_of}
+use Rattle.pylock_readers.specs.Entry.{EntryValue, FileValue, file_name, place_of}
 use Rattle.pylock_run.specs.Inner.OrdinaryBytes.{is_ordinary}
 use Rattle.pylock_run.specs.Text.Field.{field}
 use Rattle.pylock_run.specs.Text.Plan.{hashes_text}

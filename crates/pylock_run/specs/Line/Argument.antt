@@ -1,7 +1,6 @@
 -- What follows the command of a line: its argument, absent where no space follows the command.
-use Rattle.std.specs.Prelude.{ℕ, ◌==◌, ◌&&◌, not, false, nat_le, Bool, length}
-use Rattle.std.specs.Prelude.{List, [], ◌∷◌, if◌then◌else◌, Option, Some, None, filter, Result, Ok}
-use Rattle.std.specs.Prelude.{Err}
+use Rattle.std.specs.Prelude.{ℕ, ◌==◌, ◌&&◌, not, false, nat_le, Bool, length, List, [], ◌∷◌}
+use Rattle.std.specs.Prelude.{if◌then◌else◌, Option, Some, None, filter, Result, Ok, Err}
 use Rattle.std.specs.Option.{ok_or}
 use Rattle.std.specs.List.{before_first, after_first, list_any, list_all, slice_split}
 use Rattle.std.specs.Char.{is_ascii_digit}

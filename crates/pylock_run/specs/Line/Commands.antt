@@ -17,8 +17,7 @@ use Rattle.pylock_core.specs.declared.edit.Edit.TheVariants as edit
 use Rattle.pylock_core.specs.declared.edit.Policy.{Policy}
 use Rattle.pylock_core.specs.declared.edit.Policy.TheVariants as policy
 use Rattle.pylock_run.specs.Line.Argument.{required_argument, nonempty_text, split_at_space}
-use Rattle.pylock_run.specs.Line.Argument.{number_argument}
-use Rattle.pylock_run.specs.Line.Argument.{pieces_of}
+use Rattle.pylock_run.specs.Line.Argument.{number_argument, pieces_of}
 use Rattle.pylock_run.specs.Line.Refusal.{entry_refusal, tags_refusal}
 use Rattle.pylock_run.specs.declared.line.commands.Command.{Command}
 use Rattle.pylock_run.specs.declared.line.commands.Command.TheVariants as command

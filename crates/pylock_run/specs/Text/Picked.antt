@@ -2,8 +2,7 @@
 use Rattle.std.specs.Prelude.{ℕ, List, codes}
 use Rattle.pylock_core.specs.Session.Picks.{SourceValue, OfVcs, OfDirectory, OfArchive, OfWheel}
 use Rattle.pylock_core.specs.Session.Picks.{OfSdist}
-use Rattle.pylock_run.specs.Text.Plan.{vcs_fields, directory_fields, archive_fields}
-use Rattle.pylock_run.specs.Text.Plan.{file_fields}
+use Rattle.pylock_run.specs.Text.Plan.{vcs_fields, directory_fields, archive_fields, file_fields}
 
 abbrev pub picked_fields : SourceValue → List (List ℕ)
 picked_fields (OfVcs vcs) = vcs_fields vcs

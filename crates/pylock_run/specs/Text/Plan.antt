@@ -4,8 +4,7 @@ use Rattle.std.specs.Prelude.{codes, decimal, map, slice_get}
 use Rattle.std.specs.List.{flat_map, join_with_byte}
 use Rattle.std.specs.Option.{option_map_or}
 use Rattle.pylock_readers.specs.Entry.{EntryValue, ArchiveValue, DirectoryValue, FileValue}
-use Rattle.pylock_readers.specs.Entry.{VcsValue}
-use Rattle.pylock_readers.specs.Entry.{file_name, place_of}
+use Rattle.pylock_readers.specs.Entry.{VcsValue, file_name, place_of}
 use Rattle.pylock_core.specs.Session.State.{State, entry_at}
 use Rattle.pylock_core.specs.declared.answer.Answer.{Answer}
 use Rattle.pylock_core.specs.declared.answer.Answer.TheVariants.{Plan, Fault}

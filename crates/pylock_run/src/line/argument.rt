@@ -3,10 +3,9 @@
 ghost use Rattle.std.specs.Prelude.{◌≡◌, ◌++◌, ◌∷◌, [], Ok, OnOk, filter, map};
 ghost use Rattle.std.specs.Option.{option_copied};
 ghost use Rattle.pytext.specs.Agreement.{Gives};
-ghost use Rattle.pylock_run.specs.Line.Argument.{required_argument, nonempty_text};
-ghost use Rattle.pylock_run.specs.Line.Argument.{split_at_space, number_argument};
-ghost use Rattle.pylock_run.specs.Line.Argument.{entry_number};
-ghost use Rattle.pylock_run.specs.Line.Argument.{is_entry_number, is_nonempty, pieces, pieces_of};
+ghost use Rattle.pylock_run.specs.Line.Argument.{required_argument, nonempty_text, split_at_space};
+ghost use Rattle.pylock_run.specs.Line.Argument.{number_argument, entry_number, is_entry_number};
+ghost use Rattle.pylock_run.specs.Line.Argument.{is_nonempty, pieces, pieces_of};
 
 use crate::line::refusal::LineRefusal;
 use pytext::are_digits;

@@ -1,8 +1,7 @@
 //! The editing of a session by the bytes of the input, in whatever pieces they come.
 
 ghost use Rattle.std.specs.Prelude.{◌≡◌, ◌++◌, ◌<◌, ◌≤◌, ◌+◌, not, ◌&&◌, if◌then◌else◌, length};
-ghost use Rattle.std.specs.Prelude.{take};
-ghost use Rattle.std.specs.Prelude.{Ok, Err, OnOk, IfOk, IfErr, OnErr};
+ghost use Rattle.std.specs.Prelude.{take, Ok, Err, OnOk, IfOk, IfErr, OnErr};
 ghost use Rattle.pylock_core.specs.Session.Steps.{answer};
 ghost use Rattle.std.specs.List.{position};
 ghost use Rattle.pytext.specs.Agreement.{Gives};
@@ -10,9 +9,8 @@ ghost use Rattle.pylock_run.specs.Line.{is_lf};
 ghost use Rattle.pylock_run.specs.Report.{is_plan, after_line, current_answer_text};
 ghost use Rattle.pylock_run.specs.Report.Run.{most_lines};
 ghost use Rattle.pylock_run.specs.Inner.Editing.{start, kept_part, end_line, end_text};
-ghost use Rattle.pylock_run.specs.Inner.Editing.{editing_after};
-ghost use Rattle.pylock_run.specs.Inner.Editing.{bytes_text};
-ghost use Rattle.pylock_run.specs.Inner.Editing.{after_input, input_end_text, lines_begun};
+ghost use Rattle.pylock_run.specs.Inner.Editing.{editing_after, bytes_text, after_input};
+ghost use Rattle.pylock_run.specs.Inner.Editing.{input_end_text, lines_begun};
 ghost use Rattle.pylock_run.specs.Inner.Faults.{IsTakeFault};
 
 use crate::line::commands::Command;

@@ -1,13 +1,11 @@
 //! A run: edits a session by the lines of its input, and writes what they print.
 
 ghost use Rattle.std.specs.Prelude.{◌≡◌, ◌++◌, ◌<◌, ◌≤◌, ◌+◌, [], Ok, Err, IsTrue, false, length};
-ghost use Rattle.std.specs.Prelude.{take};
-ghost use Rattle.std.specs.Prelude.{OnOk, IfOk, IfErr, OnErr};
+ghost use Rattle.std.specs.Prelude.{take, OnOk, IfOk, IfErr, OnErr};
 ghost use Rattle.std.specs.Io.KnownBytes.{Consumes, IsAtEnd};
 ghost use Rattle.pylock_run.specs.Inner.Edited.{Edited, EditsAll, IsReadFault, EditFault};
 ghost use Rattle.pylock_run.specs.Inner.Editing.{start, editing_after, bytes_text, after_input};
-ghost use Rattle.pylock_run.specs.Inner.Editing.{input_end_text};
-ghost use Rattle.pylock_run.specs.Inner.Editing.{lines_begun};
+ghost use Rattle.pylock_run.specs.Inner.Editing.{input_end_text, lines_begun};
 ghost use Rattle.pylock_run.specs.Inner.Faults.{IsWriteFault, IsFeedFault};
 ghost use Rattle.pylock_run.specs.Inner.Writes.{Writes, Pours};
 ghost use Rattle.pylock_run.specs.Report.{current_answer_text, open_state, report_on};

@@ -92,19 +92,15 @@ fn read_pieces<R: Source>(
     Ok(bytes)
 }
 
-/// All bytes up to the end of `reader`, of which there may be `limit`. What is met first, a read
+/// All bytes up to the end of `input`, of which there may be `limit`. What is met first, a read
 /// that fails or a byte past the limit, is the fault; what was given before it is lost.
 ///
 /// It asks for at most 65,536 bytes at once, and takes memory for them and for what it answers.
-pub fn read_whole<R: Source>(
-    alloc: Global,
-    reader: &mut R,
-    limit: u64,
-) -> Result<Vec<u8>, FileFault>
-    ensures all { IfOk result (λ bytes. GivesAll limit (R.value reader.old) (R.value reader.new)
+pub fn read_whole<R: Source>(alloc: Global, input: &mut R, limit: u64) -> Result<Vec<u8>, FileFault>
+    ensures all { IfOk result (λ bytes. GivesAll limit (R.value input.old) (R.value input.new)
         bytes.items) }
-    ensures fault { IfErr result (IsCause limit (R.value reader.old) (R.value reader.new)) }
+    ensures fault { IfErr result (IsCause limit (R.value input.old) (R.value input.new)) }
 {
     let mut buffer = piece_buffer(alloc)?;
-    read_pieces(alloc, reader, &mut buffer, limit)
+    read_pieces(alloc, input, &mut buffer, limit)
 }

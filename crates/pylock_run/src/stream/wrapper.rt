@@ -1,6 +1,6 @@
 //! A source over a reader of std and a sink over a writer: they expose the bytes that these expose,
 //! and answer each error as a failure.
-ghost use Rattle.std.specs.Prelude.{◌≡◌, ◌<◌, ◌≤◌};
+ghost use Rattle.std.specs.Prelude.{◌≡◌};
 
 use crate::stream::{IoFault, Sink, Source};
 use std::io::{Read, Write};

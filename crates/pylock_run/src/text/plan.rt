@@ -8,10 +8,8 @@ ghost use Rattle.pylock_core.specs.Session.Picks.{lent_source};
 ghost use Rattle.pylock_run.specs.Inner.Hashes.{escaped_hash, more_hashes};
 ghost use Rattle.pylock_run.specs.Text.Picked.{picked_fields};
 ghost use Rattle.pylock_run.specs.Text.Field.{field, fields_text};
-ghost use Rattle.pylock_run.specs.Text.Plan.{hashes_text, revision, vcs_fields};
-ghost use Rattle.pylock_run.specs.Text.Plan.{directory_fields};
-ghost use Rattle.pylock_run.specs.Text.Plan.{archive_fields, file_fields};
-ghost use Rattle.pylock_run.specs.Text.Plan.{pick_text, answer_text};
+ghost use Rattle.pylock_run.specs.Text.Plan.{hashes_text, revision, vcs_fields, directory_fields};
+ghost use Rattle.pylock_run.specs.Text.Plan.{archive_fields, file_fields, pick_text, answer_text};
 ghost use Rattle.pylock_run.specs.Text.Plan.{source_line};
 
 use crate::text::field::{push_decimal, push_escaped_text, push_last_word, push_next_field};

@@ -3,8 +3,7 @@
 ghost use Rattle.std.specs.Prelude.{◌≡◌, ◌++◌, OnOk};
 ghost use Rattle.pylock_run.specs.Text.Field.{fields_text};
 ghost use Rattle.pylock_run.specs.Text.Refusal.{head_word, key_word, entry_word, lock_words};
-ghost use Rattle.pylock_run.specs.Text.Refusal.{lock_text};
-ghost use Rattle.pylock_run.specs.Text.Refusal.{environment_words, environment_text};
+ghost use Rattle.pylock_run.specs.Text.Refusal.{lock_text, environment_words, environment_text};
 ghost use Rattle.pylock_run.specs.Text.Refusal.{line_refusal_text, refusal_text};
 
 use crate::line::refusal::LineRefusal;

@@ -1,8 +1,7 @@
 -- The code of a result that is refused.
-use Rattle.std.proofs.Common.{rules, subst, ℕ, List, Bor, Result}
+use Rattle.std.proofs.Common.{rules, subst, ℕ, List, Bor, Result, refl}
 use Rattle.std.specs.Prelude.{Err}
 use Rattle.pytext.specs.Agreement.{Gives}
-use Rattle.std.proofs.Common.{refl}
 use Rattle.pylock_c.specs.declared.refusal.Refusal.{Refusal}
 use Rattle.pylock_c.specs.declared.refusal.Refusal.TheVariants.{Memory}
 use Rattle.pylock_c.proofs.answer.write.Goals as goal

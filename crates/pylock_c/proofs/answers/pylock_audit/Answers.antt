@@ -9,4 +9,4 @@ use Rattle.pylock_c.proofs.answers.pylock_audit.Goals as goal
 pub returns : goal.returns
 returns c =
     told_as (ap (λ form. reported (reply (query.Audit c.args.lock form))) c.form_of.ensures) (Prim.search rules)
-    (c.keep_with.ensures (reported (reply (query.Audit c.args.lock c.form_of.result))) c.replied.ensures)
+    (c.keep_with.ensures (reported (reply (query.Audit c.args.lock c.form_of.result))) c.replied-told.ensures)

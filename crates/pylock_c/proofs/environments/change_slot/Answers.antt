@@ -8,10 +8,10 @@ use Rattle.pylock_c.proofs.environments.change_slot.Goals as goal
 
 pub returns-in_default : goal.returns-in_default
 returns-in_default c = λ definition gives.
-    let was : None ≡ object c.args.slot.now = cc in at_empty (changed_in definition) refl was c.take.ensures.empty (Prim.search rules)
+    let was : None ≡ object c.args.slot.now = cc in at_empty (λ o. o) (changed_in definition) refl was c.take.ensures.empty (Prim.search rules)
 
 pub returns : goal.returns
 returns c = λ definition gives.
     let was : Some c.deref_mut.result.now ≡ object c.args.slot.now = cc in
     let is : object c.put.new.self ≡ Some c.change_in-outcome.new.object = cc in
-    at_slot (changed_in definition) was is (Prim.search rules) (c.done.ensures _ _ _ (c.change_in-outcome.ensures definition gives))
+    at_slot (λ o. o) (λ o. o) (changed_in definition) was is (Prim.search rules) (c.edit_code.ensures _ _ _ (c.change_in-outcome.ensures definition gives))

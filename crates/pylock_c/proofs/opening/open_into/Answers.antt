@@ -11,4 +11,4 @@ use Rattle.pylock_c.proofs.opening.open_into.Goals as goal
 pub returns-in-Ok-line : goal.returns-in-Ok-line
 returns-in-Ok-line c = λ definition gives.
     let e = subst (λ (o : Result Kind Unopened). Gives Memory (λ kept. kept) o definition) c.in-Err.is gives in
-    refused_opens (object c.args.slot.now) (e (Prim.search rules)) (Prim.search rules) (Prim.search rules) (Prim.search rules) c.leave-in-Ok-line.ensures
+    refused_opens (object c.args.slot.now) (e (Prim.search rules)) (Prim.search rules) (Prim.search rules) (Prim.search rules) c.leave_object-in-Ok-line.ensures

@@ -8,9 +8,9 @@ use Rattle.pylock_run.specs.declared.line.refusal.LineRefusal.TheVariants as lin
 use Rattle.pylock_c.proofs.SessionLemmas.{refused_command}
 use Rattle.pylock_c.proofs.sessions.obey_in.Goals as goal
 
-pub returns-in_err-obey-in-Session : goal.returns-in_err-obey-in-Session
-returns-in_err-obey-in-Session c = λ definition gives.
-    let error = err_from_is_err_and c.from_residual-in_err-obey-in-Session.result c.from_residual-in_err-obey-in-Session.ensures.1 in
-    let e = c.in_err-obey-in-Session.ensures in
+pub returns-in_err-obey_command-in-Session : goal.returns-in_err-obey_command-in-Session
+returns-in_err-obey_command-in-Session c = λ definition gives.
+    let error = err_from_is_err_and c.from_residual-in_err-obey_command-in-Session.result c.from_residual-in_err-obey_command-in-Session.ensures.1 in
+    let e = c.in_err-obey_command-in-Session.ensures in
     let read = subst (λ (r : Result Command LineRefusal). Gives line.Memory (λ c. c) r definition) c.in_ok-command-in-Session.was gives in
     refused_command read c.in-Session.is e.err error.1 error.2 e.ok

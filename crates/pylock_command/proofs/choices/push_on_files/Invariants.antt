@@ -4,7 +4,7 @@ use Rattle.pylock_command.proofs.ChoiceLemmas.{Merging}
 use Rattle.pylock_command.proofs.choices.push_on_files.Given as goal
 
 abbrev pub invariant-loop-wheel : goal.invariant-loop-wheel
-invariant-loop-wheel l = Merging l.wheels l.sources l.wheel l.source (map option_words l.initial.choices.items) l.choices.items
+invariant-loop-wheel l = Merging l.wheels l.sources l.wheel l.source (map option_words l.initial.list.items) l.list.items
 
 abbrev pub decreases-loop-wheel : goal.decreases-loop-wheel
 decreases-loop-wheel l = (length l.wheels - l.wheel) + (length l.sources - l.source)

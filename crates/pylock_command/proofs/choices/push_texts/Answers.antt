@@ -4,11 +4,11 @@ use Rattle.pylock_command.proofs.ChoiceLemmas.{pushed-all, pushed-more}
 use Rattle.pylock_command.proofs.choices.push_texts.Goals as goal
 
 pub loop-text-init : goal.loop-text-init
-loop-text-init g c = sym (append-nil (map option_words c.args.choices.now.items))
+loop-text-init g c = sym (append-nil (map option_words c.args.list.now.items))
 
 pub loop-text-preserved : goal.loop-text-preserved
 loop-text-preserved g c =
-    pushed-more c.args.name.now (map option_words c.args.choices.now.items) c.texts-text-items.result.now c.loop-text.text-index _ c.loop-text.choices.items
+    pushed-more c.args.name.now (map option_words c.args.list.now.items) c.texts-text-items.result.now c.loop-text.text-index _ c.loop-text.list.items
     c.push.new.self.items c.choice.result c.loop-text-test.true c.loop-text.invariant c.in_ok-push.ensures.items (c.requires.named _ _ c.choice.ensures)
 
 pub returns : goal.returns

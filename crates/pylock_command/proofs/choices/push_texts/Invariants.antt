@@ -4,4 +4,4 @@ use Rattle.pylock_command.proofs.ChoiceLemmas.{named}
 use Rattle.pylock_command.proofs.choices.push_texts.Given as goal
 
 abbrev pub invariant-loop-text : goal.invariant-loop-text
-invariant-loop-text g l = map option_words l.choices.items ≡ map option_words l.initial.choices.items ++ map (named l.name) (take l.text-index l.text-items)
+invariant-loop-text g l = map option_words l.list.items ≡ map option_words l.initial.list.items ++ map (named l.name) (take l.text-index l.text-items)

@@ -1,4 +1,4 @@
-use Rattle.std.proofs.Common.{◌≡◌, ◌∙◌, ◌≤◌, ◌++◌, length, take, refl, ap, sym, arith}
+use Rattle.std.proofs.Common.{◌≡◌, ◌∙◌, ◌≤◌, ◌++◌, length, take, refl, ap, rules, sym, arith}
 use Rattle.std.specs.Prelude.{codes}
 use Rattle.std.proofs.lemmas.List.{length-take-le, take_all}
 use Rattle.pylock_run.proofs.FileLineLemmas.{marked, parts_joined, stands_behind, up_to}
@@ -16,26 +16,7 @@ returns c =
     let p5 = marked 45 9 _ _ _ _ _ _ _ p4 c.mark-at-5.ensures.end c.mark-at-5.ensures.line in
     let p6 = marked 45 9 _ _ _ _ _ _ _ p5 c.mark-at-6.ensures.end c.mark-at-6.ensures.line in
     let p7 = marked 45 61 _ _ _ _ _ _ _ p6 c.mark-at-7.ensures.end c.mark-at-7.ensures.line in
-    let all : length c.put.new.line ≤ c.put.result = omega (
-      arith,
-      c.requires.size,
-      c.mark-at.ensures.end,
-      c.mark-at-2.ensures.end,
-      c.mark-at-3.ensures.end,
-      c.mark-at-4.ensures.end,
-      c.mark-at-5.ensures.end,
-      c.mark-at-6.ensures.end,
-      c.mark-at-7.ensures.end,
-      c.mark-at.ensures.len,
-      c.mark-at-2.ensures.len,
-      c.mark-at-3.ensures.len,
-      c.mark-at-4.ensures.len,
-      c.mark-at-5.ensures.len,
-      c.mark-at-6.ensures.len,
-      c.mark-at-7.ensures.len,
-      c.put.ensures.end,
-      c.put.ensures.len,
-    ) in
+    let all : length c.put.new.line ≤ c.put.result = search rules in
     sym (take_all c.put.result c.put.new.line all)
     ∙ parts_joined 9 61 old _ _ _ _ _ _ _ _ _ _ _ _ _ _ _ _ _ _ refl refl refl refl refl refl refl refl
     (c.put.ensures.front ∙ ap (λ t. t ++ codes "\t-\t-\n") (up_to _ _ _ _ p7))

@@ -2,7 +2,7 @@
 use Rattle.std.proofs.Common.{rules, ap}
 use Rattle.pylock_c.specs.Sessions.{shown_in}
 use Rattle.pylock_c.proofs.AnswerLemmas.{told_as}
-use Rattle.pylock_c.proofs.sessions.standing.show.Goals as goal
+use Rattle.pylock_c.proofs.sessions.standing.show_session.Goals as goal
 
 pub returns-clause-told : goal.returns-clause-told
 returns-clause-told c =

@@ -3,7 +3,7 @@ use Rattle.std.proofs.Common.{rules, subst, Result}
 use Rattle.std.specs.Prelude.{Err}
 use Rattle.pylock_c.specs.Answer.{Edits}
 use Rattle.pylock_c.specs.declared.refusal.Refusal.{Refusal}
-use Rattle.pylock_c.proofs.answer.done.Goals as goal
+use Rattle.pylock_c.proofs.answer.edit_code.Goals as goal
 
 pub returns-in-Err : goal.returns-in-Err
 returns-in-Err c = λ definition old new edits.

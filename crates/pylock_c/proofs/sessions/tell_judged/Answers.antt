@@ -3,7 +3,7 @@ use Rattle.std.proofs.Common.{rules, subst, ℕ, Result}
 use Rattle.std.specs.Prelude.{Err}
 use Rattle.pylock_c.specs.Sessions.{Counts}
 use Rattle.pylock_c.specs.declared.refusal.Refusal.{Refusal}
-use Rattle.pylock_c.proofs.sessions.count.Goals as goal
+use Rattle.pylock_c.proofs.sessions.tell_judged.Goals as goal
 
 pub returns-in-Err : goal.returns-in-Err
 returns-in-Err c = λ definition old new edits.
