@@ -240,6 +240,7 @@ fn show_files<F: Files, W: Sink, N: Sink>(
     let inputs = Inputs {
         lock: &lock.bytes,
         environment: &environment.bytes,
+        leaves: true,
     };
     let end = show_request(alloc, request, inputs, writer, notes);
     tell_refusal(alloc, notes, &end, Some(&lock), Some(&environment));

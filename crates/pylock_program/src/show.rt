@@ -22,14 +22,18 @@ use pylock_run::{
     OpenError, RunFault, Sink, open, print, push_answer, push_next_field, push_refusal,
 };
 use std::alloc::{AllocError, Global};
+use std::mem;
 
-/// The bytes of the files of a request.
+/// The bytes of the files of a request, and what becomes of the session that is made of them.
 #[derive(Clone, Copy)]
 pub struct Inputs<'a> {
     /// Those of the lock.
     pub lock: &'a [u8],
     /// Those of the environment.
     pub environment: &'a [u8],
+    /// Whether the process ends next: then the session's memory is left to the system, which takes
+    /// all of it at once.
+    pub leaves: bool,
 }
 
 /// Runs `plan` or `explain`: writes what is asked for of the lock in the environment after the
@@ -69,7 +73,13 @@ fn push_report<N: Sink>(
         inputs.entry.lock.now inputs.entry.environment.now) result }
 {
     match open(alloc, inputs.lock, inputs.environment) {
-        Ok(session) => push_after_choices(alloc, out, request, session, notes),
+        Ok(mut session) => {
+            let status = push_after_choices(alloc, out, request, &mut session, notes)?;
+            if inputs.leaves {
+                mem::forget(session);
+            }
+            Ok(status)
+        }
         Err(OpenError::Memory) => Err(AllocError),
         Err(refusal) => {
             push_open_error(alloc, out, request.form, &refusal)?;
@@ -99,27 +109,26 @@ fn push_after_choices<N: Sink>(
     alloc: Global,
     out: &mut Vec<u8>,
     request: &Request<'_>,
-    session: Session,
+    session: &mut Session,
     notes: &mut N,
 ) -> Result<u8, AllocError>
     ensures { Pushes out.old.items out.new.items (report_of_choices request.now.form
         (view_shown request.now.view request.now.form)
-        (after_choices request.now.choices.items session.state)) result }
+        (after_choices request.now.choices.items session.old.state)) result }
 {
-    let mut session = session;
-    if let Some(choice) = make_choices(alloc, &mut session, &request.choices)? {
+    if let Some(choice) = make_choices(alloc, session, &request.choices)? {
         push_refused_option(alloc, out, request.form, choice)?;
         tell_refused(alloc, notes, request.lock, choice);
         return Ok(1);
     }
     let answer = session.answer()?;
-    push_answered(alloc, out, (request.view, request.form), &session, &answer)?;
-    tell_notes(alloc, notes, &session, &request.choices);
+    push_answered(alloc, out, (request.view, request.form), session, &answer)?;
+    tell_notes(alloc, notes, session, &request.choices);
     match answer {
         Answer::Plan(_) => Ok(0),
         Answer::Fault { id, code } => {
             if matches!(request.view, View::Plan) {
-                tell_fault(alloc, notes, &session, id, code);
+                tell_fault(alloc, notes, session, id, code);
             }
             Ok(1)
         }

@@ -81,6 +81,7 @@ fn explained(alloc: Global, random: Random, lock: &[u8]) -> anyhow::Result<Vec<u
     let inputs = Inputs {
         lock,
         environment: environment.as_bytes(),
+        leaves: false,
     };
     let end = show_request(alloc, &request, inputs, &mut writer, &mut beside);
     match end {

@@ -62,7 +62,11 @@ fn print_plan(
         choices: Vec::from_slice(alloc, choices)?,
         form: Form::Lines,
     };
-    let inputs = Inputs { lock, environment };
+    let inputs = Inputs {
+        lock,
+        environment,
+        leaves: false,
+    };
     let end = show_request(alloc, &request, inputs, &mut writer, &mut beside);
     match end {
         Ok(status) => out.push(status)?,
