@@ -1,5 +1,6 @@
 -- Lemmas on the ranks of tag sets, and on the best wheels by them.
-use Rattle.std.proofs.Common.{[], ◌≡◌, ◌⊎◌, ⊎_elim, ℕ, suc, zero, ◌+◌, ◌<◌, ◌∙◌, List, ◌∷◌, map, length, get_or, drop, true, false, Option, Some, None, IfSome, IsSome, option_map, Result, Ok, Err, unwrap_or, ap, sym, refl}
+use Rattle.std.proofs.Common.{[], ◌≡◌, ◌⊎◌, ⊎_elim, ℕ, suc, zero, ◌+◌, ◌<◌, ◌≤◌, ◌∙◌, List, ◌∷◌, map, length, get_or, slice_index_or, drop, true, false, Option, Some, None, IfSome, IsSome, option_map, Result, Ok, Err, unwrap_or, ap, sym, refl, arith}
+use Rattle.std.proofs.lemmas.List.{drop_all, drop_more}
 use Rattle.std.specs.Option.{option_and_then}
 use Rattle.std.specs.Result.{result_ok}
 use Rattle.pywheel_core.specs.Choice.{Ranked, best, best_from, better, rank_from, ranked}
@@ -8,7 +9,6 @@ use Rattle.pywheel_core.specs.Texts.{three_parts}
 use Rattle.pywheel_core.specs.Wheel.Reading.{set_tags_in, wheel_of}
 use Rattle.pywheel_core.specs.Wheel.Value.{WheelValue}
 use Rattle.pywheel_core.specs.declared.error.WheelError.{WheelError}
-use Rattle.pywheel_core.proofs.Lemmas.Choice.Steps.{best_step}
 use Rattle.pywheel_core.proofs.Lemmas.Wheel.TagSet.{set_has_tags}
 use Rattle.pylock_readers.specs.Entry.{EntryValue, FileValue, file_name, wheel_name, wheel_names}
 use Rattle.pylock_core.specs.Inner.Judging.Judgement.{row_anew}
@@ -26,6 +26,21 @@ use Rattle.pylock_core.specs.declared.session.judging.ranks.Ranks.{Ranks}
 use Rattle.pylock_core.specs.declared.session.tables.rows.Row.{Row}
 use Rattle.pylock_core.specs.declared.session.tables.tag_sets.TagSets.{TagSets}
 use Rattle.pylock_core.proofs.Lemmas.Tables.Rows.{of_rows_at}
+
+-- ---- the pass over the wheels
+
+best_step : (first : Option Ranked) (i : ℕ) (wheels : List (Option WheelValue)) (tags : List TagValue) (d : Option WheelValue) → i < length wheels
+    → best_from first i (drop i wheels) tags ≡ best_from (better first (ranked i (slice_index_or wheels i d) tags)) (i + 1) (drop (i + 1) wheels) tags
+unfolding best_from
+best_step first i wheels tags d l =
+    let one : suc i ≡ i + 1 = omega arith in
+    ap (λ xs. best_from first i xs tags) (drop_more wheels i d l)
+    ∙ ap (λ n. best_from (better first (ranked i (slice_index_or wheels i d) tags)) n (drop (i + 1) wheels) tags) one
+
+pub best_end : (first : Option Ranked) (i : ℕ) (wheels : List (Option WheelValue)) (tags : List TagValue) → length wheels ≤ i
+    → best_from first i (drop i wheels) tags ≡ first
+unfolding best_from
+best_end first i wheels tags l = ap (λ xs. best_from first i xs tags) (drop_all i wheels l)
 
 -- ---- ranks
 

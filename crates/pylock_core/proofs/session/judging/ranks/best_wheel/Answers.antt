@@ -3,12 +3,11 @@ use Rattle.std.specs.Global.{Global}
 use Rattle.std.specs.declared.vec.Vec.{Vec}
 use Rattle.std.proofs.lemmas.List.{get_or_default, get_or-map}
 use Rattle.pywheel_core.specs.Choice.{best_from}
-use Rattle.pywheel_core.proofs.Lemmas.Choice.Steps.{best_end}
 use Rattle.pylock_readers.specs.Entry.{EntryValue}
 use Rattle.pylock_core.specs.Inner.Tables.Index.{list_at}
 use Rattle.pylock_core.specs.Inner.Tables.TagSets.{AreNumbers, names_in, set_number}
 use Rattle.pylock_core.specs.Inner.Judging.Ranks.{with_build}
-use Rattle.pylock_core.proofs.Lemmas.Judging.Ranks.{known_rank, ranks_more, wheel_more}
+use Rattle.pylock_core.proofs.Lemmas.Judging.Ranks.{best_end, known_rank, ranks_more, wheel_more}
 use Rattle.pylock_core.proofs.session.judging.ranks.best_wheel.Goals as goal
 use Rattle.pylock_core.proofs.session.judging.ranks.best_wheel.Goals.{After-as_slice-sets}
 
