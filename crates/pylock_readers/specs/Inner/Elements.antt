@@ -6,7 +6,8 @@ use Rattle.pytext.specs.Results.{◌>>=◌}
 use Rattle.pylock_readers.specs.Entry.{EntryValue}
 use Rattle.pylock_readers.specs.Lock.{LockValue}
 use Rattle.pylock_readers.specs.Lock.Head.{created_by_in, head_in, lock_version_in}
-use Rattle.pylock_readers.specs.Lock.Reading.{document_of, entries_of, item_count, lock_in, most_entries}
+use Rattle.pylock_readers.specs.Lock.Reading.{document_of, entries_of, item_count, lock_in}
+use Rattle.pylock_readers.specs.Lock.Reading.{most_entries}
 use Rattle.pylock_readers.specs.declared.error.EntryError.{EntryError}
 use Rattle.pylock_readers.specs.declared.error.LockError.{LockError}
 use Rattle.pylock_readers.specs.declared.error.LockError.TheVariants.{Entry, TooMany}

@@ -55,8 +55,8 @@ impl Packages {
         }
     }
 
-    /// The lock of a document from which they were taken; where there was none, the document may have
-    /// them in another form.
+    /// The lock of a document from which they were taken; where there was none, the document may
+    /// have them in another form.
     #[tactic(auto, unfolding(crate::specs::Inner::Elements::lock_after))]
     pub(crate) fn into_lock(self, alloc: Global, document: Table) -> Result<Lock, LockError>
         requires { length self.entries.items ≤ self.count }

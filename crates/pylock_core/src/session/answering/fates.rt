@@ -32,7 +32,8 @@ pub(crate) fn fates(parts: &Parts) -> Result<Vec<(u32, Fate)>, AllocError>
     )
 }
 
-/// What becomes of the entry of the number. It goes over the entries that stand, and takes no memory.
+/// What becomes of the entry of the number. It goes over the entries that stand, and takes no
+/// memory.
 pub(crate) fn fate_at(parts: &Parts, number: u32) -> Option<Fate>
     requires { IsSession parts.now }
     ensures { result ≡ fate_at number (state_of parts.now) }
