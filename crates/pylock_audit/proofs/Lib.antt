@@ -4,6 +4,7 @@ pub mod MaskLemmas
 pub mod NameLemmas
 pub mod PrintableLemmas
 pub mod ShownLemmas
+pub mod StrictLemmas
 pub mod TableLemmas
 pub mod UnsafeLemmas
 pub mod UserLemmas

@@ -1,4 +1,5 @@
 pub mod Audit
+pub mod Audited
 pub mod Document
 pub mod Entry
 pub mod FileName
@@ -7,6 +8,7 @@ pub mod Hash
 pub mod Inner
 pub mod Keys
 pub mod Source
+pub mod Strict
 pub mod Unsafe
 pub mod Url
 pub mod Words

@@ -13,6 +13,7 @@
 //! ```
 #![tactic(auto)]
 
+mod audited;
 mod control;
 mod document;
 mod entry;
@@ -24,10 +25,13 @@ mod hash;
 mod keys;
 mod marker;
 mod source;
+mod strict;
 mod tables;
 mod unsafe_text;
 mod url;
 
+pub use audited::read_audited;
 pub use document::findings_document;
 pub use finding::{Finding, FindingKind, LockFinding};
 pub use findings::audit;
+pub use strict::{Findings, StrictError, read_strict};

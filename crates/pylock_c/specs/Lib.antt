@@ -11,6 +11,7 @@ pub mod Requirements
 pub mod Sessions
 pub mod Sets
 pub mod Slot
+pub mod Strict
 pub mod Text
 pub mod Versions
 pub mod Wheels

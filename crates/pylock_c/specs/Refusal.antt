@@ -66,6 +66,7 @@ number refusal.WheelBuild = pos 64
 number refusal.WheelTags = pos 65
 number refusal.Lock = pos 70
 number refusal.Environment = pos 71
+number refusal.Findings = pos 72
 number (refusal.Edit refused) = edit_number refused
 
 abbrev pub version_refusal : VersionError → Refusal

@@ -30,6 +30,7 @@ mod requirements;
 mod sessions;
 mod sets;
 mod slot;
+mod strict;
 mod text;
 mod threads;
 mod versions;

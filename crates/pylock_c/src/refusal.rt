@@ -71,6 +71,8 @@ pub enum Refusal {
     Lock,
     /// The environment is refused.
     Environment,
+    /// The lock is valid, and a strict reading refuses what is found in it.
+    Findings,
     /// An edit is refused.
     Edit(LineRefusal),
 }
@@ -109,6 +111,7 @@ impl Refusal {
             Refusal::WheelTags => 65,
             Refusal::Lock => 70,
             Refusal::Environment => 71,
+            Refusal::Findings => 72,
             Refusal::Edit(refusal) => edit_number(refusal),
         }
     }

@@ -5,7 +5,8 @@ use Rattle.pylock_command.specs.Choices.{with_choices}
 use Rattle.pylock_command.specs.Form.{with_json}
 use Rattle.pylock_command.specs.Strict.{with_strict}
 use Rattle.pylock_command.specs.declared.subcommand.Options.{Options}
-use Rattle.pylock_command.specs.declared.subcommand.Options.TheVariants.{Absent, Form, Strict, Choices}
+use Rattle.pylock_command.specs.declared.subcommand.Options.TheVariants.{Absent, Form, Choices}
+use Rattle.pylock_command.specs.declared.subcommand.Options.TheVariants.{Strict}
 use Rattle.pylock_command.specs.declared.subcommand.Usage.{Usage}
 
 -- its name, the names of the texts that it takes, and its options
