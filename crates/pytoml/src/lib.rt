@@ -6,13 +6,13 @@
 //! no line walks down from the root. A text that the short way doesn't know, a refused one among
 //! them, is read by `toml` itself.
 //!
-//! So `pylock_readers` reads a lock, each element of one array of tables being handed out, in
+//! So `pylock_readers` reads a document, each element of one array of tables being handed out, in
 //! `crates/pylock_readers/src/lock/read.rt`:
 //!
 //! ```rust
-//! match read_table_without(alloc, text, Packages::new(alloc))? {
-//!     Some((document, packages)) => packages.into_lock(alloc, document),
-//!     None => Lock::from_document(alloc, document_by_toml(alloc, text)?),
+//! match read_table_without(alloc, text, elements)? {
+//!     Some((document, elements)) => Ok((document, Some(elements))),
+//!     None => Ok((document_by_toml(alloc, text)?, None)),
 //! }
 //! ```
 #![tactic(auto)]
