@@ -1,6 +1,6 @@
 -- What a careful reader of a lock would want to be told, though the lock is valid: the findings of
 -- its head and of its entries, in order.
-use Rattle.std.specs.Prelude.{ℕ, ◌++◌, not, codes, suc, List, [], ◌∷◌, Option, Some, None}
+use Rattle.std.specs.Prelude.{ℕ, Bool, ◌++◌, not, codes, suc, List, [], ◌∷◌, Option, Some, None}
 use Rattle.std.specs.Prelude.{is_none, Result, Ok}
 use Rattle.std.specs.Str.{bytes_eq}
 use Rattle.toml.specs.Data.{Data, Items, Members, array, get_member, item, no_items, no_members}
@@ -25,11 +25,16 @@ other_lock_version document =
     text_where (λ version. not (bytes_eq version (codes "1.0"))) (λ version. version)
     (text_at (codes "lock-version") document)
 
-abbrev pub head_findings : Members → List FindingValue
-head_findings document =
+-- those of a head whose document names packages or doesn't
+abbrev pub head_findings_where : Bool → Members → List FindingValue
+head_findings_where has_no_packages document =
     findings_each kind.LockVersion (other_lock_version document)
     ++ findings_each kind.UnknownKey (unknown_keys tables.Head document)
-    ++ finding_where (is_none (get_member (codes "packages") document)) kind.NoPackages None
+    ++ finding_where has_no_packages kind.NoPackages None
+
+abbrev pub head_findings : Members → List FindingValue
+head_findings document =
+    head_findings_where (is_none (get_member (codes "packages") document)) document
 
 -- ---- the entries
 
@@ -59,7 +64,14 @@ lock_findings document lock =
     findings_at 0 None (head_findings document)
     ++ of_entries lock.head 1 lock.entries (items_at (get_member (codes "packages") document))
 
--- the findings of the lock that the bytes are, or its refusal
+-- the lock that the bytes are, with its findings, or its refusal
+unfoldable pub audited_of : List ℕ → Result (LockValue × List LockFindingValue) LockError
+audited_of bytes = do
+  lock ← lock_of bytes
+  document ← document_in bytes
+  Ok (lock, lock_findings document lock)
+
+-- the findings alone
 unfoldable pub findings_of : List ℕ → Result (List LockFindingValue) LockError
 findings_of bytes = do
   lock ← lock_of bytes

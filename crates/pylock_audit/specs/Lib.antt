@@ -1,5 +1,4 @@
 pub mod Audit
-pub mod Audited
 pub mod Document
 pub mod Entry
 pub mod FileName

@@ -13,7 +13,6 @@
 //! ```
 #![tactic(auto)]
 
-mod audited;
 mod control;
 mod document;
 mod entry;
@@ -30,8 +29,7 @@ mod tables;
 mod unsafe_text;
 mod url;
 
-pub use audited::read_audited;
 pub use document::findings_document;
 pub use finding::{Finding, FindingKind, LockFinding};
-pub use findings::audit;
+pub use findings::{audit, read_audited};
 pub use strict::{Findings, StrictError, read_strict};

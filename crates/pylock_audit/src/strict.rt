@@ -6,8 +6,8 @@ ghost use Rattle.pylock_audit.specs.Strict.{is_refused, strict_findings, strict_
 ghost use Rattle.pylock_audit.specs.Strict.{unless_found};
 ghost use Rattle.pylock_audit.specs.declared.strict.StrictError.TheVariants.{Memory};
 
-use crate::audited::read_audited;
 use crate::finding::{FindingKind, LockFinding};
+use crate::findings::read_audited;
 use pylock_core::{Lock, LockError};
 use std::alloc::Global;
 use std::marker::Model;
