@@ -206,6 +206,22 @@ static void requirements(void)
     pylock_text_free(&record);
 }
 
+static void sdists(void)
+{
+    pylock_text record = {0};
+    IS(pylock_sdist(TEXT("Foo.bar-V1.0.tar.gz"), &record), PYLOCK_OK);
+    HOLDS(has(&record, "foo-bar\t1.0"));
+    IS(pylock_sdist(TEXT("a-1.whl"), &record), PYLOCK_SDIST_EXTENSION);
+    IS(pylock_sdist(TEXT("a.tar.gz"), &record), PYLOCK_SDIST_PARTS);
+    IS(pylock_sdist(TEXT("-1.zip"), &record), PYLOCK_SDIST_NAME);
+    IS(pylock_sdist(TEXT("a-x.zip"), &record), PYLOCK_SDIST_VERSION);
+    IS(pylock_sdist(TEXT("a\xff"), &record), PYLOCK_NOT_UTF8);
+    HOLDS(has(&record, "foo-bar\t1.0"));
+    IS(pylock_sdist(TEXT("foo-1.0-1.zip"), &record), PYLOCK_OK);
+    HOLDS(has(&record, "foo-1-0\t1"));
+    pylock_text_free(&record);
+}
+
 static void wheels(void)
 {
     pylock_text record = {0};
@@ -938,6 +954,7 @@ static void calls(void)
     texts();
     requirements();
     wheels();
+    sdists();
     sets();
     markers();
     extras();

@@ -251,3 +251,14 @@ build and tags.
 
 Status: 0, it is the name of a wheel; 1, it is refused; 2, the command line is
 refused; 3, the output failed or memory ran out.";
+
+pub(crate) const SDIST: &str = "\
+Example, with a space for the TAB:
+  $ pylock sdist Foo.Bar-1.0.tar.gz
+  foo-bar 1.0
+
+Prints the name in its normal form and the version, with TAB between them. Or
+prints refused, TAB and one of the words extension, parts, name and version.
+
+Status: 0, it is the name of an sdist; 1, it is refused; 2, the command line is
+refused; 3, the output failed or memory ran out.";
