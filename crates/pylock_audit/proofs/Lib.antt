@@ -3,6 +3,7 @@ pub mod KeyLemmas
 pub mod MaskLemmas
 pub mod NameLemmas
 pub mod PrintableLemmas
+pub mod QueryLemmas
 pub mod ShownLemmas
 pub mod TableLemmas
 pub mod UnsafeLemmas

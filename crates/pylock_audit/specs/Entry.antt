@@ -49,11 +49,9 @@ refused_version entry =
 
 -- ---- markers
 
--- one of the comparisons is so
-abbrev pub compares : (ComparisonValue → Bool) → Option MarkerValue → List (List ℕ)
-compares test None = []
-compares test (Some marker) =
-    told_where (list_any test (comparisons marker.tree)) marker.text
+-- the text of a marker, one of whose comparisons is so
+abbrev pub compares : (ComparisonValue → Bool) → MarkerValue → List (List ℕ)
+compares test marker = told_where (list_any test (comparisons marker.tree)) marker.text
 
 -- a name is asked for that is none of these
 abbrev pub is_undeclared : List (List ℕ) → Option (List ℕ) → Bool
@@ -166,10 +164,13 @@ of_names members entry =
     ++ findings_each kind.NameForm (other_form members)
     ++ findings_each kind.Version (refused_version entry)
 
+abbrev pub marker_findings : HeadValue → MarkerValue → List FindingValue
+marker_findings head marker =
+    findings_each kind.MarkerExtra (compares comparison_reads_extra marker)
+    ++ findings_each kind.UndeclaredName (compares (asks_undeclared head) marker)
+
 abbrev pub of_marker : HeadValue → EntryValue → List FindingValue
-of_marker head entry =
-    findings_each kind.MarkerExtra (compares comparison_reads_extra entry.marker)
-    ++ findings_each kind.UndeclaredName (compares (asks_undeclared head) entry.marker)
+of_marker head entry = option_map_or (marker_findings head) entry.marker []
 
 abbrev pub of_kinds : EntryValue → List FindingValue
 of_kinds entry =
@@ -195,7 +196,8 @@ of_file_names entry =
 abbrev pub of_sources : List (PickSource × SourceValue) → List FindingValue
 of_sources list =
     over kind.UnsafeFileName list ++ over kind.UnsafeSubdirectory list
-    ++ over kind.NotHttps list ++ over kind.Credentials list ++ over kind.MovingCommit list
+    ++ over kind.NotHttps list ++ over kind.Credentials list ++ over kind.SecretInUrl list
+    ++ over kind.MovingCommit list
 
 -- the version first, and then each source
 abbrev pub of_controls : EntryValue → List (PickSource × SourceValue) → List FindingValue

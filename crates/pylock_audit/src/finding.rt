@@ -53,6 +53,8 @@ pub enum FindingKind {
     NotHttps,
     /// A URL names a user or a password.
     Credentials,
+    /// The query of a URL has a password or a token.
+    SecretInUrl,
     /// A commit isn't named by its hash.
     MovingCommit,
     /// A text has a control character.
@@ -86,6 +88,7 @@ impl FindingKind {
             FindingKind::UnsafeSubdirectory => "unsafe-subdirectory",
             FindingKind::NotHttps => "not-https",
             FindingKind::Credentials => "credentials",
+            FindingKind::SecretInUrl => "secret-in-url",
             FindingKind::MovingCommit => "moving-commit",
             FindingKind::ControlCharacter => "control-character",
         }

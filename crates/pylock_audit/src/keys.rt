@@ -125,7 +125,7 @@ pub(crate) fn source_key_path(
 }
 
 /// The path of a key of a table.
-fn key_path(alloc: Global, table: LockTable, key: &str) -> Result<String, AllocError>
+pub(crate) fn key_path(alloc: Global, table: LockTable, key: &str) -> Result<String, AllocError>
     ensures { IfOk result (λ text. string_bytes text ≡ table_path table ++ key.now) }
 {
     match table {

@@ -23,6 +23,7 @@ mod findings;
 mod hash;
 mod keys;
 mod marker;
+mod query;
 mod source;
 mod tables;
 mod unsafe_text;
