@@ -39,9 +39,11 @@ pub enum FindingKind {
     BadHash,
     /// A wheel's file name can't be read (PEP 427), so it is never chosen.
     NoWheelName,
+    /// An sdist's file name can't be read (PEP 625).
+    NoSdistName,
     /// A file is of another package.
     OtherName,
-    /// A wheel is of another version.
+    /// A file is of another version.
     OtherVersion,
     /// An earlier wheel has this file name too.
     SameFileName,
@@ -81,6 +83,7 @@ impl FindingKind {
             FindingKind::OddHash => "odd-hash",
             FindingKind::BadHash => "bad-hash",
             FindingKind::NoWheelName => "no-wheel-name",
+            FindingKind::NoSdistName => "no-sdist-name",
             FindingKind::OtherName => "other-name",
             FindingKind::OtherVersion => "other-version",
             FindingKind::SameFileName => "same-file-name",
