@@ -1,4 +1,5 @@
 pub mod FrontLemmas
+pub mod HiddenLemmas
 pub mod KeyLemmas
 pub mod MaskLemmas
 pub mod NameLemmas

@@ -5,6 +5,7 @@ ghost use Rattle.std.specs.List.{list_any};
 ghost use Rattle.std.specs.Option.{option_copied};
 ghost use Rattle.pywheel_core.specs.Texts.{cut_at};
 ghost use Rattle.pylock_audit.specs.Inner.User.{password_after, user_in};
+ghost use Rattle.pylock_audit.specs.Query.{hidden_secrets};
 ghost use Rattle.pylock_audit.specs.Url.{begins, behind_scheme, behind_slashes, behind_user};
 ghost use Rattle.pylock_audit.specs.Url.{ends_authority, has_credentials, is_https, is_remote_path};
 ghost use Rattle.pylock_audit.specs.Url.{is_mixed, is_safe_remote, masked, names_alone, shown_url};
@@ -143,8 +144,17 @@ fn has_password(behind: &[u8]) -> bool
 }
 
 /// The URL as it is shown: with `***` for its user where that tells something, and for each secret
-/// of its query; where these mix, for the query.
+/// of its query; where these mix, for the query. So hiding its secrets again changes nothing.
+#[tactic(auto, using(crate::proofs::HiddenLemmas::shown_again))]
 pub(crate) fn shown_url(alloc: Global, url: &str) -> Result<String, AllocError>
+    ensures shown { IfOk result (λ text. string_bytes text ≡ shown_url url.now) }
+    ensures hidden { IfOk result (λ text. hidden_secrets (string_bytes text) ≡ string_bytes text) }
+{
+    let text = hidden_url(alloc, url)?;
+    Ok(text)
+}
+
+fn hidden_url(alloc: Global, url: &str) -> Result<String, AllocError>
     ensures { IfOk result (λ text. string_bytes text ≡ shown_url url.now) }
 {
     if is_mixed(url) {
@@ -163,9 +173,7 @@ pub(crate) fn shown_url(alloc: Global, url: &str) -> Result<String, AllocError>
 fn is_mixed(url: &str) -> bool
     ensures { result ≡ is_mixed url.now }
 {
-    has_credentials(url)
-        && has_secret(url)
-        && behind_scheme(before_query(url).as_bytes()).is_none()
+    has_credentials(url) && has_secret(url) && behind_scheme(before_query(url).as_bytes()).is_none()
 }
 
 /// The URL, with `***` for its user.
