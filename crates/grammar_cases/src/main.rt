@@ -1,11 +1,12 @@
-//! Cases of versions, specifier sets, names, markers, environments, requirements, tags and wheels:
-//! what each is read as, and what it then says.
+//! Cases of versions, specifier sets, names, markers, environments, requirements, tags, wheels and
+//! sdists: what each is read as, and what it then says.
 #![tactic(auto)]
 
 mod environments;
 mod markers;
 mod names;
 mod requirements;
+mod sdists;
 mod sets;
 mod still;
 mod tags;
@@ -37,6 +38,7 @@ impl Answers for Cases {
             "key" => versions::tell_key(alloc, case),
             "label" => versions::label_text(alloc, case),
             "long_name" => names::measure(alloc, case),
+            "long_sdist" => sdists::measure(alloc, case),
             "long_set" => sets::measure(alloc, case),
             "long_version" => versions::measure(alloc, case),
             "long_wheel" => wheels::measure(alloc, case),
@@ -50,6 +52,7 @@ impl Answers for Cases {
             "requirement" => requirements::answer_case(alloc, case),
             "requirement_text" => requirements::print(alloc, case),
             "same_name" => names::compare(alloc, case),
+            "sdist" => sdists::answer_case(alloc, case),
             "set" => sets::answer_case(alloc, case),
             "seen_marker" => markers::look(alloc, case),
             "seen_set" => sets::look(alloc, case),

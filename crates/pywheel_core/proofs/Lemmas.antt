@@ -1,5 +1,6 @@
 -- Lemmas on definitions that have several files of them.
 pub mod Choice
+pub mod Sdist
 pub mod Tag
 pub mod Texts
 pub mod Wheel

@@ -1,16 +1,20 @@
 -- No definition answers out of memory.
 use Rattle.std.proofs.Common.{ℕ, suc, List, [], ◌∷◌, Option, Some, None, ok_or, Result, Ok, Err}
+use Rattle.std.specs.Result.{result_ok}
 use Rattle.std.specs.Str.{str_to_ascii_lowercase}
 use Rattle.pytext.proofs.NeverLemmas.{Never, never_cond, never_or, never_then}
+use Rattle.pyver_core.specs.Name.{is_name, normal_name}
 use Rattle.pyver_core.specs.Parsed.{parsed_version}
 use Rattle.pyver_core.specs.Version.Parts.{Parts}
 use Rattle.pyver_core.specs.declared.version.error.VersionError.{VersionError}
 use Rattle.pywheel_core.specs.Tag.{TagValue, at_position, is_tag, is_tag_set, tag_of, tag_with, tags_after, tags_in, tags_of, with_tag}
-use Rattle.pywheel_core.specs.Texts.{three_parts}
+use Rattle.pywheel_core.specs.Sdist.Reading.{sdist_name_in, sdist_of, sdist_stem, sdist_version_in}
+use Rattle.pywheel_core.specs.Texts.{cut_at_last, three_parts}
 use Rattle.pywheel_core.specs.Wheel.Build.{is_build}
 use Rattle.pywheel_core.specs.Wheel.Cut.{WheelParts, parts_of, stem_of}
 use Rattle.pywheel_core.specs.Wheel.Name.{is_wheel_name}
 use Rattle.pywheel_core.specs.Wheel.Reading.{build_in, name_in, set_tags_in, tag_set_in, version_in, version_or, wheel_in, wheel_of}
+use Rattle.pywheel_core.specs.declared.error.SdistError.TheVariants as sdist
 use Rattle.pywheel_core.specs.declared.error.TagError.{TagError}
 use Rattle.pywheel_core.specs.declared.error.TagError.TheVariants as tag
 use Rattle.pywheel_core.specs.declared.error.TagListError.TheVariants as list
@@ -83,5 +87,17 @@ wheel_never_memory text =
     (λ stem. never_then wheel.Memory (ok_or (parts_of stem) wheel.Parts) (λ parts. wheel_in parts)
     (never_or wheel.Memory wheel.Parts (parts_of stem) (λ e. cc e)) (λ parts. parts_never_memory parts))
 
--- none of the three readings is out of memory
-pub ruleset never_memory = (tag_never_memory, tags_never_memory, wheel_never_memory)
+-- ---- names of source distributions
+
+pub sdist_never_memory : (text : List ℕ) → Never sdist.Memory (sdist_of text)
+unfolding sdist_of sdist_name_in sdist_version_in
+sdist_never_memory text =
+    never_then sdist.Memory (ok_or (sdist_stem text) sdist.Extension) _ (never_or sdist.Memory sdist.Extension (sdist_stem text) (λ e. cc e))
+    (λ stem. never_then sdist.Memory (ok_or (cut_at_last 45 stem) sdist.Parts) _ (never_or sdist.Memory sdist.Parts (cut_at_last 45 stem) (λ e. cc e))
+    (λ parts. never_then sdist.Memory (sdist_name_in parts.0) _
+    (never_cond sdist.Memory (is_name parts.0) (Ok (normal_name parts.0)) (Err sdist.Name) (λ e. cc e) (λ e. cc e))
+    (λ name. never_then sdist.Memory (sdist_version_in parts.1) _
+    (never_or sdist.Memory sdist.Version (result_ok (parsed_version parts.1)) (λ e. cc e)) (λ version e. cc e))))
+
+-- none of the four readings is out of memory
+pub ruleset never_memory = (tag_never_memory, tags_never_memory, wheel_never_memory, sdist_never_memory)

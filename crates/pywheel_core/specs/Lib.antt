@@ -2,6 +2,7 @@ pub mod Choice
 pub mod Inner
 pub mod Marks
 pub mod ReadTable
+pub mod Sdist
 pub mod Spans
 pub mod Tag
 pub mod TagLaws

@@ -12,7 +12,7 @@ ghost use Rattle.pywheel_core.specs.Inner.Cut.{is_undashed};
 ghost use Rattle.pywheel_core.specs.Spans.{spans_of};
 ghost use Rattle.pytext.specs.Bytes.{is_word_byte};
 ghost use Rattle.pywheel_core.specs.Tag.{is_tag, is_tag_part};
-ghost use Rattle.pywheel_core.specs.Texts.{cut_at, three_parts};
+ghost use Rattle.pywheel_core.specs.Texts.{before_ending, cut_at, cut_at_last, three_parts};
 ghost use Rattle.pywheel_core.specs.Wheel.Cut.{end_of, end_with_build, end_without_build};
 ghost use Rattle.pywheel_core.specs.Wheel.Cut.{parts_of, stem_of};
 
@@ -63,6 +63,13 @@ pub(crate) fn cut(text: &str) -> Option<(&str, &str)>
     Some((&text[..place], &text[place + 1..]))
 }
 
+/// What stands before the last `-`, and what stands after it.
+pub(crate) fn last_cut(text: &str) -> Option<(&str, &str)>
+    ensures { option_map (λ x. (x.0.now, x.1.now)) result ≡ cut_at_last 45 text.now }
+{
+    text.rsplit_once('-')
+}
+
 /// How many bytes stand before the first `-`: all where there is none.
 fn undashed_len(text: &str) -> usize
     ensures { result ≡ prefix_len is_undashed text.now }
@@ -87,12 +94,19 @@ pub(crate) fn three_parts(text: &str) -> Option<TagSet<'_>>
     })
 }
 
+/// What stands before this ending, where the text has it.
+#[tactic(auto, using(crate::proofs::Lemmas::Texts::Cuts::before_ending_is))]
+pub(crate) fn before_ending<'a>(text: &'a str, ending: &str) -> Option<&'a str>
+    ensures { option_map (λ x. x.now) result ≡ before_ending ending.now text.now }
+{
+    text.strip_suffix(ending)
+}
+
 /// What stands before `.whl`.
-#[tactic(auto, using(crate::proofs::Lemmas::Texts::Cuts::stem_is))]
 pub(crate) fn stem(text: &str) -> Option<&str>
     ensures { option_map (λ x. x.now) result ≡ stem_of text.now }
 {
-    text.strip_suffix(".whl")
+    before_ending(text, ".whl")
 }
 
 /// What stands behind the version, where no build tag does.

@@ -5,6 +5,7 @@ ghost use Rattle.std.specs.List.{join_by};
 ghost use Rattle.pywheel_core.specs.Tag.{tag_text};
 ghost use Rattle.pywheel_core.specs.Wheel.Value.{wheel_text};
 
+use crate::sdist::SdistName;
 use crate::tag::Tag;
 use crate::wheel::WheelName;
 use std::alloc::{AllocError, Global};
@@ -37,6 +38,12 @@ pub fn tags_text(alloc: Global, tags: &[Tag]) -> Result<String, AllocError>
 impl fmt::Debug for Tag {
     fn fmt<W: fmt::Write>(&self, f: &mut fmt::Formatter<W>) -> fmt::Result {
         write!(f, "Tag({self})")
+    }
+}
+
+impl fmt::Debug for SdistName {
+    fn fmt<W: fmt::Write>(&self, f: &mut fmt::Formatter<W>) -> fmt::Result {
+        write!(f, "SdistName({} {})", self.name(), self.version())
     }
 }
 

@@ -1,6 +1,7 @@
 //! Why a text is refused.
 
 ghost use Rattle.std.specs.Prelude.{◌≡◌};
+ghost use Rattle.pywheel_core.specs.declared.error.SdistError.TheVariants as sdist;
 ghost use Rattle.pywheel_core.specs.declared.error.TagError.TheVariants as tag;
 ghost use Rattle.pywheel_core.specs.declared.error.TagListError.TheVariants as list;
 ghost use Rattle.pywheel_core.specs.declared.error.WheelError.TheVariants as wheel;
@@ -52,6 +53,27 @@ pub enum WheelError {
     Memory,
 }
 
+/// Why a text isn't taken as the name of a source distribution, in the order in which these are
+/// judged.
+#[derive(Clone, Copy, PartialEq, Eq, Debug, Error)]
+pub enum SdistError {
+    /// The text doesn't end in `.tar.gz` or `.zip`.
+    #[error("extension")]
+    Extension,
+    /// No `-` stands before the extension.
+    #[error("parts")]
+    Parts,
+    /// What stands before the last `-` isn't a name of PEP 508.
+    #[error("name")]
+    Name,
+    /// What stands after the last `-` isn't a version of PEP 440.
+    #[error("version")]
+    Version,
+    /// There was no memory for the name.
+    #[error("memory")]
+    Memory,
+}
+
 impl<E: Into<AllocError> + Drop> From<E> for TagError {
     ghost from_gives = { λ _ e. e ≡ tag.Memory };
 
@@ -73,5 +95,13 @@ impl<E: Into<AllocError> + Drop> From<E> for WheelError {
 
     fn from(_refused: E) -> WheelError {
         WheelError::Memory
+    }
+}
+
+impl<E: Into<AllocError> + Drop> From<E> for SdistError {
+    ghost from_gives = { λ _ e. e ≡ sdist.Memory };
+
+    fn from(_refused: E) -> SdistError {
+        SdistError::Memory
     }
 }

@@ -1,16 +1,21 @@
 //! Laws of the definitions alone: each function's contract is a law, and its body is empty.
 
-ghost use Rattle.std.specs.Prelude.{◌≡◌, ◌∷◌, ℕ, List, Option, Some, Err, Ok};
+ghost use Rattle.std.specs.Prelude.{◌≡◌, ◌∷◌, ℕ, List, Option, Some, Err, Ok, true};
 ghost use Rattle.std.specs.List.{IsDistinct};
+ghost use Rattle.pyver_core.specs.Name.{is_name, normal_name};
+ghost use Rattle.pyver_core.specs.Version.Grammar.{IsLarge, Spells};
 ghost use Rattle.pyver_core.specs.Version.Parts.{Parts};
 ghost use Rattle.pywheel_core.specs.Choice.{IsBest, best};
+ghost use Rattle.pywheel_core.specs.Sdist.Grammar.{Sdist};
+ghost use Rattle.pywheel_core.specs.Sdist.Reading.{sdist_of};
+ghost use Rattle.pywheel_core.specs.Sdist.Value.{SdistValue, sdist_text};
 ghost use Rattle.pywheel_core.specs.Tag.{AreFirsts, AreTags, IsNoTag, TagText, TagValue, rank_of};
 ghost use Rattle.pywheel_core.specs.Tag.{tag_eq, tag_of, tags_of};
 ghost use Rattle.pywheel_core.specs.Wheel.Grammar.{Wheel};
 ghost use Rattle.pywheel_core.specs.Wheel.Reading.{set_tags_in, wheel_of};
 ghost use Rattle.pywheel_core.specs.Wheel.Value.{WheelValue};
 
-use crate::{TagError, TagListError, WheelError};
+use crate::{SdistError, TagError, TagListError, WheelError};
 
 /// What [`Tag::parse`](crate::Tag::parse) reads, the text is, and what the text is, it reads.
 pub fn tag_of_is_the_answer()
@@ -80,11 +85,37 @@ pub fn tag_set_has_the_tags()
         → wheel_of text ≡ Ok w → set_tags_in w.tag_set ≡ Ok w.tags }
 {}
 
-/// The reading of a tag, of a list of tags or of the name of a wheel is never out of memory: only
-/// a call may answer it.
+/// What [`SdistName::parse`](crate::SdistName::parse) reads, the text says as the name of a source
+/// distribution.
+#[tactic(auto, using(crate::proofs::Lemmas::Sdist::Grammar::sdist_says))]
+pub fn sdist_of_is_the_answer()
+    ensures { (text : List ℕ) (s : SdistValue)
+        → sdist_of text ≡ Ok s → Sdist text s.name s.version }
+{}
+
+/// What a text says as the name of a source distribution,
+/// [`SdistName::parse`](crate::SdistName::parse) reads.
+pub fn sdist_of_is_complete()
+    ensures { (text name : List ℕ) (version : Parts)
+        → Sdist text name version
+        → sdist_of text ≡ Ok (record { name = name; version = version }) }
+{}
+
+/// The file name that PEP 625 asks for says the name and the version that it is made of: a name in
+/// normal form, and parts that a text spells, with no number past the limit.
+pub fn sdist_of_normal()
+    ensures { (s : SdistValue) (spelling : List ℕ)
+        → is_name s.name ≡ true → normal_name s.name ≡ s.name
+        → Spells spelling s.version → (IsLarge s.version → ⊥)
+        → sdist_of (sdist_text s) ≡ Ok s }
+{}
+
+/// The reading of a tag, of a list of tags or of the name of a wheel or a source distribution is
+/// never out of memory: only a call may answer it.
 #[tactic(auto, using(crate::proofs::NeverMemory::never_memory))]
 pub fn answers_are_never_out_of_memory()
     ensures tag { (text : List ℕ) → tag_of text ≡ Err TagError.Memory → ⊥ }
     ensures tags { (texts : List (List ℕ)) → tags_of texts ≡ Err TagListError.Memory → ⊥ }
     ensures wheel { (text : List ℕ) → wheel_of text ≡ Err WheelError.Memory → ⊥ }
+    ensures sdist { (text : List ℕ) → sdist_of text ≡ Err SdistError.Memory → ⊥ }
 {}

@@ -1,4 +1,4 @@
-//! Tags, wheel names and the choice of a wheel (PEP 425, PEP 427).
+//! Tags, wheel names and the choice of a wheel (PEP 425, PEP 427), and sdist names (PEP 625).
 //!
 //! In a list of tags the most preferred stands first, and the position of a tag is its rank. A name
 //! that can't be read may stand among the wheels as `None`, and is never chosen. `README.md` says
@@ -23,6 +23,7 @@ mod halves;
 pub mod laws;
 mod marks;
 mod reader;
+mod sdist;
 mod span;
 mod tag;
 mod tag_list;
@@ -31,8 +32,9 @@ mod wheel;
 
 pub use choice::{best_rank, choose};
 pub use display::tags_text;
-pub use error::{TagError, TagListError, WheelError};
+pub use error::{SdistError, TagError, TagListError, WheelError};
 pub use reader::WheelReader;
+pub use sdist::SdistName;
 pub use tag::Tag;
 pub use tag_list::TagList;
 pub use wheel::WheelName;

@@ -4,7 +4,7 @@ ghost use Rattle.std.specs.Prelude.{◌≡◌, ◌<◌, ◌≤◌, Ok, IfOk, IfS
 ghost use Rattle.std.specs.BTreeMap.{btree_map_len};
 ghost use Rattle.pytext.specs.Agreement.{Gives};
 ghost use Rattle.pywheel_core.specs.ReadTable.{AllRead};
-ghost use Rattle.pywheel_core.specs.Wheel.Grammar.{IsUndashed};
+ghost use Rattle.pywheel_core.specs.Texts.{IsUndashed};
 ghost use Rattle.pywheel_core.specs.Wheel.Halves.{end_in, end_value};
 ghost use Rattle.pywheel_core.specs.Wheel.Reading.{wheel_of};
 

@@ -1,8 +1,7 @@
 -- The parts of a wheel's name (PEP 427, "File name convention").
-use Rattle.std.specs.Prelude.{ℕ, ◌-◌, bytes_eq, if◌then◌else◌, List, length, take, drop, codes}
-use Rattle.std.specs.Prelude.{Option, Some, None, is_some}
+use Rattle.std.specs.Prelude.{ℕ, if◌then◌else◌, List, codes, Option, Some, None, is_some}
 use Rattle.pytext.specs.Options.{◌>>=◌, either}
-use Rattle.pywheel_core.specs.Texts.{cut_at, three_parts}
+use Rattle.pywheel_core.specs.Texts.{before_ending, cut_at, three_parts}
 
 -- the parts as written; `tag_set` is the last three, with `-` between them
 pub record WheelParts : Type 0 where
@@ -12,9 +11,8 @@ pub record WheelParts : Type 0 where
   pub tag_set : List ℕ
 
 -- what stands before the extension
-unfoldable pub stem_of : List ℕ → Option (List ℕ)
-stem_of text = if bytes_eq (drop (length text - 4) text) (codes ".whl")
-    then Some (take (length text - 4) text) else None
+abbrev pub stem_of : List ℕ → Option (List ℕ)
+stem_of text = before_ending (codes ".whl") text
 
 -- the parts behind the version: three, which are a tag set
 unfoldable pub end_without_build : List ℕ → Option (Option (List ℕ) × List ℕ)

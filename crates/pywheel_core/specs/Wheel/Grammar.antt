@@ -1,19 +1,16 @@
 -- Which texts are the names of wheels, and what they say (PEP 427, "File name convention"; PEP 425,
 -- "Compressed Tag Sets"). A relation over the ways to cut the whole text.
-use Rattle.std.specs.Prelude.{◌≡◌, ℕ, ◌≤◌, true, false, ◌==◌, List, [], ◌∷◌, ◌++◌, codes, Option}
-use Rattle.std.specs.List.{join_with_byte, list_any}
+use Rattle.std.specs.Prelude.{◌≡◌, ℕ, ◌≤◌, true, List, [], ◌∷◌, ◌++◌, codes, Option}
+use Rattle.std.specs.List.{join_with_byte}
 use Rattle.std.specs.Option.{IfSome, option_to_list}
 use Rattle.std.specs.Str.{str_to_ascii_lowercase}
 use Rattle.pyver_core.specs.Version.Grammar.{IsLarge, Spells}
 use Rattle.pyver_core.specs.Version.Parts.{Parts}
 use Rattle.pywheel_core.specs.Tag.{TAGS_LIMIT, TagParts, TagValue, are_tag_parts, pieces, tag_count}
 use Rattle.pywheel_core.specs.Tag.{tags_in}
+use Rattle.pywheel_core.specs.Texts.{IsUndashed}
 use Rattle.pywheel_core.specs.Wheel.Build.{is_build}
 use Rattle.pywheel_core.specs.Wheel.Name.{is_wheel_name}
-
--- no `-` stands in the text
-abbrev pub IsUndashed : List ℕ → Type 0
-IsUndashed text = list_any (λ b. b == 45) text ≡ false
 
 -- the parts in a row, with `-` between each two
 abbrev pub join_dashed : List (List ℕ) → List ℕ

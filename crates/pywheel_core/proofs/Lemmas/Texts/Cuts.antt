@@ -1,5 +1,6 @@
 -- Texts cut at a byte: what std's words say, in the words of `cut_at` and `pieces_at`.
-use Rattle.std.proofs.Common.{◌≡◌, ℕ, suc, ◌+◌, ◌-◌, ◌<◌, true, false, ◌==◌, bytes_eq, codes, List, [], ◌∷◌, ◌++◌, length, get_or, take, drop, Option, Some, None, option_map, MatchOption, Bor, refl, sym, subst, ap, ◌∙◌, inl, inr, arith}
+use Rattle.std.proofs.Common.{◌≡◌, ℕ, suc, ◌+◌, ◌-◌, ◌<◌, true, false, ◌==◌, bytes_eq, List, [], ◌∷◌, ◌++◌, length, get_or, take, drop, Bool, Option, Some, None, option_map, MatchOption, Bor, refl, sym, subst, ap, ◌∙◌, inl, inr, arith}
+use Rattle.std.proofs.Math.Seq.{drop-append_seam, take-append_seam}
 use Rattle.std.proofs.lemmas.Bool.Decides.{Decides-eqb, nat_tests}
 use Rattle.std.proofs.lemmas.List.{append_assoc, append_cancel_left, take-append-drop, length-append}
 use Rattle.std.proofs.lemmas.List.Elements.{All-cons}
@@ -7,18 +8,17 @@ use Rattle.std.proofs.lemmas.List.Splits.{length-slice_split, slice_split_at, sl
 use Rattle.std.proofs.lemmas.Option.{same_Some}
 use Rattle.std.specs.Cmp.Lexicographic.{bytes_decides}
 use Rattle.std.specs.Str.Pattern.{FindsTextSuffix, StripsSuffix}
-use Rattle.std.specs.List.{All, after_first, before_first, list_any, position_or_len, prefix_len}
+use Rattle.std.specs.List.{All, after_first, before_first, list_all, list_any, position_or_len, prefix_len}
 use Rattle.std.specs.Str.{IsCharBoundary, IsUtf8}
 use Rattle.std.proofs.lemmas.List.Sums.{prefix_len_stops}
 use Rattle.std.proofs.lemmas.Str.{IsCharBoundary-after_ascii}
 use Rattle.pytext.proofs.BoundaryLemmas.{boundary_before}
 use Rattle.pywheel_core.specs.Inner.Cut.{is_undashed}
 use Rattle.pytext.proofs.OptionsLemmas.{option_cases}
-use Rattle.std.proofs.lemmas.Bool.{cases_Bool, or_parts}
-use Rattle.pywheel_core.specs.Texts.{before_cut, cut_at, pieces_at}
+use Rattle.std.proofs.lemmas.Bool.{and_parts, cases_Bool, or_parts}
+use Rattle.pywheel_core.specs.Texts.{before_cut, before_ending, cut_at, pieces_at}
 use Rattle.pywheel_core.specs.Spans.{spans_from}
 use Rattle.pywheel_core.specs.Tag.{pieces}
-use Rattle.pywheel_core.specs.Wheel.Cut.{stem_of}
 use Rattle.pywheel_core.specs.declared.span.Span.{Span}
 
 pub cut-first : (c : ℕ) (s : List ℕ) → position_or_len (λ b. b == c) s < length s
@@ -48,24 +48,46 @@ pub split_once_is : (c : ℕ) (s : List ℕ) (r : Option (Bor (List ℕ) × Bor 
 split_once_is c s None h = sym (cut-none c s h)
 split_once_is c s (Some x) h = (λ i. Some (h.0 i, h.1 i)) ∙ sym (cut-first c s h.2)
 
--- what `strip_suffix` answers at `.whl`
-pub stem_is : (s : List ℕ) (r : Option (Bor (List ℕ)))
-    → MatchOption r (FindsTextSuffix (codes ".whl") s None) (λ x. StripsSuffix (FindsTextSuffix (codes ".whl")) s x.now)
-    → option_map (λ x. x.now) r ≡ stem_of s
-unfolding stem_of
-stem_is s None h =
-    let m = length s - 4 in
-    elim (cases_Bool (bytes_eq (drop m s) (codes ".whl"))) [
-      | inl e ↦ absurd (h (take m s) (sym (take-append-drop m s) ∙ ap (λ l. take m s ++ l) ((bytes_decides (drop m s) (codes ".whl")).0 e)))
+-- what `strip_suffix` answers at a text
+pub before_ending_is : (ending s : List ℕ) (r : Option (Bor (List ℕ)))
+    → MatchOption r (FindsTextSuffix ending s None) (λ x. StripsSuffix (FindsTextSuffix ending) s x.now)
+    → option_map (λ x. x.now) r ≡ before_ending ending s
+unfolding before_ending
+before_ending_is ending s None h =
+    let m = length s - length ending in
+    elim (cases_Bool (bytes_eq (drop m s) ending)) [
+      | inl e ↦ absurd (h (take m s) (sym (take-append-drop m s) ∙ ap (λ l. take m s ++ l) ((bytes_decides (drop m s) ending).0 e)))
       | inr e ↦ rw e refl
     ]
-stem_is s (Some x) h =
-    let m = length s - 4 in
-    let whole : s ≡ take m s ++ codes ".whl" = subst (λ k. s ≡ take (length s - k) s ++ codes ".whl") h.1.0 h.1.1 in
-    let end : drop m s ≡ codes ".whl" = append_cancel_left (take m s) (drop m s) (codes ".whl") (take-append-drop m s ∙ whole) in
-    let test : bytes_eq (drop m s) (codes ".whl") ≡ true = (bytes_decides (drop m s) (codes ".whl")).1 end in
+before_ending_is ending s (Some x) h =
+    let m = length s - length ending in
+    let whole : s ≡ take m s ++ ending = subst (λ k. s ≡ take (length s - k) s ++ ending) h.1.0 h.1.1 in
+    let end : drop m s ≡ ending = append_cancel_left (take m s) (drop m s) ending (take-append-drop m s ∙ whole) in
+    let test : bytes_eq (drop m s) ending ≡ true = (bytes_decides (drop m s) ending).1 end in
     let front : x.now ≡ take m s = subst (λ k. x.now ≡ take (length s - k) s) h.1.0 h.2 in
     rw test (ap Some front)
+
+-- ---- what stands before an ending
+
+pub ending_says : (ending text front : List ℕ) → before_ending ending text ≡ Some front → text ≡ front ++ ending
+unfolding before_ending
+ending_says ending text front h =
+    let m = length text - length ending in
+    elim (cases_Bool (bytes_eq (drop m text) ending)) [
+      | inl e ↦
+          let same : take m text ≡ front = same_Some (take m text) front (rw e at h) in
+          sym (take-append-drop m text) ∙ (λ i. same i ++ (bytes_decides (drop m text) ending).0 e i)
+      | inr e ↦ absurd (let z : None ≡ Some front = rw e at h in cc)
+    ]
+
+pub ending_joined : (ending front : List ℕ) → before_ending ending (front ++ ending) ≡ Some front
+unfolding before_ending
+ending_joined ending front =
+    let whole = front ++ ending in
+    let n : length whole - length ending ≡ length front = let k = length-append front ending in omega (arith, k) in
+    let end : drop (length whole - length ending) whole ≡ ending = ap (λ k. drop k whole) n ∙ drop-append_seam front ending in
+    let test : bytes_eq (drop (length whole - length ending) whole) ending ≡ true = (bytes_decides _ ending).1 end in
+    rw test (ap Some (ap (λ k. take k whole) n ∙ take-append_seam front ending))
 
 -- ---- what a cut says of the text
 
@@ -75,6 +97,14 @@ Lacks c s = list_any (λ b. b == c) s ≡ false
 
 lacks_more : (c b : ℕ) (s : List ℕ) → (b == c) ≡ false → Lacks c s → Lacks c (b ∷ s)
 lacks_more c b s e h = rw e h
+
+pub lacks_both : (s t : List ℕ) → Lacks 45 s → Lacks 45 t → Lacks 45 (s ++ t)
+lacks_both [] t x y = y
+lacks_both (b ∷ s) t x y = let n = or_parts (b == 45) (list_any (λ d. d == 45) s) x in let e = n.0 in rw e (lacks_both s t n.1 y)
+
+pub bytes_lack : (test : ℕ → Bool) → ((b : ℕ) → test b ≡ true → (b == 45) ≡ false) → (s : List ℕ) → list_all test s ≡ true → Lacks 45 s
+bytes_lack test no_dash [] h = refl
+bytes_lack test no_dash (b ∷ s) h = let p = and_parts (test b) (list_all test s) h in let e = no_dash b p.0 in rw e (bytes_lack test no_dash s p.1)
 
 pub cut_says : (c : ℕ) (s x y : List ℕ) → cut_at c s ≡ Some (x, y) → (s ≡ x ++ (c ∷ y)) × Lacks c x
 cut_says c [] x y h = absurd cc

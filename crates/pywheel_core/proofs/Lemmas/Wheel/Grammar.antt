@@ -1,19 +1,16 @@
 -- What is read as the name of a wheel is what the relation says, and the other way round.
-use Rattle.std.proofs.Common.{◌≡◌, ◌≢◌, ℕ, ◌-◌, Bool, true, false, ◌==◌, ◌&&◌, ◌||◌, not, nat_le, nat_lt, bytes_eq, if◌then◌else◌, codes, List, [], ◌∷◌, ◌++◌, length, take, drop, Option, Some, None, Result, Ok, Err, refl, sym, subst, ap, ◌∙◌, inl, inr, arith}
+use Rattle.std.proofs.Common.{◌≡◌, ◌≢◌, ℕ, true, false, ◌==◌, ◌&&◌, ◌||◌, not, nat_le, nat_lt, if◌then◌else◌, codes, List, [], ◌∷◌, ◌++◌, length, Option, Some, None, Result, Ok, Err, refl, sym, subst, ap, ◌∙◌, inl, inr, arith}
 use Rattle.std.proofs.Math.Bool.{true≢false}
-use Rattle.std.proofs.Math.Seq.{drop-append_seam, take-append_seam}
 use Rattle.std.proofs.lemmas.Bool.Decides.{nat_tests}
-use Rattle.std.proofs.lemmas.List.{length-append, take-append-drop}
 use Rattle.std.proofs.lemmas.Option.{same_Some}
 use Rattle.std.specs.Char.{to_ascii_lowercase}
-use Rattle.std.specs.Cmp.Lexicographic.{bytes_decides}
 use Rattle.std.specs.List.{join_with_byte, list_all, list_any}
 use Rattle.std.specs.Option.{IfSome, ok_or, option_to_list}
 use Rattle.std.specs.Result.{IfErr, IfOk}
 use Rattle.std.specs.Str.{str_to_ascii_lowercase}
 use Rattle.pyver_core.proofs.Lemmas.Version.Reading.Complete.Whole.{version_complete}
 use Rattle.pytext.proofs.OptionsLemmas.{option_cases}
-use Rattle.std.proofs.lemmas.Bool.{and_parts, cases_Bool, or_parts}
+use Rattle.std.proofs.lemmas.Bool.{and_parts, cases_Bool}
 use Rattle.pyver_core.proofs.Lemmas.Version.Reading.Sound.Parts.{version_sound}
 use Rattle.pyver_core.specs.Version.Grammar.{IsLarge, Spells, has_large, numbers}
 use Rattle.pyver_core.specs.Version.Parts.{Parts}
@@ -25,16 +22,16 @@ use Rattle.pyver_core.specs.Parsed.{parsed_version}
 use Rattle.pytext.specs.Bytes.{is_word_byte}
 use Rattle.pywheel_core.specs.Tag.{TAGS_LIMIT, TagParts, TagValue, are_tag_parts, has_tag_parts, is_tag_part, is_tag_set, pieces, tag_count, tags_in}
 use Rattle.std.proofs.lemmas.List.Splits.{join_with_byte-slice_split}
-use Rattle.pywheel_core.specs.Texts.{has_pair, three_parts}
+use Rattle.pywheel_core.specs.Texts.{IsUndashed, has_pair, three_parts}
 use Rattle.pywheel_core.specs.Wheel.Build.{is_build}
 use Rattle.pywheel_core.specs.Wheel.Cut.{WheelParts, parts_of, stem_of}
-use Rattle.pywheel_core.specs.Wheel.Grammar.{IsTagSet, IsUndashed, Wheel, join_dashed}
+use Rattle.pywheel_core.specs.Wheel.Grammar.{IsTagSet, Wheel, join_dashed}
 use Rattle.pywheel_core.specs.Wheel.Name.{is_wheel_name, is_wheel_name_byte}
 use Rattle.pywheel_core.specs.Wheel.Reading.{build_in, name_in, set_tags_in, tag_set_in, version_in, wheel_in, wheel_of}
 use Rattle.pywheel_core.specs.Wheel.Value.{WheelValue, with_build}
 use Rattle.pywheel_core.specs.declared.error.WheelError.{WheelError}
 use Rattle.pywheel_core.specs.declared.error.WheelError.TheVariants as wheel
-use Rattle.pywheel_core.proofs.Lemmas.Texts.Cuts.{Lacks, cut_joined, cut_lacking}
+use Rattle.pywheel_core.proofs.Lemmas.Texts.Cuts.{Lacks, bytes_lack, cut_joined, cut_lacking, ending_joined, ending_says, lacks_both}
 use Rattle.pywheel_core.proofs.Lemmas.Tag.Lowering.{lower_cut_set, lower_eq}
 use Rattle.pywheel_core.proofs.Lemmas.Wheel.Cut.{parts_made, parts_say}
 use Rattle.pywheel_core.proofs.Lemmas.Tag.Pieces.{three_say}
@@ -45,7 +42,7 @@ use Rattle.pywheel_core.proofs.Lemmas.Wheel.Versions.{version_taken}
 lower_dash : (b : ℕ) → (to_ascii_lowercase b == 45) ≡ (b == 45)
 lower_dash b = lower_eq 45 b (omega arith)
 
-lower_lacks : (s : List ℕ) → list_any (λ b. b == 45) (str_to_ascii_lowercase s) ≡ list_any (λ b. b == 45) s
+pub lower_lacks : (s : List ℕ) → list_any (λ b. b == 45) (str_to_ascii_lowercase s) ≡ list_any (λ b. b == 45) s
 lower_lacks [] = refl
 lower_lacks (b ∷ s) = λ i. lower_dash b i || lower_lacks s i
 
@@ -70,23 +67,10 @@ four_refused b p a q x y z =
 -- ---- the extension
 
 pub stem_says : (text stem : List ℕ) → stem_of text ≡ Some stem → text ≡ stem ++ codes ".whl"
-unfolding stem_of
-stem_says text stem h =
-    let m = length text - 4 in
-    elim (cases_Bool (bytes_eq (drop m text) (codes ".whl"))) [
-      | inl e ↦
-          let front : take m text ≡ stem = same_Some (take m text) stem (rw e at h) in
-          sym (take-append-drop m text) ∙ (λ i. front i ++ (bytes_decides (drop m text) (codes ".whl")).0 e i)
-      | inr e ↦ absurd (let z : None ≡ Some stem = rw e at h in cc)
-    ]
+stem_says text stem h = ending_says (codes ".whl") text stem h
 
 pub stem_joined : (stem : List ℕ) → stem_of (stem ++ codes ".whl") ≡ Some stem
-unfolding stem_of
-stem_joined stem =
-    let n : length (stem ++ codes ".whl") - 4 ≡ length stem = let k = length-append stem (codes ".whl") in omega (arith, k) in
-    let end : drop (length (stem ++ codes ".whl") - 4) (stem ++ codes ".whl") ≡ codes ".whl" = ap (λ k. drop k (stem ++ codes ".whl")) n ∙ drop-append_seam stem (codes ".whl") in
-    let test : bytes_eq (drop (length (stem ++ codes ".whl") - 4) (stem ++ codes ".whl")) (codes ".whl") ≡ true = (bytes_decides _ (codes ".whl")).1 end in
-    rw test (ap Some (ap (λ k. take k (stem ++ codes ".whl")) n ∙ take-append_seam stem (codes ".whl")))
+stem_joined stem = ending_joined (codes ".whl") stem
 
 -- ---- each part that is taken
 
@@ -189,14 +173,6 @@ wheel_says text w h =
     subst P (λ i. ((name.1 ∙ ap (λ u. u.name) is) i, ap (λ u. u.version) is i, (build.0 ∙ ap (λ u. u.build) is) i, ap (λ u. u.tags) is i)) it
 
 -- ---- and the other way round
-
-lacks_both : (s t : List ℕ) → Lacks 45 s → Lacks 45 t → Lacks 45 (s ++ t)
-lacks_both [] t x y = y
-lacks_both (b ∷ s) t x y = let n = or_parts (b == 45) (list_any (λ d. d == 45) s) x in let e = n.0 in rw e (lacks_both s t n.1 y)
-
-bytes_lack : (test : ℕ → Bool) → ((b : ℕ) → test b ≡ true → (b == 45) ≡ false) → (s : List ℕ) → list_all test s ≡ true → Lacks 45 s
-bytes_lack test no_dash [] h = refl
-bytes_lack test no_dash (b ∷ s) h = let p = and_parts (test b) (list_all test s) h in let e = no_dash b p.0 in rw e (bytes_lack test no_dash s p.1)
 
 tag_byte_no_dash : (b : ℕ) → is_word_byte b ≡ true → (b == 45) ≡ false
 tag_byte_no_dash b h = grind (arith, nat_tests, h)
