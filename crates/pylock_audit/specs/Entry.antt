@@ -26,7 +26,7 @@ use Rattle.pylock_core.specs.Session.Picks.{SourceValue, sources}
 use Rattle.pylock_core.specs.declared.answer.PickSource.{PickSource}
 use Rattle.pylock_audit.specs.FileName.{shown_file_name}
 use Rattle.pylock_audit.specs.Finding.{FindingValue, findings_each, finding_where, told_where}
-use Rattle.pylock_audit.specs.Keys.{unknown_of_entry}
+use Rattle.pylock_audit.specs.EntryKeys.{entry_keys_told}
 use Rattle.pylock_audit.specs.Source.{name_where, over_sources, text_where}
 use Rattle.pylock_audit.specs.Unsafe.{has_control}
 use Rattle.pylock_audit.specs.declared.finding.FindingKind.{FindingKind}
@@ -38,11 +38,13 @@ use Rattle.pylock_audit.specs.declared.finding.FindingKind.TheVariants as kind
 abbrev pub text_at : List ℕ → Members → Option (List ℕ)
 text_at key members = option_and_then as_str (get_member key members)
 
--- the name as written, where that isn't its own normal form
+-- a text isn't its own normal form
+abbrev pub is_other_form : List ℕ → Bool
+is_other_form name = not (bytes_eq (normal_name name) name)
+
+-- the name as written, where it is so
 abbrev pub other_form : Members → List (List ℕ)
-other_form members =
-    text_where (λ name. not (bytes_eq (normal_name name) name)) (λ name. name)
-    (text_at (codes "name") members)
+other_form members = text_where is_other_form (λ name. name) (text_at (codes "name") members)
 
 abbrev pub refused_version : EntryValue → List (List ℕ)
 refused_version entry =
@@ -183,7 +185,8 @@ same_file_names entry =
 
 abbrev pub of_names : Members → EntryValue → List FindingValue
 of_names members entry =
-    findings_each kind.UnknownKey (unknown_of_entry members)
+    findings_each kind.UnknownKey (entry_keys_told kind.UnknownKey members)
+    ++ findings_each kind.WrongType (entry_keys_told kind.WrongType members)
     ++ findings_each kind.NameForm (other_form members)
     ++ findings_each kind.Version (refused_version entry)
 

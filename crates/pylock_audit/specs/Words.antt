@@ -6,6 +6,7 @@ use Rattle.pylock_audit.specs.declared.finding.FindingKind.TheVariants as kind
 abbrev pub finding_word : FindingKind → List ℕ
 finding_word kind.LockVersion = codes "lock-version"
 finding_word kind.UnknownKey = codes "unknown-key"
+finding_word kind.WrongType = codes "wrong-type"
 finding_word kind.NoPackages = codes "no-packages"
 finding_word kind.NameForm = codes "name-form"
 finding_word kind.Version = codes "version"

@@ -15,9 +15,11 @@ pub enum FindingKind {
     LockVersion,
     /// A key that PEP 751 doesn't name.
     UnknownKey,
+    /// A key has another type than PEP 751 gives it.
+    WrongType,
     /// The head has no key `packages`.
     NoPackages,
-    /// The name isn't its own normal form (PEP 503).
+    /// A name, of an entry or an extra of the head, isn't its own normal form (PEP 503).
     NameForm,
     /// The version is none (PEP 440), or has a number past the limit.
     Version,
@@ -71,6 +73,7 @@ impl FindingKind {
         match self {
             FindingKind::LockVersion => "lock-version",
             FindingKind::UnknownKey => "unknown-key",
+            FindingKind::WrongType => "wrong-type",
             FindingKind::NoPackages => "no-packages",
             FindingKind::NameForm => "name-form",
             FindingKind::Version => "version",

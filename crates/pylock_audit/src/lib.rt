@@ -16,6 +16,7 @@
 mod control;
 mod document;
 mod entry;
+mod entry_keys;
 mod file_name;
 mod files;
 mod finding;
@@ -26,6 +27,7 @@ mod marker;
 mod query;
 mod source;
 mod tables;
+mod types;
 mod unsafe_text;
 mod url;
 

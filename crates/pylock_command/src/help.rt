@@ -136,7 +136,7 @@ can't be read, the output failed or memory ran out.";
 pub(crate) const AUDIT: &str = "\
 Example, with spaces for the TABs:
   $ pylock audit audited.toml
-  findings 24
+  findings 25
   0  -  lock-version  1.1
   ..
   17  requests  credentials  wheels 1 url
@@ -150,8 +150,9 @@ the same.
 FINDING is one of these:
   lock-version        the lock's version isn't 1.0
   unknown-key         PEP 751 doesn't name the key
+  wrong-type          the key has another type than PEP 751 gives it
   no-packages         the key packages is absent
-  name-form           the name isn't in normal form
+  name-form           the name, or an extra of the lock, isn't in normal form
   version             the version is none by PEP 440
   marker-extra        the marker reads extra, so it is a fault everywhere
   undeclared-name     the marker asks for an extra or a group that the lock
