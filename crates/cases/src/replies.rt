@@ -61,6 +61,6 @@ fn query_of<'a>(words: &[&'a str]) -> Option<Query<'a>> {
 
 fn reply_text(alloc: Global, asked: Query<'_>) -> anyhow::Result<String> {
     let mut reply = Vec::new(alloc);
-    let end = query(alloc, asked, &mut ToWrite::new(&mut reply));
+    let end = query(alloc, asked, false, &mut ToWrite::new(&mut reply));
     text_with_status(reply, end)
 }

@@ -1,18 +1,25 @@
 -- What a lock's findings are where the document was read once.
-use Rattle.std.proofs.Common.{◌≡◌, ◌++◌, ℕ, List, [], ◌∷◌, Option, None, Some, Result, Ok, Err, suc, refl, ap, sym, codes, nat_lt, Bool, true, false, if◌then◌else◌}
+use Rattle.std.proofs.Common.{◌≡◌, ◌∙◌, ◌++◌, ◌≤◌, ℕ, List, [], ◌∷◌, length, Option, None, Some, Result, Ok, Err, suc, refl, ap, sym, codes, nat_lt, nat_cmp, not, filter, Bool, true, false, if◌then◌else◌, Ordering, Less, Equal, Greater, arith, ltb-false}
 use Rattle.std.specs.Prelude.{⊤}
-use Rattle.toml.specs.Data.{Data, Items, Members, item, no_items, get_member, string, integer, float, boolean, datetime, array, table}
+use Rattle.std.specs.Cmp.Lexicographic.{slice_cmp}
+use Rattle.toml.specs.Data.{Data, Items, Members, member, no_members, item, no_items, push_item, get_member, string, integer, float, boolean, datetime, array, table}
+use Rattle.pytoml.specs.Members.{with_elements, with_member}
+use Rattle.pytoml.proofs.Others.{with_elements-other, with_member-there}
 use Rattle.pytext.specs.Results.{◌>>=◌}
 use Rattle.pylock_readers.specs.Entry.{EntryValue}
 use Rattle.pylock_readers.specs.Lock.{HeadValue, LockValue}
 use Rattle.pylock_readers.specs.Lock.Head.{created_by_in, head_in, lock_version_in}
 use Rattle.pylock_readers.specs.Lock.Reading.{document_in, entries_in, entries_of, item_count, lock_in, lock_of, most_entries, packages_in, room_for}
+use Rattle.pylock_readers.specs.Inner.Elements.{lock_with}
 use Rattle.pylock_readers.specs.declared.error.LockError.{LockError}
+use Rattle.pylock_readers.proofs.ElementLemmas.{count_push, with_is}
 use Rattle.pylock_readers.specs.declared.error.LockError.TheVariants.{TooMany}
-use Rattle.pylock_audit.specs.Audit.{findings_of, head_findings, items_at, lock_findings, members_in, of_entries}
+use Rattle.pylock_audit.specs.Audit.{audited_of, findings_of, head_findings, head_findings_where, items_at, lock_findings, members_in, of_entries}
 use Rattle.pylock_audit.specs.Entry.{entry_findings}
 use Rattle.pylock_audit.specs.Finding.{LockFindingValue, findings_at}
-use Rattle.pylock_audit.specs.Inner.Tables.{document_findings, looked_at, of_entries_by, of_tables}
+use Rattle.pylock_audit.specs.Inner.Tables.{HasLooked, TableValue, document_audited, has_no_packages, lock_findings_by, looked_at, of_entries_by, of_table, of_tables, tables_after, tables_in, with_findings}
+use Rattle.pylock_audit.specs.Keys.{is_named, table_keys}
+use Rattle.pylock_audit.specs.declared.keys.LockTable.TheVariants as tables
 
 entries_by_tables : (head : HeadValue) (n : ℕ) (es : List EntryValue) (ds : Items)
     → of_entries_by head n es (of_tables ds) ≡ of_entries head n es ds
@@ -23,18 +30,18 @@ entries_by_tables head n (e ∷ es) (item d ds) =
     ap (λ rest. findings_at n (Some e.name) (entry_findings head (members_in d) e) ++ rest) (entries_by_tables head (suc n) es ds)
 
 -- the lock of a head and entries
-abbrev lock_with : HeadValue → List EntryValue → LockValue
-lock_with head es = record { head = head; entries = es }
+abbrev lock_of_parts : HeadValue → List EntryValue → LockValue
+lock_of_parts head es = record { head = head; entries = es }
 
 -- the lock that these steps give, or the first refusal
 abbrev lock_by : Result ⊤ LockError → Result ⊤ LockError → Result HeadValue LockError → Result (List EntryValue) LockError → Result LockValue LockError
-lock_by version creator head entries = version >>= (λ _. creator >>= (λ _. head >>= (λ head. entries >>= (λ es. Ok (lock_with head es)))))
+lock_by version creator head entries = version >>= (λ _. creator >>= (λ _. head >>= (λ head. entries >>= (λ es. Ok (lock_of_parts head es)))))
 
 -- a lock has the findings that it has with these tables, with what those that were looked at gave
 abbrev Same : List LockFindingValue → Result LockValue LockError → Items → Items → Type 0
 Same found lock ds looked =
-    (lock >>= (λ lock. Ok (found ++ of_entries lock.head 1 lock.entries ds)))
-    ≡ (lock >>= (λ lock. Ok (found ++ of_entries_by lock.head 1 lock.entries (of_tables looked))))
+    (lock >>= (λ lock. Ok (lock, found ++ of_entries lock.head 1 lock.entries ds)))
+    ≡ (lock >>= (λ lock. Ok (lock, found ++ of_entries_by lock.head 1 lock.entries (of_tables looked))))
 
 -- room for entries, and the tables that are looked at, where there are too many or not
 abbrev room_unless : Bool → Result ⊤ LockError
@@ -44,12 +51,12 @@ abbrev looked_unless : Bool → Items → Items
 looked_unless many ds = if many then no_items else ds
 
 by_entries : (found : List LockFindingValue) (head : HeadValue) (ds : Items) (es : Result (List EntryValue) LockError)
-    → Same found (es >>= (λ es. Ok (lock_with head es))) ds ds
+    → Same found (es >>= (λ es. Ok (lock_of_parts head es))) ds ds
 by_entries found head ds (Err e) = refl
-by_entries found head ds (Ok es) = ap (λ rest. Ok (found ++ rest)) (sym (entries_by_tables head 1 es ds))
+by_entries found head ds (Ok es) = ap (λ rest. Ok (lock_of_parts head es, found ++ rest)) (sym (entries_by_tables head 1 es ds))
 
 by_count : (found : List LockFindingValue) (head : HeadValue) (ds : Items) (many : Bool)
-    → Same found ((room_unless many >>= (λ _. entries_of 1 ds)) >>= (λ es. Ok (lock_with head es))) ds (looked_unless many ds)
+    → Same found ((room_unless many >>= (λ _. entries_of 1 ds)) >>= (λ es. Ok (lock_of_parts head es))) ds (looked_unless many ds)
 by_count found head ds true = refl
 by_count found head ds false = by_entries found head ds (entries_of 1 ds)
 
@@ -69,7 +76,7 @@ by_steps found (Ok x) (Ok y) (Ok head) (Some (table fields)) = refl
 
 -- a document has the findings that the lock has with it
 beside_tables : (document : Members)
-    → (lock_in document >>= (λ lock. Ok (lock_findings document lock))) ≡ document_findings document
+    → (lock_in document >>= (λ lock. Ok (lock, lock_findings document lock))) ≡ document_audited document
 unfolding lock_in entries_in
 beside_tables document =
     by_steps
@@ -79,16 +86,133 @@ beside_tables document =
     (head_in (get_member (codes "environments") document) (get_member (codes "requires-python") document) (get_member (codes "extras") document) (get_member (codes "dependency-groups") document) (get_member (codes "default-groups") document))
     (get_member (codes "packages") document)
 
--- the findings of the lock that the bytes are, from the document that they are
-pub read_once : (bytes : List ℕ) → findings_of bytes ≡ (document_in bytes >>= document_findings)
-unfolding findings_of lock_of
+-- the lock that the bytes are with its findings, from the document that they are
+pub read_once : (bytes : List ℕ) → audited_of bytes ≡ (document_in bytes >>= document_audited)
+unfolding audited_of lock_of
 read_once bytes = by (document_in bytes)
   where
     by : (document : Result Members LockError)
         → (do
           lock ← document >>= lock_in
           document ← document
-          Ok (lock_findings document lock))
-        ≡ (document >>= document_findings)
+          Ok (lock, lock_findings document lock))
+        ≡ (document >>= document_audited)
     by (Err e) = refl
     by (Ok d) = beside_tables d
+
+findings_alone : (bytes : List ℕ) → findings_of bytes ≡ (audited_of bytes >>= (λ audited. Ok audited.1))
+unfolding audited_of findings_of
+findings_alone bytes = by (lock_of bytes) (document_in bytes)
+  where
+    by : (lock : Result LockValue LockError) (document : Result Members LockError)
+        → (do
+          lock ← lock
+          document ← document
+          Ok (lock_findings document lock))
+        ≡ ((do
+          lock ← lock
+          document ← document
+          Ok (lock, lock_findings document lock)) >>= (λ audited. Ok audited.1))
+    by (Err e) document = refl
+    by (Ok lock) (Err e) = refl
+    by (Ok lock) (Ok d) = refl
+
+pub given_found : (bytes : List ℕ) (result : Result (Lock × Vec LockFinding Global) LockError)
+    → Gives Memory (λ audited. (audited.0, audited.1.items)) result (audited_of bytes)
+    → Gives Memory (λ audited. audited.1.items) result (findings_of bytes)
+given_found bytes (Ok a) is = findings_alone bytes ∙ ap (λ r. r >>= (λ audited. Ok audited.1)) is
+given_found bytes (Err e) is = λ never. findings_alone bytes ∙ ap (λ r. r >>= (λ audited. Ok audited.1)) (is never)
+
+-- ---- where the tables were taken as they came
+
+-- a key that is named, beside the keys that aren't
+unnamed_with : (k : List ℕ) (x : Data) (ms : Members) → is_named tables.Head k ≡ true
+    → filter (λ key. not (is_named tables.Head key)) (table_keys (with_member k x ms))
+    ≡ filter (λ key. not (is_named tables.Head key)) (table_keys ms)
+unnamed_with k x no_members named = rw named
+unnamed_with k x (member l e ms) named = by (slice_cmp nat_cmp k l) refl
+  where
+    by : (o : Ordering) → slice_cmp nat_cmp k l ≡ o
+        → filter (λ key. not (is_named tables.Head key)) (table_keys (with_member k x (member l e ms)))
+        ≡ filter (λ key. not (is_named tables.Head key)) (table_keys (member l e ms))
+    by Less is = rw (is, named)
+    by Equal is = rw is
+    by Greater is =
+        rw is
+        (ap (λ rest. if not (is_named tables.Head l) then l ∷ rest else rest) (unnamed_with k x ms named))
+
+-- a head has the findings that it has with elements of `packages`
+same_head : (document : Members) (ds : Items)
+    → head_findings_where false (with_elements (codes "packages") ds document) ≡ head_findings_where false document
+same_head document no_items = refl
+same_head document (item d ds) =
+    rw (
+      with_elements-other (codes "lock-version") (codes "packages") (item d ds) document refl,
+      unnamed_with (codes "packages") (array (item d ds)) document refl,
+      with_elements-other (codes "tool") (codes "packages") (item d ds) document refl,
+      with_elements-other (codes "extras") (codes "packages") (item d ds) document refl,
+    )
+
+-- a lock with too many entries is refused, whatever it has
+refused_by : (document : Members) (d : Data) (ds : Items) (found : LockValue → List LockFindingValue) (other : LockValue → List LockFindingValue)
+    → nat_lt most_entries (item_count (item d ds)) ≡ true
+    → (lock_in (with_elements (codes "packages") (item d ds) document) >>= (λ lock. Ok (lock, found lock)))
+    ≡ (lock_in (with_elements (codes "packages") (item d ds) document) >>= (λ lock. Ok (lock, other lock)))
+unfolding lock_with
+refused_by document d ds found other many =
+    rw (with_is document d ds, many)
+    (by
+    (lock_version_in (get_member (codes "lock-version") document))
+    (created_by_in (get_member (codes "created-by") document))
+    (head_in (get_member (codes "environments") document) (get_member (codes "requires-python") document) (get_member (codes "extras") document) (get_member (codes "dependency-groups") document) (get_member (codes "default-groups") document)))
+  where
+    by : (version : Result ⊤ LockError) (creator : Result ⊤ LockError) (head : Result HeadValue LockError)
+        → (lock_by version creator head (Err TooMany) >>= (λ lock. Ok (lock, found lock))) ≡ (lock_by version creator head (Err TooMany) >>= (λ lock. Ok (lock, other lock)))
+    by (Err e) creator head = refl
+    by (Ok x) (Err e) head = refl
+    by (Ok x) (Ok y) (Err e) = refl
+    by (Ok x) (Ok y) (Ok head) = refl
+
+-- a document has the findings that it has with what its tables gave as they came
+pub looked_is : (document : Members) (taken : Items) (tables : List TableValue) → HasLooked tables taken
+    → with_findings (head_findings_where (has_no_packages tables document) document) (tables_after tables document) (lock_in (with_elements (codes "packages") taken document))
+    ≡ document_audited (with_elements (codes "packages") taken document)
+looked_is document no_items [] looked = refl
+looked_is document no_items (table ∷ tables) looked = let none : table ∷ tables ≡ [] = looked (omega arith) in cc
+looked_is document (item d ds) tables looked = by (nat_lt most_entries (item_count (item d ds))) refl
+  where
+    whole : Members
+    whole = with_elements (codes "packages") (item d ds) document
+
+    by : (many : Bool) → nat_lt most_entries (item_count (item d ds)) ≡ many
+        → with_findings (head_findings_where (has_no_packages tables document) document) (tables_after tables document) (lock_in whole) ≡ document_audited whole
+    by true is =
+        refused_by document d ds
+        (lock_findings_by (head_findings_where (has_no_packages tables document) document) (tables_after tables document))
+        (lock_findings_by (head_findings whole) (tables_in whole))
+        is
+    by false is =
+        let came : tables ≡ of_tables (item d ds) = looked (ltb-false most_entries (item_count (item d ds)) is) in
+        rw (came, with_member-there (codes "packages") (array (item d ds)) document, is, sym (same_head document (item d ds)))
+
+-- what the next table gives, behind those before
+pub tables_push : (ds : Items) (members : Members) → of_tables (push_item ds (table members)) ≡ of_tables ds ++ of_table members ∷ []
+tables_push no_items members = refl
+tables_push (item d ds) members = ap (λ rest. of_table (members_in d) ∷ rest) (tables_push ds members)
+
+tables_len : (ds : Items) → length (of_tables ds) ≡ item_count ds
+tables_len no_items = refl
+tables_len (item d ds) = ap suc (tables_len ds)
+
+-- it was looked at
+pub looked_next : (tables : List TableValue) (taken : Items) (members : Members) → HasLooked tables taken → HasLooked (tables ++ of_table members ∷ []) (push_item taken (table members))
+looked_next tables taken members looked few =
+    let fewer : item_count taken ≤ most_entries = omega (arith, few, count_push taken (table members)) in
+    ap (λ ts. ts ++ of_table members ∷ []) (looked fewer) ∙ sym (tables_push taken members)
+
+-- it is one too many
+pub looked_enough : (tables : List TableValue) (taken : Items) (d : Data) → most_entries ≤ length tables → HasLooked tables taken → HasLooked tables (push_item taken d)
+looked_enough tables taken d enough looked few =
+    let fewer : item_count taken ≤ most_entries = omega (arith, few, count_push taken d) in
+    let same : length tables ≡ item_count taken = ap length (looked fewer) ∙ tables_len taken in
+    absurd (omega (arith, few, count_push taken d, same, enough))

@@ -1,10 +1,10 @@
 -- What a careful reader of a lock would want to be told, though the lock is valid: the findings of
 -- its head and of its entries, in order.
-use Rattle.std.specs.Prelude.{ℕ, ◌++◌, not, codes, suc, List, [], ◌∷◌, Option, Some, None}
+use Rattle.std.specs.Prelude.{ℕ, Bool, ◌++◌, not, codes, suc, List, [], ◌∷◌, Option, Some, None}
 use Rattle.std.specs.Prelude.{is_none, Result, Ok}
 use Rattle.std.specs.Str.{bytes_eq}
-use Rattle.toml.specs.Data.{Data, Items, Members, array, as_str, get_member, item, no_items, no_members}
-use Rattle.toml.specs.Data.{table}
+use Rattle.toml.specs.Data.{Data, Items, Members, array, as_str, get_member, item, no_items}
+use Rattle.toml.specs.Data.{no_members, table}
 use Rattle.pytext.specs.Results.{◌>>=◌}
 use Rattle.pylock_readers.specs.Entry.{EntryValue}
 use Rattle.pylock_readers.specs.Lock.{HeadValue, LockValue}
@@ -42,13 +42,18 @@ items_at field = no_items
 abbrev pub other_extras : Members → List (List ℕ)
 other_extras document = other_forms (items_at (get_member (codes "extras") document))
 
-abbrev pub head_findings : Members → List FindingValue
-head_findings document =
+-- those of a head whose document names packages or doesn't
+abbrev pub head_findings_where : Bool → Members → List FindingValue
+head_findings_where has_no_packages document =
     findings_each kind.LockVersion (other_lock_version document)
     ++ findings_each kind.UnknownKey (unknown_keys tables.Head document)
     ++ findings_each kind.WrongType (wrong_types tables.Head document)
-    ++ finding_where (is_none (get_member (codes "packages") document)) kind.NoPackages None
+    ++ finding_where has_no_packages kind.NoPackages None
     ++ findings_each kind.NameForm (other_extras document)
+
+abbrev pub head_findings : Members → List FindingValue
+head_findings document =
+    head_findings_where (is_none (get_member (codes "packages") document)) document
 
 -- ---- the entries
 
@@ -73,7 +78,14 @@ lock_findings document lock =
     findings_at 0 None (head_findings document)
     ++ of_entries lock.head 1 lock.entries (items_at (get_member (codes "packages") document))
 
--- the findings of the lock that the bytes are, or its refusal
+-- the lock that the bytes are, with its findings, or its refusal
+unfoldable pub audited_of : List ℕ → Result (LockValue × List LockFindingValue) LockError
+audited_of bytes = do
+  lock ← lock_of bytes
+  document ← document_in bytes
+  Ok (lock, lock_findings document lock)
+
+-- the findings alone
 unfoldable pub findings_of : List ℕ → Result (List LockFindingValue) LockError
 findings_of bytes = do
   lock ← lock_of bytes

@@ -1,24 +1,31 @@
 //! The findings of a lock.
 
-ghost use Rattle.std.specs.Prelude.{◌≡◌, ◌++◌, IfOk, OnOk, Some, map, option_map, string_bytes};
+ghost use Rattle.std.specs.Prelude.{◌≡◌, ◌++◌, IfOk, OnOk, Result, Some, codes, map};
+ghost use Rattle.std.specs.Prelude.{option_map, string_bytes};
+ghost use Rattle.toml.specs.Data.{Items};
 ghost use Rattle.toml.specs.View.{items_view, table_view, view};
 ghost use Rattle.pytext.specs.Agreement.{Gives};
-ghost use Rattle.pylock_audit.specs.Audit.{findings_of, head_findings, items_at};
-ghost use Rattle.pylock_audit.specs.Audit.{other_extras, other_form_of, other_forms};
-ghost use Rattle.pylock_audit.specs.Audit.{other_lock_version};
+ghost use Rattle.pytoml.specs.Members.{with_elements};
+ghost use Rattle.pylock_readers.specs.Lock.{LockValue};
+ghost use Rattle.pylock_readers.specs.Lock.Packages.{HasRead};
+ghost use Rattle.pylock_readers.specs.declared.error.LockError.{LockError};
+ghost use Rattle.pylock_audit.specs.Audit.{audited_of, findings_of, head_findings_where};
+ghost use Rattle.pylock_audit.specs.Audit.{items_at, other_extras, other_form_of};
+ghost use Rattle.pylock_audit.specs.Audit.{other_forms, other_lock_version};
 ghost use Rattle.pylock_audit.specs.Finding.{findings_at};
-ghost use Rattle.pylock_audit.specs.Inner.Tables.{document_findings, entry_findings_by};
-ghost use Rattle.pylock_audit.specs.Inner.Tables.{lock_findings_by, of_entries_by, tables_in};
+ghost use Rattle.pylock_audit.specs.Inner.Tables.{HasLooked, document_audited, entry_findings_by};
+ghost use Rattle.pylock_audit.specs.Inner.Tables.{has_no_packages, lock_findings_by, of_entries_by};
+ghost use Rattle.pylock_audit.specs.Inner.Tables.{tables_after, tables_in, with_findings};
 
 use crate::entry::entry_findings;
 use crate::finding::{
     Finding, FindingKind, LockFinding, push_each, push_findings_at, push_where, told_where,
 };
 use crate::keys::{LockTable, field, push_unknown};
-use crate::tables::{TableFindings, is_other_form, table_findings, text_at};
+use crate::tables::{Looked, TableFindings, is_other_form, table_findings, text_at};
 use crate::types::push_wrong_types;
 use pylock_core::{Entry, Head, Lock, LockError};
-use pylock_readers::{MOST_ENTRIES, read_document};
+use pylock_readers::{MOST_ENTRIES, read_document_without};
 use std::alloc::{AllocError, Global};
 use toml::{Table, Value};
 
@@ -26,27 +33,96 @@ use toml::{Table, Value};
 /// of its head, and then those of its entries in order (PEP 751). The refusals are those of
 /// [`Lock::read`].
 ///
-/// The bytes are read once. What the document alone tells is taken from it before it becomes the
-/// lock. It takes the memory of [`Lock::read`], and memory for a list with a member for each entry,
-/// for the text of each finding, and for lists of the sources and the comparisons of one entry at a
-/// time.
-#[tactic(auto, using(crate::proofs::TableLemmas::read_once))]
+/// It takes the memory of [`read_audited`].
 pub fn audit(alloc: Global, bytes: &[u8]) -> Result<Vec<LockFinding>, LockError>
     ensures { Gives LockError.Memory (λ found. found.items) result (findings_of bytes.now) }
 {
-    let document = read_document(alloc, bytes)?;
-    document_findings(alloc, document)
+    let (_lock, found) = read_audited(alloc, bytes)?;
+    Ok(found)
 }
 
-/// The findings of the lock that a document is, or its refusal.
-fn document_findings(alloc: Global, document: Table) -> Result<Vec<LockFinding>, LockError>
-    ensures { Gives LockError.Memory (λ found. found.items) result
-        (document_findings (table_view document)) }
+/// The lock, and its findings as [`audit`] gives them. The refusals are those of [`Lock::read`].
+///
+/// The bytes are read once, and what a table of an entry alone tells is taken from it before it
+/// becomes the entry. It takes the memory of [`Lock::read`], and memory for a list with a member
+/// for each entry, for the text of each finding, and for lists of the sources and the comparisons
+/// of one entry at a time.
+#[tactic(auto, using(crate::proofs::TableLemmas::given_found))]
+pub fn read_audited(alloc: Global, bytes: &[u8]) -> Result<(Lock, Vec<LockFinding>), LockError>
+    ensures both { Gives LockError.Memory (λ audited. (audited.0, audited.1.items)) result
+        (audited_of bytes.now) }
+    ensures found { Gives LockError.Memory (λ audited. audited.1.items) result
+        (findings_of bytes.now) }
 {
-    let head = head_findings(alloc, &document)?;
-    let tables = tables_in(alloc, &document)?;
-    let lock = Lock::from_document(alloc, document)?;
-    Ok(lock_findings(alloc, head, tables, &lock)?)
+    audited_bytes(alloc, bytes)
+}
+
+/// The lock that the bytes are, with its findings.
+fn audited_bytes(alloc: Global, bytes: &[u8]) -> Result<(Lock, Vec<LockFinding>), LockError>
+    ensures { Gives LockError.Memory (λ audited. (audited.0, audited.1.items)) result
+        (audited_of bytes.now) }
+{
+    match read_document_without(alloc, bytes, Looked::new(alloc))? {
+        (document, Some(looked)) => audited(alloc, document, looked),
+        (document, None) => audited(alloc, document, Looked::new(alloc)),
+    }
+}
+
+/// The lock of a document from which the tables of entries were taken, with its findings.
+fn audited(
+    alloc: Global,
+    document: Table,
+    looked: Looked,
+) -> Result<(Lock, Vec<LockFinding>), LockError>
+    ensures { (taken : Items) → HasRead looked.packages taken
+        → HasLooked looked.tables.items taken
+        → Gives LockError.Memory (λ audited. (audited.0, audited.1.items)) result
+        (document_audited (with_elements (codes "packages") taken (table_view document))) }
+{
+    let (packages, tables) = looked.into_parts();
+    let is_absent = has_no_packages(&tables, &document);
+    let head = head_findings(alloc, &document, is_absent)?;
+    let tables = tables_after(alloc, tables, &document)?;
+    with_findings(alloc, head, tables, packages.into_lock(alloc, document))
+}
+
+/// Whether the document names no packages, where these tables were taken from it.
+fn has_no_packages(tables: &[TableFindings], document: &Table) -> bool
+    ensures { result ≡ has_no_packages tables.now (table_view document.now) }
+{
+    tables.is_empty() && field(document, "packages").is_none()
+}
+
+/// What the tables gave; where none was taken, those that stand in the document.
+fn tables_after(
+    alloc: Global,
+    tables: Vec<TableFindings>,
+    document: &Table,
+) -> Result<Vec<TableFindings>, AllocError>
+    ensures { IfOk result (λ after. after.items
+        ≡ tables_after tables.items (table_view document.now)) }
+{
+    if tables.is_empty() {
+        tables_in(alloc, document)
+    } else {
+        Ok(tables)
+    }
+}
+
+/// The lock with its findings, where it isn't refused.
+fn with_findings(
+    alloc: Global,
+    head: Vec<Finding>,
+    tables: Vec<TableFindings>,
+    lock: Result<Lock, LockError>,
+) -> Result<(Lock, Vec<LockFinding>), LockError>
+    ensures { (known : Result LockValue LockError) → Gives LockError.Memory (λ l. l) lock known
+        → Gives LockError.Memory (λ audited. (audited.0, audited.1.items)) result
+        (with_findings head.items tables.items known) }
+{
+    let lock = lock?;
+    let found = lock_findings(alloc, head, tables, &lock)?;
+    Ok((lock, found))
 }
 
 /// The findings of a lock, with those of its head and with what the tables of its entries gave.
@@ -68,9 +144,13 @@ fn lock_findings(
 // ---- the head
 
 /// The findings of the head.
-fn head_findings(alloc: Global, document: &Table) -> Result<Vec<Finding>, AllocError>
+fn head_findings(
+    alloc: Global,
+    document: &Table,
+    has_no_packages: bool,
+) -> Result<Vec<Finding>, AllocError>
     ensures { IfOk result (λ findings. findings.items
-        ≡ head_findings (table_view document.now)) }
+        ≡ head_findings_where has_no_packages (table_view document.now)) }
 {
     let mut findings = Vec::new(alloc);
     let versions = other_lock_version(alloc, document)?;
@@ -81,8 +161,12 @@ fn head_findings(alloc: Global, document: &Table) -> Result<Vec<Finding>, AllocE
     let mut paths = Vec::new(alloc);
     push_wrong_types(alloc, &mut paths, LockTable::Head, document)?;
     push_each(&mut findings, FindingKind::WrongType, paths)?;
-    let is_absent = field(document, "packages").is_none();
-    push_where(&mut findings, is_absent, FindingKind::NoPackages, None)?;
+    push_where(
+        &mut findings,
+        has_no_packages,
+        FindingKind::NoPackages,
+        None,
+    )?;
     let names = other_extras(alloc, document)?;
     push_each(&mut findings, FindingKind::NameForm, names)?;
     Ok(findings)
@@ -143,7 +227,7 @@ fn push_other_form(
 
 // ---- the entries
 
-/// What the tables of the entries give. Where there are more than a lock may have, none is looked
+/// What the tables of the entries of a document give. Where there are more than a lock may have, none is looked
 /// at, since the document is refused.
 #[tactic(auto, using(pylock_readers::proofs::EntryLemmas::count_of_items))]
 fn tables_in(alloc: Global, document: &Table) -> Result<Vec<TableFindings>, AllocError>

@@ -33,4 +33,4 @@ mod url;
 
 pub use document::findings_document;
 pub use finding::{Finding, FindingKind, LockFinding};
-pub use findings::audit;
+pub use findings::{audit, read_audited};

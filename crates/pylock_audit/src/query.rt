@@ -49,7 +49,8 @@ fn before_fragment(text: &str) -> &str
 
 /// Whether the text is this word, ASCII letter case ignored.
 fn is_word(text: &str, word: &[u8]) -> bool
-    ensures { result ≡ bytes_eq (map to_ascii_lowercase text.now) (map to_ascii_lowercase word.now) }
+    ensures { result
+        ≡ bytes_eq (map to_ascii_lowercase text.now) (map to_ascii_lowercase word.now) }
 {
     text.as_bytes().eq_ignore_ascii_case(word)
 }

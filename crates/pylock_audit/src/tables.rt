@@ -1,18 +1,21 @@
-//! What the tables of entries give by themselves, before the document becomes a lock. The reading
-//! of a lock moves its strings out; unknown keys and names as they are written stand in the
-//! document alone.
+//! What the tables of entries give by themselves, before each becomes an entry. The reading of an
+//! entry moves the table's strings out; unknown keys and names as they are written stand in the
+//! table alone.
 
-ghost use Rattle.std.specs.Prelude.{◌≡◌, ◌++◌, IfOk, OnOk, map, string_bytes};
+ghost use Rattle.std.specs.Prelude.{◌≡◌, ◌++◌, IfOk, OnOk, codes, map, string_bytes};
 ghost use Rattle.std.specs.Option.{option_copied};
-ghost use Rattle.toml.specs.Data.{as_str};
+ghost use Rattle.toml.specs.Data.{Items, as_str, no_items, push_item, table};
 ghost use Rattle.toml.specs.View.{items_view, table_view, view};
+ghost use Rattle.pylock_readers.specs.Lock.Packages.{HasRead};
 ghost use Rattle.pylock_audit.specs.Audit.{members_in};
 ghost use Rattle.pylock_audit.specs.Entry.{is_other_form, other_form, text_at};
-ghost use Rattle.pylock_audit.specs.Inner.Tables.{of_table, of_tables, told_by};
+ghost use Rattle.pylock_audit.specs.Inner.Tables.{HasLooked, of_table, of_tables, told_by};
 
-use crate::finding::{Finding, FindingKind, push_each, told_where};
 use crate::entry_keys::entry_keys_told;
+use crate::finding::{Finding, FindingKind, push_each, told_where};
 use crate::keys::field;
+use pylock_readers::{MOST_ENTRIES, Packages};
+use pytoml::Elements;
 use pyver_core::NormalForm;
 use std::alloc::{AllocError, Global};
 use std::marker::Model;
@@ -129,4 +132,76 @@ pub(crate) fn is_other_form(alloc: Global, name: &str) -> Result<bool, AllocErro
     ensures { IfOk result (λ other. other ≡ is_other_form name.now) }
 {
     Ok(NormalForm::of(alloc, name)?.as_str() != name)
+}
+
+/// The entries of a lock, read as their tables come, and what each table gives by itself.
+pub(crate) struct Looked {
+    alloc: Global,
+    pub(crate) packages: Packages,
+    /// Of the tables that came; of no more than a lock may have.
+    pub(crate) tables: Vec<TableFindings>,
+}
+
+impl Drop for Looked {
+    fn drop(self) {
+        let Looked {
+            alloc: _,
+            packages: _,
+            tables: _,
+        } = self;
+    }
+}
+
+impl Looked {
+    /// Before the first table.
+    pub(crate) fn new(alloc: Global) -> Looked
+        ensures packages { HasRead result.packages no_items }
+        ensures tables { HasLooked result.tables.items no_items }
+    {
+        Looked {
+            alloc,
+            packages: Packages::new(alloc),
+            tables: Vec::new(alloc),
+        }
+    }
+
+    /// What was read of the tables, and what they give.
+    pub(crate) fn into_parts(self) -> (Packages, Vec<TableFindings>)
+        ensures packages { result.0 ≡ self.packages }
+        ensures tables { result.1 ≡ self.tables }
+    {
+        let Looked {
+            alloc: _,
+            packages,
+            tables,
+        } = self;
+        (packages, tables)
+    }
+}
+
+impl Elements for Looked {
+    ghost key = { codes "packages" };
+
+    ghost holds = { λ looked taken.
+        HasRead looked.packages taken × HasLooked looked.tables.items taken };
+
+    fn key() -> &'static str {
+        "packages"
+    }
+
+    fn take(&mut self, element: Table) -> Result<(), AllocError> {
+        look(self.alloc, &mut self.tables, &element)?;
+        self.packages.take(element)
+    }
+}
+
+/// Adds what the table of the next entry gives, unless a lock may have no more entries.
+fn look(alloc: Global, tables: &mut Vec<TableFindings>, element: &Table) -> Result<(), AllocError>
+    ensures { (taken : Items) → HasLooked tables.old.items taken → OnOk result
+        (HasLooked tables.new.items (push_item taken (table (table_view element.now)))) }
+{
+    if tables.len() < MOST_ENTRIES {
+        tables.push(TableFindings::of(alloc, element)?)?;
+    }
+    Ok(())
 }

@@ -102,7 +102,7 @@ fn replied(alloc: Global, query: Query<'_>) -> Result<(Object, i32), Refusal>
     ensures { Gives Memory (λ told. (Some told.0, told.1)) result (reported (reply query.entry)) }
 {
     let mut out = Vec::new(alloc);
-    let status = push_reply(alloc, &mut out, query)?;
+    let status = push_reply(alloc, &mut out, query, false)?;
     Ok((Object::Text(Bytes::new(out)), i32::from(status)))
 }
 

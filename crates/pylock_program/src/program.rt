@@ -261,7 +261,7 @@ fn list_files<F: Files, W: Sink, N: Sink>(
         source source (W.value writer.old) (W.value writer.new) result }
 {
     let lock = read_named(alloc, files, lock, notes)?;
-    let end = query(alloc, Query::Files(&lock.bytes, form), writer);
+    let end = query(alloc, Query::Files(&lock.bytes, form), true, writer);
     tell_refusal(alloc, notes, &end, Some(&lock), None);
     program_end(end)
 }
@@ -280,7 +280,7 @@ fn audit_lock<F: Files, W: Sink, N: Sink>(
         source source (W.value writer.old) (W.value writer.new) result }
 {
     let lock = read_named(alloc, files, lock, notes)?;
-    let end = query(alloc, Query::Audit(&lock.bytes, form), writer);
+    let end = query(alloc, Query::Audit(&lock.bytes, form), true, writer);
     tell_refusal(alloc, notes, &end, Some(&lock), None);
     program_end(end)
 }
@@ -299,7 +299,12 @@ fn judge_marker<F: Files, W: Sink, N: Sink>(
         source source (W.value writer.old) (W.value writer.new) result }
 {
     let environment = read_bytes(files, environment)?;
-    let end = query(alloc, Query::Marker(marker, &environment.bytes), writer);
+    let end = query(
+        alloc,
+        Query::Marker(marker, &environment.bytes),
+        true,
+        writer,
+    );
     tell_refusal(alloc, notes, &end, None, Some(&environment));
     program_end(end)
 }
@@ -307,7 +312,7 @@ fn judge_marker<F: Files, W: Sink, N: Sink>(
 fn answer_query<W: Sink>(alloc: Global, asked: Query<'_>, writer: &mut W) -> Result<u8, Failure>
     ensures { Tells (Prints (reply asked.entry) (W.value writer.old) (W.value writer.new)) result }
 {
-    program_end(query(alloc, asked, writer))
+    program_end(query(alloc, asked, true, writer))
 }
 
 /// The end of a run or of a reply, as the program tells it.

@@ -21,7 +21,7 @@ use crate::reply::queries::Query;
 use crate::text::audit::push_findings;
 use crate::text::files::push_files;
 use crate::text::json::push_lock_json;
-use pylock_audit::{LockFinding, audit, findings_document};
+use pylock_audit::{LockFinding, findings_document, read_audited};
 use pylock_command::Form;
 use pylock_core::{Entry, EnvError, FaultCode, Lock, LockError, fault_word, read_environment};
 use pylock_documents::files_document;
@@ -34,25 +34,40 @@ use pymark_core::{Environment, EvalFault, Marker, MarkerError, Requirement, Requ
 use pyver_core::{SpecifierError, SpecifierSet, Version, VersionError, is_name, normal_name};
 use pywheel_core::{WheelError, WheelName, tags_text};
 use std::alloc::{AllocError, Global};
+use std::mem;
 
 /// Writes the reply of a one-shot command, and answers the program's status: 0 for an answer, 1
 /// where a text is refused or a marker has a fault, 2 where the environment is refused. After a
 /// fault a prefix of the reply is written. Takes memory for what it parses and for the reply.
-pub fn query<W: Sink>(alloc: Global, query: Query<'_>, writer: &mut W) -> Result<u8, RunFault>
+///
+/// `leaves` says whether the process ends next: then the memory of a lock is left to the system,
+/// which takes all of it at once.
+pub fn query<W: Sink>(
+    alloc: Global,
+    query: Query<'_>,
+    leaves: bool,
+    writer: &mut W,
+) -> Result<u8, RunFault>
     ensures { Prints (reply query.entry) (W.value writer.old) (W.value writer.new) result }
 {
     let mut out = Vec::new(alloc);
-    let status = push_reply(alloc, &mut out, query)?;
+    let status = push_reply(alloc, &mut out, query, leaves)?;
     print(&out, status, writer)
 }
 
-/// Pushes the reply of a one-shot command, and answers the status of `query`.
-pub fn push_reply(alloc: Global, out: &mut Vec<u8>, query: Query<'_>) -> Result<u8, AllocError>
+/// Pushes the reply of a one-shot command, and answers the status of [`query`], which says what
+/// `leaves` is.
+pub fn push_reply(
+    alloc: Global,
+    out: &mut Vec<u8>,
+    query: Query<'_>,
+    leaves: bool,
+) -> Result<u8, AllocError>
     ensures { Pushes out.old.items out.new.items (reply query.entry) result }
 {
     match query {
-        Query::Files(lock, form) => push_listing(alloc, out, form, lock),
-        Query::Audit(lock, form) => push_audit(alloc, out, form, lock),
+        Query::Files(lock, form) => push_listing(alloc, out, form, lock, leaves),
+        Query::Audit(lock, form) => push_audit(alloc, out, form, lock, leaves),
         Query::Version(text) => push_version(alloc, out, text),
         Query::Match(set, version) => push_match(alloc, out, set, version),
         Query::Name(text) => push_name(alloc, out, text),
@@ -62,12 +77,24 @@ pub fn push_reply(alloc: Global, out: &mut Vec<u8>, query: Query<'_>) -> Result<
     }
 }
 
-fn push_listing(alloc: Global, out: &mut Vec<u8>, form: Form, lock: &[u8]) -> Result<u8, AllocError>
+fn push_listing(
+    alloc: Global,
+    out: &mut Vec<u8>,
+    form: Form,
+    lock: &[u8],
+    leaves: bool,
+) -> Result<u8, AllocError>
     ensures { Pushes out.old.items out.new.items
         (reply_of (files_answer form lock.now)) result }
 {
     match Lock::read(alloc, lock) {
-        Ok(lock) => push_files_in(alloc, out, form, lock.entries()),
+        Ok(lock) => {
+            let status = push_files_in(alloc, out, form, lock.entries())?;
+            if leaves {
+                mem::forget(lock);
+            }
+            Ok(status)
+        }
         Err(LockError::Memory) => Err(AllocError),
         Err(error) => push_refused_lock(alloc, out, form, &error),
     }
@@ -105,12 +132,24 @@ fn push_refused_lock(
     Ok(REFUSED)
 }
 
-fn push_audit(alloc: Global, out: &mut Vec<u8>, form: Form, lock: &[u8]) -> Result<u8, AllocError>
+fn push_audit(
+    alloc: Global,
+    out: &mut Vec<u8>,
+    form: Form,
+    lock: &[u8],
+    leaves: bool,
+) -> Result<u8, AllocError>
     ensures { Pushes out.old.items out.new.items
         (reply_of (audit_answer form lock.now)) result }
 {
-    match audit(alloc, lock) {
-        Ok(found) => push_findings_in(alloc, out, form, found.as_slice()),
+    match read_audited(alloc, lock) {
+        Ok((lock, found)) => {
+            let status = push_findings_in(alloc, out, form, found.as_slice())?;
+            if leaves {
+                mem::forget((lock, found));
+            }
+            Ok(status)
+        }
         Err(LockError::Memory) => Err(AllocError),
         Err(error) => push_refused_lock(alloc, out, form, &error),
     }

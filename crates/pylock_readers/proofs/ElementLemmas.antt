@@ -8,7 +8,8 @@ use Rattle.pytoml.specs.Members.{with_elements}
 use Rattle.pytoml.proofs.Others.{with_elements-other, with_member-there}
 use Rattle.pylock_readers.specs.Entry.{EntryValue}
 use Rattle.pylock_readers.specs.Entry.Reading.{entry_in}
-use Rattle.pylock_readers.specs.Inner.Elements.{HasRead, entries_or, entries_read, lock_after, lock_with}
+use Rattle.pylock_readers.specs.Inner.Elements.{entries_read, lock_after, lock_with}
+use Rattle.pylock_readers.specs.Lock.Packages.{HasRead, PackagesValue, entries_or}
 use Rattle.pylock_readers.specs.Lock.Reading.{at_position, entries_in, entries_of, item_count, lock_in, most_entries, room_for}
 use Rattle.pylock_readers.specs.declared.error.EntryError.{EntryError}
 use Rattle.pylock_readers.specs.declared.error.LockError.{LockError}
@@ -72,13 +73,16 @@ entries_len place (item x xs) es is = by (at_position place (entry_in x)) (entri
 
 -- ---- one more element
 
+-- so many elements came, and this was read of them
+abbrev pub read_so : ℕ → List EntryValue → Option EntryError → PackagesValue
+read_so count es r = record { count = count; entries = es; refusal = r }
+
 -- past one too many nothing changes
-pub passed : (count : ℕ) (es : List EntryValue) (r : Option EntryError) (taken : Items) (d : Data) → most_entries < count → HasRead count es r taken → HasRead count es r (push_item taken d)
+pub passed : (count : ℕ) (es : List EntryValue) (r : Option EntryError) (taken : Items) (d : Data) → most_entries < count → HasRead (read_so count es r) taken → HasRead (read_so count es r) (push_item taken d)
 passed count es r taken d over h = record {
   many = λ few. absurd (never few);
   too_many = λ more. over;
   within = h.within;
-  len = h.len;
   read = λ few. absurd (never few);
 }
   where
@@ -88,14 +92,13 @@ passed count es r taken d over h = record {
         omega (arith, fewer, h.many fewer, over)
 
 -- it is counted, and what was read with it is this
-counted : (count : ℕ) (es now : List EntryValue) (r after : Option EntryError) (taken : Items) (d : Data) → count ≤ most_entries → length now ≤ count + 1
+counted : (count : ℕ) (es now : List EntryValue) (r after : Option EntryError) (taken : Items) (d : Data) → count ≤ most_entries
     → (item_count taken < most_entries → count ≡ item_count taken → entries_of 1 (push_item taken d) ≡ entries_or now after)
-    → HasRead count es r taken → HasRead (count + 1) now after (push_item taken d)
-counted count es now r after taken d room len read h = record {
+    → HasRead (read_so count es r) taken → HasRead (read_so (count + 1) now after) (push_item taken d)
+counted count es now r after taken d room read h = record {
   many = λ few. omega (arith, count_push taken d, h.many (omega (arith, few, count_push taken d)));
   too_many = λ more. by (ltb most_entries (item_count taken)) refl more;
   within = omega (arith, room);
-  len = len;
   read = λ few. let less : item_count taken < most_entries = omega (arith, few, count_push taken d) in read less (h.many (omega (arith, less)));
 }
   where
@@ -107,34 +110,34 @@ counted count es now r after taken d room len read h = record {
 
 -- it is one too many
 pub counted_last : (count : ℕ) (es : List EntryValue) (r : Option EntryError) (taken : Items) (d : Data) → count ≤ most_entries → most_entries < count + 1
-    → HasRead count es r taken → HasRead (count + 1) es r (push_item taken d)
+    → HasRead (read_so count es r) taken → HasRead (read_so (count + 1) es r) (push_item taken d)
 counted_last count es r taken d room over h =
-    counted count es es r r taken d room (omega (arith, h.len)) (λ less same. absurd (omega (arith, less, same, over))) h
+    counted count es es r r taken d room (λ less same. absurd (omega (arith, less, same, over))) h
 
 -- it is behind one that is refused
 pub counted_refused : (count : ℕ) (es : List EntryValue) (r : Option EntryError) (taken : Items) (d : Data) → count ≤ most_entries → is_some r ≡ true
-    → HasRead count es r taken → HasRead (count + 1) es r (push_item taken d)
+    → HasRead (read_so count es r) taken → HasRead (read_so (count + 1) es r) (push_item taken d)
 counted_refused count es None taken d room refused h = absurd (true≢false (sym refused))
 counted_refused count es (Some e) taken d room refused h =
-    counted count es es (Some e) (Some e) taken d room (omega (arith, h.len))
+    counted count es es (Some e) (Some e) taken d room
     (λ less same. entries_push 1 taken d ∙ ap (then_one (1 + item_count taken) d) (h.read (omega (arith, less)))) h
 
 -- it is an entry
 pub counted_entry : (count : ℕ) (es : List EntryValue) (r : Option EntryError) (taken : Items) (d : Data) (e : EntryValue) → count + 1 ≤ most_entries → is_some r ≡ false
-    → entry_in d ≡ Ok e → HasRead count es r taken → HasRead (count + 1) (es ++ e ∷ []) r (push_item taken d)
+    → entry_in d ≡ Ok e → HasRead (read_so count es r) taken → HasRead (read_so (count + 1) (es ++ e ∷ []) r) (push_item taken d)
 counted_entry count es (Some x) taken d e room none is h = absurd (true≢false none)
 counted_entry count es None taken d e room none is h =
-    counted count es (es ++ e ∷ []) None None taken d (omega (arith, room)) (omega (arith, h.len, length-append es (e ∷ [])))
+    counted count es (es ++ e ∷ []) None None taken d (omega (arith, room))
     (λ less same.
     entries_push 1 taken d ∙ ap (then_one (1 + item_count taken) d) (h.read (omega (arith, less)))
     ∙ ap (λ one. at_position (1 + item_count taken) one >>= (λ x. Ok (es ++ x ∷ []))) is) h
 
 -- or the first that is refused
 pub counted_refusal : (count : ℕ) (es : List EntryValue) (r : Option EntryError) (taken : Items) (d : Data) (e : EntryError) → count + 1 ≤ most_entries → is_some r ≡ false
-    → entry_in d ≡ Err e → HasRead count es r taken → HasRead (count + 1) es (Some e) (push_item taken d)
+    → entry_in d ≡ Err e → HasRead (read_so count es r) taken → HasRead (read_so (count + 1) es (Some e)) (push_item taken d)
 counted_refusal count es (Some x) taken d e room none is h = absurd (true≢false none)
 counted_refusal count es None taken d e room none is h =
-    counted count es es None (Some e) taken d (omega (arith, room)) (omega (arith, h.len))
+    counted count es es None (Some e) taken d (omega (arith, room))
     (λ less same.
     let read = h.read (omega (arith, less)) in
     let place : 1 + item_count taken ≡ length es + 1 = omega (arith, entries_len 1 taken es read) in
@@ -144,16 +147,17 @@ counted_refusal count es None taken d e room none is h =
 
 -- ---- the lock
 
-read_is : (count : ℕ) (es : List EntryValue) (r : Option EntryError) (taken : Items) → HasRead count es r taken → (room_for taken >>= (λ room. entries_of 1 taken)) ≡ entries_read count es r
+read_is : (count : ℕ) (es : List EntryValue) (r : Option EntryError) (taken : Items) → HasRead (read_so count es r) taken → (room_for taken >>= (λ room. entries_of 1 taken)) ≡ entries_read (read_so count es r)
 read_is count es r taken h = by (ltb most_entries (item_count taken)) refl
   where
-    by : (b : Bool) → ltb most_entries (item_count taken) ≡ b → (room_for taken >>= (λ room. entries_of 1 taken)) ≡ entries_read count es r
+    by : (b : Bool) → ltb most_entries (item_count taken) ≡ b → (room_for taken >>= (λ room. entries_of 1 taken)) ≡ entries_read (read_so count es r)
     by true is = rw (is, lt-ltb most_entries count (h.too_many (ltb-true most_entries (item_count taken) is)))
     by false is =
         let few : item_count taken ≤ most_entries = ltb-false most_entries (item_count taken) is in
         rw (is, le-ltb most_entries count (omega (arith, few, h.many few))) (h.read few)
 
-with_is : (document : Members) (d : Data) (ds : Items) → lock_in (with_elements (codes "packages") (item d ds) document)
+-- a document with elements of `packages` has the head that it has without them
+pub with_is : (document : Members) (d : Data) (ds : Items) → lock_in (with_elements (codes "packages") (item d ds) document)
     ≡ lock_with document (room_for (item d ds) >>= (λ room. entries_of 1 (item d ds)))
 unfolding lock_in lock_with entries_in
 with_is document d ds =
@@ -169,14 +173,14 @@ with_is document d ds =
     )
 
 -- the lock of a document and of the elements that were taken from it
-pub after_is : (document : Members) (count : ℕ) (es : List EntryValue) (r : Option EntryError) (taken : Items) → HasRead count es r taken
-    → lock_in (with_elements (codes "packages") taken document) ≡ lock_after document count es r
+pub after_is : (document : Members) (p : PackagesValue) (taken : Items) → HasRead p taken
+    → lock_in (with_elements (codes "packages") taken document) ≡ lock_after document p
 unfolding lock_after
-after_is document count es r no_items h = let none : count ≡ 0 = h.many (omega arith) in rw none
-after_is document count es r (item d ds) h =
-    rw (ne_eqb count 0 (λ none. some none)) (with_is document d ds ∙ ap (lock_with document) (read_is count es r (item d ds) h))
+after_is document p no_items h = let none : p.count ≡ 0 = h.many (omega arith) in rw none
+after_is document p (item d ds) h =
+    rw (ne_eqb p.count 0 (λ none. some none)) (with_is document d ds ∙ ap (lock_with document) (read_is p.count p.entries p.refusal (item d ds) h))
   where
-    some : count ≡ 0 → ⊥
+    some : p.count ≡ 0 → ⊥
     some none = by (ltb most_entries (item_count (item d ds))) refl
       where
         by : (b : Bool) → ltb most_entries (item_count (item d ds)) ≡ b → ⊥

@@ -4,6 +4,7 @@ use Rattle.pyver_core.specs.declared.set.specifier.Specifier.{Specifier}
 use Rattle.pymark_core.specs.Marker.Reading.{MarkerValue}
 use Rattle.pylock_readers.specs.Entry.{EntryValue}
 pub mod Head
+pub mod Packages
 pub mod Reading
 
 -- the head: the keys of the lock itself; the names are in normal form and distinct

@@ -25,4 +25,4 @@ mod text;
 pub use entry::{Archive, Directory, DistributionFile, Entry, Sdist, Vcs, WheelFile};
 pub use environment::read_environment;
 pub use error::{EntryError, EntryKey, EnvError, HeadKey, LockError};
-pub use lock::{Head, HeadNames, Lock, MOST_ENTRIES, read_document};
+pub use lock::{Head, HeadNames, Lock, MOST_ENTRIES, Packages, read_document_without};

@@ -10,11 +10,12 @@ mod packages;
 mod read;
 
 use crate::entry::Entry;
+pub use elements::Packages;
 pub use head::Head;
 pub use names::HeadNames;
 use pymark_core::Marker;
 use pyver_core::SpecifierSet;
-pub use read::read_document;
+pub use read::read_document_without;
 use std::marker::Model;
 
 /// How many entries a lock may have.

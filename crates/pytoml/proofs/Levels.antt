@@ -107,6 +107,22 @@ pub no_path : (rings : List Ring) → path_of rings ≡ [] → rings ≡ []
 no_path [] none = refl
 no_path (r ∷ rings) none = absurd (omega (arith, ap length none))
 
+-- the levels are none where pairs go into the root
+pub at_root : (d : Draft) (doc : Document) → vec_len d.levels ≡ 0 → Stands d doc → doc.1 ≡ []
+at_root d doc none stands =
+    let (rings, inner, draft, is) = stands in
+    ap (λ t. t.1) is ∙ sym (keys_are_path d.levels.items rings draft.levels) ∙ no_keys d.levels.items (omega (arith, none, d.levels.ok))
+  where
+    no_keys : (ls : List Level) → length ls ≡ 0 → map key_of ls ≡ []
+    no_keys [] none = refl
+    no_keys (l ∷ ls) none = absurd (omega (arith, none))
+
+pub no_levels : (d : Draft) (doc : Document) → doc.1 ≡ [] → Stands d doc → vec_len d.levels ≡ 0
+no_levels d doc none stands =
+    let (rings, inner, draft, is) = stands in
+    let no_rings = ap length (no_path rings (ap (λ t. t.1) (sym is) ∙ none)) in
+    omega (arith, d.levels.ok, levels_are_many d.levels.items rings draft.levels, no_rings)
+
 -- ---- a table is opened
 
 -- a header that goes on into a key that isn't there makes a table for it

@@ -9,4 +9,5 @@ pub mod Strings
 pub mod Lines
 pub mod Keys
 pub mod Others
+pub mod Inlines
 pub mod Outlines

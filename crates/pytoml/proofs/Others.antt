@@ -1,5 +1,5 @@
 -- Nodes and members at a key, beside what is done at other keys.
-use Rattle.std.proofs.Common.{◌≡◌, ℕ, cond, Bool, true, false, List, Some, nat_cmp, Ordering, Less, Equal, Greater, refl, sym, ap, ◌∙◌, Option, None}
+use Rattle.std.proofs.Common.{◌≡◌, ℕ, cond, Bool, true, false, List, Some, nat_cmp, Ordering, Less, Equal, Greater, refl, sym, ap, ◌∙◌, None}
 use Rattle.std.specs.Cmp.{tied_itself}
 use Rattle.std.proofs.lemmas.Cmp.{nat_list_cmp_total}
 use Rattle.std.specs.Cmp.Lexicographic.{slice_cmp}

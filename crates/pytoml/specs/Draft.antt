@@ -5,11 +5,12 @@ use Rattle.std.specs.Prelude.{Some, None, ⊤, option_map, option_and_then}
 use Rattle.std.specs.Prelude.{Result, IfOk, OnOk, string_bytes}
 use Rattle.std.specs.Borrow.{Bor}
 use Rattle.toml_parser.specs.Lexical.{Read, right_bracket}
+use Rattle.toml_parser.specs.Strings.{recursion_limit}
 use Rattle.toml.specs.Data.{Data, table, array, Items, Members, push_item}
-use Rattle.toml.specs.Parse.{header_key, after_byte, lines, skip_bom}
+use Rattle.toml.specs.Parse.{header_key, after_byte, lines, skip_bom, val}
 use Rattle.toml.specs.Tables.{Origin, Node, Nodes, no_nodes, open_table, open_array, insert}
 use Rattle.toml.specs.Tables.{get_node, close, Edit, along_header, array_table, Document}
-use Rattle.toml.specs.Tables.{Expression, define}
+use Rattle.toml.specs.Tables.{Expression, define, key_value}
 use Rattle.toml.specs.View.{array_view, table_view}
 use Rattle.pytoml.specs.Members.{with_member}
 use Rattle.pytoml.specs.declared.draft.Draft.{Draft}
@@ -92,6 +93,15 @@ Adds stands old new result expected =
     (doc : Document) → stands old doc
     → IfOk result (λ rest. (e : Expression) × (next : Document)
     × (expected ≡ Some (e, rest.now)) × (define doc e ≡ Some next) × stands new next)
+
+-- the value of a pair was read, and it stands for the document with that pair added
+abbrev pub Puts : {D : Type 0} → (D → Document → Type 0) → D → D → Result (Bor (List ℕ)) Unread
+    → List ℕ → List ℕ → Type 0
+Puts stands old new result key text =
+    (doc : Document) → stands old doc
+    → IfOk result (λ rest. (d : Data) × (next : Document)
+    × (val recursion_limit text ≡ Some (d, rest.now))
+    × (define doc (([], key), key_value d) ≡ Some next) × stands new next)
 
 -- the lines of the text make this document
 abbrev pub IsDocument : List ℕ → Document → Type 0

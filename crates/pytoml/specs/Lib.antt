@@ -3,3 +3,4 @@ pub mod Inner
 pub mod Draft
 pub mod Members
 pub mod Outline
+pub mod Inline

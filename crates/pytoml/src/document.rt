@@ -6,10 +6,10 @@ ghost use Rattle.toml.specs.View.{table_view, view};
 ghost use Rattle.toml.specs.Parse.{header_key, parse_document, parse_value};
 ghost use Rattle.toml.specs.Parse as spec;
 ghost use Rattle.pytoml.specs.Inner.{Reads, Shortens};
-ghost use Rattle.toml.specs.Tables.{Document, array_table, key_value, no_nodes, std_table};
+ghost use Rattle.toml.specs.Tables.{Document, array_table, no_nodes, std_table};
 ghost use Rattle.toml.specs.Data.{Items, no_items};
 ghost use Rattle.pytoml.specs.Members.{with_elements};
-ghost use Rattle.pytoml.specs.Draft.{Adds, Defines, IsDocument, array_header};
+ghost use Rattle.pytoml.specs.Draft.{Adds, Defines, IsDocument, Puts, array_header};
 
 use crate::draft::Draft;
 use crate::fault::Unread;
@@ -27,10 +27,10 @@ pub(crate) trait Lines {
     /// The documents that it stands for.
     ghost stands: { Self → Document → Type 0 };
 
-    /// Adds a pair.
-    fn put(&mut self, key: String, value: Value) -> Result<(), Unread>
-        ensures { Defines stands self.old self.new result
-            (([], string_bytes key), key_value (view value)) };
+    /// Adds a pair, with whose value the text begins, and gives what follows it.
+    fn put<'a>(&mut self, alloc: Global, key: String, s: &'a str) -> Result<&'a str, Unread>
+        ensures puts { Puts stands self.old self.new result (string_bytes key) s.now }
+        ensures shorter { IfOk result (λ rest. length rest.now < length s.now) };
 
     /// Begins the table of a header.
     fn open_table(&mut self, alloc: Global, key: Key) -> Result<(), Unread>
@@ -133,9 +133,7 @@ fn expression<'a, L: Lines>(alloc: Global, s: &'a str, draft: &mut L) -> Result<
         Ok(rest)
     } else {
         let (key, at_value) = key_equals(alloc, s)?;
-        let (value, rest) = value(alloc, at_value, RECURSION_LIMIT)?;
-        draft.put(key, value)?;
-        Ok(rest)
+        draft.put(alloc, key, at_value)
     }
 }
 

@@ -1,7 +1,7 @@
 //! The tables of a document that is being read. Those that the last header stands in are open, each
 //! with what stands around it; all others are put where they stay. So a line takes no walk from the
 //! root. A header that goes back into a table that was put away is a shape that isn't known here.
-ghost use Rattle.std.specs.Prelude.{◌≡◌, ◌≤◌, ◌-◌, [], IfOk, OnOk, IsTrue};
+ghost use Rattle.std.specs.Prelude.{◌≡◌, ◌==◌, ◌≤◌, ◌-◌, [], IfOk, OnOk, IsTrue};
 ghost use Rattle.std.specs.Prelude.{length, map, string_bytes, take, vec_len};
 ghost use Rattle.toml_parser.specs.Reading.{key_view, path_view};
 ghost use Rattle.toml.specs.View.{table_view, view};
@@ -12,12 +12,12 @@ ghost use Rattle.pytoml.specs.Draft.{Opens, OpensPath, Stands, Turns, key_of};
 
 use crate::document::Lines;
 use crate::fault::Unread;
-use crate::value::insert_new;
+use crate::value::{insert_new, value};
 use std::alloc::{AllocError, Global};
 use std::mem;
 use toml::value::Array;
 use toml::{Table, Value};
-use toml_parser::Key;
+use toml_parser::{Key, RECURSION_LIMIT};
 
 /// How an open table stands at its key.
 #[derive(Drop)]
@@ -71,6 +71,13 @@ impl Draft {
         self.close_to(0)?;
         let Draft { levels: _, table } = self;
         Ok(table)
+    }
+
+    /// Whether pairs go into the root.
+    pub(crate) fn is_at_root(&self) -> bool
+        ensures { result ≡ (vec_len self.now.levels == 0) }
+    {
+        self.levels.is_empty()
     }
 
     /// Closes all tables, where the root has no such key.
@@ -182,8 +189,10 @@ impl Draft {
 impl Lines for Draft {
     ghost stands = { Stands };
 
-    fn put(&mut self, key: String, value: Value) -> Result<(), Unread> {
-        insert_new(&mut self.table, key, value)
+    fn put<'a>(&mut self, alloc: Global, key: String, s: &'a str) -> Result<&'a str, Unread> {
+        let (value, rest) = value(alloc, s, RECURSION_LIMIT)?;
+        insert_new(&mut self.table, key, value)?;
+        Ok(rest)
     }
 
     fn open_table(&mut self, alloc: Global, key: Key) -> Result<(), Unread> {

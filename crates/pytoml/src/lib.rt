@@ -6,13 +6,13 @@
 //! no line walks down from the root. A text that the short way doesn't know, a refused one among
 //! them, is read by `toml` itself.
 //!
-//! So `pylock_readers` reads a lock, each element of one array of tables being handed out, in
+//! So `pylock_readers` reads a document, each element of one array of tables being handed out, in
 //! `crates/pylock_readers/src/lock/read.rt`:
 //!
 //! ```rust
-//! match read_table_without(alloc, text, Packages::new(alloc))? {
-//!     Some((document, packages)) => packages.into_lock(alloc, document),
-//!     None => Lock::from_document(alloc, document_by_toml(alloc, text)?),
+//! match read_table_without(alloc, text, elements)? {
+//!     Some((document, elements)) => Ok((document, Some(elements))),
+//!     None => Ok((document_by_toml(alloc, text)?, None)),
 //! }
 //! ```
 #![tactic(auto)]
@@ -28,6 +28,7 @@ mod basic;
 mod document;
 mod draft;
 mod fault;
+mod inline;
 mod key;
 mod outline;
 mod text;
@@ -57,9 +58,9 @@ pub fn read_table(alloc: Global, text: &str) -> Result<Table, TomlError>
 
 /// The table that a document of TOML 1.1 is without the elements of one array of tables, at the key
 /// of `elements`, to which they are handed in their order, each as soon as it is complete: so one
-/// element's table stands at a time. None where the text is of a shape that the short way
-/// doesn't know, a refused one among them; `elements` is let go then, and [`read_table_by_toml`]
-/// decides.
+/// element's table stands at a time, be the array written with a header for each element or as one
+/// value. None where the text is of a shape that the short way doesn't know, a refused one among
+/// them; `elements` is let go then, and [`read_table_by_toml`] decides.
 ///
 /// Takes memory for the table, for one element, and for what `elements` takes.
 pub fn read_table_without<E: Elements>(

@@ -1,22 +1,28 @@
 //! A document from which the elements of one array of tables at the root are handed out, each as
-//! soon as it is complete. The element that is being read has a draft of its own, and what is
-//! handed out is kept by whoever took it: so one element's table stands at a time.
-ghost use Rattle.std.specs.Prelude.{◌≡◌, ℕ, List, ◌∷◌, [], IfOk, OnOk};
+//! soon as it is complete. The element below a header that is being read has a draft of its own,
+//! one in an array that is one value is read as a value is; and what is handed out is kept by
+//! whoever took it. So one element's table stands at a time.
+ghost use Rattle.std.specs.Prelude.{◌≡◌, ◌==◌, ◌&&◌, ◌<◌, ℕ, List, ◌∷◌, [], IfOk, OnOk, true};
+ghost use Rattle.std.specs.Prelude.{length, string_bytes, vec_len};
 ghost use Rattle.toml_parser.specs.Reading.{key_view};
 ghost use Rattle.toml.specs.Data.{Items, no_items, push_item, same_key, table};
 ghost use Rattle.toml.specs.Tables.{Document, array_table, close, no_nodes};
 ghost use Rattle.toml.specs.View.{table_view};
 ghost use Rattle.pytoml.specs.Members.{with_elements};
-ghost use Rattle.pytoml.specs.Draft.{Defines};
+ghost use Rattle.pytoml.specs.Draft.{Defines, Puts};
+ghost use Rattle.pytoml.specs.Inline.{begins_elements};
 ghost use Rattle.pytoml.specs.Outline.{LeftBy, StandsBy, first_part};
+ghost use Rattle.pytoml.specs.declared.outline.Place.TheVariants as place;
 
 use crate::document::Lines;
 use crate::draft::Draft;
 use crate::fault::Unread;
+use crate::inline::{begins_elements, take_elements};
 use std::alloc::{AllocError, Global};
 use std::mem;
-use toml::{Table, Value};
-use toml_parser::Key;
+use toml::Table;
+use toml_parser::text::skip;
+use toml_parser::{Key, RECURSION_LIMIT};
 
 /// Who takes the elements of an array of tables, one after the other.
 pub trait Elements: Drop {
@@ -41,10 +47,12 @@ pub trait Elements: Drop {
 pub(crate) enum Place {
     /// None was met.
     Before,
-    /// In one that has this draft.
+    /// Below the header of one that has this draft.
     Within(Draft),
-    /// Behind the last.
+    /// Behind the last of those that have headers.
     Behind,
+    /// Behind an array that is one value.
+    Inline,
 }
 
 /// A document without the elements at the key, and who takes those.
@@ -122,22 +130,66 @@ impl<E: Elements> Outline<E> {
             self.old self.new result (([], E.key), array_table) }
     {
         self.leave()?;
-        if let Place::Before = &self.place {
-            self.root.close_without(E::key())?;
+        match &self.place {
+            Place::Before => self.root.close_without(E::key())?,
+            Place::Inline => return Err(Unread::Shape),
+            _ => (),
         }
         self.place = Place::Within(Draft::new(alloc));
         Ok(())
+    }
+
+    /// Whether a pair with this key would put the array there, where no element is open.
+    fn is_at(&self, key: &str) -> bool
+        ensures { result
+            ≡ ((vec_len self.now.root.levels == 0) && same_key key.now E.key) }
+    {
+        self.root.is_at_root() && key == E::key()
+    }
+
+    /// Adds the pair at the key, with whose value the text begins, and gives what follows it.
+    fn put_ours<'a>(&mut self, alloc: Global, key: String, s: &'a str) -> Result<&'a str, Unread>
+        requires at_root { vec_len self.old.root.levels ≡ 0 }
+        requires ours { string_bytes key ≡ E.key }
+        ensures puts { Puts (λ o doc. StandsBy (E.holds o.elements) E.key o.root o.place doc)
+            self.old self.new result (string_bytes key) s.now }
+        ensures shorter { IfOk result (λ rest. length rest.now < length s.now) }
+    {
+        match &self.place {
+            Place::Before if begins_elements(s) => self.put_elements(alloc, s),
+            Place::Before => self.root.put(alloc, key, s),
+            _ => Err(Unread::Shape),
+        }
+    }
+
+    /// The same, where the value is an array that isn't empty: hands over its elements. One that is
+    /// empty is put as any other value, since elements alone leave no key.
+    fn put_elements<'a>(&mut self, alloc: Global, s: &'a str) -> Result<&'a str, Unread>
+        requires at_root { vec_len self.old.root.levels ≡ 0 }
+        requires before { self.old.place ≡ place.Before }
+        requires begins { begins_elements s.now ≡ true }
+        ensures puts { Puts (λ o doc. StandsBy (E.holds o.elements) E.key o.root o.place doc)
+            self.old self.new result E.key s.now }
+        ensures shorter { IfOk result (λ rest. length rest.now < length s.now) }
+    {
+        self.root.close_without(E::key())?;
+        let rest = take_elements(alloc, skip(s, 1), RECURSION_LIMIT - 1, &mut self.elements)?;
+        self.place = Place::Inline;
+        Ok(rest)
     }
 }
 
 impl<E: Elements> Lines for Outline<E> {
     ghost stands = { λ o doc. StandsBy (E.holds o.elements) E.key o.root o.place doc };
 
-    fn put(&mut self, key: String, value: Value) -> Result<(), Unread> {
-        match &mut self.place {
-            Place::Within(element) => element.put(key, value),
-            _ => self.root.put(key, value),
+    fn put<'a>(&mut self, alloc: Global, key: String, s: &'a str) -> Result<&'a str, Unread> {
+        if let Place::Within(element) = &mut self.place {
+            return element.put(alloc, key, s);
         }
+        if self.is_at(key.as_str()) {
+            return self.put_ours(alloc, key, s);
+        }
+        self.root.put(alloc, key, s)
     }
 
     fn open_table(&mut self, alloc: Global, key: Key) -> Result<(), Unread> {
@@ -148,7 +200,7 @@ impl<E: Elements> Lines for Outline<E> {
         match &mut self.place {
             Place::Before => self.root.open_table(alloc, key),
             Place::Within(element) => element.open_table(alloc, without_first(key)?),
-            Place::Behind => Err(Unread::Shape),
+            Place::Behind | Place::Inline => Err(Unread::Shape),
         }
     }
 
@@ -163,7 +215,7 @@ impl<E: Elements> Lines for Outline<E> {
         match &mut self.place {
             Place::Before => self.root.open_element(alloc, key),
             Place::Within(element) => element.open_element(alloc, without_first(key)?),
-            Place::Behind => Err(Unread::Shape),
+            Place::Behind | Place::Inline => Err(Unread::Shape),
         }
     }
 }

@@ -133,7 +133,7 @@ fn inline_table(alloc: Global, s: &str, depth: usize) -> Result<(Table, &str), U
 
 /// After a comma, or at the closing bracket.
 #[tactic(auto, unfolding(toml::specs::Parse::after_element))]
-fn after_element(s: &str, closing: u8) -> Result<&str, Unread>
+pub(crate) fn after_element(s: &str, closing: u8) -> Result<&str, Unread>
     ensures value { IfOk result (λ rest. after_element closing s.now ≡ Some rest.now) }
     ensures within { IfOk result (λ rest. length rest.now ≤ length s.now) }
 {

@@ -58,7 +58,7 @@ fn lock(alloc: Global, random: Random, round: u64) -> Result<String, AllocError>
 fn answered(alloc: Global, asked: Query<'_>) -> anyhow::Result<Vec<u8>> {
     let mut out = Vec::new(alloc);
     let mut writer = ToWrite::new(&mut out);
-    match query(alloc, asked, &mut writer) {
+    match query(alloc, asked, false, &mut writer) {
         Ok(status) => out.push(status)?,
         Err(fault) => return Err(anyhow::anyhow!("no answer: {fault:?}")),
     }

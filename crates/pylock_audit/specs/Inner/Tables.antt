@@ -1,6 +1,6 @@
 -- What the tables of entries give by themselves, and the findings of entries from that.
-use Rattle.std.specs.Prelude.{ℕ, ◌++◌, codes, nat_lt, suc, List, [], ◌∷◌, None, Some, Result, Ok}
-use Rattle.std.specs.Prelude.{if◌then◌else◌}
+use Rattle.std.specs.Prelude.{◌≡◌, ℕ, ◌≤◌, ◌++◌, codes, nat_lt, suc, Bool, false, is_none}
+use Rattle.std.specs.Prelude.{List, [], ◌∷◌, None, Some, Result, Ok, if◌then◌else◌}
 use Rattle.toml.specs.Data.{Items, Members, get_member, item, no_items}
 use Rattle.pytext.specs.Results.{◌>>=◌}
 use Rattle.pylock_readers.specs.Entry.{EntryValue}
@@ -78,8 +78,28 @@ abbrev pub lock_findings_by : List FindingValue → List TableValue → LockValu
 lock_findings_by head tables lock =
     findings_at 0 None head ++ of_entries_by lock.head 1 lock.entries tables
 
--- those of the lock that a document is, or its refusal
-abbrev pub document_findings : Members → Result (List LockFindingValue) LockError
-document_findings document =
-    lock_in document
-    >>= (λ lock. Ok (lock_findings_by (head_findings document) (tables_in document) lock))
+-- a lock with its findings, where it isn't refused
+abbrev pub with_findings : List FindingValue → List TableValue → Result LockValue LockError
+    → Result (LockValue × List LockFindingValue) LockError
+with_findings head tables lock = lock >>= (λ lock. Ok (lock, lock_findings_by head tables lock))
+
+-- the lock that a document is, with its findings, or its refusal
+abbrev pub document_audited : Members → Result (LockValue × List LockFindingValue) LockError
+document_audited document =
+    with_findings (head_findings document) (tables_in document) (lock_in document)
+
+-- ---- where the tables of the entries were taken from the document as they came
+
+-- what was looked at of the tables: what each gives, where a lock may have so many
+abbrev pub HasLooked : List TableValue → Items → Type 0
+HasLooked tables taken = item_count taken ≤ most_entries → tables ≡ of_tables taken
+
+-- the document names no packages, and none was taken from it
+abbrev pub has_no_packages : List TableValue → Members → Bool
+has_no_packages [] document = is_none (get_member (codes "packages") document)
+has_no_packages (table ∷ tables) document = false
+
+-- what the tables gave; where none was taken, they may stand in the document
+abbrev pub tables_after : List TableValue → Members → List TableValue
+tables_after [] document = tables_in document
+tables_after (table ∷ tables) document = table ∷ tables

@@ -1,11 +1,14 @@
 //! The entries of a lock, each read from its table as soon as that is complete: whoever reads the
 //! document hands the tables out, so that one stands at a time (PEP 751, `packages`). What is
 //! refused of them is told when the document and the head are known.
-ghost use Rattle.std.specs.Prelude.{◌≡◌, ◌≤◌, IfOk, codes, length, vec_len};
-ghost use Rattle.toml.specs.Data.{no_items};
+ghost use Rattle.std.specs.Prelude.{◌≡◌, ◌≤◌, IfOk, codes, vec_len};
+ghost use Rattle.toml.specs.Data.{Items, no_items};
 ghost use Rattle.toml.specs.View.{table_view};
 ghost use Rattle.pytext.specs.Agreement.{Gives};
-ghost use Rattle.pylock_readers.specs.Inner.Elements.{HasRead, entries_read, lock_after, lock_with};
+ghost use Rattle.pytoml.specs.Members.{with_elements};
+ghost use Rattle.pylock_readers.specs.Inner.Elements.{entries_read, lock_after, lock_with};
+ghost use Rattle.pylock_readers.specs.Lock.Packages.{HasRead};
+ghost use Rattle.pylock_readers.specs.Lock.Reading.{lock_in};
 
 use crate::entry::{Entry, read_entry};
 use crate::error::{EntryError, LockError};
@@ -16,10 +19,15 @@ use crate::lock::read::{require_creator, require_lock_version};
 use crate::lock::{Lock, MOST_ENTRIES};
 use pytoml::Elements;
 use std::alloc::{AllocError, Global};
+use std::marker::Model;
 use toml::{Table, Value};
 
-/// The entries of the tables that came, to the first that is refused.
-pub(crate) struct Packages {
+/// The entries of a lock, read from the tables of `packages` as these come, to the first that is
+/// refused (PEP 751, `packages`): hand it to [`pytoml::read_table_without`] or
+/// [`read_document_without`](crate::read_document_without).
+///
+/// It keeps the entries, and what they have in common, so that equal texts are read once.
+pub struct Packages {
     alloc: Global,
     interner: Interner,
     /// How many tables came, up to one more than a lock may have.
@@ -27,6 +35,25 @@ pub(crate) struct Packages {
     entries: Vec<Entry>,
     /// Why the table behind those of the entries is refused.
     refusal: Option<EntryError>,
+}
+
+impl Model for Packages {
+    ghost use Rattle.std.specs.Prelude.{◌≤◌, vec_len};
+    ghost use Rattle.std.specs.Coded.{codes};
+    ghost use Rattle.pymark_core.specs.Marker.Coding.{marker_code};
+    ghost use Rattle.pylock_readers.specs.Lock.Packages.{PackagesValue};
+
+    ghost Value = { PackagesValue };
+
+    ghost coded = { Prim.hlevel (codes, marker_code) };
+
+    ghost view = { λ p. record {
+      count = p.count;
+      entries = p.entries.items;
+      refusal = p.refusal;
+    } };
+
+    ghost invariant = { λ p. vec_len p.entries ≤ p.count };
 }
 
 impl Drop for Packages {
@@ -42,9 +69,9 @@ impl Drop for Packages {
 }
 
 impl Packages {
-    /// Before the first table.
-    pub(crate) fn new(alloc: Global) -> Packages
-        ensures { HasRead result.count result.entries.items result.refusal no_items }
+    /// Before the first table. It takes no memory.
+    pub fn new(alloc: Global) -> Packages
+        ensures { HasRead result no_items }
     {
         Packages {
             alloc,
@@ -55,13 +82,25 @@ impl Packages {
         }
     }
 
+    /// The lock of a document from which they were taken (PEP 751, "File format"), as
+    /// [`Lock::read`] gives it: the refusals are those that come after the reading of the document,
+    /// in the same order.
+    ///
+    /// It takes memory for the lock's head, where one was taken; otherwise what
+    /// [`Lock::from_document`] takes.
+    #[tactic(auto, using(crate::proofs::after_is))]
+    pub fn into_lock(self, alloc: Global, document: Table) -> Result<Lock, LockError>
+        ensures { (taken : Items) → HasRead self taken → Gives LockError.Memory (λ l. l) result
+            (lock_in (with_elements (codes "packages") taken (table_view document))) }
+    {
+        self.into_lock_after(alloc, document)
+    }
+
     /// The lock of a document from which they were taken; where there was none, the document may
     /// have them in another form.
     #[tactic(auto, unfolding(crate::specs::Inner::Elements::lock_after))]
-    pub(crate) fn into_lock(self, alloc: Global, document: Table) -> Result<Lock, LockError>
-        requires { length self.entries.items ≤ self.count }
-        ensures { Gives LockError.Memory (λ l. l) result
-            (lock_after (table_view document) self.count self.entries.items self.refusal) }
+    fn into_lock_after(self, alloc: Global, document: Table) -> Result<Lock, LockError>
+        ensures { Gives LockError.Memory (λ l. l) result (lock_after (table_view document) self) }
     {
         if self.count == 0 {
             Lock::from_document(alloc, document)
@@ -73,9 +112,8 @@ impl Packages {
     /// The lock of the head that a document has.
     #[tactic(auto, using(crate::proofs::kept), unfolding(crate::specs::Inner::Elements::lock_with))]
     fn with_head(self, alloc: Global, mut document: Table) -> Result<Lock, LockError>
-        requires { length self.entries.items ≤ self.count }
-        ensures { Gives LockError.Memory (λ l. l) result (lock_with (table_view document)
-            (entries_read self.count self.entries.items self.refusal)) }
+        ensures { Gives LockError.Memory (λ l. l) result
+            (lock_with (table_view document) (entries_read self)) }
     {
         require_lock_version(take(&mut document, "lock-version"))?;
         require_creator(take(&mut document, "created-by"))?;
@@ -86,9 +124,7 @@ impl Packages {
 
     /// The entries, or the first refusal.
     fn into_entries(self) -> Result<Vec<Entry>, LockError>
-        requires { length self.entries.items ≤ self.count }
-        ensures gives { Gives LockError.Memory (λ v. v.items) result
-            (entries_read self.count self.entries.items self.refusal) }
+        ensures gives { Gives LockError.Memory (λ v. v.items) result (entries_read self) }
         ensures within { IfOk result (λ v. vec_len v ≤ 100000) }
     {
         let Packages {
@@ -111,8 +147,7 @@ impl Packages {
 impl Elements for Packages {
     ghost key = { codes "packages" };
 
-    ghost holds = { λ packages taken.
-        HasRead packages.count packages.entries.items packages.refusal taken };
+    ghost holds = { λ packages taken. HasRead packages taken };
 
     fn key() -> &'static str {
         "packages"

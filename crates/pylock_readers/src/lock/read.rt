@@ -1,11 +1,12 @@
 //! Locks from their texts.
-ghost use Rattle.std.specs.Prelude.{◌≡◌, ◌⊎◌, Err, IfErr, IfOk, Ok, option_map};
+ghost use Rattle.std.specs.Prelude.{◌≡◌, ◌≢◌, ◌⊎◌, Err, IfErr, IfOk, Ok, option_map};
+ghost use Rattle.toml.specs.Data.{no_items};
 ghost use Rattle.toml.specs.View.{view, table_view};
 ghost use Rattle.pytext.specs.Agreement.{Gives};
 ghost use Rattle.pytoml.specs.declared.fault.TomlError.TheVariants as fault;
 ghost use Rattle.pylock_readers.specs.Lock.Head.{created_by_in, is_lock_version};
 ghost use Rattle.pylock_readers.specs.Lock.Head.{lock_version_in};
-ghost use Rattle.pylock_readers.specs.Inner.Elements.{lock_of_text};
+ghost use Rattle.pylock_readers.specs.Lock.Packages.{IsDocument};
 ghost use Rattle.pylock_readers.specs.Lock.Reading.{document_in, document_of, lock_in, lock_of};
 
 use crate::error::LockError;
@@ -16,7 +17,7 @@ use crate::lock::head::Head;
 use crate::lock::packages::read_packages;
 use crate::text::as_text;
 use pytext::is_number;
-use pytoml::{TomlError, read_table, read_table_by_toml, read_table_without};
+use pytoml::{Elements, TomlError, read_table_by_toml, read_table_without};
 use std::alloc::Global;
 use toml::{Table, Value};
 
@@ -32,25 +33,16 @@ impl Lock {
     pub fn read(alloc: Global, bytes: &[u8]) -> Result<Lock, LockError>
         ensures { Gives LockError.Memory (λ l. l) result (lock_of bytes.now) }
     {
-        let text = as_text(bytes).ok_or(LockError::NotText)?;
-        Lock::read_text(alloc, text)
-    }
-
-    /// The lock that the text is. The entries are read as their tables come; where the text is of a
-    /// shape that doesn't allow it, from the whole document.
-    fn read_text(alloc: Global, text: &str) -> Result<Lock, LockError>
-        ensures { Gives LockError.Memory (λ l. l) result (lock_of_text text.now) }
-    {
-        match read_table_without(alloc, text, Packages::new(alloc))? {
-            Some((document, packages)) => packages.into_lock(alloc, document),
-            None => Lock::from_document(alloc, document_by_toml(alloc, text)?),
+        match read_document_without(alloc, bytes, Packages::new(alloc))? {
+            (document, Some(packages)) => packages.into_lock(alloc, document),
+            (document, None) => Lock::from_document(alloc, document),
         }
     }
 
     /// The lock of version 1 that a TOML document is (PEP 751, "File format"). The refusals are
     /// those of [`Lock::read`] that come after the reading of the document, in the same order; keys
     /// that are not named there are ignored. So whoever wants something of the document besides
-    /// takes it from what [`read_document`] gives, and the bytes are read once.
+    /// takes it from what [`read_document_without`] gives, and the bytes are read once.
     ///
     /// Takes memory for the lock; strings move from the document to it. The document is freed,
     /// whether it is a lock or not.
@@ -67,19 +59,28 @@ impl Lock {
     }
 }
 
-/// The TOML document that the bytes are, from which a lock is read; the refusals are those of a
-/// lock that come before its keys. Takes memory for the document.
-pub fn read_document(alloc: Global, bytes: &[u8]) -> Result<Table, LockError>
-    ensures { Gives LockError.Memory table_view result (document_in bytes.now) }
+/// The TOML document of the bytes without the elements of one array of tables, at the key of
+/// `elements`, which took them as they came; or the whole document and nobody, where the text is of
+/// a shape that doesn't allow it. The refusals are those of a lock that come before its keys.
+///
+/// So whoever wants something of the tables of entries that a [`Lock`] doesn't keep looks at each
+/// before [`Packages`](crate::Packages) takes it, and the bytes are read once. Takes memory for the
+/// document, for one element at a time, and for what `elements` takes.
+pub fn read_document_without<E: Elements>(
+    alloc: Global,
+    bytes: &[u8],
+    elements: E,
+) -> Result<(Table, Option<E>), LockError>
+    requires { E.holds elements no_items }
+    ensures ok { IfOk result (λ read.
+        IsDocument E.holds E.key (table_view read.0, read.1) (document_in bytes.now)) }
+    ensures refused { IfErr result (λ e. e ≢ LockError.Memory → document_in bytes.now ≡ Err e) }
 {
     let text = as_text(bytes).ok_or(LockError::NotText)?;
-    document(alloc, text)
-}
-
-fn document(alloc: Global, text: &str) -> Result<Table, LockError>
-    ensures { Gives LockError.Memory table_view result (document_of text.now) }
-{
-    or_toml(read_table(alloc, text))
+    match read_table_without(alloc, text, elements)? {
+        Some((document, elements)) => Ok((document, Some(elements))),
+        None => Ok((document_by_toml(alloc, text)?, None)),
+    }
 }
 
 fn document_by_toml(alloc: Global, text: &str) -> Result<Table, LockError>
