@@ -392,7 +392,8 @@ static void answers(void)
     HOLDS(status == 0 && has(&out, "files 2\n1\ta\t-\tdirectory\t-\ta\t-\t-\t-\n"
                                    "2\tb\t-\tdirectory\t-\tb\t-\t-\t-\n"));
     IS(pylock_audit(TEXT(LOCK), true, &out, &status), PYLOCK_OK);
-    HOLDS(status == 0 && has(&out, "{\"findings\":[],\"pylock\":1}\n"));
+    HOLDS(status == 1 && has(&out, "{\"findings\":[{\"detail\":\"A_b\",\"finding\":\"name-form\","
+                                   "\"id\":0}],\"pylock\":1}\n"));
     IS(pylock_lock_head(TEXT(LOCK), &out, &words), PYLOCK_OK);
     HOLDS(!words.full &&
           has(&out, "{\"default_groups\":[],\"environments\":[],\"extras\":[\"a-b\"],"

@@ -1,12 +1,15 @@
 pub mod Audit
 pub mod Document
 pub mod Entry
+pub mod EntryKeys
 pub mod FileName
 pub mod Finding
 pub mod Hash
 pub mod Inner
 pub mod Keys
+pub mod Query
 pub mod Source
+pub mod Types
 pub mod Unsafe
 pub mod Url
 pub mod Words

@@ -1,29 +1,37 @@
 //! What markers ask for that no lock, or not this one, has.
 
-ghost use Rattle.std.specs.Prelude.{◌≡◌, ◌++◌, IfOk, map, string_bytes};
+ghost use Rattle.std.specs.Prelude.{◌≡◌, ◌++◌, IfOk, OnOk, map};
 ghost use Rattle.std.specs.List.{list_any};
 ghost use Rattle.std.specs.Option.{option_copied};
 ghost use Rattle.pymark_core.specs.Marker.Asked.{comparison_reads_extra};
-ghost use Rattle.pylock_audit.specs.Entry.{asks_undeclared, compares, is_undeclared};
+ghost use Rattle.pylock_audit.specs.Entry.{asks_undeclared, is_undeclared, marker_findings};
 
-use crate::finding::told_where;
+use crate::finding::{Finding, FindingKind, push_each, told_where};
 use pylock_core::Head;
 use pymark_core::{Comparison, Marker};
 use pyver_core::normal_name;
 use std::alloc::{AllocError, Global};
 
-/// The text of the marker, where one of its comparisons has the operand `extra`.
-pub(crate) fn with_extra(alloc: Global, marker: Option<&Marker>) -> Result<Vec<String>, AllocError>
-    ensures { IfOk result (λ list. map string_bytes list.items
-        ≡ compares comparison_reads_extra (option_copied marker.entry)) }
+/// Adds what the marker gives. Its comparisons are listed once.
+pub(crate) fn push_compared(
+    alloc: Global,
+    findings: &mut Vec<Finding>,
+    head: &Head,
+    marker: &Marker,
+) -> Result<(), AllocError>
+    ensures { OnOk result (findings.new.items
+        ≡ findings.old.items ++ marker_findings head.now marker.now) }
 {
-    let Some(marker) = marker else {
-        return Ok(Vec::new(alloc));
-    };
-    let comparisons = marker.comparisons(alloc)?;
-    told_where(alloc, any_extra(comparisons.as_slice()), marker.text())
+    let listed = marker.comparisons(alloc)?;
+    let compared = listed.as_slice();
+    let texts = told_where(alloc, any_extra(compared), marker.text())?;
+    push_each(findings, FindingKind::MarkerExtra, texts)?;
+    let asked = any_undeclared(alloc, head, compared)?;
+    let texts = told_where(alloc, asked, marker.text())?;
+    push_each(findings, FindingKind::UndeclaredName, texts)
 }
 
+/// Whether `extra` is one of the operands.
 fn any_extra(comparisons: &[&Comparison]) -> bool
     ensures { result ≡ list_any comparison_reads_extra (map (λ c. c.now) comparisons.now) }
 {
@@ -35,24 +43,7 @@ fn any_extra(comparisons: &[&Comparison]) -> bool
     false
 }
 
-/// The text of the marker, where one of its comparisons asks for an extra or a group that the head
-/// doesn't declare.
-pub(crate) fn with_undeclared(
-    alloc: Global,
-    head: &Head,
-    marker: Option<&Marker>,
-) -> Result<Vec<String>, AllocError>
-    ensures { IfOk result (λ list. map string_bytes list.items
-        ≡ compares (asks_undeclared head.now) (option_copied marker.entry)) }
-{
-    let Some(marker) = marker else {
-        return Ok(Vec::new(alloc));
-    };
-    let comparisons = marker.comparisons(alloc)?;
-    let found = any_undeclared(alloc, head, comparisons.as_slice())?;
-    told_where(alloc, found, marker.text())
-}
-
+/// Whether an extra or a group is asked for that the head doesn't declare.
 fn any_undeclared(alloc: Global, head: &Head, compared: &[&Comparison]) -> Result<bool, AllocError>
     ensures { IfOk result (λ found. found
         ≡ list_any (asks_undeclared head.now) (map (λ c. c.now) compared.now)) }
