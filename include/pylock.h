@@ -106,6 +106,7 @@ enum pylock_code {
     /* a lock, an environment: `words` says what is wrong */
     PYLOCK_LOCK_REFUSED = 70,
     PYLOCK_ENVIRONMENT_REFUSED = 71,
+    PYLOCK_LOCK_FINDINGS = 72, /* a strict reading refuses what is found in the lock */
 
     /* an edit of a session or of an environment */
     PYLOCK_EDIT_LONG = 80,     /* a line of more than 1,048,576 bytes */
@@ -301,6 +302,17 @@ int32_t pylock_session_start(pylock_session *session,
                              const uint8_t *lock, size_t lock_length,
                              const uint8_t *environment, size_t environment_length,
                              pylock_text *words);
+
+/* The same on a lock that is taken strictly, as `pylock plan --strict` takes it: where
+ * pylock_audit finds in it what installers read differently (docs/FORMATS.md), the code
+ * is PYLOCK_LOCK_FINDINGS, and `words` is then what pylock prints of these findings, as
+ * "findings 1\n1\ta\tno-source\t-\n". It is judged behind the lock and before the
+ * environment. `words` has lines or, where `json` is true, one JSON document, of a
+ * refusal too. PYLOCK_LOCK_REFUSED, PYLOCK_ENVIRONMENT_REFUSED, PYLOCK_MEMORY. */
+int32_t pylock_session_start_strict(pylock_session *session,
+                                    const uint8_t *lock, size_t lock_length,
+                                    const uint8_t *environment, size_t environment_length,
+                                    bool json, pylock_text *words);
 
 /* The edits. `*judged` is set to how many judgements the edit made; entries that share
  * a marker and a Python set may have them judged once, and all count. A refused edit

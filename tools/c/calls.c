@@ -568,6 +568,35 @@ static void started_sessions(void)
     HOLDS(!session.full && !session.kept);
 }
 
+/* of a lock that is taken strictly: the lock is judged, then what is found, then the environment */
+static void strict_sessions(void)
+{
+    static const char sound[] =
+        EMPTY "[[packages]]\nname = \"a\"\ndirectory = { path = \"a\" }\n";
+    static const char found[] = EMPTY "[[packages]]\nname = \"A\"\nversion = \"1\"\n";
+    pylock_session session = {0};
+    pylock_text words = {0};
+    IS(pylock_session_start_strict(&session, TEXT(sound), TEXT(TAGGED), false, &words), PYLOCK_OK);
+    HOLDS(session.full && !words.full);
+    IS(pylock_session_start_strict(&session, TEXT("x"), TEXT("x"), false, &words),
+       PYLOCK_LOCK_REFUSED);
+    HOLDS(has(&words, "lock\ttoml\n"));
+    IS(pylock_session_start_strict(&session, TEXT(found), TEXT("x"), false, &words),
+       PYLOCK_LOCK_FINDINGS);
+    HOLDS(has(&words, "findings 2\n1\ta\tname-form\tA\n1\ta\tno-source\t-\n"));
+    IS(pylock_session_start_strict(&session, TEXT(found), TEXT(TAGGED), true, &words),
+       PYLOCK_LOCK_FINDINGS);
+    HOLDS(has(&words, "{\"findings\":[{\"detail\":\"A\",\"finding\":\"name-form\",\"id\":1,"
+                      "\"name\":\"a\"},{\"finding\":\"no-source\",\"id\":1,\"name\":\"a\"}],"
+                      "\"pylock\":1}\n"));
+    IS(pylock_session_start_strict(&session, TEXT(sound), TEXT("{}"), true, &words),
+       PYLOCK_ENVIRONMENT_REFUSED);
+    HOLDS(has(&words, "{\"pylock\":1,\"refused\":[\"environment\",\"shape\"]}\n"));
+    stands(&session, "plan 1\n1\ta\t-\tdirectory\t-\ta\t-\t-\t-\n", true, "0\t1");
+    pylock_text_free(&words);
+    pylock_session_free(&session);
+}
+
 static void edited_sessions(pylock_session *session)
 {
     uint64_t judged = 0;
@@ -744,6 +773,7 @@ static void sessions(void)
     pylock_text words = {0};
     empty_sessions();
     started_sessions();
+    strict_sessions();
     read_entries();
     IS(pylock_session_start(&session, TEXT(EDITED), TEXT(TAGGED), &words), PYLOCK_OK);
     edited_sessions(&session);

@@ -9,6 +9,7 @@ pub mod Inner
 pub mod Keys
 pub mod Query
 pub mod Source
+pub mod Strict
 pub mod Types
 pub mod Unsafe
 pub mod Url

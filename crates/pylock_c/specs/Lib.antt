@@ -12,6 +12,7 @@ pub mod Sdists
 pub mod Sessions
 pub mod Sets
 pub mod Slot
+pub mod Strict
 pub mod Text
 pub mod Versions
 pub mod Wheels

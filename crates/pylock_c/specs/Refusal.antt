@@ -72,6 +72,7 @@ number refusal.SdistName = pos 68
 number refusal.SdistVersion = pos 69
 number refusal.Lock = pos 70
 number refusal.Environment = pos 71
+number refusal.Findings = pos 72
 number (refusal.Edit refused) = edit_number refused
 
 abbrev pub version_refusal : VersionError → Refusal

@@ -31,6 +31,7 @@ mod sdists;
 mod sessions;
 mod sets;
 mod slot;
+mod strict;
 mod text;
 mod threads;
 mod versions;

@@ -80,6 +80,8 @@ pub enum Refusal {
     Lock,
     /// The environment is refused.
     Environment,
+    /// The lock is valid, and a strict reading refuses what is found in it.
+    Findings,
     /// An edit is refused.
     Edit(LineRefusal),
 }
@@ -122,6 +124,7 @@ impl Refusal {
             Refusal::SdistVersion => 69,
             Refusal::Lock => 70,
             Refusal::Environment => 71,
+            Refusal::Findings => 72,
             Refusal::Edit(refusal) => edit_number(refusal),
         }
     }

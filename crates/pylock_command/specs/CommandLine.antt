@@ -11,6 +11,7 @@ use Rattle.clap.specs.declared.error.kind.ErrorKind.TheVariants.{MissingRequired
 use Rattle.clap.specs.declared.error.kind.ErrorKind.TheVariants.{OutOfMemory}
 use Rattle.pylock_command.specs.Choices.{AreChoices}
 use Rattle.pylock_command.specs.Form.{form_of}
+use Rattle.pylock_command.specs.Strict.{is_strict}
 use Rattle.pylock_command.specs.Subcommand.{Subcommand, row, subcommand_app}
 use Rattle.pylock_command.specs.declared.choice.Choice.{Choice}
 use Rattle.pylock_command.specs.declared.command_line.CommandError.{CommandError}
@@ -35,7 +36,7 @@ abbrev pub subcommands : List Subcommand
 subcommands =
     row (codes "plan") (codes "LOCK" ∷ codes "ENV" ∷ []) options.Choices
     ∷ row (codes "explain") (codes "LOCK" ∷ codes "ENV" ∷ []) options.Choices
-    ∷ row (codes "select") (codes "LOCK" ∷ codes "ENV" ∷ []) options.Absent
+    ∷ row (codes "select") (codes "LOCK" ∷ codes "ENV" ∷ []) options.Strict
     ∷ row (codes "files") (codes "LOCK" ∷ []) options.Form
     ∷ row (codes "audit") (codes "LOCK" ∷ []) options.Form
     ∷ row (codes "version") (codes "TEXT" ∷ []) options.Absent
@@ -77,7 +78,7 @@ abbrev pub call_of : Task → Option (Text × List Text)
 call_of Bare = None
 call_of (Show request) =
     Some (view_word request.view, request.lock.now ∷ request.environment.now ∷ [])
-call_of (Select lock env) = Some (codes "select", lock.now ∷ env.now ∷ [])
+call_of (Select asked) = Some (codes "select", asked.lock.now ∷ asked.environment.now ∷ [])
 call_of (Files lock form) = Some (codes "files", lock.now ∷ [])
 call_of (Audit lock form) = Some (codes "audit", lock.now ∷ [])
 call_of (Version text) = Some (codes "version", text.now ∷ [])
@@ -101,11 +102,17 @@ HasChoices found choices = IfSome found (λ p. AreChoices p.1 choices)
 abbrev pub HasForm : Option (Text × List Row) → Form → Type 0
 HasForm found form = IfSome found (λ p. form ≡ form_of p.1)
 
+-- the words of the subcommand ask for a strict reading of the lock, or don't
+abbrev pub HasStrictness : Option (Text × List Row) → Bool → Type 0
+HasStrictness found strict = IfSome found (λ p. strict ≡ is_strict p.1)
+
 -- the task that the words give
 abbrev pub IsTask : Option (Text × List Row) → Task → Type 0
 IsTask found (Show request) =
     IsCall found (call_of (Show request)) × HasChoices found request.choices.items
-    × HasForm found request.form
+    × HasStrictness found request.strict × HasForm found request.form
+IsTask found (Select asked) =
+    IsCall found (call_of (Select asked)) × HasStrictness found asked.strict
 IsTask found (Files lock form) = IsCall found (call_of (Files lock form)) × HasForm found form
 IsTask found (Audit lock form) = IsCall found (call_of (Audit lock form)) × HasForm found form
 IsTask found task = IsCall found (call_of task)

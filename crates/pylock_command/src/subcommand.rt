@@ -9,6 +9,7 @@ ghost use Rattle.pylock_command.specs.Commands.{IsCommand, IsLocal};
 use crate::choices::{with_argument, with_choices};
 use crate::form::with_json;
 use crate::help;
+use crate::strict::with_strict;
 use clap::{Arg, Command};
 use std::alloc::{AllocError, Global};
 
@@ -22,7 +23,9 @@ enum Options {
     Absent,
     /// `--json`.
     Form,
-    /// Those of `plan`, and `--json`.
+    /// `--strict`.
+    Strict,
+    /// Those of `plan`, `--strict` and `--json`.
     Choices,
 }
 
@@ -64,7 +67,7 @@ pub(crate) const SUBCOMMANDS: [Usage; 12] = [
         name: "select",
         about: "Print what a lock installs, and print it again after each edit",
         texts: &[LOCK, ENV],
-        options: Options::Absent,
+        options: Options::Strict,
         reply: help::SELECT,
     },
     Usage {
@@ -156,7 +159,8 @@ pub(crate) fn subcommand<'a>(alloc: Global, usage: Usage) -> Result<Command<'a>,
     match usage.options {
         Options::Absent => command,
         Options::Form => with_json(alloc, command),
-        Options::Choices => with_json(alloc, with_choices(alloc, command)),
+        Options::Strict => with_strict(alloc, command),
+        Options::Choices => { with_json(alloc, with_strict(alloc, with_choices(alloc, command))) }
     }
 }
 

@@ -18,10 +18,10 @@ pub mod queries;
 
 use crate::program::REFUSED;
 use crate::reply::queries::Query;
-use crate::text::audit::push_findings;
+use crate::strict::push_found;
 use crate::text::files::push_files;
 use crate::text::json::push_lock_json;
-use pylock_audit::{LockFinding, findings_document, read_audited};
+use pylock_audit::{LockFinding, read_audited};
 use pylock_command::Form;
 use pylock_core::{Entry, EnvError, FaultCode, Lock, LockError, fault_word, read_environment};
 use pylock_documents::files_document;
@@ -165,10 +165,7 @@ fn push_findings_in(
     ensures { Pushes out.old.items out.new.items
         (reply_of (findings_answer form found.now)) result }
 {
-    match form {
-        Form::Lines => push_findings(out, found)?,
-        Form::Json => push_document(alloc, out, findings_document(alloc, found)?)?,
-    }
+    push_found(alloc, out, form, found)?;
     Ok(if found.is_empty() { 0 } else { 1 })
 }
 

@@ -105,6 +105,7 @@ complete -c pylock -n '__pylock_in plan explain' -l no-group -x -a '(__pylock_na
 complete -c pylock -n '__pylock_in plan explain' -l only-binary -x -a '(echo :all:; __pylock_names packages)' -d 'Take wheels alone: --only-binary numpy, or :all:'
 complete -c pylock -n '__pylock_in plan explain' -l no-binary -x -a '(echo :all:; __pylock_names packages)' -d 'Take no wheels: --no-binary numpy, or :all:'
 complete -c pylock -n '__pylock_in plan explain' -l set -x -a '(__pylock_variables)' -d 'Give a marker variable a text: --set os_name=nt'
+complete -c pylock -n '__pylock_in plan explain select' -l strict -d 'Refuse a lock that installers may differ on'
 complete -c pylock -n '__pylock_in plan explain files audit' -l json -d 'Print one JSON document in place of the lines'
 complete -c pylock -n '__pylock_in plan explain select files audit version match name marker requirement wheel sdist' -s h -l help -d 'Print help'
 complete -c pylock -n __pylock_in_none -a plan -d 'Print what a lock installs in an environment'
