@@ -2,17 +2,19 @@
 -- the variables of Python's version are versions to it, and any other is a text, whatever it spells
 -- (PEP 508, "Environment Markers": versions where both texts are versions). So installers may
 -- answer otherwise on some machine.
-use Rattle.std.specs.Prelude.{ℕ, Bool, true, false, ◌&&◌, ◌||◌, not, List, Option, Some, None}
-use Rattle.std.specs.Prelude.{is_some}
+use Rattle.std.specs.Prelude.{ℕ, Bool, true, false, ◌&&◌, ◌||◌, not, List, Option}
+use Rattle.std.specs.Prelude.{Result, Ok, Err}
 use Rattle.std.specs.Option.{option_map_or}
-use Rattle.pyver_core.specs.Version.Reading.{version_of}
+use Rattle.pyver_core.specs.Parsed.{parsed_version}
+use Rattle.pyver_core.specs.Version.Parts.{Parts}
 use Rattle.pyver_core.specs.declared.set.specifier.Operator.{Operator}
 use Rattle.pyver_core.specs.declared.set.specifier.Operator.TheVariants as operator
+use Rattle.pyver_core.specs.declared.version.error.VersionError.{VersionError}
+use Rattle.pyver_core.specs.declared.version.error.VersionError.TheVariants as refused
 use Rattle.pymark_core.specs.Marker.Asked.{operand_variable, quoted_text}
 use Rattle.pymark_core.specs.Marker.Comparison.{ComparisonValue}
 use Rattle.pymark_core.specs.declared.operand.Comparator.{Comparator}
 use Rattle.pymark_core.specs.declared.operand.Comparator.TheVariants.{By, In, NotIn}
-use Rattle.pymark_core.specs.declared.operand.Operand.{Operand}
 use Rattle.pymark_core.specs.declared.variable.Var.{Var}
 use Rattle.pymark_core.specs.declared.variable.Var.TheVariants as var
 
@@ -22,14 +24,18 @@ is_python_version var.PythonFullVersion = true
 is_python_version variable = false
 
 -- a variable other than these two; `extra` is none
-abbrev pub is_text_variable : Operand → Bool
-is_text_variable operand =
-    option_map_or (λ variable. not (is_python_version variable)) (operand_variable operand) false
+abbrev pub is_text_variable : Option Var → Bool
+is_text_variable variable = option_map_or (λ v. not (is_python_version v)) variable false
 
--- a quoted text that spells a version, one with a number past our limit too
-abbrev pub spells_version : Operand → Bool
-spells_version operand =
-    option_map_or (λ text. is_some (version_of text)) (quoted_text operand) false
+-- a text spells a version, also where one of its numbers is past the limit
+abbrev pub is_spelt : Result Parts VersionError → Bool
+is_spelt (Ok v) = true
+is_spelt (Err refused.NumberTooLarge) = true
+is_spelt (Err refusal) = false
+
+-- a quoted text that does
+abbrev pub spells_version : Option (List ℕ) → Bool
+spells_version text = option_map_or (λ text. is_spelt (parsed_version text)) text false
 
 abbrev pub is_equality : Operator → Bool
 is_equality operator.Equal = true
@@ -38,9 +44,10 @@ is_equality other = false
 
 -- equal texts are equal versions, but not the other way round; no other operator has one meaning
 abbrev pub differs_by : Comparator → ComparisonValue → Bool
-differs_by (By operator) c =
-    (is_text_variable c.left || is_text_variable c.right)
-    && (not (is_equality operator) || spells_version c.left || spells_version c.right)
+differs_by (By by) c =
+    (is_text_variable (operand_variable c.left) || is_text_variable (operand_variable c.right))
+    && (not (is_equality by) || spells_version (quoted_text c.left)
+    || spells_version (quoted_text c.right))
 differs_by In c = false
 differs_by NotIn c = false
 
