@@ -8,6 +8,7 @@ pub mod Hash
 pub mod Inner
 pub mod Keys
 pub mod Query
+pub mod Readings
 pub mod Source
 pub mod Strict
 pub mod Types
