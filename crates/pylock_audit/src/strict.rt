@@ -80,6 +80,7 @@ impl FindingKind {
             | FindingKind::WrongType => true,
             FindingKind::LockVersion
             | FindingKind::UnknownKey
+            | FindingKind::ReadingsDiffer
             | FindingKind::UndeclaredName
             | FindingKind::WeakHash
             | FindingKind::OddHash
