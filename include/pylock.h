@@ -97,6 +97,12 @@ enum pylock_code {
     PYLOCK_WHEEL_BUILD = 64,
     PYLOCK_WHEEL_TAGS = 65,
 
+    /* the name of a source distribution (PEP 625) */
+    PYLOCK_SDIST_EXTENSION = 66,
+    PYLOCK_SDIST_PARTS = 67,
+    PYLOCK_SDIST_NAME = 68,
+    PYLOCK_SDIST_VERSION = 69,
+
     /* a lock, an environment: `words` says what is wrong */
     PYLOCK_LOCK_REFUSED = 70,
     PYLOCK_ENVIRONMENT_REFUSED = 71,
@@ -167,7 +173,7 @@ int32_t pylock_name(const uint8_t *text, size_t length,
 /* Whether the text is a name (PEP 508). PYLOCK_NOT_UTF8. */
 int32_t pylock_is_name(const uint8_t *text, size_t length, bool *is_name);
 
-/* ---- requirements and wheel names (PEP 508, PEP 427) ---- */
+/* ---- requirements, wheel and sdist names (PEP 508, PEP 427, PEP 625) ---- */
 
 /* A record of a requirement's parts, as they are written: name; extras, joined by
  * a comma, repeats too; the normal form of the specifier set; URL; marker. Without
@@ -179,6 +185,10 @@ int32_t pylock_requirement(const uint8_t *text, size_t length, pylock_text *reco
  * version; build as written, or absent; tags, joined by a space.
  * PYLOCK_NOT_UTF8, PYLOCK_WHEEL_*, PYLOCK_MEMORY. */
 int32_t pylock_wheel(const uint8_t *text, size_t length, pylock_text *record);
+
+/* A record of what the name of a source distribution says: normal form of the name;
+ * normal form of the version. PYLOCK_NOT_UTF8, PYLOCK_SDIST_*, PYLOCK_MEMORY. */
+int32_t pylock_sdist(const uint8_t *text, size_t length, pylock_text *record);
 
 /* ---- specifier sets that are kept ---- */
 

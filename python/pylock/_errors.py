@@ -88,7 +88,7 @@ class InvalidWheelFilename(Refusal):
 
 
 class InvalidSdistFilename(Refusal):
-    """A text is no file name of an sdist."""
+    """A text is no file name of an sdist (PEP 625)."""
 
     __module__ = "pylock.utils"
 

@@ -21,6 +21,7 @@ from ._errors import (
     InvalidMarker,
     InvalidName,
     InvalidRequirement,
+    InvalidSdistFilename,
     InvalidSpecifier,
     InvalidVersion,
     InvalidWheelFilename,
@@ -112,6 +113,10 @@ _REFUSALS: Dict[int, Tuple[Type[Refusal], str, str]] = {
     63: (InvalidWheelFilename, "version", "invalid version"),
     64: (InvalidWheelFilename, "build", "invalid build number"),
     65: (InvalidWheelFilename, "tags", "invalid tags"),
+    66: (InvalidSdistFilename, "extension", "extension must be '.tar.gz' or '.zip'"),
+    67: (InvalidSdistFilename, "parts", "no version"),
+    68: (InvalidSdistFilename, "name", "invalid project name"),
+    69: (InvalidSdistFilename, "version", "invalid version"),
     80: (InvalidEdit, "long", "the line has more than 1,048,576 bytes"),
     81: (InvalidEdit, "command", "no such command"),
     82: (InvalidEdit, "argument", "what follows the command has a wrong form"),
@@ -136,6 +141,7 @@ _WHAT: Dict[Type[Refusal], str] = {
     InvalidName: "Invalid name",
     InvalidRequirement: "Invalid requirement",
     InvalidWheelFilename: "Invalid wheel filename",
+    InvalidSdistFilename: "Invalid sdist filename",
     InvalidEdit: "Refused edit",
 }
 
@@ -469,10 +475,11 @@ def environment_add(kept: KeptEnvironment, extras: List[str], groups: List[str])
                 raise _error(code, name, InvalidName)
 
 
-# ---- requirements and wheel names ----
+# ---- requirements, wheel and sdist names ----
 
 _requirement = _call("requirement", *_TEXT, *_SLOT)
 _wheel = _call("wheel", *_TEXT, *_SLOT)
+_sdist = _call("sdist", *_TEXT, *_SLOT)
 
 
 def _unescaped(field: str) -> Optional[str]:
@@ -504,6 +511,11 @@ def requirement(text: str) -> List[Optional[str]]:
 def wheel(text: str) -> List[Optional[str]]:
     """The fields of a wheel's name: name as written, version, build, tags with a space between."""
     return _record(_wheel, text, InvalidWheelFilename)
+
+
+def sdist(text: str) -> List[Optional[str]]:
+    """The fields of an sdist's name: normal form of the name, version."""
+    return _record(_sdist, text, InvalidSdistFilename)
 
 
 # ---- a lock at once ----

@@ -96,6 +96,9 @@ def reply(words):
             assert tags == {tag for text in record[3].split(" ") for tag in pylock.parse_tag(text)}
             assert (build == ()) == (record[2] is None)
             return "\t".join((field(name), str(version), field(record[2]), record[3])), 0
+        if command == "sdist":
+            name, version = pylock.parse_sdist_filename(texts[0])
+            return "\t".join((field(name), str(version))), 0
     except pylock.Refusal as refusal:
         return "refused\t" + refusal.word, 1
     raise AssertionError(words)

@@ -206,6 +206,22 @@ static void requirements(void)
     pylock_text_free(&record);
 }
 
+static void sdists(void)
+{
+    pylock_text record = {0};
+    IS(pylock_sdist(TEXT("Foo.bar-V1.0.tar.gz"), &record), PYLOCK_OK);
+    HOLDS(has(&record, "foo-bar\t1.0"));
+    IS(pylock_sdist(TEXT("a-1.whl"), &record), PYLOCK_SDIST_EXTENSION);
+    IS(pylock_sdist(TEXT("a.tar.gz"), &record), PYLOCK_SDIST_PARTS);
+    IS(pylock_sdist(TEXT("-1.zip"), &record), PYLOCK_SDIST_NAME);
+    IS(pylock_sdist(TEXT("a-x.zip"), &record), PYLOCK_SDIST_VERSION);
+    IS(pylock_sdist(TEXT("a\xff"), &record), PYLOCK_NOT_UTF8);
+    HOLDS(has(&record, "foo-bar\t1.0"));
+    IS(pylock_sdist(TEXT("foo-1.0-1.zip"), &record), PYLOCK_OK);
+    HOLDS(has(&record, "foo-1-0\t1"));
+    pylock_text_free(&record);
+}
+
 static void wheels(void)
 {
     pylock_text record = {0};
@@ -376,7 +392,8 @@ static void answers(void)
     HOLDS(status == 0 && has(&out, "files 2\n1\ta\t-\tdirectory\t-\ta\t-\t-\t-\n"
                                    "2\tb\t-\tdirectory\t-\tb\t-\t-\t-\n"));
     IS(pylock_audit(TEXT(LOCK), true, &out, &status), PYLOCK_OK);
-    HOLDS(status == 0 && has(&out, "{\"findings\":[],\"pylock\":1}\n"));
+    HOLDS(status == 1 && has(&out, "{\"findings\":[{\"detail\":\"A_b\",\"finding\":\"name-form\","
+                                   "\"id\":0}],\"pylock\":1}\n"));
     IS(pylock_lock_head(TEXT(LOCK), &out, &words), PYLOCK_OK);
     HOLDS(!words.full &&
           has(&out, "{\"default_groups\":[],\"environments\":[],\"extras\":[\"a-b\"],"
@@ -968,6 +985,7 @@ static void calls(void)
     texts();
     requirements();
     wheels();
+    sdists();
     sets();
     markers();
     extras();

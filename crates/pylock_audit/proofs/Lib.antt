@@ -1,8 +1,10 @@
 pub mod FrontLemmas
+pub mod HiddenLemmas
 pub mod KeyLemmas
 pub mod MaskLemmas
 pub mod NameLemmas
 pub mod PrintableLemmas
+pub mod QueryLemmas
 pub mod ShownLemmas
 pub mod StrictLemmas
 pub mod TableLemmas

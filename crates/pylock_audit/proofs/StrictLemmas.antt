@@ -25,24 +25,24 @@ found_in lock document = do
   document ← document
   Ok (lock_findings document lock)
 
-abbrev audited_in : Result LockValue LockError → Result Members LockError → Result (LockValue × List LockFindingValue) LockError
-audited_in lock document = do
-  lock ← lock
-  document ← document
-  Ok (lock, lock_findings document lock)
-
 pub strict_once : (bytes : List ℕ) → strict_lock_of bytes ≡ taken_of (audited_of bytes)
 unfolding audited_of findings_of lock_of
 strict_once bytes = by (document_in bytes)
   where
     by_lock : (document : Members) (lock : Result LockValue LockError)
         → unless_found (strict_findings (result_unwrap_or (found_in lock (Ok document)) [])) (result_map_both (λ l. l) refusal.Lock lock)
-        ≡ taken_of (audited_in lock (Ok document))
+        ≡ taken_of (do
+          l ← lock
+          d ← Ok document
+          Ok (l, lock_findings d l))
     by_lock document (Err e) = refl
     by_lock document (Ok l) = refl
 
     by : (document : Result Members LockError)
         → unless_found (strict_findings (result_unwrap_or (found_in (document >>= lock_in) document) [])) (result_map_both (λ l. l) refusal.Lock (document >>= lock_in))
-        ≡ taken_of (audited_in (document >>= lock_in) document)
+        ≡ taken_of (do
+          l ← document >>= lock_in
+          d ← document
+          Ok (l, lock_findings d l))
     by (Err e) = refl
     by (Ok d) = by_lock d (lock_in d)

@@ -149,6 +149,8 @@ same_head document (item d ds) =
     rw (
       with_elements-other (codes "lock-version") (codes "packages") (item d ds) document refl,
       unnamed_with (codes "packages") (array (item d ds)) document refl,
+      with_elements-other (codes "tool") (codes "packages") (item d ds) document refl,
+      with_elements-other (codes "extras") (codes "packages") (item d ds) document refl,
     )
 
 -- a lock with too many entries is refused, whatever it has

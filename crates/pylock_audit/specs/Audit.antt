@@ -3,18 +3,19 @@
 use Rattle.std.specs.Prelude.{ℕ, Bool, ◌++◌, not, codes, suc, List, [], ◌∷◌, Option, Some, None}
 use Rattle.std.specs.Prelude.{is_none, Result, Ok}
 use Rattle.std.specs.Str.{bytes_eq}
-use Rattle.toml.specs.Data.{Data, Items, Members, array, get_member, item, no_items, no_members}
-use Rattle.toml.specs.Data.{table}
+use Rattle.toml.specs.Data.{Data, Items, Members, array, as_str, get_member, item, no_items}
+use Rattle.toml.specs.Data.{no_members, table}
 use Rattle.pytext.specs.Results.{◌>>=◌}
 use Rattle.pylock_readers.specs.Entry.{EntryValue}
 use Rattle.pylock_readers.specs.Lock.{HeadValue, LockValue}
 use Rattle.pylock_readers.specs.Lock.Reading.{document_in, lock_of}
 use Rattle.pylock_readers.specs.declared.error.LockError.{LockError}
-use Rattle.pylock_audit.specs.Entry.{entry_findings, text_at}
+use Rattle.pylock_audit.specs.Entry.{entry_findings, is_other_form, text_at}
 use Rattle.pylock_audit.specs.Finding.{FindingValue, LockFindingValue, finding_where}
 use Rattle.pylock_audit.specs.Finding.{findings_at, findings_each}
 use Rattle.pylock_audit.specs.Keys.{unknown_keys}
 use Rattle.pylock_audit.specs.Source.{text_where}
+use Rattle.pylock_audit.specs.Types.{wrong_types}
 use Rattle.pylock_audit.specs.declared.finding.FindingKind.TheVariants as kind
 use Rattle.pylock_audit.specs.declared.keys.LockTable.TheVariants as tables
 
@@ -25,12 +26,30 @@ other_lock_version document =
     text_where (λ version. not (bytes_eq version (codes "1.0"))) (λ version. version)
     (text_at (codes "lock-version") document)
 
+-- the texts of a list that aren't in normal form
+abbrev pub other_form_of : Data → List (List ℕ)
+other_form_of d = text_where is_other_form (λ name. name) (as_str d)
+
+abbrev pub other_forms : Items → List (List ℕ)
+other_forms no_items = []
+other_forms (item d ds) = other_form_of d ++ other_forms ds
+
+-- the list that a key has, or none
+abbrev pub items_at : Option Data → Items
+items_at (Some (array items)) = items
+items_at field = no_items
+
+abbrev pub other_extras : Members → List (List ℕ)
+other_extras document = other_forms (items_at (get_member (codes "extras") document))
+
 -- those of a head whose document names packages or doesn't
 abbrev pub head_findings_where : Bool → Members → List FindingValue
 head_findings_where has_no_packages document =
     findings_each kind.LockVersion (other_lock_version document)
     ++ findings_each kind.UnknownKey (unknown_keys tables.Head document)
+    ++ findings_each kind.WrongType (wrong_types tables.Head document)
     ++ finding_where has_no_packages kind.NoPackages None
+    ++ findings_each kind.NameForm (other_extras document)
 
 abbrev pub head_findings : Members → List FindingValue
 head_findings document =
@@ -50,11 +69,6 @@ of_entries head number (entry ∷ entries) no_items = []
 of_entries head number (entry ∷ entries) (item d ds) =
     findings_at number (Some entry.name) (entry_findings head (members_in d) entry)
     ++ of_entries head (suc number) entries ds
-
--- the list that a key has, or none
-abbrev pub items_at : Option Data → Items
-items_at (Some (array items)) = items
-items_at field = no_items
 
 -- ---- the lock
 

@@ -17,6 +17,7 @@ use Rattle.pymark_core.specs.Marker.Asked.{extra_asked, group_asked, comparison_
 use Rattle.pymark_core.specs.Marker.Comparison.{ComparisonValue}
 use Rattle.pymark_core.specs.Marker.Grammar.{comparisons}
 use Rattle.pymark_core.specs.Marker.Reading.{MarkerValue}
+use Rattle.pywheel_core.specs.Sdist.{SdistValue, sdist_of}
 use Rattle.pywheel_core.specs.Wheel.Value.{WheelValue}
 use Rattle.pylock_readers.specs.Entry.{EntryValue, FileValue, file_name, wheel_name, wheel_names}
 use Rattle.pylock_readers.specs.Entry.Kinds.{has_conflict, is_any, kinds, kinds_text}
@@ -25,7 +26,8 @@ use Rattle.pylock_core.specs.Session.Picks.{SourceValue, sources}
 use Rattle.pylock_core.specs.declared.answer.PickSource.{PickSource}
 use Rattle.pylock_audit.specs.FileName.{shown_file_name}
 use Rattle.pylock_audit.specs.Finding.{FindingValue, findings_each, finding_where, told_where}
-use Rattle.pylock_audit.specs.Keys.{unknown_of_entry}
+use Rattle.pylock_audit.specs.EntryKeys.{entry_keys_told}
+use Rattle.pylock_audit.specs.Readings.{differs}
 use Rattle.pylock_audit.specs.Source.{name_where, over_sources, text_where}
 use Rattle.pylock_audit.specs.Unsafe.{has_control}
 use Rattle.pylock_audit.specs.declared.finding.FindingKind.{FindingKind}
@@ -37,11 +39,13 @@ use Rattle.pylock_audit.specs.declared.finding.FindingKind.TheVariants as kind
 abbrev pub text_at : List ℕ → Members → Option (List ℕ)
 text_at key members = option_and_then as_str (get_member key members)
 
--- the name as written, where that isn't its own normal form
+-- a text isn't its own normal form
+abbrev pub is_other_form : List ℕ → Bool
+is_other_form name = not (bytes_eq (normal_name name) name)
+
+-- the name as written, where it is so
 abbrev pub other_form : Members → List (List ℕ)
-other_form members =
-    text_where (λ name. not (bytes_eq (normal_name name) name)) (λ name. name)
-    (text_at (codes "name") members)
+other_form members = text_where is_other_form (λ name. name) (text_at (codes "name") members)
 
 abbrev pub refused_version : EntryValue → List (List ℕ)
 refused_version entry =
@@ -49,11 +53,9 @@ refused_version entry =
 
 -- ---- markers
 
--- one of the comparisons is so
-abbrev pub compares : (ComparisonValue → Bool) → Option MarkerValue → List (List ℕ)
-compares test None = []
-compares test (Some marker) =
-    told_where (list_any test (comparisons marker.tree)) marker.text
+-- the text of a marker, one of whose comparisons is so
+abbrev pub compares : (ComparisonValue → Bool) → MarkerValue → List (List ℕ)
+compares test marker = told_where (list_any test (comparisons marker.tree)) marker.text
 
 -- a name is asked for that is none of these
 abbrev pub is_undeclared : List (List ℕ) → Option (List ℕ) → Bool
@@ -98,16 +100,27 @@ wanted_version entry =
     option_map_or (λ version. result_ok (parsed_version version)) entry.version
     (first_version (wheel_names entry))
 
-abbrev pub is_other_version : Option Parts → WheelValue → Bool
-is_other_version wanted wheel =
-    option_map_or (λ version. not (is_eq (version_cmp wheel.version version))) wanted false
+abbrev pub is_other_version : Option Parts → Parts → Bool
+is_other_version wanted version =
+    option_map_or (λ wanted. not (is_eq (version_cmp version wanted))) wanted false
 
--- an sdist's file name by its ending
+-- what the file name of the sdist says
+abbrev pub sdist_name : EntryValue → Option SdistValue
+sdist_name entry =
+    option_and_then (λ name. result_ok (sdist_of name)) (option_and_then file_name entry.sdist)
+
+-- an sdist whose name can't be read
+abbrev pub unnamed_sdist : Option SdistValue → EntryValue → List FindingValue
+unnamed_sdist sdist entry =
+    option_map_or
+    (λ file. finding_where (is_none sdist) kind.NoSdistName (shown_file_name file)) entry.sdist []
+
+-- a file name that can't be read is an sdist's by its ending
 abbrev pub ends : List ℕ → List ℕ → Bool
 ends ending name = bytes_eq (drop (length name - length ending) name) ending
 
-abbrev pub is_sdist_name : List ℕ → Bool
-is_sdist_name name = ends (codes ".tar.gz") name || ends (codes ".zip") name
+abbrev pub ends_as_sdist : List ℕ → Bool
+ends_as_sdist name = ends (codes ".tar.gz") name || ends (codes ".zip") name
 
 -- the text is a name whose normal form is this one
 abbrev pub is_name_of : List ℕ → List ℕ → Bool
@@ -120,20 +133,31 @@ fronts_behind front (b ∷ rest) =
     if b == 45 then front ∷ fronts_behind (front ++ b ∷ []) rest
     else fronts_behind (front ++ b ∷ []) rest
 
-abbrev pub is_other_sdist : List ℕ → List ℕ → Bool
-is_other_sdist name file =
-    is_sdist_name file && not (list_any (is_name_of name) (fronts_behind [] file))
+abbrev pub has_front_of : List ℕ → List ℕ → Bool
+has_front_of name file = list_any (is_name_of name) (fronts_behind [] file)
 
-abbrev pub other_sdist : EntryValue → List (List ℕ)
-other_sdist entry = option_map_or (name_where (is_other_sdist entry.name)) entry.sdist []
+-- the file name of an sdist is another package's: by what it says, or where it can't be read, by
+-- what stands before each `-`
+abbrev pub is_other_sdist : List ℕ → Option SdistValue → List ℕ → Bool
+is_other_sdist name (Some sdist) file = not (bytes_eq sdist.name name)
+is_other_sdist name None file = ends_as_sdist file && not (has_front_of name file)
 
-abbrev pub other_names : EntryValue → List (List ℕ)
-other_names entry =
-    flat_map (wheel_where (is_other_name entry.name)) (read_wheels entry) ++ other_sdist entry
+abbrev pub other_names : Option SdistValue → EntryValue → List (List ℕ)
+other_names sdist entry =
+    flat_map (wheel_where (is_other_name entry.name)) (read_wheels entry)
+    ++ option_map_or (name_where (is_other_sdist entry.name sdist)) entry.sdist []
 
-abbrev pub other_versions : EntryValue → List (List ℕ)
-other_versions entry =
-    flat_map (wheel_where (is_other_version (wanted_version entry))) (read_wheels entry)
+-- the file name of an sdist that is of another version than this one
+abbrev pub other_sdist_version : Option Parts → Option SdistValue → EntryValue → List (List ℕ)
+other_sdist_version wanted sdist entry =
+    option_map_or (λ sdist. option_map_or
+    (name_where (λ name. is_other_version wanted sdist.version)) entry.sdist []) sdist []
+
+abbrev pub other_versions : Option SdistValue → EntryValue → List (List ℕ)
+other_versions sdist entry =
+    flat_map (wheel_where (λ wheel. is_other_version (wanted_version entry) wheel.version))
+    (read_wheels entry)
+    ++ other_sdist_version (wanted_version entry) sdist entry
 
 -- a file name beside others
 abbrev pub with_name : Option (List ℕ) → List (List ℕ) → List (List ℕ)
@@ -162,14 +186,19 @@ same_file_names entry =
 
 abbrev pub of_names : Members → EntryValue → List FindingValue
 of_names members entry =
-    findings_each kind.UnknownKey (unknown_of_entry members)
+    findings_each kind.UnknownKey (entry_keys_told kind.UnknownKey members)
+    ++ findings_each kind.WrongType (entry_keys_told kind.WrongType members)
     ++ findings_each kind.NameForm (other_form members)
     ++ findings_each kind.Version (refused_version entry)
 
+abbrev pub marker_findings : HeadValue → MarkerValue → List FindingValue
+marker_findings head marker =
+    findings_each kind.MarkerExtra (compares comparison_reads_extra marker)
+    ++ findings_each kind.ReadingsDiffer (compares differs marker)
+    ++ findings_each kind.UndeclaredName (compares (asks_undeclared head) marker)
+
 abbrev pub of_marker : HeadValue → EntryValue → List FindingValue
-of_marker head entry =
-    findings_each kind.MarkerExtra (compares comparison_reads_extra entry.marker)
-    ++ findings_each kind.UndeclaredName (compares (asks_undeclared head) entry.marker)
+of_marker head entry = option_map_or (marker_findings head) entry.marker []
 
 abbrev pub of_kinds : EntryValue → List FindingValue
 of_kinds entry =
@@ -185,17 +214,23 @@ of_hashes list =
     over kind.NoHash list ++ over kind.WeakHash list ++ over kind.OddHash list
     ++ over kind.BadHash list
 
-abbrev pub of_file_names : EntryValue → List FindingValue
-of_file_names entry =
+-- those of the file names, where the sdist's says this
+abbrev pub of_file_names_by : Option SdistValue → EntryValue → List FindingValue
+of_file_names_by sdist entry =
     flat_map unnamed_wheel (read_wheels entry)
-    ++ findings_each kind.OtherName (other_names entry)
-    ++ findings_each kind.OtherVersion (other_versions entry)
+    ++ unnamed_sdist sdist entry
+    ++ findings_each kind.OtherName (other_names sdist entry)
+    ++ findings_each kind.OtherVersion (other_versions sdist entry)
     ++ findings_each kind.SameFileName (same_file_names entry)
+
+abbrev pub of_file_names : EntryValue → List FindingValue
+of_file_names entry = of_file_names_by (sdist_name entry) entry
 
 abbrev pub of_sources : List (PickSource × SourceValue) → List FindingValue
 of_sources list =
     over kind.UnsafeFileName list ++ over kind.UnsafeSubdirectory list
-    ++ over kind.NotHttps list ++ over kind.Credentials list ++ over kind.MovingCommit list
+    ++ over kind.NotHttps list ++ over kind.Credentials list ++ over kind.SecretInUrl list
+    ++ over kind.MovingCommit list
 
 -- the version first, and then each source
 abbrev pub of_controls : EntryValue → List (PickSource × SourceValue) → List FindingValue

@@ -66,28 +66,3 @@ abbrev pub unknown_keys : LockTable → Members → List (List ℕ)
 unknown_keys lock_table members =
     map (λ key. table_path lock_table ++ key)
     (filter (λ key. not (is_named lock_table key)) (table_keys members))
-
--- those of a source, which is a table
-abbrev pub unknown_in : PickSource → Option Data → List (List ℕ)
-unknown_in name (Some (table members)) = unknown_keys (tables.OfSource name) members
-unknown_in name field = []
-
--- those of wheels, the first of them at this place
-abbrev pub unknown_of_wheels : ℕ → Items → List (List ℕ)
-unknown_of_wheels place no_items = []
-unknown_of_wheels place (item d ds) =
-    unknown_in (source.Wheel place) (Some d) ++ unknown_of_wheels (place + 1) ds
-
-abbrev pub unknown_in_wheels : Option Data → List (List ℕ)
-unknown_in_wheels (Some (array items)) = unknown_of_wheels 0 items
-unknown_in_wheels field = []
-
--- those of an entry: its own, and then those of its sources
-abbrev pub unknown_of_entry : Members → List (List ℕ)
-unknown_of_entry entry =
-    unknown_keys tables.Entry entry
-    ++ unknown_in source.Vcs (get_member (codes "vcs") entry)
-    ++ unknown_in source.Directory (get_member (codes "directory") entry)
-    ++ unknown_in source.Archive (get_member (codes "archive") entry)
-    ++ unknown_in_wheels (get_member (codes "wheels") entry)
-    ++ unknown_in source.Sdist (get_member (codes "sdist") entry)

@@ -13,6 +13,7 @@ use Rattle.pylock_audit.specs.FileName.{shown_file_name, shown_name}
 use Rattle.pylock_audit.specs.Finding.{told_where}
 use Rattle.pylock_audit.specs.Hash.{Hash, is_bad, is_odd, is_weak}
 use Rattle.pylock_audit.specs.Keys.{source_path}
+use Rattle.pylock_audit.specs.Query.{has_secret}
 use Rattle.pylock_audit.specs.Unsafe.{has_control, is_unsafe_name, is_unsafe_path}
 use Rattle.pylock_audit.specs.Url.{has_credentials, is_https, is_safe_remote, shown_place}
 use Rattle.pylock_audit.specs.Url.{shown_url}
@@ -192,6 +193,8 @@ details kind.UnsafeSubdirectory s = text_where is_unsafe_path (λ path. path) (s
 details kind.NotHttps s = text_where (is_open_url s.1) shown_url (url_of s.1)
 details kind.Credentials s =
     text_where has_credentials (λ url. source_path s.0 ++ codes "url") (url_of s.1)
+details kind.SecretInUrl s =
+    text_where has_secret (λ url. source_path s.0 ++ codes "url") (url_of s.1)
 details kind.MovingCommit s = moving_commit s.1
 details kind.ControlCharacter s = controlled_texts s.0 s.1
 details kind s = []

@@ -23,8 +23,10 @@ refused_words =
     ∷ codes "several-sources"
     ∷ codes "no-hash"
     ∷ codes "no-wheel-name"
+    ∷ codes "no-sdist-name"
     ∷ codes "other-name"
     ∷ codes "other-version"
+    ∷ codes "wrong-type"
     ∷ []
 
 abbrev pub is_refused : FindingKind → Bool

@@ -1,4 +1,5 @@
--- What a URL names besides its place: its scheme, and who asks (RFC 3986, sections 3.1 and 3.2.1).
+-- What a URL names besides its place: its scheme, and who asks (RFC 3986, sections 3.1 and 3.2.1);
+-- and how it is shown.
 use Rattle.std.specs.Prelude.{ℕ, Bool, false, ◌==◌, ◌&&◌, ◌||◌, ◌++◌, not, codes}
 use Rattle.std.specs.Prelude.{List, [], ◌∷◌, length, map, take, Option, Some, None}
 use Rattle.std.specs.Prelude.{if◌then◌else◌, is_some, option_and_then, option_map}
@@ -9,6 +10,7 @@ use Rattle.std.specs.Str.{bytes_eq}
 use Rattle.pytext.specs.Options.{either}
 use Rattle.pywheel_core.specs.Texts.{cut_at}
 use Rattle.pylock_readers.specs.Entry.{LocationValue}
+use Rattle.pylock_audit.specs.Query.{before_query, has_secret, hidden_secrets}
 
 -- ---- the scheme
 
@@ -83,8 +85,18 @@ masked (b ∷ rest) =
     (b ∷ masked rest)
     else b ∷ masked rest
 
+abbrev pub hidden_user : List ℕ → List ℕ
+hidden_user url = if has_credentials url then masked url else url
+
+-- the user stands in the query or behind it, and a secret does too: either may be part of the other
+abbrev pub is_mixed : List ℕ → Bool
+is_mixed url =
+    has_credentials url && has_secret url && not (is_some (behind_scheme (before_query url)))
+
+-- the URL, with `***` for its user and for each secret of its query; where these mix, for the query
 abbrev pub shown_url : List ℕ → List ℕ
-shown_url url = if has_credentials url then masked url else url
+shown_url url =
+    if is_mixed url then before_query url ++ codes "?***" else hidden_secrets (hidden_user url)
 
 -- the place of a source: its path, else its URL
 abbrev pub shown_place : LocationValue → List ℕ

@@ -14,7 +14,7 @@ ghost use Rattle.pylock_audit.specs.Unsafe.{has_control};
 use crate::files::push_file_names;
 use crate::finding::{Finding, FindingKind, push_each, push_where, told_where};
 use crate::keys::joined;
-use crate::marker::{with_extra, with_undeclared};
+use crate::marker::push_compared;
 use crate::source::over_sources;
 use crate::tables::TableFindings;
 use crate::unsafe_text::has_control;
@@ -89,10 +89,10 @@ fn push_marker(
     ensures { OnOk result (findings.new.items
         ≡ findings.old.items ++ of_marker head.now entry.now) }
 {
-    let texts = with_extra(alloc, entry.marker())?;
-    push_each(findings, FindingKind::MarkerExtra, texts)?;
-    let texts = with_undeclared(alloc, head, entry.marker())?;
-    push_each(findings, FindingKind::UndeclaredName, texts)
+    match entry.marker() {
+        Some(marker) => push_compared(alloc, findings, head, marker),
+        None => Ok(()),
+    }
 }
 
 /// Adds what the kinds of its sources give.
@@ -148,6 +148,7 @@ fn push_sources(
     push_over(alloc, findings, FindingKind::UnsafeSubdirectory, sources)?;
     push_over(alloc, findings, FindingKind::NotHttps, sources)?;
     push_over(alloc, findings, FindingKind::Credentials, sources)?;
+    push_over(alloc, findings, FindingKind::SecretInUrl, sources)?;
     push_over(alloc, findings, FindingKind::MovingCommit, sources)
 }
 

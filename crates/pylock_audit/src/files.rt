@@ -7,12 +7,13 @@ ghost use Rattle.std.specs.List.{flat_map, list_any};
 ghost use Rattle.std.specs.Option.{option_copied, option_map_or};
 ghost use Rattle.std.specs.Str.{bytes_eq};
 ghost use Rattle.pylock_readers.specs.Entry.{file_name, wheel_name};
-ghost use Rattle.pylock_audit.specs.Entry.{ends, first_version, fronts_behind, is_name_of};
-ghost use Rattle.pylock_audit.specs.Entry.{is_other_name, is_other_sdist, is_other_version};
-ghost use Rattle.pylock_audit.specs.Entry.{is_sdist_name, of_file_names, other_names};
-ghost use Rattle.pylock_audit.specs.Entry.{other_versions, read_wheels, same_file_names};
-ghost use Rattle.pylock_audit.specs.Entry.{same_names, unnamed_wheel, wanted_version, wheel_where};
-ghost use Rattle.pylock_audit.specs.Entry.{with_name, with_names};
+ghost use Rattle.pylock_audit.specs.Entry.{ends, ends_as_sdist, first_version, has_front_of};
+ghost use Rattle.pylock_audit.specs.Entry.{is_name_of, is_other_name, is_other_sdist};
+ghost use Rattle.pylock_audit.specs.Entry.{is_other_version, of_file_names, of_file_names_by};
+ghost use Rattle.pylock_audit.specs.Entry.{other_names, other_sdist_version, other_versions};
+ghost use Rattle.pylock_audit.specs.Entry.{read_wheels, same_file_names, same_names, sdist_name};
+ghost use Rattle.pylock_audit.specs.Entry.{unnamed_sdist, unnamed_wheel, wanted_version};
+ghost use Rattle.pylock_audit.specs.Entry.{wheel_where, with_name, with_names};
 ghost use Rattle.pylock_audit.specs.Inner.Names.{Holds};
 ghost use Rattle.pylock_audit.specs.Source.{name_where};
 
@@ -21,11 +22,11 @@ use crate::finding::{Finding, FindingKind, push_each, push_where};
 use crate::url::around;
 use pylock_core::{DistributionFile, Entry, Sdist, WheelFile};
 use pyver_core::{Version, VersionError, is_name, normal_name};
-use pywheel_core::WheelName;
+use pywheel_core::{SdistError, SdistName, WheelName};
 use std::alloc::{AllocError, Global};
 use std::collections::BTreeSet;
 
-/// Adds what the file names of an entry give to a kind of finding.
+/// Adds what the file names of an entry give. The sdist's is read once.
 pub(crate) fn push_file_names(
     alloc: Global,
     findings: &mut Vec<Finding>,
@@ -33,9 +34,42 @@ pub(crate) fn push_file_names(
 ) -> Result<(), AllocError>
     ensures { OnOk result (findings.new.items ≡ findings.old.items ++ of_file_names entry.now) }
 {
+    let sdist = sdist_name(alloc, entry)?;
+    push_by_sdist(alloc, findings, entry, sdist.as_ref())
+}
+
+/// What the file name of the sdist says; nothing where there is none or it is refused.
+fn sdist_name(alloc: Global, entry: &Entry) -> Result<Option<SdistName>, AllocError>
+    ensures { IfOk result (λ sdist. sdist ≡ sdist_name entry.now) }
+{
+    let Some(file) = entry.sdist() else {
+        return Ok(None);
+    };
+    let Some(name) = file.file_name() else {
+        return Ok(None);
+    };
+    match SdistName::parse(alloc, name) {
+        Ok(sdist) => Ok(Some(sdist)),
+        Err(SdistError::Memory) => Err(AllocError),
+        Err(_) => Ok(None),
+    }
+}
+
+/// Adds what the file names of an entry give, where the sdist's says this.
+fn push_by_sdist(
+    alloc: Global,
+    findings: &mut Vec<Finding>,
+    entry: &Entry,
+    sdist: Option<&SdistName>,
+) -> Result<(), AllocError>
+    ensures { OnOk result (findings.new.items ≡ findings.old.items
+        ++ of_file_names_by (option_copied sdist.entry) entry.now) }
+{
     push_unnamed(alloc, findings, entry)?;
-    push_each(findings, FindingKind::OtherName, other_names(alloc, entry)?)?;
-    let versions = other_versions(alloc, entry)?;
+    push_unnamed_sdist(alloc, findings, entry, sdist)?;
+    let names = other_names(alloc, entry, sdist)?;
+    push_each(findings, FindingKind::OtherName, names)?;
+    let versions = other_versions(alloc, entry, sdist)?;
     push_each(findings, FindingKind::OtherVersion, versions)?;
     let names = same_names(alloc, entry)?;
     push_each(findings, FindingKind::SameFileName, names)
@@ -80,18 +114,43 @@ fn push_unnamed_wheel(
     push_where(findings, true, FindingKind::NoWheelName, file_name)
 }
 
+/// Adds the sdist, where its name can't be read.
+fn push_unnamed_sdist(
+    alloc: Global,
+    findings: &mut Vec<Finding>,
+    entry: &Entry,
+    sdist: Option<&SdistName>,
+) -> Result<(), AllocError>
+    ensures { OnOk result (findings.new.items ≡ findings.old.items
+        ++ unnamed_sdist (option_copied sdist.entry) entry.now) }
+{
+    let Some(file) = entry.sdist() else {
+        return Ok(());
+    };
+    if sdist.is_some() {
+        return Ok(());
+    }
+    let file_name = shown_file_name(alloc, file)?;
+    push_where(findings, true, FindingKind::NoSdistName, file_name)
+}
+
 // ---- other packages
 
 /// The file names of another package.
-fn other_names(alloc: Global, entry: &Entry) -> Result<Vec<String>, AllocError>
-    ensures { IfOk result (λ list. map string_bytes list.items ≡ other_names entry.now) }
+fn other_names(
+    alloc: Global,
+    entry: &Entry,
+    sdist: Option<&SdistName>,
+) -> Result<Vec<String>, AllocError>
+    ensures { IfOk result (λ list. map string_bytes list.items
+        ≡ other_names (option_copied sdist.entry) entry.now) }
 {
     let mut list = Vec::new(alloc);
     for (place, file) in entry.wheels().iter().enumerate() {
         let name = name_at(entry, place, file);
         push_other_wheel(alloc, &mut list, entry.name(), file, name)?;
     }
-    push_other_sdist(alloc, &mut list, entry.name(), entry.sdist())?;
+    push_other_sdist(alloc, &mut list, entry.name(), sdist, entry.sdist())?;
     Ok(list)
 }
 
@@ -141,31 +200,43 @@ fn push_other_sdist(
     alloc: Global,
     list: &mut Vec<String>,
     name: &str,
-    sdist: Option<&Sdist>,
+    sdist: Option<&SdistName>,
+    file: Option<&Sdist>,
 ) -> Result<(), AllocError>
     ensures { OnOk result (map string_bytes list.new.items ≡ map string_bytes list.old.items
-        ++ option_map_or (name_where (is_other_sdist name.now)) (option_copied sdist.entry) []) }
+        ++ option_map_or (name_where (is_other_sdist name.now (option_copied sdist.entry)))
+        (option_copied file.entry) []) }
 {
-    let Some(file) = sdist else {
+    let Some(file) = file else {
         return Ok(());
     };
     let Some(own) = file.file_name() else {
         return Ok(());
     };
-    if is_other_sdist(alloc, name, own)? {
+    if is_other_sdist(alloc, name, sdist, own)? {
         list.push(shown_name(alloc, file, own)?)?;
     }
     Ok(())
 }
 
-fn is_other_sdist(alloc: Global, name: &str, file: &str) -> Result<bool, AllocError>
-    ensures { IfOk result (λ other. other ≡ is_other_sdist name.now file.now) }
+/// Whether the file name of an sdist, which says this, is another package's.
+fn is_other_sdist(
+    alloc: Global,
+    name: &str,
+    sdist: Option<&SdistName>,
+    file: &str,
+) -> Result<bool, AllocError>
+    ensures { IfOk result (λ other. other
+        ≡ is_other_sdist name.now (option_copied sdist.entry) file.now) }
 {
-    Ok(is_sdist_name(file) && !has_front_of(alloc, name, file)?)
+    match sdist {
+        Some(sdist) => Ok(sdist.name() != name),
+        None => Ok(ends_as_sdist(file) && !has_front_of(alloc, name, file)?),
+    }
 }
 
-fn is_sdist_name(file: &str) -> bool
-    ensures { result ≡ is_sdist_name file.now }
+fn ends_as_sdist(file: &str) -> bool
+    ensures { result ≡ ends_as_sdist file.now }
 {
     ends(b".tar.gz", file.as_bytes()) || ends(b".zip", file.as_bytes())
 }
@@ -179,8 +250,7 @@ fn ends(ending: &[u8], text: &[u8]) -> bool
 
 /// Whether some `-` has a name before it whose normal form is this one.
 fn has_front_of(alloc: Global, name: &str, file: &str) -> Result<bool, AllocError>
-    ensures { IfOk result (λ found. found
-        ≡ list_any (is_name_of name.now) (fronts_behind [] file.now)) }
+    ensures { IfOk result (λ found. found ≡ has_front_of name.now file.now) }
 {
     let mut front = String::new(alloc);
     let mut left = file;
@@ -204,9 +274,14 @@ fn is_name_of(alloc: Global, name: &str, text: &str) -> Result<bool, AllocError>
 
 // ---- other versions
 
-/// The file names of wheels of another version than the entry should have.
-fn other_versions(alloc: Global, entry: &Entry) -> Result<Vec<String>, AllocError>
-    ensures { IfOk result (λ list. map string_bytes list.items ≡ other_versions entry.now) }
+/// The file names of another version than the entry should have.
+fn other_versions(
+    alloc: Global,
+    entry: &Entry,
+    sdist: Option<&SdistName>,
+) -> Result<Vec<String>, AllocError>
+    ensures { IfOk result (λ list. map string_bytes list.items
+        ≡ other_versions (option_copied sdist.entry) entry.now) }
 {
     let wanted = wanted_version(alloc, entry)?;
     let mut list = Vec::new(alloc);
@@ -214,6 +289,7 @@ fn other_versions(alloc: Global, entry: &Entry) -> Result<Vec<String>, AllocErro
         let name = name_at(entry, place, file);
         push_other_version(alloc, &mut list, wanted.as_ref(), file, name)?;
     }
+    push_other_sdist_version(alloc, &mut list, wanted.as_ref(), sdist, entry)?;
     Ok(list)
 }
 
@@ -252,20 +328,45 @@ fn push_other_version(
     wheel: Option<&WheelName>,
 ) -> Result<(), AllocError>
     ensures { OnOk result (map string_bytes list.new.items ≡ map string_bytes list.old.items
-        ++ wheel_where (is_other_version (option_copied wanted.entry))
+        ++ wheel_where (λ parts. is_other_version (option_copied wanted.entry) parts.version)
         (file.now, option_copied wheel.entry)) }
 {
     match wheel {
-        Some(parts) if is_other_version(wanted, parts) => push_file_name(alloc, list, file),
+        Some(parts) if is_other_version(wanted, parts.version()) => {
+            push_file_name(alloc, list, file)
+        }
         _ => Ok(()),
     }
 }
 
-fn is_other_version(wanted: Option<&Version>, wheel: &WheelName) -> bool
-    ensures { result ≡ is_other_version (option_copied wanted.entry) wheel.now }
+/// Adds the file name of the sdist, which says this, where that is of another version.
+fn push_other_sdist_version(
+    alloc: Global,
+    list: &mut Vec<String>,
+    wanted: Option<&Version>,
+    sdist: Option<&SdistName>,
+    entry: &Entry,
+) -> Result<(), AllocError>
+    ensures { OnOk result (map string_bytes list.new.items ≡ map string_bytes list.old.items
+        ++ other_sdist_version (option_copied wanted.entry) (option_copied sdist.entry)
+        entry.now) }
+{
+    let Some(said) = sdist else {
+        return Ok(());
+    };
+    match entry.sdist() {
+        Some(file) if is_other_version(wanted, said.version()) => {
+            push_file_name(alloc, list, file)
+        }
+        _ => Ok(()),
+    }
+}
+
+fn is_other_version(wanted: Option<&Version>, version: &Version) -> bool
+    ensures { result ≡ is_other_version (option_copied wanted.entry) version.now }
 {
     match wanted {
-        Some(version) => wheel.version() != version,
+        Some(wanted) => version != wanted,
         None => false,
     }
 }

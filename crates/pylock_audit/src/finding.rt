@@ -15,14 +15,18 @@ pub enum FindingKind {
     LockVersion,
     /// A key that PEP 751 doesn't name.
     UnknownKey,
+    /// A key has another type than PEP 751 gives it.
+    WrongType,
     /// The head has no key `packages`.
     NoPackages,
-    /// The name isn't its own normal form (PEP 503).
+    /// A name, of an entry or an extra of the head, isn't its own normal form (PEP 503).
     NameForm,
     /// The version is none (PEP 440), or has a number past the limit.
     Version,
     /// The marker has the operand `extra`, which has no value in a lock.
     MarkerExtra,
+    /// The marker compares a variable that installers read in two ways, as a text or a version.
+    ReadingsDiffer,
     /// The marker asks for an extra or a group that the head doesn't declare.
     UndeclaredName,
     /// No source stands.
@@ -39,9 +43,11 @@ pub enum FindingKind {
     BadHash,
     /// A wheel's file name can't be read (PEP 427), so it is never chosen.
     NoWheelName,
+    /// An sdist's file name can't be read (PEP 625).
+    NoSdistName,
     /// A file is of another package.
     OtherName,
-    /// A wheel is of another version.
+    /// A file is of another version.
     OtherVersion,
     /// An earlier wheel has this file name too.
     SameFileName,
@@ -53,6 +59,8 @@ pub enum FindingKind {
     NotHttps,
     /// A URL names a user or a password.
     Credentials,
+    /// The query of a URL has a password or a token.
+    SecretInUrl,
     /// A commit isn't named by its hash.
     MovingCommit,
     /// A text has a control character.
@@ -67,10 +75,12 @@ impl FindingKind {
         match self {
             FindingKind::LockVersion => "lock-version",
             FindingKind::UnknownKey => "unknown-key",
+            FindingKind::WrongType => "wrong-type",
             FindingKind::NoPackages => "no-packages",
             FindingKind::NameForm => "name-form",
             FindingKind::Version => "version",
             FindingKind::MarkerExtra => "marker-extra",
+            FindingKind::ReadingsDiffer => "readings-differ",
             FindingKind::UndeclaredName => "undeclared-name",
             FindingKind::NoSource => "no-source",
             FindingKind::SeveralSources => "several-sources",
@@ -79,6 +89,7 @@ impl FindingKind {
             FindingKind::OddHash => "odd-hash",
             FindingKind::BadHash => "bad-hash",
             FindingKind::NoWheelName => "no-wheel-name",
+            FindingKind::NoSdistName => "no-sdist-name",
             FindingKind::OtherName => "other-name",
             FindingKind::OtherVersion => "other-version",
             FindingKind::SameFileName => "same-file-name",
@@ -86,6 +97,7 @@ impl FindingKind {
             FindingKind::UnsafeSubdirectory => "unsafe-subdirectory",
             FindingKind::NotHttps => "not-https",
             FindingKind::Credentials => "credentials",
+            FindingKind::SecretInUrl => "secret-in-url",
             FindingKind::MovingCommit => "moving-commit",
             FindingKind::ControlCharacter => "control-character",
         }

@@ -10,7 +10,8 @@ ghost use Rattle.pylock_readers.specs.Lock.{LockValue};
 ghost use Rattle.pylock_readers.specs.Lock.Packages.{HasRead};
 ghost use Rattle.pylock_readers.specs.declared.error.LockError.{LockError};
 ghost use Rattle.pylock_audit.specs.Audit.{audited_of, findings_of, head_findings_where};
-ghost use Rattle.pylock_audit.specs.Audit.{items_at, other_lock_version};
+ghost use Rattle.pylock_audit.specs.Audit.{items_at, other_extras, other_form_of};
+ghost use Rattle.pylock_audit.specs.Audit.{other_forms, other_lock_version};
 ghost use Rattle.pylock_audit.specs.Finding.{findings_at};
 ghost use Rattle.pylock_audit.specs.Inner.Tables.{HasLooked, document_audited, entry_findings_by};
 ghost use Rattle.pylock_audit.specs.Inner.Tables.{has_no_packages, lock_findings_by, of_entries_by};
@@ -21,7 +22,8 @@ use crate::finding::{
     Finding, FindingKind, LockFinding, push_each, push_findings_at, push_where, told_where,
 };
 use crate::keys::{LockTable, field, push_unknown};
-use crate::tables::{Looked, TableFindings, table_findings, text_at};
+use crate::tables::{Looked, TableFindings, is_other_form, table_findings, text_at};
+use crate::types::push_wrong_types;
 use pylock_core::{Entry, Head, Lock, LockError};
 use pylock_readers::{MOST_ENTRIES, read_document_without};
 use std::alloc::{AllocError, Global};
@@ -156,12 +158,17 @@ fn head_findings(
     let mut paths = Vec::new(alloc);
     push_unknown(alloc, &mut paths, LockTable::Head, document)?;
     push_each(&mut findings, FindingKind::UnknownKey, paths)?;
+    let mut paths = Vec::new(alloc);
+    push_wrong_types(alloc, &mut paths, LockTable::Head, document)?;
+    push_each(&mut findings, FindingKind::WrongType, paths)?;
     push_where(
         &mut findings,
         has_no_packages,
         FindingKind::NoPackages,
         None,
     )?;
+    let names = other_extras(alloc, document)?;
+    push_each(&mut findings, FindingKind::NameForm, names)?;
     Ok(findings)
 }
 
@@ -174,6 +181,48 @@ fn other_lock_version(alloc: Global, document: &Table) -> Result<Vec<String>, Al
         Some(version) => told_where(alloc, version != "1.0", version),
         None => Ok(Vec::new(alloc)),
     }
+}
+
+/// The extras as written, those of them that aren't in normal form.
+fn other_extras(alloc: Global, document: &Table) -> Result<Vec<String>, AllocError>
+    ensures { IfOk result (λ list. map string_bytes list.items
+        ≡ other_extras (table_view document.now)) }
+{
+    let mut list = Vec::new(alloc);
+    push_other_forms(alloc, &mut list, items_at(field(document, "extras")))?;
+    Ok(list)
+}
+
+fn push_other_forms(
+    alloc: Global,
+    list: &mut Vec<String>,
+    values: &[Value],
+) -> Result<(), AllocError>
+    ensures { OnOk result (map string_bytes list.new.items
+        ≡ map string_bytes list.old.items ++ other_forms (items_view values.now)) }
+{
+    for value in values {
+        push_other_form(alloc, list, value)?;
+    }
+    Ok(())
+}
+
+/// Adds a text that isn't in normal form.
+fn push_other_form(
+    alloc: Global,
+    list: &mut Vec<String>,
+    value: &Value,
+) -> Result<(), AllocError>
+    ensures { OnOk result (map string_bytes list.new.items
+        ≡ map string_bytes list.old.items ++ other_form_of (view value.now)) }
+{
+    let Some(name) = value.as_str() else {
+        return Ok(());
+    };
+    if is_other_form(alloc, name)? {
+        list.push(String::from_str(alloc, name)?)?;
+    }
+    Ok(())
 }
 
 // ---- the entries

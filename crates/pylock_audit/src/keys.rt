@@ -2,10 +2,8 @@
 
 ghost use Rattle.std.specs.Prelude.{◌≡◌, ◌++◌, IfOk, OnOk, map, option_map, string_bytes};
 ghost use Rattle.toml.specs.Data.{get_member};
-ghost use Rattle.toml.specs.View.{items_view, table_view, view};
-ghost use Rattle.pylock_audit.specs.Keys.{is_named, source_path, table_path, unknown_in};
-ghost use Rattle.pylock_audit.specs.Keys.{unknown_in_wheels, unknown_keys, unknown_of_entry};
-ghost use Rattle.pylock_audit.specs.Keys.{unknown_of_wheels};
+ghost use Rattle.toml.specs.View.{table_view, view};
+ghost use Rattle.pylock_audit.specs.Keys.{is_named, source_path, table_path, unknown_keys};
 
 use pylock_core::PickSource;
 use std::alloc::{AllocError, Global};
@@ -125,7 +123,7 @@ pub(crate) fn source_key_path(
 }
 
 /// The path of a key of a table.
-fn key_path(alloc: Global, table: LockTable, key: &str) -> Result<String, AllocError>
+pub(crate) fn key_path(alloc: Global, table: LockTable, key: &str) -> Result<String, AllocError>
     ensures { IfOk result (λ text. string_bytes text ≡ table_path table ++ key.now) }
 {
     match table {
@@ -160,68 +158,4 @@ pub(crate) fn push_unknown(
         }
     }
     Ok(())
-}
-
-/// Adds those of a source, which is a table.
-fn push_unknown_in(
-    alloc: Global,
-    paths: &mut Vec<String>,
-    name: PickSource,
-    field: Option<&Value>,
-) -> Result<(), AllocError>
-    ensures { OnOk result (map string_bytes paths.new.items ≡ map string_bytes paths.old.items
-        ++ unknown_in name (option_map (λ v. view v.now) field.entry)) }
-{
-    match field {
-        Some(Value::Table(source)) => {
-            push_unknown(alloc, paths, LockTable::OfSource(name), source)
-        }
-        _ => Ok(()),
-    }
-}
-
-/// Adds those of the wheels.
-fn push_unknown_in_wheels(
-    alloc: Global,
-    paths: &mut Vec<String>,
-    field: Option<&Value>,
-) -> Result<(), AllocError>
-    ensures { OnOk result (map string_bytes paths.new.items ≡ map string_bytes paths.old.items
-        ++ unknown_in_wheels (option_map (λ v. view v.now) field.entry)) }
-{
-    match field {
-        Some(Value::Array(wheels)) => push_unknown_of_wheels(alloc, paths, wheels.as_slice()),
-        _ => Ok(()),
-    }
-}
-
-fn push_unknown_of_wheels(
-    alloc: Global,
-    paths: &mut Vec<String>,
-    wheels: &[Value],
-) -> Result<(), AllocError>
-    ensures { OnOk result (map string_bytes paths.new.items ≡ map string_bytes paths.old.items
-        ++ unknown_of_wheels 0 (items_view wheels.now)) }
-{
-    for (place, wheel) in wheels.iter().enumerate() {
-        push_unknown_in(alloc, paths, PickSource::Wheel(place), Some(wheel))?;
-    }
-    Ok(())
-}
-
-/// The keys of an entry and of its sources that aren't named.
-pub(crate) fn unknown_of_entry(alloc: Global, entry: &Table) -> Result<Vec<String>, AllocError>
-    ensures { IfOk result (λ paths. map string_bytes paths.items
-        ≡ unknown_of_entry (table_view entry.now)) }
-{
-    let mut paths = Vec::new(alloc);
-    push_unknown(alloc, &mut paths, LockTable::Entry, entry)?;
-    push_unknown_in(alloc, &mut paths, PickSource::Vcs, field(entry, "vcs"))?;
-    let directory = field(entry, "directory");
-    push_unknown_in(alloc, &mut paths, PickSource::Directory, directory)?;
-    let archive = field(entry, "archive");
-    push_unknown_in(alloc, &mut paths, PickSource::Archive, archive)?;
-    push_unknown_in_wheels(alloc, &mut paths, field(entry, "wheels"))?;
-    push_unknown_in(alloc, &mut paths, PickSource::Sdist, field(entry, "sdist"))?;
-    Ok(paths)
 }

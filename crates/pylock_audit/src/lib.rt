@@ -16,6 +16,7 @@
 mod control;
 mod document;
 mod entry;
+mod entry_keys;
 mod file_name;
 mod files;
 mod finding;
@@ -23,9 +24,11 @@ mod findings;
 mod hash;
 mod keys;
 mod marker;
+mod query;
 mod source;
 mod strict;
 mod tables;
+mod types;
 mod unsafe_text;
 mod url;
 

@@ -1,29 +1,42 @@
-//! What markers ask for that no lock, or not this one, has.
+//! What markers ask for that no lock, or not this one, has, and what is read in two ways.
 
-ghost use Rattle.std.specs.Prelude.{◌≡◌, ◌++◌, IfOk, map, string_bytes};
+ghost use Rattle.std.specs.Prelude.{◌≡◌, ◌++◌, IfOk, OnOk, map};
 ghost use Rattle.std.specs.List.{list_any};
 ghost use Rattle.std.specs.Option.{option_copied};
 ghost use Rattle.pymark_core.specs.Marker.Asked.{comparison_reads_extra};
-ghost use Rattle.pylock_audit.specs.Entry.{asks_undeclared, compares, is_undeclared};
+ghost use Rattle.pylock_audit.specs.Entry.{asks_undeclared, is_undeclared, marker_findings};
+ghost use Rattle.pylock_audit.specs.Readings.{differs, differs_by, is_equality, is_text_variable};
+ghost use Rattle.pylock_audit.specs.Readings.{spells_version};
 
-use crate::finding::told_where;
+use crate::finding::{Finding, FindingKind, push_each, told_where};
 use pylock_core::Head;
-use pymark_core::{Comparison, Marker};
-use pyver_core::normal_name;
+use pymark_core::{Comparator, Comparison, Marker, Var};
+use pyver_core::{Operator, Version, VersionError, normal_name};
 use std::alloc::{AllocError, Global};
 
-/// The text of the marker, where one of its comparisons has the operand `extra`.
-pub(crate) fn with_extra(alloc: Global, marker: Option<&Marker>) -> Result<Vec<String>, AllocError>
-    ensures { IfOk result (λ list. map string_bytes list.items
-        ≡ compares comparison_reads_extra (option_copied marker.entry)) }
+/// Adds what the marker gives. Its comparisons are listed once.
+pub(crate) fn push_compared(
+    alloc: Global,
+    findings: &mut Vec<Finding>,
+    head: &Head,
+    marker: &Marker,
+) -> Result<(), AllocError>
+    ensures { OnOk result (findings.new.items
+        ≡ findings.old.items ++ marker_findings head.now marker.now) }
 {
-    let Some(marker) = marker else {
-        return Ok(Vec::new(alloc));
-    };
-    let comparisons = marker.comparisons(alloc)?;
-    told_where(alloc, any_extra(comparisons.as_slice()), marker.text())
+    let listed = marker.comparisons(alloc)?;
+    let compared = listed.as_slice();
+    let texts = told_where(alloc, any_extra(compared), marker.text())?;
+    push_each(findings, FindingKind::MarkerExtra, texts)?;
+    let differs = any_differs(alloc, compared)?;
+    let texts = told_where(alloc, differs, marker.text())?;
+    push_each(findings, FindingKind::ReadingsDiffer, texts)?;
+    let asked = any_undeclared(alloc, head, compared)?;
+    let texts = told_where(alloc, asked, marker.text())?;
+    push_each(findings, FindingKind::UndeclaredName, texts)
 }
 
+/// Whether `extra` is one of the operands.
 fn any_extra(comparisons: &[&Comparison]) -> bool
     ensures { result ≡ list_any comparison_reads_extra (map (λ c. c.now) comparisons.now) }
 {
@@ -35,24 +48,81 @@ fn any_extra(comparisons: &[&Comparison]) -> bool
     false
 }
 
-/// The text of the marker, where one of its comparisons asks for an extra or a group that the head
-/// doesn't declare.
-pub(crate) fn with_undeclared(
-    alloc: Global,
-    head: &Head,
-    marker: Option<&Marker>,
-) -> Result<Vec<String>, AllocError>
-    ensures { IfOk result (λ list. map string_bytes list.items
-        ≡ compares (asks_undeclared head.now) (option_copied marker.entry)) }
+// ---- what is read in two ways
+
+/// Whether a comparison is read in two ways.
+fn any_differs(alloc: Global, compared: &[&Comparison]) -> Result<bool, AllocError>
+    ensures { IfOk result (λ found. found ≡ list_any differs (map (λ c. c.now) compared.now)) }
 {
-    let Some(marker) = marker else {
-        return Ok(Vec::new(alloc));
-    };
-    let comparisons = marker.comparisons(alloc)?;
-    let found = any_undeclared(alloc, head, comparisons.as_slice())?;
-    told_where(alloc, found, marker.text())
+    for comparison in compared {
+        if differs(alloc, comparison)? {
+            return Ok(true);
+        }
+    }
+    Ok(false)
 }
 
+/// Whether installers may read a comparison as one of texts or of versions. A text is read only
+/// where it stands by `==` or `!=` beside a variable that isn't Python's version.
+fn differs(alloc: Global, comparison: &Comparison) -> Result<bool, AllocError>
+    ensures { IfOk result (λ found. found ≡ differs comparison.now) }
+{
+    match comparison.comparator() {
+        Comparator::By(operator) => differs_by(alloc, operator, comparison),
+        Comparator::In | Comparator::NotIn => Ok(false),
+    }
+}
+
+fn differs_by(
+    alloc: Global,
+    operator: Operator,
+    comparison: &Comparison,
+) -> Result<bool, AllocError>
+    ensures { IfOk result (λ found. found ≡ differs_by (Comparator.By operator) comparison.now) }
+{
+    let left = is_text_variable(comparison.left_variable());
+    if !(left || is_text_variable(comparison.right_variable())) {
+        return Ok(false);
+    }
+    if !is_equality(operator) || spells_version(alloc, comparison.left_text())? {
+        return Ok(true);
+    }
+    spells_version(alloc, comparison.right_text())
+}
+
+/// Whether it is a variable other than those of Python's version.
+fn is_text_variable(variable: Option<Var>) -> bool
+    ensures { result ≡ is_text_variable variable }
+{
+    match variable {
+        Some(Var::PythonVersion | Var::PythonFullVersion) | None => false,
+        Some(_) => true,
+    }
+}
+
+fn is_equality(operator: Operator) -> bool
+    ensures { result ≡ is_equality operator }
+{
+    matches!(operator, Operator::Equal | Operator::NotEqual)
+}
+
+/// Whether a text is there and spells a version. One that doesn't takes no memory.
+fn spells_version(alloc: Global, text: Option<&str>) -> Result<bool, AllocError>
+    ensures { IfOk result (λ spells. spells ≡ spells_version (option_copied text.entry)) }
+{
+    let Some(text) = text else {
+        return Ok(false);
+    };
+    match Version::parse(alloc, text) {
+        Ok(_) | Err(VersionError::NumberTooLarge) => Ok(true),
+        Err(VersionError::Memory) => Err(AllocError),
+        Err(VersionError::Syntax) => Ok(false),
+    }
+}
+
+// ---- what is asked for
+
+/// Whether an extra or a group is asked for that the head doesn't declare.
 fn any_undeclared(alloc: Global, head: &Head, compared: &[&Comparison]) -> Result<bool, AllocError>
     ensures { IfOk result (λ found. found
         ≡ list_any (asks_undeclared head.now) (map (λ c. c.now) compared.now)) }

@@ -8,6 +8,7 @@ ghost use Rattle.std.specs.Option.{option_copied, option_map_or};
 ghost use Rattle.pylock_readers.specs.Text.{text_pair, text_pairs};
 ghost use Rattle.pylock_core.specs.Session.Picks.{lent_named, lent_source};
 ghost use Rattle.pylock_audit.specs.Keys.{source_path};
+ghost use Rattle.pylock_audit.specs.Query.{has_secret};
 ghost use Rattle.pylock_audit.specs.Source.{algorithms, details, file_label, file_of};
 ghost use Rattle.pylock_audit.specs.Source.{has_commit_hashes, hashes_of, is_commit_hash};
 ghost use Rattle.pylock_audit.specs.Source.{is_hash_digit, is_open_url, is_told, label};
@@ -22,6 +23,7 @@ use crate::file_name::{shown_file_name, shown_name};
 use crate::finding::FindingKind;
 use crate::hash::{Hash, is_bad, is_odd, is_weak};
 use crate::keys::{joined, source_key_path};
+use crate::query::has_secret;
 use crate::unsafe_text::{is_unsafe_name, is_unsafe_path};
 use crate::url::{has_credentials, is_https, is_safe_remote, shown_url};
 use pylock_core::{DistributionFile, NamedSource, PickSource, PickedSource, Vcs};
@@ -297,6 +299,23 @@ fn push_credentials(
     }
 }
 
+/// Adds the path of a URL whose query has a secret.
+fn push_secret(
+    alloc: Global,
+    list: &mut Vec<String>,
+    name: PickSource,
+    source: PickedSource<'_>,
+) -> Result<(), AllocError>
+    ensures { OnOk result (map string_bytes list.new.items ≡ map string_bytes list.old.items
+        ++ text_where has_secret (λ url. source_path name ++ codes "url")
+        (url_of (lent_source source.entry))) }
+{
+    match url_of(source) {
+        Some(url) if has_secret(url) => Ok(list.push(source_key_path(alloc, name, "url")?)?),
+        _ => Ok(()),
+    }
+}
+
 /// Whether a commit is named by its hash.
 fn is_commit_hash(text: &str) -> bool
     ensures { result ≡ is_commit_hash text.now }
@@ -358,6 +377,7 @@ fn push_details(
         FindingKind::UnsafeSubdirectory => push_unsafe_path(alloc, list, source),
         FindingKind::NotHttps => push_open_url(alloc, list, source),
         FindingKind::Credentials => push_credentials(alloc, list, name, source),
+        FindingKind::SecretInUrl => push_secret(alloc, list, name, source),
         FindingKind::MovingCommit => push_moving_commit(alloc, list, source),
         FindingKind::ControlCharacter => push_controlled(alloc, list, name, source),
         _ => Ok(()),

@@ -12,7 +12,7 @@ use pylock_core::{Lock, LockError};
 use std::alloc::Global;
 use std::marker::Model;
 
-/// Findings of a lock, in their order; made from a `Vec` and given back as one without memory.
+/// Findings of a lock, in their order; made from a `Vec` without memory. Contracts see their list.
 pub struct Findings {
     found: Vec<LockFinding>,
 }
@@ -74,10 +74,13 @@ impl FindingKind {
             | FindingKind::SeveralSources
             | FindingKind::NoHash
             | FindingKind::NoWheelName
+            | FindingKind::NoSdistName
             | FindingKind::OtherName
-            | FindingKind::OtherVersion => true,
+            | FindingKind::OtherVersion
+            | FindingKind::WrongType => true,
             FindingKind::LockVersion
             | FindingKind::UnknownKey
+            | FindingKind::ReadingsDiffer
             | FindingKind::UndeclaredName
             | FindingKind::WeakHash
             | FindingKind::OddHash
@@ -87,6 +90,7 @@ impl FindingKind {
             | FindingKind::UnsafeSubdirectory
             | FindingKind::NotHttps
             | FindingKind::Credentials
+            | FindingKind::SecretInUrl
             | FindingKind::MovingCommit
             | FindingKind::ControlCharacter => false,
         }

@@ -8,11 +8,12 @@ ghost use Rattle.toml.specs.Data.{Items, as_str, no_items, push_item, table};
 ghost use Rattle.toml.specs.View.{items_view, table_view, view};
 ghost use Rattle.pylock_readers.specs.Lock.Packages.{HasRead};
 ghost use Rattle.pylock_audit.specs.Audit.{members_in};
-ghost use Rattle.pylock_audit.specs.Entry.{other_form, text_at};
+ghost use Rattle.pylock_audit.specs.Entry.{is_other_form, other_form, text_at};
 ghost use Rattle.pylock_audit.specs.Inner.Tables.{HasLooked, of_table, of_tables, told_by};
 
+use crate::entry_keys::entry_keys_told;
 use crate::finding::{Finding, FindingKind, push_each, told_where};
-use crate::keys::{field, unknown_of_entry};
+use crate::keys::field;
 use pylock_readers::{MOST_ENTRIES, Packages};
 use pytoml::Elements;
 use pyver_core::NormalForm;
@@ -24,6 +25,8 @@ use toml::{Table, Value};
 pub(crate) struct TableFindings {
     /// The keys that PEP 751 doesn't name.
     unknown: Vec<String>,
+    /// The keys that have another type than PEP 751 gives them.
+    wrong: Vec<String>,
     /// The name as written, where that isn't its own normal form.
     name: Vec<String>,
 }
@@ -36,6 +39,7 @@ impl Model for TableFindings {
 
     ghost view = { λ t. record {
       unknown = map string_bytes t.unknown.items;
+      wrong = map string_bytes t.wrong.items;
       name = map string_bytes t.name.items;
     } };
 }
@@ -44,6 +48,7 @@ impl Drop for TableFindings {
     fn drop(self) {
         let TableFindings {
             unknown: _,
+            wrong: _,
             name: _,
         } = self;
     }
@@ -54,9 +59,14 @@ impl TableFindings {
     fn of(alloc: Global, table: &Table) -> Result<TableFindings, AllocError>
         ensures { IfOk result (λ found. found ≡ of_table (table_view table.now)) }
     {
-        let unknown = unknown_of_entry(alloc, table)?;
+        let unknown = entry_keys_told(alloc, FindingKind::UnknownKey, table)?;
+        let wrong = entry_keys_told(alloc, FindingKind::WrongType, table)?;
         let name = other_form(alloc, table)?;
-        Ok(TableFindings { unknown, name })
+        Ok(TableFindings {
+            unknown,
+            wrong,
+            name,
+        })
     }
 
     /// What this value gives, which is a table in a lock, and otherwise gives nothing.
@@ -73,8 +83,13 @@ impl TableFindings {
     pub(crate) fn push(self, findings: &mut Vec<Finding>) -> Result<(), AllocError>
         ensures { OnOk result (findings.new.items ≡ findings.old.items ++ told_by self) }
     {
-        let TableFindings { unknown, name } = self;
+        let TableFindings {
+            unknown,
+            wrong,
+            name,
+        } = self;
         push_each(findings, FindingKind::UnknownKey, unknown)?;
+        push_each(findings, FindingKind::WrongType, wrong)?;
         push_each(findings, FindingKind::NameForm, name)
     }
 }
@@ -106,11 +121,17 @@ fn other_form(alloc: Global, table: &Table) -> Result<Vec<String>, AllocError>
     ensures { IfOk result (λ list. map string_bytes list.items
         ≡ other_form (table_view table.now)) }
 {
-    let Some(name) = text_at(table, "name") else {
-        return Ok(Vec::new(alloc));
-    };
-    let normal = NormalForm::of(alloc, name)?;
-    told_where(alloc, normal.as_str() != name, name)
+    match text_at(table, "name") {
+        Some(name) => told_where(alloc, is_other_form(alloc, name)?, name),
+        None => Ok(Vec::new(alloc)),
+    }
+}
+
+/// Whether a text isn't its own normal form. It takes memory only then.
+pub(crate) fn is_other_form(alloc: Global, name: &str) -> Result<bool, AllocError>
+    ensures { IfOk result (λ other. other ≡ is_other_form name.now) }
+{
+    Ok(NormalForm::of(alloc, name)?.as_str() != name)
 }
 
 /// The entries of a lock, read as their tables come, and what each table gives by itself.

@@ -1,14 +1,17 @@
-//! What a URL names besides its place.
+//! What a URL names besides its place, and how it is shown.
 
 ghost use Rattle.std.specs.Prelude.{◌≡◌, ◌==◌, ◌<◌, IfOk, false, is_none, option_map, string_bytes};
 ghost use Rattle.std.specs.List.{list_any};
 ghost use Rattle.std.specs.Option.{option_copied};
 ghost use Rattle.pywheel_core.specs.Texts.{cut_at};
 ghost use Rattle.pylock_audit.specs.Inner.User.{password_after, user_in};
+ghost use Rattle.pylock_audit.specs.Query.{hidden_secrets};
 ghost use Rattle.pylock_audit.specs.Url.{begins, behind_scheme, behind_slashes, behind_user};
 ghost use Rattle.pylock_audit.specs.Url.{ends_authority, has_credentials, is_https, is_remote_path};
-ghost use Rattle.pylock_audit.specs.Url.{is_safe_remote, masked, names_alone, shown_url};
+ghost use Rattle.pylock_audit.specs.Url.{is_mixed, is_safe_remote, masked, names_alone, shown_url};
 
+use crate::keys::joined;
+use crate::query::{before_query, has_secret, push_hidden_secrets};
 use std::alloc::{AllocError, Global};
 
 /// Whether the text begins with the word, ASCII letter case ignored.
@@ -48,7 +51,7 @@ fn is_remote_path(text: &str) -> bool
     }
 }
 
-fn has_byte(text: &str, wanted: u8) -> bool
+pub(crate) fn has_byte(text: &str, wanted: u8) -> bool
     ensures { result ≡ list_any (λ b. b == wanted) text.now }
 {
     text.bytes().any(|b| b == wanted)
@@ -140,15 +143,37 @@ fn has_password(behind: &[u8]) -> bool
     password
 }
 
-/// The URL as it is shown: with `***` for its user where that tells something.
+/// The URL as it is shown: with `***` for its user where that tells something, and for each secret
+/// of its query; where these mix, for the query. So hiding its secrets again changes nothing.
+#[tactic(auto, using(crate::proofs::HiddenLemmas::shown_again))]
 pub(crate) fn shown_url(alloc: Global, url: &str) -> Result<String, AllocError>
+    ensures shown { IfOk result (λ text. string_bytes text ≡ shown_url url.now) }
+    ensures hidden { IfOk result (λ text. hidden_secrets (string_bytes text) ≡ string_bytes text) }
+{
+    let text = hidden_url(alloc, url)?;
+    Ok(text)
+}
+
+fn hidden_url(alloc: Global, url: &str) -> Result<String, AllocError>
     ensures { IfOk result (λ text. string_bytes text ≡ shown_url url.now) }
 {
-    if has_credentials(url) {
-        masked(alloc, url)
-    } else {
-        String::from_str(alloc, url)
+    if is_mixed(url) {
+        return joined(alloc, before_query(url), "?***");
     }
+    let mut text = String::new(alloc);
+    if has_credentials(url) {
+        push_hidden_secrets(&mut text, masked(alloc, url)?.as_str())?;
+    } else {
+        push_hidden_secrets(&mut text, url)?;
+    }
+    Ok(text)
+}
+
+/// Whether a user stands in the query or behind it, and a secret does too.
+fn is_mixed(url: &str) -> bool
+    ensures { result ≡ is_mixed url.now }
+{
+    has_credentials(url) && has_secret(url) && behind_scheme(before_query(url).as_bytes()).is_none()
 }
 
 /// The URL, with `***` for its user.

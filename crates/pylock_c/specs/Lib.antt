@@ -8,6 +8,7 @@ pub mod Opening
 pub mod Record
 pub mod Refusal
 pub mod Requirements
+pub mod Sdists
 pub mod Sessions
 pub mod Sets
 pub mod Slot

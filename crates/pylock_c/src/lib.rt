@@ -27,6 +27,7 @@ mod object;
 mod opening;
 mod refusal;
 mod requirements;
+mod sdists;
 mod sessions;
 mod sets;
 mod slot;

@@ -21,7 +21,7 @@ use Rattle.pylock_command.specs.declared.subcommand.Options.TheVariants as optio
 use Rattle.pylock_command.specs.declared.task.Task.{Task}
 use Rattle.pylock_command.specs.declared.task.Task.TheVariants.{Bare, Show, Select, Files, Audit}
 use Rattle.pylock_command.specs.declared.task.Task.TheVariants.{Version, Match, Name}
-use Rattle.pylock_command.specs.declared.task.Task.TheVariants.{Marker, Requirement, Wheel}
+use Rattle.pylock_command.specs.declared.task.Task.TheVariants.{Marker, Requirement, Wheel, Sdist}
 use Rattle.pylock_command.specs.declared.task.View.{View}
 use Rattle.pylock_command.specs.declared.task.View.TheVariants as view
 
@@ -45,6 +45,7 @@ subcommands =
     ∷ row (codes "marker") (codes "TEXT" ∷ codes "ENV" ∷ []) options.Absent
     ∷ row (codes "requirement") (codes "TEXT" ∷ []) options.Absent
     ∷ row (codes "wheel") (codes "TEXT" ∷ []) options.Absent
+    ∷ row (codes "sdist") (codes "TEXT" ∷ []) options.Absent
     ∷ []
 
 unfoldable pub pylock_app : App
@@ -86,6 +87,7 @@ call_of (Name text) = Some (codes "name", text.now ∷ [])
 call_of (Marker text env) = Some (codes "marker", text.now ∷ env.now ∷ [])
 call_of (Requirement text) = Some (codes "requirement", text.now ∷ [])
 call_of (Wheel text) = Some (codes "wheel", text.now ∷ [])
+call_of (Sdist text) = Some (codes "sdist", text.now ∷ [])
 
 -- the words have no subcommand, or this one with these texts
 abbrev pub IsCall : Option (Text × List Row) → Option (Text × List Text) → Type 0

@@ -169,6 +169,7 @@ fn task_in<'a>(alloc: Global, name: &str, found: &ArgMatches<'a>) -> Result<Task
         "marker" => Task::Marker(text_of(found, "TEXT")?, text_of(found, "ENV")?),
         "requirement" => Task::Requirement(text_of(found, "TEXT")?),
         "wheel" => Task::Wheel(text_of(found, "TEXT")?),
+        "sdist" => Task::Sdist(text_of(found, "TEXT")?),
         _ => return Err(NoTask::Missing),
     })
 }

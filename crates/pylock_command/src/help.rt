@@ -147,7 +147,7 @@ can't be read, the output failed or memory ran out.";
 pub(crate) const AUDIT: &str = "\
 Example, with spaces for the TABs:
   $ pylock audit audited.toml
-  findings 22
+  findings 25
   0  -  lock-version  1.1
   ..
   17  requests  credentials  wheels 1 url
@@ -161,8 +161,9 @@ the same.
 FINDING is one of these:
   lock-version        the lock's version isn't 1.0
   unknown-key         PEP 751 doesn't name the key
+  wrong-type          the key has another type than PEP 751 gives it
   no-packages         the key packages is absent
-  name-form           the name isn't in normal form
+  name-form           the name, or an extra of the lock, isn't in normal form
   version             the version is none by PEP 440
   marker-extra        the marker reads extra, so it is a fault everywhere
   undeclared-name     the marker asks for an extra or a group that the lock
@@ -174,8 +175,9 @@ FINDING is one of these:
   odd-hash            a hash has a , or a = in it
   bad-hash            a hash isn't of its algorithm's number of 0 to 9, a to f
   no-wheel-name       the file name of a wheel is absent or can't be read
+  no-sdist-name       the file name of an sdist is absent or can't be read
   other-name          a file is of another package
-  other-version       a wheel is of another version
+  other-version       a file is of another version
   same-file-name      an earlier wheel of the entry has the file name
   unsafe-file-name    the file name of a wheel or an sdist has a /, a \\ or a
                       control character, or is . or ..
@@ -184,11 +186,12 @@ FINDING is one of these:
   not-https           a URL isn't of https or file, nor that of a VCS by ssh
   credentials         a URL has an @ in front of its host; one of ssh only where
                       a password stands there
+  secret-in-url       the query of a URL has a password, a token or the like
   moving-commit       a commit of git or hg isn't a full hash
   control-character   a text has a control character
 
-DETAIL shows what stands in front of such an @ as ***, and control characters
-as \\u{..}.
+DETAIL shows what stands in front of such an @, and the value of such a secret,
+as ***, and control characters as \\u{..}.
 
 Status: 0, nothing was found; 1, something was; 2, the lock or the command line
 is refused; 3, a file can't be read, the output failed or memory ran out.";
@@ -261,4 +264,15 @@ Prints name, version, build and tags, with TAB between two; an absent build is
 build and tags.
 
 Status: 0, it is the name of a wheel; 1, it is refused; 2, the command line is
+refused; 3, the output failed or memory ran out.";
+
+pub(crate) const SDIST: &str = "\
+Example, with a space for the TAB:
+  $ pylock sdist Foo.Bar-1.0.tar.gz
+  foo-bar 1.0
+
+Prints the name in its normal form and the version, with TAB between them. Or
+prints refused, TAB and one of the words extension, parts, name and version.
+
+Status: 0, it is the name of an sdist; 1, it is refused; 2, the command line is
 refused; 3, the output failed or memory ran out.";

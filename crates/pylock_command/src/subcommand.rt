@@ -48,7 +48,7 @@ const ENV: Positional = (
 );
 
 /// The subcommands, in the order of the help.
-pub(crate) const SUBCOMMANDS: [Usage; 11] = [
+pub(crate) const SUBCOMMANDS: [Usage; 12] = [
     Usage {
         name: "plan",
         about: "Print what a lock installs in an environment",
@@ -140,6 +140,13 @@ pub(crate) const SUBCOMMANDS: [Usage; 11] = [
         )],
         options: Options::Absent,
         reply: help::WHEEL,
+    },
+    Usage {
+        name: "sdist",
+        about: "Print the parts of an sdist's file name (PEP 625)",
+        texts: &[("TEXT", "A file name, such as numpy-2.2.1.tar.gz")],
+        options: Options::Absent,
+        reply: help::SDIST,
     },
 ];
 

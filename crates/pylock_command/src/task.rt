@@ -65,4 +65,6 @@ pub enum Task<'a> {
     Requirement(&'a str),
     /// `wheel`, with the file name of a wheel.
     Wheel(&'a str),
+    /// `sdist`, with the file name of a source distribution.
+    Sdist(&'a str),
 }

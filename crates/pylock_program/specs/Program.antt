@@ -155,3 +155,4 @@ Performs gives (task.Marker text environment) =
     Opens gives environment.now (λ bytes. Replies (reply_of (marker_answer text.now bytes)))
 Performs gives (task.Requirement text) = Replies (reply (query.Requirement text))
 Performs gives (task.Wheel text) = Replies (reply (query.Wheel text))
+Performs gives (task.Sdist text) = Replies (reply (query.Sdist text))

@@ -161,6 +161,7 @@ pub fn perform<F: Files, R: Source, W: Sink, N: Sink>(
         }
         Task::Requirement(text) => answer_query(alloc, Query::Requirement(text), writer),
         Task::Wheel(text) => answer_query(alloc, Query::Wheel(text), writer),
+        Task::Sdist(text) => answer_query(alloc, Query::Sdist(text), writer),
     }
 }
 

@@ -12,16 +12,22 @@ use Rattle.pylock_audit.specs.Audit.{head_findings, items_at, members_in}
 use Rattle.pylock_audit.specs.Entry.{of_controls, of_file_names, of_hashes, of_kinds, of_marker}
 use Rattle.pylock_audit.specs.Entry.{of_sources, other_form, refused_version}
 use Rattle.pylock_audit.specs.Finding.{FindingValue, LockFindingValue, findings_at, findings_each}
-use Rattle.pylock_audit.specs.Keys.{unknown_of_entry}
+use Rattle.pylock_audit.specs.EntryKeys.{entry_keys_told}
 use Rattle.pylock_audit.specs.declared.finding.FindingKind.TheVariants as kind
 
--- the keys of a table that aren't named, and its name where that isn't in normal form
+-- the keys of a table that aren't named and those of another type, and its name where that isn't in
+-- normal form
 pub record TableValue : Type 0 where
   pub unknown : List (List ℕ)
+  pub wrong : List (List ℕ)
   pub name : List (List ℕ)
 
 abbrev pub of_table : Members → TableValue
-of_table members = record { unknown = unknown_of_entry members; name = other_form members }
+of_table members = record {
+  unknown = entry_keys_told kind.UnknownKey members;
+  wrong = entry_keys_told kind.WrongType members;
+  name = other_form members;
+}
 
 abbrev pub of_tables : Items → List TableValue
 of_tables no_items = []
@@ -39,12 +45,14 @@ tables_in document = of_tables (looked_at (items_at (get_member (codes "packages
 -- the findings that they are
 abbrev pub told_by : TableValue → List FindingValue
 told_by table =
-    findings_each kind.UnknownKey table.unknown ++ findings_each kind.NameForm table.name
+    findings_each kind.UnknownKey table.unknown ++ findings_each kind.WrongType table.wrong
+    ++ findings_each kind.NameForm table.name
 
 -- those of the keys, the name and the version of an entry
 abbrev pub of_names_by : TableValue → EntryValue → List FindingValue
 of_names_by table entry =
     findings_each kind.UnknownKey table.unknown
+    ++ findings_each kind.WrongType table.wrong
     ++ findings_each kind.NameForm table.name
     ++ findings_each kind.Version (refused_version entry)
 
