@@ -9,7 +9,8 @@ ghost use Rattle.std.specs.Str.{bytes_eq};
 ghost use Rattle.pylock_readers.specs.Entry.{file_name, wheel_name};
 ghost use Rattle.pylock_audit.specs.Entry.{ends, ends_as_sdist, first_version, has_front_of};
 ghost use Rattle.pylock_audit.specs.Entry.{is_name_of, is_other_name, is_other_sdist};
-ghost use Rattle.pylock_audit.specs.Entry.{is_other_version, of_file_names, of_file_names_by};
+ghost use Rattle.pylock_audit.specs.Entry.{is_other_version, is_other_wheel, of_file_names};
+ghost use Rattle.pylock_audit.specs.Entry.{of_file_names_by};
 ghost use Rattle.pylock_audit.specs.Entry.{other_names, other_sdist_version, other_versions};
 ghost use Rattle.pylock_audit.specs.Entry.{read_wheels, same_file_names, same_names, sdist_name};
 ghost use Rattle.pylock_audit.specs.Entry.{unnamed_sdist, unnamed_wheel, wanted_version};
@@ -328,7 +329,7 @@ fn push_other_version(
     wheel: Option<&WheelName>,
 ) -> Result<(), AllocError>
     ensures { OnOk result (map string_bytes list.new.items ≡ map string_bytes list.old.items
-        ++ wheel_where (λ parts. is_other_version (option_copied wanted.entry) parts.version)
+        ++ wheel_where (is_other_wheel (option_copied wanted.entry))
         (file.now, option_copied wheel.entry)) }
 {
     match wheel {

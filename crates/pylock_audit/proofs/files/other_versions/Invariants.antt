@@ -1,11 +1,11 @@
 use Rattle.std.proofs.Common.{◌≡◌, ◌++◌, drop, map, string_bytes}
 use Rattle.std.specs.List.{flat_map}
 use Rattle.pylock_readers.specs.Entry.{wheel_name}
-use Rattle.pylock_audit.specs.Entry.{is_other_version, read_wheels, wheel_where}
+use Rattle.pylock_audit.specs.Entry.{is_other_wheel, read_wheels, wheel_where}
 use Rattle.pylock_audit.proofs.files.other_versions.Given as goal
 
 abbrev pub invariant-loop-place : goal.invariant-loop-place
 invariant-loop-place l =
     map string_bytes l.list.items
-    ++ flat_map (wheel_where (λ wheel. is_other_version l.wanted wheel.version)) (map (λ file. (file, wheel_name file)) (drop l.place l.entry.wheels))
-    ≡ flat_map (wheel_where (λ wheel. is_other_version l.wanted wheel.version)) (read_wheels l.entry)
+    ++ flat_map (wheel_where (is_other_wheel l.wanted)) (map (λ file. (file, wheel_name file)) (drop l.place l.entry.wheels))
+    ≡ flat_map (wheel_where (is_other_wheel l.wanted)) (read_wheels l.entry)
