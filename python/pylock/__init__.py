@@ -16,7 +16,7 @@ from __future__ import annotations
 
 from . import markers, requirements, specifiers, tags, utils, version
 from ._environment import VARIABLES, Environment, environment
-from ._errors import InvalidEdit, InvalidEnvironment, InvalidLock, PlanFault, Refusal, WrongThread
+from ._errors import InvalidEdit, InvalidEnvironment, InvalidLock, PlanFault, Refusal, StrictRefusal, WrongThread
 from ._lock import Explanation, Finding, Lock, Options, Package, Pick, Session, Verdict
 from .markers import (
     InvalidMarker,
@@ -47,11 +47,11 @@ __all__ = [
     "BuildTag", "Environment", "Explanation", "Finding", "InvalidEdit", "InvalidEnvironment", "InvalidLock",
     "InvalidMarker", "InvalidName", "InvalidRequirement", "InvalidSdistFilename", "InvalidSpecifier", "InvalidTag",
     "InvalidVersion", "InvalidWheelFilename", "Lock", "Marker", "MarkerFault", "NormalizedName", "Options", "Package",
-    "Pick", "PlanFault", "Refusal", "Requirement", "Session", "Specifier", "SpecifierSet", "Tag", "UndefinedComparison",
-    "UndefinedEnvironmentName", "VARIABLES", "VERSION_PATTERN", "Verdict", "Version", "WrongThread",
-    "canonicalize_name", "canonicalize_version", "default_environment", "environment", "is_normalized_name", "markers",
-    "parse", "parse_all", "parse_sdist_filename", "parse_tag", "parse_wheel_filename", "requirements",
-    "sorted_versions", "specifiers", "tags", "utils", "version", "version_key",
+    "Pick", "PlanFault", "Refusal", "Requirement", "Session", "Specifier", "SpecifierSet", "StrictRefusal", "Tag",
+    "UndefinedComparison", "UndefinedEnvironmentName", "VARIABLES", "VERSION_PATTERN", "Verdict", "Version",
+    "WrongThread", "canonicalize_name", "canonicalize_version", "default_environment", "environment",
+    "is_normalized_name", "markers", "parse", "parse_all", "parse_sdist_filename", "parse_tag", "parse_wheel_filename",
+    "requirements", "sorted_versions", "specifiers", "tags", "utils", "version", "version_key",
 ]
 
 __version__ = "1.0.0"

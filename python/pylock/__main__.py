@@ -35,6 +35,7 @@ def _parser() -> argparse.ArgumentParser:
         command.add_argument("--only-binary", type=lambda name: ("only-binary", name, "wheel"), **policy)  # type: ignore
         command.add_argument("--no-binary", type=lambda name: ("no-binary", name, "source"), **policy)  # type: ignore
         command.add_argument("--set", metavar="VARIABLE=VALUE", action="append", default=[])
+        command.add_argument("--strict", action="store_true")
         command.add_argument("--json", action="store_true")
     for name, what in (
         ("files", "every source that the lock names"),
@@ -133,7 +134,15 @@ def _report(words: Any) -> int:
         _print(text)
         return status
     environment = read_source(words.environment)
-    session = _native.session_start(lock, environment)
+    if words.strict:
+        started = _native.session_start_strict(lock, environment, words.json)
+        if isinstance(started, str):
+            _print(started)
+            _tell("--strict refuses what audit found in " + words.lock)
+            return 2
+        session = started
+    else:
+        session = _native.session_start(lock, environment)
     for word, text, edit in _edits(words, lock):
         try:
             _edit(session, word, text, edit)

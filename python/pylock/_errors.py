@@ -2,7 +2,10 @@
 
 from __future__ import annotations
 
-from typing import Optional, Tuple, Union
+from typing import TYPE_CHECKING, Optional, Sequence, Tuple, Union
+
+if TYPE_CHECKING:
+    from ._lock import Finding
 
 Place = Union[int, str, None]
 
@@ -85,7 +88,7 @@ class InvalidWheelFilename(Refusal):
 
 
 class InvalidSdistFilename(Refusal):
-    """A text is no file name of an sdist."""
+    """A text is no file name of an sdist (PEP 625)."""
 
     __module__ = "pylock.utils"
 
@@ -104,6 +107,29 @@ class InvalidLock(Refusal):
     def __init__(self, message: str, *, word: str = "", place: Place = None, words: Tuple[str, ...] = ()) -> None:
         super().__init__(message, word=word, place=place)
         self.words = words
+
+
+class StrictRefusal(InvalidLock):
+    """A lock isn't taken strictly: `audit` finds in it what installers read differently (docs/FORMATS.md, `--strict`).
+
+    `findings` are those that are refused, at least one, as `Lock.audit` gives them. `word` and `place` are the first
+    one's word and the number of its entry.
+    """
+
+    __module__ = "pylock"
+
+    def __init__(self, findings: Sequence[Finding]) -> None:
+        first = findings[0]
+        where = "the head of the lock" if first.id == 0 else "entry %d (`%s`)" % (first.id, first.name)
+        detail = "" if first.detail is None else ": " + first.detail
+        more = "" if len(findings) == 1 else ", and %d more" % (len(findings) - 1)
+        self.message = "refused strictly: %s: %s%s%s" % (where, first.finding, detail, more)
+        super().__init__(self.message, word=first.finding, place=first.id, words=("findings", str(len(findings))))
+        self.args = (findings,)
+        self.findings = tuple(findings)
+
+    def __str__(self) -> str:
+        return self.message
 
 
 class InvalidEnvironment(InvalidLock):

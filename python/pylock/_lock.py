@@ -10,7 +10,7 @@ from typing import (
 
 from . import _native
 from ._environment import Environment, environment_bytes, read_source
-from ._errors import InvalidEdit, PlanFault, WrongThread
+from ._errors import InvalidEdit, PlanFault, StrictRefusal, WrongThread
 from .markers import Marker
 from .specifiers import SpecifierSet
 
@@ -91,9 +91,10 @@ class Finding(NamedTuple):
 class Options(TypedDict, total=False):
     """The keyword arguments of `Lock.plan` and `Lock.explain`: what is asked for beside the lock's defaults.
 
-    Extras; dependency groups, and these without some, all of them, or without the lock's default groups; for packages
-    of a name, or of `:all:`, the policy `any`, `wheel` (no sdist) or `source` (no wheel), of which the last counts; and
-    texts for variables of markers.
+    `strict` takes the lock only where `audit` finds nothing that installers read differently, and raises StrictRefusal
+    otherwise. The others are extras; dependency groups, and these without some, all of them, or without the lock's
+    default groups; for packages of a name, or of `:all:`, the policy `any`, `wheel` (no sdist) or `source` (no wheel),
+    of which the last counts; and texts for variables of markers.
     """
 
     extras: Iterable[str]
@@ -104,6 +105,7 @@ class Options(TypedDict, total=False):
     default_groups: bool
     policies: Iterable[Tuple[str, str]]
     variables: Mapping[str, str]
+    strict: bool
 
 
 def lock_head(lock: bytes) -> Head:
@@ -142,6 +144,21 @@ def _picks(text: str) -> List[Pick]:
     if fault is not None:
         raise PlanFault(fault["id"], fault.get("name"), fault["code"], fault.get("detail"))
     return [_pick(source) for source in document["plan"]]
+
+
+def _findings(text: str) -> List[Finding]:
+    return [
+        Finding(finding["id"], finding.get("name"), finding["finding"], finding.get("detail"))
+        for finding in json.loads(text)["findings"]
+    ]
+
+
+def _started_strictly(lock: bytes, environment: bytes) -> _native.KeptSession:
+    """The session on a lock that is taken strictly; the findings for which it isn't are raised."""
+    kept = _native.session_start_strict(lock, environment, True)
+    if isinstance(kept, str):
+        raise StrictRefusal(_findings(kept))
+    return kept
 
 
 def _explanation(text: str) -> Explanation:
@@ -193,17 +210,18 @@ class Session(_OfThread):
     >>> [pick.name for pick in session.answer()], session.judged
     (['a'], (1,))
 
-    The lock and the environment are given as they are for `Lock.plan`. Each edit gives the number of entries, and the
-    head, that it judged; a refused one raises InvalidEdit and changes nothing. A session stays on its thread. It is
-    closed by `close`, or as a context manager.
+    The lock and the environment are given as they are for `Lock.plan`; `strict` takes the lock as it does there. Each
+    edit gives the number of entries, and the head, that it judged; a refused one raises InvalidEdit and changes nothing.
+    A session stays on its thread. It is closed by `close`, or as a context manager.
     """
 
     __slots__ = ("_kept", "__weakref__")
 
-    def __init__(self, lock: Union[Lock, bytes], environment: AnyEnvironment) -> None:
+    def __init__(self, lock: Union[Lock, bytes], environment: AnyEnvironment, *, strict: bool = False) -> None:
         self._keep_thread()
         content = lock._content if isinstance(lock, Lock) else given_bytes(lock)
-        self._kept = _native.session_start(content, environment_bytes(environment))
+        start = _started_strictly if strict else _native.session_start
+        self._kept = start(content, environment_bytes(environment))
 
     def _edit(self, edit: str, *texts: str, number: Optional[int] = None) -> int:
         self._check_thread()
@@ -336,7 +354,7 @@ class Lock(_OfThread):
     A lock stays on the thread that made it, and can't be copied or pickled.
     """
 
-    __slots__ = ("_content", "_session", "_head", "_packages", "__weakref__")
+    __slots__ = ("_content", "_session", "_taken_strictly", "_head", "_packages", "__weakref__")
 
     def __init__(self, content: bytes) -> None:
         self._keep_thread()
@@ -344,6 +362,8 @@ class Lock(_OfThread):
         self._head = lock_head(self._content)
         # the session on the environment that was asked for last, as it was started
         self._session: Optional[Tuple[bytes, Session]] = None
+        # whether one was started strictly, so that every other one can be
+        self._taken_strictly = False
         self._packages: Optional[Tuple[Package, ...]] = None
 
     @classmethod
@@ -400,11 +420,13 @@ class Lock(_OfThread):
 
     # ---- what becomes of it ----
 
-    def _started(self, environment: bytes) -> Session:
+    def _started(self, environment: bytes, strict: bool = False) -> Session:
         """A session on the environment with nothing edited: the one that is kept, or a new one."""
         kept = self._session
-        if kept is None or kept[0] != environment:
-            kept = self._session = (environment, Session(self._content, environment))
+        strict = strict and not self._taken_strictly
+        if strict or kept is None or kept[0] != environment:
+            kept = self._session = (environment, Session(self._content, environment, strict=strict))
+            self._taken_strictly = self._taken_strictly or strict
         return kept[1]
 
     def _edits(self, options: Options) -> List[Tuple[str, ...]]:
@@ -434,7 +456,7 @@ class Lock(_OfThread):
         """A session with the options' edits."""
         self._check_thread()
         edits = self._edits(options)
-        session = self._started(environment_bytes(environment))
+        session = self._started(environment_bytes(environment), bool(options.get("strict")))
         if edits:
             # what is edited isn't kept for the next question
             self._session = None
@@ -447,7 +469,7 @@ class Lock(_OfThread):
         The keyword arguments are those of `Options`.
 
         Raises PlanFault where the lock can't be installed so, InvalidEdit where an option is refused, and
-        InvalidEnvironment where the environment is.
+        InvalidEnvironment where the environment is; with `strict`, before any of these, StrictRefusal.
         """
         return self._asked(environment, options).answer()
 
@@ -463,7 +485,4 @@ class Lock(_OfThread):
     def audit(self) -> List[Finding]:
         """What a careful reader of the lock would want to be told, though it is valid."""
         self._check_thread()
-        return [
-            Finding(finding["id"], finding.get("name"), finding["finding"], finding.get("detail"))
-            for finding in json.loads(_native.audit(self._content, True)[0])["findings"]
-        ]
+        return _findings(_native.audit(self._content, True)[0])

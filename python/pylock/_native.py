@@ -7,11 +7,12 @@ code; which one and by which words stands in one table below.
 from __future__ import annotations
 
 import ctypes
+import json as _json
 import os
 import sys
 import threading
 from ctypes import c_bool, c_char_p, c_int32, c_size_t, c_uint32, c_uint64, c_void_p
-from typing import Any, Callable, Dict, List, Optional, Tuple, Type, TypeVar
+from typing import Any, Callable, Dict, List, Optional, Tuple, Type, TypeVar, Union
 
 from ._errors import (
     InvalidEdit,
@@ -20,6 +21,7 @@ from ._errors import (
     InvalidMarker,
     InvalidName,
     InvalidRequirement,
+    InvalidSdistFilename,
     InvalidSpecifier,
     InvalidVersion,
     InvalidWheelFilename,
@@ -33,6 +35,7 @@ ABI = 1
 """The version of the interface that this module speaks."""
 
 MEMORY, NOT_UTF8, EMPTY, ROOM = 1, 2, 3, 4
+LOCK_FINDINGS = 72
 
 SUFFIX = {"darwin": ".dylib", "win32": ".dll"}.get(sys.platform, ".so")
 
@@ -110,6 +113,10 @@ _REFUSALS: Dict[int, Tuple[Type[Refusal], str, str]] = {
     63: (InvalidWheelFilename, "version", "invalid version"),
     64: (InvalidWheelFilename, "build", "invalid build number"),
     65: (InvalidWheelFilename, "tags", "invalid tags"),
+    66: (InvalidSdistFilename, "extension", "extension must be '.tar.gz' or '.zip'"),
+    67: (InvalidSdistFilename, "parts", "no version"),
+    68: (InvalidSdistFilename, "name", "invalid project name"),
+    69: (InvalidSdistFilename, "version", "invalid version"),
     80: (InvalidEdit, "long", "the line has more than 1,048,576 bytes"),
     81: (InvalidEdit, "command", "no such command"),
     82: (InvalidEdit, "argument", "what follows the command has a wrong form"),
@@ -134,6 +141,7 @@ _WHAT: Dict[Type[Refusal], str] = {
     InvalidName: "Invalid name",
     InvalidRequirement: "Invalid requirement",
     InvalidWheelFilename: "Invalid wheel filename",
+    InvalidSdistFilename: "Invalid sdist filename",
     InvalidEdit: "Refused edit",
 }
 
@@ -467,10 +475,11 @@ def environment_add(kept: KeptEnvironment, extras: List[str], groups: List[str])
                 raise _error(code, name, InvalidName)
 
 
-# ---- requirements and wheel names ----
+# ---- requirements, wheel and sdist names ----
 
 _requirement = _call("requirement", *_TEXT, *_SLOT)
 _wheel = _call("wheel", *_TEXT, *_SLOT)
+_sdist = _call("sdist", *_TEXT, *_SLOT)
 
 
 def _unescaped(field: str) -> Optional[str]:
@@ -504,6 +513,11 @@ def wheel(text: str) -> List[Optional[str]]:
     return _record(_wheel, text, InvalidWheelFilename)
 
 
+def sdist(text: str) -> List[Optional[str]]:
+    """The fields of an sdist's name: normal form of the name, version."""
+    return _record(_sdist, text, InvalidSdistFilename)
+
+
 # ---- a lock at once ----
 
 _files = _call("files", *_TEXT, c_bool, *_SLOT, c_void_p)
@@ -513,8 +527,11 @@ _lock_message = _call("lock_message", *_TEXT, *_SLOT)
 _environment_message = _call("environment_message", *_TEXT, *_SLOT)
 
 
-def _refused_input(code: int, words: KeptText, lock: bytes, environment: bytes) -> BaseException:
-    """The exception for a code of a call on a lock or an environment: it has the printed words without the first."""
+def _refused_input(
+    code: int, words: KeptText, lock: bytes, environment: bytes, json: bool = False
+) -> BaseException:
+    """The exception for a code of a call on a lock or an environment: it has the printed words without the first. They
+    stand in a line, or in a document."""
     error: Type[InvalidLock]
     if code == 70:
         error, call, data = InvalidLock, _lock_message, lock
@@ -526,7 +543,8 @@ def _refused_input(code: int, words: KeptText, lock: bytes, environment: bytes) 
     code = call(data, len(data), message.at)
     if code:
         return _error(code, "")
-    printed = tuple(words.read().rstrip("\n").split("\t")[1:])
+    text = words.read()
+    printed = tuple((_json.loads(text)["refused"] if json else text.rstrip("\n").split("\t"))[1:])
     place: Any = None
     if len(printed) > 1:
         place = int(printed[1]) if printed[1].isdigit() else printed[1]
@@ -564,6 +582,7 @@ def lock_head(lock: bytes) -> str:
 # ---- sessions ----
 
 _session_start = _call("session_start", *_SLOT, *_TEXT, *_TEXT, *_SLOT)
+_session_start_strict = _call("session_start_strict", *_SLOT, *_TEXT, *_TEXT, c_bool, *_SLOT)
 _session_answer = _call("session_answer", *_SLOT, c_bool, *_SLOT, *_FLAG)
 _session_explain = _call("session_explain", *_SLOT, c_bool, *_SLOT, *_FLAG)
 _session_judged = _call("session_judged", *_SLOT, *_SLOT)
@@ -588,6 +607,18 @@ def session_start(lock: bytes, environment: bytes) -> KeptSession:
     code = _session_start(kept.at, lock, len(lock), environment, len(environment), words.at)
     if code:
         raise _refused_input(code, words, lock, environment)
+    return kept
+
+
+def session_start_strict(lock: bytes, environment: bytes, json: bool) -> Union[KeptSession, str]:
+    """The session on a lock that is taken strictly, in an environment; or what is printed of the findings for which it
+    isn't taken, as lines or as a JSON document."""
+    kept, words = KeptSession(), KeptText()
+    code = _session_start_strict(kept.at, lock, len(lock), environment, len(environment), json, words.at)
+    if code == LOCK_FINDINGS:
+        return words.read()
+    if code:
+        raise _refused_input(code, words, lock, environment, json)
     return kept
 
 

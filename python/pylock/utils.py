@@ -103,25 +103,11 @@ def parse_wheel_filename(filename: str) -> Tuple[NormalizedName, Version, BuildT
 
 
 def parse_sdist_filename(filename: str) -> Tuple[NormalizedName, Version]:
-    """The name in normal form and the version of an sdist.
+    """The name in normal form and the version of an sdist (PEP 625), whose file name is cut at its last dash.
 
     >>> parse_sdist_filename("foo_bar-1.0.tar.gz")
     ('foo-bar', <Version('1.0')>)
     """
-    for extension in (".tar.gz", ".zip"):
-        if filename.endswith(extension):
-            stem = filename[: -len(extension)]
-            break
-    else:
-        raise InvalidSdistFilename(
-            "Invalid sdist filename: %r (extension must be '.tar.gz' or '.zip')" % filename, word="extension"
-        )
-    name, dash, version = stem.rpartition("-")
-    if not dash:
-        raise InvalidSdistFilename("Invalid sdist filename: %r (no version)" % filename, word="parts")
-    try:
-        return canonicalize_name(name), Version(version)
-    except InvalidVersion as error:
-        raise InvalidSdistFilename(
-            "Invalid sdist filename: %r (invalid version)" % filename, word="version"
-        ) from error
+    name, version = _native.sdist(filename)
+    assert name is not None and version is not None
+    return cast(NormalizedName, name), Version(version)

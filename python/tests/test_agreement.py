@@ -74,8 +74,9 @@ WHEELS = ["a-1-py3-none-any.whl", "Foo_Bar-1.0-1b-py2.py3-none-any.whl", "foo.ba
           "numpy-2.2.1-cp312-cp312-win_amd64.whl"]
 NO_WHEELS = ["a-1-py3-none-any.zip", "a-1-py3-none.whl", "a__b-1-py3-none-any.whl", "a-x-py3-none-any.whl", "a-1-b-py3-none-any.whl", "a.whl",
              "a-1-1-1-py3-none-any.whl", "a b-1-py3-none-any.whl", "a-1-py3-none-any.WHL"]
-SDISTS = ["a-1.tar.gz", "foo_bar-1.0.zip", "foo-bar-1.0.tar.gz", "A.b-1.0rc1.tar.gz"]
-NO_SDISTS = ["a-1.tar.bz2", "a.tar.gz", "a-x.tar.gz", "a_1.zip", "", "a-1"]
+SDISTS = ["a-1.tar.gz", "foo_bar-1.0.zip", "foo-bar-1.0.tar.gz", "A.b-1.0rc1.tar.gz", "foo-1.0-1.tar.gz", "A._-b-V1_RC.zip", "a- 1.0 .zip", "a-1+x.tar.gz"]
+NO_SDISTS = ["a-1.tar.bz2", "a.tar.gz", "a_1.zip", "", "a-1", ".zip", "a-1.ZIP"]
+NO_SDIST_VERSIONS = ["a-x.tar.gz", "a-.zip", "a-1.tar.gz.zip", "a-1+x-y.zip"]
 TAGS = ["py3-none-any", "py2.py3-none-any", "CP312-abi3-manylinux_2_17_x86_64.linux_x86_64", "a.b-c.d-e.f"]
 LISTS = [["1.0", "2.0"], ["1.0a1", "0.9"], ["1.0a1"], ["2.0a1", "2.0b1"], [], ["0.5", "1.0", "1.1rc1", "1.1", "2.0.dev0"], ["1.0a1", "3.0"]]
 
@@ -294,9 +295,9 @@ class Agreement(unittest.TestCase):
         for text in NO_WHEELS:
             if not OLD or text != "a-x-py3-none-any.whl":
                 self.same(text, asked(pylock.parse_wheel_filename, text), asked(packaging.utils.parse_wheel_filename, text))
-        for text in NO_SDISTS:
-            if not OLD or text != "a-x.tar.gz":
-                self.same(text, asked(pylock.parse_sdist_filename, text), asked(packaging.utils.parse_sdist_filename, text))
+        # such a version was taken before 22
+        for text in NO_SDISTS + ([] if OLD else NO_SDIST_VERSIONS):
+            self.same(text, asked(pylock.parse_sdist_filename, text), asked(packaging.utils.parse_sdist_filename, text))
 
     def test_tags(self):
         for text in TAGS:
@@ -360,6 +361,8 @@ DIFFERENCES = [
     ("a build that isn't ASCII", lambda library: library.utils.parse_wheel_filename("a-1-1\u00b2-py3-none-any.whl")[2], "refused", (1, "\u00b2")),
     ("an empty name of a wheel", lambda library: library.utils.parse_wheel_filename("-1-py3-none-any.whl")[0], "refused", ""),
     ("a tag with an empty piece", lambda library: len(library.utils.parse_wheel_filename("a-1-py3..py2-none-any.whl")[3]), "refused", 3),
+    ("an empty name of an sdist", lambda library: library.utils.parse_sdist_filename("-1.tar.gz")[0], "refused", ""),
+    ("a dash behind the name of an sdist", lambda library: library.utils.parse_sdist_filename("a--1.tar.gz")[0], "refused", "a-"),
     ("a--b", lambda library: library.utils.is_normalized_name("a--b"), False, True),
     ("a line end behind a name", lambda library: library.utils.is_normalized_name("a\n"), False, True),
 ]

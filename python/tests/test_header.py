@@ -33,7 +33,7 @@ def codes_of_header():
 
 def codes_of_definitions():
     """The numbers in the definitions that the contracts of the calls cite, under the names of the header."""
-    names = {"refusal.Lock": "LOCK_REFUSED", "refusal.Environment": "ENVIRONMENT_REFUSED"}
+    names = {"refusal.Lock": "LOCK_REFUSED", "refusal.Environment": "ENVIRONMENT_REFUSED", "refusal.Findings": "LOCK_FINDINGS"}
     names.update({"line.Memory": "MEMORY", "line.Text": "NOT_UTF8", "refusal.NotUtf8": "NOT_UTF8"})
     rows = re.findall(r"^\w*number (\w+)\.(\w+) = pos (\d+)$", text_of("crates", "pylock_c", "specs", "Refusal.antt"), re.MULTILINE)
     for kind, variant, code in rows:
@@ -61,7 +61,7 @@ class Header(unittest.TestCase):
 
     def test_codes(self):
         codes = codes_of_header()
-        for name in ("MEMORY", "NOT_UTF8", "EMPTY", "ROOM"):
+        for name in ("MEMORY", "NOT_UTF8", "EMPTY", "ROOM", "LOCK_FINDINGS"):
             self.assertEqual(getattr(_native, name), codes.pop(name))
         for name in ("OK", "LOCK_REFUSED", "ENVIRONMENT_REFUSED"):
             codes.pop(name)

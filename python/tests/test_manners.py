@@ -73,6 +73,9 @@ class Refusals(unittest.TestCase):
             (pylock.parse_wheel_filename, "a-1-x-py3-none-any.whl", pylock.InvalidWheelFilename, "build"),
             (pylock.parse_wheel_filename, "a-1-py3..py2-none-any.whl", pylock.InvalidWheelFilename, "tags"),
             (pylock.parse_sdist_filename, "a-1.tar", pylock.InvalidSdistFilename, "extension"),
+            (pylock.parse_sdist_filename, "a.tar.gz", pylock.InvalidSdistFilename, "parts"),
+            (pylock.parse_sdist_filename, "-1.zip", pylock.InvalidSdistFilename, "name"),
+            (pylock.parse_sdist_filename, "a-x.zip", pylock.InvalidSdistFilename, "version"),
             (pylock.parse_tag, "py3", pylock.InvalidTag, "tag"),
         ):
             with self.subTest(text[:40]):
@@ -88,6 +91,7 @@ class Refusals(unittest.TestCase):
         for call, error in (
             (pylock.Version, pylock.InvalidVersion), (pylock.SpecifierSet, pylock.InvalidSpecifier), (pylock.Marker, pylock.InvalidMarker),
             (pylock.Requirement, pylock.InvalidRequirement), (pylock.parse_wheel_filename, pylock.InvalidWheelFilename),
+            (pylock.parse_sdist_filename, pylock.InvalidSdistFilename),
         ):
             with refused(self, error, "syntax"):
                 call("1\ud800")

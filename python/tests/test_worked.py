@@ -96,6 +96,9 @@ def reply(words):
             assert tags == {tag for text in record[3].split(" ") for tag in pylock.parse_tag(text)}
             assert (build == ()) == (record[2] is None)
             return "\t".join((field(name), str(version), field(record[2]), record[3])), 0
+        if command == "sdist":
+            name, version = pylock.parse_sdist_filename(texts[0])
+            return "\t".join((field(name), str(version))), 0
     except pylock.Refusal as refusal:
         return "refused\t" + refusal.word, 1
     raise AssertionError(words)
@@ -232,7 +235,7 @@ class Worked(unittest.TestCase):
             environment = bytes_in(case.get("environment", NOTHING.decode()))
             for told in expected[2:].split("\n> "):
                 line, _, report = told.partition("\n")
-                if report == "refused by clap":
+                if report == "refused by clap" or line.startswith("select "):
                     continue
                 # what is told beside the report stands behind the status
                 report, mark, rest = report.partition("status ")
@@ -251,6 +254,7 @@ class Worked(unittest.TestCase):
 
     def test_documents(self):
         self.assertGreater(self.commands("documents.toml", "document", lambda line: line.split(" ")), 10)
+        self.assertGreater(self.commands("strict.toml", "strict", lambda line: line.split(" ")), 10)
 
 
 class Examples(unittest.TestCase):

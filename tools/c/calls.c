@@ -206,6 +206,22 @@ static void requirements(void)
     pylock_text_free(&record);
 }
 
+static void sdists(void)
+{
+    pylock_text record = {0};
+    IS(pylock_sdist(TEXT("Foo.bar-V1.0.tar.gz"), &record), PYLOCK_OK);
+    HOLDS(has(&record, "foo-bar\t1.0"));
+    IS(pylock_sdist(TEXT("a-1.whl"), &record), PYLOCK_SDIST_EXTENSION);
+    IS(pylock_sdist(TEXT("a.tar.gz"), &record), PYLOCK_SDIST_PARTS);
+    IS(pylock_sdist(TEXT("-1.zip"), &record), PYLOCK_SDIST_NAME);
+    IS(pylock_sdist(TEXT("a-x.zip"), &record), PYLOCK_SDIST_VERSION);
+    IS(pylock_sdist(TEXT("a\xff"), &record), PYLOCK_NOT_UTF8);
+    HOLDS(has(&record, "foo-bar\t1.0"));
+    IS(pylock_sdist(TEXT("foo-1.0-1.zip"), &record), PYLOCK_OK);
+    HOLDS(has(&record, "foo-1-0\t1"));
+    pylock_text_free(&record);
+}
+
 static void wheels(void)
 {
     pylock_text record = {0};
@@ -552,6 +568,35 @@ static void started_sessions(void)
     HOLDS(!session.full && !session.kept);
 }
 
+/* of a lock that is taken strictly: the lock is judged, then what is found, then the environment */
+static void strict_sessions(void)
+{
+    static const char sound[] =
+        EMPTY "[[packages]]\nname = \"a\"\ndirectory = { path = \"a\" }\n";
+    static const char found[] = EMPTY "[[packages]]\nname = \"A\"\nversion = \"1\"\n";
+    pylock_session session = {0};
+    pylock_text words = {0};
+    IS(pylock_session_start_strict(&session, TEXT(sound), TEXT(TAGGED), false, &words), PYLOCK_OK);
+    HOLDS(session.full && !words.full);
+    IS(pylock_session_start_strict(&session, TEXT("x"), TEXT("x"), false, &words),
+       PYLOCK_LOCK_REFUSED);
+    HOLDS(has(&words, "lock\ttoml\n"));
+    IS(pylock_session_start_strict(&session, TEXT(found), TEXT("x"), false, &words),
+       PYLOCK_LOCK_FINDINGS);
+    HOLDS(has(&words, "findings 2\n1\ta\tname-form\tA\n1\ta\tno-source\t-\n"));
+    IS(pylock_session_start_strict(&session, TEXT(found), TEXT(TAGGED), true, &words),
+       PYLOCK_LOCK_FINDINGS);
+    HOLDS(has(&words, "{\"findings\":[{\"detail\":\"A\",\"finding\":\"name-form\",\"id\":1,"
+                      "\"name\":\"a\"},{\"finding\":\"no-source\",\"id\":1,\"name\":\"a\"}],"
+                      "\"pylock\":1}\n"));
+    IS(pylock_session_start_strict(&session, TEXT(sound), TEXT("{}"), true, &words),
+       PYLOCK_ENVIRONMENT_REFUSED);
+    HOLDS(has(&words, "{\"pylock\":1,\"refused\":[\"environment\",\"shape\"]}\n"));
+    stands(&session, "plan 1\n1\ta\t-\tdirectory\t-\ta\t-\t-\t-\n", true, "0\t1");
+    pylock_text_free(&words);
+    pylock_session_free(&session);
+}
+
 static void edited_sessions(pylock_session *session)
 {
     uint64_t judged = 0;
@@ -728,6 +773,7 @@ static void sessions(void)
     pylock_text words = {0};
     empty_sessions();
     started_sessions();
+    strict_sessions();
     read_entries();
     IS(pylock_session_start(&session, TEXT(EDITED), TEXT(TAGGED), &words), PYLOCK_OK);
     edited_sessions(&session);
@@ -939,6 +985,7 @@ static void calls(void)
     texts();
     requirements();
     wheels();
+    sdists();
     sets();
     markers();
     extras();

@@ -34,7 +34,7 @@ impl Answers for Cases {
         match kind {
             "audit" => audits::answer_case(alloc, case),
             "command" => words::answer_case(alloc, case),
-            "document" => documents::answer_case(alloc, case),
+            "document" | "strict" => documents::answer_case(alloc, case),
             "entry" => entries::judge(alloc, case),
             "entry_keys" => entries::answer_case(alloc, case),
             "environment" => environments::judge(alloc, case),

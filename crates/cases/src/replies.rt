@@ -55,6 +55,7 @@ fn query_of<'a>(words: &[&'a str]) -> Option<Query<'a>> {
         ["marker", marker, environment] => Some(Query::Marker(marker, environment.as_bytes())),
         ["requirement", requirement] => Some(Query::Requirement(requirement)),
         ["wheel", wheel] => Some(Query::Wheel(wheel)),
+        ["sdist", sdist] => Some(Query::Sdist(sdist)),
         _ => None,
     }
 }

@@ -2,7 +2,7 @@
 
 use crate::files;
 use case_files::bytes;
-use pylock_command::Task;
+use pylock_command::{Selection, Task};
 use pylock_program::perform;
 use pylock_run::{FileFault, Files, Pieces, Room, ToWrite, run};
 use std::alloc::{AllocError, Global};
@@ -123,7 +123,11 @@ fn program_report(alloc: Global, inputs: &Inputs, input: &[u8]) -> anyhow::Resul
     let mut writer = ToWrite::new(&mut text);
     let mut notes = Vec::new(alloc);
     let mut beside = ToWrite::new(&mut notes);
-    let task = Task::Select("lock", "environment");
+    let task = Task::Select(Selection {
+        lock: "lock",
+        environment: "environment",
+        strict: false,
+    });
     let end = perform(alloc, task, inputs, &mut reader, &mut writer, &mut beside);
     text_with_status(text, end)
 }

@@ -25,5 +25,6 @@ fn task_text(alloc: Global, words: &[&str]) -> Result<String, AllocError> {
 fn request_text(alloc: Global, request: &Request<'_>) -> Result<String, AllocError> {
     let (view, lock, environment) = (request.view, request.lock, request.environment);
     let (choices, form) = (&request.choices, request.form);
-    format!(in alloc; "{view:?}({lock:?}, {environment:?}, {choices:?}, {form:?})")
+    let strict = if request.strict { "strict " } else { "" };
+    format!(in alloc; "{strict}{view:?}({lock:?}, {environment:?}, {choices:?}, {form:?})")
 }

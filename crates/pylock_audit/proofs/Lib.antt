@@ -6,6 +6,7 @@ pub mod NameLemmas
 pub mod PrintableLemmas
 pub mod QueryLemmas
 pub mod ShownLemmas
+pub mod StrictLemmas
 pub mod TableLemmas
 pub mod UnsafeLemmas
 pub mod UserLemmas

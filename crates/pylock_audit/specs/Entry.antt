@@ -27,6 +27,7 @@ use Rattle.pylock_core.specs.declared.answer.PickSource.{PickSource}
 use Rattle.pylock_audit.specs.FileName.{shown_file_name}
 use Rattle.pylock_audit.specs.Finding.{FindingValue, findings_each, finding_where, told_where}
 use Rattle.pylock_audit.specs.EntryKeys.{entry_keys_told}
+use Rattle.pylock_audit.specs.Readings.{differs}
 use Rattle.pylock_audit.specs.Source.{name_where, over_sources, text_where}
 use Rattle.pylock_audit.specs.Unsafe.{has_control}
 use Rattle.pylock_audit.specs.declared.finding.FindingKind.{FindingKind}
@@ -195,6 +196,7 @@ of_names members entry =
 abbrev pub marker_findings : HeadValue → MarkerValue → List FindingValue
 marker_findings head marker =
     findings_each kind.MarkerExtra (compares comparison_reads_extra marker)
+    ++ findings_each kind.ReadingsDiffer (compares differs marker)
     ++ findings_each kind.UndeclaredName (compares (asks_undeclared head) marker)
 
 abbrev pub of_marker : HeadValue → EntryValue → List FindingValue

@@ -8,7 +8,9 @@ pub mod Hash
 pub mod Inner
 pub mod Keys
 pub mod Query
+pub mod Readings
 pub mod Source
+pub mod Strict
 pub mod Types
 pub mod Unsafe
 pub mod Url

@@ -25,6 +25,8 @@ pub enum FindingKind {
     Version,
     /// The marker has the operand `extra`, which has no value in a lock.
     MarkerExtra,
+    /// The marker compares a variable that installers read in two ways, as a text or a version.
+    ReadingsDiffer,
     /// The marker asks for an extra or a group that the head doesn't declare.
     UndeclaredName,
     /// No source stands.
@@ -78,6 +80,7 @@ impl FindingKind {
             FindingKind::NameForm => "name-form",
             FindingKind::Version => "version",
             FindingKind::MarkerExtra => "marker-extra",
+            FindingKind::ReadingsDiffer => "readings-differ",
             FindingKind::UndeclaredName => "undeclared-name",
             FindingKind::NoSource => "no-source",
             FindingKind::SeveralSources => "several-sources",

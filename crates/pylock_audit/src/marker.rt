@@ -1,15 +1,17 @@
-//! What markers ask for that no lock, or not this one, has.
+//! What markers ask for that no lock, or not this one, has, and what is read in two ways.
 
 ghost use Rattle.std.specs.Prelude.{◌≡◌, ◌++◌, IfOk, OnOk, map};
 ghost use Rattle.std.specs.List.{list_any};
 ghost use Rattle.std.specs.Option.{option_copied};
 ghost use Rattle.pymark_core.specs.Marker.Asked.{comparison_reads_extra};
 ghost use Rattle.pylock_audit.specs.Entry.{asks_undeclared, is_undeclared, marker_findings};
+ghost use Rattle.pylock_audit.specs.Readings.{differs, differs_by, is_equality, is_text_variable};
+ghost use Rattle.pylock_audit.specs.Readings.{spells_version};
 
 use crate::finding::{Finding, FindingKind, push_each, told_where};
 use pylock_core::Head;
-use pymark_core::{Comparison, Marker};
-use pyver_core::normal_name;
+use pymark_core::{Comparator, Comparison, Marker, Var};
+use pyver_core::{Operator, Version, VersionError, normal_name};
 use std::alloc::{AllocError, Global};
 
 /// Adds what the marker gives. Its comparisons are listed once.
@@ -26,6 +28,9 @@ pub(crate) fn push_compared(
     let compared = listed.as_slice();
     let texts = told_where(alloc, any_extra(compared), marker.text())?;
     push_each(findings, FindingKind::MarkerExtra, texts)?;
+    let differs = any_differs(alloc, compared)?;
+    let texts = told_where(alloc, differs, marker.text())?;
+    push_each(findings, FindingKind::ReadingsDiffer, texts)?;
     let asked = any_undeclared(alloc, head, compared)?;
     let texts = told_where(alloc, asked, marker.text())?;
     push_each(findings, FindingKind::UndeclaredName, texts)
@@ -42,6 +47,80 @@ fn any_extra(comparisons: &[&Comparison]) -> bool
     }
     false
 }
+
+// ---- what is read in two ways
+
+/// Whether a comparison is read in two ways.
+fn any_differs(alloc: Global, compared: &[&Comparison]) -> Result<bool, AllocError>
+    ensures { IfOk result (λ found. found ≡ list_any differs (map (λ c. c.now) compared.now)) }
+{
+    for comparison in compared {
+        if differs(alloc, comparison)? {
+            return Ok(true);
+        }
+    }
+    Ok(false)
+}
+
+/// Whether installers may read a comparison as one of texts or of versions. A text is read only
+/// where it stands by `==` or `!=` beside a variable that isn't Python's version.
+fn differs(alloc: Global, comparison: &Comparison) -> Result<bool, AllocError>
+    ensures { IfOk result (λ found. found ≡ differs comparison.now) }
+{
+    match comparison.comparator() {
+        Comparator::By(operator) => differs_by(alloc, operator, comparison),
+        Comparator::In | Comparator::NotIn => Ok(false),
+    }
+}
+
+fn differs_by(
+    alloc: Global,
+    operator: Operator,
+    comparison: &Comparison,
+) -> Result<bool, AllocError>
+    ensures { IfOk result (λ found. found ≡ differs_by (Comparator.By operator) comparison.now) }
+{
+    let left = is_text_variable(comparison.left_variable());
+    if !(left || is_text_variable(comparison.right_variable())) {
+        return Ok(false);
+    }
+    if !is_equality(operator) || spells_version(alloc, comparison.left_text())? {
+        return Ok(true);
+    }
+    spells_version(alloc, comparison.right_text())
+}
+
+/// Whether it is a variable other than those of Python's version.
+fn is_text_variable(variable: Option<Var>) -> bool
+    ensures { result ≡ is_text_variable variable }
+{
+    match variable {
+        Some(Var::PythonVersion | Var::PythonFullVersion) | None => false,
+        Some(_) => true,
+    }
+}
+
+fn is_equality(operator: Operator) -> bool
+    ensures { result ≡ is_equality operator }
+{
+    matches!(operator, Operator::Equal | Operator::NotEqual)
+}
+
+/// Whether a text is there and spells a version. One that doesn't takes no memory.
+fn spells_version(alloc: Global, text: Option<&str>) -> Result<bool, AllocError>
+    ensures { IfOk result (λ spells. spells ≡ spells_version (option_copied text.entry)) }
+{
+    let Some(text) = text else {
+        return Ok(false);
+    };
+    match Version::parse(alloc, text) {
+        Ok(_) | Err(VersionError::NumberTooLarge) => Ok(true),
+        Err(VersionError::Memory) => Err(AllocError),
+        Err(VersionError::Syntax) => Ok(false),
+    }
+}
+
+// ---- what is asked for
 
 /// Whether an extra or a group is asked for that the head doesn't declare.
 fn any_undeclared(alloc: Global, head: &Head, compared: &[&Comparison]) -> Result<bool, AllocError>

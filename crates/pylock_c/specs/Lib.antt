@@ -8,9 +8,11 @@ pub mod Opening
 pub mod Record
 pub mod Refusal
 pub mod Requirements
+pub mod Sdists
 pub mod Sessions
 pub mod Sets
 pub mod Slot
+pub mod Strict
 pub mod Text
 pub mod Versions
 pub mod Wheels

@@ -13,6 +13,8 @@ use Rattle.pyver_core.specs.declared.set.error.SpecifierError.{SpecifierError}
 use Rattle.pyver_core.specs.declared.set.error.SpecifierError.TheVariants as set
 use Rattle.pyver_core.specs.declared.version.error.VersionError.{VersionError}
 use Rattle.pyver_core.specs.declared.version.error.VersionError.TheVariants as version
+use Rattle.pywheel_core.specs.declared.error.SdistError.{SdistError}
+use Rattle.pywheel_core.specs.declared.error.SdistError.TheVariants as sdist
 use Rattle.pywheel_core.specs.declared.error.WheelError.{WheelError}
 use Rattle.pywheel_core.specs.declared.error.WheelError.TheVariants as wheel
 use Rattle.pylock_c.specs.declared.refusal.Refusal.{Refusal}
@@ -64,8 +66,13 @@ number refusal.WheelName = pos 62
 number refusal.WheelVersion = pos 63
 number refusal.WheelBuild = pos 64
 number refusal.WheelTags = pos 65
+number refusal.SdistExtension = pos 66
+number refusal.SdistParts = pos 67
+number refusal.SdistName = pos 68
+number refusal.SdistVersion = pos 69
 number refusal.Lock = pos 70
 number refusal.Environment = pos 71
+number refusal.Findings = pos 72
 number (refusal.Edit refused) = edit_number refused
 
 abbrev pub version_refusal : VersionError → Refusal
@@ -108,6 +115,13 @@ wheel_refusal wheel.Version = refusal.WheelVersion
 wheel_refusal wheel.Build = refusal.WheelBuild
 wheel_refusal wheel.Tags = refusal.WheelTags
 wheel_refusal wheel.Memory = refusal.Memory
+
+abbrev pub sdist_refusal : SdistError → Refusal
+sdist_refusal sdist.Extension = refusal.SdistExtension
+sdist_refusal sdist.Parts = refusal.SdistParts
+sdist_refusal sdist.Name = refusal.SdistName
+sdist_refusal sdist.Version = refusal.SdistVersion
+sdist_refusal sdist.Memory = refusal.Memory
 
 -- of a line: want of memory and a text that isn't UTF-8 are told as of any call
 abbrev pub line_refusal : LineRefusal → Refusal

@@ -62,7 +62,7 @@ fn line(alloc: Global, refusal: &OpenError) -> Result<Object, AllocError>
     Ok(Object::Text(Bytes::new(out)))
 }
 
-fn open_refusal(error: &OpenError) -> Refusal
+pub(crate) fn open_refusal(error: &OpenError) -> Refusal
     ensures { result ≡ open_refusal error.now }
 {
     match error {

@@ -2,14 +2,15 @@
 
 ghost use Rattle.std.specs.Prelude.{◌≡◌};
 ghost use Rattle.pylock_c.specs.Refusal.{evaluation_refusal, marker_refusal};
-ghost use Rattle.pylock_c.specs.Refusal.{requirement_refusal, set_refusal, version_refusal};
-ghost use Rattle.pylock_c.specs.Refusal.{edit_number, line_refusal, number, wheel_refusal};
+ghost use Rattle.pylock_c.specs.Refusal.{requirement_refusal, sdist_refusal, set_refusal};
+ghost use Rattle.pylock_c.specs.Refusal.{edit_number, line_refusal, number, version_refusal};
+ghost use Rattle.pylock_c.specs.Refusal.{wheel_refusal};
 ghost use Rattle.pylock_c.specs.declared.refusal.Refusal.TheVariants.{Memory};
 
 use pylock_run::LineRefusal;
 use pymark_core::{EvalFault, MarkerError, RequirementError};
 use pyver_core::{SpecifierError, VersionError};
-use pywheel_core::WheelError;
+use pywheel_core::{SdistError, WheelError};
 use std::alloc::{AllocError, AllocFailed};
 
 /// Why a call is refused: a code of `pylock.h` each.
@@ -67,10 +68,20 @@ pub enum Refusal {
     WheelBuild,
     /// The wheel's tags are wrong.
     WheelTags,
+    /// The name doesn't end in `.tar.gz` or `.zip`.
+    SdistExtension,
+    /// The name has no `-` before its extension.
+    SdistParts,
+    /// The sdist's name is wrong.
+    SdistName,
+    /// The sdist's version is wrong.
+    SdistVersion,
     /// The lock is refused.
     Lock,
     /// The environment is refused.
     Environment,
+    /// The lock is valid, and a strict reading refuses what is found in it.
+    Findings,
     /// An edit is refused.
     Edit(LineRefusal),
 }
@@ -107,8 +118,13 @@ impl Refusal {
             Refusal::WheelVersion => 63,
             Refusal::WheelBuild => 64,
             Refusal::WheelTags => 65,
+            Refusal::SdistExtension => 66,
+            Refusal::SdistParts => 67,
+            Refusal::SdistName => 68,
+            Refusal::SdistVersion => 69,
             Refusal::Lock => 70,
             Refusal::Environment => 71,
+            Refusal::Findings => 72,
             Refusal::Edit(refusal) => edit_number(refusal),
         }
     }
@@ -231,6 +247,20 @@ impl From<WheelError> for Refusal {
             WheelError::Build => Refusal::WheelBuild,
             WheelError::Tags => Refusal::WheelTags,
             WheelError::Memory => Refusal::Memory,
+        }
+    }
+}
+
+impl From<SdistError> for Refusal {
+    ghost from_gives = { λ error refusal. refusal ≡ sdist_refusal error };
+
+    fn from(error: SdistError) -> Refusal {
+        match error {
+            SdistError::Extension => Refusal::SdistExtension,
+            SdistError::Parts => Refusal::SdistParts,
+            SdistError::Name => Refusal::SdistName,
+            SdistError::Version => Refusal::SdistVersion,
+            SdistError::Memory => Refusal::Memory,
         }
     }
 }

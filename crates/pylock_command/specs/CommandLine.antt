@@ -11,6 +11,7 @@ use Rattle.clap.specs.declared.error.kind.ErrorKind.TheVariants.{MissingRequired
 use Rattle.clap.specs.declared.error.kind.ErrorKind.TheVariants.{OutOfMemory}
 use Rattle.pylock_command.specs.Choices.{AreChoices}
 use Rattle.pylock_command.specs.Form.{form_of}
+use Rattle.pylock_command.specs.Strict.{is_strict}
 use Rattle.pylock_command.specs.Subcommand.{Subcommand, row, subcommand_app}
 use Rattle.pylock_command.specs.declared.choice.Choice.{Choice}
 use Rattle.pylock_command.specs.declared.command_line.CommandError.{CommandError}
@@ -20,7 +21,7 @@ use Rattle.pylock_command.specs.declared.subcommand.Options.TheVariants as optio
 use Rattle.pylock_command.specs.declared.task.Task.{Task}
 use Rattle.pylock_command.specs.declared.task.Task.TheVariants.{Bare, Show, Select, Files, Audit}
 use Rattle.pylock_command.specs.declared.task.Task.TheVariants.{Version, Match, Name}
-use Rattle.pylock_command.specs.declared.task.Task.TheVariants.{Marker, Requirement, Wheel}
+use Rattle.pylock_command.specs.declared.task.Task.TheVariants.{Marker, Requirement, Wheel, Sdist}
 use Rattle.pylock_command.specs.declared.task.View.{View}
 use Rattle.pylock_command.specs.declared.task.View.TheVariants as view
 
@@ -35,7 +36,7 @@ abbrev pub subcommands : List Subcommand
 subcommands =
     row (codes "plan") (codes "LOCK" ∷ codes "ENV" ∷ []) options.Choices
     ∷ row (codes "explain") (codes "LOCK" ∷ codes "ENV" ∷ []) options.Choices
-    ∷ row (codes "select") (codes "LOCK" ∷ codes "ENV" ∷ []) options.Absent
+    ∷ row (codes "select") (codes "LOCK" ∷ codes "ENV" ∷ []) options.Strict
     ∷ row (codes "files") (codes "LOCK" ∷ []) options.Form
     ∷ row (codes "audit") (codes "LOCK" ∷ []) options.Form
     ∷ row (codes "version") (codes "TEXT" ∷ []) options.Absent
@@ -44,6 +45,7 @@ subcommands =
     ∷ row (codes "marker") (codes "TEXT" ∷ codes "ENV" ∷ []) options.Absent
     ∷ row (codes "requirement") (codes "TEXT" ∷ []) options.Absent
     ∷ row (codes "wheel") (codes "TEXT" ∷ []) options.Absent
+    ∷ row (codes "sdist") (codes "TEXT" ∷ []) options.Absent
     ∷ []
 
 unfoldable pub pylock_app : App
@@ -76,7 +78,7 @@ abbrev pub call_of : Task → Option (Text × List Text)
 call_of Bare = None
 call_of (Show request) =
     Some (view_word request.view, request.lock.now ∷ request.environment.now ∷ [])
-call_of (Select lock env) = Some (codes "select", lock.now ∷ env.now ∷ [])
+call_of (Select asked) = Some (codes "select", asked.lock.now ∷ asked.environment.now ∷ [])
 call_of (Files lock form) = Some (codes "files", lock.now ∷ [])
 call_of (Audit lock form) = Some (codes "audit", lock.now ∷ [])
 call_of (Version text) = Some (codes "version", text.now ∷ [])
@@ -85,6 +87,7 @@ call_of (Name text) = Some (codes "name", text.now ∷ [])
 call_of (Marker text env) = Some (codes "marker", text.now ∷ env.now ∷ [])
 call_of (Requirement text) = Some (codes "requirement", text.now ∷ [])
 call_of (Wheel text) = Some (codes "wheel", text.now ∷ [])
+call_of (Sdist text) = Some (codes "sdist", text.now ∷ [])
 
 -- the words have no subcommand, or this one with these texts
 abbrev pub IsCall : Option (Text × List Row) → Option (Text × List Text) → Type 0
@@ -99,11 +102,17 @@ HasChoices found choices = IfSome found (λ p. AreChoices p.1 choices)
 abbrev pub HasForm : Option (Text × List Row) → Form → Type 0
 HasForm found form = IfSome found (λ p. form ≡ form_of p.1)
 
+-- the words of the subcommand ask for a strict reading of the lock, or don't
+abbrev pub HasStrictness : Option (Text × List Row) → Bool → Type 0
+HasStrictness found strict = IfSome found (λ p. strict ≡ is_strict p.1)
+
 -- the task that the words give
 abbrev pub IsTask : Option (Text × List Row) → Task → Type 0
 IsTask found (Show request) =
     IsCall found (call_of (Show request)) × HasChoices found request.choices.items
-    × HasForm found request.form
+    × HasStrictness found request.strict × HasForm found request.form
+IsTask found (Select asked) =
+    IsCall found (call_of (Select asked)) × HasStrictness found asked.strict
 IsTask found (Files lock form) = IsCall found (call_of (Files lock form)) × HasForm found form
 IsTask found (Audit lock form) = IsCall found (call_of (Audit lock form)) × HasForm found form
 IsTask found task = IsCall found (call_of task)

@@ -3,8 +3,10 @@ use Rattle.std.specs.Prelude.{List, fold, map, true}
 use Rattle.clap.specs.Words.{App, Rule, Text, new_app, new_rule, with_rule, with_subcommand}
 use Rattle.pylock_command.specs.Choices.{with_choices}
 use Rattle.pylock_command.specs.Form.{with_json}
+use Rattle.pylock_command.specs.Strict.{with_strict}
 use Rattle.pylock_command.specs.declared.subcommand.Options.{Options}
 use Rattle.pylock_command.specs.declared.subcommand.Options.TheVariants.{Absent, Form, Choices}
+use Rattle.pylock_command.specs.declared.subcommand.Options.TheVariants.{Strict}
 use Rattle.pylock_command.specs.declared.subcommand.Usage.{Usage}
 
 -- its name, the names of the texts that it takes, and its options
@@ -28,7 +30,8 @@ with_positional app id = with_rule app (positional_rule id)
 abbrev pub with_options : Options → App → App
 with_options Absent app = app
 with_options Form app = with_json app
-with_options Choices app = with_json (with_choices app)
+with_options Strict app = with_strict app
+with_options Choices app = with_json (with_strict (with_choices app))
 
 abbrev pub subcommand_app : Subcommand → App
 subcommand_app s = with_options s.options (fold with_positional (new_app s.name) s.texts)

@@ -9,14 +9,16 @@ ghost use Rattle.pylock_command.specs.CommandLine.{is_lacking, lacks, lacks_text
 ghost use Rattle.pylock_command.specs.CommandLine.{pylock_app, top_app};
 ghost use Rattle.pylock_command.specs.Commands.{Adds, IsCommand, IsLocal};
 ghost use Rattle.pylock_command.specs.Form.{form_of};
+ghost use Rattle.pylock_command.specs.Strict.{is_strict};
 ghost use Rattle.pylock_command.specs.Subcommand.{with_usage};
 ghost use Rattle.pylock_command.specs.declared.command_line.NoTask.TheVariants as no_task;
 
 use crate::choices::choices_of;
 use crate::form::form_of;
 use crate::help::ABOUT;
+use crate::strict::is_strict;
 use crate::subcommand::{SUBCOMMANDS, Usage, subcommand};
-use crate::task::{Request, Task, View};
+use crate::task::{Request, Selection, Task, View};
 use clap::error::ErrorKind;
 use clap::{ArgMatches, Command};
 use std::alloc::{AllocError, Global};
@@ -154,7 +156,11 @@ fn task_in<'a>(alloc: Global, name: &str, found: &ArgMatches<'a>) -> Result<Task
     Ok(match name {
         "plan" => Task::Show(request_of(alloc, View::Plan, found)?),
         "explain" => Task::Show(request_of(alloc, View::Explain, found)?),
-        "select" => Task::Select(text_of(found, "LOCK")?, text_of(found, "ENV")?),
+        "select" => Task::Select(Selection {
+            lock: text_of(found, "LOCK")?,
+            environment: text_of(found, "ENV")?,
+            strict: is_strict(found),
+        }),
         "files" => Task::Files(text_of(found, "LOCK")?, form_of(found)),
         "audit" => Task::Audit(text_of(found, "LOCK")?, form_of(found)),
         "version" => Task::Version(text_of(found, "TEXT")?),
@@ -163,6 +169,7 @@ fn task_in<'a>(alloc: Global, name: &str, found: &ArgMatches<'a>) -> Result<Task
         "marker" => Task::Marker(text_of(found, "TEXT")?, text_of(found, "ENV")?),
         "requirement" => Task::Requirement(text_of(found, "TEXT")?),
         "wheel" => Task::Wheel(text_of(found, "TEXT")?),
+        "sdist" => Task::Sdist(text_of(found, "TEXT")?),
         _ => return Err(NoTask::Missing),
     })
 }
@@ -173,6 +180,7 @@ fn request_of<'a>(alloc: Global, view: View, found: &ArgMatches<'a>) -> Result<R
     ensures texts { IfOk result (λ r. HaveTexts (rows_of (found_of found.now))
         (codes "LOCK" ∷ codes "ENV" ∷ []) (r.lock.now ∷ r.environment.now ∷ [])) }
     ensures choices { IfOk result (λ r. AreChoices (rows_of (found_of found.now)) r.choices.items) }
+    ensures strict { IfOk result (λ r. r.strict ≡ is_strict (rows_of (found_of found.now))) }
     ensures form { IfOk result (λ r. r.form ≡ form_of (rows_of (found_of found.now))) }
     ensures lacks { IfErr result (λ none. none ≡ no_task.Missing
         → list_any (lacks (rows_of (found_of found.now))) (codes "LOCK" ∷ codes "ENV" ∷ [])
@@ -183,6 +191,7 @@ fn request_of<'a>(alloc: Global, view: View, found: &ArgMatches<'a>) -> Result<R
         lock: text_of(found, "LOCK")?,
         environment: text_of(found, "ENV")?,
         choices: choices_of(alloc, found)?,
+        strict: is_strict(found),
         form: form_of(found),
     })
 }

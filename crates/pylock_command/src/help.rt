@@ -24,6 +24,9 @@ Example, with spaces for the TABs:
   plan 12
   1  acme-service  -  editable  -  .  -  -  -
   ..
+  $ pylock plan pylock.toml env.json --strict
+  plan 11
+  ..
 
 Prints plan K and then K lines, one for each package to install. A line has
 nine fields with TAB between them: the entry's number, name, version, kind of
@@ -42,6 +45,11 @@ An option with a text may stand again; a text that begins with - is given as
 --only-binary :all: leaves VCS sources, directories and archives, which are
 built all the same. A refused option prints refused, TAB, the option, TAB and
 its text.
+
+With --strict the lock is taken only where audit has none of these findings:
+no-packages, name-form, version, marker-extra, no-source, several-sources,
+no-hash, no-wheel-name, other-name, other-version. Else it prints findings K and
+these findings alone, as audit does, and the status is 2.
 
 Status: 0, a plan; 1, a fault or a refused option; 2, the lock, the environment
 or the command line is refused; 3, a file can't be read, the output failed or
@@ -107,6 +115,9 @@ The edits:
   put ID ENTRY        this entry in place of one: put 1 {name = \"a\"}
   del ID              remove the entry with this number: del 1
   policy NAME POLICY  files of this name, any, wheel or source: policy pip wheel
+
+With --strict the lock is taken as plan --strict takes it; what an edit adds is
+not judged so.
 
 Status: 0, the last answer is a plan and no line was refused; 1, otherwise;
 2, the lock, the environment or the command line is refused; 3, a line on
@@ -253,4 +264,15 @@ Prints name, version, build and tags, with TAB between two; an absent build is
 build and tags.
 
 Status: 0, it is the name of a wheel; 1, it is refused; 2, the command line is
+refused; 3, the output failed or memory ran out.";
+
+pub(crate) const SDIST: &str = "\
+Example, with a space for the TAB:
+  $ pylock sdist Foo.Bar-1.0.tar.gz
+  foo-bar 1.0
+
+Prints the name in its normal form and the version, with TAB between them. Or
+prints refused, TAB and one of the words extension, parts, name and version.
+
+Status: 0, it is the name of an sdist; 1, it is refused; 2, the command line is
 refused; 3, the output failed or memory ran out.";

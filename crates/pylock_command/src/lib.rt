@@ -19,10 +19,11 @@ mod choices;
 mod command_line;
 mod form;
 mod help;
+mod strict;
 mod subcommand;
 mod task;
 
 pub use choice::Choice;
 pub use command_line::{CommandError, command};
 pub use form::Form;
-pub use task::{Request, Task, View};
+pub use task::{Request, Selection, Task, View};

@@ -9,6 +9,7 @@ ghost use Rattle.pylock_command.specs.Commands.{IsCommand, IsLocal};
 use crate::choices::{with_argument, with_choices};
 use crate::form::with_json;
 use crate::help;
+use crate::strict::with_strict;
 use clap::{Arg, Command};
 use std::alloc::{AllocError, Global};
 
@@ -22,7 +23,9 @@ enum Options {
     Absent,
     /// `--json`.
     Form,
-    /// Those of `plan`, and `--json`.
+    /// `--strict`.
+    Strict,
+    /// Those of `plan`, `--strict` and `--json`.
     Choices,
 }
 
@@ -45,7 +48,7 @@ const ENV: Positional = (
 );
 
 /// The subcommands, in the order of the help.
-pub(crate) const SUBCOMMANDS: [Usage; 11] = [
+pub(crate) const SUBCOMMANDS: [Usage; 12] = [
     Usage {
         name: "plan",
         about: "Print what a lock installs in an environment",
@@ -64,7 +67,7 @@ pub(crate) const SUBCOMMANDS: [Usage; 11] = [
         name: "select",
         about: "Print what a lock installs, and print it again after each edit",
         texts: &[LOCK, ENV],
-        options: Options::Absent,
+        options: Options::Strict,
         reply: help::SELECT,
     },
     Usage {
@@ -138,6 +141,13 @@ pub(crate) const SUBCOMMANDS: [Usage; 11] = [
         options: Options::Absent,
         reply: help::WHEEL,
     },
+    Usage {
+        name: "sdist",
+        about: "Print the parts of an sdist's file name (PEP 625)",
+        texts: &[("TEXT", "A file name, such as numpy-2.2.1.tar.gz")],
+        options: Options::Absent,
+        reply: help::SDIST,
+    },
 ];
 
 /// The subcommand, which takes its texts and its options.
@@ -149,7 +159,8 @@ pub(crate) fn subcommand<'a>(alloc: Global, usage: Usage) -> Result<Command<'a>,
     match usage.options {
         Options::Absent => command,
         Options::Form => with_json(alloc, command),
-        Options::Choices => with_json(alloc, with_choices(alloc, command)),
+        Options::Strict => with_strict(alloc, command),
+        Options::Choices => { with_json(alloc, with_strict(alloc, with_choices(alloc, command))) }
     }
 }
 

@@ -23,8 +23,21 @@ pub struct Request<'a> {
     pub environment: &'a str,
     /// The options.
     pub choices: Vec<Choice<'a>>,
+    /// Whether the lock is taken only where nothing is found in it that a strict reading refuses.
+    pub strict: bool,
     /// The form of the answer.
     pub form: Form,
+}
+
+/// What `select` is asked.
+#[derive(Clone, Copy, Debug)]
+pub struct Selection<'a> {
+    /// The path of the lock.
+    pub lock: &'a str,
+    /// The path of the environment.
+    pub environment: &'a str,
+    /// Whether the lock is taken strictly, as that of a [`Request`].
+    pub strict: bool,
 }
 
 /// What the program is asked to do.
@@ -34,8 +47,8 @@ pub enum Task<'a> {
     Bare,
     /// `plan` or `explain`, with what it is asked.
     Show(Request<'a>),
-    /// `select`, with the paths of the lock and of the environment.
-    Select(&'a str, &'a str),
+    /// `select`, with what it is asked.
+    Select(Selection<'a>),
     /// `files`, with the path of the lock, and the form of the answer.
     Files(&'a str, Form),
     /// `audit`, with the path of the lock, and the form of the answer.
@@ -52,4 +65,6 @@ pub enum Task<'a> {
     Requirement(&'a str),
     /// `wheel`, with the file name of a wheel.
     Wheel(&'a str),
+    /// `sdist`, with the file name of a source distribution.
+    Sdist(&'a str),
 }

@@ -1,10 +1,15 @@
 -- What the program does with its task, and how it ends.
-use Rattle.std.specs.Prelude.{◌≡◌, ◌≢◌, ℕ, List, codes, Option, Some, None, Result, Ok, Err}
+use Rattle.std.specs.Prelude.{◌≡◌, ◌≢◌, ℕ, List, [], ◌∷◌, codes, Option, Some, None}
+use Rattle.std.specs.Prelude.{Result, Ok, Err}
 use Rattle.std.specs.Result.{result_map_both}
+use Rattle.pylock_audit.specs.Finding.{LockFindingValue}
+use Rattle.pylock_command.specs.declared.form.Form.TheVariants.{Lines}
 use Rattle.pylock_command.specs.declared.task.Task.{Task}
 use Rattle.pylock_command.specs.declared.task.Task.TheVariants as task
 use Rattle.pylock_program.specs.Reply.{audit_answer, files_answer, marker_answer, reply, reply_of}
-use Rattle.pylock_program.specs.Show.{request_report}
+use Rattle.pylock_program.specs.Show.{found_report, request_report}
+use Rattle.pylock_program.specs.Strict.{found_by}
+use Rattle.pylock_core.specs.Session.State.{State}
 use Rattle.pylock_run.specs.Files.{Reads}
 use Rattle.pylock_run.specs.Report.{Report, open_state}
 use Rattle.pylock_run.specs.Report.Print.{Prints}
@@ -16,6 +21,7 @@ use Rattle.pylock_program.specs.declared.program.Failure.TheVariants.{Input, Nam
 use Rattle.pylock_program.specs.declared.reply.queries.Query.TheVariants as query
 use Rattle.pylock_run.specs.declared.report.fault.RunFault.{RunFault}
 use Rattle.pylock_run.specs.declared.report.fault.RunFault.TheVariants as run
+use Rattle.pylock_run.specs.declared.report.opening.OpenError.{OpenError}
 use Rattle.pylock_run.specs.declared.stream.whole.FileFault.{FileFault}
 use Rattle.pylock_run.specs.declared.stream.whole.FileFault.TheVariants as file
 
@@ -52,7 +58,7 @@ failure_status _ = 3
 
 -- what stands there before a task is done where standard input is a terminal
 abbrev pub terminal_note : Task → Option (List ℕ)
-terminal_note (task.Select lock environment) =
+terminal_note (task.Select asked) =
     Some (codes "edit lines are read from standard input; Ctrl-D ends them")
 terminal_note _ = None
 
@@ -76,10 +82,19 @@ abbrev pub Replies : Report → Outcome
 Replies report source source' sink sink' result =
     Tells (Prints report sink sink') result × (source' ≡ source)
 
--- a run
-abbrev pub Runs : List ℕ → List ℕ → Outcome
-Runs lock environment source source' sink sink' result =
-    Tells (IsRun (open_state lock environment) source source' sink sink') result
+-- a run from its beginning, unless there are findings: then these are printed, and standard input
+-- isn't read
+abbrev pub IsRunUnless : List LockFindingValue → Result State OpenError → SourceValue → SourceValue
+    → SinkValue → SinkValue → Result ℕ RunFault → Type 0
+IsRunUnless [] begins source source' sink sink' result =
+    IsRun begins source source' sink sink' result
+IsRunUnless (one ∷ others) begins source source' sink sink' result =
+    Prints (found_report Lines (one ∷ others)) sink sink' result × (source' ≡ source)
+
+-- a run, unless there are findings
+abbrev pub Runs : List LockFindingValue → List ℕ → List ℕ → Outcome
+Runs found lock environment source source' sink sink' result =
+    Tells (IsRunUnless found (open_state lock environment) source source' sink sink') result
 
 -- what the bytes of a file lead to; a fault of the file is told, and nothing else is done
 abbrev pub LeadsTo : (FileFault → Failure) → (List ℕ → Outcome) → Result (List ℕ) FileFault
@@ -123,8 +138,9 @@ Greets source source' sink sink' result =
 -- `explain` read their first file as the lock, and then their second as the environment.
 abbrev pub Performs : Reads → Task → Outcome
 Performs gives task.Bare = Greets
-Performs gives (task.Select lock environment) =
-    Opens gives lock.now (λ lock. Opens gives environment.now (Runs lock))
+Performs gives (task.Select asked) =
+    Opens gives asked.lock.now
+    (λ lock. Opens gives asked.environment.now (Runs (found_by asked.strict lock) lock))
 Performs gives (task.Show request) =
     OpensNamed gives request.lock.now (λ lock. OpensNamed gives request.environment.now
     (λ environment. Replies (request_report request lock environment)))
@@ -139,3 +155,4 @@ Performs gives (task.Marker text environment) =
     Opens gives environment.now (λ bytes. Replies (reply_of (marker_answer text.now bytes)))
 Performs gives (task.Requirement text) = Replies (reply (query.Requirement text))
 Performs gives (task.Wheel text) = Replies (reply (query.Wheel text))
+Performs gives (task.Sdist text) = Replies (reply (query.Sdist text))

@@ -23,9 +23,13 @@ use Rattle.pymark_core.specs.declared.marker.error.MarkerError.{MarkerError}
 use Rattle.pymark_core.specs.declared.marker.error.MarkerError.TheVariants as marker
 use Rattle.pymark_core.specs.declared.requirement.error.RequirementError.{RequirementError}
 use Rattle.pymark_core.specs.declared.requirement.error.RequirementError.TheVariants as requirement
+use Rattle.pywheel_core.specs.Sdist.Reading.{sdist_of}
+use Rattle.pywheel_core.specs.Sdist.Value.{SdistValue}
 use Rattle.pywheel_core.specs.Tag.{tag_text}
 use Rattle.pywheel_core.specs.Wheel.Reading.{wheel_of}
 use Rattle.pywheel_core.specs.Wheel.Value.{WheelValue}
+use Rattle.pywheel_core.specs.declared.error.SdistError.{SdistError}
+use Rattle.pywheel_core.specs.declared.error.SdistError.TheVariants as sdist
 use Rattle.pywheel_core.specs.declared.error.WheelError.{WheelError}
 use Rattle.pywheel_core.specs.declared.error.WheelError.TheVariants as wheel
 use Rattle.pylock_readers.specs.Environment.{env_of}
@@ -192,6 +196,23 @@ wheel_answer text = do
   parts ← or_report (λ e. refusal_report (wheel_word e)) (wheel_of text)
   Ok (wheel_line parts)
 
+-- `sdist TEXT`: name, version
+abbrev pub sdist_word : SdistError → List ℕ
+sdist_word sdist.Extension = codes "extension"
+sdist_word sdist.Parts = codes "parts"
+sdist_word sdist.Name = codes "name"
+sdist_word sdist.Version = codes "version"
+sdist_word sdist.Memory = codes "memory"
+
+abbrev pub sdist_line : SdistValue → List ℕ
+sdist_line parts =
+    line_of (field (Some parts.name)) (field (Some (normal_text parts.version)) ∷ [])
+
+abbrev pub sdist_answer : List ℕ → Result (List ℕ) Report
+sdist_answer text = do
+  parts ← or_report (λ e. refusal_report (sdist_word e)) (sdist_of text)
+  Ok (sdist_line parts)
+
 -- ---- answers on a lock, as lines or as a document
 
 abbrev pub refused_lock : Form → LockError → Report
@@ -233,6 +254,7 @@ query_answer (query.Name text) = name_answer text.now
 query_answer (query.Marker text environment) = marker_answer text.now environment.now
 query_answer (query.Requirement text) = requirement_answer text.now
 query_answer (query.Wheel text) = wheel_answer text.now
+query_answer (query.Sdist text) = sdist_answer text.now
 
 abbrev pub reply_of : Result (List ℕ) Report → Report
 reply_of (Ok line) = record { text = line; status = 0 }

@@ -1,5 +1,6 @@
 -- What `plan` and `explain` show of a lock in an environment.
 use Rattle.std.specs.Prelude.{ℕ, List, [], ◌∷◌, codes, if◌then◌else◌, Result, Ok, Err}
+use Rattle.pylock_audit.specs.Finding.{LockFindingValue}
 use Rattle.pylock_command.specs.Choices.{option_words}
 use Rattle.pylock_command.specs.declared.choice.Choice.{Choice}
 use Rattle.pylock_command.specs.declared.form.Form.{Form}
@@ -15,8 +16,12 @@ use Rattle.pylock_run.specs.Text.Field.{field, line_of}
 use Rattle.pylock_run.specs.Text.Refusal.{refusal_text}
 use Rattle.pylock_run.specs.declared.report.opening.OpenError.{OpenError}
 use Rattle.pylock_program.specs.Choices.{after_choices}
+use Rattle.pylock_program.specs.Reply.{findings_shown}
+use Rattle.pylock_program.specs.Strict.{found_by}
 use Rattle.pylock_program.specs.Text.Explain.{explain_text}
 use Rattle.pylock_program.specs.Text.Json.{json_text, option_json, refusal_json}
+use Rattle.pylock_program.specs.declared.strict.Unopened.{Unopened}
+use Rattle.pylock_program.specs.declared.strict.Unopened.TheVariants.{Findings, Refused}
 
 -- an option that is refused: its word, without the dashes, and its text
 abbrev pub option_shown : Form → Choice → List ℕ
@@ -60,8 +65,28 @@ report_after form text (Err refusal) choices = record {
 report_after form text (Ok state) choices =
     report_of_choices form text (after_choices choices state)
 
--- the report on a request, from the bytes of its lock and of its environment
+-- ---- a lock that is taken strictly
+
+-- findings that count against a lock, in place of any answer
+abbrev pub found_report : Form → List LockFindingValue → Report
+found_report form found = record { text = findings_shown form found; status = 2 }
+
+-- a report, unless there are findings
+abbrev pub report_unless : Form → List LockFindingValue → Report → Report
+report_unless form [] report = report
+report_unless form (one ∷ others) report = found_report form (one ∷ others)
+
+-- why there is no session
+abbrev pub unopened_shown : Form → Unopened → List ℕ
+unopened_shown form (Findings found) = findings_shown form found
+unopened_shown form (Refused refusal) = refusal_shown form refusal
+
+-- ---- requests
+
+-- The report on a request, from the bytes of its lock and of its environment: the findings that a
+-- strict request refuses, or else what is reported without them.
 abbrev pub request_report : Request → List ℕ → List ℕ → Report
 request_report request lock environment =
-    report_after request.form (view_shown request.view request.form) (open_state lock environment)
-    request.choices.items
+    report_unless request.form (found_by request.strict lock)
+    (report_after request.form (view_shown request.view request.form)
+    (open_state lock environment) request.choices.items)

@@ -13,10 +13,12 @@
 
 mod choices;
 mod file;
+pub mod laws;
 mod notes;
 mod program;
 mod reply;
 mod show;
+mod strict;
 mod text;
 
 pub use program::{Failure, perform, terminal_note, words_failure};
@@ -24,3 +26,4 @@ pub use pylock_command::View;
 pub use reply::queries::Query;
 pub use reply::{push_reply, query};
 pub use show::{Inputs, push_open_error, push_view, show_request};
+pub use strict::{Unopened, open_strictly, push_unopened};

@@ -5,22 +5,29 @@ ghost use Rattle.std.specs.Option.{option_copied};
 ghost use Rattle.std.specs.Result.{result_map_both};
 ghost use Rattle.pylock_program.specs.Program.{failure_message, failure_status, GivesNamed, Opens};
 ghost use Rattle.pylock_program.specs.Program.{OpensNamed, Performs, Replies, Runs, Tells};
-ghost use Rattle.pylock_program.specs.Program.{greeting, terminal_note, program_end};
+ghost use Rattle.pylock_program.specs.Program.{greeting, terminal_note, program_end, IsRunUnless};
 ghost use Rattle.pylock_program.specs.Reply.{audit_answer, files_answer, marker_answer, reply};
 ghost use Rattle.pylock_program.specs.Reply.{reply_of};
-ghost use Rattle.pylock_program.specs.Show.{request_report};
+ghost use Rattle.pylock_program.specs.Show.{found_report, request_report};
+ghost use Rattle.pylock_program.specs.Strict.{found_by};
+ghost use Rattle.pylock_command.specs.declared.form.Form.TheVariants as form;
+ghost use Rattle.pylock_run.specs.Report.{open_state};
 ghost use Rattle.pylock_run.specs.Report.Print.{Prints};
 ghost use Rattle.pylock_run.specs.Stream.{SourceValue};
 ghost use Rattle.pylock_program.specs.declared.program.Failure.TheVariants as failure;
 
 use crate::file::FileBytes;
 use crate::notes::file::tell_file;
-use crate::notes::refusal::tell_refusal;
+use crate::notes::refusal::{tell_refusal, tell_unopened};
 use crate::reply::queries::Query;
 use crate::reply::query;
 use crate::show::{Inputs, show_request};
-use pylock_command::{Form, Request, Task};
-use pylock_run::{FileFault, Files, RunFault, Sink, Source, print, read_both, run_whole};
+use crate::strict::{Unopened, open_by, push_found};
+use pylock_audit::Findings;
+use pylock_command::{Form, Request, Selection, Task};
+use pylock_run::{
+    FileFault, Files, OpenError, RunFault, Sink, Source, print, read_both, run_opened,
+};
 use std::alloc::Global;
 use std::io::ErrorKind;
 
@@ -109,7 +116,7 @@ pub fn terminal_note(task: &Task<'_>) -> Option<&'static str>
     ensures { option_copied result ≡ terminal_note task.now }
 {
     match task {
-        Task::Select(_, _) => { Some("edit lines are read from standard input; Ctrl-D ends them") }
+        Task::Select(_) => { Some("edit lines are read from standard input; Ctrl-D ends them") }
         _ => None,
     }
 }
@@ -143,9 +150,7 @@ pub fn perform<F: Files, R: Source, W: Sink, N: Sink>(
     match task {
         Task::Bare => print_greeting(writer),
         Task::Show(request) => show_files(alloc, files, &request, writer, notes),
-        Task::Select(lock, environment) => {
-            run_select(alloc, files, lock, environment, reader, writer, notes)
-        }
+        Task::Select(asked) => run_select(alloc, files, asked, reader, writer, notes),
         Task::Files(lock, form) => list_files(alloc, files, form, lock, writer, notes),
         Task::Audit(lock, form) => audit_lock(alloc, files, form, lock, writer, notes),
         Task::Version(text) => answer_query(alloc, Query::Version(text), writer),
@@ -156,6 +161,7 @@ pub fn perform<F: Files, R: Source, W: Sink, N: Sink>(
         }
         Task::Requirement(text) => answer_query(alloc, Query::Requirement(text), writer),
         Task::Wheel(text) => answer_query(alloc, Query::Wheel(text), writer),
+        Task::Sdist(text) => answer_query(alloc, Query::Sdist(text), writer),
     }
 }
 
@@ -169,28 +175,58 @@ fn print_greeting<W: Sink>(writer: &mut W) -> Result<u8, Failure>
 fn run_select<F: Files, R: Source, W: Sink, N: Sink>(
     alloc: Global,
     files: &F,
-    lock: &str,
-    environment: &str,
+    asked: Selection<'_>,
     reader: &mut R,
     writer: &mut W,
     notes: &mut N,
 ) -> Result<u8, Failure>
-    ensures { Opens (F.read_gives files.now) lock.now
-        (λ lock. Opens (F.read_gives files.now) environment.now (Runs lock))
+    ensures { Opens (F.read_gives files.now) asked.entry.lock.now
+        (λ lock. Opens (F.read_gives files.now) asked.entry.environment.now
+        (Runs (found_by asked.entry.strict lock) lock))
         (R.value reader.old) (R.value reader.new) (W.value writer.old) (W.value writer.new) result }
 {
-    let (lock_bytes, bytes) = read_both(files, lock, environment)?;
-    let end = run_whole(alloc, &lock_bytes, &bytes, true, reader, writer);
+    let (lock_bytes, bytes) = read_both(files, asked.lock, asked.environment)?;
+    let end = run_by(alloc, asked.strict, &lock_bytes, &bytes, reader, writer);
     let lock = FileBytes {
-        path: lock,
+        path: asked.lock,
         bytes: lock_bytes,
     };
     let environment = FileBytes {
-        path: environment,
+        path: asked.environment,
         bytes,
     };
-    tell_refusal(alloc, notes, &end, Some(&lock), Some(&environment));
+    tell_unopened(alloc, notes, &end, asked.strict, &lock, &environment);
     program_end(end)
+}
+
+/// A run on a lock that is taken strictly, or as it is; or the findings in its place.
+fn run_by<R: Source, W: Sink>(
+    alloc: Global,
+    strict: bool,
+    lock: &[u8],
+    env: &[u8],
+    reader: &mut R,
+    writer: &mut W,
+) -> Result<u8, RunFault>
+    ensures { IsRunUnless (found_by strict lock.now) (open_state lock.now env.now)
+        (R.value reader.old) (R.value reader.new) (W.value writer.old) (W.value writer.new) result }
+{
+    match open_by(alloc, strict, lock, env) {
+        Ok(session) => run_opened(alloc, Ok(session), true, reader, writer),
+        Err(Unopened::Refused(OpenError::Memory)) => Err(RunFault::Memory),
+        Err(Unopened::Refused(refusal)) => run_opened(alloc, Err(refusal), true, reader, writer),
+        Err(Unopened::Findings(found)) => print_found(alloc, &found, writer),
+    }
+}
+
+/// Prints findings in place of an answer.
+fn print_found<W: Sink>(alloc: Global, found: &Findings, writer: &mut W) -> Result<u8, RunFault>
+    ensures { Prints (found_report form.Lines found.now)
+        (W.value writer.old) (W.value writer.new) result }
+{
+    let mut out = Vec::new(alloc);
+    push_found(alloc, &mut out, Form::Lines, found.as_slice())?;
+    print(&out, REFUSED, writer)
 }
 
 /// The file at a path.
@@ -243,7 +279,7 @@ fn show_files<F: Files, W: Sink, N: Sink>(
         leaves: true,
     };
     let end = show_request(alloc, request, inputs, writer, notes);
-    tell_refusal(alloc, notes, &end, Some(&lock), Some(&environment));
+    tell_unopened(alloc, notes, &end, request.strict, &lock, &environment);
     program_end(end)
 }
 

@@ -10,7 +10,7 @@ ghost use Rattle.pylock_program.specs.Reply.{truth_word, name_answer, marker_ans
 ghost use Rattle.pylock_program.specs.Reply.{marker_answer_in, value_answer, requirement_answer};
 ghost use Rattle.pylock_program.specs.Reply.{requirement_line, names_text, specifiers_text};
 ghost use Rattle.pylock_program.specs.Reply.{wheel_answer, wheel_line, refusal_report};
-ghost use Rattle.pylock_program.specs.Reply.{fault_report};
+ghost use Rattle.pylock_program.specs.Reply.{fault_report, sdist_answer, sdist_line};
 ghost use Rattle.pylock_run.specs.Report.Print.{Prints, Pushes};
 ghost use Rattle.pylock_run.specs.Text.Field.{field, line_of};
 
@@ -18,10 +18,10 @@ pub mod queries;
 
 use crate::program::REFUSED;
 use crate::reply::queries::Query;
-use crate::text::audit::push_findings;
+use crate::strict::push_found;
 use crate::text::files::push_files;
 use crate::text::json::push_lock_json;
-use pylock_audit::{LockFinding, findings_document, read_audited};
+use pylock_audit::{LockFinding, read_audited};
 use pylock_command::Form;
 use pylock_core::{Entry, EnvError, FaultCode, Lock, LockError, fault_word, read_environment};
 use pylock_documents::files_document;
@@ -32,7 +32,7 @@ use pylock_run::{
 };
 use pymark_core::{Environment, EvalFault, Marker, MarkerError, Requirement, RequirementError};
 use pyver_core::{SpecifierError, SpecifierSet, Version, VersionError, is_name, normal_name};
-use pywheel_core::{WheelError, WheelName, tags_text};
+use pywheel_core::{SdistError, SdistName, WheelError, WheelName, tags_text};
 use std::alloc::{AllocError, Global};
 use std::mem;
 
@@ -74,6 +74,7 @@ pub fn push_reply(
         Query::Marker(text, environment) => push_marker(alloc, out, text, environment),
         Query::Requirement(text) => push_requirement(alloc, out, text),
         Query::Wheel(text) => push_wheel(alloc, out, text),
+        Query::Sdist(text) => push_sdist(alloc, out, text),
     }
 }
 
@@ -164,10 +165,7 @@ fn push_findings_in(
     ensures { Pushes out.old.items out.new.items
         (reply_of (findings_answer form found.now)) result }
 {
-    match form {
-        Form::Lines => push_findings(out, found)?,
-        Form::Json => push_document(alloc, out, findings_document(alloc, found)?)?,
-    }
+    push_found(alloc, out, form, found)?;
     Ok(if found.is_empty() { 0 } else { 1 })
 }
 
@@ -369,6 +367,28 @@ fn push_wheel_line(alloc: Global, out: &mut Vec<u8>, wheel: &WheelName) -> Resul
     push_next_field(out, wheel.build_text())?;
     let tags = tags_text(alloc, wheel.tags())?;
     push_next_field(out, Some(tags.as_str()))?;
+    out.push(b'\n')?;
+    Ok(0)
+}
+
+fn push_sdist(alloc: Global, out: &mut Vec<u8>, text: &str) -> Result<u8, AllocError>
+    ensures { Pushes out.old.items out.new.items (reply_of (sdist_answer text.now)) result }
+{
+    match SdistName::parse(alloc, text) {
+        Ok(sdist) => push_sdist_line(out, &sdist),
+        Err(SdistError::Extension) => push_refusal_word(out, b"extension"),
+        Err(SdistError::Parts) => push_refusal_word(out, b"parts"),
+        Err(SdistError::Name) => push_refusal_word(out, b"name"),
+        Err(SdistError::Version) => push_refusal_word(out, b"version"),
+        Err(SdistError::Memory) => Err(AllocError),
+    }
+}
+
+fn push_sdist_line(out: &mut Vec<u8>, sdist: &SdistName) -> Result<u8, AllocError>
+    ensures { Pushes out.old.items out.new.items (reply_of (Ok (sdist_line sdist.now))) result }
+{
+    push_field(out, Some(sdist.name()))?;
+    push_next_field(out, Some(sdist.version().text()))?;
     out.push(b'\n')?;
     Ok(0)
 }

@@ -12,15 +12,14 @@ use crate::choices::{make_choices, option_words};
 use crate::notes::fault::tell_fault;
 use crate::notes::options::{tell_notes, tell_refused};
 use crate::program::REFUSED;
+use crate::strict::{Unopened, open_by, push_unopened};
 use crate::text::explain::push_explanation;
 use crate::text::json::{push_option_json, push_refusal_json};
 use pylock_command::{Choice, Form, Request, View};
 use pylock_core::{Answer, Session};
 use pylock_documents::{explain_document, plan_document};
 use pylock_json::push_document;
-use pylock_run::{
-    OpenError, RunFault, Sink, open, print, push_answer, push_next_field, push_refusal,
-};
+use pylock_run::{OpenError, RunFault, Sink, print, push_answer, push_next_field, push_refusal};
 use std::alloc::{AllocError, Global};
 use std::mem;
 
@@ -39,7 +38,7 @@ pub struct Inputs<'a> {
 /// Runs `plan` or `explain`: writes what is asked for of the lock in the environment after the
 /// options, or the first option that is refused. It answers the status: 0 where the answer is a
 /// plan, 1 where it is a fault or an option is refused, 2 where the lock or the environment is
-/// refused.
+/// refused, or of a strict request findings stand in the lock, which are written then.
 ///
 /// To `notes` it writes a line for a person on each option that may not do what it seems to, on the
 /// option that is refused and, of `plan`, on the fault; what can't be written there is left out.
@@ -62,6 +61,7 @@ pub fn show_request<W: Sink, N: Sink>(
 }
 
 /// Pushes what is printed, and answers the status.
+#[tactic(auto, using(crate::proofs::StrictLemmas::reported))]
 fn push_report<N: Sink>(
     alloc: Global,
     out: &mut Vec<u8>,
@@ -72,7 +72,7 @@ fn push_report<N: Sink>(
     ensures { Pushes out.old.items out.new.items (request_report request.now
         inputs.entry.lock.now inputs.entry.environment.now) result }
 {
-    match open(alloc, inputs.lock, inputs.environment) {
+    match open_by(alloc, request.strict, inputs.lock, inputs.environment) {
         Ok(mut session) => {
             let status = push_after_choices(alloc, out, request, &mut session, notes)?;
             if inputs.leaves {
@@ -80,9 +80,9 @@ fn push_report<N: Sink>(
             }
             Ok(status)
         }
-        Err(OpenError::Memory) => Err(AllocError),
-        Err(refusal) => {
-            push_open_error(alloc, out, request.form, &refusal)?;
+        Err(Unopened::Refused(OpenError::Memory)) => Err(AllocError),
+        Err(unopened) => {
+            push_unopened(alloc, out, request.form, &unopened)?;
             Ok(REFUSED)
         }
     }

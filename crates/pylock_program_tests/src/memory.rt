@@ -2,7 +2,7 @@
 //! back, and the program, which ends then, doesn't.
 
 use crate::check::{ENVIRONMENT, HEAD, Shelf};
-use pylock_command::Task;
+use pylock_command::{Selection, Task};
 use pylock_program::perform;
 use pylock_run::{Pieces, Room, run};
 use std::alloc::{AllocError, Global};
@@ -27,7 +27,11 @@ fn status(alloc: Global, lock: &[u8], leaves: bool) -> Result<Option<u8>, AllocE
     let environment = ENVIRONMENT.as_bytes();
     if leaves {
         let shelf = Shelf::new(alloc, lock, environment);
-        let task = Task::Select("lock", "environment");
+        let task = Task::Select(Selection {
+            lock: "lock",
+            environment: "environment",
+            strict: false,
+        });
         let mut notes = Room::new(alloc, 100, 100, None)?;
         Ok(perform(alloc, task, &shelf, &mut reader, &mut room, &mut notes).ok())
     } else {

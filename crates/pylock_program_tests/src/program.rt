@@ -1,7 +1,7 @@
 //! What the program does with its task, over files in memory.
 
 use crate::check::{ENVIRONMENT, HEAD, Shelf, check_bytes};
-use pylock_command::{Form, Request, Task, View};
+use pylock_command::{Form, Request, Selection, Task, View};
 use pylock_program::{Failure, perform, words_failure};
 use pylock_run::{FileFault, Pieces, Room, RunFault, open_fault, read_file};
 use std::alloc::{AllocError, Global};
@@ -48,7 +48,17 @@ fn show<'a>(alloc: Global, view: View, form: Form, paths: (&'a str, &'a str)) ->
         lock,
         environment,
         choices,
+        strict: false,
         form,
+    })
+}
+
+/// `select`, with the paths of the lock and of the environment.
+fn select<'a>(lock: &'a str, environment: &'a str) -> Task<'a> {
+    Task::Select(Selection {
+        lock,
+        environment,
+        strict: false,
     })
 }
 
@@ -56,11 +66,11 @@ fn show<'a>(alloc: Global, view: View, form: Form, paths: (&'a str, &'a str)) ->
 fn refuses_either_file(rt: HostRuntime) -> Result<(), Fail> {
     let alloc = rt.alloc();
     for (task, failure) in [
-        (Task::Select("absent", "full"), Failure::File),
-        (Task::Select("full", "absent"), Failure::Memory),
-        (Task::Select("large", "full"), Failure::File),
-        (Task::Select("lock", "absent"), Failure::File),
-        (Task::Select("lock", "full"), Failure::Memory),
+        (select("absent", "full"), Failure::File),
+        (select("full", "absent"), Failure::Memory),
+        (select("large", "full"), Failure::File),
+        (select("lock", "absent"), Failure::File),
+        (select("lock", "full"), Failure::Memory),
         (
             show(alloc, View::Plan, Form::Lines, ("lock", "absent")),
             Failure::NamedFile,

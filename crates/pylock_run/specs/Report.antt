@@ -7,6 +7,7 @@ use Rattle.std.specs.Prelude.{List, [], ◌∷◌, Result, Ok, Err}
 use Rattle.std.specs.Result.{is_err, result_map_both, result_unwrap_or}
 use Rattle.pytext.specs.Results.{◌>>=◌}
 use Rattle.pylock_readers.specs.Environment.{env_of}
+use Rattle.pylock_readers.specs.Lock.{LockValue}
 use Rattle.pylock_readers.specs.Lock.Reading.{lock_of}
 use Rattle.pylock_core.specs.Session.State.{State, first, apply}
 use Rattle.pylock_core.specs.Session.Steps.{answer}
@@ -25,13 +26,16 @@ use Rattle.pylock_run.specs.declared.report.opening.OpenError.TheVariants.{Lock,
 abbrev pub refuse_as : {V E : Type 0} → (E → OpenError) → Result V E → Result V OpenError
 refuse_as refusal read = result_map_both (λ v. v) refusal read
 
--- the state in which a run begins, from the bytes of the lock and of the environment; or the lock's
--- refusal, and then the environment's
-unfoldable pub open_state : List ℕ → List ℕ → Result State OpenError
-open_state lock environment = do
-  lock ← refuse_as Lock (lock_of lock)
+-- the state in which a run begins, from the lock and from the bytes of the environment; or the
+-- environment's refusal
+abbrev pub state_on : List ℕ → LockValue → Result State OpenError
+state_on environment lock = do
   read ← refuse_as Environment (env_of environment)
   Ok (first lock read.0 read.1)
+
+-- the same from the bytes of both, or the lock's refusal, and then the environment's
+unfoldable pub open_state : List ℕ → List ℕ → Result State OpenError
+open_state lock environment = refuse_as Lock (lock_of lock) >>= state_on environment
 
 -- the state after a command, or why it is refused
 abbrev pub after_command : State → Command → Result State LineRefusal

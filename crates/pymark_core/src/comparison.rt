@@ -9,7 +9,7 @@ ghost use Rattle.pymark_core.specs.Marker.ComparisonView.{IsRead, ReadsAs, compa
 ghost use Rattle.pymark_core.specs.Marker.ComparisonView.{left_operand, right_of, right_operand};
 ghost use Rattle.pymark_core.specs.Marker.ComparisonView.{unboxed};
 ghost use Rattle.pymark_core.specs.Marker.Asked.{extra_asked, group_asked, comparison_reads_extra};
-ghost use Rattle.pymark_core.specs.Marker.Asked.{quoted_text};
+ghost use Rattle.pymark_core.specs.Marker.Asked.{operand_variable, quoted_text};
 ghost use Rattle.pymark_core.specs.Marker.Value as value;
 ghost use Rattle.pyver_core.specs.Parsed.{parsed_operand};
 
@@ -99,6 +99,58 @@ impl Comparison {
             left: read_left(alloc, left, &right)?,
             test: read_test(alloc, comparator, right)?,
         })
+    }
+
+    /// The operator. It takes no memory.
+    pub fn comparator(&self) -> Comparator
+        ensures { result ≡ self.now.comparator }
+    {
+        match &self.test {
+            Test::By(operator, _) => Comparator::By(*operator),
+            Test::In(_) => Comparator::In,
+            Test::NotIn(_) => Comparator::NotIn,
+        }
+    }
+
+    /// The variable that stands left of the operator, if one does. It takes no memory.
+    pub fn left_variable(&self) -> Option<Var>
+        ensures { result ≡ operand_variable self.now.left }
+    {
+        match &self.left {
+            Left::Variable(variable) => Some(*variable),
+            _ => None,
+        }
+    }
+
+    /// The variable that stands right of the operator, if one does. It takes no memory.
+    pub fn right_variable(&self) -> Option<Var>
+        ensures { result ≡ operand_variable self.now.right }
+    {
+        match &self.test {
+            Test::By(_, Right::Variable(variable))
+            | Test::In(Operand::Variable(variable))
+            | Test::NotIn(Operand::Variable(variable)) => Some(*variable),
+            _ => None,
+        }
+    }
+
+    /// The text that is quoted left of the operator, if one is. It takes no memory.
+    pub fn left_text(&self) -> Option<&str>
+        ensures { option_copied result ≡ quoted_text self.now.left }
+    {
+        self.left.quoted_text()
+    }
+
+    /// The text that is quoted right of the operator, if one is. It takes no memory.
+    pub fn right_text(&self) -> Option<&str>
+        ensures { option_copied result ≡ quoted_text self.now.right }
+    {
+        match &self.test {
+            Test::By(_, Right::Text(text, _))
+            | Test::In(Operand::Text(text))
+            | Test::NotIn(Operand::Text(text)) => Some(text.as_str()),
+            _ => None,
+        }
     }
 
     /// Whether `extra` is one of the operands, which has no value in a lock. It takes no memory.

@@ -76,6 +76,7 @@ fn explained(alloc: Global, random: Random, lock: &[u8]) -> anyhow::Result<Vec<u
         lock: "pylock.toml",
         environment: "environment.json",
         choices: Vec::new(alloc),
+        strict: false,
         form: Form::Json,
     };
     let inputs = Inputs {

@@ -60,6 +60,7 @@ fn print_plan(
         lock: "pylock.toml",
         environment: "environment.json",
         choices: Vec::from_slice(alloc, choices)?,
+        strict: false,
         form: Form::Lines,
     };
     let inputs = Inputs {

@@ -22,4 +22,6 @@ pub enum Query<'a> {
     Requirement(&'a str),
     /// The parts of a wheel's file name (PEP 427).
     Wheel(&'a str),
+    /// The name and the version in an sdist's file name (PEP 625).
+    Sdist(&'a str),
 }

@@ -2,7 +2,7 @@
 ghost use Rattle.std.specs.Prelude.{◌≡◌, IfOk};
 ghost use Rattle.pylock_core.specs.Session.Judgement.{all_numbers, index_of, verdicts_of};
 ghost use Rattle.pytext.specs.Agreement.{Gives};
-ghost use Rattle.pylock_run.specs.Report.{open_state};
+ghost use Rattle.pylock_run.specs.Report.{open_state, state_on};
 ghost use Rattle.pylock_run.specs.declared.report.opening.OpenError.TheVariants as refusal;
 
 use pylock_core::{EnvError, Lock, LockError, Session, read_environment};
@@ -37,11 +37,22 @@ pub fn open(alloc: Global, lock: &[u8], env: &[u8]) -> Result<Session, OpenError
     ensures index { IfOk result (λ session. session.index ≡ index_of session.state) }
     ensures judged { IfOk result (λ session. session.judged ≡ all_numbers session.state) }
 {
-    let lock = match Lock::read(alloc, lock) {
-        Ok(lock) => lock,
-        Err(LockError::Memory) => return Err(OpenError::Memory),
-        Err(error) => return Err(OpenError::Lock(error)),
-    };
+    match Lock::read(alloc, lock) {
+        Ok(lock) => open_on(alloc, lock, env),
+        Err(LockError::Memory) => Err(OpenError::Memory),
+        Err(error) => Err(OpenError::Lock(error)),
+    }
+}
+
+/// Reads the environment, and starts the session on a lock that was read and on it. It takes memory
+/// for both.
+pub fn open_on(alloc: Global, lock: Lock, env: &[u8]) -> Result<Session, OpenError>
+    ensures state { Gives refusal.Memory (λ session. session.state) result
+        (state_on env.now lock) }
+    ensures verdicts { IfOk result (λ session. session.verdicts ≡ verdicts_of session.state) }
+    ensures index { IfOk result (λ session. session.index ≡ index_of session.state) }
+    ensures judged { IfOk result (λ session. session.judged ≡ all_numbers session.state) }
+{
     match read_environment(alloc, env) {
         Ok((environment, tags)) => Ok(Session::start(alloc, lock, environment, tags)?),
         Err(EnvError::Memory) => Err(OpenError::Memory),

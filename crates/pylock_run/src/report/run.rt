@@ -1,8 +1,10 @@
 //! A run: edits a session by the lines of its input, and writes what they print.
 
 ghost use Rattle.std.specs.Prelude.{◌≡◌, ◌++◌, ◌<◌, ◌≤◌, ◌+◌, [], Ok, Err, IsTrue, false, length};
-ghost use Rattle.std.specs.Prelude.{take, OnOk, IfOk, IfErr, OnErr};
+ghost use Rattle.std.specs.Prelude.{take, OnOk, IfOk, IfErr, OnErr, Result};
 ghost use Rattle.std.specs.Io.KnownBytes.{Consumes, IsAtEnd};
+ghost use Rattle.pytext.specs.Agreement.{Gives};
+ghost use Rattle.pylock_core.specs.Session.State.{State};
 ghost use Rattle.pylock_run.specs.Inner.Edited.{Edited, EditsAll, IsReadFault, EditFault};
 ghost use Rattle.pylock_run.specs.Inner.Editing.{start, editing_after, bytes_text, after_input};
 ghost use Rattle.pylock_run.specs.Inner.Editing.{input_end_text, lines_begun};
@@ -12,6 +14,8 @@ ghost use Rattle.pylock_run.specs.Report.{current_answer_text, open_state, repor
 ghost use Rattle.pylock_run.specs.Report.Print.{Prints, IsOutputFault};
 ghost use Rattle.pylock_run.specs.Report.Run.{IsRun, most_bytes, most_lines};
 ghost use Rattle.pylock_run.specs.Stream.{TakesPrefix};
+ghost use Rattle.pylock_run.specs.declared.report.opening.OpenError.{OpenError as Unopened};
+ghost use Rattle.pylock_run.specs.declared.report.opening.OpenError.TheVariants.{Memory};
 
 use crate::report::editing::Editing;
 use crate::report::fault::RunFault;
@@ -268,23 +272,25 @@ pub fn run<R: Source, W: Sink>(
     ensures { IsRun (open_state lock.now env.now) (R.value reader.old) (R.value reader.new)
         (W.value writer.old) (W.value writer.new) result }
 {
-    run_whole(alloc, lock, env, false, reader, writer)
+    run_opened(alloc, open(alloc, lock, env), false, reader, writer)
 }
 
-/// A run that frees its session at its end; or, for a program that ends then, leaves the session's
-/// memory to the system, which takes all of it at once.
-pub fn run_whole<R: Source, W: Sink>(
+/// A run on a session that was opened, or on the refusal of its lock or of its environment. It
+/// frees the session at its end; or, for a program that ends then, leaves the session's memory to
+/// the system, which takes all of it at once.
+pub fn run_opened<R: Source, W: Sink>(
     alloc: Global,
-    lock: &[u8],
-    env: &[u8],
+    opened: Result<Session, OpenError>,
     leaves: bool,
     reader: &mut R,
     writer: &mut W,
 ) -> Result<u8, RunFault>
-    ensures { IsRun (open_state lock.now env.now) (R.value reader.old) (R.value reader.new)
+    ensures { (begins : Result State Unopened)
+        → Gives Memory (λ session. session.state) opened begins
+        → IsRun begins (R.value reader.old) (R.value reader.new)
         (W.value writer.old) (W.value writer.new) result }
 {
-    match open(alloc, lock, env) {
+    match opened {
         Ok(session) => edit_all(alloc, session, leaves, reader, writer),
         Err(OpenError::Memory) => Err(RunFault::Memory),
         Err(refusal) => write_refusal(alloc, &refusal, writer),

@@ -7,6 +7,8 @@ use Rattle.pymark_core.specs.Marker.Grammar.{comparisons, is_operator}
 use Rattle.pymark_core.specs.Marker.Tree.{Tree}
 use Rattle.pymark_core.specs.declared.operand.Operand.{Operand}
 use Rattle.pymark_core.specs.declared.operand.Operand.TheVariants.{Text, Extra, Extras, Groups}
+use Rattle.pymark_core.specs.declared.operand.Operand.TheVariants.{Variable}
+use Rattle.pymark_core.specs.declared.variable.Var.{Var}
 
 abbrev pub is_extra : Operand → Bool
 is_extra Extra = true
@@ -19,6 +21,11 @@ comparison_reads_extra c = is_extra c.left || is_extra c.right
 -- `extra` is an operand somewhere in the tree
 abbrev pub reads_extra : Tree → Bool
 reads_extra tree = list_any comparison_reads_extra (comparisons tree)
+
+-- the variable that an operand is
+abbrev pub operand_variable : Operand → Option Var
+operand_variable (Variable variable) = Some variable
+operand_variable operand = None
 
 abbrev pub quoted_text : Operand → Option (List ℕ)
 quoted_text (Text text) = Some text

@@ -1,0 +1,134 @@
+//! A strict reading: a lock in which nothing is found by which installers may differ.
+
+ghost use Rattle.std.specs.Prelude.{◌≡◌, Ok};
+ghost use Rattle.pytext.specs.Agreement.{Gives};
+ghost use Rattle.pylock_audit.specs.Strict.{is_refused, strict_findings, strict_lock_of};
+ghost use Rattle.pylock_audit.specs.Strict.{unless_found};
+ghost use Rattle.pylock_audit.specs.declared.strict.StrictError.TheVariants.{Memory};
+
+use crate::finding::{FindingKind, LockFinding};
+use crate::findings::read_audited;
+use pylock_core::{Lock, LockError};
+use std::alloc::Global;
+use std::marker::Model;
+
+/// Findings of a lock, in their order; made from a `Vec` and given back as one without memory.
+pub struct Findings {
+    found: Vec<LockFinding>,
+}
+
+impl Model for Findings {
+    ghost use Rattle.std.specs.Prelude.{List};
+    ghost use Rattle.pylock_audit.specs.Finding.{LockFindingValue};
+
+    ghost Value = { List LockFindingValue };
+
+    ghost view = { λ f. f.found.items };
+}
+
+impl Drop for Findings {
+    fn drop(self) {
+        let Findings { found: _ } = self;
+    }
+}
+
+impl Findings {
+    /// These findings.
+    pub fn new(found: Vec<LockFinding>) -> Findings
+        ensures { result ≡ found.items }
+    {
+        Findings { found }
+    }
+
+    /// The findings, in their order.
+    pub fn as_slice(&self) -> &[LockFinding]
+        ensures { result.now ≡ self.now }
+    {
+        self.found.as_slice()
+    }
+}
+
+/// Why a strict reading gives no lock.
+#[derive(Drop)]
+pub enum StrictError {
+    /// The lock is refused.
+    Lock(LockError),
+    /// It is valid, and these are found in it, of which there is at least one.
+    Findings(Findings),
+    /// A growth was refused.
+    Memory,
+}
+
+impl FindingKind {
+    /// Whether a strict reading refuses a lock in which this is found: by such findings one
+    /// installer may differ from another.
+    pub fn is_refused_by_strict(self) -> bool
+        ensures { result ≡ is_refused self }
+    {
+        match self {
+            FindingKind::NoPackages
+            | FindingKind::NameForm
+            | FindingKind::Version
+            | FindingKind::MarkerExtra
+            | FindingKind::NoSource
+            | FindingKind::SeveralSources
+            | FindingKind::NoHash
+            | FindingKind::NoWheelName
+            | FindingKind::NoSdistName
+            | FindingKind::OtherName
+            | FindingKind::OtherVersion
+            | FindingKind::WrongType => true,
+            FindingKind::LockVersion
+            | FindingKind::UnknownKey
+            | FindingKind::ReadingsDiffer
+            | FindingKind::UndeclaredName
+            | FindingKind::WeakHash
+            | FindingKind::OddHash
+            | FindingKind::BadHash
+            | FindingKind::SameFileName
+            | FindingKind::UnsafeFileName
+            | FindingKind::UnsafeSubdirectory
+            | FindingKind::NotHttps
+            | FindingKind::Credentials
+            | FindingKind::SecretInUrl
+            | FindingKind::MovingCommit
+            | FindingKind::ControlCharacter => false,
+        }
+    }
+}
+
+/// Reads a lock strictly: it is given only where nothing is found in it that a strict reading
+/// refuses ([`FindingKind::is_refused_by_strict`]). A lock that [`Lock::read`] refuses is refused
+/// as there, first.
+///
+/// It takes the memory of [`read_audited`], and none besides.
+#[tactic(auto, using(crate::proofs::StrictLemmas::strict_once))]
+pub fn read_strict(alloc: Global, bytes: &[u8]) -> Result<Lock, StrictError>
+    ensures { Gives Memory (λ lock. lock) result (strict_lock_of bytes.now) }
+{
+    match read_audited(alloc, bytes) {
+        Ok((lock, found)) => lock_unless_found(lock, found),
+        Err(LockError::Memory) => Err(StrictError::Memory),
+        Err(error) => Err(StrictError::Lock(error)),
+    }
+}
+
+/// The lock, unless one of the findings is refused; then those that are.
+fn lock_unless_found(lock: Lock, found: Vec<LockFinding>) -> Result<Lock, StrictError>
+    ensures { result ≡ unless_found (strict_findings found.items) (Ok lock) }
+{
+    let mut found = found;
+    keep_refused(&mut found);
+    if found.is_empty() {
+        Ok(lock)
+    } else {
+        Err(StrictError::Findings(Findings::new(found)))
+    }
+}
+
+/// Leaves of the findings those that a strict reading refuses.
+fn keep_refused(found: &mut Vec<LockFinding>)
+    ensures { found.new.items ≡ strict_findings found.old.items }
+{
+    found.retain(|one| one.finding().kind().is_refused_by_strict());
+}
