@@ -286,12 +286,27 @@ fn other_versions(
 {
     let wanted = wanted_version(alloc, entry)?;
     let mut list = Vec::new(alloc);
-    for (place, file) in entry.wheels().iter().enumerate() {
-        let name = name_at(entry, place, file);
-        push_other_version(alloc, &mut list, wanted.as_ref(), file, name)?;
-    }
+    push_other_versions(alloc, &mut list, wanted.as_ref(), entry)?;
     push_other_sdist_version(alloc, &mut list, wanted.as_ref(), sdist, entry)?;
     Ok(list)
+}
+
+/// Adds the file names of wheels of another version than this one.
+fn push_other_versions(
+    alloc: Global,
+    list: &mut Vec<String>,
+    wanted: Option<&Version>,
+    entry: &Entry,
+) -> Result<(), AllocError>
+    ensures { OnOk result (map string_bytes list.new.items ≡ map string_bytes list.old.items
+        ++ flat_map (wheel_where (is_other_wheel (option_copied wanted.entry)))
+        (read_wheels entry.now)) }
+{
+    for (place, file) in entry.wheels().iter().enumerate() {
+        let name = name_at(entry, place, file);
+        push_other_version(alloc, list, wanted, file, name)?;
+    }
+    Ok(())
 }
 
 /// The version that the files should have: the entry's, or where it has none that of its first
