@@ -104,6 +104,9 @@ abbrev pub is_other_version : Option Parts → Parts → Bool
 is_other_version wanted version =
     option_map_or (λ wanted. not (is_eq (version_cmp version wanted))) wanted false
 
+abbrev pub is_other_wheel : Option Parts → WheelValue → Bool
+is_other_wheel wanted wheel = is_other_version wanted wheel.version
+
 -- what the file name of the sdist says
 abbrev pub sdist_name : EntryValue → Option SdistValue
 sdist_name entry =
@@ -155,8 +158,7 @@ other_sdist_version wanted sdist entry =
 
 abbrev pub other_versions : Option SdistValue → EntryValue → List (List ℕ)
 other_versions sdist entry =
-    flat_map (wheel_where (λ wheel. is_other_version (wanted_version entry) wheel.version))
-    (read_wheels entry)
+    flat_map (wheel_where (is_other_wheel (wanted_version entry))) (read_wheels entry)
     ++ other_sdist_version (wanted_version entry) sdist entry
 
 -- a file name beside others

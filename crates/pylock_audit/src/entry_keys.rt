@@ -91,12 +91,14 @@ pub(crate) fn entry_keys_told(
 {
     let mut paths = Vec::new(alloc);
     push_of_table(alloc, &mut paths, kind, LockTable::Entry, entry)?;
-    push_of_source(alloc, &mut paths, kind, PickSource::Vcs, field(entry, "vcs"))?;
+    let vcs = field(entry, "vcs");
+    push_of_source(alloc, &mut paths, kind, PickSource::Vcs, vcs)?;
     let directory = field(entry, "directory");
     push_of_source(alloc, &mut paths, kind, PickSource::Directory, directory)?;
     let archive = field(entry, "archive");
     push_of_source(alloc, &mut paths, kind, PickSource::Archive, archive)?;
     push_of_wheels(alloc, &mut paths, kind, field(entry, "wheels"))?;
-    push_of_source(alloc, &mut paths, kind, PickSource::Sdist, field(entry, "sdist"))?;
+    let sdist = field(entry, "sdist");
+    push_of_source(alloc, &mut paths, kind, PickSource::Sdist, sdist)?;
     Ok(paths)
 }

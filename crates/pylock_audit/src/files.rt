@@ -9,7 +9,8 @@ ghost use Rattle.std.specs.Str.{bytes_eq};
 ghost use Rattle.pylock_readers.specs.Entry.{file_name, wheel_name};
 ghost use Rattle.pylock_audit.specs.Entry.{ends, ends_as_sdist, first_version, has_front_of};
 ghost use Rattle.pylock_audit.specs.Entry.{is_name_of, is_other_name, is_other_sdist};
-ghost use Rattle.pylock_audit.specs.Entry.{is_other_version, of_file_names, of_file_names_by};
+ghost use Rattle.pylock_audit.specs.Entry.{is_other_version, is_other_wheel, of_file_names};
+ghost use Rattle.pylock_audit.specs.Entry.{of_file_names_by};
 ghost use Rattle.pylock_audit.specs.Entry.{other_names, other_sdist_version, other_versions};
 ghost use Rattle.pylock_audit.specs.Entry.{read_wheels, same_file_names, same_names, sdist_name};
 ghost use Rattle.pylock_audit.specs.Entry.{unnamed_sdist, unnamed_wheel, wanted_version};
@@ -285,12 +286,27 @@ fn other_versions(
 {
     let wanted = wanted_version(alloc, entry)?;
     let mut list = Vec::new(alloc);
-    for (place, file) in entry.wheels().iter().enumerate() {
-        let name = name_at(entry, place, file);
-        push_other_version(alloc, &mut list, wanted.as_ref(), file, name)?;
-    }
+    push_other_versions(alloc, &mut list, wanted.as_ref(), entry)?;
     push_other_sdist_version(alloc, &mut list, wanted.as_ref(), sdist, entry)?;
     Ok(list)
+}
+
+/// Adds the file names of wheels of another version than this one.
+fn push_other_versions(
+    alloc: Global,
+    list: &mut Vec<String>,
+    wanted: Option<&Version>,
+    entry: &Entry,
+) -> Result<(), AllocError>
+    ensures { OnOk result (map string_bytes list.new.items ≡ map string_bytes list.old.items
+        ++ flat_map (wheel_where (is_other_wheel (option_copied wanted.entry)))
+        (read_wheels entry.now)) }
+{
+    for (place, file) in entry.wheels().iter().enumerate() {
+        let name = name_at(entry, place, file);
+        push_other_version(alloc, list, wanted, file, name)?;
+    }
+    Ok(())
 }
 
 /// The version that the files should have: the entry's, or where it has none that of its first
@@ -328,7 +344,7 @@ fn push_other_version(
     wheel: Option<&WheelName>,
 ) -> Result<(), AllocError>
     ensures { OnOk result (map string_bytes list.new.items ≡ map string_bytes list.old.items
-        ++ wheel_where (λ parts. is_other_version (option_copied wanted.entry) parts.version)
+        ++ wheel_where (is_other_wheel (option_copied wanted.entry))
         (file.now, option_copied wheel.entry)) }
 {
     match wheel {

@@ -208,11 +208,7 @@ fn push_other_forms(
 }
 
 /// Adds a text that isn't in normal form.
-fn push_other_form(
-    alloc: Global,
-    list: &mut Vec<String>,
-    value: &Value,
-) -> Result<(), AllocError>
+fn push_other_form(alloc: Global, list: &mut Vec<String>, value: &Value) -> Result<(), AllocError>
     ensures { OnOk result (map string_bytes list.new.items
         ≡ map string_bytes list.old.items ++ other_form_of (view value.now)) }
 {

@@ -203,8 +203,22 @@ fn push_wrong_of_entry(
 {
     let entry = LockTable::Entry;
     let identities = KeyType::Identities;
-    push_wrong_at(alloc, paths, entry, members, "attestation-identities", identities)?;
-    push_wrong_at(alloc, paths, entry, members, "dependencies", KeyType::Tables)?;
+    push_wrong_at(
+        alloc,
+        paths,
+        entry,
+        members,
+        "attestation-identities",
+        identities,
+    )?;
+    push_wrong_at(
+        alloc,
+        paths,
+        entry,
+        members,
+        "dependencies",
+        KeyType::Tables,
+    )?;
     push_wrong_at(alloc, paths, entry, members, "index", KeyType::Text)?;
     push_wrong_at(alloc, paths, entry, members, "tool", KeyType::Table)
 }
@@ -221,7 +235,14 @@ fn push_wrong_of_source(
     let table = LockTable::OfSource(name);
     match name {
         PickSource::Vcs => {
-            push_wrong_at(alloc, paths, table, members, "requested-revision", KeyType::Text)
+            push_wrong_at(
+                alloc,
+                paths,
+                table,
+                members,
+                "requested-revision",
+                KeyType::Text,
+            )
         }
         PickSource::Directory => Ok(()),
         PickSource::Archive | PickSource::Wheel(_) | PickSource::Sdist => {
@@ -241,5 +262,12 @@ fn push_wrong_of_file(
         ≡ map string_bytes paths.old.items ++ wrong_of_file table (table_view members.now)) }
 {
     push_wrong_at(alloc, paths, table, members, "size", KeyType::Size)?;
-    push_wrong_at(alloc, paths, table, members, "upload-time", KeyType::UploadTime)
+    push_wrong_at(
+        alloc,
+        paths,
+        table,
+        members,
+        "upload-time",
+        KeyType::UploadTime,
+    )
 }

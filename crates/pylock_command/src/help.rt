@@ -147,7 +147,7 @@ can't be read, the output failed or memory ran out.";
 pub(crate) const AUDIT: &str = "\
 Example, with spaces for the TABs:
   $ pylock audit audited.toml
-  findings 25
+  findings 26
   0  -  lock-version  1.1
   ..
   17  requests  credentials  wheels 1 url
@@ -166,6 +166,8 @@ FINDING is one of these:
   name-form           the name, or an extra of the lock, isn't in normal form
   version             the version is none by PEP 440
   marker-extra        the marker reads extra, so it is a fault everywhere
+  readings-differ     the marker compares a variable other than Python's version
+                      in a way that installers read as texts or as versions
   undeclared-name     the marker asks for an extra or a group that the lock
                       doesn't declare
   no-source           the entry has no source
