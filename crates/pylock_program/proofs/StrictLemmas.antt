@@ -79,7 +79,9 @@ module _ (source source' : SourceValue) (sink sink' : SinkValue) (result : Resul
 
   pub session_runs : (found : List LockFindingValue) (opened : Result State OpenError) (state : State)
       → open_unless found opened ≡ Ok state → (opened ≡ Ok state → Run opened) → RunUnless found opened
-  session_runs [] (Ok s) state is run = run is
+  session_runs [] (Ok s) state is run =
+      let same : s ≡ state = cc in
+      run (ap Ok same)
   session_runs [] (Err e) state is run = absurd cc
   session_runs (one ∷ others) opened state is run = absurd cc
 
