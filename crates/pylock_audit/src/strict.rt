@@ -12,7 +12,7 @@ use pylock_core::{Lock, LockError};
 use std::alloc::Global;
 use std::marker::Model;
 
-/// Findings of a lock, in their order; made from a `Vec` and given back as one without memory.
+/// Findings of a lock, in their order; made from a `Vec` without memory. Contracts see their list.
 pub struct Findings {
     found: Vec<LockFinding>,
 }
