@@ -1,4 +1,3 @@
-pub use Rattle.pylock_audit.proofs.TableLemmas.{given_audited, given_found}
 pub mod FrontLemmas
 pub mod HiddenLemmas
 pub mod KeyLemmas

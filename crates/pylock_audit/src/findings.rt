@@ -49,7 +49,6 @@ pub fn audit(alloc: Global, bytes: &[u8]) -> Result<Vec<LockFinding>, LockError>
 /// becomes the entry. It takes the memory of [`Lock::read`], and memory for a list with a member
 /// for each entry, for the text of each finding, and for lists of the sources and the comparisons
 /// of one entry at a time.
-#[tactic(auto, using(crate::proofs::given_audited, crate::proofs::given_found))]
 pub fn read_audited(alloc: Global, bytes: &[u8]) -> Result<(Lock, Vec<LockFinding>), LockError>
     ensures both { Gives LockError.Memory (λ audited. (audited.0, audited.1.items)) result
         (audited_of bytes.now) }
