@@ -1,10 +1,11 @@
 -- What a lock's findings are where the document was read once.
-use Rattle.std.proofs.Common.{◌≡◌, ◌∙◌, ◌++◌, ◌≤◌, ℕ, List, [], ◌∷◌, length, Option, None, Some, Result, Ok, Err, suc, refl, ap, sym, codes, nat_lt, nat_cmp, not, filter, Bool, true, false, if◌then◌else◌, Ordering, Less, Equal, Greater, arith, ltb-false}
+use Rattle.std.proofs.Common.{◌≡◌, ◌∙◌, ◌++◌, ◌≤◌, ℕ, List, [], ◌∷◌, length, Option, None, Some, Result, Ok, Err, suc, refl, ap, sym, codes, nat_lt, nat_cmp, not, filter, Bool, true, false, if◌then◌else◌, Ordering, Less, Equal, Greater, Vec, Global, arith, ltb-false}
 use Rattle.std.specs.Prelude.{⊤}
 use Rattle.std.specs.Cmp.Lexicographic.{slice_cmp}
 use Rattle.toml.specs.Data.{Data, Items, Members, member, no_members, item, no_items, push_item, get_member, string, integer, float, boolean, datetime, array, table}
 use Rattle.pytoml.specs.Members.{with_elements, with_member}
 use Rattle.pytoml.proofs.Others.{with_elements-other, with_member-there}
+use Rattle.pytext.specs.Agreement.{Gives}
 use Rattle.pytext.specs.Results.{◌>>=◌}
 use Rattle.pylock_readers.specs.Entry.{EntryValue}
 use Rattle.pylock_readers.specs.Lock.{HeadValue, LockValue}
@@ -13,7 +14,7 @@ use Rattle.pylock_readers.specs.Lock.Reading.{document_in, entries_in, entries_o
 use Rattle.pylock_readers.specs.Inner.Elements.{lock_with}
 use Rattle.pylock_readers.specs.declared.error.LockError.{LockError}
 use Rattle.pylock_readers.proofs.ElementLemmas.{count_push, with_is}
-use Rattle.pylock_readers.specs.declared.error.LockError.TheVariants.{TooMany}
+use Rattle.pylock_readers.specs.declared.error.LockError.TheVariants.{Memory, TooMany}
 use Rattle.pylock_audit.specs.Audit.{audited_of, findings_of, head_findings, head_findings_where, items_at, lock_findings, members_in, of_entries}
 use Rattle.pylock_audit.specs.Entry.{entry_findings}
 use Rattle.pylock_audit.specs.Finding.{LockFindingValue, findings_at}
@@ -37,11 +38,18 @@ lock_of_parts head es = record { head = head; entries = es }
 abbrev lock_by : Result ⊤ LockError → Result ⊤ LockError → Result HeadValue LockError → Result (List EntryValue) LockError → Result LockValue LockError
 lock_by version creator head entries = version >>= (λ _. creator >>= (λ _. head >>= (λ head. entries >>= (λ es. Ok (lock_of_parts head es)))))
 
+-- a lock with what it gives
+abbrev Audited : Type 0
+Audited = LockValue × List LockFindingValue
+
+abbrev beside : (LockValue → List LockFindingValue) → LockValue → Result Audited LockError
+beside found lock = Ok (lock, found lock)
+
 -- a lock has the findings that it has with these tables, with what those that were looked at gave
 abbrev Same : List LockFindingValue → Result LockValue LockError → Items → Items → Type 0
 Same found lock ds looked =
-    (lock >>= (λ lock. Ok (lock, found ++ of_entries lock.head 1 lock.entries ds)))
-    ≡ (lock >>= (λ lock. Ok (lock, found ++ of_entries_by lock.head 1 lock.entries (of_tables looked))))
+    (lock >>= beside (λ lock. found ++ of_entries lock.head 1 lock.entries ds))
+    ≡ (lock >>= beside (λ lock. found ++ of_entries_by lock.head 1 lock.entries (of_tables looked)))
 
 -- room for entries, and the tables that are looked at, where there are too many or not
 abbrev room_unless : Bool → Result ⊤ LockError
@@ -53,7 +61,7 @@ looked_unless many ds = if many then no_items else ds
 by_entries : (found : List LockFindingValue) (head : HeadValue) (ds : Items) (es : Result (List EntryValue) LockError)
     → Same found (es >>= (λ es. Ok (lock_of_parts head es))) ds ds
 by_entries found head ds (Err e) = refl
-by_entries found head ds (Ok es) = ap (λ rest. Ok (lock_of_parts head es, found ++ rest)) (sym (entries_by_tables head 1 es ds))
+by_entries found head ds (Ok es) = ap (λ rest. beside (λ lock. found ++ rest) (lock_of_parts head es)) (sym (entries_by_tables head 1 es ds))
 
 by_count : (found : List LockFindingValue) (head : HeadValue) (ds : Items) (many : Bool)
     → Same found ((room_unless many >>= (λ _. entries_of 1 ds)) >>= (λ es. Ok (lock_of_parts head es))) ds (looked_unless many ds)
@@ -76,7 +84,7 @@ by_steps found (Ok x) (Ok y) (Ok head) (Some (table fields)) = refl
 
 -- a document has the findings that the lock has with it
 beside_tables : (document : Members)
-    → (lock_in document >>= (λ lock. Ok (lock, lock_findings document lock))) ≡ document_audited document
+    → (lock_in document >>= beside (lock_findings document)) ≡ document_audited document
 unfolding lock_in entries_in
 beside_tables document =
     by_steps
@@ -86,42 +94,58 @@ beside_tables document =
     (head_in (get_member (codes "environments") document) (get_member (codes "requires-python") document) (get_member (codes "extras") document) (get_member (codes "dependency-groups") document) (get_member (codes "default-groups") document))
     (get_member (codes "packages") document)
 
+-- the lock of a document with its findings
+abbrev audited_in : Result LockValue LockError → Result Members LockError → Result Audited LockError
+audited_in lock document = do
+  lock ← lock
+  document ← document
+  Ok (lock, lock_findings document lock)
+
+abbrev found_in : Result LockValue LockError → Result Members LockError → Result (List LockFindingValue) LockError
+found_in lock document = do
+  lock ← lock
+  document ← document
+  Ok (lock_findings document lock)
+
 -- the lock that the bytes are with its findings, from the document that they are
-pub read_once : (bytes : List ℕ) → audited_of bytes ≡ (document_in bytes >>= document_audited)
+read_once : (bytes : List ℕ) → audited_of bytes ≡ (document_in bytes >>= document_audited)
 unfolding audited_of lock_of
 read_once bytes = by (document_in bytes)
   where
     by : (document : Result Members LockError)
-        → (do
-          lock ← document >>= lock_in
-          document ← document
-          Ok (lock, lock_findings document lock))
-        ≡ (document >>= document_audited)
+        → audited_in (document >>= lock_in) document ≡ (document >>= document_audited)
     by (Err e) = refl
     by (Ok d) = beside_tables d
 
-findings_alone : (bytes : List ℕ) → findings_of bytes ≡ (audited_of bytes >>= (λ audited. Ok audited.1))
+-- the findings alone
+abbrev alone : Audited → Result (List LockFindingValue) LockError
+alone audited = Ok audited.1
+
+findings_alone : (bytes : List ℕ) → findings_of bytes ≡ (audited_of bytes >>= alone)
 unfolding audited_of findings_of
 findings_alone bytes = by (lock_of bytes) (document_in bytes)
   where
     by : (lock : Result LockValue LockError) (document : Result Members LockError)
-        → (do
-          lock ← lock
-          document ← document
-          Ok (lock_findings document lock))
-        ≡ ((do
-          lock ← lock
-          document ← document
-          Ok (lock, lock_findings document lock)) >>= (λ audited. Ok audited.1))
+        → found_in lock document ≡ (audited_in lock document >>= alone)
     by (Err e) document = refl
     by (Ok lock) (Err e) = refl
     by (Ok lock) (Ok d) = refl
 
-pub given_found : (bytes : List ℕ) (result : Result (Lock × Vec LockFinding Global) LockError)
+-- what was read, as a definition has it
+abbrev pub Read : Type 0
+Read = Result (LockValue × Vec LockFindingValue Global) LockError
+
+pub given_audited : (bytes : List ℕ) (result : Read)
+    → Gives Memory (λ audited. (audited.0, audited.1.items)) result (document_in bytes >>= document_audited)
     → Gives Memory (λ audited. (audited.0, audited.1.items)) result (audited_of bytes)
+given_audited bytes (Ok a) is = read_once bytes ∙ is
+given_audited bytes (Err e) is = λ never. read_once bytes ∙ is never
+
+pub given_found : (bytes : List ℕ) (result : Read)
+    → Gives Memory (λ audited. (audited.0, audited.1.items)) result (document_in bytes >>= document_audited)
     → Gives Memory (λ audited. audited.1.items) result (findings_of bytes)
-given_found bytes (Ok a) is = findings_alone bytes ∙ ap (λ r. r >>= (λ audited. Ok audited.1)) is
-given_found bytes (Err e) is = λ never. findings_alone bytes ∙ ap (λ r. r >>= (λ audited. Ok audited.1)) (is never)
+given_found bytes (Ok a) is = findings_alone bytes ∙ ap (λ r. r >>= alone) (read_once bytes ∙ is)
+given_found bytes (Err e) is = λ never. findings_alone bytes ∙ ap (λ r. r >>= alone) (read_once bytes ∙ is never)
 
 -- ---- where the tables were taken as they came
 
@@ -130,16 +154,15 @@ unnamed_with : (k : List ℕ) (x : Data) (ms : Members) → is_named tables.Head
     → filter (λ key. not (is_named tables.Head key)) (table_keys (with_member k x ms))
     ≡ filter (λ key. not (is_named tables.Head key)) (table_keys ms)
 unnamed_with k x no_members named = rw named
-unnamed_with k x (member l e ms) named = by (slice_cmp nat_cmp k l) refl
+unnamed_with k x (member l e ms) named = by (unnamed_with k x ms named) (slice_cmp nat_cmp k l) refl
   where
-    by : (o : Ordering) → slice_cmp nat_cmp k l ≡ o
+    by : filter (λ key. not (is_named tables.Head key)) (table_keys (with_member k x ms)) ≡ filter (λ key. not (is_named tables.Head key)) (table_keys ms)
+        → (o : Ordering) → slice_cmp nat_cmp k l ≡ o
         → filter (λ key. not (is_named tables.Head key)) (table_keys (with_member k x (member l e ms)))
         ≡ filter (λ key. not (is_named tables.Head key)) (table_keys (member l e ms))
-    by Less is = rw (is, named)
-    by Equal is = rw is
-    by Greater is =
-        rw is
-        (ap (λ rest. if not (is_named tables.Head l) then l ∷ rest else rest) (unnamed_with k x ms named))
+    by more Less is = rw (is, named)
+    by more Equal is = rw is
+    by more Greater is = rw is (ap (λ rest. if not (is_named tables.Head l) then l ∷ rest else rest) more)
 
 -- a head has the findings that it has with elements of `packages`
 same_head : (document : Members) (ds : Items)
@@ -156,8 +179,8 @@ same_head document (item d ds) =
 -- a lock with too many entries is refused, whatever it has
 refused_by : (document : Members) (d : Data) (ds : Items) (found : LockValue → List LockFindingValue) (other : LockValue → List LockFindingValue)
     → nat_lt most_entries (item_count (item d ds)) ≡ true
-    → (lock_in (with_elements (codes "packages") (item d ds) document) >>= (λ lock. Ok (lock, found lock)))
-    ≡ (lock_in (with_elements (codes "packages") (item d ds) document) >>= (λ lock. Ok (lock, other lock)))
+    → (lock_in (with_elements (codes "packages") (item d ds) document) >>= beside found)
+    ≡ (lock_in (with_elements (codes "packages") (item d ds) document) >>= beside other)
 unfolding lock_with
 refused_by document d ds found other many =
     rw (with_is document d ds, many)
@@ -167,7 +190,7 @@ refused_by document d ds found other many =
     (head_in (get_member (codes "environments") document) (get_member (codes "requires-python") document) (get_member (codes "extras") document) (get_member (codes "dependency-groups") document) (get_member (codes "default-groups") document)))
   where
     by : (version : Result ⊤ LockError) (creator : Result ⊤ LockError) (head : Result HeadValue LockError)
-        → (lock_by version creator head (Err TooMany) >>= (λ lock. Ok (lock, found lock))) ≡ (lock_by version creator head (Err TooMany) >>= (λ lock. Ok (lock, other lock)))
+        → (lock_by version creator head (Err TooMany) >>= beside found) ≡ (lock_by version creator head (Err TooMany) >>= beside other)
     by (Err e) creator head = refl
     by (Ok x) (Err e) head = refl
     by (Ok x) (Ok y) (Err e) = refl
@@ -178,7 +201,7 @@ pub looked_is : (document : Members) (taken : Items) (tables : List TableValue) 
     → with_findings (head_findings_where (has_no_packages tables document) document) (tables_after tables document) (lock_in (with_elements (codes "packages") taken document))
     ≡ document_audited (with_elements (codes "packages") taken document)
 looked_is document no_items [] looked = refl
-looked_is document no_items (table ∷ tables) looked = let none : table ∷ tables ≡ [] = looked (omega arith) in cc
+looked_is document no_items (t ∷ ts) looked = let none : t ∷ ts ≡ [] = looked (omega arith) in cc
 looked_is document (item d ds) tables looked = by (nat_lt most_entries (item_count (item d ds))) refl
   where
     whole : Members

@@ -8,12 +8,14 @@ ghost use Rattle.pytext.specs.Agreement.{Gives};
 ghost use Rattle.pytoml.specs.Members.{with_elements};
 ghost use Rattle.pylock_readers.specs.Lock.{LockValue};
 ghost use Rattle.pylock_readers.specs.Lock.Packages.{HasRead};
+ghost use Rattle.pylock_readers.specs.Lock.Reading.{document_in};
 ghost use Rattle.pylock_readers.specs.declared.error.LockError.{LockError};
 ghost use Rattle.pylock_audit.specs.Audit.{audited_of, findings_of, head_findings_where};
 ghost use Rattle.pylock_audit.specs.Audit.{items_at, other_extras, other_form_of};
 ghost use Rattle.pylock_audit.specs.Audit.{other_forms, other_lock_version};
 ghost use Rattle.pylock_audit.specs.Finding.{findings_at};
-ghost use Rattle.pylock_audit.specs.Inner.Tables.{HasLooked, document_audited, entry_findings_by};
+ghost use Rattle.pylock_audit.specs.Inner.Tables.{HasLooked, audited_from, document_audited};
+ghost use Rattle.pylock_audit.specs.Inner.Tables.{entry_findings_by};
 ghost use Rattle.pylock_audit.specs.Inner.Tables.{has_no_packages, lock_findings_by, of_entries_by};
 ghost use Rattle.pylock_audit.specs.Inner.Tables.{tables_after, tables_in, with_findings};
 
@@ -47,7 +49,6 @@ pub fn audit(alloc: Global, bytes: &[u8]) -> Result<Vec<LockFinding>, LockError>
 /// becomes the entry. It takes the memory of [`Lock::read`], and memory for a list with a member
 /// for each entry, for the text of each finding, and for lists of the sources and the comparisons
 /// of one entry at a time.
-#[tactic(auto, using(crate::proofs::TableLemmas::given_found))]
 pub fn read_audited(alloc: Global, bytes: &[u8]) -> Result<(Lock, Vec<LockFinding>), LockError>
     ensures both { Gives LockError.Memory (λ audited. (audited.0, audited.1.items)) result
         (audited_of bytes.now) }
@@ -57,15 +58,26 @@ pub fn read_audited(alloc: Global, bytes: &[u8]) -> Result<(Lock, Vec<LockFindin
     audited_bytes(alloc, bytes)
 }
 
-/// The lock that the bytes are, with its findings.
+/// The same, by what the document gives.
 fn audited_bytes(alloc: Global, bytes: &[u8]) -> Result<(Lock, Vec<LockFinding>), LockError>
     ensures { Gives LockError.Memory (λ audited. (audited.0, audited.1.items)) result
-        (audited_of bytes.now) }
+        (audited_from (document_in bytes.now)) }
 {
     match read_document_without(alloc, bytes, Looked::new(alloc))? {
         (document, Some(looked)) => audited(alloc, document, looked),
-        (document, None) => audited(alloc, document, Looked::new(alloc)),
+        (document, None) => audited_document(alloc, document),
     }
+}
+
+/// The lock of a whole document, with its findings.
+fn audited_document(
+    alloc: Global,
+    document: Table,
+) -> Result<(Lock, Vec<LockFinding>), LockError>
+    ensures { Gives LockError.Memory (λ audited. (audited.0, audited.1.items)) result
+        (document_audited (table_view document)) }
+{
+    audited(alloc, document, Looked::new(alloc))
 }
 
 /// The lock of a document from which the tables of entries were taken, with its findings.

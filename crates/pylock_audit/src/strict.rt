@@ -66,7 +66,8 @@ impl FindingKind {
         ensures { result ≡ is_refused self }
     {
         match self {
-            FindingKind::NoPackages
+            FindingKind::WrongType
+            | FindingKind::NoPackages
             | FindingKind::NameForm
             | FindingKind::Version
             | FindingKind::MarkerExtra
@@ -76,8 +77,7 @@ impl FindingKind {
             | FindingKind::NoWheelName
             | FindingKind::NoSdistName
             | FindingKind::OtherName
-            | FindingKind::OtherVersion
-            | FindingKind::WrongType => true,
+            | FindingKind::OtherVersion => true,
             FindingKind::LockVersion
             | FindingKind::UnknownKey
             | FindingKind::ReadingsDiffer

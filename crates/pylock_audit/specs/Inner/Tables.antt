@@ -88,6 +88,10 @@ abbrev pub document_audited : Members → Result (LockValue × List LockFindingV
 document_audited document =
     with_findings (head_findings document) (tables_in document) (lock_in document)
 
+abbrev pub audited_from : Result Members LockError
+    → Result (LockValue × List LockFindingValue) LockError
+audited_from document = document >>= document_audited
+
 -- ---- where the tables of the entries were taken from the document as they came
 
 -- what was looked at of the tables: what each gives, where a lock may have so many
