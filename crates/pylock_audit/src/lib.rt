@@ -5,8 +5,10 @@
 //! What the program does with them, from `crates/pylock_program/src/reply.rt`:
 //!
 //! ```rust
-//! match audit(alloc, lock) {
-//!     Ok(found) => push_findings_in(alloc, out, form, found.as_slice()),
+//! match read_audited(alloc, lock) {
+//!     Ok((lock, found)) => {
+//!         let status = push_findings_in(alloc, out, form, found.as_slice())?;
+//! ..
 //!     Err(LockError::Memory) => Err(AllocError),
 //!     Err(error) => push_refused_lock(alloc, out, form, &error),
 //! }

@@ -24,9 +24,6 @@ Example, with spaces for the TABs:
   plan 12
   1  acme-service  -  editable  -  .  -  -  -
   ..
-  $ pylock plan pylock.toml env.json --strict
-  plan 11
-  ..
 
 Prints plan K and then K lines, one for each package to install. A line has
 nine fields with TAB between them: the entry's number, name, version, kind of
@@ -47,9 +44,10 @@ built all the same. A refused option prints refused, TAB, the option, TAB and
 its text.
 
 With --strict the lock is taken only where audit has none of these findings:
-no-packages, name-form, version, marker-extra, no-source, several-sources,
-no-hash, no-wheel-name, other-name, other-version. Else it prints findings K and
-these findings alone, as audit does, and the status is 2.
+no-packages, name-form, version, wrong-type, marker-extra, no-source,
+several-sources, no-hash, no-wheel-name, no-sdist-name, other-name,
+other-version. Else it prints findings K and these findings alone, as audit
+does, and the status is 2.
 
 Status: 0, a plan; 1, a fault or a refused option; 2, the lock, the environment
 or the command line is refused; 3, a file can't be read, the output failed or

@@ -7,8 +7,8 @@
 //! A session, from `crates/pylock_run/src/report/opening.rt`:
 //!
 //! ```rust
-//! let lock = match Lock::read(alloc, lock) {
-//!     Ok(lock) => lock,
+//! match Lock::read(alloc, lock) {
+//!     Ok(lock) => open_on(alloc, lock, env),
 //! ..
 //! match read_environment(alloc, env) {
 //!     Ok((environment, tags)) => Ok(Session::start(alloc, lock, environment, tags)?),
