@@ -70,10 +70,7 @@ fn audited_bytes(alloc: Global, bytes: &[u8]) -> Result<(Lock, Vec<LockFinding>)
 }
 
 /// The lock of a whole document, with its findings.
-fn audited_document(
-    alloc: Global,
-    document: Table,
-) -> Result<(Lock, Vec<LockFinding>), LockError>
+fn audited_document(alloc: Global, document: Table) -> Result<(Lock, Vec<LockFinding>), LockError>
     ensures { Gives LockError.Memory (λ audited. (audited.0, audited.1.items)) result
         (document_audited (table_view document)) }
 {

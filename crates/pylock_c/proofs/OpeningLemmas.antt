@@ -25,11 +25,11 @@ refused_opens {refusal = refusal} {code = code} {code' = code'} {wanted = wanted
     )
 
 -- the same of a lock that is taken strictly
-pub unopened_opens : {form : Form} {definition : Result Object Unopened} {unopened : Unopened} {text : Object} {code code' wanted : ℤ}
+pub unopened_opens : (form : Form) {definition : Result Object Unopened} {unopened : Unopened} {text : Object} {code code' wanted : ℤ}
     {words words' : Option Object} (slot : Option Object) → definition ≡ Err unopened → text ≡ kind.Text (unopened_shown form unopened)
     → code ≡ number (unopened_refusal unopened) → wanted ≡ code' → Leaves text code words words' code'
     → OpensStrictly form definition slot slot words words' wanted
-unopened_opens {form = form} {unopened = unopened} {code = code} {code' = code'} {wanted = wanted} {words = words} {words' = words'} slot is text told same leaves =
+unopened_opens form {unopened = unopened} {code = code} {code' = code'} {wanted = wanted} {words = words} {words' = words'} slot is text told same leaves =
     subst (λ (d : Result Object Unopened). OpensStrictly form d slot slot words words' wanted) (sym is) (
       subst (λ (z : ℤ). Leaves (kind.Text (unopened_shown form unopened)) (number (unopened_refusal unopened)) words words' z) (sym same)
           (subst (λ (z : ℤ). Leaves (kind.Text (unopened_shown form unopened)) z words words' code') told

@@ -9,7 +9,7 @@ use Rattle.pylock_c.specs.declared.object.Object.{Object as Kind}
 use Rattle.pylock_c.proofs.OpeningLemmas.{unopened_opens}
 use Rattle.pylock_c.proofs.strict.open_strictly_into.Goals as goal
 
-pub returns-in-Ok-text : goal.returns-in-Ok-text
-returns-in-Ok-text c = λ definition gives.
+pub returns-in-Ok-words_of : goal.returns-in-Ok-words_of
+returns-in-Ok-words_of c = λ definition gives.
     let e = subst (λ (o : Result Kind NotOpened). Gives (unopened.Refused refusal.Memory) (λ kept. kept) o definition) c.in-Err.is gives in
-    unopened_opens (object c.args.slot.now) (e (Prim.search rules)) (Prim.search rules) (Prim.search rules) (Prim.search rules) c.leave_object-in-Ok-text.ensures
+    unopened_opens c.args.form (object c.args.slot.now) (e (Prim.search rules)) (Prim.search rules) (Prim.search rules) (Prim.search rules) c.leave_object-in-Ok-words_of.ensures
