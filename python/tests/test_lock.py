@@ -81,18 +81,19 @@ class Locks(unittest.TestCase):
         self.assertTrue(all(finding.finding for finding in findings))
 
     def test_strict(self):
-        lock = pylock.Lock.read(LOCK)
+        named = LOCK.replace(b'"X_y", ', b"")
+        lock = pylock.Lock.read(named)
         found = (pylock.Finding(1, "a", "no-hash", "sdist a-1.tar.gz"), pylock.Finding(4, "d", "no-hash", "archive d.zip"))
         for ask in (
             lambda: lock.plan(linux(), strict=True), lambda: lock.explain(linux(), strict=True, extras=["none"]),
-            lambda: pylock.Session(lock, linux(), strict=True), lambda: pylock.Session(LOCK, b"{", strict=True),
+            lambda: pylock.Session(lock, linux(), strict=True), lambda: pylock.Session(named, b"{", strict=True),
         ):
             with refused(self, pylock.StrictRefusal, "no-hash", 1) as caught:
                 ask()
             self.assertEqual((caught.exception.findings, caught.exception.words), (found, ("findings", "2")))
             self.assertEqual(str(caught.exception), "refused strictly: entry 1 (`a`): no-hash: sdist a-1.tar.gz, and 1 more")
         self.assertEqual([pick.name for pick in lock.plan(linux(), strict=False)], ["a", "c"])
-        sound = LOCK.replace(b'a-1.tar.gz"', b'a-1.tar.gz", hashes = {sha256 = "00"}').replace(b'd.zip"', b'd.zip", hashes = {sha256 = "00"}')
+        sound = named.replace(b'a-1.tar.gz"', b'a-1.tar.gz", hashes = {sha256 = "00"}').replace(b'd.zip"', b'd.zip", hashes = {sha256 = "00"}')
         lock = pylock.Lock.read(sound)
         self.assertEqual(lock.plan(linux(), strict=True, extras=["z"]), lock.plan(linux(), extras=["z"]))
         self.assertEqual(lock.explain(linux([]), strict=True), lock.explain(linux([])))

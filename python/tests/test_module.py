@@ -62,6 +62,7 @@ class Names(unittest.TestCase):
         self.assertEqual(pylock.parse_wheel_filename("a-1-2b-py3-none-any.whl")[2], (2, "b"))
         self.assertEqual(set(pylock.Options.__annotations__), {
             "extras", "all_extras", "groups", "without_groups", "all_groups", "default_groups", "policies", "variables",
+            "strict",
         })
 
 
