@@ -97,9 +97,16 @@ enum pylock_code {
     PYLOCK_WHEEL_BUILD = 64,
     PYLOCK_WHEEL_TAGS = 65,
 
+    /* the name of a source distribution (PEP 625) */
+    PYLOCK_SDIST_EXTENSION = 66,
+    PYLOCK_SDIST_PARTS = 67,
+    PYLOCK_SDIST_NAME = 68,
+    PYLOCK_SDIST_VERSION = 69,
+
     /* a lock, an environment: `words` says what is wrong */
     PYLOCK_LOCK_REFUSED = 70,
     PYLOCK_ENVIRONMENT_REFUSED = 71,
+    PYLOCK_LOCK_FINDINGS = 72, /* a strict reading refuses what is found in the lock */
 
     /* an edit of a session or of an environment */
     PYLOCK_EDIT_LONG = 80,     /* a line of more than 1,048,576 bytes */
@@ -166,7 +173,7 @@ int32_t pylock_name(const uint8_t *text, size_t length,
 /* Whether the text is a name (PEP 508). PYLOCK_NOT_UTF8. */
 int32_t pylock_is_name(const uint8_t *text, size_t length, bool *is_name);
 
-/* ---- requirements and wheel names (PEP 508, PEP 427) ---- */
+/* ---- requirements, wheel and sdist names (PEP 508, PEP 427, PEP 625) ---- */
 
 /* A record of a requirement's parts, as they are written: name; extras, joined by
  * a comma, repeats too; the normal form of the specifier set; URL; marker. Without
@@ -178,6 +185,10 @@ int32_t pylock_requirement(const uint8_t *text, size_t length, pylock_text *reco
  * version; build as written, or absent; tags, joined by a space.
  * PYLOCK_NOT_UTF8, PYLOCK_WHEEL_*, PYLOCK_MEMORY. */
 int32_t pylock_wheel(const uint8_t *text, size_t length, pylock_text *record);
+
+/* A record of what the name of a source distribution says: normal form of the name;
+ * normal form of the version. PYLOCK_NOT_UTF8, PYLOCK_SDIST_*, PYLOCK_MEMORY. */
+int32_t pylock_sdist(const uint8_t *text, size_t length, pylock_text *record);
 
 /* ---- specifier sets that are kept ---- */
 
@@ -291,6 +302,17 @@ int32_t pylock_session_start(pylock_session *session,
                              const uint8_t *lock, size_t lock_length,
                              const uint8_t *environment, size_t environment_length,
                              pylock_text *words);
+
+/* The same on a lock that is taken strictly, as `pylock plan --strict` takes it: where
+ * pylock_audit finds in it what installers read differently (docs/FORMATS.md), the code
+ * is PYLOCK_LOCK_FINDINGS, and `words` is then what pylock prints of these findings, as
+ * "findings 1\n1\ta\tno-source\t-\n". It is judged behind the lock and before the
+ * environment. `words` has lines or, where `json` is true, one JSON document, of a
+ * refusal too. PYLOCK_LOCK_REFUSED, PYLOCK_ENVIRONMENT_REFUSED, PYLOCK_MEMORY. */
+int32_t pylock_session_start_strict(pylock_session *session,
+                                    const uint8_t *lock, size_t lock_length,
+                                    const uint8_t *environment, size_t environment_length,
+                                    bool json, pylock_text *words);
 
 /* The edits. `*judged` is set to how many judgements the edit made; entries that share
  * a marker and a Python set may have them judged once, and all count. A refused edit
