@@ -232,8 +232,8 @@ fn push_other_form(alloc: Global, list: &mut Vec<String>, value: &Value) -> Resu
 
 // ---- the entries
 
-/// What the tables of the entries of a document give. Where there are more than a lock may have, none is looked
-/// at, since the document is refused.
+/// What the tables of the entries of a document give. Where there are more than a lock may have,
+/// none is looked at, since the document is refused.
 #[tactic(auto, using(pylock_readers::proofs::EntryLemmas::count_of_items))]
 fn tables_in(alloc: Global, document: &Table) -> Result<Vec<TableFindings>, AllocError>
     ensures { IfOk result (λ tables. tables.items ≡ tables_in (table_view document.now)) }
