@@ -108,6 +108,10 @@ enum pylock_code {
     PYLOCK_ENVIRONMENT_REFUSED = 71,
     PYLOCK_LOCK_FINDINGS = 72, /* a strict reading refuses what is found in the lock */
 
+    /* a target (PEP 425, PEP 600, PEP 656) */
+    PYLOCK_TARGET_PYTHON = 73,
+    PYLOCK_TARGET_PLATFORM = 74,
+
     /* an edit of a session or of an environment */
     PYLOCK_EDIT_LONG = 80,     /* a line of more than 1,048,576 bytes */
     PYLOCK_EDIT_COMMAND = 81,  /* a line without a known command */
@@ -236,6 +240,13 @@ int32_t pylock_environment_new(pylock_environment *environment);
 int32_t pylock_environment_read(pylock_environment *environment,
                                 const uint8_t *json, size_t length, pylock_text *words);
 
+/* The environment and the tags of a target (python as "3.12" or "3.13t", platform as
+ * "manylinux_2_28_x86_64", "linux", "macos" or "windows") as the text of an environment
+ * file, with LF at its end. PYLOCK_NOT_UTF8, PYLOCK_TARGET_*, PYLOCK_MEMORY. */
+int32_t pylock_environment_target(const uint8_t *python, size_t python_length,
+                                  const uint8_t *platform, size_t platform_length,
+                                  pylock_text *text);
+
 /* Gives a variable (as os_name) a text. PYLOCK_EMPTY, PYLOCK_NOT_UTF8,
  * PYLOCK_EDIT_VARIABLE, PYLOCK_MEMORY. */
 int32_t pylock_environment_set(pylock_environment *environment,
@@ -345,6 +356,10 @@ int32_t pylock_session_drop_group(pylock_session *session,
  * an LF between two and none at the end; the empty text is no tags. PYLOCK_EDIT_TAG. */
 int32_t pylock_session_tags(pylock_session *session,
                             const uint8_t *tags, size_t length, uint64_t *judged);
+/* The same of the tags of a target. PYLOCK_EDIT_ARGUMENT where it is none. */
+int32_t pylock_session_target(pylock_session *session,
+                              const uint8_t *python, size_t python_length,
+                              const uint8_t *platform, size_t platform_length, uint64_t *judged);
 
 /* Adds an entry behind all others, or puts one in place of that of a number: one
  * inline table of TOML, as { name = "a", version = "1" }. PYLOCK_EDIT_TOML,

@@ -16,7 +16,16 @@ from __future__ import annotations
 
 from . import markers, requirements, specifiers, tags, utils, version
 from ._environment import VARIABLES, Environment, environment
-from ._errors import InvalidEdit, InvalidEnvironment, InvalidLock, PlanFault, Refusal, StrictRefusal, WrongThread
+from ._errors import (
+    InvalidEdit,
+    InvalidEnvironment,
+    InvalidLock,
+    InvalidTarget,
+    PlanFault,
+    Refusal,
+    StrictRefusal,
+    WrongThread,
+)
 from ._lock import Explanation, Finding, Lock, Options, Package, Pick, Session, Verdict
 from .markers import (
     InvalidMarker,
@@ -45,7 +54,7 @@ from .version import VERSION_PATTERN, InvalidVersion, Version, parse, parse_all,
 
 __all__ = [
     "BuildTag", "Environment", "Explanation", "Finding", "InvalidEdit", "InvalidEnvironment", "InvalidLock",
-    "InvalidMarker", "InvalidName", "InvalidRequirement", "InvalidSdistFilename", "InvalidSpecifier", "InvalidTag",
+    "InvalidMarker", "InvalidName", "InvalidRequirement", "InvalidSdistFilename", "InvalidSpecifier", "InvalidTag", "InvalidTarget",
     "InvalidVersion", "InvalidWheelFilename", "Lock", "Marker", "MarkerFault", "NormalizedName", "Options", "Package",
     "Pick", "PlanFault", "Refusal", "Requirement", "Session", "Specifier", "SpecifierSet", "StrictRefusal", "Tag",
     "UndefinedComparison", "UndefinedEnvironmentName", "VARIABLES", "VERSION_PATTERN", "Verdict", "Version",

@@ -3,7 +3,7 @@
 from __future__ import annotations
 
 import json
-from typing import Any, Iterable, Iterator, Mapping, NoReturn, Tuple
+from typing import Any, Iterable, Iterator, Mapping, NoReturn, Optional, Tuple
 
 from . import _native
 
@@ -135,16 +135,25 @@ def _sys_tags() -> Iterator[Any]:
     return sys_tags()  # type: ignore[no-any-return]
 
 
-def environment() -> Environment:
-    """The environment of the running Python, as `tools/environment` writes it.
+def environment(python: Optional[str] = None, platform: Optional[str] = None) -> Environment:
+    """The environment of the running Python, as `tools/environment` writes it; or that of a target, of which both are
+    given: a Python as "3.12", "3.12.4" or "3.13t", and a platform as "manylinux_2_28_x86_64", "linux", "macos" or
+    "windows".
+
+    >>> environment(python="3.12", platform="win_amd64").tags[0]
+    'cp312-cp312-win_amd64'
 
     >>> import json
     >>> sorted(json.loads(json.dumps(environment())))
     ['environment', 'tags']
 
     The variables are those of the standard library; the tags are asked of `packaging`, or of pip's copy of it: where
-    there is neither, ImportError is raised.
+    there is neither, ImportError is raised. A target that is none is refused as InvalidTarget.
     """
+    if python is not None and platform is not None:
+        return Environment.read(_native.environment_target(python, platform))
+    if python is not None or platform is not None:
+        raise TypeError("expected both python and platform, or neither")
     from .markers import running_variables
 
     return Environment(running_variables(), (str(tag) for tag in _sys_tags()))

@@ -87,6 +87,12 @@ class InvalidWheelFilename(Refusal):
     __module__ = "pylock.utils"
 
 
+class InvalidTarget(Refusal):
+    """The Python or the platform of a target is none."""
+
+    __module__ = "pylock"
+
+
 class InvalidSdistFilename(Refusal):
     """A text is no file name of an sdist (PEP 625)."""
 

@@ -23,6 +23,7 @@ from ._errors import (
     InvalidRequirement,
     InvalidSdistFilename,
     InvalidSpecifier,
+    InvalidTarget,
     InvalidVersion,
     InvalidWheelFilename,
     MarkerFault,
@@ -117,6 +118,8 @@ _REFUSALS: Dict[int, Tuple[Type[Refusal], str, str]] = {
     67: (InvalidSdistFilename, "parts", "no version"),
     68: (InvalidSdistFilename, "name", "invalid project name"),
     69: (InvalidSdistFilename, "version", "invalid version"),
+    73: (InvalidTarget, "python", "python is 3.MINOR or 3.MINOR.MICRO, from 3.8 on"),
+    74: (InvalidTarget, "platform", "no such platform"),
     80: (InvalidEdit, "long", "the line has more than 1,048,576 bytes"),
     81: (InvalidEdit, "command", "no such command"),
     82: (InvalidEdit, "argument", "what follows the command has a wrong form"),
@@ -142,6 +145,7 @@ _WHAT: Dict[Type[Refusal], str] = {
     InvalidRequirement: "Invalid requirement",
     InvalidWheelFilename: "Invalid wheel filename",
     InvalidSdistFilename: "Invalid sdist filename",
+    InvalidTarget: "Invalid target",
     InvalidEdit: "Refused edit",
 }
 
@@ -433,6 +437,7 @@ _marker_parse = _call("marker_parse", *_SLOT, *_TEXT)
 _marker_evaluate = _call("marker_evaluate", *_SLOT, *_SLOT, *_FLAG)
 _marker_evaluate_with_extra = _call("marker_evaluate_with_extra", *_SLOT, *_SLOT, *_TEXT, *_FLAG)
 _environment_read = _call("environment_read", *_SLOT, *_TEXT, *_SLOT)
+_environment_target = _call("environment_target", *_TEXT, *_TEXT, *_SLOT)
 _environment_add_extra = _call("environment_add_extra", *_SLOT, *_TEXT)
 _environment_add_group = _call("environment_add_group", *_SLOT, *_TEXT)
 
@@ -462,6 +467,15 @@ def environment_read(json: bytes) -> KeptEnvironment:
     if code:
         raise _refused_input(code, words, b"", json)
     return kept
+
+
+def environment_target(python: str, platform: str) -> bytes:
+    """The JSON text of the environment of a target."""
+    words, text = (_bytes(python), _bytes(platform)), KeptText()
+    code = _environment_target(words[0], len(words[0]), words[1], len(words[1]), text.at)
+    if code:
+        raise _error(code, python if code == 73 else platform, InvalidTarget)
+    return text.read().encode()
 
 
 def environment_add(kept: KeptEnvironment, extras: List[str], groups: List[str]) -> None:

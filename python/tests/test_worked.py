@@ -3,6 +3,7 @@ expected, and the example of the README."""
 
 import contextlib
 import io
+import json
 import os
 import re
 import tempfile
@@ -62,6 +63,13 @@ def answers():
         kind = "commands" if text.startswith("> ") else "report" if STATUS.search(text) else "other"
         found.setdefault((name, kind), []).append(text)
     return found
+
+
+def without_place(report):
+    """What the module's command prints where the program prints this: of a refused document its words alone, since the
+    module tells a person nothing of where they point."""
+    document = json.loads(report) if report.startswith("{") and report.count("\n") == 1 else {}
+    return pylock.__main__._refused(document["refused"], True) if "refused" in document else report
 
 
 def field(text):
@@ -210,7 +218,8 @@ class Worked(unittest.TestCase):
         count = 0
         for name, case, expected in self.rows("replies.toml", "reply", "report"):
             words = [bytes_in(case["long"]).decode() if word == "#" else word for word in case["words"]]
-            if words[0] in ("files", "audit"):
+            # the module's own calls make no documents of these
+            if words[0] in ("files", "audit") or "--json" in words:
                 continue
             with self.subTest(name):
                 self.assertEqual("%s\nstatus %d" % reply(words), expected)
@@ -243,7 +252,7 @@ class Worked(unittest.TestCase):
                     more, mark, rest = rest.partition("status ")
                     report += "status " + more
                 with self.subTest((name, line)):
-                    self.assertEqual(commanded(words_of(line), lock, environment), (report, int(rest[0])))
+                    self.assertEqual(commanded(words_of(line), lock, environment), (without_place(report), int(rest[0])))
                     count += 1
         return count
 

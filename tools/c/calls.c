@@ -412,6 +412,11 @@ static void answers(void)
     HOLDS(has(&words, "lock\ttoml\n"));
     IS(pylock_environment_read(&environment, TEXT("[]"), &words), PYLOCK_ENVIRONMENT_REFUSED);
     HOLDS(has(&words, "environment\tshape\n"));
+    IS(pylock_environment_target(TEXT("3.12"), TEXT("win_amd64"), &out), PYLOCK_OK);
+    HOLDS(!has(&out, ""));
+    IS(pylock_environment_target(TEXT("2.7"), TEXT("win"), &out), PYLOCK_TARGET_PYTHON);
+    IS(pylock_environment_target(TEXT("3.12"), TEXT("win"), &out), PYLOCK_TARGET_PLATFORM);
+    IS(pylock_environment_target(TEXT("3.12"), TEXT("\xff"), &out), PYLOCK_NOT_UTF8);
     IS(pylock_marker_parse(&marker, TEXT("python_full_version > '3.12.0'")), PYLOCK_OK);
     IS(pylock_marker_evaluate(&marker, &environment, &value), PYLOCK_OK);
     HOLDS(value);
@@ -654,6 +659,9 @@ static void refused_edits(pylock_session *session)
     IS(pylock_session_tags(session, TEXT("py3-none-any\n"), &judged), PYLOCK_EDIT_TAG);
     IS(pylock_session_tags(session, TEXT("py3 none any"), &judged), PYLOCK_EDIT_TAG);
     IS(pylock_session_tags(session, TEXT("\xff"), &judged), PYLOCK_NOT_UTF8);
+    IS(pylock_session_target(session, TEXT("3.7"), TEXT("linux"), &judged), PYLOCK_EDIT_ARGUMENT);
+    IS(pylock_session_target(session, TEXT("3.12"), TEXT("Linux"), &judged), PYLOCK_EDIT_ARGUMENT);
+    IS(pylock_session_target(session, TEXT("3.12"), TEXT("\xff"), &judged), PYLOCK_NOT_UTF8);
     IS(pylock_session_add(session, TEXT(""), &judged), PYLOCK_EDIT_TOML);
     IS(pylock_session_add(session, TEXT("{}"), &judged), PYLOCK_EDIT_ENTRY);
     IS(pylock_session_add(session, TEXT("\xff"), &judged), PYLOCK_NOT_UTF8);

@@ -3,6 +3,7 @@
 use crate::runs::{brief_report, text_with_status};
 use case_files::{text, texts};
 use pylock_command::Form;
+use pylock_core::EnvironmentInput;
 use pylock_program::{Query, query};
 use pylock_run::ToWrite;
 use std::alloc::{AllocError, Global};
@@ -42,20 +43,42 @@ fn reply(alloc: Global, words: &[&str]) -> anyhow::Result<String> {
     }
 }
 
-/// What the words ask.
+/// What the words ask, of which the second may be `--json`.
 fn query_of<'a>(words: &[&'a str]) -> Option<Query<'a>> {
     match *words {
-        ["files", lock] => Some(Query::Files(lock.as_bytes(), Form::Lines)),
-        ["files", "--json", lock] => Some(Query::Files(lock.as_bytes(), Form::Json)),
-        ["audit", lock] => Some(Query::Audit(lock.as_bytes(), Form::Lines)),
-        ["audit", "--json", lock] => Some(Query::Audit(lock.as_bytes(), Form::Json)),
-        ["version", version] => Some(Query::Version(version)),
-        ["match", set, version] => Some(Query::Match(set, version)),
-        ["name", name] => Some(Query::Name(name)),
-        ["marker", marker, environment] => Some(Query::Marker(marker, environment.as_bytes())),
-        ["requirement", requirement] => Some(Query::Requirement(requirement)),
-        ["wheel", wheel] => Some(Query::Wheel(wheel)),
-        ["sdist", sdist] => Some(Query::Sdist(sdist)),
+        [command, "--json", text] => query_on(command, text, Form::Json),
+        [command, "--json", first, second] => query_on_two(command, first, second, Form::Json),
+        [command, text] => query_on(command, text, Form::Lines),
+        [command, first, second] => query_on_two(command, first, second, Form::Lines),
+        _ => None,
+    }
+}
+
+fn query_on<'a>(command: &str, text: &'a str, form: Form) -> Option<Query<'a>> {
+    match command {
+        "files" => Some(Query::Files(text.as_bytes(), form)),
+        "audit" => Some(Query::Audit(text.as_bytes(), form)),
+        "version" => Some(Query::Version(text, form)),
+        "name" => Some(Query::Name(text, form)),
+        "requirement" => Some(Query::Requirement(text, form)),
+        "wheel" => Some(Query::Wheel(text, form)),
+        "sdist" => Some(Query::Sdist(text, form)),
+        _ => None,
+    }
+}
+
+fn query_on_two<'a>(
+    command: &str,
+    first: &'a str,
+    second: &'a str,
+    form: Form,
+) -> Option<Query<'a>> {
+    match command {
+        "match" => Some(Query::Match(first, second, form)),
+        "marker" => {
+            let environment = EnvironmentInput::Text(second.as_bytes());
+            Some(Query::Marker(first, environment, form))
+        }
         _ => None,
     }
 }

@@ -2,7 +2,7 @@
 
 use crate::files;
 use case_files::bytes;
-use pylock_command::{Selection, Task};
+use pylock_command::{Form, Machine, Selection, Task};
 use pylock_program::perform;
 use pylock_run::{FileFault, Files, Pieces, Room, ToWrite, run};
 use std::alloc::{AllocError, Global};
@@ -125,8 +125,9 @@ fn program_report(alloc: Global, inputs: &Inputs, input: &[u8]) -> anyhow::Resul
     let mut beside = ToWrite::new(&mut notes);
     let task = Task::Select(Selection {
         lock: "lock",
-        environment: "environment",
+        machine: Machine::File("environment"),
         strict: false,
+        form: Form::Lines,
     });
     let end = perform(alloc, task, inputs, &mut reader, &mut writer, &mut beside);
     text_with_status(text, end)

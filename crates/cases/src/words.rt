@@ -23,8 +23,8 @@ fn task_text(alloc: Global, words: &[&str]) -> Result<String, AllocError> {
 
 /// The task of `plan` or `explain`.
 fn request_text(alloc: Global, request: &Request<'_>) -> Result<String, AllocError> {
-    let (view, lock, environment) = (request.view, request.lock, request.environment);
+    let (view, lock, machine) = (request.view, request.lock, request.machine);
     let (choices, form) = (&request.choices, request.form);
     let strict = if request.strict { "strict " } else { "" };
-    format!(in alloc; "{strict}{view:?}({lock:?}, {environment:?}, {choices:?}, {form:?})")
+    format!(in alloc; "{strict}{view:?}({lock:?}, {machine:?}, {choices:?}, {form:?})")
 }

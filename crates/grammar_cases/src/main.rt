@@ -1,5 +1,5 @@
-//! Cases of versions, specifier sets, names, markers, environments, requirements, tags, wheels and
-//! sdists: what each is read as, and what it then says.
+//! Cases of versions, specifier sets, names, markers, environments, requirements, tags, targets,
+//! wheels and sdists: what each is read as, and what it then says.
 #![tactic(auto)]
 
 mod environments;
@@ -10,6 +10,7 @@ mod sdists;
 mod sets;
 mod still;
 mod tags;
+mod targets;
 mod told;
 mod versions;
 mod wheels;
@@ -64,6 +65,7 @@ impl Answers for Cases {
             "still_wheels" => still::pick(alloc, case),
             "tag" => tags::answer_case(alloc, case),
             "tags" => tags::tell_list(alloc, case),
+            "target" => targets::answer_case(alloc, case),
             "variable" => environments::tell_variable(alloc, case),
             "version" => versions::answer_case(alloc, case),
             "wheel" => wheels::answer_case(alloc, case),

@@ -66,7 +66,12 @@ fn push_tags(told: &mut String, tags: &[Tag]) -> Result<(), AllocError> {
 }
 
 /// The rank of a tag in the list, with that of its copy in a copy of the list where it is another.
-fn push_rank(told: &mut String, alloc: Global, tags: &TagList, text: &str) -> anyhow::Result<()> {
+pub(crate) fn push_rank(
+    told: &mut String,
+    alloc: Global,
+    tags: &TagList,
+    text: &str,
+) -> anyhow::Result<()> {
     let tag = match Tag::parse(alloc, text) {
         Ok(tag) => tag,
         Err(refusal) => return Err(anyhow::anyhow!("the tag is refused: {refusal:?}")),

@@ -9,8 +9,8 @@
 //!     Ok((lock, found)) => {
 //!         let status = push_findings_in(alloc, out, form, found.as_slice())?;
 //! ..
-//!     Err(LockError::Memory) => Err(AllocError),
-//!     Err(error) => push_refused_lock(alloc, out, form, &error),
+//!     Err(LockError::Memory) => Err(OpenError::Memory),
+//!     Err(error) => Err(OpenError::Lock(error)),
 //! }
 //! ```
 #![tactic(auto)]
@@ -37,4 +37,5 @@ mod url;
 pub use document::findings_document;
 pub use finding::{Finding, FindingKind, LockFinding};
 pub use findings::{audit, read_audited};
+pub use source::{file_label, shown_place};
 pub use strict::{Findings, StrictError, read_strict};

@@ -76,8 +76,13 @@ fn subdirectory_of<'a>(source: PickedSource<'a>) -> Option<&'a str>
 
 // ---- how it is named
 
-/// The place of a source: its path, else its URL as it is shown.
-fn shown_place(alloc: Global, path: Option<&str>, url: Option<&str>) -> Result<String, AllocError>
+/// The place of a source: its path, else its URL, with `***` for what opens it: the user, and each
+/// secret of the query. It takes memory for the text, once more while it grows.
+pub fn shown_place(
+    alloc: Global,
+    path: Option<&str>,
+    url: Option<&str>,
+) -> Result<String, AllocError>
     ensures { IfOk result (λ text. string_bytes text ≡ shown_place (record {
       url = option_copied url.entry;
       path = option_copied path.entry;
@@ -90,8 +95,9 @@ fn shown_place(alloc: Global, path: Option<&str>, url: Option<&str>) -> Result<S
     }
 }
 
-/// The file name as it is shown, or the place where it has none.
-fn file_label(alloc: Global, file: &DistributionFile) -> Result<String, AllocError>
+/// The file name as it is shown, without the user of a URL that it was found in, or the place where
+/// the file has none. It takes memory for the text, once more while it grows.
+pub fn file_label(alloc: Global, file: &DistributionFile) -> Result<String, AllocError>
     ensures { IfOk result (λ text. string_bytes text ≡ file_label file.now) }
 {
     match shown_file_name(alloc, file)? {

@@ -1,10 +1,15 @@
 -- The changes and the commands of C. Their texts are judged as texts first, from the left.
 use Rattle.std.specs.Prelude.{ℕ, List, [], ◌∷◌, Result, Ok}
 use Rattle.std.specs.List.{slice_split}
+use Rattle.std.specs.Result.{result_map_both}
 use Rattle.pytext.specs.Results.{◌>>=◌}
 use Rattle.pyver_core.specs.Name.{normal_name}
 use Rattle.pymark_core.specs.declared.change.Change.{Change}
 use Rattle.pymark_core.specs.declared.change.Change.TheVariants as change
+use Rattle.pywheel_core.specs.Target.Reading.{target_of}
+use Rattle.pywheel_core.specs.Target.Tags.{target_tags}
+use Rattle.pywheel_core.specs.Target.Value.{TargetValue}
+use Rattle.pywheel_core.specs.declared.error.TargetError.{TargetError}
 use Rattle.pylock_readers.specs.Entry.{EntryValue}
 use Rattle.pylock_core.specs.declared.edit.Edit.{Edit}
 use Rattle.pylock_core.specs.declared.edit.Edit.TheVariants as edit
@@ -54,6 +59,17 @@ tags_command bytes = do
   text ← text_argument bytes
   tags ← tags_argument (tag_texts text)
   Ok (command.Edit (edit.Tags tags))
+
+-- the tags of a target
+abbrev pub target_argument : Result TargetValue TargetError → Result TargetValue LineRefusal
+target_argument read = result_map_both (λ target. target) (λ error. line.Argument) read
+
+abbrev pub target_command : List ℕ → List ℕ → Result Command LineRefusal
+target_command python platform = do
+  python ← text_argument python
+  platform ← text_argument platform
+  target ← target_argument (target_of python platform)
+  Ok (command.Edit (edit.Tags (target_tags target)))
 
 -- an edit by the text of an entry
 abbrev pub entry_command : (EntryValue → Edit) → List ℕ → Result Command LineRefusal

@@ -9,6 +9,7 @@ pub mod Record
 pub mod Refusal
 pub mod Requirements
 pub mod Sdists
+pub mod Targets
 pub mod Sessions
 pub mod Sets
 pub mod Slot

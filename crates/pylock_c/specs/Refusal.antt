@@ -15,6 +15,8 @@ use Rattle.pyver_core.specs.declared.version.error.VersionError.{VersionError}
 use Rattle.pyver_core.specs.declared.version.error.VersionError.TheVariants as version
 use Rattle.pywheel_core.specs.declared.error.SdistError.{SdistError}
 use Rattle.pywheel_core.specs.declared.error.SdistError.TheVariants as sdist
+use Rattle.pywheel_core.specs.declared.error.TargetError.{TargetError}
+use Rattle.pywheel_core.specs.declared.error.TargetError.TheVariants as target
 use Rattle.pywheel_core.specs.declared.error.WheelError.{WheelError}
 use Rattle.pywheel_core.specs.declared.error.WheelError.TheVariants as wheel
 use Rattle.pylock_c.specs.declared.refusal.Refusal.{Refusal}
@@ -73,6 +75,8 @@ number refusal.SdistVersion = pos 69
 number refusal.Lock = pos 70
 number refusal.Environment = pos 71
 number refusal.Findings = pos 72
+number refusal.TargetPython = pos 73
+number refusal.TargetPlatform = pos 74
 number (refusal.Edit refused) = edit_number refused
 
 abbrev pub version_refusal : VersionError → Refusal
@@ -122,6 +126,10 @@ sdist_refusal sdist.Parts = refusal.SdistParts
 sdist_refusal sdist.Name = refusal.SdistName
 sdist_refusal sdist.Version = refusal.SdistVersion
 sdist_refusal sdist.Memory = refusal.Memory
+
+abbrev pub target_refusal : TargetError → Refusal
+target_refusal target.Python = refusal.TargetPython
+target_refusal target.Platform = refusal.TargetPlatform
 
 -- of a line: want of memory and a text that isn't UTF-8 are told as of any call
 abbrev pub line_refusal : LineRefusal → Refusal

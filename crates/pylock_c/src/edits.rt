@@ -10,7 +10,9 @@ ghost use Rattle.pylock_run.specs.Line.{is_lf};
 ghost use Rattle.pylock_run.specs.declared.line.refusal.LineRefusal.{LineRefusal as RefusalValue};
 ghost use Rattle.pylock_run.specs.declared.line.refusal.LineRefusal.TheVariants.{Memory};
 ghost use Rattle.pylock_c.specs.Edits.{change_command, entry_command, named_change, policy_command};
-ghost use Rattle.pylock_c.specs.Edits.{set_change, tag_texts, tags_command, unset_change};
+ghost use Rattle.pylock_c.specs.Edits.{set_change, tag_texts, tags_command, target_argument};
+ghost use Rattle.pylock_c.specs.Edits.{target_command, unset_change};
+ghost use Rattle.pywheel_core.specs.Target.Reading.{target_of};
 
 use crate::text::text;
 use pylock_core::{Edit, Entry};
@@ -18,7 +20,7 @@ use pylock_run::{Command, LineRefusal, policy_argument, variable_argument};
 use pymark_core::Change;
 use pytext::Text;
 use pyver_core::{NormalName, is_name};
-use pywheel_core::TagList;
+use pywheel_core::{TagList, Target};
 use std::alloc::{AllocError, Global};
 
 pub(crate) fn set_change(alloc: Global, name: &[u8], value: &[u8]) -> Result<Change, LineRefusal>
@@ -91,6 +93,30 @@ pub(crate) fn tags_command(alloc: Global, bytes: &[u8]) -> Result<Command, LineR
 {
     let texts = tag_texts(alloc, text(bytes)?)?;
     Ok(Command::Edit(Edit::Tags(TagList::parse(alloc, &texts)?)))
+}
+
+/// The target of these texts.
+fn target_of(python: &str, platform: &str) -> Result<Target, LineRefusal>
+    ensures { result ≡ target_argument (target_of python.now platform.now) }
+{
+    match Target::parse(python, platform) {
+        Ok(target) => Ok(target),
+        Err(_) => Err(LineRefusal::Argument),
+    }
+}
+
+pub(crate) fn target_command(
+    alloc: Global,
+    python: &[u8],
+    platform: &[u8],
+) -> Result<Command, LineRefusal>
+    ensures { Gives Memory (λ command. command) result
+        (target_command python.now platform.now) }
+{
+    let python = text(python)?;
+    let platform = text(platform)?;
+    let target = target_of(python, platform)?;
+    Ok(Command::Edit(Edit::Tags(TagList::of_target(alloc, &target)?)))
 }
 
 pub(crate) fn add_command(alloc: Global, bytes: &[u8]) -> Result<Command, LineRefusal>

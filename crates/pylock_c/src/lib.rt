@@ -32,6 +32,7 @@ mod sessions;
 mod sets;
 mod slot;
 mod strict;
+mod targets;
 mod text;
 mod threads;
 mod versions;

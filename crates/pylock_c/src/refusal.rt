@@ -3,6 +3,7 @@
 ghost use Rattle.std.specs.Prelude.{◌≡◌};
 ghost use Rattle.pylock_c.specs.Refusal.{evaluation_refusal, marker_refusal};
 ghost use Rattle.pylock_c.specs.Refusal.{requirement_refusal, sdist_refusal, set_refusal};
+ghost use Rattle.pylock_c.specs.Refusal.{target_refusal};
 ghost use Rattle.pylock_c.specs.Refusal.{edit_number, line_refusal, number, version_refusal};
 ghost use Rattle.pylock_c.specs.Refusal.{wheel_refusal};
 ghost use Rattle.pylock_c.specs.declared.refusal.Refusal.TheVariants.{Memory};
@@ -10,7 +11,7 @@ ghost use Rattle.pylock_c.specs.declared.refusal.Refusal.TheVariants.{Memory};
 use pylock_run::LineRefusal;
 use pymark_core::{EvalFault, MarkerError, RequirementError};
 use pyver_core::{SpecifierError, VersionError};
-use pywheel_core::{SdistError, WheelError};
+use pywheel_core::{SdistError, TargetError, WheelError};
 use std::alloc::{AllocError, AllocFailed};
 
 /// Why a call is refused: a code of `pylock.h` each.
@@ -82,6 +83,10 @@ pub enum Refusal {
     Environment,
     /// The lock is valid, and a strict reading refuses what is found in it.
     Findings,
+    /// The Python of a target is none.
+    TargetPython,
+    /// The platform of a target is none.
+    TargetPlatform,
     /// An edit is refused.
     Edit(LineRefusal),
 }
@@ -125,6 +130,8 @@ impl Refusal {
             Refusal::Lock => 70,
             Refusal::Environment => 71,
             Refusal::Findings => 72,
+            Refusal::TargetPython => 73,
+            Refusal::TargetPlatform => 74,
             Refusal::Edit(refusal) => edit_number(refusal),
         }
     }
@@ -261,6 +268,17 @@ impl From<SdistError> for Refusal {
             SdistError::Name => Refusal::SdistName,
             SdistError::Version => Refusal::SdistVersion,
             SdistError::Memory => Refusal::Memory,
+        }
+    }
+}
+
+impl From<TargetError> for Refusal {
+    ghost from_gives = { λ error refusal. refusal ≡ target_refusal error };
+
+    fn from(error: TargetError) -> Refusal {
+        match error {
+            TargetError::Python => Refusal::TargetPython,
+            TargetError::Platform => Refusal::TargetPlatform,
         }
     }
 }

@@ -13,7 +13,8 @@ ghost use Rattle.pylock_run.specs.declared.line.refusal.LineRefusal.TheVariants 
 ghost use Rattle.pylock_run.specs.declared.report.opening.OpenError.TheVariants as unopened;
 ghost use Rattle.pylock_c.specs.Answer.{Tells};
 ghost use Rattle.pylock_c.specs.Edits.{change_command, entry_command, named_change};
-ghost use Rattle.pylock_c.specs.Edits.{policy_command, set_change, tags_command, unset_change};
+ghost use Rattle.pylock_c.specs.Edits.{policy_command, set_change, tags_command};
+ghost use Rattle.pylock_c.specs.Edits.{target_command, unset_change};
 ghost use Rattle.pylock_c.specs.Opening.{Opens};
 ghost use Rattle.pylock_c.specs.Sessions.{Counts, obeyed_in, session_after, started};
 ghost use Rattle.pylock_c.specs.Slot.{object};
@@ -25,7 +26,8 @@ mod standing;
 use crate::answer::OK;
 use crate::edits::{
     add_command, add_extra_change, add_group_change, change_command, drop_extra_change,
-    drop_group_change, policy_command, put_command, set_change, tags_command, unset_change,
+    drop_group_change, policy_command, put_command, set_change, tags_command, target_command,
+    unset_change,
 };
 use crate::object::Object;
 use crate::opening::open_into;
@@ -224,6 +226,21 @@ pub extern "C" fn pylock_session_tags(
         (object slot.old, judged.old) (object slot.new, judged.new) result }
 {
     obey_slot(alloc, slot, tags_command(alloc, tags), judged)
+}
+
+/// Puts the tags of a target in place of those that were there.
+#[unsafe(no_mangle)]
+pub extern "C" fn pylock_session_target(
+    alloc: Global,
+    slot: &mut Slot,
+    python: &[u8],
+    platform: &[u8],
+    judged: &mut u64,
+) -> i32
+    ensures { Tells (obeyed_in (target_command python.now platform.now) (object slot.old))
+        (object slot.old, judged.old) (object slot.new, judged.new) result }
+{
+    obey_slot(alloc, slot, target_command(alloc, python, platform), judged)
 }
 
 /// Adds an entry behind all others.

@@ -2,6 +2,7 @@
 
 ghost use Rattle.std.specs.Prelude.{◌≡◌, IfOk, Result};
 ghost use Rattle.pytext.specs.Agreement.{Gives};
+ghost use Rattle.pylock_readers.specs.Environment.{env_of};
 ghost use Rattle.pylock_program.specs.Show.{unopened_shown};
 ghost use Rattle.pylock_program.specs.Strict.{strict_state};
 ghost use Rattle.pylock_program.specs.declared.strict.Unopened.{Unopened as NotOpened};
@@ -19,6 +20,7 @@ use crate::opening::{leave_object, open_refusal};
 use crate::refusal::Refusal;
 use crate::slot::Slot;
 use pylock_command::Form;
+use pylock_core::EnvironmentInput;
 use pylock_program::{Unopened, open_strictly, push_unopened};
 use pylock_run::OpenError;
 use std::alloc::{AllocError, Global};
@@ -26,9 +28,9 @@ use std::alloc::{AllocError, Global};
 /// The session on a lock that is taken strictly, and on an environment.
 fn strictly_started(alloc: Global, lock: &[u8], environment: &[u8]) -> Result<Object, Unopened>
     ensures { Gives (unopened.Refused refusal.Memory) (λ kept. kept) result
-        (strictly_started (strict_state lock.now environment.now)) }
+        (strictly_started (strict_state lock.now (env_of environment.now))) }
 {
-    Ok(Object::Session(open_strictly(alloc, lock, environment)?))
+    Ok(Object::Session(open_strictly(alloc, lock, EnvironmentInput::Text(environment))?))
 }
 
 /// Starts a session on a lock that is taken strictly and on an environment, or leaves in the slot
@@ -43,7 +45,7 @@ pub extern "C" fn pylock_session_start_strict(
     words: &mut Slot,
 ) -> i32
     ensures { OpensStrictly (form_of json)
-        (strictly_started (strict_state lock.now environment.now)) (object session.old)
+        (strictly_started (strict_state lock.now (env_of environment.now))) (object session.old)
         (object session.new) (object words.old) (object words.new) result }
 {
     let outcome = strictly_started(alloc, lock, environment);

@@ -1,20 +1,14 @@
 -- What clap's matches tell of the options of `plan`.
-use Rattle.std.proofs.Common.{◌≡◌, ◌++◌, ◌+◌, ◌<◌, ◌≤◌, ◌∙◌, inl, inr, add-one, append-nil, drop, drop-cons, subst, ℕ, Bor, List, [], ◌∷◌, Option, None, Some, false, length, map, take, get_or, codes, refl, sym, ap, ap₂, append_assoc, arith, option_map, unwrap_or}
+use Rattle.std.proofs.Common.{◌≡◌, ◌==◌, ◌||◌, not, rules, ◌++◌, ◌+◌, ◌<◌, ◌≤◌, ◌∙◌, inl, inr, add-one, append-nil, drop, drop-cons, subst, ℕ, Bor, List, [], ◌∷◌, Option, None, Some, length, map, take, false, Bool, get_or, codes, refl, sym, ap, ap₂, append_assoc, arith, option_map, unwrap_or}
 use Rattle.std.proofs.lemmas.List.{map-append, take_all, take_more}
+use Rattle.std.proofs.Math.Bool.{or_assoc}
 use Rattle.std.proofs.Math.ListN.{drop_of_length-le}
-use Rattle.std.specs.Option.{UnwrapsOrElse, option_map_or}
-use Rattle.std.specs.Str.{bytes_eq}
-use Rattle.clap.proofs.WalkLemmas.{first_value-rows, raw_values-rows}
-use Rattle.clap.specs.Words.{Row, Text, first_value, matched_of, raw_values, rows_of}
+use Rattle.std.specs.Option.{UnwrapsOrElse}
+use Rattle.clap.proofs.WalkLemmas.{raw_values-rows}
+use Rattle.clap.specs.Words.{Row, Text, matched_of, raw_values, rows_of}
 use Rattle.clap.specs.declared.parser.matches.Found.{Found}
-use Rattle.pylock_command.specs.Choices.{AreOnFiles, Interleaves, OptionWords, has_flag, texts_at, texts_of, option_words}
+use Rattle.pylock_command.specs.Choices.{AreChoices, AreOnFiles, Interleaves, OptionWords, texts_at, texts_of, has_choices, has_one, on_extras, on_groups, option_words}
 use Rattle.pylock_command.specs.declared.choice.Choice.{Choice}
-
--- the flag is there as its first value says
-pub flag-told : (found : Found) (name : Text) (value : Option Text) → value ≡ first_value found name
-    → option_map_or (λ text. bytes_eq text (codes "true")) value false ≡ has_flag name (rows_of found)
-flag-told found name value is =
-    ap (λ (o : Option Text). option_map_or (λ text. bytes_eq text (codes "true")) o false) (is ∙ first_value-rows found name)
 
 -- an option with the text behind a reference
 abbrev pub named : Text → Bor Text → OptionWords
@@ -117,3 +111,37 @@ all-merged wheels sources wheel source start choices rows m no_wheel no_source t
       subst (λ (other : List OptionWords). Interleaves (texts_of (codes "only-binary") rows) other whole.0) (texts-named (codes "no-binary") sources rows told_sources) by_wheels,
       sym (append-nil (map option_words choices)) ∙ whole.2,
     )
+
+-- ---- whether there is an option
+
+has_one-append : (some more : List OptionWords) → has_one (some ++ more) ≡ (has_one some || has_one more)
+has_one-append [] more = refl
+has_one-append (option ∷ some) more = refl
+
+has_one-interleaved : (one other all : List OptionWords) → Interleaves one other all → has_one all ≡ (has_one one || has_one other)
+has_one-interleaved one other [] is = rw is.0 (rw is.1 refl)
+has_one-interleaved one other (option ∷ all) (inl is) = rw is.1 refl
+has_one-interleaved [] other (option ∷ all) (inr is) = rw is.1 refl
+has_one-interleaved (first ∷ one) other (option ∷ all) (inr is) = refl
+
+-- what is read of the options tells whether there is one
+pub has_one-told : (rows : List Row) (choices : List Choice) → AreChoices rows choices → has_one (map option_words choices) ≡ has_choices rows
+has_one-told rows choices are =
+    let extras = on_extras rows in
+    let groups = on_groups rows in
+    let wheels = texts_of (codes "only-binary") rows in
+    let sources = texts_of (codes "no-binary") rows in
+    let sets = texts_of (codes "set") rows in
+    let files : has_one are.on_files ≡ (has_one wheels || has_one sources) = has_one-interleaved wheels sources are.on_files are.are_on_files in
+    let some = extras ++ groups in
+    ap has_one are.in_order
+    ∙ has_one-append (some ++ are.on_files) sets ∙ ap (λ (b : Bool). b || has_one sets) (has_one-append some are.on_files ∙ ap (λ (b : Bool). has_one some || b) files
+    ∙ sym (or_assoc (has_one some) (has_one wheels) (has_one sources))
+    ∙ ap (λ (b : Bool). b || has_one sources) (sym (has_one-append some wheels)) ∙ sym (has_one-append (some ++ wheels) sources)) ∙ sym (has_one-append (some ++ wheels ++ sources) sets)
+
+-- there is none exactly where none is read
+pub has_choices-told : (rows : List Row) (choices : List Choice) (empty : Bool) → AreChoices rows choices → empty ≡ (length choices == 0) → has_choices rows ≡ not empty
+has_choices-told rows [] empty are is = sym (has_one-told rows [] are) ∙ ap not (sym is)
+has_choices-told rows (choice ∷ choices) empty are is =
+    let some : (length (choice ∷ choices) == 0) ≡ false = search rules in
+    sym (has_one-told rows (choice ∷ choices) are) ∙ ap not (sym (is ∙ some))

@@ -1,20 +1,37 @@
 -- What clap's matches tell of the program's words.
-use Rattle.std.proofs.Common.{◌≡◌, List, [], refl, true, inl, inr, subst, sym, ap, ◌∙◌}
+use Rattle.std.proofs.Common.{◌≡◌, ◌≢◌, List, [], None, Some, refl, true, inl, inr, subst, sym, ap, ◌∙◌}
+use Rattle.std.specs.Option.{IsSomeAnd}
 use Rattle.std.proofs.lemmas.Bool.{and_parts}
 use Rattle.clap.proofs.OnLiterals.{clap_on_literals}
 use Rattle.clap.specs.Words.{App, HasKind, HasMatchesOf, IsAmong, Text, built, fault_of, is_simple, is_simple_and_free, kind_of, subcommand_of, subcommand_rows_of}
 use Rattle.clap.specs.Faults.{is_free_app}
-use Rattle.clap.specs.declared.error.kind.ErrorKind.TheVariants.{MissingRequiredArgument, OutOfMemory}
+use Rattle.clap.specs.declared.error.kind.ErrorKind.TheVariants.{OutOfMemory}
 use Rattle.clap.specs.declared.error.Error.{Error}
 use Rattle.clap.specs.declared.parser.matches.ArgMatches.{ArgMatches}
-use Rattle.pylock_command.specs.CommandLine.{IsRefusal, IsTask, Keeps, is_lacking, pylock_app}
+use Rattle.pylock_command.specs.CommandLine.{IsRefusal, IsTask, Keeps, misuse_of, pylock_app}
 use Rattle.pylock_command.specs.declared.command_line.CommandError.{CommandError}
 use Rattle.pylock_command.specs.declared.command_line.CommandError.TheVariants.{Refused, Memory}
+use Rattle.pylock_command.specs.Misuse.{kind_of_misuse}
+use Rattle.pylock_command.specs.declared.misuse.Misuse.{Misuse}
+use Rattle.pylock_command.specs.declared.misuse.Misuse.TheVariants.{EditsAndFile, HalfTarget, Missing, NoFileFormat, NoMachine, NoPlanFormat, NoPlans, TwoForms, TwoInputs, TwoMachines}
 use Rattle.pylock_command.specs.declared.task.Task.{Task}
 
 pylock_app-is_simple_and_free : is_simple_and_free pylock_app ≡ true
 unfolding clap_on_literals pylock_app
 pylock_app-is_simple_and_free = refl
+
+-- no misuse tells that memory ran out
+memory-told : (misuse : Misuse) → kind_of_misuse misuse ≢ OutOfMemory
+memory-told Missing is = absurd cc
+memory-told NoMachine is = absurd cc
+memory-told TwoMachines is = absurd cc
+memory-told HalfTarget is = absurd cc
+memory-told NoPlans is = absurd cc
+memory-told TwoForms is = absurd cc
+memory-told NoPlanFormat is = absurd cc
+memory-told NoFileFormat is = absurd cc
+memory-told EditsAndFile is = absurd cc
+memory-told TwoInputs is = absurd cc
 
 -- what a parse by the program's command says of the words
 module _ (app : App) (is : app ≡ pylock_app) (words : List Text) where
@@ -29,13 +46,17 @@ module _ (app : App) (is : app ≡ pylock_app) (words : List Text) where
   pub IsTask-told : (m : ArgMatches) (task : Task) → HasMatchesOf app words m → IsTask (subcommand_rows_of m) task → IsTask (subcommand_of pylock_app words) task
   IsTask-told m task has told = subst (λ found. IsTask found task) (told_of-words m has) told
 
-  pub IsRefusal-told : (m : ArgMatches) (error : Error) → HasMatchesOf app words m → is_lacking (subcommand_rows_of m) ≡ true
-      → kind_of error ≡ MissingRequiredArgument → IsRefusal words (Refused error)
-  IsRefusal-told m error has lacking kind =
-      ((λ memory. (let contradiction : MissingRequiredArgument ≡ OutOfMemory = sym kind ∙ memory in absurd cc)), inr (kind, ap is_lacking (sym (told_of-words m has)) ∙ lacking))
+  pub misuse_of-taken : (m : ArgMatches) → HasMatchesOf app words m → misuse_of (subcommand_rows_of m) ≡ None → misuse_of (subcommand_of pylock_app words) ≡ None
+  misuse_of-taken m has none = ap misuse_of (sym (told_of-words m has)) ∙ none
 
   pub fault_of-taken : (is_simple_and_free app ≡ true → fault_of app words ≡ []) → fault_of pylock_app words ≡ []
   fault_of-taken taken = ap (λ (a : App). fault_of a words) (sym is) ∙ taken is_free
+
+  pub IsRefusal-told : (m : ArgMatches) (error : Error) (misuse : Misuse) → HasMatchesOf app words m → (is_simple_and_free app ≡ true → fault_of app words ≡ [])
+      → misuse_of (subcommand_rows_of m) ≡ Some misuse → kind_of error ≡ kind_of_misuse misuse → IsRefusal words (Refused error)
+  IsRefusal-told m error misuse has taken told kind =
+      let is : misuse_of (subcommand_of pylock_app words) ≡ Some misuse = ap misuse_of (sym (told_of-words m has)) ∙ told in
+      ((λ memory. memory-told misuse (sym kind ∙ memory)), inr (fault_of-taken taken, subst (λ o. IsSomeAnd o (λ misuse. kind_of error ≡ kind_of_misuse misuse)) (sym is) kind))
 
   pub IsRefusal-kept : (error : Error) (refusal : CommandError) → Keeps error refusal → (is_simple_and_free app ≡ true → HasKind (fault_of app words) error)
       → IsRefusal words refusal

@@ -1,49 +1,14 @@
 -- The options of `plan`, in clap's terms.
-use Rattle.std.specs.Prelude.{◌≡◌, ◌⊎◌, ◌++◌, Bool, List, [], ◌∷◌, Option, Some, None}
-use Rattle.std.specs.Prelude.{if◌then◌else◌, false, codes, fold, map, unwrap_or}
-use Rattle.std.specs.Borrow.{Bor}
-use Rattle.std.specs.Option.{option_map_or}
-use Rattle.std.specs.Str.{bytes_eq}
-use Rattle.clap.specs.Words.{App, Row, Rule, Text, all_of, first_of, new_rule, with_rule}
-use Rattle.clap.specs.declared.builder.action.ArgAction.TheVariants.{Append, SetTrue}
+use Rattle.std.specs.Prelude.{◌≡◌, ◌⊎◌, ◌++◌, List, [], ◌∷◌, Option, Some, None}
+use Rattle.std.specs.Prelude.{Bool, if◌then◌else◌, codes, false, map, true, unwrap_or}
+use Rattle.clap.specs.Words.{Row, Text, all_of}
+use Rattle.pylock_command.specs.Texts.{has_flag}
 use Rattle.pylock_command.specs.declared.choice.Choice.{Choice}
 use Rattle.pylock_command.specs.declared.choice.Choice.TheVariants.{AllExtras, Extra}
 use Rattle.pylock_command.specs.declared.choice.Choice.TheVariants.{NoDefaultGroups, AllGroups}
 use Rattle.pylock_command.specs.declared.choice.Choice.TheVariants.{Group, NoGroup, OnlyBinary}
 use Rattle.pylock_command.specs.declared.choice.Choice.TheVariants.{NoBinary}
 use Rattle.pylock_command.specs.declared.choice.Choice.TheVariants as choice
-
--- an option without a text, which stands once at most
-abbrev pub flag_rule : Text → Rule
-flag_rule name = record (new_rule name) { long = Some name; action = Some SetTrue }
-
--- an option with a text, which may stand again with another one
-abbrev pub text_rule : Text → Rule
-text_rule name = record (new_rule name) {
-  long = Some name;
-  action = Some Append;
-  value_names = 1;
-}
-
--- what an option is to clap, by its name and by whether it takes a text, and a command with it
-abbrev pub option_rule : Bor Text × Option (Bor Text) × Bor Text → Rule
-option_rule (name, None, help) = flag_rule name.now
-option_rule (name, Some value, help) = text_rule name.now
-
-abbrev pub with_option : App → Bor Text × Option (Bor Text) × Bor Text → App
-with_option app option = with_rule app (option_rule option)
-
--- the options of `plan`
-abbrev pub choice_rules : List Rule
-choice_rules =
-    flag_rule (codes "all-extras") ∷ text_rule (codes "extra")
-    ∷ flag_rule (codes "no-default-groups") ∷ flag_rule (codes "all-groups")
-    ∷ text_rule (codes "group") ∷ text_rule (codes "no-group")
-    ∷ text_rule (codes "only-binary") ∷ text_rule (codes "no-binary") ∷ text_rule (codes "set") ∷ []
-
--- what the options of `plan` make of a command
-abbrev pub with_choices : App → App
-with_choices app = fold with_rule app choice_rules
 
 -- an option as it stands among the words: its name, and its text, if it takes one
 abbrev pub OptionWords : Type 0
@@ -61,9 +26,6 @@ option_words (NoBinary name) = (codes "no-binary", Some name.now)
 option_words (choice.Set text) = (codes "set", Some text.now)
 
 -- an option without a text, where the words have it
-abbrev pub has_flag : Text → List Row → Bool
-has_flag name rows = option_map_or (λ text. bytes_eq text (codes "true")) (first_of name rows) false
-
 abbrev pub flag_of : Text → List Row → List OptionWords
 flag_of name rows = if has_flag name rows then (name, None) ∷ [] else []
 
@@ -100,3 +62,13 @@ pub record AreChoices (rows : List Row) (choices : List Choice) : Type 0 where
   pub are_on_files : AreOnFiles rows on_files
   pub in_order : map option_words choices
       ≡ on_extras rows ++ on_groups rows ++ on_files ++ texts_of (codes "set") rows
+
+-- the words have one of the options
+abbrev pub has_one : List OptionWords → Bool
+has_one [] = false
+has_one (option ∷ others) = true
+
+abbrev pub has_choices : List Row → Bool
+has_choices rows = has_one (on_extras rows ++ on_groups rows
+    ++ texts_of (codes "only-binary") rows ++ texts_of (codes "no-binary") rows
+    ++ texts_of (codes "set") rows)

@@ -1,26 +1,32 @@
 -- The program's command line, in clap's terms.
-use Rattle.std.specs.List.{list_any}
-use Rattle.std.specs.Prelude.{◌≡◌, ◌≢◌, ◌⊎◌, Bool, true, false, not, codes, List, [], ◌∷◌, map}
-use Rattle.std.specs.Prelude.{find, Option, Some, None, IfSome, IsSomeAnd, is_some, fold}
+use Rattle.std.specs.Prelude.{◌≡◌, ◌≢◌, ◌⊎◌, ⊤, true, codes, List, [], ◌∷◌, ◌++◌}
+use Rattle.std.specs.Prelude.{find, Option, Some, None, IsSomeAnd, fold}
 use Rattle.std.specs.Option.{option_map_or}
 use Rattle.std.specs.Str.{bytes_eq}
-use Rattle.clap.specs.Words.{App, IsAmong, Row, Text, fault_of, first_of, kind_of, new_app}
+use Rattle.clap.specs.Words.{App, IsAmong, Row, Rule, Text, fault_of, kind_of, new_app}
 use Rattle.clap.specs.Words.{subcommand_of, with_subcommand}
 use Rattle.clap.specs.declared.error.Error.{Error}
-use Rattle.clap.specs.declared.error.kind.ErrorKind.TheVariants.{MissingRequiredArgument}
 use Rattle.clap.specs.declared.error.kind.ErrorKind.TheVariants.{OutOfMemory}
-use Rattle.pylock_command.specs.Choices.{AreChoices}
-use Rattle.pylock_command.specs.Form.{form_of}
-use Rattle.pylock_command.specs.Strict.{is_strict}
+use Rattle.pylock_command.specs.Argument.{flag_rule, needed_rule, optional_rule, repeated_rule}
+use Rattle.pylock_command.specs.Argument.{single_rule, text_rule}
+use Rattle.pylock_command.specs.Asked.{HasNoFormat, IsDiff, IsExport, IsRequest}
+use Rattle.pylock_command.specs.Asked.{IsSelection, diff_misuse, files_misuse, plan_misuse}
+use Rattle.pylock_command.specs.Asked.{request_misuse, selection_misuse}
+use Rattle.pylock_command.specs.Form.{file_format_named, form_of, format_at}
+use Rattle.pylock_command.specs.Machine.{IsMachine, IsTarget, machine_misuse, target_misuse}
+use Rattle.pylock_command.specs.Misuse.{first, kind_of_misuse, lack}
 use Rattle.pylock_command.specs.Subcommand.{Subcommand, row, subcommand_app}
-use Rattle.pylock_command.specs.declared.choice.Choice.{Choice}
+use Rattle.pylock_command.specs.Texts.{HasText}
 use Rattle.pylock_command.specs.declared.command_line.CommandError.{CommandError}
 use Rattle.pylock_command.specs.declared.command_line.CommandError.TheVariants.{Refused, Memory}
 use Rattle.pylock_command.specs.declared.form.Form.{Form}
-use Rattle.pylock_command.specs.declared.subcommand.Options.TheVariants as options
+use Rattle.pylock_command.specs.declared.misuse.Misuse.{Misuse}
+use Rattle.pylock_command.specs.declared.misuse.Misuse.TheVariants.{Missing}
+use Rattle.pylock_command.specs.declared.task.Request.{Request}
 use Rattle.pylock_command.specs.declared.task.Task.{Task}
-use Rattle.pylock_command.specs.declared.task.Task.TheVariants.{Bare, Show, Select, Files, Audit}
-use Rattle.pylock_command.specs.declared.task.Task.TheVariants.{Version, Match, Name}
+use Rattle.pylock_command.specs.declared.task.Task.TheVariants.{Bare, Show, ExportPlan, Select}
+use Rattle.pylock_command.specs.declared.task.Task.TheVariants.{Files, ExportFiles, Audit, Diff}
+use Rattle.pylock_command.specs.declared.task.Task.TheVariants.{Environment, Version, Match, Name}
 use Rattle.pylock_command.specs.declared.task.Task.TheVariants.{Marker, Requirement, Wheel, Sdist}
 use Rattle.pylock_command.specs.declared.task.View.{View}
 use Rattle.pylock_command.specs.declared.task.View.TheVariants as view
@@ -31,113 +37,142 @@ top_app =
     let app = new_app (codes "pylock") in
     record app { top = record app.top { has_version = true } }
 
--- the program's subcommands
+-- ---- the arguments
+
+-- the environment of a machine, or a target in its place; and the same, but by `--in`
+abbrev pub target_rules : List Rule
+target_rules = single_rule (codes "python") ∷ single_rule (codes "platform") ∷ []
+
+abbrev pub machine_rules : List Rule
+machine_rules = optional_rule (codes "ENV") ∷ target_rules
+
+abbrev pub in_rules : List Rule
+in_rules = single_rule (codes "in") ∷ target_rules
+
+-- the options of `plan`
+abbrev pub choice_rules : List Rule
+choice_rules = flag_rule (codes "all-extras") ∷ repeated_rule (codes "extra")
+    ∷ flag_rule (codes "no-default-groups") ∷ flag_rule (codes "all-groups")
+    ∷ repeated_rule (codes "group") ∷ repeated_rule (codes "no-group")
+    ∷ repeated_rule (codes "only-binary") ∷ repeated_rule (codes "no-binary")
+    ∷ repeated_rule (codes "set") ∷ []
+
+abbrev pub json : Rule
+json = flag_rule (codes "json")
+
+abbrev pub strict : Rule
+strict = flag_rule (codes "strict")
+
+abbrev pub format : Rule
+format = single_rule (codes "format")
+
+-- ---- the subcommands
+
+-- the words of these have all their texts, and of `marker` name a machine
+abbrev pub match_misuse : List Row → Option Misuse
+match_misuse rows = first (lack (codes "SET") rows ∷ lack (codes "VERSION") rows ∷ [])
+
+abbrev pub marker_misuse : List Row → Option Misuse
+marker_misuse rows = first (lack (codes "TEXT") rows ∷ machine_misuse rows ∷ [])
+
+-- a lock comes first, and one text is all
+abbrev pub locked : List Rule → List Rule
+locked rules = text_rule (codes "LOCK") ∷ rules
+
+abbrev pub text_row : Text → Subcommand
+text_row name = row name (text_rule (codes "TEXT") ∷ json ∷ []) (lack (codes "TEXT"))
+
 abbrev pub subcommands : List Subcommand
 subcommands =
-    row (codes "plan") (codes "LOCK" ∷ codes "ENV" ∷ []) options.Choices
-    ∷ row (codes "explain") (codes "LOCK" ∷ codes "ENV" ∷ []) options.Choices
-    ∷ row (codes "select") (codes "LOCK" ∷ codes "ENV" ∷ []) options.Strict
-    ∷ row (codes "files") (codes "LOCK" ∷ []) options.Form
-    ∷ row (codes "audit") (codes "LOCK" ∷ []) options.Form
-    ∷ row (codes "version") (codes "TEXT" ∷ []) options.Absent
-    ∷ row (codes "match") (codes "SET" ∷ codes "VERSION" ∷ []) options.Absent
-    ∷ row (codes "name") (codes "TEXT" ∷ []) options.Absent
-    ∷ row (codes "marker") (codes "TEXT" ∷ codes "ENV" ∷ []) options.Absent
-    ∷ row (codes "requirement") (codes "TEXT" ∷ []) options.Absent
-    ∷ row (codes "wheel") (codes "TEXT" ∷ []) options.Absent
-    ∷ row (codes "sdist") (codes "TEXT" ∷ []) options.Absent
-    ∷ []
+    row (codes "plan") (locked (machine_rules ++ choice_rules ++ strict ∷ format ∷ json ∷ []))
+    plan_misuse
+    ∷ row (codes "explain") (locked (machine_rules ++ choice_rules ++ strict ∷ json ∷ []))
+    request_misuse
+    ∷ row (codes "select") (locked (machine_rules ++ strict ∷ json ∷ [])) selection_misuse
+    ∷ row (codes "files") (locked (format ∷ json ∷ [])) files_misuse
+    ∷ row (codes "audit") (locked (json ∷ [])) (lack (codes "LOCK"))
+    ∷ row (codes "diff") (text_rule (codes "OLD") ∷ text_rule (codes "NEW") ∷ in_rules
+    ++ choice_rules ++ json ∷ []) diff_misuse
+    ∷ row (codes "environment")
+    (needed_rule (codes "python") ∷ needed_rule (codes "platform") ∷ []) target_misuse
+    ∷ text_row (codes "version")
+    ∷ row (codes "match") (text_rule (codes "SET") ∷ text_rule (codes "VERSION") ∷ json ∷ [])
+    match_misuse
+    ∷ text_row (codes "name")
+    ∷ row (codes "marker") (text_rule (codes "TEXT") ∷ machine_rules ++ json ∷ []) marker_misuse
+    ∷ text_row (codes "requirement") ∷ text_row (codes "wheel") ∷ text_row (codes "sdist") ∷ []
 
 unfoldable pub pylock_app : App
 pylock_app = fold (λ app s. with_subcommand app (subcommand_app s).top) top_app subcommands
 
--- the program's subcommand of this name
-abbrev pub subcommand_named : Text → Option Subcommand
-subcommand_named name = find (λ s. bytes_eq name s.name) subcommands
+-- why the words of a subcommand that clap takes are refused; one that is none of the program's is
+abbrev pub misuse_in : Text → List Row → Option Misuse
+misuse_in name rows = option_map_or (λ s. s.misuse rows)
+    (find (λ s. bytes_eq name s.name) subcommands) (Some Missing)
 
--- an argument, by its name, has this text
-abbrev pub HasText : List Row → Text → Text → Type 0
-HasText rows id text = first_of id rows ≡ Some text
+abbrev pub misuse_of : Option (Text × List Row) → Option Misuse
+misuse_of None = None
+misuse_of (Some found) = misuse_in found.0 found.1
 
--- the arguments of these names have these texts
-abbrev pub HaveTexts : List Row → List Text → List Text → Type 0
-HaveTexts rows ids texts = map (λ id. first_of id rows) ids ≡ map Some texts
+-- ---- the tasks
 
--- the words have this subcommand, with these texts of its arguments
-abbrev pub HasTexts : Option (Text × List Row) → Text → List Text → Type 0
-HasTexts found name texts = IsSomeAnd found (λ p. (p.0 ≡ name)
-    × HaveTexts p.1 (option_map_or (λ s. s.texts) (subcommand_named name) []) texts)
+-- the words have this subcommand, and its arguments are so
+abbrev pub IsIn : Option (Text × List Row) → Text → (List Row → Type 0) → Type 0
+IsIn found name Are = IsSomeAnd found (λ p. (p.0 ≡ name) × Are p.1)
 
--- the name of the subcommand that shows this
-abbrev pub view_word : View → Text
-view_word view.Plan = codes "plan"
-view_word view.Explain = codes "explain"
+-- the subcommand has one text, and an answer in this form
+abbrev pub IsAsked : Option (Text × List Row) → Text → Text → Text → Form → Type 0
+IsAsked found name id text form =
+    IsIn found name (λ rows. HasText rows id text × (form ≡ form_of rows))
 
--- the subcommand of a task, and its texts
-abbrev pub call_of : Task → Option (Text × List Text)
-call_of Bare = None
-call_of (Show request) =
-    Some (view_word request.view, request.lock.now ∷ request.environment.now ∷ [])
-call_of (Select asked) = Some (codes "select", asked.lock.now ∷ asked.environment.now ∷ [])
-call_of (Files lock form) = Some (codes "files", lock.now ∷ [])
-call_of (Audit lock form) = Some (codes "audit", lock.now ∷ [])
-call_of (Version text) = Some (codes "version", text.now ∷ [])
-call_of (Match set version) = Some (codes "match", set.now ∷ version.now ∷ [])
-call_of (Name text) = Some (codes "name", text.now ∷ [])
-call_of (Marker text env) = Some (codes "marker", text.now ∷ env.now ∷ [])
-call_of (Requirement text) = Some (codes "requirement", text.now ∷ [])
-call_of (Wheel text) = Some (codes "wheel", text.now ∷ [])
-call_of (Sdist text) = Some (codes "sdist", text.now ∷ [])
-
--- the words have no subcommand, or this one with these texts
-abbrev pub IsCall : Option (Text × List Row) → Option (Text × List Text) → Type 0
-IsCall found None = found ≡ None
-IsCall found (Some call) = HasTexts found call.0 call.1
-
--- these are the options of the words' subcommand
-abbrev pub HasChoices : Option (Text × List Row) → List Choice → Type 0
-HasChoices found choices = IfSome found (λ p. AreChoices p.1 choices)
-
--- this is the form that the words of the subcommand ask for
-abbrev pub HasForm : Option (Text × List Row) → Form → Type 0
-HasForm found form = IfSome found (λ p. form ≡ form_of p.1)
-
--- the words of the subcommand ask for a strict reading of the lock, or don't
-abbrev pub HasStrictness : Option (Text × List Row) → Bool → Type 0
-HasStrictness found strict = IfSome found (λ p. strict ≡ is_strict p.1)
+-- `plan` or `explain` in a form of the program's own
+abbrev pub IsShown : Option (Text × List Row) → Request → View → Type 0
+IsShown found request view.Plan =
+    IsIn found (codes "plan") (λ rows. IsRequest rows request × HasNoFormat rows)
+IsShown found request view.Explain =
+    IsIn found (codes "explain") (λ rows. IsRequest rows request)
 
 -- the task that the words give
 abbrev pub IsTask : Option (Text × List Row) → Task → Type 0
-IsTask found (Show request) =
-    IsCall found (call_of (Show request)) × HasChoices found request.choices.items
-    × HasStrictness found request.strict × HasForm found request.form
-IsTask found (Select asked) =
-    IsCall found (call_of (Select asked)) × HasStrictness found asked.strict
-IsTask found (Files lock form) = IsCall found (call_of (Files lock form)) × HasForm found form
-IsTask found (Audit lock form) = IsCall found (call_of (Audit lock form)) × HasForm found form
-IsTask found task = IsCall found (call_of task)
+IsTask found Bare = found ≡ None
+IsTask found (Show request) = IsShown found request request.view
+IsTask found (ExportPlan export) = IsIn found (codes "plan") (λ rows. IsExport rows export)
+IsTask found (Select asked) = IsIn found (codes "select") (λ rows. IsSelection rows asked)
+IsTask found (Files lock form) = IsIn found (codes "files") (λ rows.
+    HasText rows (codes "LOCK") lock.now × (form ≡ form_of rows) × HasNoFormat rows)
+IsTask found (ExportFiles lock format) = IsIn found (codes "files") (λ rows.
+    HasText rows (codes "LOCK") lock.now × (format_at file_format_named rows ≡ Some format))
+IsTask found (Audit lock form) = IsAsked found (codes "audit") (codes "LOCK") lock.now form
+IsTask found (Diff asked) = IsIn found (codes "diff") (λ rows. IsDiff rows asked)
+IsTask found (Environment target) =
+    IsIn found (codes "environment") (λ rows. IsTarget rows target)
+IsTask found (Version text form) = IsAsked found (codes "version") (codes "TEXT") text.now form
+IsTask found (Match set version form) = IsIn found (codes "match") (λ rows.
+    HasText rows (codes "SET") set.now × HasText rows (codes "VERSION") version.now
+    × (form ≡ form_of rows))
+IsTask found (Name text form) = IsAsked found (codes "name") (codes "TEXT") text.now form
+IsTask found (Marker text machine form) = IsIn found (codes "marker") (λ rows.
+    HasText rows (codes "TEXT") text.now × IsMachine (codes "ENV") rows machine
+    × (form ≡ form_of rows))
+IsTask found (Requirement text form) =
+    IsAsked found (codes "requirement") (codes "TEXT") text.now form
+IsTask found (Wheel text form) = IsAsked found (codes "wheel") (codes "TEXT") text.now form
+IsTask found (Sdist text form) = IsAsked found (codes "sdist") (codes "TEXT") text.now form
 
--- an argument has no text
-abbrev pub lacks : List Row → Text → Bool
-lacks rows id = not (is_some (first_of id rows))
+-- ---- refusals
 
--- the words have a subcommand that lacks one of its texts, or that is none of the program's
-abbrev pub lacks_text : Text → List Row → Bool
-lacks_text name rows =
-    option_map_or (λ s. list_any (lacks rows) s.texts) (subcommand_named name) true
+-- clap takes the words, which ask for nothing, and the error has the kind that tells why
+abbrev pub TellsMisuse : List Text → Error → Type 0
+TellsMisuse words error = (fault_of pylock_app words ≡ [])
+    × IsSomeAnd (misuse_of (subcommand_of pylock_app words))
+    (λ misuse. kind_of error ≡ kind_of_misuse misuse)
 
-abbrev pub is_lacking : Option (Text × List Row) → Bool
-is_lacking None = false
-is_lacking (Some found) = lacks_text found.0 found.1
-
--- Why words are refused: clap has this kind of error for them; or the kind is that of a missing
--- text, and one is missing. Out of memory says nothing of the words.
+-- Why words are refused: clap has this kind of error for them, or it takes them and they ask for
+-- nothing. Out of memory says nothing of the words.
 abbrev pub IsRefusal : List Text → CommandError → Type 0
 IsRefusal words (Refused error) = (kind_of error ≢ OutOfMemory)
-    × (IsAmong (kind_of error) (fault_of pylock_app words)
-    ⊎ ((kind_of error ≡ MissingRequiredArgument)
-    × (is_lacking (subcommand_of pylock_app words) ≡ true)))
-IsRefusal words Memory = Unit {0}
+    × (IsAmong (kind_of error) (fault_of pylock_app words) ⊎ TellsMisuse words error)
+IsRefusal words Memory = ⊤
 
 -- what becomes of an error of clap's: it is the refusal, unless memory ran out
 abbrev pub Keeps : Error → CommandError → Type 0

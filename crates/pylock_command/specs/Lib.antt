@@ -1,6 +1,11 @@
+pub mod Argument
+pub mod Asked
 pub mod Choices
 pub mod CommandLine
 pub mod Commands
 pub mod Form
+pub mod Machine
+pub mod Misuse
 pub mod Strict
 pub mod Subcommand
+pub mod Texts

@@ -1,45 +1,26 @@
 -- A subcommand, in clap's terms.
-use Rattle.std.specs.Prelude.{List, fold, map, true}
-use Rattle.clap.specs.Words.{App, Rule, Text, new_app, new_rule, with_rule, with_subcommand}
-use Rattle.pylock_command.specs.Choices.{with_choices}
-use Rattle.pylock_command.specs.Form.{with_json}
-use Rattle.pylock_command.specs.Strict.{with_strict}
-use Rattle.pylock_command.specs.declared.subcommand.Options.{Options}
-use Rattle.pylock_command.specs.declared.subcommand.Options.TheVariants.{Absent, Form, Choices}
-use Rattle.pylock_command.specs.declared.subcommand.Options.TheVariants.{Strict}
+use Rattle.std.specs.Prelude.{List, Option, fold}
+use Rattle.clap.specs.Words.{App, Row, Rule, Text, new_app, with_rule, with_subcommand}
+use Rattle.pylock_command.specs.Argument.{with_arguments}
+use Rattle.pylock_command.specs.declared.misuse.Misuse.{Misuse}
 use Rattle.pylock_command.specs.declared.subcommand.Usage.{Usage}
 
--- its name, the names of the texts that it takes, and its options
+-- its name, its arguments, and which of its words are refused though clap takes them
 pub record Subcommand : Type 0 where
   pub name : Text
-  pub texts : List Text
-  pub options : Options
+  pub rules : List Rule
+  pub misuse : List Row → Option Misuse
 
-abbrev pub row : Text → List Text → Options → Subcommand
-row name texts options = record { name = name; texts = texts; options = options }
-
--- an argument that is known by its position and has to be there
-abbrev pub positional_rule : Text → Rule
-positional_rule id = record (new_rule id) { required = true }
-
--- the command, which takes this text too
-abbrev pub with_positional : App → Text → App
-with_positional app id = with_rule app (positional_rule id)
-
--- what the options of a subcommand make of it
-abbrev pub with_options : Options → App → App
-with_options Absent app = app
-with_options Form app = with_json app
-with_options Strict app = with_strict app
-with_options Choices app = with_json (with_strict (with_choices app))
+abbrev pub row : Text → List Rule → (List Row → Option Misuse) → Subcommand
+row name rules misuse = record { name = name; rules = rules; misuse = misuse }
 
 abbrev pub subcommand_app : Subcommand → App
-subcommand_app s = with_options s.options (fold with_positional (new_app s.name) s.texts)
+subcommand_app s = fold with_rule (new_app s.name) s.rules
 
--- the subcommand that the help speaks of
-abbrev pub subcommand : Usage → Subcommand
-subcommand usage = row usage.name.now (map (λ t. t.0.now) usage.texts.now) usage.options
+-- the subcommand that the help speaks of, and the program with it
+abbrev pub usage_app : Usage → App
+usage_app usage = fold (λ app group. with_arguments app group.now) (new_app usage.name.now)
+    usage.arguments.now
 
--- the program with one more subcommand
 abbrev pub with_usage : App → Usage → App
-with_usage app usage = with_subcommand app (subcommand_app (subcommand usage)).top
+with_usage app usage = with_subcommand app (usage_app usage).top

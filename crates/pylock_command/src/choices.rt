@@ -1,112 +1,64 @@
 //! The options of `plan` and `explain`: what clap is told of them, and what it found.
-ghost use Rattle.std.specs.Prelude.{◌≡◌, ◌++◌, List, false, fold, map, IfOk, OnOk, Some, None};
-ghost use Rattle.clap.specs.Words.{found_of, rows_of, rule_of, with_rule};
+ghost use Rattle.std.specs.Prelude.{◌≡◌, ◌++◌, List, map, IfOk, OnOk, Some, None};
+ghost use Rattle.clap.specs.Words.{found_of, rows_of};
 ghost use Rattle.pylock_command.specs.Choices.{AreChoices, AreOnFiles, OptionWords, flag_of};
-ghost use Rattle.pylock_command.specs.Choices.{has_flag, on_extras, on_groups, option_rule};
-ghost use Rattle.pylock_command.specs.Choices.{option_words, texts_at, texts_of, with_choices};
-ghost use Rattle.pylock_command.specs.Choices.{with_option};
-ghost use Rattle.pylock_command.specs.Commands.{Adds, IsLocal};
+ghost use Rattle.pylock_command.specs.Choices.{on_extras, on_groups};
+ghost use Rattle.pylock_command.specs.Choices.{option_words, texts_at, texts_of};
 
+use crate::argument::{Argument, Kind};
 use crate::choice::Choice;
-use clap::{Arg, ArgAction, ArgMatches, Command};
+use crate::texts::has_flag;
+use clap::ArgMatches;
 use std::alloc::{AllocError, Global};
 
-/// An option: its name, what stands for its text in the help, where it takes one, and its help.
-type OptionHelp = (&'static str, Option<&'static str>, &'static str);
-
 /// The options, in the order of the help.
-const OPTIONS: [OptionHelp; 9] = [
-    ("all-extras", None, "Ask for each extra of the lock"),
-    (
-        "extra",
-        Some("NAME"),
-        "Ask for an extra of the lock: --extra test",
-    ),
-    ("no-default-groups", None, "Leave out the default groups"),
-    ("all-groups", None, "Ask for each group of the lock"),
-    (
-        "group",
-        Some("NAME"),
-        "Ask for a group of the lock: --group test",
-    ),
-    (
-        "no-group",
-        Some("NAME"),
-        "Leave out a group of the lock: --no-group dev",
-    ),
-    (
-        "only-binary",
-        Some("NAME"),
-        "Take wheels alone: --only-binary numpy, or :all:",
-    ),
-    (
-        "no-binary",
-        Some("NAME"),
-        "Take no wheels: --no-binary numpy, or :all:",
-    ),
-    (
-        "set",
-        Some("VARIABLE=VALUE"),
-        "Give a marker variable a text: --set os_name=nt",
-    ),
+pub(crate) const CHOICES: [Argument; 9] = [
+    Argument {
+        name: "all-extras",
+        kind: Kind::Flag,
+        help: "Ask for each extra of the lock",
+    },
+    Argument {
+        name: "extra",
+        kind: Kind::Repeated("NAME"),
+        help: "Ask for an extra of the lock: --extra test",
+    },
+    Argument {
+        name: "no-default-groups",
+        kind: Kind::Flag,
+        help: "Leave out the default groups",
+    },
+    Argument {
+        name: "all-groups",
+        kind: Kind::Flag,
+        help: "Ask for each group of the lock",
+    },
+    Argument {
+        name: "group",
+        kind: Kind::Repeated("NAME"),
+        help: "Ask for a group of the lock: --group test",
+    },
+    Argument {
+        name: "no-group",
+        kind: Kind::Repeated("NAME"),
+        help: "Leave out a group of the lock: --no-group dev",
+    },
+    Argument {
+        name: "only-binary",
+        kind: Kind::Repeated("NAME"),
+        help: "Take wheels alone: --only-binary numpy, or :all:",
+    },
+    Argument {
+        name: "no-binary",
+        kind: Kind::Repeated("NAME"),
+        help: "Take no wheels: --no-binary numpy, or :all:",
+    },
+    Argument {
+        name: "set",
+        kind: Kind::Repeated("VARIABLE=VALUE"),
+        help: "Give a marker variable a text: --set os_name=nt",
+    },
 ];
-
-/// The command, which takes the options of `plan` and `explain` too.
-pub(crate) fn with_choices<'a>(
-    alloc: Global,
-    command: Result<Command<'a>, AllocError>,
-) -> Result<Command<'a>, AllocError>
-    requires local { IsLocal command }
-    ensures app { Adds with_choices command.entry result }
-    ensures local { IsLocal result }
-{
-    with_each_option(alloc, command, &OPTIONS)
-}
-
-/// The command, which takes these options too.
-fn with_each_option<'a>(
-    alloc: Global,
-    command: Result<Command<'a>, AllocError>,
-    options: &[OptionHelp],
-) -> Result<Command<'a>, AllocError>
-    requires local { IsLocal command }
-    ensures app { Adds (λ app. fold with_option app options.now) command.entry result }
-    ensures local { IsLocal result }
-{
-    let mut command = command;
-    for option in options {
-        command = with_argument(command, option_argument(alloc, *option));
-    }
-    command
-}
-
-/// The command with one more argument, unless memory ran out. Each step on the way to a command
-/// takes what the one before it gave, and this function alone looks into it: a `?` at each step
-/// would have the command's drop in every proof.
-pub(crate) fn with_argument<'a>(
-    command: Result<Command<'a>, AllocError>,
-    argument: Arg<'a>,
-) -> Result<Command<'a>, AllocError>
-    requires local { IsLocal command }
-    requires plain { argument.global ≡ false }
-    ensures app { Adds (λ app. with_rule app (rule_of argument.entry)) command.entry result }
-    ensures local { IsLocal result }
-{
-    command?.arg(argument)
-}
-
-/// The argument that an option is to clap.
-pub(crate) fn option_argument<'a>(alloc: Global, option: OptionHelp) -> Arg<'a>
-    ensures rule { rule_of result ≡ option_rule option.entry }
-    ensures local { result.global ≡ false }
-{
-    let (name, value, help) = option;
-    let argument = Arg::new(alloc, name).long(name).help(help);
-    match value {
-        None => argument.action(ArgAction::SetTrue),
-        Some(value) => argument.action(ArgAction::Append).value_name(value),
-    }
-}
 
 /// The options that the words have, in the order in which `Choice` names them.
 pub(crate) fn choices_of<'a>(
@@ -182,16 +134,6 @@ fn push_flag<'a>(
         list.push(choice)?;
     }
     Ok(())
-}
-
-/// Whether the words have an option without a text.
-pub(crate) fn has_flag(found: &ArgMatches<'_>, name: &str) -> bool
-    ensures { result ≡ has_flag name.now (rows_of (found_of found.now)) }
-{
-    match found.get_str(name) {
-        Some(text) => text == "true",
-        None => false,
-    }
 }
 
 /// Pushes an option with each text that the words give it.

@@ -1,24 +1,21 @@
 //! The command line, from words to a task.
-ghost use Rattle.std.specs.List.{list_any};
-ghost use Rattle.std.specs.Prelude.{◌≡◌, ◌∷◌, [], codes, fold, map, true, Some, IfOk, IfErr, OnOk};
-ghost use Rattle.clap.specs.Words.{app_of, fault_of, found_of, rows_of};
+ghost use Rattle.std.specs.Prelude.{◌≡◌, [], fold, map, None, Some, IfOk, IfErr, OnOk};
+ghost use Rattle.clap.specs.Words.{app_of, fault_of, found_of, kind_of, rows_of};
 ghost use Rattle.clap.specs.Words.{subcommand_of, subcommand_rows_of, with_subcommand};
-ghost use Rattle.pylock_command.specs.Choices.{AreChoices};
-ghost use Rattle.pylock_command.specs.CommandLine.{HasText, HaveTexts, IsRefusal, IsTask};
-ghost use Rattle.pylock_command.specs.CommandLine.{is_lacking, lacks, lacks_text};
+ghost use Rattle.pylock_command.specs.CommandLine.{IsRefusal, IsTask, misuse_in, misuse_of};
 ghost use Rattle.pylock_command.specs.CommandLine.{pylock_app, top_app};
 ghost use Rattle.pylock_command.specs.Commands.{Adds, IsCommand, IsLocal};
-ghost use Rattle.pylock_command.specs.Form.{form_of};
-ghost use Rattle.pylock_command.specs.Strict.{is_strict};
+ghost use Rattle.pylock_command.specs.Misuse.{RefusesUnless, kind_of_misuse};
 ghost use Rattle.pylock_command.specs.Subcommand.{with_usage};
-ghost use Rattle.pylock_command.specs.declared.command_line.NoTask.TheVariants as no_task;
 
-use crate::choices::choices_of;
+use crate::asked::{diff_of, files_of, plan_of, request_of, selection_of};
 use crate::form::form_of;
 use crate::help::ABOUT;
-use crate::strict::is_strict;
-use crate::subcommand::{SUBCOMMANDS, Usage, subcommand};
-use crate::task::{Request, Selection, Task, View};
+use crate::machine::{machine_of, target_of};
+use crate::misuse::{Misuse, NoTask};
+use crate::subcommand::{SUBCOMMANDS, Usage, called, subcommand};
+use crate::task::{Task, View};
+use crate::texts::text_of;
 use clap::error::ErrorKind;
 use clap::{ArgMatches, Command};
 use std::alloc::{AllocError, Global};
@@ -26,8 +23,8 @@ use std::alloc::{AllocError, Global};
 /// Why there is no task.
 #[derive(Debug, Drop)]
 pub enum CommandError {
-    /// Clap refuses the words, or they ask for help or the version. The error says which stream and
-    /// status it wants.
+    /// Clap refuses the words, or they ask for help or the version, or clap takes them and they ask
+    /// for nothing. The error says which stream and status it wants.
     Refused(clap::Error),
     /// A growth was refused.
     Memory,
@@ -53,25 +50,6 @@ impl From<clap::Error> for CommandError {
             ErrorKind::OutOfMemory => CommandError::Memory,
             _ => CommandError::Refused(error),
         }
-    }
-}
-
-/// Why the words of a subcommand give no task.
-#[derive(Clone, Copy)]
-enum NoTask {
-    /// One of its texts is missing, or it is none of the program's.
-    Missing,
-    /// A growth was refused.
-    Memory,
-}
-
-impl From<AllocError> for NoTask {
-    ghost use Rattle.pylock_command.specs.declared.command_line.NoTask.TheVariants.{Memory};
-
-    ghost from_gives = { λ _ none. none ≡ Memory };
-
-    fn from(_error: AllocError) -> NoTask {
-        NoTask::Memory
     }
 }
 
@@ -138,8 +116,7 @@ fn with_subcommand<'a>(
 /// The task that clap's matches give.
 fn task_of<'a>(alloc: Global, matches: ArgMatches<'a>) -> Result<Task<'a>, NoTask>
     ensures task { IfOk result (IsTask (subcommand_rows_of matches.entry)) }
-    ensures lacks { IfErr result (λ none. none ≡ no_task.Missing
-        → is_lacking (subcommand_rows_of matches.entry) ≡ true) }
+    ensures refused { RefusesUnless (misuse_of (subcommand_rows_of matches.entry)) result }
 {
     match matches.subcommand() {
         Some((name, found)) => task_in(alloc, name, found),
@@ -150,65 +127,34 @@ fn task_of<'a>(alloc: Global, matches: ArgMatches<'a>) -> Result<Task<'a>, NoTas
 /// The task of a subcommand.
 fn task_in<'a>(alloc: Global, name: &str, found: &ArgMatches<'a>) -> Result<Task<'a>, NoTask>
     ensures task { IfOk result (IsTask (Some (name.now, rows_of (found_of found.now)))) }
-    ensures lacks { IfErr result (λ none. none ≡ no_task.Missing
-        → lacks_text name.now (rows_of (found_of found.now)) ≡ true) }
+    ensures refused { RefusesUnless (misuse_in name.now (rows_of (found_of found.now))) result }
 {
     Ok(match name {
-        "plan" => Task::Show(request_of(alloc, View::Plan, found)?),
+        "plan" => plan_of(alloc, found)?,
         "explain" => Task::Show(request_of(alloc, View::Explain, found)?),
-        "select" => Task::Select(Selection {
-            lock: text_of(found, "LOCK")?,
-            environment: text_of(found, "ENV")?,
-            strict: is_strict(found),
-        }),
-        "files" => Task::Files(text_of(found, "LOCK")?, form_of(found)),
+        "select" => Task::Select(selection_of(found)?),
+        "files" => files_of(found)?,
         "audit" => Task::Audit(text_of(found, "LOCK")?, form_of(found)),
-        "version" => Task::Version(text_of(found, "TEXT")?),
-        "match" => Task::Match(text_of(found, "SET")?, text_of(found, "VERSION")?),
-        "name" => Task::Name(text_of(found, "TEXT")?),
-        "marker" => Task::Marker(text_of(found, "TEXT")?, text_of(found, "ENV")?),
-        "requirement" => Task::Requirement(text_of(found, "TEXT")?),
-        "wheel" => Task::Wheel(text_of(found, "TEXT")?),
-        "sdist" => Task::Sdist(text_of(found, "TEXT")?),
-        _ => return Err(NoTask::Missing),
+        "diff" => Task::Diff(diff_of(alloc, found)?),
+        "environment" => Task::Environment(target_of(found)?),
+        "version" => Task::Version(text_of(found, "TEXT")?, form_of(found)),
+        "match" => Task::Match(
+            text_of(found, "SET")?,
+            text_of(found, "VERSION")?,
+            form_of(found),
+        ),
+        "name" => Task::Name(text_of(found, "TEXT")?, form_of(found)),
+        "marker" => Task::Marker(text_of(found, "TEXT")?, machine_of(found)?, form_of(found)),
+        "requirement" => Task::Requirement(text_of(found, "TEXT")?, form_of(found)),
+        "wheel" => Task::Wheel(text_of(found, "TEXT")?, form_of(found)),
+        "sdist" => Task::Sdist(text_of(found, "TEXT")?, form_of(found)),
+        _ => return Err(NoTask::Misused(Misuse::Missing)),
     })
-}
-
-/// What `plan` or `explain` is asked.
-fn request_of<'a>(alloc: Global, view: View, found: &ArgMatches<'a>) -> Result<Request<'a>, NoTask>
-    ensures view { IfOk result (λ r. r.view ≡ view) }
-    ensures texts { IfOk result (λ r. HaveTexts (rows_of (found_of found.now))
-        (codes "LOCK" ∷ codes "ENV" ∷ []) (r.lock.now ∷ r.environment.now ∷ [])) }
-    ensures choices { IfOk result (λ r. AreChoices (rows_of (found_of found.now)) r.choices.items) }
-    ensures strict { IfOk result (λ r. r.strict ≡ is_strict (rows_of (found_of found.now))) }
-    ensures form { IfOk result (λ r. r.form ≡ form_of (rows_of (found_of found.now))) }
-    ensures lacks { IfErr result (λ none. none ≡ no_task.Missing
-        → list_any (lacks (rows_of (found_of found.now))) (codes "LOCK" ∷ codes "ENV" ∷ [])
-        ≡ true) }
-{
-    Ok(Request {
-        view,
-        lock: text_of(found, "LOCK")?,
-        environment: text_of(found, "ENV")?,
-        choices: choices_of(alloc, found)?,
-        strict: is_strict(found),
-        form: form_of(found),
-    })
-}
-
-/// The text of an argument.
-fn text_of<'a>(found: &ArgMatches<'a>, id: &str) -> Result<&'a str, NoTask>
-    ensures text { IfOk result (λ text. HasText (rows_of (found_of found.now)) id.now text.now) }
-    ensures lacks { IfErr result (λ _. lacks (rows_of (found_of found.now)) id.now ≡ true) }
-{
-    match found.get_str(id) {
-        Some(text) => Ok(text),
-        None => Err(NoTask::Missing),
-    }
 }
 
 /// The task that `words` ask for, of which the first is the program's name. A text of the task is
-/// one of the words. A refusal is clap's, or says that a text of the subcommand is missing.
+/// one of the words. A refusal is clap's; or clap takes the words of a subcommand, which ask for
+/// nothing: then the error has the kind that clap has for such words.
 ///
 /// It takes memory for the command line's description, for what is found and for the text of an
 /// error.
@@ -216,6 +162,8 @@ pub fn command<'a>(alloc: Global, words: &'a [&'a str]) -> Result<Task<'a>, Comm
     ensures task { IfOk result
         (IsTask (subcommand_of pylock_app (map (λ w. w.now) words.entry.now))) }
     ensures taken { OnOk result (fault_of pylock_app (map (λ w. w.now) words.entry.now) ≡ []) }
+    ensures used { OnOk result
+        (misuse_of (subcommand_of pylock_app (map (λ w. w.now) words.entry.now)) ≡ None) }
     ensures refused { IfErr result (IsRefusal (map (λ w. w.now) words.entry.now)) }
 {
     let mut app = pylock_command(alloc)?;
@@ -232,15 +180,35 @@ fn read_task<'a>(
     ensures task { IfOk result
         (IsTask (subcommand_of pylock_app (map (λ w. w.now) words.entry.now))) }
     ensures taken { OnOk result (fault_of pylock_app (map (λ w. w.now) words.entry.now) ≡ []) }
+    ensures used { OnOk result
+        (misuse_of (subcommand_of pylock_app (map (λ w. w.now) words.entry.now)) ≡ None) }
     ensures refused { IfErr result (IsRefusal (map (λ w. w.now) words.entry.now)) }
 {
     let matches = app.try_get_matches_from_mut(words)?;
+    let name = matches.subcommand_name();
     match task_of(alloc, matches) {
         Ok(task) => Ok(task),
-        Err(NoTask::Missing) => {
-            let kind = ErrorKind::MissingRequiredArgument;
-            Err(CommandError::Refused(app.error(kind, "an argument is missing")?))
+        Err(NoTask::Misused(misuse)) => {
+            Err(CommandError::Refused(error_of(alloc, app, name, misuse)?))
         }
         Err(NoTask::Memory) => Err(CommandError::Memory),
     }
+}
+
+/// The error that tells a misuse of the words of a subcommand, with the usage of that.
+fn error_of(
+    alloc: Global,
+    app: &mut Command<'_>,
+    name: Option<&str>,
+    misuse: Misuse,
+) -> Result<clap::Error, AllocError>
+    ensures { IfOk result (λ error. kind_of error ≡ kind_of_misuse misuse) }
+{
+    for usage in &SUBCOMMANDS {
+        if name == Some(usage.name) {
+            let mut called = called(alloc, *usage)?;
+            return called.error(misuse.kind(), misuse.message());
+        }
+    }
+    app.error(misuse.kind(), misuse.message())
 }

@@ -5,18 +5,19 @@ pub(crate) const ABOUT: &str = "\
 Tells exactly what a pylock.toml installs in an environment, and why
 
 Example:
-  $ pylock plan pylock.toml env.json --extra science
+  $ pylock plan pylock.toml --python 3.12 --platform linux --extra science
   plan 12
   ..
 
 plan prints a line for each package to install. explain prints what becomes of
-each entry of the lock, and why. env.json is the environment of a Python: its
-marker variables and its wheel tags. Each command has --help; without a command
-pylock prints its name and major version.
+each entry of the lock, and why. Both are asked for a Python and a platform, or
+for the environment in a file, which has the marker variables and the wheel
+tags of a Python. Each command has --help; without a command pylock prints its
+name and major version.
 
-Status: 0, an answer; 1, a fault, a finding or a refused text; 2, the lock, the
-environment or the command line is refused; 3, standard error says why it ended
-early.";
+Status: 0, an answer; 1, a fault, a finding, a change or a refused text; 2, a
+lock, the environment or the command line is refused; 3, standard error says
+why it ended early.";
 
 pub(crate) const PLAN: &str = "\
 Example, with spaces for the TABs:
@@ -37,21 +38,51 @@ of explain says what CODE means. Standard error tells the reason.
 
 The options count in the order of the list above. Of --only-binary and
 --no-binary the last that names a package counts, and :all: names each package.
-An option with a text may stand again; a text that begins with - is given as
---extra=TEXT. Tags come from ENV alone: --set doesn't change them.
---only-binary :all: leaves VCS sources, directories and archives, which are
-built all the same. A refused option prints refused, TAB, the option, TAB and
-its text.
+One that takes NAME or VARIABLE may stand again; a text that begins with - is
+given as --extra=TEXT. Tags come from ENV or the target: --set doesn't change
+them. --only-binary :all: leaves VCS sources, directories and archives, which
+are built all the same. A refused option prints refused, TAB, the option, TAB
+and its text.
+
+--python and --platform name a target in place of ENV. PYTHON is such as 3.12
+or 3.12.4, with t behind it for the build without the GIL. PLATFORM is one of:
+  manylinux_2_N_ARCH  Linux with glibc 2.N; ARCH is such as x86_64 or aarch64
+  manylinux2014_ARCH  the same with 2.17; as manylinux2010_ARCH, manylinux1_ARCH
+  musllinux_1_N_ARCH  Linux with musl 1.N
+  macosx_M_0_ARCH     macOS from 11 on; ARCH is x86_64 or arm64
+  macosx_10_N_x86_64  macOS 10.N
+  win_amd64           Windows; as win_arm64, win32
+  linux               manylinux_2_28_x86_64
+  macos               macosx_14_0_arm64
+  windows             win_amd64
+
+--format prints what another tool takes, and nothing else. FORM is one of:
+  requirements  for pip install --no-deps -r FILE, or uv pip install with these
+  sha256sum     for sha256sum -c FILE
+  aria2         for aria2c -i FILE
+  urls          for wget -i FILE: a URL on each line
+
+Run the tool in the lock's folder, from which paths are meant:
+  $ pylock plan pylock.toml env.json --format requirements
+  ..
+  # plan by pylock
+  -e ./.
+  acme-protocol @ git+https://git.acme.example/protocol.git@..
+  ..
+
+The last three leave out VCS sources and directories, and standard error counts
+them. What the tool could read in another way is refused: standard error has
+refused, TAB, format, TAB and the number of the entry.
 
 With --strict the lock is taken only where audit has none of these findings:
 no-packages, name-form, version, wrong-type, marker-extra, no-source,
 several-sources, no-hash, no-wheel-name, no-sdist-name, other-name,
 other-version. Else it prints findings K and these findings alone, as audit
-does, and the status is 2.
+does, and the status is 2. Other findings, such as readings-differ, it passes.
 
-Status: 0, a plan; 1, a fault or a refused option; 2, the lock, the environment
-or the command line is refused; 3, a file can't be read, the output failed or
-memory ran out.";
+Status: 0, a plan; 1, a fault, a refused option or a form that can't hold the
+plan; 2, the lock, the environment or the command line is refused; 3, a file
+can't be read, the output failed or memory ran out.";
 
 pub(crate) const EXPLAIN: &str = "\
 Example, with spaces for the TABs:
@@ -114,8 +145,10 @@ The edits:
   del ID              remove the entry with this number: del 1
   policy NAME POLICY  files of this name, any, wheel or source: policy pip wheel
 
-With --strict the lock is taken as plan --strict takes it; what an edit adds is
-not judged so.
+A target stands in place of ENV as in plan. With --strict the lock is taken as
+plan --strict takes it; what an edit adds is not judged so. With --json an
+answer is the document of plan --json, and that of a refused line N is
+{\"line\":N,\"pylock\":1,\"refused\":[..]}, each on a line.
 
 Status: 0, the last answer is a plan and no line was refused; 1, otherwise;
 2, the lock, the environment or the command line is refused; 3, a line on
@@ -139,8 +172,23 @@ source, file name, path or URL, hashes, VCS commit and subdirectory. An absent
 field is -. The lines are for programs: a field may hold any character of the
 lock but TAB and LF, which are written \\t and \\n.
 
-Status: 0, the lines; 2, the lock or the command line is refused; 3, a file
-can't be read, the output failed or memory ran out.";
+--format prints what another tool takes, and nothing else. FORM is one of:
+  sha256sum  for sha256sum -c FILE
+  aria2      for aria2c -i FILE
+  urls       for wget -i FILE: a URL on each line
+
+VCS sources and directories are left out, and standard error counts them:
+  $ pylock files pylock.toml --format urls
+  ..
+  https://downloads.acme.example/acme-theme-0.4.2.tar.gz
+  ..
+
+What the tool could read in another way is refused: standard error has refused,
+TAB, format, TAB and the number of the entry.
+
+Status: 0, the lines; 1, a form that can't hold them; 2, the lock or the
+command line is refused; 3, a file can't be read, the output failed or memory
+ran out.";
 
 pub(crate) const AUDIT: &str = "\
 Example, with spaces for the TABs:
@@ -196,12 +244,59 @@ as ***, and control characters as \\u{..}.
 Status: 0, nothing was found; 1, something was; 2, the lock or the command line
 is refused; 3, a file can't be read, the output failed or memory ran out.";
 
+pub(crate) const DIFF: &str = "\
+Example, with spaces for the TABs:
+  $ pylock diff pylock.toml audited.toml
+  changes ..
+  head  environments  sys_platform == 'linux',..
+  head  extras  science  socks
+  ..
+  removed  acme-service  \\-  -
+  ..
+
+Prints changes K and then K lines, one for each change: CHANGE NAME FROM TO,
+with TAB between two fields. An absent field is -. CHANGE is one of these, and
+what stands in parentheses is told of both locks:
+  head            a key of the lock's head changed; NAME is the key (its texts)
+  added, removed  one lock alone has the package (its versions)
+  version         other versions (these)
+  hash            a file has other hashes under the same name (the file, the
+                  algorithm and the hashes)
+  file            one lock alone has the file or source (this)
+  place           a file comes from another place (the places)
+  condition       other markers or other Pythons (these)
+
+With --in or a target, and then with the options of plan too, the plans of the
+locks are compared in their place: what a machine would see of the change.
+Where one is a fault, the one line is fault, -, and of both plans ID CODE or -.
+
+Status: 0, nothing changed; 1, something did, or an option is refused; 2, a
+lock, the environment or the command line is refused; 3, a file can't be read,
+the output failed or memory ran out.";
+
+pub(crate) const ENVIRONMENT: &str = "\
+Example:
+  $ pylock environment --python 3.12 --platform linux
+  {\"environment\":{..
+
+Prints the environment of a target, in the form of ENV: the values that marker
+variables have there, and the tags of the wheels that CPython's installers take
+there, the most preferred first. The help of plan says what PYTHON and PLATFORM
+may be. Of another text it prints environment, TAB and python or platform, and
+standard error says what is taken.
+
+Status: 0, an environment; 2, PYTHON, PLATFORM or the command line is refused;
+3, the output failed or memory ran out.";
+
 pub(crate) const VERSION: &str = "\
 Example:
   $ pylock version v1.0-RC.1
   1.0rc1
 
 Prints the normal form, or refused, TAB and one of the words syntax and number.
+With --json the answer is a document:
+  $ pylock version v1.0-RC.1 --json
+  {\"pylock\":1,\"version\":\"1.0rc1\"}
 
 Status: 0, it is a version; 1, it is refused; 2, the command line is refused;
 3, the output failed or memory ran out.";
@@ -212,7 +307,10 @@ Example:
   true
 
 Prints true or false, or refused, TAB and one of the words set-syntax,
-set-number, version-syntax and version-number.
+set-number, version-syntax and version-number. With --json the answer is a
+document:
+  $ pylock match '>=2.8.1, ==2.8.*' 2.8.3 --json
+  {\"match\":true,\"pylock\":1}
 
 Status: 0, an answer; 1, a text is refused; 2, the command line is refused;
 3, the output failed or memory ran out.";
@@ -222,7 +320,10 @@ Example:
   $ pylock name Foo__Bar
   foo-bar
 
-Prints the normal form, or refused, TAB and the word name.
+Prints the normal form, or refused, TAB and the word name. With --json the
+answer is a document:
+  $ pylock name Foo__Bar --json
+  {\"name\":\"foo-bar\",\"pylock\":1}
 
 Status: 0, it is a name; 1, it is refused; 2, the command line is refused;
 3, the output failed or memory ran out.";
@@ -236,7 +337,10 @@ Prints true or false, with no extra and no group asked for; or fault, TAB and
 one of the codes marker-unset, marker-extra, marker-undefined and
 marker-number, which the help of explain tells; or refused, TAB and one of the
 words too-deep, syntax and set-misuse; or the refusal of the environment, as
-select does.
+select does. A target stands in place of ENV as in plan. With --json the answer
+is a document:
+  $ pylock marker 'os_name == \"nt\"' --python 3.12 --platform windows --json
+  {\"marker\":true,\"pylock\":1}
 
 Status: 0, an answer; 1, a fault or a refused text; 2, the environment or the
 command line is refused; 3, a file can't be read, the output failed or memory
@@ -249,7 +353,8 @@ Example, with spaces for the TABs:
 
 Prints name, extras, specifier set, URL and marker, with TAB between two; an
 absent part is -. Or prints refused, TAB and one of the words name, extras,
-specifier, url, marker and trailing.
+specifier, url, marker and trailing. With --json the answer is a document whose
+member requirement has these parts by name.
 
 Status: 0, it is a requirement; 1, it is refused; 2, the command line is
 refused; 3, the output failed or memory ran out.";
@@ -261,7 +366,8 @@ Example, with spaces for the TABs:
 
 Prints name, version, build and tags, with TAB between two; an absent build is
 -. Or prints refused, TAB and one of the words extension, parts, name, version,
-build and tags.
+build and tags. With --json the answer is a document whose member wheel has
+these parts by name, the tags as a list.
 
 Status: 0, it is the name of a wheel; 1, it is refused; 2, the command line is
 refused; 3, the output failed or memory ran out.";
@@ -273,6 +379,9 @@ Example, with a space for the TAB:
 
 Prints the name in its normal form and the version, with TAB between them. Or
 prints refused, TAB and one of the words extension, parts, name and version.
+With --json the answer is a document:
+  $ pylock sdist Foo.Bar-1.0.tar.gz --json
+  {\"pylock\":1,\"sdist\":{\"name\":\"foo-bar\",\"version\":\"1.0\"}}
 
 Status: 0, it is the name of an sdist; 1, it is refused; 2, the command line is
 refused; 3, the output failed or memory ran out.";

@@ -14,16 +14,22 @@
 //! ```
 #![tactic(auto)]
 
+mod argument;
+mod asked;
 mod choice;
 mod choices;
 mod command_line;
 mod form;
 mod help;
+mod machine;
+mod misuse;
 mod strict;
 mod subcommand;
 mod task;
+mod texts;
 
 pub use choice::Choice;
 pub use command_line::{CommandError, command};
-pub use form::Form;
-pub use task::{Request, Selection, Task, View};
+pub use form::{FileFormat, Form, PlanFormat};
+pub use machine::{Machine, TargetWords};
+pub use task::{DiffRequest, ExportRequest, Installation, Request, Selection, Task, View};

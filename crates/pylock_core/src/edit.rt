@@ -1,10 +1,11 @@
 //! The edits of a session.
 
 ghost use Rattle.std.specs.Prelude.{◌≡◌};
+ghost use Rattle.pylock_core.specs.Session.Names.{name_change, names_key};
 ghost use Rattle.pylock_core.specs.declared.edit.EditError.TheVariants.{Memory};
 
 use pylock_readers::Entry;
-use pymark_core::Change;
+use pymark_core::{Change, Key};
 use pyver_core::NormalName;
 use pywheel_core::TagList;
 use std::alloc::AllocError;
@@ -24,6 +25,43 @@ pub enum Edit {
     Del(u32),
     /// Gives the name the policy.
     Policy(NormalName, Policy),
+}
+
+/// What becomes of a name among the extras or the groups that are asked for.
+#[derive(Clone, Copy, Debug, PartialEq, Eq)]
+pub enum NameChange {
+    /// The extra is asked for.
+    AddExtra,
+    /// The extra is asked for no more.
+    DropExtra,
+    /// The dependency group is asked for.
+    AddGroup,
+    /// The dependency group is asked for no more.
+    DropGroup,
+}
+
+impl NameChange {
+    /// The change of the environment for this name. It takes no memory.
+    pub fn of(self, name: NormalName) -> Change
+        ensures { result ≡ name_change self name }
+    {
+        match self {
+            NameChange::AddExtra => Change::AddExtra(name),
+            NameChange::DropExtra => Change::DropExtra(name),
+            NameChange::AddGroup => Change::AddGroup(name),
+            NameChange::DropGroup => Change::DropGroup(name),
+        }
+    }
+
+    /// The key at which it changes an environment, whatever the name.
+    pub(crate) fn key(self) -> Key
+        ensures { result ≡ names_key self }
+    {
+        match self {
+            NameChange::AddExtra | NameChange::DropExtra => Key::Extras,
+            NameChange::AddGroup | NameChange::DropGroup => Key::Groups,
+        }
+    }
 }
 
 /// Why an edit is refused.

@@ -8,9 +8,9 @@
 //!
 //! ```rust
 //! match Lock::read(alloc, lock) {
-//!     Ok(lock) => open_on(alloc, lock, env),
+//!     Ok(lock) => open_on(alloc, lock, environment),
 //! ..
-//! match read_environment(alloc, env) {
+//! match environment.read(alloc) {
 //!     Ok((environment, tags)) => Ok(Session::start(alloc, lock, environment, tags)?),
 //! ..
 //! ```
@@ -34,12 +34,12 @@ mod session;
 mod words;
 
 pub use answer::{Answer, FaultCode, Pick, PickSource, Plan, Standing};
-pub use edit::{Edit, EditError, Policy};
+pub use edit::{Edit, EditError, NameChange, Policy};
 pub use fate::Fate;
 pub use picked::{NamedSource, PickedSource, sources};
 pub use pylock_readers::{
-    Archive, Directory, DistributionFile, Entry, EntryError, EntryKey, EnvError, Head, HeadKey,
-    HeadNames, Lock, LockError, Sdist, Vcs, WheelFile, read_environment,
+    Archive, Directory, DistributionFile, Entry, EntryError, EntryKey, EnvError, EnvironmentInput,
+    Head, HeadKey, HeadNames, Lock, LockError, Sdist, Vcs, WheelFile, environment_text, read_environment,
 };
 pub use session::Session;
 pub use words::{directory_word, fault_word, policy_word, verdict_word};

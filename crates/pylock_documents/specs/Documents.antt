@@ -1,10 +1,13 @@
 -- The documents of answers: the members of the object that each command shows.
 use Rattle.std.specs.Prelude.{ℕ, ◌+◌, ◌++◌, List, [], ◌∷◌, codes, map, Option, Some, None}
-use Rattle.std.specs.Prelude.{option_and_then, option_map}
-use Rattle.std.specs.List.{flat_map}
+use Rattle.std.specs.Prelude.{Bool, option_and_then, option_map}
+use Rattle.std.specs.List.{flat_map, list_any}
 use Rattle.std.specs.Option.{option_map_or}
+use Rattle.std.specs.Str.{bytes_eq}
 use Rattle.serde_json.specs.Data.{Data}
-use Rattle.pylock_json.specs.Json.{Row, list_of, maybe, numbered, object_of, texts_of, there}
+use Rattle.pylock_json.specs.Json.{Row, list_of, maybe, maybe_numbered, numbered, object_of}
+use Rattle.pylock_json.specs.Json.{texts_of, there}
+use Rattle.pylock_messages.specs.Diagnostic.{DiagnosticValue}
 use Rattle.pyver_core.specs.Set.Normal.{set_text}
 use Rattle.pylock_readers.specs.Entry.{EntryValue}
 use Rattle.pylock_readers.specs.Lock.{HeadValue}
@@ -101,8 +104,32 @@ explain_rows state =
 
 -- ---- refused
 
-abbrev pub refused_rows : List (List ℕ) → List Row
-refused_rows words = (codes "refused", Some (texts_of words)) ∷ []
+-- where a file is wrong, or why something else is refused
+abbrev pub diagnostic_rows : DiagnosticValue → List Row
+diagnostic_rows told =
+    (codes "message", there told.message)
+    ∷ (codes "file", maybe told.file)
+    ∷ (codes "line", maybe_numbered told.line)
+    ∷ (codes "column", maybe_numbered told.column)
+    ∷ (codes "entry", maybe_numbered told.entry)
+    ∷ (codes "name", maybe told.name)
+    ∷ (codes "key", maybe told.key)
+    ∷ []
+
+-- the words of a refusal, and beside them what is told of it
+abbrev pub refused_rows : List (List ℕ) → Option DiagnosticValue → List Row
+refused_rows words told =
+    (codes "refused", Some (texts_of words)) ∷ option_map_or diagnostic_rows told []
+
+-- of a line of the input, which has this number
+abbrev pub refused_line_rows : ℕ → List (List ℕ) → List Row
+refused_line_rows number words = refused_rows words None ++ (codes "line", numbered number) ∷ []
+
+-- the keys that a refusal's document may have beside `pylock`
+abbrev pub is_refusal_key : List ℕ → Bool
+is_refusal_key key = list_any (λ k. bytes_eq key k) (
+    codes "refused" ∷ codes "message" ∷ codes "file" ∷ codes "line" ∷ codes "column"
+    ∷ codes "entry" ∷ codes "name" ∷ codes "key" ∷ [])
 
 -- ---- the head of a lock
 

@@ -1,3 +1,4 @@
 pub mod Documents
 pub mod Source
+pub mod Texts
 pub mod Reasons

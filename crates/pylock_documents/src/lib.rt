@@ -1,7 +1,8 @@
 //! The answers of pylock as JSON documents: a plan or its fault, what becomes of each entry, the
-//! files of a lock, its head, and the words of a refusal. They have what the printed lines have,
-//! each field under a name of its own, and of a fault its reason too. A field that is absent is
-//! left out. The document of findings is `pylock_audit`'s.
+//! files of a lock, its head, the parts of a requirement and of a file name, and the words of a
+//! refusal. They have what the printed lines have, each field under a name of its own, and of a
+//! fault its reason too. A field that is absent is left out. The document of findings is
+//! `pylock_audit`'s.
 //!
 //! The files of a lock, as lines or as a document, from `crates/pylock_program/src/reply.rt`:
 //!
@@ -16,14 +17,17 @@
 mod explain;
 mod files;
 mod head;
+pub mod laws;
 mod plan;
 mod reasons;
 mod refused;
 mod source;
+mod texts;
 
 pub use explain::explain_document;
 pub use files::files_document;
 pub use head::head_document;
 pub use plan::{fault_detail, plan_document};
 pub use reasons::{detail, head_detail};
-pub use refused::refused_document;
+pub use refused::{refused_document, refused_line_document};
+pub use texts::{requirement_document, sdist_document, specifiers_text, wheel_document};

@@ -1,22 +1,46 @@
 //! What was refused.
 
-ghost use Rattle.std.specs.Prelude.{◌≡◌, IfOk, map};
+ghost use Rattle.std.specs.Prelude.{◌≡◌, [], IfOk, OnOk, map};
+ghost use Rattle.std.specs.Option.{option_copied, option_map_or};
 ghost use Rattle.serde_json.specs.Data.{string};
 ghost use Rattle.serde_json.specs.View.{members_view, view as data_of};
-ghost use Rattle.pylock_json.specs.Json.{members_of};
+ghost use Rattle.pylock_json.specs.Json.{members_of, with_rows};
+ghost use Rattle.pylock_documents.specs.Documents.{diagnostic_rows, refused_line_rows};
 ghost use Rattle.pylock_documents.specs.Documents.{refused_rows};
 
 use pylock_json::{List, Object};
+use pylock_messages::Diagnostic;
 use std::alloc::{AllocError, Global};
 
-/// The document of a refusal, of these words. It takes memory for the object.
-pub fn refused_document(alloc: Global, words: &[&str]) -> Result<Object, AllocError>
+/// The document of a refusal: these words, and beside them where the file is wrong, or why
+/// something else is refused, as far as that is known. It takes memory for the object.
+pub fn refused_document(
+    alloc: Global,
+    words: &[&str],
+    told: Option<&Diagnostic>,
+) -> Result<Object, AllocError>
     ensures { IfOk result (λ object. members_view object
-        ≡ members_of (refused_rows (map (λ w. w.now) words.now))) }
+        ≡ members_of (refused_rows (map (λ w. w.now) words.now) (option_copied told.entry))) }
 {
     let words = words_list(alloc, words)?;
     let mut object = Object::new(alloc);
     object.put(alloc, "refused", words.into_json())?;
+    put_told(alloc, &mut object, told)?;
+    Ok(object)
+}
+
+/// The document of a refused line of the input, of these words and the line's number. It takes
+/// memory for the object.
+pub fn refused_line_document(
+    alloc: Global,
+    number: u64,
+    words: &[&str],
+) -> Result<Object, AllocError>
+    ensures { IfOk result (λ object. members_view object
+        ≡ members_of (refused_line_rows number (map (λ w. w.now) words.now))) }
+{
+    let mut object = refused_document(alloc, words, None)?;
+    object.put_number(alloc, "line", number)?;
     Ok(object)
 }
 
@@ -28,4 +52,29 @@ fn words_list(alloc: Global, words: &[&str]) -> Result<List, AllocError>
         list.push_text(alloc, word)?;
     }
     Ok(list)
+}
+
+/// Puts what is told, where something is.
+fn put_told(alloc: Global, object: &mut Object, told: Option<&Diagnostic>) -> Result<(), AllocError>
+    ensures { OnOk result (members_view object.new
+        ≡ with_rows (option_map_or diagnostic_rows (option_copied told.entry) [])
+        (members_view object.old)) }
+{
+    match told {
+        Some(told) => put_diagnostic(alloc, object, told),
+        None => Ok(()),
+    }
+}
+
+fn put_diagnostic(alloc: Global, object: &mut Object, told: &Diagnostic) -> Result<(), AllocError>
+    ensures { OnOk result (members_view object.new
+        ≡ with_rows (diagnostic_rows told.now) (members_view object.old)) }
+{
+    object.put_text(alloc, "message", told.message())?;
+    object.put_maybe(alloc, "file", told.file())?;
+    object.put_maybe_number(alloc, "line", told.line())?;
+    object.put_maybe_number(alloc, "column", told.column())?;
+    object.put_maybe_number(alloc, "entry", told.entry())?;
+    object.put_maybe(alloc, "name", told.name())?;
+    object.put_maybe(alloc, "key", told.key())
 }

@@ -1,8 +1,8 @@
 -- Documents in JSON (RFC 8259), whose members are put one after another.
-use Rattle.std.specs.Prelude.{◌≡◌, ℕ, ◌++◌, List, [], ◌∷◌, codes, false, map}
+use Rattle.std.specs.Prelude.{◌≡◌, ℕ, ◌++◌, List, [], ◌∷◌, codes, Bool, false, map}
 use Rattle.std.specs.Prelude.{Option, IfSome, Some, option_map}
 use Rattle.std.specs.Option.{option_map_or}
-use Rattle.serde_json.specs.Data.{Data, array, number, object, string, unsigned}
+use Rattle.serde_json.specs.Data.{Data, array, boolean, number, object, string, unsigned}
 use Rattle.serde_json.specs.Data.{Items, no_items, item, Members, no_members, put}
 use Rattle.serde_json.specs.Written.{compact_text, has_float}
 
@@ -45,6 +45,14 @@ maybe = option_map string
 
 abbrev pub numbered : ℕ → Option Data
 numbered n = Some (number (unsigned n))
+
+-- a number that may be there
+abbrev pub maybe_numbered : Option ℕ → Option Data
+maybe_numbered = option_map (λ n. number (unsigned n))
+
+-- true or false
+abbrev pub truth : Bool → Option Data
+truth value = Some (boolean value)
 
 -- A row has no float.
 abbrev pub HasNone : Row → Type 0

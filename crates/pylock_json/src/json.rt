@@ -1,7 +1,7 @@
 //! A value.
 
 ghost use Rattle.std.specs.Prelude.{◌≡◌, IfOk, false, string_bytes};
-ghost use Rattle.serde_json.specs.Data.{number, string, unsigned};
+ghost use Rattle.serde_json.specs.Data.{boolean, number, string, unsigned};
 ghost use Rattle.serde_json.specs.View.{view as data_of};
 ghost use Rattle.serde_json.specs.Written.{compact_text, has_float};
 
@@ -41,6 +41,15 @@ impl Json {
     /// A number. It takes no memory.
     pub fn number(value: u64) -> Json
         ensures { data_of result ≡ number (unsigned value) }
+    {
+        Json {
+            value: Value::from(value),
+        }
+    }
+
+    /// True or false. It takes no memory.
+    pub fn boolean(value: bool) -> Json
+        ensures { data_of result ≡ boolean value }
     {
         Json {
             value: Value::from(value),

@@ -4,7 +4,7 @@ ghost use Rattle.std.specs.Prelude.{◌≡◌, OnErr, OnOk, Some};
 ghost use Rattle.std.specs.Option.{option_copied};
 ghost use Rattle.serde_json.specs.Data.{no_members, object};
 ghost use Rattle.serde_json.specs.View.{members_view, view as data_of};
-ghost use Rattle.pylock_json.specs.Json.{maybe, numbered, there, with_row};
+ghost use Rattle.pylock_json.specs.Json.{maybe, maybe_numbered, numbered, there, truth, with_row};
 
 use crate::json::Json;
 use serde_json::{Map, Value, put};
@@ -93,6 +93,32 @@ impl Object {
         ensures err { OnErr result (self.new ≡ self.old) }
     {
         self.put(alloc, key, Json::number(number))
+    }
+
+    /// Puts a number at a key, where it is there.
+    pub fn put_maybe_number(
+        &mut self,
+        alloc: Global,
+        key: &str,
+        number: Option<u64>,
+    ) -> Result<(), AllocError>
+        ensures ok { OnOk result (members_view self.new
+            ≡ with_row (key.now, maybe_numbered number) (members_view self.old)) }
+        ensures err { OnErr result (self.new ≡ self.old) }
+    {
+        match number {
+            Some(number) => self.put_number(alloc, key, number),
+            None => Ok(()),
+        }
+    }
+
+    /// Puts true or false at a key.
+    pub fn put_boolean(&mut self, alloc: Global, key: &str, value: bool) -> Result<(), AllocError>
+        ensures ok { OnOk result (members_view self.new
+            ≡ with_row (key.now, truth value) (members_view self.old)) }
+        ensures err { OnErr result (self.new ≡ self.old) }
+    {
+        self.put(alloc, key, Json::boolean(value))
     }
 
     /// The object as a value.

@@ -1,1 +1,2 @@
+pub mod Diagnostic
 pub mod Visible

@@ -1,21 +1,27 @@
 //! Why an environment is refused.
 
+use crate::diagnostic::Diagnostic;
 use crate::shown_value::ShownValue;
-use crate::syntax::{json_message, not_text};
+use crate::syntax::{not_text, wrong_json};
 use crate::value_form::ValueForm;
-use crate::visible::visible_line;
-use crate::wrong_part::{Part, PartFault, WrongPart, wrong_line};
-use pylock_readers::{EnvError, read_environment};
+use crate::wrong_part::{Part, PartFault, WrongPart, wrong_part};
+use pylock_readers::{EnvError, read_environment, read_target};
 use pymark_core::Var;
 use serde_json::Value;
 use std::alloc::{AllocError, Global};
 
+/// What is taken as the Python of a target.
+const PYTHONS: &str = "neither 3.MINOR nor 3.MINOR.MICRO, with MINOR from 8 to 99 and MICRO to 999, \
+and t behind it from 3.13 on for the free-threaded build";
+
+/// What is taken as its platform.
+const PLATFORMS: &str = "none of linux, macos, windows, win32, win_amd64, win_arm64, \
+manylinux_2_N_ARCH, manylinux1_ARCH, manylinux2010_ARCH, manylinux2014_ARCH, musllinux_1_N_ARCH, \
+macosx_10_N_x86_64, macosx_M_0_ARCH";
+
 /// Why the text is refused as an environment, in a line for a person, without LF; `name` is the
-/// name given for the file. Nothing where it isn't refused.
-///
-/// The line names the byte that is no UTF-8, the line and column where the text is no JSON, the
-/// first part of another shape, or the first text that is no tag. The text is read again where it
-/// is refused. No contract says what the line says.
+/// name given for the file. Nothing where it isn't refused. The line is that of
+/// [`environment_diagnostic`].
 pub fn environment_message(
     alloc: Global,
     name: &str,
@@ -24,24 +30,66 @@ pub fn environment_message(
     match read_environment(alloc, environment) {
         Ok(_) => Ok(None),
         Err(EnvError::Memory) => Err(AllocError),
-        Err(refusal) => visible_line(alloc, message(alloc, name, environment, &refusal)?),
+        Err(refusal) => {
+            let diagnostic = environment_diagnostic(alloc, name, environment, &refusal)?;
+            Ok(diagnostic.map(Diagnostic::into_message))
+        }
     }
 }
 
-fn message(
+/// Where the text is wrong that is refused so as an environment; `name` is the name given for the
+/// file.
+///
+/// It names the byte that is no UTF-8, the line and column where the text is no JSON, the first
+/// part of another shape, or the first text that is no tag. The text is read again, and takes the
+/// memory of that. No contract says what it tells.
+pub fn environment_diagnostic(
     alloc: Global,
     name: &str,
     environment: &[u8],
     refusal: &EnvError,
-) -> Result<Option<String>, AllocError> {
+) -> Result<Option<Diagnostic>, AllocError> {
     let text = match std::str::from_utf8(environment) {
         Ok(text) => text,
         Err(fault) => return not_text(alloc, name, fault.valid_up_to()),
     };
     match Value::from_str(alloc, text) {
-        Ok(value) => wrong_line(alloc, name, wrong_value(&value, refusal)),
-        Err(fault) => json_message(alloc, name, text, fault),
+        Ok(value) => wrong_part(alloc, name, wrong_value(&value, refusal)),
+        Err(fault) => wrong_json(alloc, name, text, fault),
     }
+}
+
+/// Why a target is refused, in a line for a person, without LF, that says what is taken. Nothing
+/// where it isn't refused. The line is that of [`target_diagnostic`].
+pub fn target_message(
+    alloc: Global,
+    python: &str,
+    platform: &str,
+) -> Result<Option<String>, AllocError> {
+    match read_target(alloc, python, platform) {
+        Ok(_) => Ok(None),
+        Err(EnvError::Memory) => Err(AllocError),
+        Err(refusal) => {
+            let diagnostic = target_diagnostic(alloc, python, platform, &refusal)?;
+            Ok(diagnostic.map(Diagnostic::into_message))
+        }
+    }
+}
+
+/// Why the words of a target are refused so: the word that is none, and what is taken in its place.
+/// It takes memory for the line. No contract says what it tells.
+pub fn target_diagnostic(
+    alloc: Global,
+    python: &str,
+    platform: &str,
+    refusal: &EnvError,
+) -> Result<Option<Diagnostic>, AllocError> {
+    let line = match refusal {
+        EnvError::Python => format!(in alloc; "--python: `{python}`: {PYTHONS}")?,
+        EnvError::Platform => format!(in alloc; "--platform: `{platform}`: {PLATFORMS}")?,
+        _ => return Ok(None),
+    };
+    Ok(Some(Diagnostic::of_message(alloc, line.as_str())?))
 }
 
 /// The text that is no tag, or the part that has another shape, the first in the order in which

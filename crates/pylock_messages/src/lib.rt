@@ -1,5 +1,5 @@
-//! What a person is told on standard error, in a line each: where a refused lock or environment is
-//! wrong, or `None` where nothing is; and texts that are safe to show at a terminal.
+//! Where a refused lock or environment is wrong: the line that tells a person, and what it points
+//! at; and texts that are safe to show at a terminal.
 //!
 //! The line on a refused lock, or `none`, from `crates/cases/src/messages.rt`:
 //!
@@ -10,6 +10,7 @@
 //! ```
 #![tactic(auto)]
 
+mod diagnostic;
 mod entry;
 mod environment;
 mod lock;
@@ -21,6 +22,9 @@ mod value_form;
 mod visible;
 mod wrong_part;
 
-pub use environment::environment_message;
-pub use lock::lock_message;
+pub use diagnostic::Diagnostic;
+pub use environment::{
+    environment_diagnostic, environment_message, target_diagnostic, target_message,
+};
+pub use lock::{lock_diagnostic, lock_message};
 pub use visible::{is_control, push_character, push_control, push_visible};

@@ -1,10 +1,10 @@
 //! Why a lock is refused.
 
+use crate::diagnostic::Diagnostic;
 use crate::entry::wrong_entry;
-use crate::syntax::{not_text, toml_message};
+use crate::syntax::{not_text, wrong_toml};
 use crate::value_form::ValueForm;
-use crate::visible::visible_line;
-use crate::wrong_part::{Part, WrongPart, wrong_line};
+use crate::wrong_part::{Part, WrongPart, wrong_part};
 use pylock_readers::{HeadKey, Lock, LockError};
 use pymark_core::{Marker, MarkerError};
 use pyver_core::is_name;
@@ -12,47 +12,54 @@ use std::alloc::{AllocError, Global};
 use toml::{Table, Value};
 
 /// Why the text is refused as a lock, in a line for a person, without LF; `name` is the name given
-/// for the file. Nothing where it isn't refused.
-///
-/// The line names the byte that is no UTF-8, the line and column where the text is no TOML, or the
-/// first wrong key, with its entry and what stands there. The text is read again where it is
-/// refused. No contract says what the line says.
+/// for the file. Nothing where it isn't refused. The line is that of [`lock_diagnostic`].
 pub fn lock_message(alloc: Global, name: &str, lock: &[u8]) -> Result<Option<String>, AllocError> {
     match Lock::read(alloc, lock) {
         Ok(_) => Ok(None),
         Err(LockError::Memory) => Err(AllocError),
-        Err(refusal) => visible_line(alloc, message(alloc, name, lock, &refusal)?),
+        Err(refusal) => {
+            let diagnostic = lock_diagnostic(alloc, name, lock, &refusal)?;
+            Ok(diagnostic.map(Diagnostic::into_message))
+        }
     }
 }
 
-fn message(
+/// Where the text is wrong that is refused so as a lock; `name` is the name given for the file.
+///
+/// It names the byte that is no UTF-8, the line and column where the text is no TOML, or the first
+/// wrong key, with its entry and what stands there. The text is read again, and takes the memory
+/// of that. No contract says what it tells.
+pub fn lock_diagnostic(
     alloc: Global,
     name: &str,
     lock: &[u8],
     refusal: &LockError,
-) -> Result<Option<String>, AllocError> {
+) -> Result<Option<Diagnostic>, AllocError> {
     let text = match std::str::from_utf8(lock) {
         Ok(text) => text,
         Err(fault) => return not_text(alloc, name, fault.valid_up_to()),
     };
     match toml::table_from_str(alloc, text) {
-        Ok(document) => document_message(alloc, name, &document, refusal),
-        Err(fault) => toml_message(alloc, name, text, fault),
+        Ok(document) => document_diagnostic(alloc, name, &document, refusal),
+        Err(fault) => wrong_toml(alloc, name, text, fault),
     }
 }
 
-fn document_message(
+fn document_diagnostic(
     alloc: Global,
     name: &str,
     document: &Table,
     refusal: &LockError,
-) -> Result<Option<String>, AllocError> {
+) -> Result<Option<Diagnostic>, AllocError> {
     match refusal {
-        LockError::TooMany => Ok(Some(format!(in alloc; "{name}: more than 100000 entries")?)),
-        LockError::Head(HeadKey::Environments) => {
-            wrong_line(alloc, name, wrong_environments(alloc, document)?)
+        LockError::TooMany => {
+            let message = format!(in alloc; "{name}: more than 100000 entries")?;
+            Ok(Some(Diagnostic::of_file(alloc, name, message.as_str())?))
         }
-        _ => wrong_line(alloc, name, wrong_key(document, refusal)),
+        LockError::Head(HeadKey::Environments) => {
+            wrong_part(alloc, name, wrong_environments(alloc, document)?)
+        }
+        _ => wrong_part(alloc, name, wrong_key(document, refusal)),
     }
 }
 

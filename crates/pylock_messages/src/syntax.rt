@@ -1,22 +1,28 @@
 //! Where a text is no UTF-8, no TOML or no JSON.
 
+use crate::diagnostic::Diagnostic;
 use std::alloc::{AllocError, Global};
 
 /// The byte order mark that a text may begin with, in UTF-8.
 const BYTE_ORDER_MARK: &[u8] = b"\xEF\xBB\xBF";
 
 /// That the byte at this place, from 0, is the first that is no UTF-8.
-pub(crate) fn not_text(alloc: Global, name: &str, at: usize) -> Result<Option<String>, AllocError> {
-    Ok(Some(format!(in alloc; "{name}: byte {at} is not UTF-8 text")?))
+pub(crate) fn not_text(
+    alloc: Global,
+    name: &str,
+    at: usize,
+) -> Result<Option<Diagnostic>, AllocError> {
+    let message = format!(in alloc; "{name}: byte {at} is not UTF-8 text")?;
+    Ok(Some(Diagnostic::of_file(alloc, name, message.as_str())?))
 }
 
 /// Where the text is no TOML, and what `toml` says of it.
-pub(crate) fn toml_message(
+pub(crate) fn wrong_toml(
     alloc: Global,
     name: &str,
     text: &str,
     fault: toml::de::Error,
-) -> Result<Option<String>, AllocError> {
+) -> Result<Option<Diagnostic>, AllocError> {
     let Some(span) = fault.span() else {
         return Err(AllocError);
     };
@@ -24,17 +30,16 @@ pub(crate) fn toml_message(
     let before = without_mark(&bytes[..span.start.min(bytes.len())]);
     let line = ends_of_lines(before).saturating_add(1);
     let column = characters(last_line(before)).saturating_add(1);
-    let words = fault.message();
-    Ok(Some(format!(in alloc; "{name}:{line}:{column}: {words}")?))
+    wrong_place(alloc, name, line, column, fault.message())
 }
 
 /// Where the text is no JSON, and what `serde_json` says of it, which counts a column in bytes.
-pub(crate) fn json_message(
+pub(crate) fn wrong_json(
     alloc: Global,
     name: &str,
     text: &str,
     fault: serde_json::Error,
-) -> Result<Option<String>, AllocError> {
+) -> Result<Option<Diagnostic>, AllocError> {
     if fault.is_memory() {
         return Err(AllocError);
     }
@@ -48,7 +53,22 @@ pub(crate) fn json_message(
     };
     let column = characters(prefix).max(1);
     let words = json_words(alloc, fault)?;
-    Ok(Some(format!(in alloc; "{name}:{line}:{column}: {words}")?))
+    wrong_place(alloc, name, line, column, words.as_str())
+}
+
+/// What a parser says of this line and column.
+fn wrong_place(
+    alloc: Global,
+    name: &str,
+    line: usize,
+    column: usize,
+    words: &str,
+) -> Result<Option<Diagnostic>, AllocError> {
+    let message = format!(in alloc; "{name}:{line}:{column}: {words}")?;
+    let mut diagnostic = Diagnostic::of_file(alloc, name, message.as_str())?;
+    diagnostic.line = Some(line as u64);
+    diagnostic.column = Some(column as u64);
+    Ok(Some(diagnostic))
 }
 
 /// What `serde_json` says, without its line and its column.

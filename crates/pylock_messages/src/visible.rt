@@ -54,15 +54,9 @@ fn push_visible_character(out: &mut Vec<u8>, character: char) -> Result<(), Allo
     }
 }
 
-/// The line as it is safe to show.
-pub(crate) fn visible_line(
-    alloc: Global,
-    line: Option<String>,
-) -> Result<Option<String>, AllocError> {
-    let Some(line) = line else {
-        return Ok(None);
-    };
-    let mut out = Vec::with_capacity(alloc, line.len())?;
-    push_visible(&mut out, line.as_str())?;
-    Ok(Some(String::from_utf8_lossy(alloc, &out)?))
+/// The text as it is safe to show.
+pub(crate) fn visible_text(alloc: Global, text: &str) -> Result<String, AllocError> {
+    let mut out = Vec::with_capacity(alloc, text.len())?;
+    push_visible(&mut out, text)?;
+    String::from_utf8_lossy(alloc, &out)
 }

@@ -1,5 +1,6 @@
 //! What is wrong with a part of a lock or of an environment.
 
+use crate::diagnostic::Diagnostic;
 use crate::shown_value::ShownValue;
 use crate::value_form::ValueForm;
 use std::alloc::{AllocError, Global};
@@ -92,16 +93,56 @@ impl<'a> WrongPart<'a> {
     }
 }
 
-/// The line on a part of the file of this name, where one is wrong.
-pub(crate) fn wrong_line(
+/// Where the file of this name is wrong, if a part of it is.
+pub(crate) fn wrong_part(
     alloc: Global,
     name: &str,
     wrong: Option<WrongPart<'_>>,
-) -> Result<Option<String>, AllocError> {
+) -> Result<Option<Diagnostic>, AllocError> {
     match wrong {
-        Some(wrong) => Ok(Some(format!(in alloc; "{name}: {wrong}")?)),
+        Some(wrong) => Ok(Some(part_diagnostic(alloc, name, wrong)?)),
         None => Ok(None),
     }
+}
+
+fn part_diagnostic(
+    alloc: Global,
+    name: &str,
+    wrong: WrongPart<'_>,
+) -> Result<Diagnostic, AllocError> {
+    let message = format!(in alloc; "{name}: {wrong}")?;
+    let mut diagnostic = Diagnostic::of_file(alloc, name, message.as_str())?;
+    diagnostic.key = key_path(alloc, wrong.part)?;
+    match (wrong.entry, wrong.part) {
+        (Some(entry), _) => {
+            diagnostic.entry = Some(entry.position as u64);
+            diagnostic.name = owned_text(alloc, entry.name)?;
+        }
+        (None, Part::Entry(position)) => diagnostic.entry = Some(position as u64),
+        _ => {}
+    }
+    Ok(diagnostic)
+}
+
+fn owned_text(alloc: Global, text: Option<&str>) -> Result<Option<String>, AllocError> {
+    match text {
+        Some(text) => Ok(Some(String::from_str(alloc, text)?)),
+        None => Ok(None),
+    }
+}
+
+/// The path of the key that a part is at: keys and positions, joined by a space.
+fn key_path(alloc: Global, part: Part) -> Result<Option<String>, AllocError> {
+    let path = match part {
+        Part::Whole | Part::Entry(_) => return Ok(None),
+        Part::Key(key) => String::from_str(alloc, key)?,
+        Part::Member(key, position) => format!(in alloc; "{key} {position}")?,
+        Part::Inner(outer, key) => format!(in alloc; "{outer} {key}")?,
+        Part::Tag(position) => format!(in alloc; "tags {position}")?,
+        Part::Wheel(position) => format!(in alloc; "wheels {position}")?,
+        Part::OfWheel(position, key) => format!(in alloc; "wheels {position} {key}")?,
+    };
+    Ok(Some(path))
 }
 
 impl fmt::Display for WrongPart<'_> {

@@ -1,3 +1,4 @@
+pub mod ChoicesLemmas
 pub mod FilesLemmas
 pub mod ReplyLemmas
 pub mod StrictLemmas

@@ -1,5 +1,5 @@
 -- What becomes of a lock that is taken strictly.
-use Rattle.std.proofs.Common.{◌≡◌, ℕ, Bool, true, false, List, [], ◌∷◌, Result, Ok, Err, refl, ap, sym, subst, ◌∙◌}
+use Rattle.std.proofs.Common.{◌≡◌, ℕ, true, false, Option, List, [], ◌∷◌, Result, Ok, Err, refl, ap, subst}
 use Rattle.std.specs.Prelude.{◌≢◌}
 use Rattle.std.specs.Result.{result_map_both}
 use Rattle.pylock_audit.specs.Finding.{LockFindingValue}
@@ -8,17 +8,18 @@ use Rattle.pylock_audit.specs.declared.strict.StrictError.{StrictError}
 use Rattle.pylock_audit.specs.declared.strict.StrictError.TheVariants as strict
 use Rattle.pylock_command.specs.declared.choice.Choice.{Choice}
 use Rattle.pylock_command.specs.declared.form.Form.{Form}
-use Rattle.pylock_command.specs.declared.form.Form.TheVariants.{Lines}
 use Rattle.pylock_command.specs.declared.task.Request.{Request}
 use Rattle.pylock_core.specs.Session.State.{State}
+use Rattle.pylock_messages.specs.Diagnostic.{DiagnosticValue}
 use Rattle.pylock_readers.specs.Lock.{LockValue}
 use Rattle.pylock_readers.specs.Lock.Reading.{lock_of}
 use Rattle.pylock_readers.specs.declared.error.LockError.{LockError}
 use Rattle.pylock_run.proofs.ReportLemmas.{stops_at_once}
 use Rattle.pylock_run.proofs.WriteLemmas.{prefix_none}
-use Rattle.pylock_run.specs.Report.{Report, open_state, refuse_as, state_on}
+use Rattle.pylock_readers.specs.Environment.{EnvironmentRead}
+use Rattle.pylock_run.specs.Report.{Report, refuse_as, state_in, state_on}
 use Rattle.pylock_run.specs.Report.Print.{Prints}
-use Rattle.pylock_run.specs.Report.Run.{IsRun}
+use Rattle.pylock_run.specs.Report.Run.{IsRunShown}
 use Rattle.pylock_run.specs.Stream.{SinkValue, SourceValue}
 use Rattle.pylock_run.specs.declared.report.fault.RunFault.{RunFault}
 use Rattle.pylock_run.specs.declared.report.fault.RunFault.TheVariants as fault
@@ -26,7 +27,7 @@ use Rattle.pylock_run.specs.declared.report.opening.OpenError.{OpenError}
 use Rattle.pylock_run.specs.declared.report.opening.OpenError.TheVariants as refusal
 use Rattle.pytext.specs.Results.{◌>>=◌}
 use Rattle.pylock_program.specs.Program.{IsRunUnless}
-use Rattle.pylock_program.specs.Show.{found_report, report_after, report_of_choices, report_unless, request_report, unopened_shown, view_shown}
+use Rattle.pylock_program.specs.Show.{found_report, report_of_choices, report_told, report_unless, request_report, run_shown, unopened_told, view_shown}
 use Rattle.pylock_program.specs.Choices.{after_choices}
 use Rattle.pylock_program.specs.Strict.{found_by, open_unless, opened_by, strict_state}
 use Rattle.pylock_program.specs.declared.strict.Unopened.{Unopened}
@@ -39,8 +40,8 @@ opened_from starts (Err (strict.Lock error)) = Err (Refused (refusal.Lock error)
 opened_from starts (Err (strict.Findings found)) = Err (Findings found)
 opened_from starts (Err strict.Memory) = Err (Refused refusal.Memory)
 
-pub strictly_opened : (lock environment : List ℕ) → strict_state lock environment ≡ opened_from (state_on environment) (strict_lock_of lock)
-unfolding open_state
+pub strictly_opened : (lock : List ℕ) (environment : EnvironmentRead) → strict_state lock environment ≡ opened_from (state_on environment) (strict_lock_of lock)
+unfolding state_in
 strictly_opened lock environment = by (strict_findings_of lock) (lock_of lock)
   where
     by : (found : List LockFindingValue) (read : Result LockValue LockError)
@@ -52,30 +53,30 @@ strictly_opened lock environment = by (strict_findings_of lock) (lock_of lock)
     by (one ∷ others) (Err e) = refl
 
 -- the report on a session, or on why there is none
-abbrev pub report_opened : Form → (State → List ℕ) → List Choice → Result State Unopened → Report
-report_opened form text choices (Ok state) = report_of_choices form text (after_choices choices state)
-report_opened form text choices (Err unopened) = record { text = unopened_shown form unopened; status = 2 }
+abbrev pub report_opened : Form → Option DiagnosticValue → (State → List ℕ) → List Choice → Result State Unopened → Report
+report_opened form told text choices (Ok state) = report_of_choices form told text (after_choices choices state)
+report_opened form told text choices (Err unopened) = record { text = unopened_told form told unopened; status = 2 }
 
-pub reported : (request : Request) (lock environment : List ℕ)
-    → request_report request lock environment
-    ≡ report_opened request.form (view_shown request.view request.form) request.choices.items (opened_by request.strict lock environment)
-reported request lock environment = by (found_by request.strict lock) (open_state lock environment)
+pub reported : (request : Request) (told : Option DiagnosticValue) (lock : List ℕ) (environment : EnvironmentRead)
+    → request_report request told lock environment
+    ≡ report_opened request.form told (view_shown request.view request.form) request.choices.items (opened_by request.strict lock environment)
+reported request told lock environment = by (found_by request.strict lock) (state_in lock environment)
   where
     by : (found : List LockFindingValue) (opened : Result State OpenError)
-        → report_unless request.form found (report_after request.form (view_shown request.view request.form) opened request.choices.items)
-        ≡ report_opened request.form (view_shown request.view request.form) request.choices.items (open_unless found opened)
+        → report_unless request.form found (report_told request.form told (view_shown request.view request.form) opened request.choices.items)
+        ≡ report_opened request.form told (view_shown request.view request.form) request.choices.items (open_unless found opened)
     by [] (Ok state) = refl
     by [] (Err refused) = refl
     by (one ∷ others) opened = refl
 
 -- ---- runs
 
-module _ (source source' : SourceValue) (sink sink' : SinkValue) (result : Result ℕ RunFault) where
+module _ (form : Form) (source source' : SourceValue) (sink sink' : SinkValue) (result : Result ℕ RunFault) where
   abbrev Run : Result State OpenError → Type 0
-  Run begins = IsRun begins source source' sink sink' result
+  Run begins = IsRunShown (run_shown form) begins source source' sink sink' result
 
   abbrev RunUnless : List LockFindingValue → Result State OpenError → Type 0
-  RunUnless found begins = IsRunUnless found begins source source' sink sink' result
+  RunUnless found begins = IsRunUnless form found begins source source' sink sink' result
 
   pub session_runs : (found : List LockFindingValue) (opened : Result State OpenError) (state : State)
       → open_unless found opened ≡ Ok state → (opened ≡ Ok state → Run opened) → RunUnless found opened
@@ -92,37 +93,37 @@ module _ (source source' : SourceValue) (sink sink' : SinkValue) (result : Resul
   refusal_runs (one ∷ others) opened refused is run = absurd cc
 
   pub findings_run : (found : List LockFindingValue) (opened : Result State OpenError) (told : List LockFindingValue)
-      → open_unless found opened ≡ Err (Findings told) → Prints (found_report Lines told) sink sink' result → source' ≡ source
+      → open_unless found opened ≡ Err (Findings told) → Prints (found_report form told) sink sink' result → source' ≡ source
       → RunUnless found opened
   findings_run [] (Ok s) told is prints unasked = absurd cc
   findings_run [] (Err e) told is prints unasked = absurd cc
   findings_run (one ∷ others) opened told is prints unasked =
       let same : told ≡ one ∷ others = cc in
-      (subst (λ list. Prints (found_report Lines list) sink sink' result) same prints, unasked)
+      (subst (λ list. Prints (found_report form list) sink sink' result) same prints, unasked)
 
 -- memory was refused before anything was written
-pub memory_runs : (found : List LockFindingValue) (opened : Result State OpenError) (source : SourceValue) (sink : SinkValue)
-    → IsRunUnless found opened source source sink sink (Err fault.Memory)
-memory_runs [] opened source sink = stops_at_once opened source sink
-memory_runs (one ∷ others) opened source sink =
+pub memory_runs : (form : Form) (found : List LockFindingValue) (opened : Result State OpenError) (source : SourceValue) (sink : SinkValue)
+    → IsRunUnless form found opened source source sink sink (Err fault.Memory)
+memory_runs form [] opened source sink = stops_at_once (run_shown form) opened source sink
+memory_runs form (one ∷ others) opened source sink =
     (record { text = tt; status = tt; counted = tt; prefix = prefix_none sink _; fault = refl }, refl)
 
 -- ---- a strict plan is the plan
 
-pub taken_plan : (request : Request) (lock environment : List ℕ) → strict_findings_of lock ≡ []
-    → request_report (record request { strict = true }) lock environment ≡ request_report (record request { strict = false }) lock environment
-taken_plan request lock environment none =
-    ap (λ found. report_unless request.form found (report_after request.form (view_shown request.view request.form) (open_state lock environment) request.choices.items)) none
+pub taken_plan : (request : Request) (told : Option DiagnosticValue) (lock : List ℕ) (environment : EnvironmentRead) → strict_findings_of lock ≡ []
+    → request_report (record request { strict = true }) told lock environment ≡ request_report (record request { strict = false }) told lock environment
+taken_plan request told lock environment none =
+    ap (λ found. report_unless request.form found (report_told request.form told (view_shown request.view request.form) (state_in lock environment) request.choices.items)) none
 
 answered : (form : Form) (found : List LockFindingValue) (report : Report) → (report_unless form found report).status ≢ 2
     → report_unless form found report ≡ report
 answered form [] report other = refl
 answered form (one ∷ others) report other = absurd (other refl)
 
-pub answered_plan : (request : Request) (lock environment : List ℕ)
-    → (request_report (record request { strict = true }) lock environment).status ≢ 2
-    → request_report (record request { strict = true }) lock environment ≡ request_report (record request { strict = false }) lock environment
-answered_plan request lock environment other =
-    answered request.form (strict_findings_of lock) (report_after request.form (view_shown request.view request.form) (open_state lock environment) request.choices.items) other
+pub answered_plan : (request : Request) (told : Option DiagnosticValue) (lock : List ℕ) (environment : EnvironmentRead)
+    → (request_report (record request { strict = true }) told lock environment).status ≢ 2
+    → request_report (record request { strict = true }) told lock environment ≡ request_report (record request { strict = false }) told lock environment
+answered_plan request told lock environment other =
+    answered request.form (strict_findings_of lock) (report_told request.form told (view_shown request.view request.form) (state_in lock environment) request.choices.items) other
 
 pub ruleset laws = (taken_plan, answered_plan)

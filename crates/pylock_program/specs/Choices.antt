@@ -10,23 +10,22 @@ use Rattle.pymark_core.specs.declared.change.Change.TheVariants as change
 use Rattle.pywheel_core.specs.Texts.{cut_at}
 use Rattle.pylock_command.specs.declared.choice.Choice.{Choice}
 use Rattle.pylock_command.specs.declared.choice.Choice.TheVariants as choice
+use Rattle.pylock_core.specs.Session.Names.{name_change}
 use Rattle.pylock_core.specs.Session.State.{State, apply}
 use Rattle.pylock_core.specs.declared.edit.Edit.{Edit}
 use Rattle.pylock_core.specs.declared.edit.Edit.TheVariants as edit
 use Rattle.pylock_core.specs.declared.edit.EditError.{EditError}
+use Rattle.pylock_core.specs.declared.edit.NameChange.TheVariants.{AddExtra, AddGroup, DropGroup}
 use Rattle.pylock_core.specs.declared.edit.Policy.{Policy as FilePolicy}
 use Rattle.pylock_core.specs.declared.edit.Policy.TheVariants.{Wheel, Source}
 use Rattle.pylock_program.specs.declared.choices.NameEdit.{NameEdit}
-use Rattle.pylock_program.specs.declared.choices.NameEdit.TheVariants.{AddExtra, AddGroup}
-use Rattle.pylock_program.specs.declared.choices.NameEdit.TheVariants.{DropGroup, Policy}
+use Rattle.pylock_program.specs.declared.choices.NameEdit.TheVariants.{Change, Policy}
 
 -- ---- the edits that an option means
 
 -- what an option does with a name, whose normal form counts
 abbrev pub name_edit : NameEdit → List ℕ → Edit
-name_edit AddExtra name = edit.Environment (change.AddExtra (normal_name name))
-name_edit AddGroup name = edit.Environment (change.AddGroup (normal_name name))
-name_edit DropGroup name = edit.Environment (change.DropGroup (normal_name name))
+name_edit (Change change) name = edit.Environment (name_change change (normal_name name))
 name_edit (Policy policy) name = edit.Policy (normal_name name) policy
 
 -- the edit of a text, where that is a name
@@ -49,15 +48,15 @@ set_variable text =
 
 -- the edits of an option, in order; none where its text is none
 abbrev pub edits_of : State → Choice → Option (List Edit)
-edits_of state choice.AllExtras = Some (map (name_edit AddExtra) state.head.extras)
-edits_of state (choice.Extra name) = edit_of_name AddExtra name.now
+edits_of state choice.AllExtras = Some (map (name_edit (Change AddExtra)) state.head.extras)
+edits_of state (choice.Extra name) = edit_of_name (Change AddExtra) name.now
 edits_of state choice.NoDefaultGroups =
-    Some (map (name_edit DropGroup) state.head.default_groups)
+    Some (map (name_edit (Change DropGroup)) state.head.default_groups)
 edits_of state choice.AllGroups =
-    Some (map (name_edit AddGroup) state.head.groups
-    ++ map (name_edit AddGroup) state.head.default_groups)
-edits_of state (choice.Group name) = edit_of_name AddGroup name.now
-edits_of state (choice.NoGroup name) = edit_of_name DropGroup name.now
+    Some (map (name_edit (Change AddGroup)) state.head.groups
+    ++ map (name_edit (Change AddGroup)) state.head.default_groups)
+edits_of state (choice.Group name) = edit_of_name (Change AddGroup) name.now
+edits_of state (choice.NoGroup name) = edit_of_name (Change DropGroup) name.now
 edits_of state (choice.OnlyBinary name) = policies state Wheel name.now
 edits_of state (choice.NoBinary name) = policies state Source name.now
 edits_of state (choice.Set text) = set_variable text.now

@@ -1,2 +1,5 @@
 -- What serves the contracts of private functions alone.
+pub mod Answer
 pub mod Chosen
+pub mod Machine
+pub mod Telling

@@ -1,7 +1,11 @@
 pub mod Text
+pub mod Refusal
 pub mod Reply
 pub mod Choices
 pub mod Show
 pub mod Strict
+pub mod Diff
+pub mod Exports
+pub mod Paths
 pub mod Program
 pub mod Inner

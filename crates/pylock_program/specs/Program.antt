@@ -1,19 +1,31 @@
 -- What the program does with its task, and how it ends.
-use Rattle.std.specs.Prelude.{◌≡◌, ◌≢◌, ℕ, List, [], ◌∷◌, codes, Option, Some, None}
+use Rattle.std.specs.Prelude.{◌≡◌, ◌≢◌, ℕ, Bool, true, false, List, [], ◌∷◌, codes, Option, Some, None}
 use Rattle.std.specs.Prelude.{Result, Ok, Err}
 use Rattle.std.specs.Result.{result_map_both}
 use Rattle.pylock_audit.specs.Finding.{LockFindingValue}
+use Rattle.pylock_command.specs.declared.form.Form.{Form}
 use Rattle.pylock_command.specs.declared.form.Form.TheVariants.{Lines}
+use Rattle.pylock_command.specs.declared.machine.Machine.{Machine}
+use Rattle.pylock_command.specs.declared.machine.Machine.TheVariants as machine
+use Rattle.pylock_command.specs.declared.task.Installation.{Installation}
 use Rattle.pylock_command.specs.declared.task.Task.{Task}
 use Rattle.pylock_command.specs.declared.task.Task.TheVariants as task
-use Rattle.pylock_program.specs.Reply.{audit_answer, files_answer, marker_answer, reply, reply_of}
-use Rattle.pylock_program.specs.Show.{found_report, request_report}
+use Rattle.pylock_program.specs.Diff.{locks_report, plans_report}
+use Rattle.pylock_program.specs.Exports.{files_export, plan_export}
+use Rattle.pylock_program.specs.Paths.{IsMachineRead, IsReadAs}
+use Rattle.pylock_program.specs.Refusal.{PrintsTelling}
+use Rattle.pylock_program.specs.Reply.{answer_report, audit_answer, files_answer, marker_answer}
+use Rattle.pylock_program.specs.Reply.{reply}
+use Rattle.pylock_program.specs.Show.{found_report, request_report, run_shown}
 use Rattle.pylock_program.specs.Strict.{found_by}
 use Rattle.pylock_core.specs.Session.State.{State}
+use Rattle.pylock_messages.specs.Diagnostic.{DiagnosticValue}
+use Rattle.pylock_readers.specs.Environment.{EnvironmentRead, env_of}
+use Rattle.pylock_readers.specs.Target.{target_env_of}
 use Rattle.pylock_run.specs.Files.{Reads}
-use Rattle.pylock_run.specs.Report.{Report, open_state}
+use Rattle.pylock_run.specs.Report.{Report, state_in}
 use Rattle.pylock_run.specs.Report.Print.{Prints}
-use Rattle.pylock_run.specs.Report.Run.{IsRun}
+use Rattle.pylock_run.specs.Report.Run.{IsRunShown}
 use Rattle.pylock_run.specs.Stream.{SourceValue, SinkValue}
 use Rattle.pylock_program.specs.declared.program.Failure.{Failure}
 use Rattle.pylock_program.specs.declared.program.Failure.TheVariants.{NotText, File, Read, Write}
@@ -23,7 +35,6 @@ use Rattle.pylock_run.specs.declared.report.fault.RunFault.{RunFault}
 use Rattle.pylock_run.specs.declared.report.fault.RunFault.TheVariants as run
 use Rattle.pylock_run.specs.declared.report.opening.OpenError.{OpenError}
 use Rattle.pylock_run.specs.declared.stream.whole.FileFault.{FileFault}
-use Rattle.pylock_run.specs.declared.stream.whole.FileFault.TheVariants as file
 
 -- how the program ends where a run, a query or the reading of a file stops
 abbrev pub run_failure : RunFault → Failure
@@ -31,15 +42,6 @@ run_failure run.Read = Read
 run_failure run.Write = Write
 run_failure run.Input = Input
 run_failure run.Memory = Memory
-
-abbrev pub file_failure : FileFault → Failure
-file_failure file.Memory = Memory
-file_failure fault = File
-
--- the same of a file of which a person is told which it is, and why it can't be read
-abbrev pub named_failure : FileFault → Failure
-named_failure file.Memory = Memory
-named_failure fault = NamedFile
 
 -- what stands on standard error behind `pylock: `, where it isn't told yet
 abbrev pub failure_message : Failure → Option (List ℕ)
@@ -82,49 +84,50 @@ abbrev pub Replies : Report → Outcome
 Replies report source source' sink sink' result =
     Tells (Prints report sink sink') result × (source' ≡ source)
 
--- a run from its beginning, unless there are findings: then these are printed, and standard input
--- isn't read
-abbrev pub IsRunUnless : List LockFindingValue → Result State OpenError → SourceValue → SourceValue
-    → SinkValue → SinkValue → Result ℕ RunFault → Type 0
-IsRunUnless [] begins source source' sink sink' result =
-    IsRun begins source source' sink sink' result
-IsRunUnless (one ∷ others) begins source source' sink sink' result =
-    Prints (found_report Lines (one ∷ others)) sink sink' result × (source' ≡ source)
+-- a report is printed that may tell more of a refusal than its words, whatever it tells
+abbrev pub RepliesTelling : (Option DiagnosticValue → Report) → Outcome
+RepliesTelling report source source' sink sink' result =
+    Tells (PrintsTelling report sink sink') result × (source' ≡ source)
 
--- a run, unless there are findings
-abbrev pub Runs : List LockFindingValue → List ℕ → List ℕ → Outcome
-Runs found lock environment source source' sink sink' result =
-    Tells (IsRunUnless found (open_state lock environment) source source' sink sink') result
+-- a run from its beginning, in the form, unless there are findings: then these are printed, and
+-- standard input isn't read
+abbrev pub IsRunUnless : Form → List LockFindingValue → Result State OpenError → SourceValue
+    → SourceValue → SinkValue → SinkValue → Result ℕ RunFault → Type 0
+IsRunUnless form [] begins source source' sink sink' result =
+    IsRunShown (run_shown form) begins source source' sink sink' result
+IsRunUnless form (one ∷ others) begins source source' sink sink' result =
+    Prints (found_report form (one ∷ others)) sink sink' result × (source' ≡ source)
 
--- what the bytes of a file lead to; a fault of the file is told, and nothing else is done
-abbrev pub LeadsTo : (FileFault → Failure) → (List ℕ → Outcome) → Result (List ℕ) FileFault
-    → Outcome
-LeadsTo failure outcome (Ok bytes) source source' sink sink' result =
-    outcome bytes source source' sink sink' result
-LeadsTo failure outcome (Err fault) source source' sink sink' result =
-    (result ≡ Err (failure fault)) × (source' ≡ source) × (sink' ≡ sink)
+-- a run in the form, unless there are findings
+abbrev pub Runs : Form → List LockFindingValue → List ℕ → EnvironmentRead → Outcome
+Runs form found lock read source source' sink sink' result =
+    Tells (IsRunUnless form found (state_in lock read) source source' sink sink') result
 
--- the file at a path is read first
-pub record OpensOr (failure : FileFault → Failure) (gives : Reads) (path : List ℕ)
-    (outcome : List ℕ → Outcome) (source source' : SourceValue) (sink sink' : SinkValue)
+-- ---- what is read first
+
+-- what that leads to, where it was read; a failure is told, and nothing else is done
+abbrev pub LeadsTo : {A : Type 0} → (A → Outcome) → Result A Failure → Outcome
+LeadsTo outcome (Ok read) source source' sink sink' result =
+    outcome read source source' sink sink' result
+LeadsTo outcome (Err failure) source source' sink sink' result =
+    (result ≡ Err failure) × (source' ≡ source) × (sink' ≡ sink)
+
+-- it is read, of which standard input may be a part, and leads to the outcome
+pub record After {A : Type 0} (IsGiven : SourceValue → SourceValue → Result A Failure → Type 0)
+    (outcome : A → Outcome) (source source' : SourceValue) (sink sink' : SinkValue)
     (result : Result ℕ Failure) : Type 0 where
-  pub read : Result (List ℕ) FileFault
-  pub given : gives path read
-  pub leads : LeadsTo failure outcome read source source' sink sink' result
+  pub read : Result A Failure
+  pub between : SourceValue
+  pub given : IsGiven source between read
+  pub leads : LeadsTo outcome read between source' sink sink' result
 
--- a file that is named is read: its bytes, or how the program ends
-pub record GivesNamed (gives : Reads) (path : List ℕ) (result : Result (List ℕ) Failure) : Type 0
-  where
-    pub read : Result (List ℕ) FileFault
-    pub given : gives path read
-    pub tells : result ≡ result_map_both (λ bytes. bytes) named_failure read
+-- what stands at a path; a person is told which file can't be read, or isn't
+abbrev pub Opens : Bool → Reads → List ℕ → (List ℕ → Outcome) → Outcome
+Opens named gives path = After (IsReadAs named gives path)
 
-abbrev pub Opens : Reads → List ℕ → (List ℕ → Outcome) → Outcome
-Opens = OpensOr file_failure
-
--- the same, and a person is told which file can't be read
-abbrev pub OpensNamed : Reads → List ℕ → (List ℕ → Outcome) → Outcome
-OpensNamed = OpensOr named_failure
+-- the environment of a machine
+abbrev pub OpensMachine : Bool → Reads → Machine → (EnvironmentRead → Outcome) → Outcome
+OpensMachine named gives machine = After (IsMachineRead named gives machine)
 
 -- what the program prints without words; it takes no memory
 abbrev pub greeting : Report
@@ -134,25 +137,45 @@ abbrev pub Greets : Outcome
 Greets source source' sink sink' result =
     Replies greeting source source' sink sink' result × (result ≢ Err Memory)
 
+-- two locks are compared, or what they install on a machine
+abbrev pub Compares : Reads → Form → Option Installation → List ℕ → List ℕ → Outcome
+Compares gives form None old new = Replies (locks_report form old new)
+Compares gives form (Some asked) old new = OpensMachine true gives asked.machine
+    (λ read. Replies (plans_report form asked.choices.items old new read))
+
 -- What the program does with each task, by what reads of files may give. `select`, `plan` and
--- `explain` read their first file as the lock, and then their second as the environment.
+-- `explain` read the lock first, and then the environment.
 abbrev pub Performs : Reads → Task → Outcome
 Performs gives task.Bare = Greets
 Performs gives (task.Select asked) =
-    Opens gives asked.lock.now
-    (λ lock. Opens gives asked.environment.now (Runs (found_by asked.strict lock) lock))
+    Opens false gives asked.lock.now (λ lock. OpensMachine false gives asked.machine
+    (Runs asked.form (found_by asked.strict lock) lock))
 Performs gives (task.Show request) =
-    OpensNamed gives request.lock.now (λ lock. OpensNamed gives request.environment.now
-    (λ environment. Replies (request_report request lock environment)))
+    Opens true gives request.lock.now (λ lock. OpensMachine true gives request.machine
+    (λ read. RepliesTelling (λ told. request_report request told lock read)))
 Performs gives (task.Files lock form) =
-    OpensNamed gives lock.now (λ bytes. Replies (reply_of (files_answer form bytes)))
+    Opens true gives lock.now
+    (λ bytes. RepliesTelling (λ told. answer_report form told (files_answer form bytes)))
 Performs gives (task.Audit lock form) =
-    OpensNamed gives lock.now (λ bytes. Replies (reply_of (audit_answer form bytes)))
-Performs gives (task.Version text) = Replies (reply (query.Version text))
-Performs gives (task.Match set version) = Replies (reply (query.Match set version))
-Performs gives (task.Name text) = Replies (reply (query.Name text))
-Performs gives (task.Marker text environment) =
-    Opens gives environment.now (λ bytes. Replies (reply_of (marker_answer text.now bytes)))
-Performs gives (task.Requirement text) = Replies (reply (query.Requirement text))
-Performs gives (task.Wheel text) = Replies (reply (query.Wheel text))
-Performs gives (task.Sdist text) = Replies (reply (query.Sdist text))
+    Opens true gives lock.now
+    (λ bytes. RepliesTelling (λ told. answer_report form told (audit_answer form bytes)))
+Performs gives (task.ExportPlan asked) =
+    Opens true gives asked.lock.now (λ lock. OpensMachine true gives asked.machine
+    (λ read. Replies (plan_export asked lock read)))
+Performs gives (task.ExportFiles lock form) =
+    Opens true gives lock.now (λ bytes. Replies (files_export form bytes))
+Performs gives (task.Diff asked) =
+    Opens true gives asked.old.now (λ old. Opens true gives asked.new.now
+    (λ new. Compares gives asked.form asked.installation old new))
+Performs gives (task.Environment target) =
+    Replies (reply (query.Environment target.python target.platform))
+Performs gives (task.Version text form) = Replies (reply (query.Version text form))
+Performs gives (task.Match set version form) = Replies (reply (query.Match set version form))
+Performs gives (task.Name text form) = Replies (reply (query.Name text form))
+Performs gives (task.Marker text machine form) =
+    OpensMachine false gives machine
+    (λ read. RepliesTelling
+    (λ told. answer_report form told (marker_answer form text.now read)))
+Performs gives (task.Requirement text form) = Replies (reply (query.Requirement text form))
+Performs gives (task.Wheel text form) = Replies (reply (query.Wheel text form))
+Performs gives (task.Sdist text form) = Replies (reply (query.Sdist text form))

@@ -7,7 +7,6 @@ use Rattle.pyver_core.specs.Name.{is_name, normal_name}
 use Rattle.pyver_core.specs.Parsed.{parsed_version, parsed_set}
 use Rattle.pytext.specs.Results.{◌>>=◌}
 use Rattle.pyver_core.specs.Set.Admission.{admits_all}
-use Rattle.pyver_core.specs.Set.Normal.{set_text}
 use Rattle.pyver_core.specs.Version.Normal.{normal_text}
 use Rattle.pyver_core.specs.declared.set.error.SpecifierError.{SpecifierError}
 use Rattle.pyver_core.specs.declared.set.error.SpecifierError.TheVariants as specifier
@@ -32,12 +31,15 @@ use Rattle.pywheel_core.specs.declared.error.SdistError.{SdistError}
 use Rattle.pywheel_core.specs.declared.error.SdistError.TheVariants as sdist
 use Rattle.pywheel_core.specs.declared.error.WheelError.{WheelError}
 use Rattle.pywheel_core.specs.declared.error.WheelError.TheVariants as wheel
-use Rattle.pylock_readers.specs.Environment.{env_of}
+use Rattle.pylock_readers.specs.Environment.{EnvironmentRead}
+use Rattle.pylock_readers.specs.Input.{input_env_of}
+use Rattle.pylock_readers.specs.Target.{target_refusal, target_text}
+use Rattle.pywheel_core.specs.Target.Reading.{target_of}
+use Rattle.pywheel_core.specs.Target.Value.{TargetValue}
+use Rattle.pywheel_core.specs.declared.error.TargetError.{TargetError}
 use Rattle.pylock_core.specs.Session.Steps.{fault_code}
 use Rattle.pylock_core.specs.declared.answer.FaultCode.{FaultCode}
 use Rattle.pylock_readers.specs.Lock.Reading.{lock_of}
-use Rattle.pylock_readers.specs.declared.error.EnvError.{EnvError}
-use Rattle.pylock_readers.specs.declared.error.LockError.{LockError}
 use Rattle.pylock_command.specs.declared.form.Form.{Form}
 use Rattle.pylock_command.specs.declared.form.Form.TheVariants.{Lines, Json}
 use Rattle.pylock_readers.specs.Entry.{EntryValue}
@@ -45,36 +47,62 @@ use Rattle.pylock_audit.specs.Audit.{findings_of}
 use Rattle.pylock_audit.specs.Document.{findings_rows}
 use Rattle.pylock_audit.specs.Finding.{LockFindingValue}
 use Rattle.pylock_documents.specs.Documents.{files_rows}
-use Rattle.pylock_run.specs.Report.{Report}
+use Rattle.pylock_documents.specs.Texts.{requirement_rows, sdist_rows, specifiers_text, wheel_rows}
+use Rattle.pylock_json.specs.Json.{there, truth}
+use Rattle.pylock_messages.specs.Diagnostic.{DiagnosticValue}
+use Rattle.pylock_run.specs.Report.{Report, refuse_as}
+use Rattle.pylock_run.specs.declared.report.opening.OpenError.{OpenError}
+use Rattle.pylock_run.specs.declared.report.opening.OpenError.TheVariants.{Lock, Environment}
+use Rattle.pylock_program.specs.Refusal.{refused_file_report, refused_shown}
 use Rattle.pylock_program.specs.Text.Audit.{findings_text}
-use Rattle.pylock_program.specs.Text.Json.{json_text, lock_json}
+use Rattle.pylock_program.specs.Text.Json.{fault_json, json_text}
 use Rattle.pylock_run.specs.Text.Field.{field, line_of}
 use Rattle.pylock_core.specs.Words.{fault_word}
 use Rattle.pylock_program.specs.Text.Files.{files_text}
-use Rattle.pylock_run.specs.Text.Refusal.{environment_text, lock_text}
 use Rattle.pylock_program.specs.declared.reply.queries.Query.{Query}
 use Rattle.pylock_program.specs.declared.reply.queries.Query.TheVariants as query
 
--- ---- what is printed in place of an answer
+-- ---- what is printed, and with which status
 
--- `refused` and a word
-abbrev pub refusal_report : List ℕ → Report
-refusal_report word = record { text = line_of (codes "refused") (word ∷ []); status = 1 }
+-- an answer
+abbrev pub answered : List ℕ → Report
+answered text = record { text = text; status = 0 }
 
--- `fault` and its code
-abbrev pub fault_report : FaultCode → Report
-fault_report code = record { text = line_of (codes "fault") (fault_word code ∷ []); status = 1 }
+-- a refused text
+abbrev pub refused_report : Form → List ℕ → Report
+refused_report form word = record { text = refused_shown form word; status = 1 }
 
--- a refused environment, as a run prints it
-abbrev pub refused_environment : EnvError → Report
-refused_environment error = record { text = environment_text error; status = 2 }
+-- the fault of a marker: its code
+abbrev pub fault_shown : Form → FaultCode → List ℕ
+fault_shown Lines code = line_of (codes "fault") (fault_word code ∷ [])
+fault_shown Json code = fault_json (fault_word code)
+
+abbrev pub fault_report : Form → FaultCode → Report
+fault_report form code = record { text = fault_shown form code; status = 1 }
 
 -- a step of an answer, or what is printed in its place; out of memory is no refusal, and is never
 -- printed
 abbrev pub or_report : {V E : Type 0} → (E → Report) → Result V E → Result V Report
 or_report report step = result_map_both (λ v. v) report step
 
--- ---- answers: the fields of one line
+abbrev pub or_refused : {V E : Type 0} → Form → (E → List ℕ) → Result V E → Result V Report
+or_refused form word = or_report (λ e. refused_report form (word e))
+
+-- an answer of one text: the one field of its line, or the member of this key
+abbrev pub text_shown : Form → List ℕ → List ℕ → List ℕ
+text_shown Lines key text = line_of (field (Some text)) []
+text_shown Json key text = json_text ((key, there text) ∷ [])
+
+-- an answer that is true or false
+abbrev pub truth_word : Bool → List ℕ
+truth_word true = codes "true"
+truth_word false = codes "false"
+
+abbrev pub truth_shown : Form → List ℕ → Bool → List ℕ
+truth_shown Lines key value = line_of (truth_word value) []
+truth_shown Json key value = json_text ((key, truth value) ∷ [])
+
+-- ---- answers on a text: its line, or a document
 
 -- `version TEXT`: the normal form
 abbrev pub version_word : VersionError → List ℕ
@@ -82,10 +110,10 @@ version_word version.Syntax = codes "syntax"
 version_word version.NumberTooLarge = codes "number"
 version_word version.Memory = codes "memory"
 
-abbrev pub version_answer : List ℕ → Result (List ℕ) Report
-version_answer text = do
-  v ← or_report (λ e. refusal_report (version_word e)) (parsed_version text)
-  Ok (line_of (field (Some (normal_text v))) [])
+abbrev pub version_answer : Form → List ℕ → Result (List ℕ) Report
+version_answer form text = do
+  v ← or_refused form version_word (parsed_version text)
+  Ok (text_shown form (codes "version") (normal_text v))
 
 -- `match SET VERSION`: whether the set admits the version
 abbrev pub set_word : SpecifierError → List ℕ
@@ -98,51 +126,22 @@ match_word version.Syntax = codes "version-syntax"
 match_word version.NumberTooLarge = codes "version-number"
 match_word version.Memory = codes "memory"
 
-abbrev pub truth_word : Bool → List ℕ
-truth_word true = codes "true"
-truth_word false = codes "false"
+abbrev pub admits_answer : Form → List Specifier → List ℕ → Result (List ℕ) Report
+admits_answer form specifiers text = do
+  v ← or_refused form match_word (parsed_version text)
+  Ok (truth_shown form (codes "match") (admits_all specifiers v))
 
-abbrev pub admits_answer : List Specifier → List ℕ → Result (List ℕ) Report
-admits_answer specifiers text = do
-  v ← or_report (λ e. refusal_report (match_word e)) (parsed_version text)
-  Ok (line_of (truth_word (admits_all specifiers v)) [])
-
-abbrev pub match_answer : List ℕ → List ℕ → Result (List ℕ) Report
-match_answer set text = do
-  specifiers ← or_report (λ e. refusal_report (set_word e)) (parsed_set set)
-  admits_answer specifiers text
+abbrev pub match_answer : Form → List ℕ → List ℕ → Result (List ℕ) Report
+match_answer form set text = do
+  specifiers ← or_refused form set_word (parsed_set set)
+  admits_answer form specifiers text
 
 -- `name TEXT`: the normal form
-abbrev pub name_answer : List ℕ → Result (List ℕ) Report
-name_answer text =
+abbrev pub name_answer : Form → List ℕ → Result (List ℕ) Report
+name_answer form text =
     if is_name text
-    then Ok (line_of (field (Some (normal_name text))) [])
-    else Err (refusal_report (codes "name"))
-
--- `marker TEXT ENV`: whether the marker is true; its text is judged before the environment
-abbrev pub marker_word : MarkerError → List ℕ
-marker_word marker.TooDeep = codes "too-deep"
-marker_word marker.Syntax = codes "syntax"
-marker_word marker.SetMisuse = codes "set-misuse"
-marker_word marker.Memory = codes "memory"
-
--- the value in an environment
-abbrev pub value_answer : MarkerValue → EnvironmentValue → Result (List ℕ) Report
-value_answer marker environment = do
-  value ← or_report (λ fault. fault_report (fault_code fault))
-      (marker_value environment marker.tree)
-  Ok (line_of (truth_word value) [])
-
--- the environment that is read has no extra and no group
-abbrev pub marker_answer_in : MarkerValue → List ℕ → Result (List ℕ) Report
-marker_answer_in marker bytes = do
-  read ← or_report refused_environment (env_of bytes)
-  value_answer marker read.0
-
-abbrev pub marker_answer : List ℕ → List ℕ → Result (List ℕ) Report
-marker_answer text bytes = do
-  marker ← or_report (λ e. refusal_report (marker_word e)) (marker_of text)
-  marker_answer_in marker bytes
+    then Ok (text_shown form (codes "name") (normal_name text))
+    else Err (refused_report form (codes "name"))
 
 -- `requirement TEXT`: name, extras, specifier set, URL, marker
 abbrev pub requirement_word : RequirementError → List ℕ
@@ -159,21 +158,20 @@ abbrev pub names_text : List (List ℕ) → Option (List ℕ)
 names_text [] = None
 names_text (name ∷ names) = Some (join_by normal_name (codes ",") (name ∷ names))
 
--- the normal text of a specifier set, absent where it is empty
-abbrev pub specifiers_text : List Specifier → Option (List ℕ)
-specifiers_text [] = None
-specifiers_text (specifier ∷ specifiers) = Some (set_text (specifier ∷ specifiers))
-
 abbrev pub requirement_line : RequirementValue → List ℕ
 requirement_line parts =
     line_of (field (Some (normal_name parts.name)))
     (field (names_text parts.extras) ∷ field (specifiers_text parts.set) ∷ field parts.url
     ∷ field (option_map (λ marker. marker.text) parts.marker) ∷ [])
 
-abbrev pub requirement_answer : List ℕ → Result (List ℕ) Report
-requirement_answer text = do
-  parts ← or_report (λ e. refusal_report (requirement_word e)) (requirement_of text)
-  Ok (requirement_line parts)
+abbrev pub requirement_shown : Form → RequirementValue → List ℕ
+requirement_shown Lines parts = requirement_line parts
+requirement_shown Json parts = json_text (requirement_rows parts)
+
+abbrev pub requirement_answer : Form → List ℕ → Result (List ℕ) Report
+requirement_answer form text = do
+  parts ← or_refused form requirement_word (requirement_of text)
+  Ok (requirement_shown form parts)
 
 -- `wheel TEXT`: name, version, build, tags
 abbrev pub wheel_word : WheelError → List ℕ
@@ -191,10 +189,14 @@ wheel_line parts =
     (field (Some (normal_text parts.version)) ∷ field parts.build
     ∷ field (Some (join_by tag_text (codes " ") parts.tags)) ∷ [])
 
-abbrev pub wheel_answer : List ℕ → Result (List ℕ) Report
-wheel_answer text = do
-  parts ← or_report (λ e. refusal_report (wheel_word e)) (wheel_of text)
-  Ok (wheel_line parts)
+abbrev pub wheel_shown : Form → WheelValue → List ℕ
+wheel_shown Lines parts = wheel_line parts
+wheel_shown Json parts = json_text (wheel_rows parts)
+
+abbrev pub wheel_answer : Form → List ℕ → Result (List ℕ) Report
+wheel_answer form text = do
+  parts ← or_refused form wheel_word (wheel_of text)
+  Ok (wheel_shown form parts)
 
 -- `sdist TEXT`: name, version
 abbrev pub sdist_word : SdistError → List ℕ
@@ -208,58 +210,120 @@ abbrev pub sdist_line : SdistValue → List ℕ
 sdist_line parts =
     line_of (field (Some parts.name)) (field (Some (normal_text parts.version)) ∷ [])
 
-abbrev pub sdist_answer : List ℕ → Result (List ℕ) Report
-sdist_answer text = do
-  parts ← or_report (λ e. refusal_report (sdist_word e)) (sdist_of text)
-  Ok (sdist_line parts)
+abbrev pub sdist_shown : Form → SdistValue → List ℕ
+sdist_shown Lines parts = sdist_line parts
+sdist_shown Json parts = json_text (sdist_rows parts)
 
--- ---- answers on a lock, as lines or as a document
+abbrev pub sdist_answer : Form → List ℕ → Result (List ℕ) Report
+sdist_answer form text = do
+  parts ← or_refused form sdist_word (sdist_of text)
+  Ok (sdist_shown form parts)
 
-abbrev pub refused_lock : Form → LockError → Report
-refused_lock Lines error = record { text = lock_text error; status = 2 }
-refused_lock Json error = record { text = lock_json error; status = 2 }
+-- the answer on a text, or what is printed in its place
+abbrev pub reply_of : Result (List ℕ) Report → Report
+reply_of (Ok text) = answered text
+reply_of (Err report) = report
+
+-- ---- answers on a file, or the refusal of the file
+
+-- `marker TEXT ENV`: whether the marker is true; its text is judged before the environment
+abbrev pub marker_word : MarkerError → List ℕ
+marker_word marker.TooDeep = codes "too-deep"
+marker_word marker.Syntax = codes "syntax"
+marker_word marker.SetMisuse = codes "set-misuse"
+marker_word marker.Memory = codes "memory"
+
+-- the value in an environment
+abbrev pub value_answer : Form → MarkerValue → EnvironmentValue → Result (List ℕ) Report
+value_answer form marker environment = do
+  value ← or_report (λ fault. fault_report form (fault_code fault))
+      (marker_value environment marker.tree)
+  Ok (truth_shown form (codes "marker") value)
+
+-- the environment that is read has no extra and no group
+abbrev pub marker_answer_in : Form → MarkerValue → EnvironmentRead → Result Report OpenError
+marker_answer_in form marker read = do
+  environment ← refuse_as Environment read
+  Ok (reply_of (value_answer form marker environment.0))
+
+abbrev pub marker_answer_of : Form → EnvironmentRead → Result MarkerValue MarkerError
+    → Result Report OpenError
+marker_answer_of form read (Ok marker) = marker_answer_in form marker read
+marker_answer_of form read (Err error) = Ok (refused_report form (marker_word error))
+
+abbrev pub marker_answer : Form → List ℕ → EnvironmentRead → Result Report OpenError
+marker_answer form text read = marker_answer_of form read (marker_of text)
+
+-- `environment --python PYTHON --platform PLATFORM`: the text of the target's environment, which is
+-- JSON whatever the form
+abbrev pub target_answer_of : Result TargetValue TargetError → Result Report OpenError
+target_answer_of (Ok target) = Ok (answered (target_text target))
+target_answer_of (Err error) = Err (Environment (target_refusal error))
+
+abbrev pub target_answer : List ℕ → List ℕ → Result Report OpenError
+target_answer python platform = target_answer_of (target_of python platform)
 
 -- `files LOCK`: every source that the lock names
 abbrev pub files_shown : Form → List EntryValue → List ℕ
 files_shown Lines entries = files_text entries
 files_shown Json entries = json_text (files_rows entries)
 
-abbrev pub files_answer : Form → List ℕ → Result (List ℕ) Report
+abbrev pub files_answer : Form → List ℕ → Result Report OpenError
 files_answer form bytes = do
-  lock ← or_report (refused_lock form) (lock_of bytes)
-  Ok (files_shown form lock.entries)
+  lock ← refuse_as Lock (lock_of bytes)
+  Ok (answered (files_shown form lock.entries))
 
 -- `audit LOCK`: what a careful reader would want to be told; status 1 where that is something
 abbrev pub findings_shown : Form → List LockFindingValue → List ℕ
 findings_shown Lines found = findings_text found
 findings_shown Json found = json_text (findings_rows found)
 
-abbrev pub findings_answer : Form → List LockFindingValue → Result (List ℕ) Report
-findings_answer form [] = Ok (findings_shown form [])
-findings_answer form (one ∷ others) =
-    Err (record { text = findings_shown form (one ∷ others); status = 1 })
+abbrev pub findings_report : Form → List LockFindingValue → Report
+findings_report form [] = answered (findings_shown form [])
+findings_report form (one ∷ others) =
+    record { text = findings_shown form (one ∷ others); status = 1 }
 
-abbrev pub audit_answer : Form → List ℕ → Result (List ℕ) Report
-audit_answer form bytes = or_report (refused_lock form) (findings_of bytes) >>= findings_answer form
+abbrev pub audit_answer : Form → List ℕ → Result Report OpenError
+audit_answer form bytes = do
+  found ← refuse_as Lock (findings_of bytes)
+  Ok (findings_report form found)
 
 -- ---- the reply
 
--- the text of an answer, or what is printed in its place
-abbrev pub query_answer : Query → Result (List ℕ) Report
+-- the answer, or the refusal of the file that is asked about
+abbrev pub query_answer : Query → Result Report OpenError
 query_answer (query.Files lock form) = files_answer form lock.now
 query_answer (query.Audit lock form) = audit_answer form lock.now
-query_answer (query.Version text) = version_answer text.now
-query_answer (query.Match set version) = match_answer set.now version.now
-query_answer (query.Name text) = name_answer text.now
-query_answer (query.Marker text environment) = marker_answer text.now environment.now
-query_answer (query.Requirement text) = requirement_answer text.now
-query_answer (query.Wheel text) = wheel_answer text.now
-query_answer (query.Sdist text) = sdist_answer text.now
+query_answer (query.Environment python platform) = target_answer python.now platform.now
+query_answer (query.Version text form) = Ok (reply_of (version_answer form text.now))
+query_answer (query.Match set version form) = Ok (reply_of (match_answer form set.now version.now))
+query_answer (query.Name text form) = Ok (reply_of (name_answer form text.now))
+query_answer (query.Marker text input form) = marker_answer form text.now (input_env_of input)
+query_answer (query.Requirement text form) = Ok (reply_of (requirement_answer form text.now))
+query_answer (query.Wheel text form) = Ok (reply_of (wheel_answer form text.now))
+query_answer (query.Sdist text form) = Ok (reply_of (sdist_answer form text.now))
 
-abbrev pub reply_of : Result (List ℕ) Report → Report
-reply_of (Ok line) = record { text = line; status = 0 }
-reply_of (Err report) = report
+abbrev pub query_form : Query → Form
+query_form (query.Files lock form) = form
+query_form (query.Audit lock form) = form
+query_form (query.Environment python platform) = Lines
+query_form (query.Version text form) = form
+query_form (query.Match set version form) = form
+query_form (query.Name text form) = form
+query_form (query.Marker text environment form) = form
+query_form (query.Requirement text form) = form
+query_form (query.Wheel text form) = form
+query_form (query.Sdist text form) = form
+
+-- what is printed of an answer; or of the refusal of the file, with what is told of it
+abbrev pub answer_report : Form → Option DiagnosticValue → Result Report OpenError → Report
+answer_report form told (Ok report) = report
+answer_report form told (Err refusal) = refused_file_report form told refusal
 
 -- what a query prints, and its status
+abbrev pub reply_told : Option DiagnosticValue → Query → Report
+reply_told told query = answer_report (query_form query) told (query_answer query)
+
+-- the same where nothing is told
 abbrev pub reply : Query → Report
-reply query = reply_of (query_answer query)
+reply query = reply_told None query

@@ -1,7 +1,6 @@
 -- What `plan` and `explain` show of a lock in an environment.
-use Rattle.std.specs.Prelude.{ℕ, List, [], ◌∷◌, codes, if◌then◌else◌, Result, Ok, Err}
+use Rattle.std.specs.Prelude.{ℕ, List, [], ◌∷◌, if◌then◌else◌, Option, None, Result, Ok, Err}
 use Rattle.pylock_audit.specs.Finding.{LockFindingValue}
-use Rattle.pylock_command.specs.Choices.{option_words}
 use Rattle.pylock_command.specs.declared.choice.Choice.{Choice}
 use Rattle.pylock_command.specs.declared.form.Form.{Form}
 use Rattle.pylock_command.specs.declared.form.Form.TheVariants.{Lines, Json}
@@ -10,29 +9,20 @@ use Rattle.pylock_command.specs.declared.task.View.{View}
 use Rattle.pylock_command.specs.declared.task.View.TheVariants.{Plan, Explain}
 use Rattle.pylock_core.specs.Session.State.{State}
 use Rattle.pylock_core.specs.Session.Steps.{answer}
+use Rattle.pylock_readers.specs.Environment.{EnvironmentRead}
 use Rattle.pylock_documents.specs.Documents.{answer_rows, explain_rows}
-use Rattle.pylock_run.specs.Report.{Report, current_answer_text, is_plan, open_state}
-use Rattle.pylock_run.specs.Text.Field.{field, line_of}
-use Rattle.pylock_run.specs.Text.Refusal.{refusal_text}
+use Rattle.pylock_messages.specs.Diagnostic.{DiagnosticValue}
+use Rattle.pylock_run.specs.Report.{Report, Shown, as_lines, current_answer_text, is_plan}
+use Rattle.pylock_run.specs.Report.{state_in}
 use Rattle.pylock_run.specs.declared.report.opening.OpenError.{OpenError}
 use Rattle.pylock_program.specs.Choices.{after_choices}
+use Rattle.pylock_program.specs.Refusal.{option_shown, refusal_told, refused_file_report}
 use Rattle.pylock_program.specs.Reply.{findings_shown}
 use Rattle.pylock_program.specs.Strict.{found_by}
 use Rattle.pylock_program.specs.Text.Explain.{explain_text}
-use Rattle.pylock_program.specs.Text.Json.{json_text, option_json, refusal_json}
+use Rattle.pylock_program.specs.Text.Json.{json_text, line_refusal_json, refusal_json}
 use Rattle.pylock_program.specs.declared.strict.Unopened.{Unopened}
 use Rattle.pylock_program.specs.declared.strict.Unopened.TheVariants.{Findings, Refused}
-
--- an option that is refused: its word, without the dashes, and its text
-abbrev pub option_shown : Form → Choice → List ℕ
-option_shown Lines choice =
-    line_of (codes "refused") ((option_words choice).0 ∷ field (option_words choice).1 ∷ [])
-option_shown Json choice = option_json choice
-
--- a refused lock or environment
-abbrev pub refusal_shown : Form → OpenError → List ℕ
-refusal_shown Lines refusal = refusal_text refusal
-refusal_shown Json refusal = refusal_json refusal
 
 -- the answer, and what becomes of each entry
 abbrev pub plan_shown : Form → State → List ℕ
@@ -48,22 +38,26 @@ view_shown Plan = plan_shown
 view_shown Explain = explain_shown
 
 -- what is printed of the state after the options, or the first option that is refused
-abbrev pub report_of_choices : Form → (State → List ℕ) → Result State Choice → Report
-report_of_choices form text (Err choice) = record { text = option_shown form choice; status = 1 }
-report_of_choices form text (Ok state) = record {
+abbrev pub report_of_choices : Form → Option DiagnosticValue → (State → List ℕ)
+    → Result State Choice → Report
+report_of_choices form told text (Err choice) =
+    record { text = option_shown form told choice; status = 1 }
+report_of_choices form told text (Ok state) = record {
   text = text state;
   status = if is_plan (answer state) then 0 else 1;
 }
 
 -- A report on the state after options: a refused lock or environment is all that is reported, and
 -- then a refused option.
+abbrev pub report_told : Form → Option DiagnosticValue → (State → List ℕ)
+    → Result State OpenError → List Choice → Report
+report_told form told text (Err refusal) choices = refused_file_report form told refusal
+report_told form told text (Ok state) choices =
+    report_of_choices form told text (after_choices choices state)
+
+-- the same where nothing is told of a refusal
 abbrev pub report_after : Form → (State → List ℕ) → Result State OpenError → List Choice → Report
-report_after form text (Err refusal) choices = record {
-  text = refusal_shown form refusal;
-  status = 2;
-}
-report_after form text (Ok state) choices =
-    report_of_choices form text (after_choices choices state)
+report_after form text opened choices = report_told form None text opened choices
 
 -- ---- a lock that is taken strictly
 
@@ -77,16 +71,35 @@ report_unless form [] report = report
 report_unless form (one ∷ others) report = found_report form (one ∷ others)
 
 -- why there is no session
+abbrev pub unopened_told : Form → Option DiagnosticValue → Unopened → List ℕ
+unopened_told form told (Findings found) = findings_shown form found
+unopened_told form told (Refused refusal) = refusal_told form told refusal
+
+-- the same where nothing is told
 abbrev pub unopened_shown : Form → Unopened → List ℕ
-unopened_shown form (Findings found) = findings_shown form found
-unopened_shown form (Refused refusal) = refusal_shown form refusal
+unopened_shown form unopened = unopened_told form None unopened
+
+-- ---- runs
+
+-- how a run prints documents, each on a line; of a refusal nothing is told beside its words
+abbrev pub as_documents : Shown
+as_documents = record {
+  answer = plan_shown Json;
+  line = line_refusal_json;
+  unopened = λ refusal. refusal_json refusal None;
+}
+
+abbrev pub run_shown : Form → Shown
+run_shown Lines = as_lines
+run_shown Json = as_documents
 
 -- ---- requests
 
--- The report on a request, from the bytes of its lock and of its environment: the findings that a
--- strict request refuses, or else what is reported without them.
-abbrev pub request_report : Request → List ℕ → List ℕ → Report
-request_report request lock environment =
+-- The report on a request, from what is told of a refusal, from the bytes of its lock and from its
+-- environment as it was read: the findings that a strict request refuses, or else what is reported
+-- without them.
+abbrev pub request_report : Request → Option DiagnosticValue → List ℕ → EnvironmentRead → Report
+request_report request told lock read =
     report_unless request.form (found_by request.strict lock)
-    (report_after request.form (view_shown request.view request.form)
-    (open_state lock environment) request.choices.items)
+    (report_told request.form told (view_shown request.view request.form)
+    (state_in lock read) request.choices.items)

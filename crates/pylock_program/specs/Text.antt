@@ -1,5 +1,6 @@
 -- The printed text, beside the lines of an answer and of a refusal.
 pub mod Audit
+pub mod Diff
 pub mod Explain
 pub mod Files
 pub mod Json

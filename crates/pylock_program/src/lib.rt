@@ -12,9 +12,12 @@
 #![tactic(auto)]
 
 mod choices;
+mod diff;
+mod export;
 mod file;
 pub mod laws;
 mod notes;
+mod printing;
 mod program;
 mod reply;
 mod show;

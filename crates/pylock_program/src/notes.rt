@@ -1,12 +1,13 @@
 //! Lines for a person, on standard error. They say nothing that the printed answer rests on.
 
+pub(crate) mod export;
 pub(crate) mod fault;
 pub(crate) mod file;
 pub(crate) mod options;
 pub(crate) mod refusal;
 
-use pylock_messages::push_visible;
-use pylock_run::{Sink, write_all};
+use pylock_messages::{Diagnostic, push_visible};
+use pylock_run::{RunFault, Sink, write_all};
 use std::alloc::{AllocError, Global};
 
 /// Writes `pylock: ` and the text, in which each control character stands as its number. Where
@@ -21,6 +22,23 @@ pub(crate) fn tell<N: Sink>(alloc: Global, notes: &mut N, text: &str) {
 pub(crate) fn tell_made<N: Sink>(alloc: Global, notes: &mut N, text: Result<String, AllocError>) {
     if let Ok(text) = text {
         tell(alloc, notes, text.as_str());
+    }
+}
+
+/// Writes lines as they stand. Where the write fails, they are left out.
+pub(crate) fn tell_bytes<N: Sink>(notes: &mut N, lines: &[u8]) {
+    let _ = write_all(notes, lines);
+}
+
+/// Tells what a call told beside its answer, once that is written.
+pub(crate) fn tell_beside<N: Sink>(
+    alloc: Global,
+    notes: &mut N,
+    end: &Result<u8, RunFault>,
+    told: Option<&Diagnostic>,
+) {
+    if let (Ok(_), Some(told)) = (end, told) {
+        tell(alloc, notes, told.message());
     }
 }
 

@@ -1,33 +1,45 @@
 //! What the program does with its task, and how it ends.
 
-ghost use Rattle.std.specs.Prelude.{◌≡◌, ◌≢◌, Err};
+ghost use Rattle.std.specs.Prelude.{◌≡◌, ◌≢◌, Err, Result, false, true};
 ghost use Rattle.std.specs.Option.{option_copied};
-ghost use Rattle.std.specs.Result.{result_map_both};
-ghost use Rattle.pylock_program.specs.Program.{failure_message, failure_status, GivesNamed, Opens};
-ghost use Rattle.pylock_program.specs.Program.{OpensNamed, Performs, Replies, Runs, Tells};
+ghost use Rattle.pylock_program.specs.Diff.{locks_report, plans_report};
+ghost use Rattle.pylock_program.specs.Exports.{files_export, plan_export};
+ghost use Rattle.pylock_program.specs.declared.reply.queries.Query.TheVariants as query;
+ghost use Rattle.pylock_program.specs.Program.{Compares, failure_message, failure_status, Opens};
+ghost use Rattle.pylock_program.specs.Program.{OpensMachine, Performs, Replies, RepliesTelling, Runs};
+ghost use Rattle.pylock_program.specs.Program.{Tells};
 ghost use Rattle.pylock_program.specs.Program.{greeting, terminal_note, program_end, IsRunUnless};
-ghost use Rattle.pylock_program.specs.Reply.{audit_answer, files_answer, marker_answer, reply};
-ghost use Rattle.pylock_program.specs.Reply.{reply_of};
-ghost use Rattle.pylock_program.specs.Show.{found_report, request_report};
+ghost use Rattle.pylock_program.specs.Reply.{answer_report, audit_answer, files_answer};
+ghost use Rattle.pylock_program.specs.Reply.{marker_answer, reply};
+ghost use Rattle.pylock_program.specs.Show.{found_report, request_report, run_shown};
 ghost use Rattle.pylock_program.specs.Strict.{found_by};
 ghost use Rattle.pylock_command.specs.declared.form.Form.TheVariants as form;
-ghost use Rattle.pylock_run.specs.Report.{open_state};
+ghost use Rattle.pylock_readers.specs.Input.{input_env_of};
+ghost use Rattle.pylock_run.specs.Report.{state_in};
 ghost use Rattle.pylock_run.specs.Report.Print.{Prints};
-ghost use Rattle.pylock_run.specs.Stream.{SourceValue};
+ghost use Rattle.pylock_run.specs.Report.Run.{IsRunShown};
+ghost use Rattle.pylock_run.specs.declared.report.opening.OpenError.{OpenError as OpenRefusal};
+ghost use Rattle.pylock_run.specs.declared.report.opening.OpenError.TheVariants as open_error;
+ghost use Rattle.pylock_core.specs.Session.State.{State};
+ghost use Rattle.pytext.specs.Agreement.{Gives};
 ghost use Rattle.pylock_program.specs.declared.program.Failure.TheVariants as failure;
 
-use crate::file::FileBytes;
-use crate::notes::file::tell_file;
-use crate::notes::refusal::{tell_refusal, tell_unopened};
+use crate::diff::{Sides, write_lock_diff, write_plan_diff};
+use crate::export::{write_files_export, write_plan_export};
+use crate::file::{FileBytes, MachineInput, read_bytes, read_machine};
+use crate::notes::refusal::{tell_refusal, tell_sides, tell_unopened};
+use crate::printing::Documents;
 use crate::reply::queries::Query;
-use crate::reply::query;
+use crate::reply::{query, query_file};
 use crate::show::{Inputs, show_request};
 use crate::strict::{Unopened, open_by, push_found};
 use pylock_audit::Findings;
-use pylock_command::{Form, Request, Selection, Task};
-use pylock_run::{
-    FileFault, Files, OpenError, RunFault, Sink, Source, print, read_both, run_opened,
+use pylock_command::{
+    DiffRequest, ExportRequest, FileFormat, Form, Installation, Machine, Request, Selection,
+    TargetWords, Task,
 };
+use pylock_core::{EnvironmentInput, Session};
+use pylock_run::{Files, Lines, OpenError, RunFault, Sink, Source, print, run_opened};
 use std::alloc::Global;
 use std::io::ErrorKind;
 
@@ -97,19 +109,6 @@ impl From<RunFault> for Failure {
     }
 }
 
-impl From<FileFault> for Failure {
-    ghost use Rattle.pylock_program.specs.Program.{file_failure};
-
-    ghost from_gives = { λ fault failure. failure ≡ file_failure fault };
-
-    fn from(fault: FileFault) -> Failure {
-        match fault {
-            FileFault::Memory => Failure::Memory,
-            _ => Failure::File,
-        }
-    }
-}
-
 /// What stands on standard error behind `pylock: ` before a task is done where standard input is a
 /// terminal: that edit lines are awaited, if the task reads them.
 pub fn terminal_note(task: &Task<'_>) -> Option<&'static str>
@@ -133,9 +132,10 @@ pub fn words_failure(kind: ErrorKind) -> Failure
 }
 
 /// Does the task on the files, standard input and standard output, and answers the status of the
-/// program. Of two files the lock is read first, and both before either is judged. The
-/// memory of a session isn't freed but left to the system, for the program ends then. What a
-/// person is told besides goes to `notes`; what can't be written there is left out.
+/// program. A file whose path is `-` is standard input, read to its end. The lock is read first, and
+/// both before either is judged. The memory of a session isn't freed but left to the system, for the
+/// program ends then. What a person is told besides goes to `notes`; what can't be written there is
+/// left out.
 pub fn perform<F: Files, R: Source, W: Sink, N: Sink>(
     alloc: Global,
     task: Task<'_>,
@@ -149,19 +149,29 @@ pub fn perform<F: Files, R: Source, W: Sink, N: Sink>(
 {
     match task {
         Task::Bare => print_greeting(writer),
-        Task::Show(request) => show_files(alloc, files, &request, writer, notes),
+        Task::Show(request) => show_files(alloc, files, &request, reader, writer, notes),
         Task::Select(asked) => run_select(alloc, files, asked, reader, writer, notes),
-        Task::Files(lock, form) => list_files(alloc, files, form, lock, writer, notes),
-        Task::Audit(lock, form) => audit_lock(alloc, files, form, lock, writer, notes),
-        Task::Version(text) => answer_query(alloc, Query::Version(text), writer),
-        Task::Match(set, version) => answer_query(alloc, Query::Match(set, version), writer),
-        Task::Name(text) => answer_query(alloc, Query::Name(text), writer),
-        Task::Marker(text, environment) => {
-            judge_marker(alloc, files, text, environment, writer, notes)
+        Task::Files(lock, form) => list_files(alloc, files, form, lock, reader, writer, notes),
+        Task::Audit(lock, form) => audit_lock(alloc, files, form, lock, reader, writer, notes),
+        Task::ExportPlan(asked) => export_plan(alloc, files, &asked, reader, writer, notes),
+        Task::ExportFiles(lock, form) => {
+            export_files(alloc, files, form, lock, reader, writer, notes)
         }
-        Task::Requirement(text) => answer_query(alloc, Query::Requirement(text), writer),
-        Task::Wheel(text) => answer_query(alloc, Query::Wheel(text), writer),
-        Task::Sdist(text) => answer_query(alloc, Query::Sdist(text), writer),
+        Task::Diff(asked) => compare_locks(alloc, files, &asked, reader, writer, notes),
+        Task::Environment(target) => print_target(alloc, target, writer, notes),
+        Task::Version(text, form) => answer_query(alloc, Query::Version(text, form), writer),
+        Task::Match(set, version, form) => {
+            answer_query(alloc, Query::Match(set, version, form), writer)
+        }
+        Task::Name(text, form) => answer_query(alloc, Query::Name(text, form), writer),
+        Task::Marker(text, machine, form) => {
+            judge_marker(alloc, files, text, machine, form, reader, writer, notes)
+        }
+        Task::Requirement(text, form) => {
+            answer_query(alloc, Query::Requirement(text, form), writer)
+        }
+        Task::Wheel(text, form) => answer_query(alloc, Query::Wheel(text, form), writer),
+        Task::Sdist(text, form) => answer_query(alloc, Query::Sdist(text, form), writer),
     }
 }
 
@@ -180,169 +190,341 @@ fn run_select<F: Files, R: Source, W: Sink, N: Sink>(
     writer: &mut W,
     notes: &mut N,
 ) -> Result<u8, Failure>
-    ensures { Opens (F.read_gives files.now) asked.entry.lock.now
-        (λ lock. Opens (F.read_gives files.now) asked.entry.environment.now
-        (Runs (found_by asked.entry.strict lock) lock))
+    ensures { Opens false (F.read_gives files.now) asked.entry.lock.now
+        (λ lock. OpensMachine false (F.read_gives files.now) asked.entry.machine
+        (Runs asked.entry.form (found_by asked.entry.strict lock) lock))
         (R.value reader.old) (R.value reader.new) (W.value writer.old) (W.value writer.new) result }
 {
-    let (lock_bytes, bytes) = read_both(files, asked.lock, asked.environment)?;
-    let end = run_by(alloc, asked.strict, &lock_bytes, &bytes, reader, writer);
-    let lock = FileBytes {
-        path: asked.lock,
-        bytes: lock_bytes,
-    };
-    let environment = FileBytes {
-        path: asked.environment,
-        bytes,
-    };
-    tell_unopened(alloc, notes, &end, asked.strict, &lock, &environment);
+    let lock = read_bytes(alloc, files, reader, asked.lock, false, notes)?;
+    let machine = read_machine(alloc, files, reader, asked.machine, false, notes)?;
+    let end = run_by(
+        alloc,
+        asked.form,
+        asked.strict,
+        &lock.bytes,
+        machine.input(),
+        reader,
+        writer,
+    );
+    tell_unopened(alloc, notes, &end, asked.strict, &lock, &machine);
     program_end(end)
 }
 
 /// A run on a lock that is taken strictly, or as it is; or the findings in its place.
 fn run_by<R: Source, W: Sink>(
     alloc: Global,
+    form: Form,
     strict: bool,
     lock: &[u8],
-    env: &[u8],
+    environment: EnvironmentInput<'_>,
     reader: &mut R,
     writer: &mut W,
 ) -> Result<u8, RunFault>
-    ensures { IsRunUnless (found_by strict lock.now) (open_state lock.now env.now)
+    ensures { IsRunUnless form (found_by strict lock.now)
+        (state_in lock.now (input_env_of environment.entry))
         (R.value reader.old) (R.value reader.new) (W.value writer.old) (W.value writer.new) result }
 {
-    match open_by(alloc, strict, lock, env) {
-        Ok(session) => run_opened(alloc, Ok(session), true, reader, writer),
+    match open_by(alloc, strict, lock, environment) {
+        Ok(session) => run_in_form(alloc, form, Ok(session), reader, writer),
         Err(Unopened::Refused(OpenError::Memory)) => Err(RunFault::Memory),
-        Err(Unopened::Refused(refusal)) => run_opened(alloc, Err(refusal), true, reader, writer),
-        Err(Unopened::Findings(found)) => print_found(alloc, &found, writer),
+        Err(Unopened::Refused(refusal)) => {
+            run_in_form(alloc, form, Err(refusal), reader, writer)
+        }
+        Err(Unopened::Findings(found)) => print_found(alloc, form, &found, writer),
+    }
+}
+
+/// A run on what was opened, in the form.
+fn run_in_form<R: Source, W: Sink>(
+    alloc: Global,
+    form: Form,
+    opened: Result<Session, OpenError>,
+    reader: &mut R,
+    writer: &mut W,
+) -> Result<u8, RunFault>
+    ensures { (begins : Result State OpenRefusal)
+        → Gives open_error.Memory (λ session. session.state) opened begins
+        → IsRunShown (run_shown form) begins (R.value reader.old) (R.value reader.new)
+        (W.value writer.old) (W.value writer.new) result }
+{
+    match form {
+        Form::Lines => run_opened(alloc, &Lines, opened, true, reader, writer),
+        Form::Json => run_opened(alloc, &Documents { alloc }, opened, true, reader, writer),
     }
 }
 
 /// Prints findings in place of an answer.
-fn print_found<W: Sink>(alloc: Global, found: &Findings, writer: &mut W) -> Result<u8, RunFault>
-    ensures { Prints (found_report form.Lines found.now)
+fn print_found<W: Sink>(
+    alloc: Global,
+    form: Form,
+    found: &Findings,
+    writer: &mut W,
+) -> Result<u8, RunFault>
+    ensures { Prints (found_report form found.now)
         (W.value writer.old) (W.value writer.new) result }
 {
     let mut out = Vec::new(alloc);
-    push_found(alloc, &mut out, Form::Lines, found.as_slice())?;
+    push_found(alloc, &mut out, form, found.as_slice())?;
     print(&out, REFUSED, writer)
 }
 
-/// The file at a path.
-fn read_bytes<'a, F: Files>(files: &F, path: &'a str) -> Result<FileBytes<'a>, FileFault>
-    ensures { F.read_gives files.now path.now
-        (result_map_both (λ file. file.bytes.items) (λ fault. fault) result) }
-{
-    let bytes = files.read(path)?;
-    Ok(FileBytes { path, bytes })
-}
-
-/// The file at a path; a person is told which file can't be read, and why.
-fn read_named<'a, F: Files, N: Sink>(
+/// Answers `plan` or `explain` on the lock of a file and the environment of a machine.
+fn show_files<F: Files, R: Source, W: Sink, N: Sink>(
     alloc: Global,
     files: &F,
-    path: &'a str,
+    request: &Request<'_>,
+    reader: &mut R,
+    writer: &mut W,
     notes: &mut N,
-) -> Result<FileBytes<'a>, Failure>
-    ensures { GivesNamed (F.read_gives files.now) path.now
-        (result_map_both (λ file. file.bytes.items) (λ failure. failure) result) }
+) -> Result<u8, Failure>
+    ensures { Opens true (F.read_gives files.now) request.now.lock.now
+        (λ lock. OpensMachine true (F.read_gives files.now) request.now.machine
+        (λ read. RepliesTelling (λ told. request_report request.now told lock read)))
+        (R.value reader.old) (R.value reader.new) (W.value writer.old) (W.value writer.new) result }
 {
-    match read_bytes(files, path) {
-        Ok(file) => Ok(file),
-        Err(FileFault::Memory) => Err(Failure::Memory),
-        Err(fault) => {
-            tell_file(alloc, notes, path, fault);
-            Err(Failure::NamedFile)
+    let lock = read_bytes(alloc, files, reader, request.lock, true, notes)?;
+    let machine = read_machine(alloc, files, reader, request.machine, true, notes)?;
+    let inputs = Inputs {
+        lock: &lock.bytes,
+        environment: machine.input(),
+        leaves: true,
+    };
+    program_end(show_request(alloc, request, inputs, writer, notes))
+}
+
+/// Answers `plan` in the form of another tool.
+fn export_plan<F: Files, R: Source, W: Sink, N: Sink>(
+    alloc: Global,
+    files: &F,
+    asked: &ExportRequest<'_>,
+    reader: &mut R,
+    writer: &mut W,
+    notes: &mut N,
+) -> Result<u8, Failure>
+    ensures { Opens true (F.read_gives files.now) asked.now.lock.now
+        (λ lock. OpensMachine true (F.read_gives files.now) asked.now.machine
+        (λ read. Replies (plan_export asked.now lock read)))
+        (R.value reader.old) (R.value reader.new) (W.value writer.old) (W.value writer.new) result }
+{
+    let lock = read_bytes(alloc, files, reader, asked.lock, true, notes)?;
+    let machine = read_machine(alloc, files, reader, asked.machine, true, notes)?;
+    let inputs = Inputs {
+        lock: &lock.bytes,
+        environment: machine.input(),
+        leaves: true,
+    };
+    let end = write_plan_export(alloc, asked, inputs, writer, notes);
+    tell_unopened(alloc, notes, &end, asked.strict, &lock, &machine);
+    program_end(end)
+}
+
+/// Answers `files` in the form of another tool.
+fn export_files<F: Files, R: Source, W: Sink, N: Sink>(
+    alloc: Global,
+    files: &F,
+    form: FileFormat,
+    lock: &str,
+    reader: &mut R,
+    writer: &mut W,
+    notes: &mut N,
+) -> Result<u8, Failure>
+    ensures { Opens true (F.read_gives files.now) lock.now
+        (λ bytes. Replies (files_export form bytes))
+        (R.value reader.old) (R.value reader.new) (W.value writer.old) (W.value writer.new) result }
+{
+    let lock = read_bytes(alloc, files, reader, lock, true, notes)?;
+    let end = write_files_export(alloc, form, &lock.bytes, writer, notes);
+    tell_refusal(alloc, notes, &end, Some(&lock), None);
+    program_end(end)
+}
+
+/// Answers `diff` on two locks, or on what they install.
+fn compare_locks<F: Files, R: Source, W: Sink, N: Sink>(
+    alloc: Global,
+    files: &F,
+    asked: &DiffRequest<'_>,
+    reader: &mut R,
+    writer: &mut W,
+    notes: &mut N,
+) -> Result<u8, Failure>
+    ensures { Opens true (F.read_gives files.now) asked.now.old.now
+        (λ old. Opens true (F.read_gives files.now) asked.now.new.now
+        (λ new. Compares (F.read_gives files.now) asked.now.form asked.now.installation old new))
+        (R.value reader.old) (R.value reader.new) (W.value writer.old) (W.value writer.new) result }
+{
+    let old = read_bytes(alloc, files, reader, asked.old, true, notes)?;
+    let new = read_bytes(alloc, files, reader, asked.new, true, notes)?;
+    compare_read(alloc, files, asked, (&old, &new), reader, writer, notes)
+}
+
+/// Answers `diff` on two locks that were read.
+fn compare_read<F: Files, R: Source, W: Sink, N: Sink>(
+    alloc: Global,
+    files: &F,
+    asked: &DiffRequest<'_>,
+    sides: (&FileBytes<'_>, &FileBytes<'_>),
+    reader: &mut R,
+    writer: &mut W,
+    notes: &mut N,
+) -> Result<u8, Failure>
+    ensures { Compares (F.read_gives files.now) asked.now.form asked.now.installation
+        sides.entry.0.now.bytes.items sides.entry.1.now.bytes.items
+        (R.value reader.old) (R.value reader.new) (W.value writer.old) (W.value writer.new) result }
+{
+    match &asked.installation {
+        None => compare_texts(alloc, asked.form, sides, writer, notes),
+        Some(installation) => {
+            compare_plans(
+                alloc,
+                files,
+                asked.form,
+                installation,
+                sides,
+                reader,
+                writer,
+                notes,
+            )
         }
     }
 }
 
-/// Answers `plan` or `explain` on the lock and the environment of two files.
-fn show_files<F: Files, W: Sink, N: Sink>(
+/// Answers `diff` on what two locks say.
+fn compare_texts<W: Sink, N: Sink>(
     alloc: Global,
-    files: &F,
-    request: &Request<'_>,
+    form: Form,
+    sides: (&FileBytes<'_>, &FileBytes<'_>),
     writer: &mut W,
     notes: &mut N,
 ) -> Result<u8, Failure>
-    ensures { (source : SourceValue) → OpensNamed (F.read_gives files.now) request.now.lock.now
-        (λ lock. OpensNamed (F.read_gives files.now) request.now.environment.now
-        (λ environment. Replies (request_report request.now lock environment)))
-        source source (W.value writer.old) (W.value writer.new) result }
+    ensures { Tells (Prints (locks_report form sides.entry.0.now.bytes.items
+        sides.entry.1.now.bytes.items) (W.value writer.old) (W.value writer.new)) result }
 {
-    let lock = read_named(alloc, files, request.lock, notes)?;
-    let environment = read_named(alloc, files, request.environment, notes)?;
-    let inputs = Inputs {
-        lock: &lock.bytes,
-        environment: &environment.bytes,
-        leaves: true,
-    };
-    let end = show_request(alloc, request, inputs, writer, notes);
-    tell_unopened(alloc, notes, &end, request.strict, &lock, &environment);
+    let (old, new) = sides;
+    let end = write_lock_diff(alloc, form, sides_of(old, new), writer);
+    tell_sides(alloc, notes, &end, old, new, None);
+    program_end(end)
+}
+
+/// The bytes of two files.
+fn sides_of<'a>(old: &'a FileBytes<'_>, new: &'a FileBytes<'_>) -> Sides<'a>
+    ensures old { result.old.now ≡ old.now.bytes.items }
+    ensures new { result.new.now ≡ new.now.bytes.items }
+{
+    Sides {
+        old: &old.bytes,
+        new: &new.bytes,
+    }
+}
+
+/// Answers `diff` on what two locks install.
+fn compare_plans<F: Files, R: Source, W: Sink, N: Sink>(
+    alloc: Global,
+    files: &F,
+    form: Form,
+    installation: &Installation<'_>,
+    sides: (&FileBytes<'_>, &FileBytes<'_>),
+    reader: &mut R,
+    writer: &mut W,
+    notes: &mut N,
+) -> Result<u8, Failure>
+    ensures { OpensMachine true (F.read_gives files.now) installation.now.machine
+        (λ read. Replies (plans_report form installation.now.choices.items
+        sides.entry.0.now.bytes.items sides.entry.1.now.bytes.items read))
+        (R.value reader.old) (R.value reader.new) (W.value writer.old) (W.value writer.new) result }
+{
+    let (old, new) = sides;
+    let machine = read_machine(alloc, files, reader, installation.machine, true, notes)?;
+    let end = write_plan_diff(
+        alloc,
+        form,
+        &installation.choices,
+        sides_of(old, new),
+        machine.input(),
+        writer,
+    );
+    tell_sides(alloc, notes, &end, old, new, Some(&machine));
+    program_end(end)
+}
+
+/// Prints the environment of a target.
+fn print_target<W: Sink, N: Sink>(
+    alloc: Global,
+    target: TargetWords<'_>,
+    writer: &mut W,
+    notes: &mut N,
+) -> Result<u8, Failure>
+    ensures { Tells (Prints (reply (query.Environment target.entry.python target.entry.platform))
+        (W.value writer.old) (W.value writer.new)) result }
+{
+    let asked = Query::Environment(target.python, target.platform);
+    let end = query(alloc, asked, true, writer);
+    tell_refusal(
+        alloc,
+        notes,
+        &end,
+        None,
+        Some(&MachineInput::Target(target)),
+    );
     program_end(end)
 }
 
 /// Answers `files` on the lock of a file.
-fn list_files<F: Files, W: Sink, N: Sink>(
+fn list_files<F: Files, R: Source, W: Sink, N: Sink>(
     alloc: Global,
     files: &F,
     form: Form,
     lock: &str,
+    reader: &mut R,
     writer: &mut W,
     notes: &mut N,
 ) -> Result<u8, Failure>
-    ensures { (source : SourceValue) → OpensNamed (F.read_gives files.now) lock.now
-        (λ bytes. Replies (reply_of (files_answer form bytes)))
-        source source (W.value writer.old) (W.value writer.new) result }
+    ensures { Opens true (F.read_gives files.now) lock.now
+        (λ bytes. RepliesTelling (λ told. answer_report form told (files_answer form bytes)))
+        (R.value reader.old) (R.value reader.new) (W.value writer.old) (W.value writer.new) result }
 {
-    let lock = read_named(alloc, files, lock, notes)?;
-    let end = query(alloc, Query::Files(&lock.bytes, form), true, writer);
-    tell_refusal(alloc, notes, &end, Some(&lock), None);
-    program_end(end)
+    let lock = read_bytes(alloc, files, reader, lock, true, notes)?;
+    let asked = Query::Files(&lock.bytes, form);
+    program_end(query_file(alloc, asked, lock.named(), writer, notes))
 }
 
 /// Answers `audit` on the lock of a file.
-fn audit_lock<F: Files, W: Sink, N: Sink>(
+fn audit_lock<F: Files, R: Source, W: Sink, N: Sink>(
     alloc: Global,
     files: &F,
     form: Form,
     lock: &str,
+    reader: &mut R,
     writer: &mut W,
     notes: &mut N,
 ) -> Result<u8, Failure>
-    ensures { (source : SourceValue) → OpensNamed (F.read_gives files.now) lock.now
-        (λ bytes. Replies (reply_of (audit_answer form bytes)))
-        source source (W.value writer.old) (W.value writer.new) result }
+    ensures { Opens true (F.read_gives files.now) lock.now
+        (λ bytes. RepliesTelling (λ told. answer_report form told (audit_answer form bytes)))
+        (R.value reader.old) (R.value reader.new) (W.value writer.old) (W.value writer.new) result }
 {
-    let lock = read_named(alloc, files, lock, notes)?;
-    let end = query(alloc, Query::Audit(&lock.bytes, form), true, writer);
-    tell_refusal(alloc, notes, &end, Some(&lock), None);
-    program_end(end)
+    let lock = read_bytes(alloc, files, reader, lock, true, notes)?;
+    let asked = Query::Audit(&lock.bytes, form);
+    program_end(query_file(alloc, asked, lock.named(), writer, notes))
 }
 
-/// Answers `marker` in the environment of a file.
-fn judge_marker<F: Files, W: Sink, N: Sink>(
+/// Answers `marker` in the environment of a machine.
+fn judge_marker<'a, F: Files, R: Source, W: Sink, N: Sink>(
     alloc: Global,
     files: &F,
-    marker: &str,
-    environment: &str,
+    marker: &'a str,
+    machine: Machine<'a>,
+    form: Form,
+    reader: &mut R,
     writer: &mut W,
     notes: &mut N,
 ) -> Result<u8, Failure>
-    ensures { (source : SourceValue) → Opens (F.read_gives files.now) environment.now
-        (λ bytes. Replies (reply_of (marker_answer marker.now bytes)))
-        source source (W.value writer.old) (W.value writer.new) result }
+    ensures { OpensMachine false (F.read_gives files.now) machine.entry
+        (λ read. RepliesTelling (λ told. answer_report form told
+        (marker_answer form marker.now read)))
+        (R.value reader.old) (R.value reader.new) (W.value writer.old) (W.value writer.new) result }
 {
-    let environment = read_bytes(files, environment)?;
-    let end = query(
-        alloc,
-        Query::Marker(marker, &environment.bytes),
-        true,
-        writer,
-    );
-    tell_refusal(alloc, notes, &end, None, Some(&environment));
-    program_end(end)
+    let machine = read_machine(alloc, files, reader, machine, false, notes)?;
+    let asked = Query::Marker(marker, machine.input(), form);
+    program_end(query_file(alloc, asked, machine.named(), writer, notes))
 }
 
 fn answer_query<W: Sink>(alloc: Global, asked: Query<'_>, writer: &mut W) -> Result<u8, Failure>

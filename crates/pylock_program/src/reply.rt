@@ -1,38 +1,43 @@
 //! The replies of the one-shot commands.
 
-ghost use Rattle.std.specs.Prelude.{◌≡◌, ◌++◌, ◌∷◌, IfOk, OnOk, Ok, Some};
-ghost use Rattle.std.specs.Prelude.{[], map, string_bytes};
-ghost use Rattle.pyver_core.specs.Name.{normal_name};
-ghost use Rattle.pylock_program.specs.Reply.{reply, reply_of, version_answer, match_answer};
-ghost use Rattle.pylock_program.specs.Reply.{admits_answer, audit_answer, files_answer};
-ghost use Rattle.pylock_program.specs.Reply.{files_shown, findings_answer, refused_lock};
-ghost use Rattle.pylock_program.specs.Reply.{truth_word, name_answer, marker_answer};
-ghost use Rattle.pylock_program.specs.Reply.{marker_answer_in, value_answer, requirement_answer};
-ghost use Rattle.pylock_program.specs.Reply.{requirement_line, names_text, specifiers_text};
-ghost use Rattle.pylock_program.specs.Reply.{wheel_answer, wheel_line, refusal_report};
-ghost use Rattle.pylock_program.specs.Reply.{fault_report, sdist_answer, sdist_line};
+ghost use Rattle.std.specs.Prelude.{◌≡◌, ◌++◌, IfOk, OnOk};
+ghost use Rattle.pylock_readers.specs.Input.{input_env_of};
+ghost use Rattle.pylock_program.specs.Inner.Answer.{PushesAnswer};
+ghost use Rattle.pylock_program.specs.Inner.Telling.{PushesTelling};
+ghost use Rattle.pylock_program.specs.Refusal.{PrintsTelling};
+ghost use Rattle.pylock_program.specs.Reply.{audit_answer, files_answer, files_shown};
+ghost use Rattle.pylock_program.specs.Reply.{findings_report, marker_answer, marker_answer_in};
+ghost use Rattle.pylock_program.specs.Reply.{query_answer, reply, reply_of, reply_told};
+ghost use Rattle.pylock_program.specs.Reply.{target_answer};
+ghost use Rattle.pylock_program.specs.Reply.{value_answer};
 ghost use Rattle.pylock_run.specs.Report.Print.{Prints, Pushes};
-ghost use Rattle.pylock_run.specs.Text.Field.{field, line_of};
 
 pub mod queries;
+mod texts;
 
+use crate::file::NamedInput;
+use crate::notes::refusal::{refusal_diagnostic, told_in};
+use crate::notes::tell_beside;
 use crate::program::REFUSED;
 use crate::reply::queries::Query;
+use crate::reply::texts::{
+    push_fault, push_match, push_name, push_requirement, push_sdist, push_truth, push_version,
+    push_wheel, push_word_refused,
+};
+use crate::show::{push_open_error, push_refusal_told};
 use crate::strict::push_found;
 use crate::text::files::push_files;
-use crate::text::json::push_lock_json;
 use pylock_audit::{LockFinding, read_audited};
 use pylock_command::Form;
-use pylock_core::{Entry, EnvError, FaultCode, Lock, LockError, fault_word, read_environment};
+use pylock_core::{
+    Entry, EnvError, EnvironmentInput, FaultCode, Lock, LockError, environment_text,
+};
 use pylock_documents::files_document;
 use pylock_json::push_document;
-use pylock_run::{
-    RunFault, Sink, print, push_environment_error, push_field, push_last_word, push_lock_error,
-    push_next_field,
-};
-use pymark_core::{Environment, EvalFault, Marker, MarkerError, Requirement, RequirementError};
-use pyver_core::{SpecifierError, SpecifierSet, Version, VersionError, is_name, normal_name};
-use pywheel_core::{SdistError, SdistName, WheelError, WheelName, tags_text};
+use pylock_messages::Diagnostic;
+use pylock_run::{OpenError, RunFault, Sink, print};
+use pymark_core::{Environment, EvalFault, Marker, MarkerError};
+use pywheel_core::{Target, TargetError};
 use std::alloc::{AllocError, Global};
 use std::mem;
 
@@ -57,6 +62,7 @@ pub fn query<W: Sink>(
 
 /// Pushes the reply of a one-shot command, and answers the status of [`query`], which says what
 /// `leaves` is.
+#[tactic(auto, using(crate::proofs::ReplyLemmas::pushed_answer))]
 pub fn push_reply(
     alloc: Global,
     out: &mut Vec<u8>,
@@ -65,16 +71,108 @@ pub fn push_reply(
 ) -> Result<u8, AllocError>
     ensures { Pushes out.old.items out.new.items (reply query.entry) result }
 {
-    match query {
-        Query::Files(lock, form) => push_listing(alloc, out, form, lock, leaves),
-        Query::Audit(lock, form) => push_audit(alloc, out, form, lock, leaves),
-        Query::Version(text) => push_version(alloc, out, text),
-        Query::Match(set, version) => push_match(alloc, out, set, version),
-        Query::Name(text) => push_name(alloc, out, text),
-        Query::Marker(text, environment) => push_marker(alloc, out, text, environment),
-        Query::Requirement(text) => push_requirement(alloc, out, text),
-        Query::Wheel(text) => push_wheel(alloc, out, text),
-        Query::Sdist(text) => push_sdist(alloc, out, text),
+    match push_answer(alloc, out, query, leaves) {
+        Ok(status) => Ok(status),
+        Err(OpenError::Memory) => Err(AllocError),
+        Err(refusal) => {
+            push_open_error(alloc, out, query.form(), &refusal)?;
+            Ok(REFUSED)
+        }
+    }
+}
+
+/// Writes the reply on a lock or an environment, as [`query`] does, and to `notes` a line for a
+/// person on its refusal; what can't be written there is left out. A document tells that line too,
+/// and where it points, which no clause pins.
+pub(crate) fn query_file<W: Sink, N: Sink>(
+    alloc: Global,
+    query: Query<'_>,
+    asked_of: NamedInput<'_>,
+    writer: &mut W,
+    notes: &mut N,
+) -> Result<u8, RunFault>
+    ensures { PrintsTelling (λ told. reply_told told query.entry)
+        (W.value writer.old) (W.value writer.new) result }
+{
+    let mut out = Vec::new(alloc);
+    let (status, told) = push_reply_told(alloc, &mut out, query, asked_of)?;
+    let end = print(&out, status, writer);
+    tell_beside(alloc, notes, &end, told.as_ref());
+    end
+}
+
+/// Pushes that reply, and answers the status and what is told of a refusal.
+#[tactic(auto, using(crate::proofs::ReplyLemmas::pushed_answer))]
+fn push_reply_told(
+    alloc: Global,
+    out: &mut Vec<u8>,
+    query: Query<'_>,
+    asked_of: NamedInput<'_>,
+) -> Result<(u8, Option<Diagnostic>), AllocError>
+    ensures { PushesTelling out.old.items out.new.items (λ told. reply_told told query.entry)
+        result }
+{
+    match push_answer(alloc, out, query, true) {
+        Ok(status) => Ok((status, None)),
+        Err(OpenError::Memory) => Err(AllocError),
+        Err(refusal) => {
+            let form = query.form();
+            let told = told_in(
+                form,
+                refusal_diagnostic(alloc, &refusal, asked_of, asked_of),
+            )?;
+            push_refusal_told(alloc, out, form, &refusal, told.as_ref())?;
+            Ok((REFUSED, told))
+        }
+    }
+}
+
+/// Pushes the answer, or gives the refusal of the file that is asked about.
+fn push_answer(
+    alloc: Global,
+    out: &mut Vec<u8>,
+    query: Query<'_>,
+    leaves: bool,
+) -> Result<u8, OpenError>
+    ensures { PushesAnswer out.old.items out.new.items (query_answer query.entry) result }
+{
+    let status = match query {
+        Query::Files(lock, form) => return push_listing(alloc, out, form, lock, leaves),
+        Query::Audit(lock, form) => return push_audit(alloc, out, form, lock, leaves),
+        Query::Marker(text, environment, form) => {
+            return push_marker(alloc, out, form, text, environment);
+        }
+        Query::Environment(python, platform) => {
+            return push_target(alloc, out, python, platform);
+        }
+        Query::Version(text, form) => push_version(alloc, out, form, text)?,
+        Query::Match(set, version, form) => push_match(alloc, out, form, set, version)?,
+        Query::Name(text, form) => push_name(alloc, out, form, text)?,
+        Query::Requirement(text, form) => push_requirement(alloc, out, form, text)?,
+        Query::Wheel(text, form) => push_wheel(alloc, out, form, text)?,
+        Query::Sdist(text, form) => push_sdist(alloc, out, form, text)?,
+    };
+    Ok(status)
+}
+
+/// Pushes the text of the environment of a target.
+fn push_target(
+    alloc: Global,
+    out: &mut Vec<u8>,
+    python: &str,
+    platform: &str,
+) -> Result<u8, OpenError>
+    ensures { PushesAnswer out.old.items out.new.items
+        (target_answer python.now platform.now) result }
+{
+    match Target::parse(python, platform) {
+        Ok(target) => {
+            let text = environment_text(alloc, &target)?;
+            out.extend_from_slice(text.as_bytes())?;
+            Ok(0)
+        }
+        Err(TargetError::Python) => Err(OpenError::Environment(EnvError::Python)),
+        Err(TargetError::Platform) => Err(OpenError::Environment(EnvError::Platform)),
     }
 }
 
@@ -84,9 +182,8 @@ fn push_listing(
     form: Form,
     lock: &[u8],
     leaves: bool,
-) -> Result<u8, AllocError>
-    ensures { Pushes out.old.items out.new.items
-        (reply_of (files_answer form lock.now)) result }
+) -> Result<u8, OpenError>
+    ensures { PushesAnswer out.old.items out.new.items (files_answer form lock.now) result }
 {
     match Lock::read(alloc, lock) {
         Ok(lock) => {
@@ -96,8 +193,8 @@ fn push_listing(
             }
             Ok(status)
         }
-        Err(LockError::Memory) => Err(AllocError),
-        Err(error) => push_refused_lock(alloc, out, form, &error),
+        Err(LockError::Memory) => Err(OpenError::Memory),
+        Err(error) => Err(OpenError::Lock(error)),
     }
 }
 
@@ -117,31 +214,14 @@ fn push_files_in(
     Ok(0)
 }
 
-/// Pushes a refused lock.
-fn push_refused_lock(
-    alloc: Global,
-    out: &mut Vec<u8>,
-    form: Form,
-    error: &LockError,
-) -> Result<u8, AllocError>
-    ensures { Pushes out.old.items out.new.items (refused_lock form error.now) result }
-{
-    match form {
-        Form::Lines => push_lock_error(out, error)?,
-        Form::Json => push_lock_json(alloc, out, error)?,
-    }
-    Ok(REFUSED)
-}
-
 fn push_audit(
     alloc: Global,
     out: &mut Vec<u8>,
     form: Form,
     lock: &[u8],
     leaves: bool,
-) -> Result<u8, AllocError>
-    ensures { Pushes out.old.items out.new.items
-        (reply_of (audit_answer form lock.now)) result }
+) -> Result<u8, OpenError>
+    ensures { PushesAnswer out.old.items out.new.items (audit_answer form lock.now) result }
 {
     match read_audited(alloc, lock) {
         Ok((lock, found)) => {
@@ -151,8 +231,8 @@ fn push_audit(
             }
             Ok(status)
         }
-        Err(LockError::Memory) => Err(AllocError),
-        Err(error) => push_refused_lock(alloc, out, form, &error),
+        Err(LockError::Memory) => Err(OpenError::Memory),
+        Err(error) => Err(OpenError::Lock(error)),
     }
 }
 
@@ -162,100 +242,48 @@ fn push_findings_in(
     form: Form,
     found: &[LockFinding],
 ) -> Result<u8, AllocError>
-    ensures { Pushes out.old.items out.new.items
-        (reply_of (findings_answer form found.now)) result }
+    ensures { Pushes out.old.items out.new.items (findings_report form found.now) result }
 {
     push_found(alloc, out, form, found)?;
     Ok(if found.is_empty() { 0 } else { 1 })
-}
-
-fn push_version(alloc: Global, out: &mut Vec<u8>, text: &str) -> Result<u8, AllocError>
-    ensures { Pushes out.old.items out.new.items (reply_of (version_answer text.now)) result }
-{
-    match Version::parse(alloc, text) {
-        Ok(version) => push_field_line(out, version.text()),
-        Err(VersionError::Syntax) => push_refusal_word(out, b"syntax"),
-        Err(VersionError::NumberTooLarge) => push_refusal_word(out, b"number"),
-        Err(VersionError::Memory) => Err(AllocError),
-    }
-}
-
-fn push_match(alloc: Global, out: &mut Vec<u8>, set: &str, version: &str) -> Result<u8, AllocError>
-    ensures { Pushes out.old.items out.new.items
-        (reply_of (match_answer set.now version.now)) result }
-{
-    match SpecifierSet::parse(alloc, set) {
-        Ok(set) => push_admits(alloc, out, &set, version),
-        Err(SpecifierError::Syntax) => push_refusal_word(out, b"set-syntax"),
-        Err(SpecifierError::NumberTooLarge) => push_refusal_word(out, b"set-number"),
-        Err(SpecifierError::Memory) => Err(AllocError),
-    }
-}
-
-/// Whether a set admits a version.
-fn push_admits(
-    alloc: Global,
-    out: &mut Vec<u8>,
-    set: &SpecifierSet,
-    version: &str,
-) -> Result<u8, AllocError>
-    ensures { Pushes out.old.items out.new.items
-        (reply_of (admits_answer set.now version.now)) result }
-{
-    match Version::parse(alloc, version) {
-        Ok(version) => push_truth(out, set.admits(&version)),
-        Err(VersionError::Syntax) => push_refusal_word(out, b"version-syntax"),
-        Err(VersionError::NumberTooLarge) => push_refusal_word(out, b"version-number"),
-        Err(VersionError::Memory) => Err(AllocError),
-    }
-}
-
-fn push_name(alloc: Global, out: &mut Vec<u8>, text: &str) -> Result<u8, AllocError>
-    ensures { Pushes out.old.items out.new.items (reply_of (name_answer text.now)) result }
-{
-    if !is_name(text) {
-        return push_refusal_word(out, b"name");
-    }
-    let name = normal_name(alloc, text)?;
-    push_field_line(out, name.as_str())
 }
 
 /// The marker's text is judged before the environment.
 fn push_marker(
     alloc: Global,
     out: &mut Vec<u8>,
+    form: Form,
     text: &str,
-    environment: &[u8],
-) -> Result<u8, AllocError>
-    ensures { Pushes out.old.items out.new.items
-        (reply_of (marker_answer text.now environment.now)) result }
+    environment: EnvironmentInput<'_>,
+) -> Result<u8, OpenError>
+    ensures { PushesAnswer out.old.items out.new.items
+        (marker_answer form text.now (input_env_of environment.entry)) result }
 {
-    match Marker::parse(alloc, text) {
-        Ok(marker) => push_marker_in(alloc, out, &marker, environment),
-        Err(MarkerError::TooDeep) => push_refusal_word(out, b"too-deep"),
-        Err(MarkerError::Syntax) => push_refusal_word(out, b"syntax"),
-        Err(MarkerError::SetMisuse) => push_refusal_word(out, b"set-misuse"),
-        Err(MarkerError::Memory) => Err(AllocError),
-    }
+    let word = match Marker::parse(alloc, text) {
+        Ok(marker) => return push_marker_in(alloc, out, form, &marker, environment),
+        Err(MarkerError::TooDeep) => "too-deep",
+        Err(MarkerError::Syntax) => "syntax",
+        Err(MarkerError::SetMisuse) => "set-misuse",
+        Err(MarkerError::Memory) => return Err(OpenError::Memory),
+    };
+    Ok(push_word_refused(alloc, out, form, word)?)
 }
 
-/// Whether a marker is true in the environment that the bytes are.
+/// Whether a marker is true in the environment.
 fn push_marker_in(
     alloc: Global,
     out: &mut Vec<u8>,
+    form: Form,
     marker: &Marker,
-    environment: &[u8],
-) -> Result<u8, AllocError>
-    ensures { Pushes out.old.items out.new.items
-        (reply_of (marker_answer_in marker.now environment.now)) result }
+    environment: EnvironmentInput<'_>,
+) -> Result<u8, OpenError>
+    ensures { PushesAnswer out.old.items out.new.items
+        (marker_answer_in form marker.now (input_env_of environment.entry)) result }
 {
-    match read_environment(alloc, environment) {
-        Ok((environment, _tags)) => push_value(alloc, out, marker, &environment),
-        Err(EnvError::Memory) => Err(AllocError),
-        Err(error) => {
-            push_environment_error(out, &error)?;
-            Ok(REFUSED)
-        }
+    match environment.read(alloc) {
+        Ok((environment, _tags)) => Ok(push_value(alloc, out, form, marker, &environment)?),
+        Err(EnvError::Memory) => Err(OpenError::Memory),
+        Err(error) => Err(OpenError::Environment(error)),
     }
 }
 
@@ -263,167 +291,16 @@ fn push_marker_in(
 fn push_value(
     alloc: Global,
     out: &mut Vec<u8>,
+    form: Form,
     marker: &Marker,
     environment: &Environment,
 ) -> Result<u8, AllocError>
     ensures { Pushes out.old.items out.new.items
-        (reply_of (value_answer marker.now environment.now)) result }
+        (reply_of (value_answer form marker.now environment.now)) result }
 {
     match marker.evaluate(alloc, environment) {
-        Ok(value) => push_truth(out, value),
+        Ok(value) => push_truth(alloc, out, form, "marker", value),
         Err(EvalFault::Memory) => Err(AllocError),
-        Err(fault) => push_fault(out, FaultCode::from(fault)),
+        Err(fault) => push_fault(alloc, out, form, FaultCode::from(fault)),
     }
-}
-
-fn push_requirement(alloc: Global, out: &mut Vec<u8>, text: &str) -> Result<u8, AllocError>
-    ensures { Pushes out.old.items out.new.items (reply_of (requirement_answer text.now)) result }
-{
-    match Requirement::parse(alloc, text) {
-        Ok(requirement) => push_requirement_line(alloc, out, &requirement),
-        Err(RequirementError::Name) => push_refusal_word(out, b"name"),
-        Err(RequirementError::Extras) => push_refusal_word(out, b"extras"),
-        Err(RequirementError::Specifier) => push_refusal_word(out, b"specifier"),
-        Err(RequirementError::Url) => push_refusal_word(out, b"url"),
-        Err(RequirementError::Marker) => push_refusal_word(out, b"marker"),
-        Err(RequirementError::Trailing) => push_refusal_word(out, b"trailing"),
-        Err(RequirementError::Memory) => Err(AllocError),
-    }
-}
-
-fn push_requirement_line(
-    alloc: Global,
-    out: &mut Vec<u8>,
-    requirement: &Requirement,
-) -> Result<u8, AllocError>
-    ensures { Pushes out.old.items out.new.items
-        (reply_of (Ok (requirement_line requirement.now))) result }
-{
-    let name = normal_name(alloc, requirement.name())?;
-    push_field(out, Some(name.as_str()))?;
-    push_extras(alloc, out, requirement.extras())?;
-    push_specifiers(out, requirement.set())?;
-    push_next_field(out, requirement.url())?;
-    push_next_field(out, requirement.marker().map(|marker| marker.text()))?;
-    out.push(b'\n')?;
-    Ok(0)
-}
-
-/// Pushes a TAB and the field of the extras.
-fn push_extras(alloc: Global, out: &mut Vec<u8>, extras: &[String]) -> Result<(), AllocError>
-    ensures { OnOk result (out.new.items
-        ≡ out.old.items ++ 9 ∷ field (names_text (map string_bytes extras.now))) }
-{
-    if extras.is_empty() {
-        return push_next_field(out, None);
-    }
-    let names = normal_names(alloc, extras)?;
-    let text = names.join(alloc, ",")?;
-    push_next_field(out, Some(text.as_str()))
-}
-
-fn normal_names(alloc: Global, names: &[String]) -> Result<Vec<String>, AllocError>
-    ensures { IfOk result (λ normal. map string_bytes normal.items
-        ≡ map normal_name (map string_bytes names.now)) }
-{
-    let mut normal = Vec::with_capacity(alloc, names.len())?;
-    for name in names {
-        normal.push(normal_name(alloc, name.as_str())?)?;
-    }
-    Ok(normal)
-}
-
-/// Pushes a TAB and the field of a specifier set.
-fn push_specifiers(out: &mut Vec<u8>, set: &SpecifierSet) -> Result<(), AllocError>
-    ensures { OnOk result (out.new.items ≡ out.old.items ++ 9 ∷ field (specifiers_text set.now)) }
-{
-    if set.items().is_empty() {
-        return push_next_field(out, None);
-    }
-    push_next_field(out, Some(set.text()))
-}
-
-fn push_wheel(alloc: Global, out: &mut Vec<u8>, text: &str) -> Result<u8, AllocError>
-    ensures { Pushes out.old.items out.new.items (reply_of (wheel_answer text.now)) result }
-{
-    match WheelName::parse(alloc, text) {
-        Ok(wheel) => push_wheel_line(alloc, out, &wheel),
-        Err(WheelError::Extension) => push_refusal_word(out, b"extension"),
-        Err(WheelError::Parts) => push_refusal_word(out, b"parts"),
-        Err(WheelError::Name) => push_refusal_word(out, b"name"),
-        Err(WheelError::Version) => push_refusal_word(out, b"version"),
-        Err(WheelError::Build) => push_refusal_word(out, b"build"),
-        Err(WheelError::Tags) => push_refusal_word(out, b"tags"),
-        Err(WheelError::Memory) => Err(AllocError),
-    }
-}
-
-fn push_wheel_line(alloc: Global, out: &mut Vec<u8>, wheel: &WheelName) -> Result<u8, AllocError>
-    ensures { Pushes out.old.items out.new.items (reply_of (Ok (wheel_line wheel.now))) result }
-{
-    let name = normal_name(alloc, wheel.name())?;
-    push_field(out, Some(name.as_str()))?;
-    push_next_field(out, Some(wheel.version().text()))?;
-    push_next_field(out, wheel.build_text())?;
-    let tags = tags_text(alloc, wheel.tags())?;
-    push_next_field(out, Some(tags.as_str()))?;
-    out.push(b'\n')?;
-    Ok(0)
-}
-
-fn push_sdist(alloc: Global, out: &mut Vec<u8>, text: &str) -> Result<u8, AllocError>
-    ensures { Pushes out.old.items out.new.items (reply_of (sdist_answer text.now)) result }
-{
-    match SdistName::parse(alloc, text) {
-        Ok(sdist) => push_sdist_line(out, &sdist),
-        Err(SdistError::Extension) => push_refusal_word(out, b"extension"),
-        Err(SdistError::Parts) => push_refusal_word(out, b"parts"),
-        Err(SdistError::Name) => push_refusal_word(out, b"name"),
-        Err(SdistError::Version) => push_refusal_word(out, b"version"),
-        Err(SdistError::Memory) => Err(AllocError),
-    }
-}
-
-fn push_sdist_line(out: &mut Vec<u8>, sdist: &SdistName) -> Result<u8, AllocError>
-    ensures { Pushes out.old.items out.new.items (reply_of (Ok (sdist_line sdist.now))) result }
-{
-    push_field(out, Some(sdist.name()))?;
-    push_next_field(out, Some(sdist.version().text()))?;
-    out.push(b'\n')?;
-    Ok(0)
-}
-
-/// A text, which is the one field of its line.
-fn push_field_line(out: &mut Vec<u8>, text: &str) -> Result<u8, AllocError>
-    ensures { Pushes out.old.items out.new.items
-        (reply_of (Ok (line_of (field (Some text.now)) []))) result }
-{
-    push_field(out, Some(text))?;
-    out.push(b'\n')?;
-    Ok(0)
-}
-
-fn push_truth(out: &mut Vec<u8>, truth: bool) -> Result<u8, AllocError>
-    ensures { Pushes out.old.items out.new.items
-        (reply_of (Ok (line_of (truth_word truth) []))) result }
-{
-    let line: &[u8] = if truth { b"true\n" } else { b"false\n" };
-    out.extend_from_slice(line)?;
-    Ok(0)
-}
-
-fn push_refusal_word(out: &mut Vec<u8>, word: &[u8]) -> Result<u8, AllocError>
-    ensures { Pushes out.old.items out.new.items (refusal_report word.now) result }
-{
-    out.extend_from_slice(b"refused")?;
-    push_last_word(out, word)?;
-    Ok(1)
-}
-
-fn push_fault(out: &mut Vec<u8>, code: FaultCode) -> Result<u8, AllocError>
-    ensures { Pushes out.old.items out.new.items (fault_report code) result }
-{
-    out.extend_from_slice(b"fault")?;
-    push_last_word(out, fault_word(code).as_bytes())?;
-    Ok(1)
 }

@@ -1,35 +1,42 @@
 //! What `plan` and `explain` show of a lock in an environment.
 
 ghost use Rattle.std.specs.Prelude.{◌≡◌, ◌++◌, IfOk, OnOk};
+ghost use Rattle.pylock_readers.specs.Input.{input_env_of};
+ghost use Rattle.std.specs.Option.{option_copied};
 ghost use Rattle.pylock_core.specs.Session.Steps.{answer as answer_of};
 ghost use Rattle.pylock_program.specs.Choices.{after_choices};
-ghost use Rattle.pylock_program.specs.Show.{option_shown, refusal_shown};
+ghost use Rattle.pylock_program.specs.Inner.Telling.{PushesTelling};
+ghost use Rattle.pylock_program.specs.Refusal.{PrintsTelling, option_shown, refusal_shown};
+ghost use Rattle.pylock_program.specs.Refusal.{refusal_told};
 ghost use Rattle.pylock_program.specs.Show.{report_of_choices, request_report, view_shown};
 ghost use Rattle.pylock_run.specs.Report.{is_plan};
-ghost use Rattle.pylock_run.specs.Report.Print.{Prints, Pushes};
 
 use crate::choices::{make_choices, option_words};
+use crate::file::NamedInput;
 use crate::notes::fault::tell_fault;
-use crate::notes::options::{tell_notes, tell_refused};
+use crate::notes::options::{option_diagnostic, tell_notes};
+use crate::notes::refusal::{told_in, unopened_diagnostic};
+use crate::notes::tell_beside;
 use crate::program::REFUSED;
-use crate::strict::{Unopened, open_by, push_unopened};
+use crate::strict::{Unopened, open_by, push_unopened_told};
 use crate::text::explain::push_explanation;
 use crate::text::json::{push_option_json, push_refusal_json};
-use pylock_command::{Choice, Form, Request, View};
-use pylock_core::{Answer, Session};
+use pylock_command::{Choice, Form, Machine, Request, View};
+use pylock_core::{Answer, EnvironmentInput, Session};
 use pylock_documents::{explain_document, plan_document};
 use pylock_json::push_document;
+use pylock_messages::Diagnostic;
 use pylock_run::{OpenError, RunFault, Sink, print, push_answer, push_next_field, push_refusal};
 use std::alloc::{AllocError, Global};
 use std::mem;
 
-/// The bytes of the files of a request, and what becomes of the session that is made of them.
+/// The lock and the environment of a request, and what becomes of the session that is made of them.
 #[derive(Clone, Copy)]
 pub struct Inputs<'a> {
-    /// Those of the lock.
+    /// The bytes of the lock.
     pub lock: &'a [u8],
-    /// Those of the environment.
-    pub environment: &'a [u8],
+    /// The text of the environment, or a target in its place.
+    pub environment: EnvironmentInput<'a>,
     /// Whether the process ends next: then the session's memory is left to the system, which takes
     /// all of it at once.
     pub leaves: bool,
@@ -41,7 +48,9 @@ pub struct Inputs<'a> {
 /// refused, or of a strict request findings stand in the lock, which are written then.
 ///
 /// To `notes` it writes a line for a person on each option that may not do what it seems to, on the
-/// option that is refused and, of `plan`, on the fault; what can't be written there is left out.
+/// refusal of the lock, the environment or an option and, of `plan`, on the fault; what can't be
+/// written there is left out. A document tells the line on a refusal too, and where that points,
+/// which no clause pins.
 ///
 /// It takes memory for the session, for the edits of one option at a time, and for what it writes:
 /// of `explain` for what becomes of each entry, and for one reason at a time.
@@ -52,15 +61,18 @@ pub fn show_request<W: Sink, N: Sink>(
     writer: &mut W,
     notes: &mut N,
 ) -> Result<u8, RunFault>
-    ensures { Prints (request_report request.now inputs.entry.lock.now inputs.entry.environment.now)
+    ensures { PrintsTelling (λ told. request_report request.now told
+        inputs.entry.lock.now (input_env_of inputs.entry.environment))
         (W.value writer.old) (W.value writer.new) result }
 {
     let mut out = Vec::new(alloc);
-    let status = push_report(alloc, &mut out, request, inputs, notes)?;
-    print(&out, status, writer)
+    let (status, told) = push_report(alloc, &mut out, request, inputs, notes)?;
+    let end = print(&out, status, writer);
+    tell_beside(alloc, notes, &end, told.as_ref());
+    end
 }
 
-/// Pushes what is printed, and answers the status.
+/// Pushes what is printed, and answers the status and what is told beside it.
 #[tactic(auto, using(crate::proofs::StrictLemmas::reported))]
 fn push_report<N: Sink>(
     alloc: Global,
@@ -68,23 +80,63 @@ fn push_report<N: Sink>(
     request: &Request<'_>,
     inputs: Inputs<'_>,
     notes: &mut N,
-) -> Result<u8, AllocError>
-    ensures { Pushes out.old.items out.new.items (request_report request.now
-        inputs.entry.lock.now inputs.entry.environment.now) result }
+) -> Result<(u8, Option<Diagnostic>), AllocError>
+    ensures { PushesTelling out.old.items out.new.items (λ told. request_report request.now told
+        inputs.entry.lock.now (input_env_of inputs.entry.environment)) result }
 {
     match open_by(alloc, request.strict, inputs.lock, inputs.environment) {
         Ok(mut session) => {
-            let status = push_after_choices(alloc, out, request, &mut session, notes)?;
+            let told = push_after_choices(alloc, out, request, &mut session, notes)?;
             if inputs.leaves {
                 mem::forget(session);
             }
-            Ok(status)
+            Ok(told)
         }
         Err(Unopened::Refused(OpenError::Memory)) => Err(AllocError),
         Err(unopened) => {
-            push_unopened(alloc, out, request.form, &unopened)?;
-            Ok(REFUSED)
+            let told = told_of(alloc, request, inputs, &unopened)?;
+            push_unopened_told(alloc, out, request.form, &unopened, told.as_ref())?;
+            Ok((REFUSED, told))
         }
+    }
+}
+
+/// What is told of why there is no session.
+fn told_of(
+    alloc: Global,
+    request: &Request<'_>,
+    inputs: Inputs<'_>,
+    unopened: &Unopened,
+) -> Result<Option<Diagnostic>, AllocError> {
+    let lock = NamedInput::File {
+        path: request.lock,
+        bytes: inputs.lock,
+    };
+    let environment = named_environment(request.machine, inputs.environment);
+    told_in(
+        request.form,
+        unopened_diagnostic(alloc, unopened, request.lock, lock, environment),
+    )
+}
+
+/// The environment, as a person is told of it: a text by the path of the machine's file.
+fn named_environment<'a>(
+    machine: Machine<'a>,
+    environment: EnvironmentInput<'a>,
+) -> NamedInput<'a> {
+    match environment {
+        EnvironmentInput::Text(bytes) => NamedInput::File {
+            path: machine_path(machine),
+            bytes,
+        },
+        EnvironmentInput::Target { python, platform } => NamedInput::Target { python, platform },
+    }
+}
+
+fn machine_path(machine: Machine<'_>) -> &str {
+    match machine {
+        Machine::File(path) => path,
+        Machine::Target(_) => "environment",
     }
 }
 
@@ -98,39 +150,54 @@ pub fn push_open_error(
 ) -> Result<(), AllocError>
     ensures { OnOk result (out.new.items ≡ out.old.items ++ refusal_shown form refusal.now) }
 {
+    push_refusal_told(alloc, out, form, refusal, None)
+}
+
+/// The same with what is told of the refusal, which a document has too.
+pub(crate) fn push_refusal_told(
+    alloc: Global,
+    out: &mut Vec<u8>,
+    form: Form,
+    refusal: &OpenError,
+    told: Option<&Diagnostic>,
+) -> Result<(), AllocError>
+    ensures { OnOk result (out.new.items
+        ≡ out.old.items ++ refusal_told form (option_copied told.entry) refusal.now) }
+{
     match form {
         Form::Lines => push_refusal(out, refusal),
-        Form::Json => push_refusal_json(alloc, out, refusal),
+        Form::Json => push_refusal_json(alloc, out, refusal, told),
     }
 }
 
-/// Pushes what is printed of the session after the options, or the first that is refused.
+/// Pushes what is printed of the session after the options, or the first that is refused; answers
+/// the status and what is told of that.
 fn push_after_choices<N: Sink>(
     alloc: Global,
     out: &mut Vec<u8>,
     request: &Request<'_>,
     session: &mut Session,
     notes: &mut N,
-) -> Result<u8, AllocError>
-    ensures { Pushes out.old.items out.new.items (report_of_choices request.now.form
-        (view_shown request.now.view request.now.form)
+) -> Result<(u8, Option<Diagnostic>), AllocError>
+    ensures { PushesTelling out.old.items out.new.items (λ told. report_of_choices request.now.form
+        told (view_shown request.now.view request.now.form)
         (after_choices request.now.choices.items session.old.state)) result }
 {
     if let Some(choice) = make_choices(alloc, session, &request.choices)? {
-        push_refused_option(alloc, out, request.form, choice)?;
-        tell_refused(alloc, notes, request.lock, choice);
-        return Ok(1);
+        let told = told_in(request.form, option_diagnostic(alloc, request.lock, choice))?;
+        push_refused_option(alloc, out, request.form, choice, told.as_ref())?;
+        return Ok((1, told));
     }
     let answer = session.answer()?;
     push_answered(alloc, out, (request.view, request.form), session, &answer)?;
     tell_notes(alloc, notes, session, &request.choices);
     match answer {
-        Answer::Plan(_) => Ok(0),
+        Answer::Plan(_) => Ok((0, None)),
         Answer::Fault { id, code } => {
             if matches!(request.view, View::Plan) {
                 tell_fault(alloc, notes, session, id, code);
             }
-            Ok(1)
+            Ok((1, None))
         }
     }
 }
@@ -179,16 +246,18 @@ fn push_answered(
 }
 
 /// Pushes a refused option: its line, or the document of the line's words.
-fn push_refused_option(
+pub(crate) fn push_refused_option(
     alloc: Global,
     out: &mut Vec<u8>,
     form: Form,
     choice: Choice<'_>,
+    told: Option<&Diagnostic>,
 ) -> Result<(), AllocError>
-    ensures { OnOk result (out.new.items ≡ out.old.items ++ option_shown form choice.entry) }
+    ensures { OnOk result (out.new.items
+        ≡ out.old.items ++ option_shown form (option_copied told.entry) choice.entry) }
 {
     if matches!(form, Form::Json) {
-        return push_option_json(alloc, out, choice);
+        return push_option_json(alloc, out, choice, told);
     }
     let (word, text) = option_words(choice);
     out.extend_from_slice(b"refused\t")?;

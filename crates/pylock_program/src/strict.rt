@@ -1,21 +1,24 @@
 //! Sessions on a lock that is taken strictly, or as it is.
 
 ghost use Rattle.std.specs.Prelude.{◌≡◌, ◌++◌, IfOk, OnOk};
+ghost use Rattle.std.specs.Option.{option_copied};
 ghost use Rattle.pytext.specs.Agreement.{Gives};
+ghost use Rattle.pylock_readers.specs.Input.{input_env_of};
 ghost use Rattle.pylock_core.specs.Session.Judgement.{all_numbers, index_of, verdicts_of};
 ghost use Rattle.pylock_program.specs.Reply.{findings_shown};
-ghost use Rattle.pylock_program.specs.Show.{unopened_shown};
+ghost use Rattle.pylock_program.specs.Show.{unopened_shown, unopened_told};
 ghost use Rattle.pylock_program.specs.Strict.{opened_by, strict_state};
 ghost use Rattle.pylock_program.specs.declared.strict.Unopened.TheVariants as unopened;
 ghost use Rattle.pylock_run.specs.declared.report.opening.OpenError.TheVariants as refusal;
 
-use crate::show::push_open_error;
+use crate::show::push_refusal_told;
 use crate::text::audit::push_findings;
 use pylock_audit::{Findings, LockFinding, StrictError, findings_document, read_strict};
 use pylock_command::Form;
-use pylock_core::Session;
+use pylock_core::{EnvironmentInput, Session};
 use pylock_json::push_document;
-use pylock_run::{OpenError, open, open_on};
+use pylock_messages::Diagnostic;
+use pylock_run::{OpenError, open_in, open_on};
 use std::alloc::{AllocError, Global};
 
 /// Why there is no session.
@@ -39,17 +42,21 @@ impl From<OpenError> for Unopened {
 
 /// Opens a session on a lock that is taken strictly: only where nothing is found in it that
 /// [`read_strict`] refuses. A refused lock comes first, then the findings, then a refused
-/// environment. It takes the memory of [`open`] and of [`read_strict`].
+/// environment. It takes the memory of [`open_in`] and of [`read_strict`].
 #[tactic(auto, using(crate::proofs::StrictLemmas::strictly_opened))]
-pub fn open_strictly(alloc: Global, lock: &[u8], env: &[u8]) -> Result<Session, Unopened>
+pub fn open_strictly(
+    alloc: Global,
+    lock: &[u8],
+    environment: EnvironmentInput<'_>,
+) -> Result<Session, Unopened>
     ensures state { Gives (unopened.Refused refusal.Memory) (λ session. session.state) result
-        (strict_state lock.now env.now) }
+        (strict_state lock.now (input_env_of environment.entry)) }
     ensures verdicts { IfOk result (λ session. session.verdicts ≡ verdicts_of session.state) }
     ensures index { IfOk result (λ session. session.index ≡ index_of session.state) }
     ensures judged { IfOk result (λ session. session.judged ≡ all_numbers session.state) }
 {
     match read_strict(alloc, lock) {
-        Ok(lock) => Ok(open_on(alloc, lock, env)?),
+        Ok(lock) => Ok(open_on(alloc, lock, environment)?),
         Err(StrictError::Lock(error)) => Err(Unopened::Refused(OpenError::Lock(error))),
         Err(StrictError::Findings(found)) => Err(Unopened::Findings(found)),
         Err(StrictError::Memory) => Err(Unopened::Refused(OpenError::Memory)),
@@ -61,15 +68,15 @@ pub(crate) fn open_by(
     alloc: Global,
     strict: bool,
     lock: &[u8],
-    env: &[u8],
+    environment: EnvironmentInput<'_>,
 ) -> Result<Session, Unopened>
     ensures { Gives (unopened.Refused refusal.Memory) (λ session. session.state) result
-        (opened_by strict lock.now env.now) }
+        (opened_by strict lock.now (input_env_of environment.entry)) }
 {
     if strict {
-        open_strictly(alloc, lock, env)
+        open_strictly(alloc, lock, environment)
     } else {
-        Ok(open(alloc, lock, env)?)
+        Ok(open_in(alloc, lock, environment)?)
     }
 }
 
@@ -84,9 +91,23 @@ pub fn push_unopened(
     ensures { OnOk result (out.new.items
         ≡ out.old.items ++ unopened_shown form unopened.now) }
 {
+    push_unopened_told(alloc, out, form, unopened, None)
+}
+
+/// The same with what is told of a refusal, which its document has too.
+pub(crate) fn push_unopened_told(
+    alloc: Global,
+    out: &mut Vec<u8>,
+    form: Form,
+    unopened: &Unopened,
+    told: Option<&Diagnostic>,
+) -> Result<(), AllocError>
+    ensures { OnOk result (out.new.items
+        ≡ out.old.items ++ unopened_told form (option_copied told.entry) unopened.now) }
+{
     match unopened {
         Unopened::Findings(found) => push_found(alloc, out, form, found.as_slice()),
-        Unopened::Refused(refusal) => push_open_error(alloc, out, form, refusal),
+        Unopened::Refused(refusal) => push_refusal_told(alloc, out, form, refusal, told),
     }
 }
 

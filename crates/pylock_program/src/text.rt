@@ -1,6 +1,7 @@
 //! The printed text, beside the lines of an answer and of a refusal.
 
 pub(crate) mod audit;
+pub(crate) mod diff;
 pub(crate) mod explain;
 pub(crate) mod files;
 pub(crate) mod json;

@@ -2,7 +2,7 @@
 //! back, and the program, which ends then, doesn't.
 
 use crate::check::{ENVIRONMENT, HEAD, Shelf};
-use pylock_command::{Selection, Task};
+use pylock_command::{Form, Machine, Selection, Task};
 use pylock_program::perform;
 use pylock_run::{Pieces, Room, run};
 use std::alloc::{AllocError, Global};
@@ -29,8 +29,9 @@ fn status(alloc: Global, lock: &[u8], leaves: bool) -> Result<Option<u8>, AllocE
         let shelf = Shelf::new(alloc, lock, environment);
         let task = Task::Select(Selection {
             lock: "lock",
-            environment: "environment",
+            machine: Machine::File("environment"),
             strict: false,
+            form: Form::Lines,
         });
         let mut notes = Room::new(alloc, 100, 100, None)?;
         Ok(perform(alloc, task, &shelf, &mut reader, &mut room, &mut notes).ok())

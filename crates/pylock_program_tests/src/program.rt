@@ -1,7 +1,7 @@
 //! What the program does with its task, over files in memory.
 
 use crate::check::{ENVIRONMENT, HEAD, Shelf, check_bytes};
-use pylock_command::{Form, Request, Selection, Task, View};
+use pylock_command::{Form, Machine, Request, Selection, Task, View};
 use pylock_program::{Failure, perform, words_failure};
 use pylock_run::{FileFault, Pieces, Room, RunFault, open_fault, read_file};
 use std::alloc::{AllocError, Global};
@@ -46,7 +46,7 @@ fn show<'a>(alloc: Global, view: View, form: Form, paths: (&'a str, &'a str)) ->
     Task::Show(Request {
         view,
         lock,
-        environment,
+        machine: Machine::File(environment),
         choices,
         strict: false,
         form,
@@ -57,8 +57,9 @@ fn show<'a>(alloc: Global, view: View, form: Form, paths: (&'a str, &'a str)) ->
 fn select<'a>(lock: &'a str, environment: &'a str) -> Task<'a> {
     Task::Select(Selection {
         lock,
-        environment,
+        machine: Machine::File(environment),
         strict: false,
+        form: Form::Lines,
     })
 }
 
@@ -89,7 +90,10 @@ fn refuses_either_file(rt: HostRuntime) -> Result<(), Fail> {
         ),
         (Task::Files("absent", Form::Lines), Failure::NamedFile),
         (Task::Audit("absent", Form::Json), Failure::NamedFile),
-        (Task::Marker("'a' == 'a'", "large"), Failure::File),
+        (
+            Task::Marker("'a' == 'a'", Machine::File("large"), Form::Lines),
+            Failure::File,
+        ),
     ] {
         check_task(&rt, task, failure)?;
     }
@@ -147,7 +151,6 @@ fn says_how_it_ends(rt: HostRuntime) {
     assert_eq!(rt; Failure::NotText.status(), 2);
     assert_eq!(rt; words_failure(ErrorKind::InvalidData), Failure::NotText);
     assert_eq!(rt; words_failure(ErrorKind::OutOfMemory), Failure::Memory);
-    assert_eq!(rt; Failure::from(FileFault::Limit), Failure::File);
     assert_eq!(rt; open_fault(ErrorKind::NotFound), FileFault::Missing);
     assert_eq!(rt;
         open_fault(ErrorKind::PermissionDenied),

@@ -15,6 +15,10 @@ use Rattle.pylock_readers.specs.Text.{utf8_text}
 use Rattle.pylock_readers.specs.declared.error.EnvError.{EnvError}
 use Rattle.pylock_readers.specs.declared.error.EnvError.TheVariants as error
 
+-- an environment and its tags as they were read, or why they are refused
+abbrev pub EnvironmentRead : Type 0
+EnvironmentRead = Result (EnvironmentValue × List TagValue) EnvError
+
 -- the object `environment`
 abbrev pub members_in : Data → Result Members EnvError
 members_in d = ok_or (option_and_then as_object (get (codes "environment") d)) error.Shape

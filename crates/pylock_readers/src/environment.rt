@@ -10,13 +10,41 @@ ghost use Rattle.pylock_readers.specs.Environment.{members_in, tag_items, member
 ghost use Rattle.pylock_readers.specs.Environment.{with_member, with_members, texts_in};
 ghost use Rattle.pylock_readers.specs.Environment.{tag_refusal, tag_list_of};
 ghost use Rattle.pylock_readers.specs.Environment.{env_in, value_of, env_of};
+ghost use Rattle.pylock_readers.specs.Input.{input_env_of};
 
 use crate::error::EnvError;
+use crate::target::read_target;
 use crate::text::as_text;
 use pymark_core::{Environment, Var};
 use pywheel_core::{TagList, TagListError};
 use serde_json::{Map, Value};
 use std::alloc::{AllocError, Global};
+
+/// What an environment is made from.
+#[derive(Clone, Copy, Debug)]
+pub enum EnvironmentInput<'a> {
+    /// Its JSON text.
+    Text(&'a [u8]),
+    /// A target in its place.
+    Target {
+        /// The word of its Python, such as `3.12`.
+        python: &'a str,
+        /// The word of its platform, such as `manylinux_2_28_x86_64`.
+        platform: &'a str,
+    },
+}
+
+impl EnvironmentInput<'_> {
+    /// Reads the environment and its tags, as [`read_environment`] or [`read_target`] does.
+    pub fn read(self, alloc: Global) -> Result<(Environment, TagList), EnvError>
+        ensures { Gives EnvError.Memory (λ e. e) result (input_env_of self.entry) }
+    {
+        match self {
+            EnvironmentInput::Text(bytes) => read_environment(alloc, bytes),
+            EnvironmentInput::Target { python, platform } => read_target(alloc, python, platform),
+        }
+    }
+}
 
 /// Reads the text of an environment: a JSON object with `environment`, an object whose members
 /// named like a variable of markers are texts, and `tags`, a list of texts, each a tag (PEP 425).

@@ -81,7 +81,8 @@ pub enum EntryKey {
     Wheels,
 }
 
-/// Why an environment is refused, in the order in which its parts are judged.
+/// Why an environment is refused, in the order in which its parts are judged: those of its text,
+/// then those of a target.
 #[derive(Debug, Drop)]
 pub enum EnvError {
     /// The bytes are no JSON text.
@@ -90,6 +91,10 @@ pub enum EnvError {
     Shape,
     /// The tag at this place, counted from 1, is no tag (PEP 425).
     Tag(usize),
+    /// PYTHON of a target isn't a release of CPython.
+    Python,
+    /// PLATFORM of a target isn't a platform.
+    Platform,
     /// Memory was refused.
     Memory,
 }

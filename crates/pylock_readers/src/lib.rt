@@ -20,9 +20,14 @@ mod field;
 mod interner;
 pub mod laws;
 mod lock;
+mod target;
 mod text;
 
-pub use entry::{Archive, Directory, DistributionFile, Entry, Sdist, Vcs, WheelFile};
-pub use environment::read_environment;
+pub use entry::{
+    Archive, Directory, DistributionFile, Entry, Sdist, Vcs, WheelFile, path_file_name,
+    url_file_name,
+};
+pub use environment::{EnvironmentInput, read_environment};
 pub use error::{EntryError, EntryKey, EnvError, HeadKey, LockError};
 pub use lock::{Head, HeadNames, Lock, MOST_ENTRIES, Packages, read_document_without};
+pub use target::{environment_text, read_target, target_environment};

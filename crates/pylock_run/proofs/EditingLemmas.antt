@@ -10,7 +10,7 @@ use Rattle.std.specs.Result.{is_err, result_unwrap_or}
 use Rattle.pylock_core.specs.Session.State.{State}
 use Rattle.pytext.specs.Results.{◌>>=◌}
 use Rattle.pylock_run.specs.Line.{is_lf, input_lines, complete_lines, onto_first, onto_complete, command_of, line_limit}
-use Rattle.pylock_run.specs.Report.{is_plan, after_line, after_command, outcome_text, lines_text, state_after_all, any_refused}
+use Rattle.pylock_run.specs.Report.{Shown, is_plan, after_line, after_command, outcome_text, lines_text, state_after_all, any_refused}
 use Rattle.pylock_run.specs.Inner.Editing.{EditingValue, start, lines_begun, plan_after, kept_part, end_line, end_text, keep_byte, editing_after, bytes_text, finish, finish_text, after_input, input_end_text}
 use Rattle.pylock_core.specs.Session.Steps.{answer}
 use Rattle.pylock_run.specs.declared.line.refusal.LineRefusal.{LineRefusal}
@@ -22,14 +22,14 @@ pub editing_after-append : (at : EditingValue) (xs ys : List ℕ) → editing_af
 editing_after-append at [] ys = refl
 editing_after-append at (x ∷ xs) ys = editing_after-append (cond (x == 10) (end_line at) (keep_byte at x)) xs ys
 
-pub bytes_text-append : (at : EditingValue) (xs ys : List ℕ) → bytes_text at (xs ++ ys) ≡ bytes_text at xs ++ bytes_text (editing_after at xs) ys
-bytes_text-append at [] ys = refl
-bytes_text-append at (x ∷ xs) ys =
-    elim (x == 10) as (λ t. cond t (end_text at ++ bytes_text (end_line at) (xs ++ ys)) (bytes_text (keep_byte at x) (xs ++ ys))
-    ≡ cond t (end_text at ++ bytes_text (end_line at) xs) (bytes_text (keep_byte at x) xs)
-    ++ bytes_text (editing_after (cond t (end_line at) (keep_byte at x)) xs) ys) [
-      | true ↦ ap (λ t. end_text at ++ t) (bytes_text-append (end_line at) xs ys) ∙ sym (append_assoc (end_text at) _ _)
-      | false ↦ bytes_text-append (keep_byte at x) xs ys
+pub bytes_text-append : (shown : Shown) (at : EditingValue) (xs ys : List ℕ) → bytes_text shown at (xs ++ ys) ≡ bytes_text shown at xs ++ bytes_text shown (editing_after at xs) ys
+bytes_text-append shown at [] ys = refl
+bytes_text-append shown at (x ∷ xs) ys =
+    elim (x == 10) as (λ t. cond t (end_text shown at ++ bytes_text shown (end_line at) (xs ++ ys)) (bytes_text shown (keep_byte at x) (xs ++ ys))
+    ≡ cond t (end_text shown at ++ bytes_text shown (end_line at) xs) (bytes_text shown (keep_byte at x) xs)
+    ++ bytes_text shown (editing_after (cond t (end_line at) (keep_byte at x)) xs) ys) [
+      | true ↦ ap (λ t. end_text shown at ++ t) (bytes_text-append shown (end_line at) xs ys) ∙ sym (append_assoc (end_text shown at) _ _)
+      | false ↦ bytes_text-append shown (keep_byte at x) xs ys
     ]
 
 -- what is kept of a line
@@ -104,29 +104,29 @@ with_prefix-onto_first (c ∷ prefix) b [] = refl
 with_prefix-onto_first (c ∷ prefix) b (line ∷ lines) = ap (λ l. (c ∷ l) ∷ lines) (sym (append_assoc prefix (b ∷ []) line))
 
 -- what the lines print and do, as `last` after `text` has it
-pub record Edits (at last : EditingValue) (text : List ℕ) (lines : List (List ℕ)) : Type 0 where
-  pub prints : text ≡ lines_text at.state (at.complete + 1) lines
+pub record Edits (shown : Shown) (at last : EditingValue) (text : List ℕ) (lines : List (List ℕ)) : Type 0 where
+  pub prints : text ≡ lines_text shown at.state (at.complete + 1) lines
   pub state : last.state ≡ state_after_all at.state lines
   pub refused : last.refused ≡ (at.refused || any_refused at.state lines)
   pub complete : last.complete ≡ at.complete + length lines
 
-Edits-none : (at : EditingValue) → Edits at at [] []
-Edits-none at = record { prints = refl; state = refl; refused = sym (or-false at.refused); complete = omega arith }
+Edits-none : (shown : Shown) (at : EditingValue) → Edits shown at at [] []
+Edits-none shown at = record { prints = refl; state = refl; refused = sym (or-false at.refused); complete = omega arith }
 
-prints-more : (at : EditingValue) (line text : List ℕ) (lines : List (List ℕ)) → at.line ≡ kept_part line
-    → text ≡ lines_text (end_line at).state ((end_line at).complete + 1) lines → end_text at ++ text ≡ lines_text at.state (at.complete + 1) (line ∷ lines)
+prints-more : (shown : Shown) (at : EditingValue) (line text : List ℕ) (lines : List (List ℕ)) → at.line ≡ kept_part line
+    → text ≡ lines_text shown (end_line at).state ((end_line at).complete + 1) lines → end_text shown at ++ text ≡ lines_text shown at.state (at.complete + 1) (line ∷ lines)
 unfolding end_line end_text
-prints-more at line text lines has later =
+prints-more shown at line text lines has later =
     let same : after_line at.state at.line ≡ after_line at.state line = ap (after_line at.state) has ∙ after_line-kept_part at.state line in
-    ap (λ t. end_text at ++ t) later ∙ ap (λ o. outcome_text (at.complete + 1) o ++ lines_text (result_unwrap_or o at.state) (at.complete + 1 + 1) lines) same
+    ap (λ t. end_text shown at ++ t) later ∙ ap (λ o. outcome_text shown (at.complete + 1) o ++ lines_text shown (result_unwrap_or o at.state) (at.complete + 1 + 1) lines) same
 
-Edits-more : (at last : EditingValue) (line text : List ℕ) (lines : List (List ℕ)) → at.line ≡ kept_part line → Edits (end_line at) last text lines
-    → Edits at last (end_text at ++ text) (line ∷ lines)
+Edits-more : (shown : Shown) (at last : EditingValue) (line text : List ℕ) (lines : List (List ℕ)) → at.line ≡ kept_part line → Edits shown (end_line at) last text lines
+    → Edits shown at last (end_text shown at ++ text) (line ∷ lines)
 unfolding end_line
-Edits-more at last line text lines has later =
+Edits-more shown at last line text lines has later =
     let same : after_line at.state at.line ≡ after_line at.state line = ap (after_line at.state) has ∙ after_line-kept_part at.state line in
     record {
-      prints = prints-more at line text lines has later.prints;
+      prints = prints-more shown at line text lines has later.prints;
       state = later.state ∙ ap (λ o. state_after_all (result_unwrap_or o at.state) lines) same;
       refused = later.refused ∙ or_assoc at.refused _ _
           ∙ ap (λ o. at.refused || (is_err o || any_refused (result_unwrap_or o at.state) lines)) same;
@@ -141,33 +141,33 @@ line-keep_byte : (at : EditingValue) (prefix : List ℕ) (b : ℕ) → at.line �
 line-keep_byte at prefix b has = ap (λ l. kept_part (l ++ b ∷ [])) has ∙ kept_part-append prefix (b ∷ [])
 
 -- the end of the input
-edits_end : (at : EditingValue) (prefix : List ℕ) → at.line ≡ kept_part prefix → Edits at (finish at at.line) (finish_text at at.line) (with_prefix prefix [])
+edits_end : (shown : Shown) (at : EditingValue) (prefix : List ℕ) → at.line ≡ kept_part prefix → Edits shown at (finish at at.line) (finish_text shown at at.line) (with_prefix prefix [])
 unfolding with_prefix
-edits_end at [] has = subst (λ l. Edits at (finish at l) (finish_text at l) []) (sym (has ∙ kept_part-nil)) (Edits-none at)
-edits_end at (b ∷ prefix) has =
+edits_end shown at [] has = subst (λ l. Edits shown at (finish at l) (finish_text shown at l) []) (sym (has ∙ kept_part-nil)) (Edits-none shown at)
+edits_end shown at (b ∷ prefix) has =
     let cons = kept_part-cons b prefix in
-    let one : Edits at (end_line at) (end_text at ++ []) ((b ∷ prefix) ∷ []) = Edits-more at (end_line at) (b ∷ prefix) [] [] has (Edits-none (end_line at)) in
-    let last : Edits at (end_line at) (end_text at) ((b ∷ prefix) ∷ []) = subst (λ t. Edits at (end_line at) t ((b ∷ prefix) ∷ [])) (append-nil (end_text at)) one in
-    subst (λ l. Edits at (finish at l) (finish_text at l) ((b ∷ prefix) ∷ [])) (sym (has ∙ cons.1)) last
+    let one : Edits shown at (end_line at) (end_text shown at ++ []) ((b ∷ prefix) ∷ []) = Edits-more shown at (end_line at) (b ∷ prefix) [] [] has (Edits-none shown (end_line at)) in
+    let last : Edits shown at (end_line at) (end_text shown at) ((b ∷ prefix) ∷ []) = subst (λ t. Edits shown at (end_line at) t ((b ∷ prefix) ∷ [])) (append-nil (end_text shown at)) one in
+    subst (λ l. Edits shown at (finish at l) (finish_text shown at l) ((b ∷ prefix) ∷ [])) (sym (has ∙ cons.1)) last
 
 -- the whole input, of which `prefix` stands before what is to come
-edits_on : (at : EditingValue) (prefix bytes : List ℕ) → at.line ≡ kept_part prefix
-    → Edits at (after_input (editing_after at bytes)) (bytes_text at bytes ++ input_end_text (editing_after at bytes)) (with_prefix prefix (input_lines bytes))
-edits_on at prefix [] has = edits_end at prefix has
-edits_on at prefix (b ∷ bytes) has =
-    elim (b == 10) as (λ t. Edits at (after_input (editing_after (cond t (end_line at) (keep_byte at b)) bytes))
-    (cond t (end_text at ++ bytes_text (end_line at) bytes) (bytes_text (keep_byte at b) bytes) ++ input_end_text (editing_after (cond t (end_line at) (keep_byte at b)) bytes))
+edits_on : (shown : Shown) (at : EditingValue) (prefix bytes : List ℕ) → at.line ≡ kept_part prefix
+    → Edits shown at (after_input (editing_after at bytes)) (bytes_text shown at bytes ++ input_end_text shown (editing_after at bytes)) (with_prefix prefix (input_lines bytes))
+edits_on shown at prefix [] has = edits_end shown at prefix has
+edits_on shown at prefix (b ∷ bytes) has =
+    elim (b == 10) as (λ t. Edits shown at (after_input (editing_after (cond t (end_line at) (keep_byte at b)) bytes))
+    (cond t (end_text shown at ++ bytes_text shown (end_line at) bytes) (bytes_text shown (keep_byte at b) bytes) ++ input_end_text shown (editing_after (cond t (end_line at) (keep_byte at b)) bytes))
     (with_prefix prefix (cond t ([] ∷ input_lines bytes) (onto_first b (input_lines bytes))))) [
       | true ↦
-          let ih = edits_on (end_line at) [] bytes (line-end_line at) in
+          let ih = edits_on shown (end_line at) [] bytes (line-end_line at) in
           let last = after_input (editing_after (end_line at) bytes) in
-          let more = Edits-more at last prefix _ _ has ih in
-          let joined = subst (λ t. Edits at last t (prefix ∷ with_prefix [] (input_lines bytes))) (sym (append_assoc (end_text at) (bytes_text (end_line at) bytes) (input_end_text (editing_after (end_line at) bytes)))) more in
-          subst (λ ls. Edits at last ((end_text at ++ bytes_text (end_line at) bytes) ++ input_end_text (editing_after (end_line at) bytes)) ls)
+          let more = Edits-more shown at last prefix _ _ has ih in
+          let joined = subst (λ t. Edits shown at last t (prefix ∷ with_prefix [] (input_lines bytes))) (sym (append_assoc (end_text shown at) (bytes_text shown (end_line at) bytes) (input_end_text shown (editing_after (end_line at) bytes)))) more in
+          subst (λ ls. Edits shown at last ((end_text shown at ++ bytes_text shown (end_line at) bytes) ++ input_end_text shown (editing_after (end_line at) bytes)) ls)
           (ap (λ ls. prefix ∷ ls) (with_prefix-nil (input_lines bytes)) ∙ sym (with_prefix-complete prefix (input_lines bytes))) joined
       | false ↦
-          let ih = edits_on (keep_byte at b) (prefix ++ b ∷ []) bytes (line-keep_byte at prefix b has) in
-          subst (λ ls. Edits at (after_input (editing_after (keep_byte at b) bytes)) (bytes_text (keep_byte at b) bytes ++ input_end_text (editing_after (keep_byte at b) bytes)) ls)
+          let ih = edits_on shown (keep_byte at b) (prefix ++ b ∷ []) bytes (line-keep_byte at prefix b has) in
+          subst (λ ls. Edits shown at (after_input (editing_after (keep_byte at b) bytes)) (bytes_text shown (keep_byte at b) bytes ++ input_end_text shown (editing_after (keep_byte at b) bytes)) ls)
           (sym (with_prefix-onto_first prefix b (input_lines bytes)))
           record { prints = ih.prints; state = ih.state; refused = ih.refused; complete = ih.complete }
     ]
@@ -192,19 +192,19 @@ with_complete-onto_complete prefix b [] = refl
 with_complete-onto_complete prefix b (line ∷ lines) = ap (λ l. l ∷ lines) (sym (append_assoc prefix (b ∷ []) line))
 
 -- a part of the input prints the text of the lines that end in it
-prints_complete_on : (at : EditingValue) (prefix bytes : List ℕ) → at.line ≡ kept_part prefix
-    → bytes_text at bytes ≡ lines_text at.state (at.complete + 1) (with_complete prefix (complete_lines bytes))
+prints_complete_on : (shown : Shown) (at : EditingValue) (prefix bytes : List ℕ) → at.line ≡ kept_part prefix
+    → bytes_text shown at bytes ≡ lines_text shown at.state (at.complete + 1) (with_complete prefix (complete_lines bytes))
 unfolding with_complete
-prints_complete_on at prefix [] has = refl
-prints_complete_on at prefix (b ∷ bytes) has =
-    elim (b == 10) as (λ t. cond t (end_text at ++ bytes_text (end_line at) bytes) (bytes_text (keep_byte at b) bytes)
-    ≡ lines_text at.state (at.complete + 1) (with_complete prefix (cond t ([] ∷ complete_lines bytes) (onto_complete b (complete_lines bytes))))) [
+prints_complete_on shown at prefix [] has = refl
+prints_complete_on shown at prefix (b ∷ bytes) has =
+    elim (b == 10) as (λ t. cond t (end_text shown at ++ bytes_text shown (end_line at) bytes) (bytes_text shown (keep_byte at b) bytes)
+    ≡ lines_text shown at.state (at.complete + 1) (with_complete prefix (cond t ([] ∷ complete_lines bytes) (onto_complete b (complete_lines bytes))))) [
       | true ↦
-          prints-more at prefix _ _ has (prints_complete_on (end_line at) [] bytes (line-end_line at))
-          ∙ ap (lines_text at.state (at.complete + 1)) (ap (λ ls. prefix ∷ ls) (with_complete-nil (complete_lines bytes)) ∙ sym (with_complete-complete prefix (complete_lines bytes)))
+          prints-more shown at prefix _ _ has (prints_complete_on shown (end_line at) [] bytes (line-end_line at))
+          ∙ ap (lines_text shown at.state (at.complete + 1)) (ap (λ ls. prefix ∷ ls) (with_complete-nil (complete_lines bytes)) ∙ sym (with_complete-complete prefix (complete_lines bytes)))
       | false ↦
-          prints_complete_on (keep_byte at b) (prefix ++ b ∷ []) bytes (line-keep_byte at prefix b has)
-          ∙ ap (lines_text at.state (at.complete + 1)) (sym (with_complete-onto_complete prefix b (complete_lines bytes)))
+          prints_complete_on shown (keep_byte at b) (prefix ++ b ∷ []) bytes (line-keep_byte at prefix b has)
+          ∙ ap (lines_text shown at.state (at.complete + 1)) (sym (with_complete-onto_complete prefix b (complete_lines bytes)))
     ]
 
 -- the last answer, told as it was given
@@ -237,9 +237,9 @@ plan_told state bytes =
     plan-finish at at.line (plan-editing_after (start state) bytes refl)
 
 -- the whole input
-pub edits : (state : State) (bytes : List ℕ)
-    → Edits (start state) (after_input (editing_after (start state) bytes)) (bytes_text (start state) bytes ++ input_end_text (editing_after (start state) bytes)) (input_lines bytes)
-edits state bytes = subst (Edits (start state) _ _) (with_prefix-nil (input_lines bytes)) (edits_on (start state) [] bytes (sym kept_part-nil))
+pub edits : (shown : Shown) (state : State) (bytes : List ℕ)
+    → Edits shown (start state) (after_input (editing_after (start state) bytes)) (bytes_text shown (start state) bytes ++ input_end_text shown (editing_after (start state) bytes)) (input_lines bytes)
+edits shown state bytes = subst (Edits shown (start state) _ _) (with_prefix-nil (input_lines bytes)) (edits_on shown (start state) [] bytes (sym kept_part-nil))
 
 complete-finish : (at : EditingValue) (line : List ℕ) → (finish at line).complete ≡ at.complete + min 1 (length line)
 unfolding end_line
@@ -251,8 +251,8 @@ pub complete-after_input : (at : EditingValue) → (after_input at).complete ≡
 complete-after_input at = complete-finish at at.line
 
 -- a part of the input prints the text of the lines that end in it
-pub prints_complete : (state : State) (bytes : List ℕ) → bytes_text (start state) bytes ≡ lines_text state 1 (complete_lines bytes)
-prints_complete state bytes = prints_complete_on (start state) [] bytes (sym kept_part-nil) ∙ ap (lines_text state 1) (with_complete-nil (complete_lines bytes))
+pub prints_complete : (shown : Shown) (state : State) (bytes : List ℕ) → bytes_text shown (start state) bytes ≡ lines_text shown state 1 (complete_lines bytes)
+prints_complete shown state bytes = prints_complete_on shown (start state) [] bytes (sym kept_part-nil) ∙ ap (lines_text shown state 1) (with_complete-nil (complete_lines bytes))
 
 -- bytes without an LF
 
@@ -267,12 +267,12 @@ part_done at (b ∷ bytes) part short =
     ∙ part_done (keep_byte at b) bytes (λ k below. part (suc k) (omega arith)) (kept_part-kept_part (at.line ++ b ∷ []))
     ∙ ap (λ l. record at { line = l }) (kept_part-append (at.line ++ b ∷ []) bytes ∙ ap kept_part (append_assoc at.line (b ∷ []) bytes))
 
-part_text : (at : EditingValue) (bytes : List ℕ) → IsPart bytes → bytes_text at bytes ≡ []
+part_text : (shown : Shown) (at : EditingValue) (bytes : List ℕ) → IsPart bytes → bytes_text shown at bytes ≡ []
 unfolding IsPart
-part_text at [] part = refl
-part_text at (b ∷ bytes) part =
-    ap (λ t. cond t (end_text at ++ bytes_text (end_line at) bytes) (bytes_text (keep_byte at b) bytes)) (part 0 (omega arith))
-    ∙ part_text (keep_byte at b) bytes (λ k below. part (suc k) (omega arith))
+part_text shown at [] part = refl
+part_text shown at (b ∷ bytes) part =
+    ap (λ t. cond t (end_text shown at ++ bytes_text shown (end_line at) bytes) (bytes_text shown (keep_byte at b) bytes)) (part 0 (omega arith))
+    ∙ part_text shown (keep_byte at b) bytes (λ k below. part (suc k) (omega arith))
 
 before_lf : (bytes : List ℕ) (k : ℕ) → k < position_or_len is_lf bytes → (get_or bytes k 0 == 10) ≡ false
 before_lf bytes k below = not-true (is_lf (get_or bytes k 0)) (prefix_len_passes (λ b. not (is_lf b)) bytes k 0 below)
@@ -323,14 +323,14 @@ line_done at bytes n some short =
     let up = UpToLf-some bytes n some in
     ap (editing_after at) up.whole ∙ editing_after-append at (take n bytes) (10 ∷ []) ∙ ap (λ a. end_line a) (part_done at (take n bytes) up.part short)
 
-pub line_prints : (at : EditingValue) (bytes : List ℕ) (n : ℕ) → position is_lf bytes ≡ Some n → kept_part at.line ≡ at.line
-    → bytes_text at (take (n + 1) bytes) ≡ end_text (record at { line = kept_part (at.line ++ take n bytes) })
-line_prints at bytes n some short =
+pub line_prints : (shown : Shown) (at : EditingValue) (bytes : List ℕ) (n : ℕ) → position is_lf bytes ≡ Some n → kept_part at.line ≡ at.line
+    → bytes_text shown at (take (n + 1) bytes) ≡ end_text shown (record at { line = kept_part (at.line ++ take n bytes) })
+line_prints shown at bytes n some short =
     let up = UpToLf-some bytes n some in
-    ap (bytes_text at) up.whole ∙ bytes_text-append at (take n bytes) (10 ∷ [])
-    ∙ ap (λ t. t ++ bytes_text (editing_after at (take n bytes)) (10 ∷ [])) (part_text at (take n bytes) up.part)
-    ∙ append-nil (end_text (editing_after at (take n bytes)))
-    ∙ ap (λ a. end_text a) (part_done at (take n bytes) up.part short)
+    ap (bytes_text shown at) up.whole ∙ bytes_text-append shown at (take n bytes) (10 ∷ [])
+    ∙ ap (λ t. t ++ bytes_text shown (editing_after at (take n bytes)) (10 ∷ [])) (part_text shown at (take n bytes) up.part)
+    ∙ append-nil (end_text shown (editing_after at (take n bytes)))
+    ∙ ap (λ a. end_text shown a) (part_done at (take n bytes) up.part short)
 
 -- all bytes, where none is an LF
 
@@ -338,8 +338,8 @@ pub rest_done : (at : EditingValue) (bytes : List ℕ) → position is_lf bytes 
     → editing_after at bytes ≡ record at { line = kept_part (at.line ++ bytes) }
 rest_done at bytes none short = part_done at bytes (IsPart-none bytes none) short
 
-pub rest_prints : (at : EditingValue) (bytes : List ℕ) → position is_lf bytes ≡ None → bytes_text at bytes ≡ []
-rest_prints at bytes none = part_text at bytes (IsPart-none bytes none)
+pub rest_prints : (shown : Shown) (at : EditingValue) (bytes : List ℕ) → position is_lf bytes ≡ None → bytes_text shown at bytes ≡ []
+rest_prints shown at bytes none = part_text shown at bytes (IsPart-none bytes none)
 
 -- what a line keeps of more bytes
 take-append_room : (n : ℕ) (xs ys : List ℕ) → length xs ≤ n → take n (xs ++ ys) ≡ xs ++ take (n - length xs) ys
@@ -401,8 +401,8 @@ begun_past at (b ∷ bytes) some =
     begun_first at.complete (lines_begun next) (lines_begun (editing_after next bytes)) one more
 
 -- what a part prints stands before what the whole prints
-pub text_prefix : (at : EditingValue) (bytes : List ℕ) (n : ℕ) → bytes_text at bytes ≡ bytes_text at (take n bytes) ++ bytes_text (editing_after at (take n bytes)) (drop n bytes)
-text_prefix at bytes n = ap (bytes_text at) (sym (take-append-drop n bytes)) ∙ bytes_text-append at (take n bytes) (drop n bytes)
+pub text_prefix : (shown : Shown) (at : EditingValue) (bytes : List ℕ) (n : ℕ) → bytes_text shown at bytes ≡ bytes_text shown at (take n bytes) ++ bytes_text shown (editing_after at (take n bytes)) (drop n bytes)
+text_prefix shown at bytes n = ap (bytes_text shown at) (sym (take-append-drop n bytes)) ∙ bytes_text-append shown at (take n bytes) (drop n bytes)
 
 pub done_prefix : (at : EditingValue) (bytes : List ℕ) (n : ℕ) → editing_after at bytes ≡ editing_after (editing_after at (take n bytes)) (drop n bytes)
 done_prefix at bytes n = ap (editing_after at) (sym (take-append-drop n bytes)) ∙ editing_after-append at (take n bytes) (drop n bytes)

@@ -8,9 +8,9 @@ use Rattle.pylock_run.specs.Inner.Edited.{EditsAll, EditFault}
 use Rattle.pylock_run.specs.Inner.Editing.{EditingValue, start, editing_after, bytes_text, after_input, input_end_text, lines_begun}
 use Rattle.pylock_run.specs.Inner.Writes.{Writes}
 use Rattle.pylock_run.specs.Line.{input_lines}
-use Rattle.pylock_run.specs.Report.{current_answer_text, is_plan, state_after_all, report_on}
+use Rattle.pylock_run.specs.Report.{Shown, is_plan, state_after_all, report_on}
 use Rattle.pylock_run.specs.Report.Print.{Prints, IsOutputFault}
-use Rattle.pylock_run.specs.Report.Run.{Reports, Stops, IsRun, most_bytes, most_lines}
+use Rattle.pylock_run.specs.Report.Run.{Reports, Stops, IsRunShown, most_bytes, most_lines}
 use Rattle.pylock_run.specs.Stream.{SourceValue, SinkValue, TakesPrefix, one_more}
 use Rattle.pylock_run.specs.declared.report.fault.RunFault.{RunFault}
 use Rattle.pylock_run.specs.declared.report.fault.RunFault.TheVariants.{Memory}
@@ -23,15 +23,15 @@ use Rattle.pylock_run.proofs.WriteLemmas.{Writes-trans, Pours-flush, prefix_none
 abbrev pub begun : State → Result State OpenError
 begun state = Ok state
 
-abbrev pub input_text : State → List ℕ → List ℕ
-input_text state input = (report_on (begun state) (input_lines input)).text
+abbrev pub input_text : Shown → State → List ℕ → List ℕ
+input_text shown state input = (report_on shown (begun state) (input_lines input)).text
 
 -- what a whole input prints
-text_of_input : (state : State) (input : List ℕ)
-    → (current_answer_text state ++ bytes_text (start state) input) ++ input_end_text (editing_after (start state) input) ≡ input_text state input
-text_of_input state input =
-    append_assoc (current_answer_text state) (bytes_text (start state) input) (input_end_text (editing_after (start state) input))
-    ∙ ap (λ t. current_answer_text state ++ t) (edits state input).prints
+text_of_input : (shown : Shown) (state : State) (input : List ℕ)
+    → (shown.answer state ++ bytes_text shown (start state) input) ++ input_end_text shown (editing_after (start state) input) ≡ input_text shown state input
+text_of_input shown state input =
+    append_assoc (shown.answer state) (bytes_text shown (start state) input) (input_end_text shown (editing_after (start state) input))
+    ∙ ap (λ t. shown.answer state ++ t) (edits shown state input).prints
 
 lines_total : (begun complete lines : ℕ) → complete ≡ begun → complete ≡ 0 + lines → begun ≡ lines
 lines_total begun complete lines same total = omega arith
@@ -40,61 +40,61 @@ past_all : (size limit : ℕ) → limit < 0 + size → limit < size
 past_all size limit past = omega arith
 
 -- how many lines it has
-lines_of_input : (state : State) (input : List ℕ) → lines_begun (editing_after (start state) input) ≡ length (input_lines input)
-lines_of_input state input =
+lines_of_input : (shown : Shown) (state : State) (input : List ℕ) → lines_begun (editing_after (start state) input) ≡ length (input_lines input)
+lines_of_input shown state input =
     let at = editing_after (start state) input in
-    lines_total (lines_begun at) (after_input at).complete (length (input_lines input)) (complete-after_input at) (edits state input).complete
+    lines_total (lines_begun at) (after_input at).complete (length (input_lines input)) (complete-after_input at) (edits shown state input).complete
 
 -- memory was refused before anything was written
-pub stops_at_once : (begins : Result State OpenError) (source : SourceValue) (sink : SinkValue) → IsRun begins source source sink sink (Err Memory)
-stops_at_once begins source sink = record {
+pub stops_at_once : (shown : Shown) (begins : Result State OpenError) (source : SourceValue) (sink : SinkValue) → IsRunShown shown begins source source sink sink (Err Memory)
+stops_at_once shown begins source sink = record {
   reports = tt;
   stops = record { input = []; gave = Consumes-nil source.rest; prefix = prefix_none sink _; cause = (refl, refl) };
   unasked = λ refused. refl;
 }
 
 -- a session that was edited by what was read
-stopped : (state : State) (source source' : SourceValue) (sink sink' : SinkValue) (fault : RunFault)
-    → Stops (begun state) source source' sink sink' fault → IsRun (begun state) source source' sink sink' (Err fault)
-stopped state source source' sink sink' fault stops = record { reports = tt; stops = stops; unasked = λ refused. cc }
+stopped : (shown : Shown) (state : State) (source source' : SourceValue) (sink sink' : SinkValue) (fault : RunFault)
+    → Stops shown (begun state) source source' sink sink' fault → IsRunShown shown (begun state) source source' sink sink' (Err fault)
+stopped shown state source source' sink sink' fault stops = record { reports = tt; stops = stops; unasked = λ refused. cc }
 
 -- the first answer was not written
-pub stops_at_first : (state : State) (source : SourceValue) (sink sink' : SinkValue) (fault : RunFault)
-    → TakesPrefix sink sink' (current_answer_text state) → IsOutputFault sink sink' fault → IsRun (begun state) source source sink sink' (Err fault)
-stops_at_first state source sink sink' fault prefix why = stopped state source source sink sink' fault (record {
+pub stops_at_first : (shown : Shown) (state : State) (source : SourceValue) (sink sink' : SinkValue) (fault : RunFault)
+    → TakesPrefix sink sink' (shown.answer state) → IsOutputFault sink sink' fault → IsRunShown shown (begun state) source source sink sink' (Err fault)
+stops_at_first shown state source sink sink' fault prefix why = stopped shown state source source sink sink' fault (record {
   input = [];
   gave = Consumes-nil source.rest;
-  prefix = prefix_more sink sink' (current_answer_text state) [] prefix;
+  prefix = prefix_more sink sink' (shown.answer state) [] prefix;
   cause = HasCause-map _ _ fault (λ none. absurd none) (λ failed. (refl, failed)) (λ none. absurd none) (λ memory. (refl, memory)) why;
 })
 
 -- a piece was not read, not edited by or not written
-pub stops_between : (state : State) (source source' : SourceValue) (sink mid sink' : SinkValue) (at : EditingValue) (fault : RunFault)
-    → at ≡ start state → Writes sink mid (current_answer_text state) → EditFault source source' mid sink' at 0 fault
-    → IsRun (begun state) source source' sink sink' (Err fault)
-stops_between state source source' sink mid sink' at fault begins first stop =
-    let fault_at = subst (λ a. EditFault source source' mid sink' a 0 fault) begins stop in
+pub stops_between : (shown : Shown) (state : State) (source source' : SourceValue) (sink mid sink' : SinkValue) (at : EditingValue) (fault : RunFault)
+    → at ≡ start state → Writes sink mid (shown.answer state) → EditFault shown source source' mid sink' at 0 fault
+    → IsRunShown shown (begun state) source source' sink sink' (Err fault)
+stops_between shown state source source' sink mid sink' at fault begins first stop =
+    let fault_at = subst (λ a. EditFault shown source source' mid sink' a 0 fault) begins stop in
     let input = fault_at.given in
-    stopped state source source' sink sink' fault (record {
+    stopped shown state source source' sink sink' fault (record {
       input = input;
       gave = fault_at.gave;
-      prefix = prefix_same sink sink' _ _ (text_of_input state input)
-          (prefix_more sink sink' _ (input_end_text (editing_after (start state) input))
-          (prefix_after sink mid sink' (current_answer_text state) [] (bytes_text (start state) input)
-          (Pours-flush sink mid (current_answer_text state) [] first refl) fault_at.prefix));
+      prefix = prefix_same sink sink' _ _ (text_of_input shown state input)
+          (prefix_more sink sink' _ (input_end_text shown (editing_after (start state) input))
+          (prefix_after sink mid sink' (shown.answer state) [] (bytes_text shown (start state) input)
+          (Pours-flush sink mid (shown.answer state) [] first refl) fault_at.prefix));
       cause = HasCause-map _ _ fault
           (λ read. (
             read.0,
             read.1 ∙ first.counted,
-            subst (λ t. Appends sink.held sink'.held (current_answer_text state ++ t)) (prints_complete state input)
-                (Appends-trans sink.held mid.held sink'.held (current_answer_text state) (bytes_text (start state) input) first.held read.2),
+            subst (λ t. Appends sink.held sink'.held (shown.answer state ++ t)) (prints_complete shown state input)
+                (Appends-trans sink.held mid.held sink'.held (shown.answer state) (bytes_text shown (start state) input) first.held read.2),
           ))
           (λ write. (write.0, write.1 ∙ ap one_more first.counted))
           (λ past. (
             past.0,
             past.1 ∙ first.counted,
             ⊎_elim
-                (λ lines. inl (subst (λ n. most_lines < n) (lines_of_input state input) lines))
+                (λ lines. inl (subst (λ n. most_lines < n) (lines_of_input shown state input) lines))
                 (λ bytes. inr (past_all (length input) most_bytes bytes))
                 past.2,
           ))
@@ -103,24 +103,24 @@ stops_between state source source' sink mid sink' at fault begins first stop =
     })
 
 -- what was written before the last line
-before_last : (state : State) (sink mid late : SinkValue) (input : List ℕ) → Writes sink mid (current_answer_text state)
-    → Writes mid late (bytes_text (start state) input) → Writes sink late (current_answer_text state ++ bytes_text (start state) input)
-before_last state sink mid late input first edited = Writes-trans sink mid late (current_answer_text state) (bytes_text (start state) input) first edited
+before_last : (shown : Shown) (state : State) (sink mid late : SinkValue) (input : List ℕ) → Writes sink mid (shown.answer state)
+    → Writes mid late (bytes_text shown (start state) input) → Writes sink late (shown.answer state ++ bytes_text shown (start state) input)
+before_last shown state sink mid late input first edited = Writes-trans sink mid late (shown.answer state) (bytes_text shown (start state) input) first edited
 
 -- what the last line prints was not written
-pub stops_at_last : (state : State) (source source' : SourceValue) (sink mid late sink' : SinkValue) (at last : EditingValue) (fault : RunFault)
-    → at ≡ start state → Writes sink mid (current_answer_text state) → EditsAll source source' mid late at last
-    → TakesPrefix late sink' (input_end_text last) → IsOutputFault late sink' fault → IsRun (begun state) source source' sink sink' (Err fault)
-stops_at_last state source source' sink mid late sink' at last fault begins first all prefix why =
-    let edited = subst (λ a. EditsAll source source' mid late a last) begins all in
+pub stops_at_last : (shown : Shown) (state : State) (source source' : SourceValue) (sink mid late sink' : SinkValue) (at last : EditingValue) (fault : RunFault)
+    → at ≡ start state → Writes sink mid (shown.answer state) → EditsAll shown source source' mid late at last
+    → TakesPrefix late sink' (input_end_text shown last) → IsOutputFault late sink' fault → IsRunShown shown (begun state) source source' sink sink' (Err fault)
+stops_at_last shown state source source' sink mid late sink' at last fault begins first all prefix why =
+    let edited = subst (λ a. EditsAll shown source source' mid late a last) begins all in
     let input = edited.given in
-    let here = before_last state sink mid late input first edited.writes in
-    stopped state source source' sink sink' fault (record {
+    let here = before_last shown state sink mid late input first edited.writes in
+    stopped shown state source source' sink sink' fault (record {
       input = input;
       gave = edited.gave;
       prefix = prefix_same sink sink' _ _
-          (ap (λ a. (current_answer_text state ++ bytes_text (start state) input) ++ input_end_text a) edited.editing ∙ text_of_input state input)
-          (prefix_after sink late sink' _ [] (input_end_text last) (Pours-flush sink late _ [] here refl) prefix);
+          (ap (λ a. (shown.answer state ++ bytes_text shown (start state) input) ++ input_end_text shown a) edited.editing ∙ text_of_input shown state input)
+          (prefix_after sink late sink' _ [] (input_end_text shown last) (Pours-flush sink late _ [] here refl) prefix);
       cause = HasCause-map _ _ fault
           (λ none. absurd none)
           (λ failed. (edited.reads, failed ∙ ap one_more here.counted))
@@ -130,24 +130,24 @@ stops_at_last state source source' sink mid late sink' at last fault begins firs
     })
 
 -- the whole input
-pub session_reports : (state : State) (source source' : SourceValue) (sink mid late sink' : SinkValue) (at last end : EditingValue) (status : ℕ)
-    → at ≡ start state → Writes sink mid (current_answer_text state) → EditsAll source source' mid late at last → IsAtEnd source'.rest
-    → lines_begun last ≤ most_lines → end ≡ after_input last → Writes late sink' (input_end_text last)
+pub session_reports : (shown : Shown) (state : State) (source source' : SourceValue) (sink mid late sink' : SinkValue) (at last end : EditingValue) (status : ℕ)
+    → at ≡ start state → Writes sink mid (shown.answer state) → EditsAll shown source source' mid late at last → IsAtEnd source'.rest
+    → lines_begun last ≤ most_lines → end ≡ after_input last → Writes late sink' (input_end_text shown last)
     → status ≡ cond (end.plan && not end.refused) 0 1
-    → IsRun (begun state) source source' sink sink' (Ok status)
-session_reports state source source' sink mid late sink' at last end status begins first all at_end lines complete written told =
-    let edited = subst (λ a. EditsAll source source' mid late a last) begins all in
+    → IsRunShown shown (begun state) source source' sink sink' (Ok status)
+session_reports shown state source source' sink mid late sink' at last end status begins first all at_end lines complete written told =
+    let edited = subst (λ a. EditsAll shown source source' mid late a last) begins all in
     let input = edited.given in
-    let here = before_last state sink mid late input first edited.writes in
+    let here = before_last shown state sink mid late input first edited.writes in
     let done = after_input (editing_after (start state) input) in
     let finish : end ≡ done = complete ∙ ap (λ a. after_input a) edited.editing in
-    let facts = edits state input in
-    let whole = Writes-trans sink late sink' _ (input_end_text last) here written in
-    let reports : Reports (begun state) source source' sink sink' status = record {
+    let facts = edits shown state input in
+    let whole = Writes-trans sink late sink' _ (input_end_text shown last) here written in
+    let reports : Reports shown (begun state) source source' sink sink' status = record {
       input = input;
       gave = edited.gave;
       took = subst (Appends sink.held sink'.held)
-          (ap (λ a. (current_answer_text state ++ bytes_text (start state) input) ++ input_end_text a) edited.editing ∙ text_of_input state input)
+          (ap (λ a. (shown.answer state ++ bytes_text shown (start state) input) ++ input_end_text shown a) edited.editing ∙ text_of_input shown state input)
           whole.held;
       answers = told ∙ ap (λ a. cond (a.plan && not a.refused) 0 1) finish
           ∙ ap (λ p. cond (p && not done.refused) 0 1) (plan_told state input ∙ ap (λ s. is_plan (answer s)) facts.state)
@@ -156,7 +156,7 @@ session_reports state source source' sink mid late sink' at last end status begi
       writes = whole.counted;
       ends = inr (
         at_end,
-        (subst (λ n. n ≤ most_lines) (ap (λ a. lines_begun a) edited.editing ∙ lines_of_input state input) lines, edited.within),
+        (subst (λ n. n ≤ most_lines) (ap (λ a. lines_begun a) edited.editing ∙ lines_of_input shown state input) lines, edited.within),
       );
     } in
     record { reports = reports; stops = tt; unasked = λ refused. cc }
@@ -166,9 +166,9 @@ session_reports state source source' sink mid late sink' at last end status begi
 abbrev pub refused_begin : OpenError → Result State OpenError
 refused_begin error = Err error
 
-refused_runs_at : (error : OpenError) (source : SourceValue) (sink sink' : SinkValue) (r : Result ℕ RunFault)
-    → Prints (report_on (refused_begin error) []) sink sink' r → IsRun (refused_begin error) source source sink sink' r
-refused_runs_at error source sink sink' (Ok status) prints = record {
+refused_runs_at : (shown : Shown) (error : OpenError) (source : SourceValue) (sink sink' : SinkValue) (r : Result ℕ RunFault)
+    → Prints (report_on shown (refused_begin error) []) sink sink' r → IsRunShown shown (refused_begin error) source source sink sink' r
+refused_runs_at shown error source sink sink' (Ok status) prints = record {
   reports = record {
     input = [];
     gave = Consumes-nil source.rest;
@@ -181,7 +181,7 @@ refused_runs_at error source sink sink' (Ok status) prints = record {
   stops = tt;
   unasked = λ refused. refl;
 }
-refused_runs_at error source sink sink' (Err met) prints = record {
+refused_runs_at shown error source sink sink' (Err met) prints = record {
   reports = tt;
   stops = record {
     input = [];
@@ -192,7 +192,7 @@ refused_runs_at error source sink sink' (Err met) prints = record {
   unasked = λ refused. refl;
 }
 
-pub refused_runs : (begins : Result State OpenError) (error : OpenError) (source : SourceValue) (sink sink' : SinkValue) (r : Result ℕ RunFault)
-    → begins ≡ Err error → Prints (report_on (refused_begin error) []) sink sink' r → IsRun begins source source sink sink' r
-refused_runs begins error source sink sink' r same prints =
-    subst (λ b. IsRun b source source sink sink' r) (sym same) (refused_runs_at error source sink sink' r prints)
+pub refused_runs : (shown : Shown) (begins : Result State OpenError) (error : OpenError) (source : SourceValue) (sink sink' : SinkValue) (r : Result ℕ RunFault)
+    → begins ≡ Err error → Prints (report_on shown (refused_begin error) []) sink sink' r → IsRunShown shown begins source source sink sink' r
+refused_runs shown begins error source sink sink' r same prints =
+    subst (λ b. IsRunShown shown b source source sink sink' r) (sym same) (refused_runs_at shown error source sink sink' r prints)

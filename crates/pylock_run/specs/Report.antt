@@ -6,7 +6,7 @@ use Rattle.std.specs.Prelude.{ℕ, ◌+◌, ◌++◌, ◌&&◌, ◌||◌, not, B
 use Rattle.std.specs.Prelude.{List, [], ◌∷◌, Result, Ok, Err}
 use Rattle.std.specs.Result.{is_err, result_map_both, result_unwrap_or}
 use Rattle.pytext.specs.Results.{◌>>=◌}
-use Rattle.pylock_readers.specs.Environment.{env_of}
+use Rattle.pylock_readers.specs.Environment.{EnvironmentRead, env_of}
 use Rattle.pylock_readers.specs.Lock.{LockValue}
 use Rattle.pylock_readers.specs.Lock.Reading.{lock_of}
 use Rattle.pylock_core.specs.Session.State.{State, first, apply}
@@ -26,16 +26,20 @@ use Rattle.pylock_run.specs.declared.report.opening.OpenError.TheVariants.{Lock,
 abbrev pub refuse_as : {V E : Type 0} → (E → OpenError) → Result V E → Result V OpenError
 refuse_as refusal read = result_map_both (λ v. v) refusal read
 
--- the state in which a run begins, from the lock and from the bytes of the environment; or the
+-- the state in which a run begins, from the lock and from an environment as it was read; or the
 -- environment's refusal
-abbrev pub state_on : List ℕ → LockValue → Result State OpenError
-state_on environment lock = do
-  read ← refuse_as Environment (env_of environment)
-  Ok (first lock read.0 read.1)
+abbrev pub state_on : EnvironmentRead → LockValue → Result State OpenError
+state_on read lock = do
+  environment ← refuse_as Environment read
+  Ok (first lock environment.0 environment.1)
 
--- the same from the bytes of both, or the lock's refusal, and then the environment's
-unfoldable pub open_state : List ℕ → List ℕ → Result State OpenError
-open_state lock environment = refuse_as Lock (lock_of lock) >>= state_on environment
+-- the same from the bytes of the lock, or the lock's refusal, and then the environment's
+unfoldable pub state_in : List ℕ → EnvironmentRead → Result State OpenError
+state_in lock read = refuse_as Lock (lock_of lock) >>= state_on read
+
+-- the same from the bytes of both
+abbrev pub open_state : List ℕ → List ℕ → Result State OpenError
+open_state lock environment = state_in lock (env_of environment)
 
 -- the state after a command, or why it is refused
 abbrev pub after_command : State → Command → Result State LineRefusal
@@ -53,19 +57,35 @@ state_after state line = result_unwrap_or (after_line state line) state
 abbrev pub current_answer_text : State → List ℕ
 current_answer_text state = answer_text state (answer state)
 
--- what a line prints: the answer of the state after it, or its refusal
-abbrev pub outcome_text : ℕ → Result State LineRefusal → List ℕ
-outcome_text number (Ok after) = current_answer_text after
-outcome_text number (Err refused) = line_refusal_text number refused
+-- how a run prints: an answer as it stands, the refusal of a line by the line's number, and the
+-- refusal of a lock or an environment
+pub record Shown : Type 0 where
+  pub answer : State → List ℕ
+  pub line : ℕ → LineRefusal → List ℕ
+  pub unopened : OpenError → List ℕ
 
-abbrev pub line_text : State → ℕ → List ℕ → List ℕ
-line_text state number line = outcome_text number (after_line state line)
+-- as lines of fields
+abbrev pub as_lines : Shown
+as_lines = record {
+  answer = current_answer_text;
+  line = line_refusal_text;
+  unopened = refusal_text;
+}
+
+-- what a line prints: the answer of the state after it, or its refusal
+abbrev pub outcome_text : Shown → ℕ → Result State LineRefusal → List ℕ
+outcome_text shown number (Ok after) = shown.answer after
+outcome_text shown number (Err refused) = shown.line number refused
+
+abbrev pub line_text : Shown → State → ℕ → List ℕ → List ℕ
+line_text shown state number line = outcome_text shown number (after_line state line)
 
 -- what the lines print, the first of them having this number
-abbrev pub lines_text : State → ℕ → List (List ℕ) → List ℕ
-lines_text state number [] = []
-lines_text state number (line ∷ lines) =
-    line_text state number line ++ lines_text (state_after state line) (number + 1) lines
+abbrev pub lines_text : Shown → State → ℕ → List (List ℕ) → List ℕ
+lines_text shown state number [] = []
+lines_text shown state number (line ∷ lines) =
+    line_text shown state number line
+    ++ lines_text shown (state_after state line) (number + 1) lines
 
 -- the state after the lines
 abbrev pub state_after_all : State → List (List ℕ) → State
@@ -93,13 +113,14 @@ pub record Report : Type 0 where
 
 -- The report on what a run begins with and on lines: a refused lock or environment is all that is
 -- reported; else it is the first answer, and what the lines print.
-abbrev pub report_on : Result State OpenError → List (List ℕ) → Report
-report_on (Err refusal) lines = record { text = refusal_text refusal; status = 2 }
-report_on (Ok state) lines = record {
-  text = current_answer_text state ++ lines_text state 1 lines;
+abbrev pub report_on : Shown → Result State OpenError → List (List ℕ) → Report
+report_on shown (Err refusal) lines = record { text = shown.unopened refusal; status = 2 }
+report_on shown (Ok state) lines = record {
+  text = shown.answer state ++ lines_text shown state 1 lines;
   status = lines_status state lines;
 }
 
--- the report of a run, from the bytes of the lock, the environment and the input
+-- the report of a run that prints lines, from the bytes of the lock, the environment and the input
 abbrev pub report : List ℕ → List ℕ → List ℕ → Report
-report lock environment input = report_on (open_state lock environment) (input_lines input)
+report lock environment input =
+    report_on as_lines (open_state lock environment) (input_lines input)

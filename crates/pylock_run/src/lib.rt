@@ -31,8 +31,9 @@ pub use line::refusal::LineRefusal;
 pub use line::{LINE_LIMIT, read_line};
 pub use report::editing::push_current_answer;
 pub use report::fault::RunFault;
-pub use report::opening::{OpenError, open, open_on};
+pub use report::opening::{OpenError, open, open_in, open_on};
 pub use report::print::print;
+pub use report::printing::{Lines, Printing};
 pub use report::run::{run, run_opened};
 pub use stream::memory::{Pieces, Room};
 pub use stream::whole::{FileFault, read_whole};
@@ -42,5 +43,6 @@ pub use stream::{IoFault, Sink, Source};
 pub use text::field::{push_decimal, push_field, push_last_word, push_next_field, push_word};
 pub use text::plan::{push_answer, push_source_line};
 pub use text::refusal::{
-    entry_word, head_word, push_environment_error, push_lock_error, push_refusal,
+    entry_word, head_word, line_word, push_environment_error, push_lock_error, push_refusal,
+    push_side_error,
 };

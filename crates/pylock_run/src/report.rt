@@ -4,4 +4,5 @@ pub mod editing;
 pub mod fault;
 pub mod opening;
 pub mod print;
+pub mod printing;
 pub mod run;

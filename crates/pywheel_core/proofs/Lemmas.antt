@@ -2,5 +2,6 @@
 pub mod Choice
 pub mod Sdist
 pub mod Tag
+pub mod Target
 pub mod Texts
 pub mod Wheel

@@ -4,3 +4,4 @@ pub mod Lemmas
 pub mod MarksLemmas
 pub mod NeverMemory
 pub mod ReadTableLemmas
+pub mod TargetLemmas

@@ -2,3 +2,5 @@
 pub mod Cut
 pub mod Lent
 pub mod Pieces
+pub mod TargetWords
+pub mod Words

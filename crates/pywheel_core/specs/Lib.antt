@@ -6,5 +6,6 @@ pub mod Sdist
 pub mod Spans
 pub mod Tag
 pub mod TagLaws
+pub mod Target
 pub mod Texts
 pub mod Wheel

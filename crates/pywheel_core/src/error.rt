@@ -74,6 +74,18 @@ pub enum SdistError {
     Memory,
 }
 
+/// Why two texts aren't taken as a target, in the order in which these are judged.
+#[derive(Clone, Copy, PartialEq, Eq, Debug, Error)]
+pub enum TargetError {
+    /// PYTHON isn't `3.MINOR` or `3.MINOR.MICRO`, with `t` behind it from 3.13 on, with a MINOR
+    /// from 8 to 99 and a MICRO to 999.
+    #[error("python")]
+    Python,
+    /// PLATFORM isn't the name of a platform, or one of `linux`, `macos` and `windows`.
+    #[error("platform")]
+    Platform,
+}
+
 impl<E: Into<AllocError> + Drop> From<E> for TagError {
     ghost from_gives = { λ _ e. e ≡ tag.Memory };
 

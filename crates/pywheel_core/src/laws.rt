@@ -1,6 +1,6 @@
 //! Laws of the definitions alone: each function's contract is a law, and its body is empty.
 
-ghost use Rattle.std.specs.Prelude.{◌≡◌, ◌∷◌, ℕ, List, Option, Some, Err, Ok, true};
+ghost use Rattle.std.specs.Prelude.{◌≡◌, ◌↔◌, ◌∷◌, ℕ, List, Option, Some, Err, Ok, map, true};
 ghost use Rattle.std.specs.List.{IsDistinct};
 ghost use Rattle.pyver_core.specs.Name.{is_name, normal_name};
 ghost use Rattle.pyver_core.specs.Version.Grammar.{IsLarge, Spells};
@@ -9,8 +9,13 @@ ghost use Rattle.pywheel_core.specs.Choice.{IsBest, best};
 ghost use Rattle.pywheel_core.specs.Sdist.Grammar.{Sdist};
 ghost use Rattle.pywheel_core.specs.Sdist.Reading.{sdist_of};
 ghost use Rattle.pywheel_core.specs.Sdist.Value.{SdistValue, sdist_text};
-ghost use Rattle.pywheel_core.specs.Tag.{AreFirsts, AreTags, IsNoTag, TagText, TagValue, rank_of};
-ghost use Rattle.pywheel_core.specs.Tag.{tag_eq, tag_of, tags_of};
+ghost use Rattle.pywheel_core.specs.Tag.{AreFirsts, AreTags, IsNoTag, TagText, TagValue, is_among};
+ghost use Rattle.pywheel_core.specs.Tag.{rank_of, tag_eq, tag_of, tag_text, tags_of};
+ghost use Rattle.pywheel_core.specs.Target.Compatible.{IsCompatible};
+ghost use Rattle.pywheel_core.specs.Target.Newer.{IsAtLeast, IsPart};
+ghost use Rattle.pywheel_core.specs.Target.Reading.{target_of};
+ghost use Rattle.pywheel_core.specs.Target.Tags.{target_tags};
+ghost use Rattle.pywheel_core.specs.Target.Value.{TargetValue, is_target};
 ghost use Rattle.pywheel_core.specs.Wheel.Grammar.{Wheel};
 ghost use Rattle.pywheel_core.specs.Wheel.Reading.{set_tags_in, wheel_of};
 ghost use Rattle.pywheel_core.specs.Wheel.Value.{WheelValue};
@@ -118,4 +123,45 @@ pub fn answers_are_never_out_of_memory()
     ensures tags { (texts : List (List ℕ)) → tags_of texts ≡ Err TagListError.Memory → ⊥ }
     ensures wheel { (text : List ℕ) → wheel_of text ≡ Err WheelError.Memory → ⊥ }
     ensures sdist { (text : List ℕ) → sdist_of text ≡ Err SdistError.Memory → ⊥ }
+{}
+
+/// What [`Target::parse`](crate::Target::parse) reads is a target that there is, with a release and
+/// a platform within their limits.
+#[tactic(auto, using(crate::proofs::Lemmas::Target::Read::read_known))]
+pub fn targets_are_known()
+    ensures { (python platform : List ℕ) (target : TargetValue)
+        → target_of python platform ≡ Ok target → is_target target ≡ true }
+{}
+
+/// The tags of a target are those that are compatible with it.
+#[tactic(auto, using(crate::proofs::Lemmas::Target::Read::read_compatible))]
+pub fn target_tags_are_the_compatible()
+    ensures { (python platform : List ℕ) (target : TargetValue) (tag : TagValue)
+        → target_of python platform ≡ Ok target
+        → (is_among tag (target_tags target) ≡ true) ↔ IsCompatible target tag }
+{}
+
+/// No two tags of a target are equal: each has one rank.
+#[tactic(auto, using(crate::proofs::Lemmas::Target::Read::read_distinct))]
+pub fn target_tags_are_distinct()
+    ensures { (python platform : List ℕ) (target : TargetValue)
+        → target_of python platform ≡ Ok target → IsDistinct tag_eq (target_tags target) }
+{}
+
+/// With a newer glibc, musl or macOS of the same machine, a Python takes what it took, in the same
+/// order: a choice of a wheel is no worse there.
+#[tactic(auto, using(crate::proofs::Lemmas::Target::Read::read_part))]
+pub fn newer_platforms_take_more_tags()
+    ensures { (python newer older : List ℕ) (target before : TargetValue)
+        → target_of python newer ≡ Ok target → target_of python older ≡ Ok before
+        → IsAtLeast target.platform before.platform
+        → IsPart (target_tags before) (target_tags target) }
+{}
+
+/// The texts of the tags of a target are read as its list of tags.
+#[tactic(auto, using(crate::proofs::Lemmas::Target::ReadBack::list_is_read))]
+pub fn target_tags_are_read_back()
+    ensures { (python platform : List ℕ) (target : TargetValue)
+        → target_of python platform ≡ Ok target
+        → tags_of (map tag_text (target_tags target)) ≡ Ok (target_tags target) }
 {}

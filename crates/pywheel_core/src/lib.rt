@@ -28,13 +28,17 @@ mod span;
 mod tag;
 mod tag_list;
 mod tag_set;
+mod target;
 mod wheel;
 
 pub use choice::{best_rank, choose};
 pub use display::tags_text;
-pub use error::{SdistError, TagError, TagListError, WheelError};
+pub use error::{SdistError, TagError, TagListError, TargetError, WheelError};
 pub use reader::WheelReader;
 pub use sdist::SdistName;
 pub use tag::Tag;
 pub use tag_list::TagList;
+pub use target::Target;
+pub use target::cpython::CPython;
+pub use target::platform::{LinuxArch, MacArch, Platform, WindowsArch};
 pub use wheel::WheelName;

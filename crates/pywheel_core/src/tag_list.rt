@@ -1,17 +1,24 @@
 //! Lists of tags in the order of preference (PEP 425, "Use").
 
-ghost use Rattle.std.specs.Prelude.{◌≡◌, ◌==◌, List, [], Err, IfOk, IsOk, OnErr, OnOk, length, map};
+ghost use Rattle.std.specs.Prelude.{◌≡◌, ◌==◌, List, [], IfOk, IsOk, OnOk, fold, length, map};
+ghost use Rattle.std.specs.Rc.{rc_str_bytes};
 ghost use Rattle.pytext.specs.Agreement.{Gives};
 ghost use Rattle.pywheel_core.specs.Marks.{AreAllMarked};
+ghost use Rattle.pywheel_core.specs.Inner.TargetWords.{AreTagParts, parts_tags};
 ghost use Rattle.pywheel_core.specs.Tag.{TagValue, at_position, rank_of, tag_of, tags_of, with_tag};
+ghost use Rattle.pywheel_core.specs.Target.Tags.{target_tags};
 
 use crate::error::{TagError, TagListError};
 use crate::marks::Marks;
 use crate::tag::Tag;
+use crate::target::Target;
+use crate::target::tags::TargetSpans;
+use crate::target::words::Words;
 use indexmap::IndexSet;
 use std::alloc::{AllocError, Global};
 use std::fmt;
 use std::marker::Model;
+use std::rc::RcStr;
 
 /// Distinct tags, the most preferred first (PEP 425, "Use"). A tag's rank is its position.
 pub struct TagList {
@@ -53,10 +60,37 @@ impl TagList {
         Ok(list)
     }
 
+    /// The tags that the target takes, best first (PEP 425, PEP 600, PEP 656, PEP 384, PEP 703,
+    /// PEP 803). It takes the memory of their words, which they share, of a table of them, and 768
+    /// bytes.
+    pub fn of_target(alloc: Global, target: &Target) -> Result<TagList, AllocError>
+        ensures { IfOk result (λ list. list ≡ target_tags target.now) }
+    {
+        let (text, spans) = Words::of_target(alloc, target)?.into_parts()?;
+        let parts = TargetSpans::new(&spans, usize::from(target.python().minor));
+        TagList::of_parts(alloc, &text, &parts)
+    }
+
+    /// The tags that these parts of a text make.
+    fn of_parts(alloc: Global, text: &RcStr, parts: &TargetSpans<'_>) -> Result<TagList, AllocError>
+        requires { AreTagParts (rc_str_bytes text.now) parts.now }
+        ensures { IfOk result (λ list.
+            list ≡ fold with_tag [] (parts_tags (rc_str_bytes text.now) parts.now)) }
+    {
+        let (_, others) = parts.abis.split_at(1);
+        let (stable, none) = others.split_at(1);
+        let (cpython, pythons) = parts.pythons.split_at(1);
+        let mut list = TagList::with_capacity(alloc, parts.count())?;
+        list.add_triples(text, cpython, parts.abis, parts.platforms)?;
+        list.add_triples(text, parts.older, stable, parts.platforms)?;
+        list.add_triples(text, pythons, none, parts.platforms)?;
+        list.add_triples(text, parts.pythons, none, parts.any)?;
+        Ok(list)
+    }
+
     /// An empty list with room for so many tags. Room for none takes no memory.
-    fn with_capacity(alloc: Global, room: usize) -> Result<TagList, TagListError>
+    fn with_capacity(alloc: Global, room: usize) -> Result<TagList, AllocError>
         ensures empty { IfOk result (λ list. list ≡ []) }
-        ensures memory { OnErr result (result ≡ Err TagListError.Memory) }
         ensures succeeds { room ≡ 0 → IsOk result }
     {
         let tags = IndexSet::with_capacity(alloc, room)?;
@@ -69,9 +103,8 @@ impl TagList {
     }
 
     /// Puts the tag behind the others, where it isn't among them.
-    fn add(&mut self, tag: Tag) -> Result<(), TagListError>
-        ensures added { OnOk result (self.new ≡ with_tag self.old tag) }
-        ensures memory { OnErr result (result ≡ Err TagListError.Memory) }
+    pub(crate) fn add(&mut self, tag: Tag) -> Result<(), AllocError>
+        ensures { OnOk result (self.new ≡ with_tag self.old tag) }
     {
         add_marks(&mut self.marks, &tag);
         self.tags.insert_full(tag)?;

@@ -182,7 +182,7 @@ fn push_platforms(
 }
 
 /// What stands before the first dot, and what stands after it.
-fn cut_at_dot(text: &str) -> Option<(&str, &str)>
+pub(crate) fn cut_at_dot(text: &str) -> Option<(&str, &str)>
     ensures { option_map (λ x. (x.0.now, x.1.now)) result ≡ cut_at 46 text.now }
 {
     text.split_once('.')

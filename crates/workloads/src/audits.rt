@@ -5,7 +5,8 @@ use crate::draw::Draw;
 use crate::inputs::{Platform, environment};
 use crate::locks::push_lock;
 use crate::random::Random;
-use pylock_command::{Form, Request, View};
+use pylock_command::{Form, Machine, Request, View};
+use pylock_core::EnvironmentInput;
 use pylock_program::{Inputs, Query, query, show_request};
 use pylock_run::ToWrite;
 use std::alloc::{AllocError, Global};
@@ -67,6 +68,10 @@ fn answered(alloc: Global, asked: Query<'_>) -> anyhow::Result<Vec<u8>> {
 
 fn explained(alloc: Global, random: Random, lock: &[u8]) -> anyhow::Result<Vec<u8>> {
     let environment = environment(alloc, random, Platform::Mac, 11)?;
+    explained_on(alloc, lock, environment.as_bytes())
+}
+
+fn explained_on(alloc: Global, lock: &[u8], environment: &[u8]) -> anyhow::Result<Vec<u8>> {
     let mut out = Vec::new(alloc);
     let mut writer = ToWrite::new(&mut out);
     let mut notes = Vec::new(alloc);
@@ -74,14 +79,14 @@ fn explained(alloc: Global, random: Random, lock: &[u8]) -> anyhow::Result<Vec<u
     let request = Request {
         view: View::Explain,
         lock: "pylock.toml",
-        environment: "environment.json",
+        machine: Machine::File("environment.json"),
         choices: Vec::new(alloc),
         strict: false,
         form: Form::Json,
     };
     let inputs = Inputs {
         lock,
-        environment: environment.as_bytes(),
+        environment: EnvironmentInput::Text(environment),
         leaves: false,
     };
     let end = show_request(alloc, &request, inputs, &mut writer, &mut beside);

@@ -5,7 +5,8 @@ use crate::draw::Draw;
 use crate::inputs::{Platform, environment};
 use crate::locks::push_lock;
 use crate::random::Random;
-use pylock_command::{Choice, Form, Request, View};
+use pylock_command::{Choice, Form, Machine, Request, View};
+use pylock_core::EnvironmentInput;
 use pylock_program::{Inputs, show_request};
 use pylock_run::ToWrite;
 use std::alloc::{AllocError, Global};
@@ -58,14 +59,14 @@ fn print_plan(
     let request = Request {
         view: View::Plan,
         lock: "pylock.toml",
-        environment: "environment.json",
+        machine: Machine::File("environment.json"),
         choices: Vec::from_slice(alloc, choices)?,
         strict: false,
         form: Form::Lines,
     };
     let inputs = Inputs {
         lock,
-        environment,
+        environment: EnvironmentInput::Text(environment),
         leaves: false,
     };
     let end = show_request(alloc, &request, inputs, &mut writer, &mut beside);

@@ -52,7 +52,7 @@ function __pylock_words
         else if not set -q ended[1]; and test "$word" = --
             set ended 1
         else if not set -q ended[1]; and string match -qr -- '^-.' "$word"
-            if contains -- "$word" --extra --group --no-group --only-binary --no-binary --set
+            if contains -- "$word" --python --platform --extra --group --no-group --only-binary --no-binary --set --format --in
                 set is_value 1
             end
         else
@@ -96,18 +96,24 @@ end
 complete -c pylock -f
 complete -c pylock -n __pylock_in_none -s h -l help -d 'Print help'
 complete -c pylock -n __pylock_in_none -s V -l version -d 'Print version'
-complete -c pylock -n '__pylock_in plan explain' -l all-extras -d 'Ask for each extra of the lock'
-complete -c pylock -n '__pylock_in plan explain' -l extra -x -a '(__pylock_names extras)' -d 'Ask for an extra of the lock: --extra test'
-complete -c pylock -n '__pylock_in plan explain' -l no-default-groups -d 'Leave out the default groups'
-complete -c pylock -n '__pylock_in plan explain' -l all-groups -d 'Ask for each group of the lock'
-complete -c pylock -n '__pylock_in plan explain' -l group -x -a '(__pylock_names groups)' -d 'Ask for a group of the lock: --group test'
-complete -c pylock -n '__pylock_in plan explain' -l no-group -x -a '(__pylock_names groups)' -d 'Leave out a group of the lock: --no-group dev'
-complete -c pylock -n '__pylock_in plan explain' -l only-binary -x -a '(echo :all:; __pylock_names packages)' -d 'Take wheels alone: --only-binary numpy, or :all:'
-complete -c pylock -n '__pylock_in plan explain' -l no-binary -x -a '(echo :all:; __pylock_names packages)' -d 'Take no wheels: --no-binary numpy, or :all:'
-complete -c pylock -n '__pylock_in plan explain' -l set -x -a '(__pylock_variables)' -d 'Give a marker variable a text: --set os_name=nt'
-complete -c pylock -n '__pylock_in plan explain select' -l strict -d 'Refuse a lock that installers may differ on'
-complete -c pylock -n '__pylock_in plan explain files audit' -l json -d 'Print one JSON document in place of the lines'
-complete -c pylock -n '__pylock_in plan explain select files audit version match name marker requirement wheel sdist' -s h -l help -d 'Print help'
+complete -c pylock -n '__pylock_in plan explain select diff environment marker' -l python -x -a '3.10 3.11 3.12 3.13 3.14 3.13t 3.14t' -d 'The Python of a target: 3.12, 3.12.4 or 3.13t'
+complete -c pylock -n '__pylock_in plan explain select diff environment marker' -l platform -x -a 'linux macos windows manylinux_2_28_x86_64 manylinux_2_28_aarch64 musllinux_1_2_x86_64 musllinux_1_2_aarch64 macosx_14_0_arm64 macosx_14_0_x86_64 win_amd64 win_arm64 win32' -d 'Its platform: linux or manylinux_2_28_x86_64'
+complete -c pylock -n '__pylock_in plan explain diff' -l all-extras -d 'Ask for each extra of the lock'
+complete -c pylock -n '__pylock_in plan explain diff' -l extra -x -a '(__pylock_names extras)' -d 'Ask for an extra of the lock: --extra test'
+complete -c pylock -n '__pylock_in plan explain diff' -l no-default-groups -d 'Leave out the default groups'
+complete -c pylock -n '__pylock_in plan explain diff' -l all-groups -d 'Ask for each group of the lock'
+complete -c pylock -n '__pylock_in plan explain diff' -l group -x -a '(__pylock_names groups)' -d 'Ask for a group of the lock: --group test'
+complete -c pylock -n '__pylock_in plan explain diff' -l no-group -x -a '(__pylock_names groups)' -d 'Leave out a group of the lock: --no-group dev'
+complete -c pylock -n '__pylock_in plan explain diff' -l only-binary -x -a '(echo :all:; __pylock_names packages)' -d 'Take wheels alone: --only-binary numpy, or :all:'
+complete -c pylock -n '__pylock_in plan explain diff' -l no-binary -x -a '(echo :all:; __pylock_names packages)' -d 'Take no wheels: --no-binary numpy, or :all:'
+complete -c pylock -n '__pylock_in plan explain diff' -l set -x -a '(__pylock_variables)' -d 'Give a marker variable a text: --set os_name=nt'
+complete -c pylock -n '__pylock_in plan explain select' -l strict -d 'Refuse a lock with certain findings of audit'
+complete -c pylock -n '__pylock_in plan' -l format -x -a 'requirements sha256sum aria2 urls' -d 'Print a form that another tool takes'
+complete -c pylock -n '__pylock_in plan explain files audit diff version match name marker requirement wheel sdist' -l json -d 'Print one JSON document in place of the lines'
+complete -c pylock -n '__pylock_in plan explain select files audit diff environment version match name marker requirement wheel sdist' -s h -l help -d 'Print help'
+complete -c pylock -n '__pylock_in select' -l json -d 'Print a JSON document on a line for each answer'
+complete -c pylock -n '__pylock_in files' -l format -x -a 'sha256sum aria2 urls' -d 'Print a form that another tool takes'
+complete -c pylock -n '__pylock_in diff' -l in -x -k -a '(__fish_complete_suffix .json)' -d 'Compare the plans for this environment'
 complete -c pylock -n __pylock_in_none -a plan -d 'Print what a lock installs in an environment'
 complete -c pylock -n '__pylock_at 0 help' -a plan -d 'Print what a lock installs in an environment'
 complete -c pylock -n __pylock_in_none -a explain -d 'Print what becomes of each entry of a lock, and why'
@@ -118,6 +124,10 @@ complete -c pylock -n __pylock_in_none -a files -d 'Print every source that a lo
 complete -c pylock -n '__pylock_at 0 help' -a files -d 'Print every source that a lock names, whatever machine it is for'
 complete -c pylock -n __pylock_in_none -a audit -d 'Print what a careful reader of a lock should know'
 complete -c pylock -n '__pylock_at 0 help' -a audit -d 'Print what a careful reader of a lock should know'
+complete -c pylock -n __pylock_in_none -a diff -d 'Print what a change of a lock means'
+complete -c pylock -n '__pylock_at 0 help' -a diff -d 'Print what a change of a lock means'
+complete -c pylock -n __pylock_in_none -a environment -d 'Print the environment of a Python and a platform'
+complete -c pylock -n '__pylock_at 0 help' -a environment -d 'Print the environment of a Python and a platform'
 complete -c pylock -n __pylock_in_none -a version -d 'Print the normal form of a version (PEP 440)'
 complete -c pylock -n '__pylock_at 0 help' -a version -d 'Print the normal form of a version (PEP 440)'
 complete -c pylock -n __pylock_in_none -a match -d 'Print whether a specifier set admits a version (PEP 440)'
@@ -134,5 +144,6 @@ complete -c pylock -n __pylock_in_none -a sdist -d 'Print the parts of an sdist\
 complete -c pylock -n '__pylock_at 0 help' -a sdist -d 'Print the parts of an sdist\'s file name (PEP 625)'
 complete -c pylock -n __pylock_in_none -a help -d 'Print this message or the help of the given subcommand(s)'
 complete -c pylock -n '__pylock_at 0 help' -a help -d 'Print this message or the help of the given subcommand(s)'
-complete -c pylock -n '__pylock_at 0 plan explain select files audit' -k -a '(__fish_complete_suffix .toml)'
+complete -c pylock -n '__pylock_at 0 plan explain select files audit diff' -k -a '(__fish_complete_suffix .toml)'
 complete -c pylock -n '__pylock_at 1 plan explain select marker' -k -a '(__fish_complete_suffix .json)'
+complete -c pylock -n '__pylock_at 1 diff' -k -a '(__fish_complete_suffix .toml)'

@@ -1,13 +1,15 @@
 -- What is printed in place of an answer, as JSON documents.
-use Rattle.std.specs.Prelude.{ℕ, List, [], ◌∷◌, codes}
+use Rattle.std.specs.Prelude.{ℕ, List, [], ◌∷◌, codes, Option, Some, None}
 use Rattle.std.specs.Option.{option_map_or}
 use Rattle.pylock_command.specs.Choices.{option_words}
 use Rattle.pylock_command.specs.declared.choice.Choice.{Choice}
-use Rattle.pylock_documents.specs.Documents.{refused_rows}
-use Rattle.pylock_json.specs.Json.{Row, document_text, members_of}
+use Rattle.pylock_documents.specs.Documents.{refused_line_rows, refused_rows}
+use Rattle.pylock_json.specs.Json.{Row, document_text, members_of, object_of, there}
+use Rattle.pylock_messages.specs.Diagnostic.{DiagnosticValue}
 use Rattle.pylock_readers.specs.declared.error.EnvError.{EnvError}
 use Rattle.pylock_readers.specs.declared.error.LockError.{LockError}
-use Rattle.pylock_run.specs.Text.Refusal.{environment_words, lock_words}
+use Rattle.pylock_run.specs.Text.Refusal.{environment_words, line_word, lock_words}
+use Rattle.pylock_run.specs.declared.line.refusal.LineRefusal.{LineRefusal}
 use Rattle.pylock_run.specs.declared.report.opening.OpenError.{OpenError}
 use Rattle.pylock_run.specs.declared.report.opening.OpenError.TheVariants as open_error
 
@@ -15,24 +17,41 @@ use Rattle.pylock_run.specs.declared.report.opening.OpenError.TheVariants as ope
 abbrev pub json_text : List Row → List ℕ
 json_text rows = document_text (members_of rows)
 
--- a refusal: the words of its line
-unfoldable pub words_json : List (List ℕ) → List ℕ
-words_json words = json_text (refused_rows words)
+-- A refusal: the words of its line, and what is told beside them. Definitions above leave open what
+-- is told. So of the document they say that it has the members `pylock` and `refused`, as the words
+-- say, and beside them none, or `message` and some of `file`, `line`, `column`, `entry`, `name` and
+-- `key`, each once, with any text or number.
+unfoldable pub words_json : List (List ℕ) → Option DiagnosticValue → List ℕ
+words_json words told = json_text (refused_rows words told)
 
-abbrev pub lock_json : LockError → List ℕ
+abbrev pub lock_json : LockError → Option DiagnosticValue → List ℕ
 lock_json error = words_json (codes "lock" ∷ lock_words error)
 
-abbrev pub environment_json : EnvError → List ℕ
+-- the same of one of two locks, of which nothing is told: which it is stands before the words
+abbrev pub side_json : List ℕ → LockError → List ℕ
+side_json side error = words_json (codes "lock" ∷ side ∷ lock_words error) None
+
+abbrev pub environment_json : EnvError → Option DiagnosticValue → List ℕ
 environment_json error = words_json (codes "environment" ∷ environment_words error)
 
 -- out of memory is no refusal, and is never printed
-abbrev pub refusal_json : OpenError → List ℕ
-refusal_json (open_error.Lock error) = lock_json error
-refusal_json (open_error.Environment error) = environment_json error
-refusal_json open_error.Memory = []
+abbrev pub refusal_json : OpenError → Option DiagnosticValue → List ℕ
+refusal_json (open_error.Lock error) told = lock_json error told
+refusal_json (open_error.Environment error) told = environment_json error told
+refusal_json open_error.Memory told = []
+
+-- a line of the input that is refused: the word of its refusal, and its number from 1
+unfoldable pub line_refusal_json : ℕ → LineRefusal → List ℕ
+line_refusal_json number refused =
+    json_text (refused_line_rows number (line_word refused ∷ []))
+
+-- the fault of a marker: its code
+abbrev pub fault_json : List ℕ → List ℕ
+fault_json code =
+    json_text ((codes "fault", Some (object_of ((codes "code", there code) ∷ []))) ∷ [])
 
 -- an option that is refused: its word, without the dashes, and its text as it was given
-abbrev pub option_json : Choice → List ℕ
+abbrev pub option_json : Choice → Option DiagnosticValue → List ℕ
 option_json choice =
     let words = option_words choice in
     words_json (words.0 ∷ option_map_or (λ text. text ∷ []) words.1 [])

@@ -5,10 +5,21 @@ use crate::choices::{option_words, split_at_equals};
 use crate::notes::tell_made;
 use pylock_command::Choice;
 use pylock_core::Session;
+use pylock_messages::Diagnostic;
 use pylock_run::Sink;
 use pymark_core::Var;
 use pyver_core::{is_name, normal_name};
 use std::alloc::{AllocError, Global};
+
+/// Why an option is refused, as a value. `lock` is the path of the lock as it was given.
+pub(crate) fn option_diagnostic(
+    alloc: Global,
+    lock: &str,
+    choice: Choice<'_>,
+) -> Result<Option<Diagnostic>, AllocError> {
+    let note = option_note(alloc, lock, choice)?;
+    Ok(Some(Diagnostic::of_message(alloc, note.as_str())?))
+}
 
 /// Tells why an option is refused. `lock` is the path of the lock as it was given.
 pub(crate) fn tell_refused<N: Sink>(alloc: Global, notes: &mut N, lock: &str, choice: Choice<'_>) {

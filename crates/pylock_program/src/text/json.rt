@@ -1,49 +1,112 @@
 //! What is printed in place of an answer, as JSON documents.
 
 ghost use Rattle.std.specs.Prelude.{◌≡◌, ◌++◌, ◌∷◌, [], OnOk, map};
-ghost use Rattle.pylock_program.specs.Text.Json.{environment_json, lock_json, option_json};
-ghost use Rattle.pylock_program.specs.Text.Json.{refusal_json, words_json};
+ghost use Rattle.std.specs.Option.{option_copied};
+ghost use Rattle.pylock_program.specs.Text.Json.{environment_json, fault_json, lock_json};
+ghost use Rattle.pylock_program.specs.Text.Json.{line_refusal_json};
+ghost use Rattle.pylock_program.specs.Text.Json.{option_json, refusal_json, side_json};
+ghost use Rattle.pylock_program.specs.Text.Json.{words_json};
+ghost use Rattle.pylock_run.specs.Text.Refusal.{lock_words};
 
 use crate::choices::option_words;
 use pylock_command::Choice;
 use pylock_core::{EnvError, LockError};
-use pylock_documents::refused_document;
-use pylock_json::push_document;
-use pylock_run::{OpenError, entry_word, head_word};
+use pylock_documents::{refused_document, refused_line_document};
+use pylock_json::{Object, push_document};
+use pylock_messages::Diagnostic;
+use pylock_run::{LineRefusal, OpenError, entry_word, head_word, line_word};
 use std::alloc::{AllocError, Global};
 
-/// Pushes the document of a refusal, of these words.
+/// Pushes the document of a refusal, of these words and what is told.
 #[tactic(auto, unfolding(crate::specs::Text::Json::words_json))]
-fn push_refused(alloc: Global, out: &mut Vec<u8>, words: &[&str]) -> Result<(), AllocError>
-    ensures { OnOk result (out.new.items
-        ≡ out.old.items ++ words_json (map (λ word. word.now) words.now)) }
+pub(crate) fn push_refused(
+    alloc: Global,
+    out: &mut Vec<u8>,
+    words: &[&str],
+    told: Option<&Diagnostic>,
+) -> Result<(), AllocError>
+    ensures { OnOk result (out.new.items ≡ out.old.items
+        ++ words_json (map (λ word. word.now) words.now) (option_copied told.entry)) }
 {
-    push_document(alloc, out, refused_document(alloc, words)?)
+    push_document(alloc, out, refused_document(alloc, words, told)?)
 }
 
 /// Pushes the document of a refused lock.
-pub(crate) fn push_lock_json(
+fn push_lock_json(
     alloc: Global,
     out: &mut Vec<u8>,
     error: &LockError,
+    told: Option<&Diagnostic>,
 ) -> Result<(), AllocError>
-    ensures { OnOk result (out.new.items ≡ out.old.items ++ lock_json error.now) }
+    ensures { OnOk result (out.new.items
+        ≡ out.old.items ++ lock_json error.now (option_copied told.entry)) }
+{
+    push_lock_words(alloc, out, &["lock"], error, told)
+}
+
+/// Pushes the document of a refused lock that is one of two: `side` tells which it is, and nothing
+/// else is told.
+pub(crate) fn push_side_json(
+    alloc: Global,
+    out: &mut Vec<u8>,
+    side: &str,
+    error: &LockError,
+) -> Result<(), AllocError>
+    ensures { OnOk result (out.new.items ≡ out.old.items ++ side_json side.now error.now) }
+{
+    push_lock_words(alloc, out, &["lock", side], error, None)
+}
+
+/// Pushes the document of a refused lock, whose words stand behind these.
+fn push_lock_words(
+    alloc: Global,
+    out: &mut Vec<u8>,
+    front: &[&str],
+    error: &LockError,
+    told: Option<&Diagnostic>,
+) -> Result<(), AllocError>
+    ensures { OnOk result (out.new.items ≡ out.old.items
+        ++ words_json (map (λ word. word.now) front.now ++ lock_words error.now)
+        (option_copied told.entry)) }
 {
     match error {
-        LockError::NotText => push_refused(alloc, out, &["lock", "not-text"]),
-        LockError::Toml => push_refused(alloc, out, &["lock", "toml"]),
-        LockError::LockVersion => push_refused(alloc, out, &["lock", "lock-version"]),
-        LockError::CreatedBy => push_refused(alloc, out, &["lock", "created-by"]),
-        LockError::Head(key) => push_refused(alloc, out, &["lock", "head", head_word(key)]),
-        LockError::Packages => push_refused(alloc, out, &["lock", "packages"]),
-        LockError::TooMany => push_refused(alloc, out, &["lock", "too-many"]),
+        LockError::NotText => push_both(alloc, out, front, &["not-text"], told),
+        LockError::Toml => push_both(alloc, out, front, &["toml"], told),
+        LockError::LockVersion => push_both(alloc, out, front, &["lock-version"], told),
+        LockError::CreatedBy => push_both(alloc, out, front, &["created-by"], told),
+        LockError::Head(key) => push_both(alloc, out, front, &["head", head_word(key)], told),
+        LockError::Packages => push_both(alloc, out, front, &["packages"], told),
+        LockError::TooMany => push_both(alloc, out, front, &["too-many"], told),
         LockError::Entry(position, error) => {
             let position = format!(in alloc; "{position}")?;
-            let words = ["lock", "entry", position.as_str(), entry_word(error)];
-            push_refused(alloc, out, &words)
+            push_both(
+                alloc,
+                out,
+                front,
+                &["entry", position.as_str(), entry_word(error)],
+                told,
+            )
         }
-        LockError::Memory => push_refused(alloc, out, &["lock", "memory"]),
+        LockError::Memory => push_both(alloc, out, front, &["memory"], told),
     }
+}
+
+/// Pushes the document of a refusal, of words in two parts.
+fn push_both(
+    alloc: Global,
+    out: &mut Vec<u8>,
+    front: &[&str],
+    words: &[&str],
+    told: Option<&Diagnostic>,
+) -> Result<(), AllocError>
+    ensures { OnOk result (out.new.items ≡ out.old.items
+        ++ words_json (map (λ word. word.now) front.now ++ map (λ word. word.now) words.now)
+        (option_copied told.entry)) }
+{
+    let mut all = Vec::with_capacity(alloc, front.len() + words.len())?;
+    all.extend_from_slice(front)?;
+    all.extend_from_slice(words)?;
+    push_refused(alloc, out, &all, told)
 }
 
 /// Pushes the document of a refused environment.
@@ -51,17 +114,21 @@ fn push_environment_json(
     alloc: Global,
     out: &mut Vec<u8>,
     error: &EnvError,
+    told: Option<&Diagnostic>,
 ) -> Result<(), AllocError>
-    ensures { OnOk result (out.new.items ≡ out.old.items ++ environment_json error.now) }
+    ensures { OnOk result (out.new.items
+        ≡ out.old.items ++ environment_json error.now (option_copied told.entry)) }
 {
     match error {
-        EnvError::Json => push_refused(alloc, out, &["environment", "json"]),
-        EnvError::Shape => push_refused(alloc, out, &["environment", "shape"]),
+        EnvError::Json => push_refused(alloc, out, &["environment", "json"], told),
+        EnvError::Shape => push_refused(alloc, out, &["environment", "shape"], told),
         EnvError::Tag(position) => {
             let position = format!(in alloc; "{position}")?;
-            push_refused(alloc, out, &["environment", "tag", position.as_str()])
+            push_refused(alloc, out, &["environment", "tag", position.as_str()], told)
         }
-        EnvError::Memory => push_refused(alloc, out, &["environment", "memory"]),
+        EnvError::Python => push_refused(alloc, out, &["environment", "python"], told),
+        EnvError::Platform => push_refused(alloc, out, &["environment", "platform"], told),
+        EnvError::Memory => push_refused(alloc, out, &["environment", "memory"], told),
     }
 }
 
@@ -70,14 +137,45 @@ pub(crate) fn push_refusal_json(
     alloc: Global,
     out: &mut Vec<u8>,
     error: &OpenError,
+    told: Option<&Diagnostic>,
 ) -> Result<(), AllocError>
-    ensures { OnOk result (out.new.items ≡ out.old.items ++ refusal_json error.now) }
+    ensures { OnOk result (out.new.items
+        ≡ out.old.items ++ refusal_json error.now (option_copied told.entry)) }
 {
     match error {
-        OpenError::Lock(error) => push_lock_json(alloc, out, error),
-        OpenError::Environment(error) => push_environment_json(alloc, out, error),
+        OpenError::Lock(error) => push_lock_json(alloc, out, error, told),
+        OpenError::Environment(error) => push_environment_json(alloc, out, error, told),
         OpenError::Memory => Ok(()),
     }
+}
+
+/// Pushes the document of a refused line of the input, whose number counts from 1.
+#[tactic(auto, unfolding(crate::specs::Text::Json::line_refusal_json))]
+pub(crate) fn push_line_refusal_json(
+    alloc: Global,
+    out: &mut Vec<u8>,
+    number: u64,
+    refusal: LineRefusal,
+) -> Result<(), AllocError>
+    ensures { OnOk result (out.new.items ≡ out.old.items ++ line_refusal_json number refusal) }
+{
+    let document = refused_line_document(alloc, number, &[line_word(refusal)])?;
+    push_document(alloc, out, document)
+}
+
+/// Pushes the document of a marker's fault, of this code.
+pub(crate) fn push_fault_json(
+    alloc: Global,
+    out: &mut Vec<u8>,
+    code: &str,
+) -> Result<(), AllocError>
+    ensures { OnOk result (out.new.items ≡ out.old.items ++ fault_json code.now) }
+{
+    let mut fault = Object::new(alloc);
+    fault.put_text(alloc, "code", code)?;
+    let mut object = Object::new(alloc);
+    object.put(alloc, "fault", fault.into_json())?;
+    push_document(alloc, out, object)
 }
 
 /// Pushes the document of an option that is refused.
@@ -85,12 +183,14 @@ pub(crate) fn push_option_json(
     alloc: Global,
     out: &mut Vec<u8>,
     choice: Choice<'_>,
+    told: Option<&Diagnostic>,
 ) -> Result<(), AllocError>
-    ensures { OnOk result (out.new.items ≡ out.old.items ++ option_json choice.entry) }
+    ensures { OnOk result (out.new.items
+        ≡ out.old.items ++ option_json choice.entry (option_copied told.entry)) }
 {
     match option_words(choice) {
-        (word, Some(text)) => push_refused_pair(alloc, out, word, text),
-        (word, None) => push_refused(alloc, out, &[word]),
+        (word, Some(text)) => push_refused_pair(alloc, out, word, text, told),
+        (word, None) => push_refused(alloc, out, &[word], told),
     }
 }
 
@@ -100,9 +200,10 @@ fn push_refused_pair<'a>(
     out: &mut Vec<u8>,
     word: &'a str,
     text: &'a str,
+    told: Option<&Diagnostic>,
 ) -> Result<(), AllocError>
     ensures { OnOk result (out.new.items
-        ≡ out.old.items ++ words_json (word.now ∷ text.now ∷ [])) }
+        ≡ out.old.items ++ words_json (word.now ∷ text.now ∷ []) (option_copied told.entry)) }
 {
-    push_refused(alloc, out, &[word, text])
+    push_refused(alloc, out, &[word, text], told)
 }

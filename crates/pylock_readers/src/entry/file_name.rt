@@ -31,14 +31,18 @@ pub(crate) fn file_name(
     }
 }
 
-fn path_file_name(path: &str) -> Option<&str>
+/// The file name that a path ends in, after its last `/` or `\`; nothing where it ends in one. It
+/// takes no memory.
+pub fn path_file_name(path: &str) -> Option<&str>
     ensures { option_copied result ≡ text_unless_empty (last_of_path path.now) }
 {
     text_unless_empty(last_of_path(path))
 }
 
-/// The last segment of the URL's path, percent-decoded where the decoded bytes are text.
-fn url_file_name(alloc: Global, url: &str) -> Result<Option<String>, AllocError>
+/// The file name that a URL ends in: the last segment of its path, percent-decoded where the decoded
+/// bytes are text (RFC 3986, sections 2.1 and 3.3); nothing where that is empty. It takes memory for
+/// the name.
+pub fn url_file_name(alloc: Global, url: &str) -> Result<Option<String>, AllocError>
     ensures { IfOk result
         (λ file. option_map string_bytes file
         ≡ text_unless_empty (decode_escapes (last_of_url url.now))) }

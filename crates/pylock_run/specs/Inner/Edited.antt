@@ -3,6 +3,7 @@ use Rattle.std.specs.Prelude.{◌≡◌, ℕ, ◌+◌, ◌<◌, ◌≤◌, ◌�
 use Rattle.std.specs.Io.KnownBytes.{Appends, Consumes}
 use Rattle.pylock_run.specs.Inner.Editing.{EditingValue, editing_after, bytes_text, lines_begun}
 use Rattle.pylock_run.specs.Inner.Writes.{Writes}
+use Rattle.pylock_run.specs.Report.{Shown}
 use Rattle.pylock_run.specs.Report.Fault.{HasCause}
 use Rattle.pylock_run.specs.Report.Run.{most_bytes, most_lines}
 use Rattle.pylock_run.specs.Stream.{SourceValue, SinkValue, TakesPrefix, one_more}
@@ -10,23 +11,23 @@ use Rattle.pylock_run.specs.declared.report.fault.RunFault.{RunFault}
 
 -- the reader gave some bytes, the session was edited by them, what they print was written, and no
 -- call failed
-pub record Edited (source source' : SourceValue) (sink sink' : SinkValue) (start at : EditingValue)
-    (total new_total : ℕ) : Type 0 where
+pub record Edited (shown : Shown) (source source' : SourceValue) (sink sink' : SinkValue)
+    (start at : EditingValue) (total new_total : ℕ) : Type 0 where
   pub given : List ℕ
   pub gave : Consumes source.rest source'.rest given
   pub size : new_total ≡ total + length given
   pub editing : at ≡ editing_after start given
-  pub writes : Writes sink sink' (bytes_text start given)
+  pub writes : Writes sink sink' (bytes_text shown start given)
   pub reads : source'.failures ≡ source.failures
 
 -- the same of the whole input, which is no longer than it may be
-pub record EditsAll (source source' : SourceValue) (sink sink' : SinkValue)
+pub record EditsAll (shown : Shown) (source source' : SourceValue) (sink sink' : SinkValue)
     (start at : EditingValue) : Type 0 where
   pub given : List ℕ
   pub gave : Consumes source.rest source'.rest given
   pub within : length given ≤ most_bytes
   pub editing : at ≡ editing_after start given
-  pub writes : Writes sink sink' (bytes_text start given)
+  pub writes : Writes sink sink' (bytes_text shown start given)
   pub reads : source'.failures ≡ source.failures
 
 -- the bytes that were given, with those before, are more than there may be
@@ -46,14 +47,14 @@ IsReadFault total source source' fault = HasCause (record {
 
 -- the fault, after some bytes of which a prefix of what they print was written; where a read
 -- failed, all of it
-pub record EditFault (source source' : SourceValue) (sink sink' : SinkValue) (start : EditingValue)
-    (total : ℕ) (fault : RunFault) : Type 0 where
+pub record EditFault (shown : Shown) (source source' : SourceValue) (sink sink' : SinkValue)
+    (start : EditingValue) (total : ℕ) (fault : RunFault) : Type 0 where
   pub given : List ℕ
   pub gave : Consumes source.rest source'.rest given
-  pub prefix : TakesPrefix sink sink' (bytes_text start given)
+  pub prefix : TakesPrefix sink sink' (bytes_text shown start given)
   pub cause : HasCause (record {
     read = (source'.failures ≡ one_more source.failures) × (sink'.failures ≡ sink.failures)
-        × Appends sink.held sink'.held (bytes_text start given);
+        × Appends sink.held sink'.held (bytes_text shown start given);
     write = (source'.failures ≡ source.failures) × (sink'.failures ≡ one_more sink.failures);
     input = (source'.failures ≡ source.failures) × (sink'.failures ≡ sink.failures)
         × ((most_lines < lines_begun (editing_after start given))

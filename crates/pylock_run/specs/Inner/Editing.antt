@@ -6,7 +6,7 @@ use Rattle.std.specs.Result.{is_err}
 use Rattle.pylock_core.specs.Session.State.{State}
 use Rattle.pylock_core.specs.Session.Steps.{answer}
 use Rattle.pylock_run.specs.declared.line.refusal.LineRefusal.{LineRefusal}
-use Rattle.pylock_run.specs.Report.{is_plan, after_line, state_after, line_text}
+use Rattle.pylock_run.specs.Report.{Shown, is_plan, after_line, state_after, line_text}
 use Rattle.pylock_run.specs.Line.{line_limit}
 
 -- what is kept of a line: enough to tell that it is too long
@@ -47,8 +47,8 @@ end_line at = record {
   line = [];
 }
 
-unfoldable pub end_text : EditingValue → List ℕ
-end_text at = line_text at.state (at.complete + 1) at.line
+unfoldable pub end_text : Shown → EditingValue → List ℕ
+end_text shown at = line_text shown at.state (at.complete + 1) at.line
 
 -- a byte of a line, which is no LF
 abbrev pub keep_byte : EditingValue → ℕ → EditingValue
@@ -59,25 +59,27 @@ abbrev pub editing_after : EditingValue → List ℕ → EditingValue
 editing_after at [] = at
 editing_after at (b ∷ bs) = editing_after (if b == 10 then end_line at else keep_byte at b) bs
 
-abbrev pub bytes_text : EditingValue → List ℕ → List ℕ
-bytes_text at [] = []
-bytes_text at (b ∷ bs) =
-    if b == 10 then end_text at ++ bytes_text (end_line at) bs else bytes_text (keep_byte at b) bs
+abbrev pub bytes_text : Shown → EditingValue → List ℕ → List ℕ
+bytes_text shown at [] = []
+bytes_text shown at (b ∷ bs) =
+    if b == 10
+    then end_text shown at ++ bytes_text shown (end_line at) bs
+    else bytes_text shown (keep_byte at b) bs
 
 -- the end of the input, where a line without LF counts if it is not empty
 abbrev pub finish : EditingValue → List ℕ → EditingValue
 finish at [] = at
 finish at (b ∷ line) = end_line at
 
-abbrev pub finish_text : EditingValue → List ℕ → List ℕ
-finish_text at [] = []
-finish_text at (b ∷ line) = end_text at
+abbrev pub finish_text : Shown → EditingValue → List ℕ → List ℕ
+finish_text shown at [] = []
+finish_text shown at (b ∷ line) = end_text shown at
 
 abbrev pub after_input : EditingValue → EditingValue
 after_input at = finish at at.line
 
-abbrev pub input_end_text : EditingValue → List ℕ
-input_end_text at = finish_text at at.line
+abbrev pub input_end_text : Shown → EditingValue → List ℕ
+input_end_text shown at = finish_text shown at at.line
 
 -- the lines so far, with the one that is being read
 abbrev pub lines_begun : EditingValue → ℕ

@@ -78,10 +78,16 @@ lock_words lock_error.Memory = codes "memory" ∷ []
 abbrev pub lock_text : LockError → List ℕ
 lock_text error = line_of (codes "lock") (lock_words error)
 
+-- the same of one of two locks: which it is stands before the words
+abbrev pub side_text : List ℕ → LockError → List ℕ
+side_text side error = line_of (codes "lock") (side ∷ lock_words error)
+
 abbrev pub environment_words : EnvError → List (List ℕ)
 environment_words env_error.Json = codes "json" ∷ []
 environment_words env_error.Shape = codes "shape" ∷ []
 environment_words (env_error.Tag position) = codes "tag" ∷ decimal position ∷ []
+environment_words env_error.Python = codes "python" ∷ []
+environment_words env_error.Platform = codes "platform" ∷ []
 environment_words env_error.Memory = codes "memory" ∷ []
 
 abbrev pub environment_text : EnvError → List ℕ

@@ -17,8 +17,7 @@ use crate::line::commands::Command;
 use crate::line::refusal::LineRefusal;
 use crate::line::{LINE_LIMIT, read_line};
 use crate::report::fault::RunFault;
-use crate::text::plan::push_answer;
-use crate::text::refusal::push_line_refusal;
+use crate::report::printing::{Lines, Printing};
 use memchr::memchr;
 use pylock_core::{Answer, Session};
 use std::alloc::{AllocError, Global};
@@ -91,12 +90,17 @@ impl Drop for Editing {
 
 impl Editing {
     /// Pushes the first answer.
-    pub fn start(alloc: Global, session: Session, out: &mut Vec<u8>) -> Result<Editing, AllocError>
+    pub fn start<P: Printing>(
+        alloc: Global,
+        printing: &P,
+        session: Session,
+        out: &mut Vec<u8>,
+    ) -> Result<Editing, AllocError>
         ensures editing { IfOk result (λ editing. editing ≡ start session.state) }
-        ensures text { OnOk result
-            (out.new.items ≡ out.old.items ++ current_answer_text session.state) }
+        ensures text { OnOk result (out.new.items
+            ≡ out.old.items ++ (P.shown printing.now).answer session.state) }
     {
-        let plan = push_current_answer(&session, out)?;
+        let plan = push_standing_answer(printing, &session, out)?;
         Ok(Editing {
             alloc,
             session,
@@ -109,13 +113,19 @@ impl Editing {
 
     /// Takes the bytes up to the first LF and that LF, or all bytes where there is none, and
     /// answers how many. Where a line ends, what it prints is pushed.
-    pub fn take_bytes(&mut self, bytes: &[u8], out: &mut Vec<u8>) -> Result<usize, RunFault>
+    pub fn take_bytes<P: Printing>(
+        &mut self,
+        printing: &P,
+        bytes: &[u8],
+        out: &mut Vec<u8>,
+    ) -> Result<usize, RunFault>
         requires { 0 < length bytes.now }
         ensures some { IfOk result (λ count. (0 < count) × (count ≤ length bytes.now)) }
         ensures editing { IfOk result (λ count. self.new
             ≡ editing_after self.old (take count bytes.now)) }
         ensures text { IfOk result (λ count. out.new.items
-            ≡ out.old.items ++ bytes_text self.old (take count bytes.now)) }
+            ≡ out.old.items
+            ++ bytes_text (P.shown printing.now) self.old (take count bytes.now)) }
         ensures fault { IfErr result (IsTakeFault self.old.complete) }
     {
         if self.complete == LINES {
@@ -124,7 +134,7 @@ impl Editing {
         match line_end(bytes) {
             Some(position) => {
                 self.keep_bytes(&bytes[..position])?;
-                self.end_line(out)?;
+                self.end_line(printing, out)?;
                 Ok(position + 1)
             }
             None => {
@@ -135,15 +145,20 @@ impl Editing {
     }
 
     /// The end of the input, where a line without LF counts if it is not empty.
-    pub fn finish_input(&mut self, out: &mut Vec<u8>) -> Result<(), AllocError>
+    pub fn finish_input<P: Printing>(
+        &mut self,
+        printing: &P,
+        out: &mut Vec<u8>,
+    ) -> Result<(), AllocError>
         ensures editing { OnOk result (self.new ≡ after_input self.old) }
-        ensures text { OnOk result (out.new.items ≡ out.old.items ++ input_end_text self.old) }
+        ensures text { OnOk result (out.new.items
+            ≡ out.old.items ++ input_end_text (P.shown printing.now) self.old) }
         ensures within { lines_begun self.old ≤ most_lines }
     {
         if self.line.is_empty() {
             return Ok(());
         }
-        self.end_line(out)
+        self.end_line(printing, out)
     }
 
     /// The status of the run: 0 where the last answer was a plan and no line was refused.
@@ -167,20 +182,21 @@ impl Editing {
 
     /// Ends the line, and pushes the answer after it or its refusal.
     #[tactic(auto, unfolding(crate::specs::Inner::Editing::end_line))]
-    fn end_line(&mut self, out: &mut Vec<u8>) -> Result<(), AllocError>
+    fn end_line<P: Printing>(&mut self, printing: &P, out: &mut Vec<u8>) -> Result<(), AllocError>
         requires { self.old.complete < most_lines }
         ensures editing { OnOk result (self.new ≡ end_line self.old) }
-        ensures text { OnOk result (out.new.items ≡ out.old.items ++ end_text self.old) }
+        ensures text { OnOk result (out.new.items
+            ≡ out.old.items ++ end_text (P.shown printing.now) self.old) }
     {
         let outcome = obey_line(self.alloc, &mut self.session, &self.line);
         self.complete += 1;
         self.line.clear();
         match outcome {
-            Ok(()) => self.plan = push_current_answer(&self.session, out)?,
+            Ok(()) => self.plan = push_standing_answer(printing, &self.session, out)?,
             Err(LineRefusal::Memory) => return Err(AllocError),
             Err(refusal) => {
                 self.refused = true;
-                push_line_refusal(out, self.complete, refusal)?;
+                printing.push_line_refusal(out, self.complete, refusal)?;
             }
         }
         Ok(())
@@ -204,14 +220,27 @@ fn obey_line(alloc: Global, session: &mut Session, line: &[u8]) -> Result<(), Li
 }
 
 /// Pushes the answer as it stands, and answers whether it is a plan.
+fn push_standing_answer<P: Printing>(
+    printing: &P,
+    session: &Session,
+    out: &mut Vec<u8>,
+) -> Result<bool, AllocError>
+    ensures plan { IfOk result (λ plan. plan ≡ is_plan (answer session.now.state)) }
+    ensures text { OnOk result (out.new.items
+        ≡ out.old.items ++ (P.shown printing.now).answer session.now.state) }
+{
+    let answer = session.answer()?;
+    printing.push_answer(out, session, &answer)?;
+    Ok(matches!(answer, Answer::Plan(_)))
+}
+
+/// Pushes the lines of the answer as it stands, and answers whether it is a plan.
 pub fn push_current_answer(session: &Session, out: &mut Vec<u8>) -> Result<bool, AllocError>
     ensures plan { IfOk result (λ plan. plan ≡ is_plan (answer session.now.state)) }
     ensures text { OnOk result
         (out.new.items ≡ out.old.items ++ current_answer_text session.now.state) }
 {
-    let answer = session.answer()?;
-    push_answer(out, session, &answer)?;
-    Ok(matches!(answer, Answer::Plan(_)))
+    push_standing_answer(&Lines, session, out)
 }
 
 /// Where the first LF stands.

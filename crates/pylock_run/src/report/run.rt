@@ -10,9 +10,9 @@ ghost use Rattle.pylock_run.specs.Inner.Editing.{start, editing_after, bytes_tex
 ghost use Rattle.pylock_run.specs.Inner.Editing.{input_end_text, lines_begun};
 ghost use Rattle.pylock_run.specs.Inner.Faults.{IsWriteFault, IsFeedFault};
 ghost use Rattle.pylock_run.specs.Inner.Writes.{Writes, Pours};
-ghost use Rattle.pylock_run.specs.Report.{current_answer_text, open_state, report_on};
+ghost use Rattle.pylock_run.specs.Report.{open_state, report_on};
 ghost use Rattle.pylock_run.specs.Report.Print.{Prints, IsOutputFault};
-ghost use Rattle.pylock_run.specs.Report.Run.{IsRun, most_bytes, most_lines};
+ghost use Rattle.pylock_run.specs.Report.Run.{IsRun, IsRunShown, most_bytes, most_lines};
 ghost use Rattle.pylock_run.specs.Stream.{TakesPrefix};
 ghost use Rattle.pylock_run.specs.declared.report.opening.OpenError.{OpenError as Unopened};
 ghost use Rattle.pylock_run.specs.declared.report.opening.OpenError.TheVariants.{Memory};
@@ -21,10 +21,10 @@ use crate::report::editing::Editing;
 use crate::report::fault::RunFault;
 use crate::report::opening::{OpenError, open};
 use crate::report::print::print;
+use crate::report::printing::{Lines, Printing};
 use crate::stream::whole::piece_buffer;
 use crate::stream::writer::write_all;
 use crate::stream::{Sink, Source};
-use crate::text::refusal::push_refusal;
 use pylock_core::Session;
 use std::alloc::Global;
 use std::mem;
@@ -52,7 +52,8 @@ fn flush<W: Sink>(out: &mut Vec<u8>, writer: &mut W) -> Result<(), RunFault>
 
 /// Edits by a prefix of `bytes`, and answers how many. What they print stands
 /// behind what is in `out`, or is written where that is much.
-fn feed_some<W: Sink>(
+fn feed_some<P: Printing, W: Sink>(
+    printing: &P,
     editing: &mut Editing,
     bytes: &[u8],
     out: &mut Vec<u8>,
@@ -63,13 +64,14 @@ fn feed_some<W: Sink>(
     ensures editing { IfOk result (λ count. editing.new
         ≡ editing_after editing.old (take count bytes.now)) }
     ensures poured { IfOk result (λ count. Pours (W.value writer.old) (W.value writer.new)
-        (out.old.items ++ bytes_text editing.old (take count bytes.now)) out.new.items) }
+        (out.old.items ++ bytes_text (P.shown printing.now) editing.old (take count bytes.now))
+        out.new.items) }
     ensures prefix { OnErr result (TakesPrefix (W.value writer.old) (W.value writer.new)
-        (out.old.items ++ bytes_text editing.old bytes.now)) }
+        (out.old.items ++ bytes_text (P.shown printing.now) editing.old bytes.now)) }
     ensures fault { IfErr result (IsFeedFault (W.value writer.old) (W.value writer.new)
         (lines_begun (editing_after editing.old bytes.now))) }
 {
-    let count = editing.take_bytes(bytes, out)?;
+    let count = editing.take_bytes(printing, bytes, out)?;
     if out.len() >= FLUSH_BYTES {
         flush(out, writer)?;
     }
@@ -77,7 +79,8 @@ fn feed_some<W: Sink>(
 }
 
 /// Edits by a piece of the input, and writes what is in `out` and what the piece prints.
-fn feed_piece<W: Sink>(
+fn feed_piece<P: Printing, W: Sink>(
+    printing: &P,
     editing: &mut Editing,
     piece: &[u8],
     out: &mut Vec<u8>,
@@ -85,16 +88,16 @@ fn feed_piece<W: Sink>(
 ) -> Result<(), RunFault>
     ensures editing { OnOk result (editing.new ≡ editing_after editing.old piece.now) }
     ensures written { OnOk result (Writes (W.value writer.old) (W.value writer.new)
-        (out.old.items ++ bytes_text editing.old piece.now)) }
+        (out.old.items ++ bytes_text (P.shown printing.now) editing.old piece.now)) }
     ensures empty { OnOk result (out.new.items ≡ []) }
     ensures prefix { OnErr result (TakesPrefix (W.value writer.old) (W.value writer.new)
-        (out.old.items ++ bytes_text editing.old piece.now)) }
+        (out.old.items ++ bytes_text (P.shown printing.now) editing.old piece.now)) }
     ensures fault { IfErr result (IsFeedFault (W.value writer.old) (W.value writer.new)
         (lines_begun (editing_after editing.old piece.now))) }
 {
     let mut done = 0;
     'bytes: while done < piece.len() {
-        done += feed_some(editing, &piece[done..], out, writer)?;
+        done += feed_some(printing, editing, &piece[done..], out, writer)?;
     }
     flush(out, writer)
 }
@@ -129,7 +132,8 @@ fn read_next<R: Source>(
 }
 
 /// Reads a piece, edits by it and writes what it prints; answers whether there was one.
-fn feed_next<R: Source, W: Sink>(
+fn feed_next<P: Printing, R: Source, W: Sink>(
+    printing: &P,
     editing: &mut Editing,
     buffer: &mut [u8],
     total: &mut u64,
@@ -140,25 +144,28 @@ fn feed_next<R: Source, W: Sink>(
     requires room { 0 < length buffer.old }
     requires within { total.old ≤ most_bytes }
     requires empty { out.old.items ≡ [] }
-    ensures edited { OnOk result (Edited (R.value reader.old) (R.value reader.new)
-        (W.value writer.old) (W.value writer.new) editing.old editing.new total.old total.new) }
+    ensures edited { OnOk result (Edited (P.shown printing.now)
+        (R.value reader.old) (R.value reader.new) (W.value writer.old) (W.value writer.new)
+        editing.old editing.new total.old total.new) }
     ensures within { OnOk result (total.new ≤ most_bytes) }
     ensures empty { OnOk result (out.new.items ≡ []) }
     ensures grew { IfOk result (λ more. IsTrue more → total.old < total.new) }
     ensures end { IfOk result (λ more. more ≡ false → IsAtEnd (R.value reader.new).rest) }
-    ensures fault { IfErr result (EditFault (R.value reader.old) (R.value reader.new)
-        (W.value writer.old) (W.value writer.new) editing.old total.old) }
+    ensures fault { IfErr result (EditFault (P.shown printing.now)
+        (R.value reader.old) (R.value reader.new) (W.value writer.old) (W.value writer.new)
+        editing.old total.old) }
 {
     let count = read_next(reader, buffer, total)?;
     if count == 0 {
         return Ok(false);
     }
-    feed_piece(editing, &buffer[..count], out, writer)?;
+    feed_piece(printing, editing, &buffer[..count], out, writer)?;
     Ok(true)
 }
 
 /// Edits by all of the input, piece by piece, and writes what its lines print as they end.
-fn feed_all<R: Source, W: Sink>(
+fn feed_all<P: Printing, R: Source, W: Sink>(
+    printing: &P,
     editing: &mut Editing,
     buffer: &mut [u8],
     reader: &mut R,
@@ -167,21 +174,24 @@ fn feed_all<R: Source, W: Sink>(
 ) -> Result<(), RunFault>
     requires room { 0 < length buffer.old }
     requires empty { out.old.items ≡ [] }
-    ensures edited { OnOk result (EditsAll (R.value reader.old) (R.value reader.new)
-        (W.value writer.old) (W.value writer.new) editing.old editing.new) }
+    ensures edited { OnOk result (EditsAll (P.shown printing.now)
+        (R.value reader.old) (R.value reader.new) (W.value writer.old) (W.value writer.new)
+        editing.old editing.new) }
     ensures empty { OnOk result (out.new.items ≡ []) }
     ensures end { OnOk result (IsAtEnd (R.value reader.new).rest) }
-    ensures fault { IfErr result (EditFault (R.value reader.old) (R.value reader.new)
-        (W.value writer.old) (W.value writer.new) editing.old 0) }
+    ensures fault { IfErr result (EditFault (P.shown printing.now)
+        (R.value reader.old) (R.value reader.new) (W.value writer.old) (W.value writer.new)
+        editing.old 0) }
 {
     let mut total = 0;
-    'pieces: while feed_next(editing, buffer, &mut total, reader, out, writer)? {}
+    'pieces: while feed_next(printing, editing, buffer, &mut total, reader, out, writer)? {}
     Ok(())
 }
 
 /// Writes the first answer.
-fn write_first_answer<W: Sink>(
+fn write_first_answer<P: Printing, W: Sink>(
     alloc: Global,
+    printing: &P,
     session: Session,
     first: &mut Vec<u8>,
     writer: &mut W,
@@ -189,19 +199,20 @@ fn write_first_answer<W: Sink>(
     requires { first.old.items ≡ [] }
     ensures editing { IfOk result (λ editing. editing ≡ start session.state) }
     ensures written { OnOk result (Writes (W.value writer.old) (W.value writer.new)
-        (current_answer_text session.state)) }
+        ((P.shown printing.now).answer session.state)) }
     ensures empty { OnOk result (first.new.items ≡ []) }
     ensures prefix { OnErr result (TakesPrefix (W.value writer.old) (W.value writer.new)
-        (current_answer_text session.state)) }
+        ((P.shown printing.now).answer session.state)) }
     ensures fault { IfErr result (IsOutputFault (W.value writer.old) (W.value writer.new)) }
 {
-    let editing = Editing::start(alloc, session, first)?;
+    let editing = Editing::start(alloc, printing, session, first)?;
     flush(first, writer)?;
     Ok(editing)
 }
 
 /// Writes what the last line prints, where it had no LF.
-fn write_last_answer<W: Sink>(
+fn write_last_answer<P: Printing, W: Sink>(
+    printing: &P,
     editing: &mut Editing,
     last: &mut Vec<u8>,
     writer: &mut W,
@@ -209,33 +220,41 @@ fn write_last_answer<W: Sink>(
     requires { last.old.items ≡ [] }
     ensures editing { OnOk result (editing.new ≡ after_input editing.old) }
     ensures written { OnOk result (Writes (W.value writer.old) (W.value writer.new)
-        (input_end_text editing.old)) }
+        (input_end_text (P.shown printing.now) editing.old)) }
     ensures within { OnOk result (lines_begun editing.old ≤ most_lines) }
     ensures prefix { OnErr result (TakesPrefix (W.value writer.old) (W.value writer.new)
-        (input_end_text editing.old)) }
+        (input_end_text (P.shown printing.now) editing.old)) }
     ensures fault { IfErr result (IsOutputFault (W.value writer.old) (W.value writer.new)) }
 {
-    editing.finish_input(last)?;
+    editing.finish_input(printing, last)?;
     flush(last, writer)
 }
 
 /// Edits a session by the whole input, and writes all answers and refusals. Then it frees the
 /// session, or leaves its memory to the system.
-fn edit_all<R: Source, W: Sink>(
+fn edit_all<P: Printing, R: Source, W: Sink>(
     alloc: Global,
+    printing: &P,
     session: Session,
     leaves: bool,
     reader: &mut R,
     writer: &mut W,
 ) -> Result<u8, RunFault>
-    ensures { IsRun (Ok session.state) (R.value reader.old) (R.value reader.new)
-        (W.value writer.old) (W.value writer.new) result }
+    ensures { IsRunShown (P.shown printing.now) (Ok session.state)
+        (R.value reader.old) (R.value reader.new) (W.value writer.old) (W.value writer.new) result }
 {
     let mut buffer = piece_buffer(alloc)?;
     let mut out = Vec::new(alloc);
-    let mut editing = write_first_answer(alloc, session, &mut out, writer)?;
-    feed_all(&mut editing, &mut buffer, reader, &mut out, writer)?;
-    write_last_answer(&mut editing, &mut out, writer)?;
+    let mut editing = write_first_answer(alloc, printing, session, &mut out, writer)?;
+    feed_all(
+        printing,
+        &mut editing,
+        &mut buffer,
+        reader,
+        &mut out,
+        writer,
+    )?;
+    write_last_answer(printing, &mut editing, &mut out, writer)?;
     let status = editing.status();
     if leaves {
         mem::forget(editing);
@@ -244,12 +263,17 @@ fn edit_all<R: Source, W: Sink>(
 }
 
 /// Writes the refusal of a lock or an environment.
-fn write_refusal<W: Sink>(alloc: Global, error: &OpenError, writer: &mut W) -> Result<u8, RunFault>
-    ensures { Prints (report_on (Err error.now) [])
+fn write_refusal<P: Printing, W: Sink>(
+    alloc: Global,
+    printing: &P,
+    error: &OpenError,
+    writer: &mut W,
+) -> Result<u8, RunFault>
+    ensures { Prints (report_on (P.shown printing.now) (Err error.now) [])
         (W.value writer.old) (W.value writer.new) result }
 {
     let mut out = Vec::new(alloc);
-    push_refusal(&mut out, error)?;
+    printing.push_refusal(&mut out, error)?;
     print(&out, 2, writer)
 }
 
@@ -272,14 +296,15 @@ pub fn run<R: Source, W: Sink>(
     ensures { IsRun (open_state lock.now env.now) (R.value reader.old) (R.value reader.new)
         (W.value writer.old) (W.value writer.new) result }
 {
-    run_opened(alloc, open(alloc, lock, env), false, reader, writer)
+    run_opened(alloc, &Lines, open(alloc, lock, env), false, reader, writer)
 }
 
-/// A run on a session that was opened, or on the refusal of its lock or of its environment. It
-/// frees the session at its end; or, for a program that ends then, leaves the session's memory to
-/// the system, which takes all of it at once.
-pub fn run_opened<R: Source, W: Sink>(
+/// A run on a session that was opened, or on the refusal of its lock or of its environment, which
+/// prints as `printing` does. It frees the session at its end; or, for a program that ends then,
+/// leaves the session's memory to the system, which takes all of it at once.
+pub fn run_opened<P: Printing, R: Source, W: Sink>(
     alloc: Global,
+    printing: &P,
     opened: Result<Session, OpenError>,
     leaves: bool,
     reader: &mut R,
@@ -287,12 +312,12 @@ pub fn run_opened<R: Source, W: Sink>(
 ) -> Result<u8, RunFault>
     ensures { (begins : Result State Unopened)
         → Gives Memory (λ session. session.state) opened begins
-        → IsRun begins (R.value reader.old) (R.value reader.new)
+        → IsRunShown (P.shown printing.now) begins (R.value reader.old) (R.value reader.new)
         (W.value writer.old) (W.value writer.new) result }
 {
     match opened {
-        Ok(session) => edit_all(alloc, session, leaves, reader, writer),
+        Ok(session) => edit_all(alloc, printing, session, leaves, reader, writer),
         Err(OpenError::Memory) => Err(RunFault::Memory),
-        Err(refusal) => write_refusal(alloc, &refusal, writer),
+        Err(refusal) => write_refusal(alloc, printing, &refusal, writer),
     }
 }

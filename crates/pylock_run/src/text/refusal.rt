@@ -4,7 +4,7 @@ ghost use Rattle.std.specs.Prelude.{◌≡◌, ◌++◌, OnOk};
 ghost use Rattle.pylock_run.specs.Text.Field.{fields_text};
 ghost use Rattle.pylock_run.specs.Text.Refusal.{head_word, key_word, entry_word, lock_words};
 ghost use Rattle.pylock_run.specs.Text.Refusal.{lock_text, environment_words, environment_text};
-ghost use Rattle.pylock_run.specs.Text.Refusal.{line_refusal_text, refusal_text};
+ghost use Rattle.pylock_run.specs.Text.Refusal.{line_refusal_text, line_word, refusal_text, side_text};
 
 use crate::line::refusal::LineRefusal;
 use crate::report::opening::OpenError;
@@ -20,25 +20,31 @@ pub fn push_line_refusal(
 ) -> Result<(), AllocError>
     ensures { OnOk result (out.new.items ≡ out.old.items ++ line_refusal_text number refusal) }
 {
-    let word: &[u8] = match refusal {
-        LineRefusal::Long => b"long",
-        LineRefusal::Text => b"text",
-        LineRefusal::Command => b"command",
-        LineRefusal::Argument => b"argument",
-        LineRefusal::Variable => b"variable",
-        LineRefusal::Extra => b"extra",
-        LineRefusal::Group => b"group",
-        LineRefusal::Tag => b"tag",
-        LineRefusal::Toml => b"toml",
-        LineRefusal::Entry => b"entry",
-        LineRefusal::TooMany => b"too-many",
-        LineRefusal::NoEntry => b"no-entry",
-        LineRefusal::Name => b"name",
-        LineRefusal::Memory => b"memory",
-    };
     out.extend_from_slice(b"refused ")?;
     push_decimal(out, number)?;
-    push_last_word(out, word)
+    push_last_word(out, line_word(refusal).as_bytes())
+}
+
+/// The word of a line's refusal.
+pub fn line_word(refusal: LineRefusal) -> &'static str
+    ensures { result.now ≡ line_word refusal }
+{
+    match refusal {
+        LineRefusal::Long => "long",
+        LineRefusal::Text => "text",
+        LineRefusal::Command => "command",
+        LineRefusal::Argument => "argument",
+        LineRefusal::Variable => "variable",
+        LineRefusal::Extra => "extra",
+        LineRefusal::Group => "group",
+        LineRefusal::Tag => "tag",
+        LineRefusal::Toml => "toml",
+        LineRefusal::Entry => "entry",
+        LineRefusal::TooMany => "too-many",
+        LineRefusal::NoEntry => "no-entry",
+        LineRefusal::Name => "name",
+        LineRefusal::Memory => "memory",
+    }
 }
 
 /// Pushes the line of a refused lock or environment. Out of memory prints nothing.
@@ -57,6 +63,17 @@ pub fn push_lock_error(out: &mut Vec<u8>, error: &LockError) -> Result<(), Alloc
     ensures { OnOk result (out.new.items ≡ out.old.items ++ lock_text error.now) }
 {
     out.extend_from_slice(b"lock")?;
+    push_lock_words(out, error)?;
+    out.push(b'\n')?;
+    Ok(())
+}
+
+/// Pushes the line of a refused lock that is one of two: `side` tells which it is.
+pub fn push_side_error(out: &mut Vec<u8>, side: &str, error: &LockError) -> Result<(), AllocError>
+    ensures { OnOk result (out.new.items ≡ out.old.items ++ side_text side.now error.now) }
+{
+    out.extend_from_slice(b"lock")?;
+    push_word(out, side.as_bytes())?;
     push_lock_words(out, error)?;
     out.push(b'\n')?;
     Ok(())
@@ -106,6 +123,8 @@ fn push_environment_words(out: &mut Vec<u8>, error: &EnvError) -> Result<(), All
             out.extend_from_slice(b"\ttag\t")?;
             push_decimal(out, *position as u64)
         }
+        EnvError::Python => push_word(out, b"python"),
+        EnvError::Platform => push_word(out, b"platform"),
         EnvError::Memory => push_word(out, b"memory"),
     }
 }

@@ -1,16 +1,18 @@
 //! Edits of the environment: of a variable, an extra or a group.
 
-ghost use Rattle.std.specs.Prelude.{◌≡◌, ◌++◌, Ok, Err, IfErr, OnErr, OnOk, ◌||◌, true, false};
-ghost use Rattle.std.specs.Prelude.{unwrap_or};
+ghost use Rattle.std.specs.Prelude.{◌≡◌, ◌++◌, Ok, Err, IfErr, IfOk, OnErr, OnOk, ◌||◌, true};
+ghost use Rattle.std.specs.Prelude.{false, unwrap_or};
 ghost use Rattle.pymark_core.specs.Change.{changed};
 ghost use Rattle.pylock_core.specs.Inner.Editing.{DifferAt, Leaves};
 ghost use Rattle.pylock_core.specs.Inner.Parts.{IsSession, shown, state_of};
 ghost use Rattle.pylock_core.specs.Session.Judgement.{Marked, readers};
-ghost use Rattle.pylock_core.specs.Session.State.{apply, in_environment, is_among};
+ghost use Rattle.pylock_core.specs.Session.Names.{after_names, name_change, names_key};
+ghost use Rattle.pylock_core.specs.Session.State.{State, apply, in_environment, is_among};
 ghost use Rattle.pylock_core.specs.declared.edit.Edit.TheVariants as edit;
+ghost use Rattle.pylock_core.specs.declared.edit.EditError.TheVariants.{Memory};
 ghost use Rattle.pylock_core.specs.declared.edit.EditError.TheVariants.{UnknownExtra, UnknownGroup};
 
-use crate::edit::EditError;
+use crate::edit::{EditError, NameChange};
 use crate::session::judging::judgement::judge_key;
 use crate::session::judging::verdict::HeadVerdict;
 use crate::session::parts::Parts;
@@ -115,5 +117,73 @@ pub(crate) fn edit_environment(
     let mut next = parts.environment.copy()?;
     next.apply(change)?;
     change_environment(parts, next, key, judged)?;
+    Ok(())
+}
+
+/// Changes a copy of the environment for one more name, where the lock has it.
+fn change_name(
+    head: &Head,
+    environment: &mut Environment,
+    change: NameChange,
+    name: NormalName,
+) -> Result<(), EditError>
+    ensures ok { OnOk result ((state : State) → state.head ≡ head.now
+        → state.environment ≡ environment.old
+        → apply (edit.Environment (name_change change name)) state
+        ≡ Ok (in_environment environment.new state)) }
+    ensures refused { IfErr result (λ error. (error ≡ Memory → ⊥) → (state : State)
+        → state.head ≡ head.now
+        → apply (edit.Environment (name_change change name)) state ≡ Err error) }
+    ensures differ { OnOk result
+        (DifferAt (names_key change) environment.old environment.new) }
+{
+    match change {
+        NameChange::AddExtra | NameChange::DropExtra => check_extra(head, &name)?,
+        NameChange::AddGroup | NameChange::DropGroup => check_group(head, &name)?,
+    }
+    environment.apply(change.of(name))?;
+    Ok(())
+}
+
+/// The environment after the changes for these names, which shares all that doesn't change.
+fn changed_names(
+    parts: &Parts,
+    change: NameChange,
+    names: Vec<NormalName>,
+) -> Result<Environment, EditError>
+    ensures ok { IfOk result (λ next. after_names change names.items (state_of parts.now)
+        ≡ Ok (in_environment next (state_of parts.now))) }
+    ensures refused { IfErr result (λ error. (error ≡ Memory → ⊥)
+        → after_names change names.items (state_of parts.now) ≡ Err error) }
+    ensures differ { IfOk result (λ next.
+        DifferAt (names_key change) parts.now.environment next) }
+{
+    let mut next = parts.environment.copy()?;
+    for name in names {
+        change_name(&parts.head, &mut next, change, name)?;
+    }
+    Ok(next)
+}
+
+/// Changes the environment for all of these names, where the lock has each of them. What reads
+/// extras, or groups, is judged once. Where one is refused, all that is shown stays.
+pub(crate) fn edit_names(
+    parts: &mut Parts,
+    change: NameChange,
+    names: Vec<NormalName>,
+    judged: &mut Judged,
+) -> Result<(), EditError>
+    requires { IsSession parts.old }
+    ensures session { IsSession parts.new }
+    ensures ok { OnOk result
+        (after_names change names.items (state_of parts.old) ≡ Ok (state_of parts.new)) }
+    ensures judged { OnOk result (judged.new
+        ≡ judged.old ++ readers (Marked (names_key change)) (state_of parts.old)) }
+    ensures refused { IfErr result (λ error. (error ≡ Memory → ⊥)
+        → after_names change names.items (state_of parts.old) ≡ Err error) }
+    ensures kept { OnErr result (shown parts.new ≡ shown parts.old) }
+{
+    let next = changed_names(parts, change, names)?;
+    change_environment(parts, next, change.key(), judged)?;
     Ok(())
 }

@@ -4,13 +4,22 @@ pub returns-in-Select : goal.returns-in-Select
 returns-in-Select g c = rw c.in-Select.is c.run_select.ensures
 
 pub returns-in-Marker : goal.returns-in-Marker
-returns-in-Marker g c = rw c.in-Marker.is (c.judge_marker.ensures (g.R.Source.value c.args.reader.now))
+returns-in-Marker g c = rw c.in-Marker.is c.judge_marker.ensures
 
 pub returns-in-Files : goal.returns-in-Files
-returns-in-Files g c = rw c.in-Files.is (c.list_files.ensures (g.R.Source.value c.args.reader.now))
+returns-in-Files g c = rw c.in-Files.is c.list_files.ensures
 
 pub returns-in-Show : goal.returns-in-Show
-returns-in-Show g c = rw c.in-Show.is (c.show_files.ensures (g.R.Source.value c.args.reader.now))
+returns-in-Show g c = rw c.in-Show.is c.show_files.ensures
 
 pub returns-in-Audit : goal.returns-in-Audit
-returns-in-Audit g c = rw c.in-Audit.is (c.audit_lock.ensures (g.R.Source.value c.args.reader.now))
+returns-in-Audit g c = rw c.in-Audit.is c.audit_lock.ensures
+
+pub returns-in-ExportPlan : goal.returns-in-ExportPlan
+returns-in-ExportPlan g c = rw c.in-ExportPlan.is c.export_plan.ensures
+
+pub returns-in-ExportFiles : goal.returns-in-ExportFiles
+returns-in-ExportFiles g c = rw c.in-ExportFiles.is c.export_files.ensures
+
+pub returns-in-Diff : goal.returns-in-Diff
+returns-in-Diff g c = rw c.in-Diff.is c.compare_locks.ensures

@@ -10,4 +10,4 @@ returns-in_err-count-clause-fault g c =
 pub returns-in_err-flush-clause-prefix : goal.returns-in_err-flush-clause-prefix
 returns-in_err-flush-clause-prefix g c =
     on_err c.from_residual-in_err-flush.result
-    (piece_prefix _ _ c.args.editing.now c.args.bytes.now c.args.out.now.items _ c.in_ok-count.count c.in_ok-count.ensures.text c.in_err-flush.ensures.prefix)
+    (piece_prefix (g.P.Printing.shown c.args.printing.now) _ _ c.args.editing.now c.args.bytes.now c.args.out.now.items _ c.in_ok-count.count c.in_ok-count.ensures.text c.in_err-flush.ensures.prefix)

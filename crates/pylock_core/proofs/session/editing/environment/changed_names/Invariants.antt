@@ -1,0 +1,14 @@
+use Rattle.std.proofs.Common.{◌≡◌}
+use Rattle.pylock_core.specs.Inner.Editing.{DifferAt}
+use Rattle.pylock_core.specs.Inner.Parts.{state_of}
+use Rattle.pylock_core.specs.Session.Names.{after_names, names_key}
+use Rattle.pylock_core.specs.Session.State.{in_environment}
+use Rattle.pylock_core.proofs.session.editing.environment.changed_names.Given as goal
+
+-- the names that are left lead on from the environment so far
+abbrev pub invariant-loop-name : goal.invariant-loop-name
+invariant-loop-name l = record {
+  leads : after_names l.change l.fn.names.items (state_of l.parts)
+      ≡ after_names l.change l.name-iterator.rest.items (in_environment l.next (state_of l.parts));
+  differ : DifferAt (names_key l.change) l.parts.environment l.next;
+}

@@ -1,0 +1,160 @@
+-- What came from OLD to NEW went from NEW to OLD.
+use Rattle.std.proofs.Common.{◌≡◌, ◌∙◌, ◌++◌, ◌&&◌, ℕ, Bool, true, false, cond, not, List, [], ◌∷◌, map, Option, None, Some, codes, refl, sym, ap}
+use Rattle.std.proofs.lemmas.List.{map-append}
+use Rattle.std.specs.List.{flat_map}
+use Rattle.pylock_readers.specs.Lock.{HeadValue, LockValue}
+use Rattle.pylock_diff.specs.Change.{ChangeValue, change_of, comes_or_goes, coming_and_going, told_where, turned}
+use Rattle.pylock_diff.specs.Changes.{changes_of_both, item_changes, lock_changes, name_changes}
+use Rattle.pylock_diff.specs.Conditions.{condition_changes, conditions, conditions_text}
+use Rattle.pylock_diff.specs.Files.{archive_hash_changes, archives_of, file_hash_changes, files_of, hash_changes, hashed_archives, hashed_files, if_both, paths_of, place_change, place_changes, places_text, urls_of}
+use Rattle.pylock_diff.specs.Hashes.{Hashed, are_same_sets, hash_text, hashed_changes, value_changes}
+use Rattle.pylock_diff.specs.Head.{head_changes, list_changes, set_changes, environments_of, pythons_of}
+use Rattle.pylock_diff.specs.Item.{ItemValue, entry_items}
+use Rattle.pylock_diff.specs.Rows.{Row, in_order, names_of, under_each, values_at}
+use Rattle.pylock_diff.specs.Sources.{file_changes, lone_sources, source_text}
+use Rattle.pylock_diff.specs.Texts.{all_there, are_alike, joined_if_any}
+use Rattle.pylock_diff.specs.Versions.{version_changes, version_keys, versions_text}
+use Rattle.pylock_diff.specs.declared.change.ChangeKind.TheVariants.{Condition, File, Hash, Head, Place, Version}
+use Rattle.pylock_diff.proofs.ChangeLemmas.{nothing}
+use Rattle.pylock_diff.proofs.OrderLemmas.{in_order-swap}
+
+taken : (b : Bool) (c : ChangeValue) (cs ds : List ChangeValue) → cond b (c ∷ cs ++ ds) (cs ++ ds) ≡ cond b (c ∷ cs) cs ++ ds
+taken true c cs ds = refl
+taken false c cs ds = refl
+
+of_joined : (cs ds : List ChangeValue) → coming_and_going (cs ++ ds) ≡ coming_and_going cs ++ coming_and_going ds
+of_joined [] ds = refl
+of_joined (c ∷ cs) ds =
+    ap (λ rest. cond (comes_or_goes c.kind) (c ∷ rest) rest) (of_joined cs ds)
+    ∙ taken (comes_or_goes c.kind) c (coming_and_going cs) (coming_and_going ds)
+
+of_each : {X : Type 0} (f : X → List ChangeValue) (xs : List X) → coming_and_going (flat_map f xs) ≡ flat_map (λ x. coming_and_going (f x)) xs
+of_each f [] = refl
+of_each f (x ∷ xs) = of_joined (f x) (flat_map f xs) ∙ ap (λ rest. coming_and_going (f x) ++ rest) (of_each f xs)
+
+-- ---- what tells of nothing that came or went
+
+abbrev Silent : List ChangeValue → Type 0
+Silent changes = coming_and_going changes ≡ []
+
+where_silent : (b : Bool) (c : ChangeValue) → comes_or_goes c.kind ≡ false → Silent (told_where b c)
+where_silent true c is = ap (λ b. cond b (c ∷ []) []) is
+where_silent false c is = refl
+
+joined_silent : (cs ds : List ChangeValue) → Silent cs → Silent ds → Silent (cs ++ ds)
+joined_silent cs ds one other = of_joined cs ds ∙ (λ i. one i ++ other i)
+
+each_silent : {X : Type 0} (f : X → List ChangeValue) → ((x : X) → Silent (f x)) → (xs : List X) → Silent (flat_map f xs)
+each_silent f silent xs = of_each f xs ∙ nothing (λ x. coming_and_going (f x)) silent xs
+
+under_silent : {V : Type 0} (told : List ℕ → List V → List V → List ChangeValue) → ((name : List ℕ) (olds news : List V) → Silent (told name olds news))
+    → (olds news : List (Row V)) → Silent (under_each told olds news)
+under_silent told silent olds news =
+    each_silent (λ name. told name (values_at name olds) (values_at name news)) (λ name. silent name _ _) (in_order (names_of olds ++ names_of news))
+
+map_silent : {X : Type 0} (f : X → ChangeValue) → ((x : X) → comes_or_goes (f x).kind ≡ false) → (xs : List X) → Silent (map f xs)
+map_silent f silent [] = refl
+map_silent f silent (x ∷ xs) = ap (λ b. cond b (f x ∷ coming_and_going (map f xs)) (coming_and_going (map f xs))) (silent x) ∙ map_silent f silent xs
+
+both_silent : {V : Type 0} (told : List V → List V → List ChangeValue) → ((olds news : List V) → Silent (told olds news)) → (olds news : List V) → Silent (if_both told olds news)
+both_silent told silent [] news = refl
+both_silent told silent (old ∷ olds) [] = refl
+both_silent told silent (old ∷ olds) (new ∷ news) = silent (old ∷ olds) (new ∷ news)
+
+hashed_silent : (name : List ℕ) (old new : Hashed) → Silent (hashed_changes name old new)
+hashed_silent name old new =
+    under_silent (value_changes name old.label new.label) (λ algorithm olds news.
+    where_silent (not (are_same_sets olds news)) (change_of Hash name (Some (hash_text old.label algorithm (in_order olds))) (Some (hash_text new.label algorithm (in_order news)))) refl) old.hashes new.hashes
+
+hash_silent : (name : List ℕ) (olds news : List ItemValue) → Silent (hash_changes name olds news)
+hash_silent name olds news =
+    joined_silent (under_each (λ file. file_hash_changes name) (files_of olds) (files_of news))
+    (under_each (λ place. archive_hash_changes name) (archives_of olds) (archives_of news))
+    (under_silent (λ file. file_hash_changes name) (λ file. both_silent (λ olds news. hashed_changes name (hashed_files olds) (hashed_files news)) (λ olds news. hashed_silent name (hashed_files olds) (hashed_files news))) (files_of olds) (files_of news))
+    (under_silent (λ place. archive_hash_changes name) (λ place. both_silent (λ olds news. hashed_changes name (hashed_archives olds) (hashed_archives news)) (λ olds news. hashed_silent name (hashed_archives olds) (hashed_archives news))) (archives_of olds) (archives_of news))
+
+file_silent : (name : List ℕ) (olds news : List ItemValue) → Silent (file_changes name olds news)
+file_silent name olds news =
+    joined_silent (map (λ source. change_of File name (Some (source_text source)) None) (lone_sources olds news))
+    (map (λ source. change_of File name None (Some (source_text source))) (lone_sources news olds))
+    (map_silent (λ source. change_of File name (Some (source_text source)) None) (λ source. refl) (lone_sources olds news))
+    (map_silent (λ source. change_of File name None (Some (source_text source))) (λ source. refl) (lone_sources news olds))
+
+place_silent : (name : List ℕ) (olds news : List ItemValue) → Silent (place_changes name olds news)
+place_silent name olds news =
+    under_silent (λ file. if_both (place_change name)) (λ file. both_silent (place_change name) (λ olds news.
+    where_silent (not (are_same_sets (urls_of olds) (urls_of news) && are_same_sets (paths_of olds) (paths_of news)))
+    (change_of Place name (Some (places_text olds)) (Some (places_text news))) refl)) (files_of olds) (files_of news)
+
+version_silent : (name : List ℕ) (olds news : List ItemValue) → Silent (version_changes name olds news)
+version_silent name olds news =
+    where_silent (not (are_alike (version_keys olds) (version_keys news))) (change_of Version name (Some (versions_text olds)) (Some (versions_text news))) refl
+
+condition_silent : (name : List ℕ) (olds news : List ItemValue) → Silent (condition_changes name olds news)
+condition_silent name olds news =
+    where_silent (not (are_alike (conditions olds) (conditions news))) (change_of Condition name (Some (conditions_text olds)) (Some (conditions_text news))) refl
+
+of_both_silent : (name : List ℕ) (olds news : List ItemValue) → Silent (changes_of_both name olds news)
+of_both_silent name olds news =
+    let v = version_changes name olds news in
+    let h = hash_changes name olds news in
+    let f = file_changes name olds news in
+    let p = place_changes name olds news in
+    let o = condition_changes name olds news in
+    joined_silent (v ++ h ++ f ++ p) o
+    (joined_silent (v ++ h ++ f) p
+    (joined_silent (v ++ h) f
+    (joined_silent v h (version_silent name olds news) (hash_silent name olds news))
+    (file_silent name olds news))
+    (place_silent name olds news))
+    (condition_silent name olds news)
+
+list_silent : (key : List ℕ) (olds news : List (List ℕ)) → Silent (list_changes key olds news)
+list_silent key olds news =
+    where_silent (not (are_alike (all_there olds) (all_there news))) (change_of Head key (joined_if_any (codes ",") olds) (joined_if_any (codes ",") news)) refl
+
+set_silent : (key : List ℕ) (old new : Option (List ℕ)) → Silent (set_changes key old new)
+set_silent key old new = where_silent (not (are_alike (old ∷ []) (new ∷ []))) (change_of Head key old new) refl
+
+head_silent : (old new : HeadValue) → Silent (head_changes old new)
+head_silent old new =
+    let a = set_changes (codes "requires-python") (pythons_of old) (pythons_of new) in
+    let b = list_changes (codes "environments") (environments_of old) (environments_of new) in
+    let c = list_changes (codes "extras") old.extras new.extras in
+    let d = list_changes (codes "dependency-groups") old.groups new.groups in
+    let e = list_changes (codes "default-groups") old.default_groups new.default_groups in
+    joined_silent (a ++ b ++ c ++ d) e
+    (joined_silent (a ++ b ++ c) d
+    (joined_silent (a ++ b) c
+    (joined_silent a b (set_silent (codes "requires-python") (pythons_of old) (pythons_of new)) (list_silent (codes "environments") (environments_of old) (environments_of new)))
+    (list_silent (codes "extras") old.extras new.extras))
+    (list_silent (codes "dependency-groups") old.groups new.groups))
+    (list_silent (codes "default-groups") old.default_groups new.default_groups)
+
+-- ---- what tells of it
+
+name_turned : (name : List ℕ) (olds news : List ItemValue) → coming_and_going (name_changes name news olds) ≡ map turned (coming_and_going (name_changes name olds news))
+name_turned name [] [] = refl
+name_turned name [] (new ∷ news) = refl
+name_turned name (old ∷ olds) [] = refl
+name_turned name (old ∷ olds) (new ∷ news) = of_both_silent name (new ∷ news) (old ∷ olds) ∙ ap (map turned) (sym (of_both_silent name (old ∷ olds) (new ∷ news)))
+
+map_each : {X Y Z : Type 0} (g : Y → Z) (f : X → List Y) (xs : List X) → flat_map (λ x. map g (f x)) xs ≡ map g (flat_map f xs)
+map_each g f [] = refl
+map_each g f (x ∷ xs) = ap (λ rest. map g (f x) ++ rest) (map_each g f xs) ∙ sym (map-append g (f x) (flat_map f xs))
+
+items_turned : (olds news : List (Row ItemValue)) → coming_and_going (item_changes news olds) ≡ map turned (coming_and_going (item_changes olds news))
+items_turned olds news =
+    of_each (λ name. name_changes name (values_at name news) (values_at name olds)) (in_order (names_of news ++ names_of olds))
+    ∙ (λ i. flat_map (λ name. name_turned name (values_at name olds) (values_at name news) i) (in_order-swap (names_of news) (names_of olds) i))
+    ∙ map_each turned (λ name. coming_and_going (name_changes name (values_at name olds) (values_at name news))) (in_order (names_of olds ++ names_of news))
+    ∙ ap (map turned) (sym (of_each (λ name. name_changes name (values_at name olds) (values_at name news)) (in_order (names_of olds ++ names_of news))))
+
+pub lock_turned : (old new : LockValue) → coming_and_going (lock_changes new old) ≡ map turned (coming_and_going (lock_changes old new))
+lock_turned old new =
+    let olds = entry_items old.entries in
+    let news = entry_items new.entries in
+    of_joined (head_changes new.head old.head) (item_changes news olds)
+    ∙ ap (λ rest. rest ++ coming_and_going (item_changes news olds)) (head_silent new.head old.head)
+    ∙ items_turned olds news
+    ∙ ap (map turned) (ap (λ rest. rest ++ coming_and_going (item_changes olds news)) (sym (head_silent old.head new.head)) ∙ sym (of_joined (head_changes old.head new.head) (item_changes olds news)))

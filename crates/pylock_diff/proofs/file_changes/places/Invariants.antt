@@ -1,0 +1,7 @@
+use Rattle.std.proofs.Common.{◌≡◌, map, string_bytes, take}
+use Rattle.pylock_audit.specs.Url.{shown_place}
+use Rattle.pylock_diff.specs.Inner.Lent.{lent_files}
+use Rattle.pylock_diff.proofs.file_changes.places.Given as goal
+
+abbrev pub invariant-loop-file : goal.invariant-loop-file
+invariant-loop-file l = map string_bytes l.list.items ≡ map (λ file. shown_place file.location) (lent_files (take l.file-index l.files))

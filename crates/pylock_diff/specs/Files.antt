@@ -1,0 +1,119 @@
+-- The files of a name: wheels and sdists by their file names, and archives by their places. A file
+-- whose bytes changed under its name is what an auditor looks for, so it is told whatever else
+-- changed.
+use Rattle.std.specs.Prelude.{ℕ, not, ◌&&◌, ◌++◌, List, [], ◌∷◌, codes, map, Option}
+use Rattle.std.specs.Prelude.{Some}
+use Rattle.std.specs.List.{flat_map}
+use Rattle.std.specs.Option.{option_map_or}
+use Rattle.pylock_readers.specs.Entry.{ArchiveValue, FileValue, file_name, place_of}
+use Rattle.pylock_core.specs.Session.Picks.{SourceValue, OfVcs, OfDirectory, OfArchive, OfWheel}
+use Rattle.pylock_core.specs.Session.Picks.{OfSdist}
+use Rattle.pylock_audit.specs.Source.{file_label}
+use Rattle.pylock_audit.specs.Url.{shown_place}
+use Rattle.pylock_diff.specs.Change.{ChangeValue, change_of, told_where}
+use Rattle.pylock_diff.specs.Hashes.{Hashed, are_same_sets, hashed_changes}
+use Rattle.pylock_diff.specs.Item.{ItemValue}
+use Rattle.pylock_diff.specs.Rows.{Row, in_order, under_each}
+use Rattle.pylock_diff.specs.Texts.{joined}
+use Rattle.pylock_diff.specs.declared.change.ChangeKind.TheVariants.{Place}
+
+-- ---- what a name has
+
+-- a file under its file name, if it has one
+abbrev pub named_file : FileValue → List (Row FileValue)
+named_file file = option_map_or (λ name. (name, file) ∷ []) (file_name file) []
+
+abbrev pub file_in : SourceValue → List (Row FileValue)
+file_in (OfVcs vcs) = []
+file_in (OfDirectory directory) = []
+file_in (OfArchive archive) = []
+file_in (OfWheel file) = named_file file
+file_in (OfSdist file) = named_file file
+
+-- the wheels and sdists of a name, each under its file name
+abbrev pub files_of : List ItemValue → List (Row FileValue)
+files_of items = flat_map (λ item. flat_map file_in item.sources) items
+
+abbrev pub archive_in : SourceValue → List (Row ArchiveValue)
+archive_in (OfVcs vcs) = []
+archive_in (OfDirectory directory) = []
+archive_in (OfArchive archive) = (place_of archive.location, archive) ∷ []
+archive_in (OfWheel file) = []
+archive_in (OfSdist file) = []
+
+-- the archives of a name, each under its place
+abbrev pub archives_of : List ItemValue → List (Row ArchiveValue)
+archives_of items = flat_map (λ item. flat_map archive_in item.sources) items
+
+-- ---- hashes
+
+-- how files of one name are shown, credentials hidden as in `audit`: as the first of them
+abbrev pub files_label : List FileValue → List ℕ
+files_label [] = []
+files_label (file ∷ files) = file_label file
+
+abbrev pub hashed_files : List FileValue → Hashed
+hashed_files files = record {
+  label = files_label files;
+  hashes = flat_map (λ file. file.hashes) files;
+}
+
+-- archives of one place
+abbrev pub archives_label : List ArchiveValue → List ℕ
+archives_label [] = []
+archives_label (archive ∷ archives) = shown_place archive.location
+
+abbrev pub hashed_archives : List ArchiveValue → Hashed
+hashed_archives archives = record {
+  label = archives_label archives;
+  hashes = flat_map (λ archive. archive.hashes) archives;
+}
+
+-- what is told of what stands in both locks
+abbrev pub if_both : {V C : Type 0} → (List V → List V → List C) → (olds news : List V) → List C
+if_both told [] news = []
+if_both told (old ∷ olds) [] = []
+if_both told (old ∷ olds) (new ∷ news) = told (old ∷ olds) (new ∷ news)
+
+abbrev pub file_hash_changes : List ℕ → (olds news : List FileValue) → List ChangeValue
+file_hash_changes name =
+    if_both (λ olds news. hashed_changes name (hashed_files olds) (hashed_files news))
+
+abbrev pub archive_hash_changes : List ℕ → (olds news : List ArchiveValue) → List ChangeValue
+archive_hash_changes name =
+    if_both (λ olds news. hashed_changes name (hashed_archives olds) (hashed_archives news))
+
+-- the hashes of files by file name, and then of archives by place
+abbrev pub hash_changes : List ℕ → (olds news : List ItemValue) → List ChangeValue
+hash_changes name olds news =
+    under_each (λ file. file_hash_changes name) (files_of olds) (files_of news)
+    ++ under_each (λ place. archive_hash_changes name) (archives_of olds) (archives_of news)
+
+-- ---- places
+
+-- a text, if it is there
+abbrev pub if_there : Option (List ℕ) → List (List ℕ)
+if_there text = option_map_or (λ text. text ∷ []) text []
+
+abbrev pub urls_of : List FileValue → List (List ℕ)
+urls_of files = flat_map (λ file. if_there file.location.url) files
+
+abbrev pub paths_of : List FileValue → List (List ℕ)
+paths_of files = flat_map (λ file. if_there file.location.path) files
+
+-- the places of files of one name, credentials hidden as in `audit`
+abbrev pub places_text : List FileValue → List ℕ
+places_text files =
+    joined (codes ",") (in_order (map (λ file. shown_place file.location) files))
+
+-- the files of a name have other URLs, or other paths
+abbrev pub place_change : List ℕ → (olds news : List FileValue) → List ChangeValue
+place_change name olds news =
+    told_where
+    (not (are_same_sets (urls_of olds) (urls_of news)
+    && are_same_sets (paths_of olds) (paths_of news)))
+    (change_of Place name (Some (places_text olds)) (Some (places_text news)))
+
+abbrev pub place_changes : List ℕ → (olds news : List ItemValue) → List ChangeValue
+place_changes name olds news =
+    under_each (λ file. if_both (place_change name)) (files_of olds) (files_of news)

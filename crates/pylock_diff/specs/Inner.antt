@@ -1,0 +1,3 @@
+-- What contracts cite inside the crate alone.
+pub mod Lent
+pub mod Others

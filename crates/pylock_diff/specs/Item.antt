@@ -1,0 +1,53 @@
+-- What is compared: the entries of a lock, or the picks of a plan (PEP 751, `packages`). Of a pick
+-- its own source counts, and no marker and no set of Pythons, which the plan has judged.
+use Rattle.std.specs.Prelude.{ℕ, List, [], ◌∷◌, map, Option, None, option_map}
+use Rattle.std.specs.List.{flat_map}
+use Rattle.std.specs.Option.{option_map_or}
+use Rattle.pyver_core.specs.Set.Normal.{set_text}
+use Rattle.pylock_readers.specs.Entry.{EntryValue}
+use Rattle.pylock_core.specs.Session.Picks.{SourceValue, source_in, sources}
+use Rattle.pylock_core.specs.Session.State.{State, entry_at}
+use Rattle.pylock_core.specs.declared.answer.Pick.{Pick}
+use Rattle.pylock_diff.specs.Rows.{Row}
+
+-- a marker's text has no white space round it, and a set stands for its normal text
+pub record ItemValue : Type 0 where
+  pub version : Option (List ℕ)
+  pub marker : Option (List ℕ)
+  pub pythons : Option (List ℕ)
+  pub sources : List SourceValue
+
+abbrev pub entry_item : EntryValue → Row ItemValue
+entry_item entry = (
+  entry.name,
+  record {
+    version = entry.version;
+    marker = option_map (λ marker. marker.text) entry.marker;
+    pythons = option_map set_text entry.requires_python;
+    sources = map (λ named. named.1) (sources entry);
+  },
+)
+
+abbrev pub entry_items : List EntryValue → List (Row ItemValue)
+entry_items entries = map entry_item entries
+
+abbrev pub picked_item : EntryValue → SourceValue → Row ItemValue
+picked_item entry source = (
+  entry.name,
+  record {
+    version = entry.version;
+    marker = None;
+    pythons = None;
+    sources = source ∷ [];
+  },
+)
+
+-- a pick's number is that of an entry that has its source, so it is there
+abbrev pub pick_item : State → Pick → List (Row ItemValue)
+pick_item state pick =
+    option_map_or
+    (λ entry. option_map_or (λ source. picked_item entry source ∷ []) (source_in entry pick.source)
+    []) (entry_at pick.id state.entries) []
+
+abbrev pub pick_items : State → List Pick → List (Row ItemValue)
+pick_items state picks = flat_map (pick_item state) picks

@@ -1,0 +1,15 @@
+pub mod Change
+pub mod Changes
+pub mod Conditions
+pub mod Document
+pub mod Files
+pub mod Hashes
+pub mod Head
+pub mod Inner
+pub mod Item
+pub mod Rows
+pub mod Same
+pub mod Sources
+pub mod Texts
+pub mod TextsOrder
+pub mod Versions

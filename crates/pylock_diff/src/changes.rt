@@ -1,0 +1,99 @@
+//! The changes of two locks, of two plans, and of two answers.
+
+ghost use Rattle.std.specs.Prelude.{◌≡◌, ◌∷◌, [], IfOk, option_map, string_bytes};
+ghost use Rattle.pylock_core.specs.Session.Steps.{answer};
+ghost use Rattle.pylock_diff.specs.Changes.{answer_changes, fault_change, fault_text, item_changes};
+ghost use Rattle.pylock_diff.specs.Changes.{lock_changes};
+ghost use Rattle.pylock_diff.specs.Item.{pick_items};
+
+use crate::change::{Change, ChangeKind};
+use crate::head::push_head;
+use crate::item::{entry_items, pick_items};
+use crate::names::push_items;
+use pylock_core::{Answer, Lock, Pick, Session, fault_word};
+use std::alloc::{AllocError, Global};
+
+/// What changed from one lock to another: first keys of the head, then of each name, in order of
+/// code point, what changed of its entries.
+pub fn lock_changes(alloc: Global, old: &Lock, new: &Lock) -> Result<Vec<Change>, AllocError>
+    ensures { IfOk result (λ changes. changes.items ≡ lock_changes old.now new.now) }
+{
+    let mut changes = Vec::new(alloc);
+    push_head(alloc, &mut changes, old, new)?;
+    let olds = entry_items(alloc, old.entries())?;
+    let news = entry_items(alloc, new.entries())?;
+    push_items(alloc, &mut changes, olds.as_slice(), news.as_slice())?;
+    Ok(changes)
+}
+
+/// What changed from the answer of one session to that of another: of the picks of their plans, or
+/// where one of them has a fault that alone. Changes neither.
+pub fn plan_changes(alloc: Global, old: &Session, new: &Session) -> Result<Vec<Change>, AllocError>
+    ensures { IfOk result (λ changes. changes.items
+        ≡ answer_changes old.now.state new.now.state (answer old.now.state)
+        (answer new.now.state)) }
+{
+    let before = old.answer()?;
+    let after = new.answer()?;
+    answers_changes(alloc, (old, &before), (new, &after))
+}
+
+/// The same of two answers, each with its session.
+fn answers_changes(
+    alloc: Global,
+    old: (&Session, &Answer),
+    new: (&Session, &Answer),
+) -> Result<Vec<Change>, AllocError>
+    ensures { IfOk result (λ changes. changes.items
+        ≡ answer_changes old.entry.0.now.state new.entry.0.now.state old.entry.1.now
+        new.entry.1.now) }
+{
+    match (old.1, new.1) {
+        (Answer::Plan(olds), Answer::Plan(news)) => {
+            picks_changes(alloc, (old.0, olds.picks()), (new.0, news.picks()))
+        }
+        (before, after) => fault_changes(alloc, before, after),
+    }
+}
+
+/// What changed of the picks of two plans.
+fn picks_changes(
+    alloc: Global,
+    old: (&Session, &[Pick]),
+    new: (&Session, &[Pick]),
+) -> Result<Vec<Change>, AllocError>
+    ensures { IfOk result (λ changes. changes.items
+        ≡ item_changes (pick_items old.entry.0.now.state old.entry.1.now)
+        (pick_items new.entry.0.now.state new.entry.1.now)) }
+{
+    let mut changes = Vec::new(alloc);
+    let olds = pick_items(alloc, old.0, old.1)?;
+    let news = pick_items(alloc, new.0, new.1)?;
+    push_items(alloc, &mut changes, olds.as_slice(), news.as_slice())?;
+    Ok(changes)
+}
+
+/// That one of the answers has a fault.
+fn fault_changes(alloc: Global, old: &Answer, new: &Answer) -> Result<Vec<Change>, AllocError>
+    ensures { IfOk result (λ changes. changes.items ≡ fault_change old.now new.now ∷ []) }
+{
+    let from = fault_text(alloc, old)?;
+    let to = fault_text(alloc, new)?;
+    let mut changes = Vec::new(alloc);
+    changes.push(Change::unnamed(ChangeKind::Fault, from, to))?;
+    Ok(changes)
+}
+
+/// The number of the entry that has a fault, and the fault.
+fn fault_text(alloc: Global, answer: &Answer) -> Result<Option<String>, AllocError>
+    ensures { IfOk result (λ text. option_map string_bytes text ≡ fault_text answer.now) }
+{
+    match answer {
+        Answer::Plan(_) => Ok(None),
+        Answer::Fault { id, code } => {
+            let mut text = format!(in alloc; "{id} ")?;
+            text.push_str(fault_word(*code))?;
+            Ok(Some(text))
+        }
+    }
+}

@@ -1,0 +1,43 @@
+//! The changes as a JSON document.
+
+ghost use Rattle.std.specs.Prelude.{◌≡◌, IfOk, map};
+ghost use Rattle.serde_json.specs.View.{members_view, view as data_of};
+ghost use Rattle.pylock_json.specs.Json.{members_of, object_of};
+ghost use Rattle.pylock_diff.specs.Document.{change_rows, changes_rows};
+
+use crate::change::Change;
+use pylock_json::{Json, List, Object};
+use std::alloc::{AllocError, Global};
+
+/// The document of changes, in their order. It takes memory for the object.
+pub fn diff_document(alloc: Global, changes: &[Change]) -> Result<Object, AllocError>
+    ensures { IfOk result (λ object. members_view object
+        ≡ members_of (changes_rows changes.now)) }
+{
+    let list = changes_list(alloc, changes)?;
+    let mut object = Object::new(alloc);
+    object.put(alloc, "changes", list.into_json())?;
+    Ok(object)
+}
+
+fn changes_list(alloc: Global, changes: &[Change]) -> Result<List, AllocError>
+    ensures { IfOk result (λ list. map data_of list
+        ≡ map (λ change. object_of (change_rows change)) changes.now) }
+{
+    let mut list = List::new(alloc);
+    for change in changes {
+        list.push(change_json(alloc, change)?)?;
+    }
+    Ok(list)
+}
+
+fn change_json(alloc: Global, change: &Change) -> Result<Json, AllocError>
+    ensures { IfOk result (λ json. data_of json ≡ object_of (change_rows change.now)) }
+{
+    let mut object = Object::new(alloc);
+    object.put_text(alloc, "change", change.kind().word())?;
+    object.put_maybe(alloc, "name", change.name())?;
+    object.put_maybe(alloc, "from", change.from())?;
+    object.put_maybe(alloc, "to", change.to())?;
+    Ok(object.into_json())
+}

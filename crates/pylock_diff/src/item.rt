@@ -1,0 +1,225 @@
+//! What is compared: the entries of a lock, or the picks of a plan.
+
+ghost use Rattle.std.specs.Prelude.{◌≡◌, ◌++◌, IfOk, OnOk, List, map, option_map};
+ghost use Rattle.std.specs.List.{flat_map};
+ghost use Rattle.std.specs.Option.{option_copied};
+ghost use Rattle.pylock_core.specs.Session.Picks.{lent_named, lent_source};
+ghost use Rattle.pylock_diff.specs.Inner.Lent.{item_row, lent_item};
+ghost use Rattle.pylock_diff.specs.Item.{entry_items, pick_item, pick_items};
+ghost use Rattle.pylock_diff.specs.Versions.{text_key, version_key};
+
+use crate::versions::text_key;
+use pylock_core::{Entry, NamedSource, Pick, PickedSource, Session, sources};
+use std::alloc::{AllocError, Global};
+use std::marker::Model;
+
+/// An entry, or a pick of it: then its source counts alone.
+#[derive(Clone, Copy)]
+pub(crate) struct Item<'a> {
+    pub(crate) package: &'a Entry,
+    pub(crate) picked: Option<PickedSource<'a>>,
+}
+
+impl<'a> Item<'a> {
+    /// The version, as written.
+    pub(crate) fn version(&self) -> Option<&'a str>
+        ensures { option_copied result ≡ (lent_item self.now).version }
+    {
+        self.package.version()
+    }
+
+    /// The marker, without white space round it.
+    pub(crate) fn marker(&self) -> Option<&'a str>
+        ensures { option_copied result ≡ (lent_item self.now).marker }
+    {
+        match self.picked {
+            Some(_) => None,
+            None => Some(self.package.marker()?.text()),
+        }
+    }
+
+    /// The normal text of the set of Pythons.
+    pub(crate) fn pythons(&self) -> Option<&'a str>
+        ensures { option_copied result ≡ (lent_item self.now).pythons }
+    {
+        match self.picked {
+            Some(_) => None,
+            None => Some(self.package.requires_python()?.text()),
+        }
+    }
+
+    /// Its sources, in their order.
+    fn sources(&self, alloc: Global) -> Result<Vec<PickedSource<'a>>, AllocError>
+        ensures { IfOk result (λ list. map lent_source list.items ≡ (lent_item self.now).sources) }
+    {
+        let mut list = Vec::new(alloc);
+        match self.picked {
+            Some(source) => list.push(source)?,
+            None => push_each(&mut list, sources(alloc, self.package)?.as_slice())?,
+        }
+        Ok(list)
+    }
+}
+
+/// Adds each source.
+fn push_each<'a>(
+    list: &mut Vec<PickedSource<'a>>,
+    named: &[NamedSource<'a>],
+) -> Result<(), AllocError>
+    ensures { OnOk result (map lent_source list.new.items
+        ≡ map lent_source list.old.items ++ map (λ s. s.1) (map lent_named named.now)) }
+{
+    for one in named {
+        list.push(one.source)?;
+    }
+    Ok(())
+}
+
+/// The entries of a lock, each under its name.
+pub(crate) fn entry_items<'a>(
+    alloc: Global,
+    entries: &'a [Entry],
+) -> Result<Vec<(&'a str, Item<'a>)>, AllocError>
+    ensures { IfOk result (λ rows. map item_row rows.items ≡ entry_items entries.now) }
+{
+    let mut rows = Vec::with_capacity(alloc, entries.len())?;
+    for package in entries {
+        let picked = None;
+        rows.push((package.name(), Item { package, picked }))?;
+    }
+    Ok(rows)
+}
+
+/// The picks of a plan, each under the name of its entry.
+pub(crate) fn pick_items<'a>(
+    alloc: Global,
+    session: &'a Session,
+    picks: &[Pick],
+) -> Result<Vec<(&'a str, Item<'a>)>, AllocError>
+    ensures { IfOk result (λ rows. map item_row rows.items
+        ≡ pick_items session.now.state picks.now) }
+{
+    let mut rows = Vec::with_capacity(alloc, picks.len())?;
+    for pick in picks {
+        push_pick(&mut rows, session, pick)?;
+    }
+    Ok(rows)
+}
+
+/// Adds a pick, whose entry has its source.
+fn push_pick<'a>(
+    rows: &mut Vec<(&'a str, Item<'a>)>,
+    session: &'a Session,
+    pick: &Pick,
+) -> Result<(), AllocError>
+    ensures { OnOk result (map item_row rows.new.items
+        ≡ map item_row rows.old.items ++ pick_item session.now.state pick.now) }
+{
+    let Some(package) = session.entry(pick.id) else {
+        return Ok(());
+    };
+    let Some(source) = pick.source.of(package) else {
+        return Ok(());
+    };
+    let picked = Some(source);
+    rows.push((package.name(), Item { package, picked }))?;
+    Ok(())
+}
+
+/// An item with what it is compared by, made once.
+///
+/// Contracts see the item.
+pub(crate) struct Keyed<'a> {
+    item: Item<'a>,
+    key: Option<Vec<u8>>,
+    sources: Vec<PickedSource<'a>>,
+}
+
+impl<'a> Model for Keyed<'a> {
+    ghost use Rattle.std.specs.Prelude.{◌≡◌, map, option_map};
+    ghost use Rattle.pylock_core.specs.Session.Picks.{lent_source};
+    ghost use Rattle.pylock_diff.specs.Inner.Lent.{lent_item};
+    ghost use Rattle.pylock_diff.specs.Item.{ItemValue};
+    ghost use Rattle.pylock_diff.specs.Versions.{version_key};
+
+    ghost Value = { ItemValue };
+
+    ghost view = { λ k. lent_item k.item };
+
+    ghost invariant = { λ k. (option_map (λ key. key.items) k.key ≡ version_key (lent_item k.item))
+        × (map lent_source k.sources.items ≡ (lent_item k.item).sources) };
+}
+
+impl<'a> Drop for Keyed<'a> {
+    fn drop(self) {
+        let Keyed {
+            item: _,
+            key: _,
+            sources: _,
+        } = self;
+    }
+}
+
+impl<'a> Keyed<'a> {
+    /// The item with what it is compared by.
+    fn new(alloc: Global, item: &Item<'a>) -> Result<Keyed<'a>, AllocError>
+        ensures { IfOk result (λ keyed. keyed ≡ lent_item item.now) }
+    {
+        let key = match item.version() {
+            Some(version) => Some(text_key(alloc, version)?),
+            None => None,
+        };
+        let sources = item.sources(alloc)?;
+        Ok(Keyed {
+            item: *item,
+            key,
+            sources,
+        })
+    }
+
+    /// The version, as written.
+    pub(crate) fn version(&self) -> Option<&'a str>
+        ensures { option_copied result ≡ self.now.version }
+    {
+        self.item.version()
+    }
+
+    /// By what its version is compared.
+    pub(crate) fn key(&self) -> Option<&[u8]>
+        ensures { option_copied result ≡ version_key self.now }
+    {
+        self.key.as_deref()
+    }
+
+    /// The marker, without white space round it.
+    pub(crate) fn marker(&self) -> Option<&'a str>
+        ensures { option_copied result ≡ self.now.marker }
+    {
+        self.item.marker()
+    }
+
+    /// The normal text of the set of Pythons.
+    pub(crate) fn pythons(&self) -> Option<&'a str>
+        ensures { option_copied result ≡ self.now.pythons }
+    {
+        self.item.pythons()
+    }
+
+    /// Its sources, in their order.
+    pub(crate) fn sources(&self) -> &[PickedSource<'a>]
+        ensures { map lent_source result.now ≡ self.now.sources }
+    {
+        self.sources.as_slice()
+    }
+}
+
+/// The items with what they are compared by.
+pub(crate) fn with_keys<'a>(alloc: Global, items: &[Item<'a>]) -> Result<Vec<Keyed<'a>>, AllocError>
+    ensures { IfOk result (λ list. list.items ≡ map lent_item items.now) }
+{
+    let mut list = Vec::with_capacity(alloc, items.len())?;
+    for item in items {
+        list.push(Keyed::new(alloc, item)?)?;
+    }
+    Ok(list)
+}

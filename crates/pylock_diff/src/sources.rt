@@ -1,0 +1,299 @@
+//! The sources of a name that one lock alone has.
+
+ghost use Rattle.std.specs.Prelude.{◌≡◌, ◌++◌, ◌∷◌, ◌||◌, [], IfOk, List, OnOk, None, Some, filter};
+ghost use Rattle.std.specs.Prelude.{map, not, string_bytes};
+ghost use Rattle.std.specs.BTreeSet.{contains};
+ghost use Rattle.std.specs.List.{list_any};
+ghost use Rattle.std.specs.Option.{option_copied};
+ghost use Rattle.pylock_core.specs.Session.Picks.{lent_source};
+ghost use Rattle.pylock_diff.specs.Change.{change_of};
+ghost use Rattle.pylock_diff.specs.Inner.Others.{HasSources, HasVersions};
+ghost use Rattle.pylock_diff.specs.Item.{ItemValue};
+ghost use Rattle.pylock_diff.specs.Sources.{called, file_changes, identity, lone_in, lone_sources};
+ghost use Rattle.pylock_diff.specs.Sources.{source_key, source_text};
+ghost use Rattle.pylock_diff.specs.Texts.{Texts, are_alike, texts_cmp};
+ghost use Rattle.pylock_diff.specs.Versions.{version_key};
+ghost use Rattle.pylock_diff.specs.declared.change.ChangeKind.TheVariants.{File};
+
+use crate::change::{Change, ChangeKind, push_change};
+use crate::conditions::bytes_of;
+use crate::item::Keyed;
+use crate::key::Key;
+use pylock_audit::{file_label, shown_place};
+use pylock_core::{DistributionFile, PickedSource, directory_word};
+use std::alloc::{AllocError, Global};
+use std::collections::BTreeSet;
+
+// ---- by what they are compared
+
+/// By what a source is compared, with the version, marker and set of Pythons of its entry.
+fn source_key<'x>(
+    alloc: Global,
+    item: &'x Keyed<'x>,
+    source: PickedSource<'x>,
+) -> Result<Key<'x>, AllocError>
+    ensures { IfOk result (λ key. key ≡ source_key item.now (lent_source source.entry)) }
+{
+    let mut key = Key::new(alloc);
+    key.push(item.key())?;
+    key.push(bytes_of(item.marker()))?;
+    key.push(bytes_of(item.pythons()))?;
+    push_identity(&mut key, source)?;
+    Ok(key)
+}
+
+/// Adds what a source is.
+fn push_identity<'x>(key: &mut Key<'x>, source: PickedSource<'x>) -> Result<(), AllocError>
+    ensures { OnOk result (key.new ≡ key.old ++ identity (lent_source source.entry)) }
+{
+    match source {
+        PickedSource::Vcs(vcs) => {
+            let revision = (Some(vcs.kind()), Some(vcs.commit_id()));
+            push_parts(key, "vcs", vcs.place(), revision, vcs.subdirectory())
+        }
+        PickedSource::Directory(directory) => {
+            let word = directory_word(directory);
+            push_parts(
+                key,
+                word,
+                directory.path(),
+                (None, None),
+                directory.subdirectory(),
+            )
+        }
+        PickedSource::Archive(archive) => {
+            push_parts(
+                key,
+                "archive",
+                archive.place(),
+                (None, None),
+                archive.subdirectory(),
+            )
+        }
+        PickedSource::Wheel(file) => push_parts(key, "wheel", called(file), (None, None), None),
+        PickedSource::Sdist(file) => push_parts(key, "sdist", called(file), (None, None), None),
+    }
+}
+
+/// Adds kind, file name or place, the type and the commit of a revision, subdirectory.
+fn push_parts<'x>(
+    key: &mut Key<'x>,
+    kind: &'x str,
+    called: &'x str,
+    revision: (Option<&'x str>, Option<&'x str>),
+    subdirectory: Option<&'x str>,
+) -> Result<(), AllocError>
+    ensures { OnOk result (key.new ≡ key.old ++ Some kind.now ∷ Some called.now
+        ∷ option_copied revision.entry.0 ∷ option_copied revision.entry.1
+        ∷ option_copied subdirectory.entry ∷ []) }
+{
+    key.push(Some(kind.as_bytes()))?;
+    key.push(Some(called.as_bytes()))?;
+    key.push(bytes_of(revision.0))?;
+    key.push(bytes_of(revision.1))?;
+    key.push(bytes_of(subdirectory))
+}
+
+/// The file name, or the place of a file without one.
+fn called(file: &DistributionFile) -> &str
+    ensures { result.now ≡ called file.now }
+{
+    match file.file_name() {
+        Some(name) => name,
+        None => file.place(),
+    }
+}
+
+// ---- what the other lock has
+
+/// The version of an item alone.
+fn version_only<'x>(alloc: Global, item: &'x Keyed<'_>) -> Result<Key<'x>, AllocError>
+    ensures { IfOk result (λ key. key ≡ version_key item.now ∷ []) }
+{
+    let mut key = Key::new(alloc);
+    key.push(item.key())?;
+    Ok(key)
+}
+
+/// The versions of the items.
+fn versions_of<'x>(alloc: Global, items: &'x [Keyed<'x>]) -> Result<BTreeSet<Key<'x>>, AllocError>
+    ensures { IfOk result (λ set. HasVersions set items.now) }
+{
+    let mut set: BTreeSet<Key<'x>> = BTreeSet::new(alloc);
+    for item in items {
+        set.insert(version_only(alloc, item)?)?;
+    }
+    Ok(set)
+}
+
+/// The sources of the items.
+fn sources_of<'x>(alloc: Global, items: &'x [Keyed<'x>]) -> Result<BTreeSet<Key<'x>>, AllocError>
+    ensures { IfOk result (λ set. HasSources set items.now) }
+{
+    let mut set: BTreeSet<Key<'x>> = BTreeSet::new(alloc);
+    for item in items {
+        put_sources(alloc, &mut set, item, item.sources())?;
+    }
+    Ok(set)
+}
+
+/// Puts these sources of an item in.
+fn put_sources<'x>(
+    alloc: Global,
+    set: &mut BTreeSet<Key<'x>>,
+    item: &'x Keyed<'x>,
+    sources: &[PickedSource<'x>],
+) -> Result<(), AllocError>
+    ensures { OnOk result ((key : Texts) → contains texts_cmp set.new key
+        ≡ (contains texts_cmp set.old key
+        || list_any (λ source. are_alike key (source_key item.now source))
+        (map lent_source sources.now))) }
+{
+    for source in sources {
+        set.insert(source_key(alloc, item, *source)?)?;
+    }
+    Ok(())
+}
+
+// ---- those that it hasn't
+
+/// The sources of the items that the others haven't, of versions that they have.
+fn lone_sources<'x>(
+    alloc: Global,
+    items: &'x [Keyed<'x>],
+    others: &'x [Keyed<'x>],
+) -> Result<Vec<PickedSource<'x>>, AllocError>
+    ensures { IfOk result (λ list. map lent_source list.items
+        ≡ lone_sources items.now others.now) }
+{
+    let mut list = Vec::new(alloc);
+    let versions = versions_of(alloc, others)?;
+    let sources = sources_of(alloc, others)?;
+    for item in items {
+        push_lone_of(alloc, &mut list, &versions, &sources, item)?;
+    }
+    Ok(list)
+}
+
+/// Adds those of an item, where these are the versions and the sources of the others.
+fn push_lone_of<'x>(
+    alloc: Global,
+    list: &mut Vec<PickedSource<'x>>,
+    versions: &BTreeSet<Key<'x>>,
+    sources: &BTreeSet<Key<'x>>,
+    item: &'x Keyed<'x>,
+) -> Result<(), AllocError>
+    ensures { OnOk result ((others : List ItemValue) → HasVersions versions.now others
+        → HasSources sources.now others → map lent_source list.new.items
+        ≡ map lent_source list.old.items ++ lone_in others item.now) }
+{
+    if !versions.contains(&version_only(alloc, item)?) {
+        return Ok(());
+    }
+    push_lone(alloc, list, sources, item, item.sources())
+}
+
+/// Adds those of these sources of an item that aren't in the set.
+fn push_lone<'x>(
+    alloc: Global,
+    list: &mut Vec<PickedSource<'x>>,
+    set: &BTreeSet<Key<'x>>,
+    item: &'x Keyed<'x>,
+    sources: &[PickedSource<'x>],
+) -> Result<(), AllocError>
+    ensures { OnOk result (map lent_source list.new.items ≡ map lent_source list.old.items
+        ++ filter (λ source. not (contains texts_cmp set.now (source_key item.now source)))
+        (map lent_source sources.now)) }
+{
+    for source in sources {
+        if !set.contains(&source_key(alloc, item, *source)?) {
+            list.push(*source)?;
+        }
+    }
+    Ok(())
+}
+
+// ---- how they are told
+
+/// Adds a line for each source that OLD alone has, and then for each that NEW alone has.
+pub(crate) fn push_lone_sources(
+    alloc: Global,
+    changes: &mut Vec<Change>,
+    name: &str,
+    olds: &[Keyed<'_>],
+    news: &[Keyed<'_>],
+) -> Result<(), AllocError>
+    ensures { OnOk result (changes.new.items
+        ≡ changes.old.items ++ file_changes name.now olds.now news.now) }
+{
+    let gone = lone_sources(alloc, olds, news)?;
+    push_gone(alloc, changes, name, gone.as_slice())?;
+    let come = lone_sources(alloc, news, olds)?;
+    push_come(alloc, changes, name, come.as_slice())?;
+    Ok(())
+}
+
+fn push_gone(
+    alloc: Global,
+    changes: &mut Vec<Change>,
+    name: &str,
+    sources: &[PickedSource<'_>],
+) -> Result<(), AllocError>
+    ensures { OnOk result (changes.new.items ≡ changes.old.items
+        ++ map (λ source. change_of File name.now (Some (source_text source)) None)
+        (map lent_source sources.now)) }
+{
+    for source in sources {
+        let from = Some(source_text(alloc, *source)?);
+        push_change(alloc, changes, ChangeKind::File, name, from, None)?;
+    }
+    Ok(())
+}
+
+fn push_come(
+    alloc: Global,
+    changes: &mut Vec<Change>,
+    name: &str,
+    sources: &[PickedSource<'_>],
+) -> Result<(), AllocError>
+    ensures { OnOk result (changes.new.items ≡ changes.old.items
+        ++ map (λ source. change_of File name.now None (Some (source_text source)))
+        (map lent_source sources.now)) }
+{
+    for source in sources {
+        let to = Some(source_text(alloc, *source)?);
+        push_change(alloc, changes, ChangeKind::File, name, None, to)?;
+    }
+    Ok(())
+}
+
+/// What a source is: its kind, and its file name or place.
+fn source_text(alloc: Global, source: PickedSource<'_>) -> Result<String, AllocError>
+    ensures { IfOk result (λ text. string_bytes text ≡ source_text (lent_source source.entry)) }
+{
+    match source {
+        PickedSource::Vcs(vcs) => {
+            let place = shown_place(alloc, vcs.path(), vcs.url())?;
+            behind(alloc, "vcs ", place.as_str())
+        }
+        PickedSource::Directory(directory) => {
+            let word = behind(alloc, directory_word(directory), " ")?;
+            behind(alloc, word.as_str(), directory.path())
+        }
+        PickedSource::Archive(archive) => {
+            let place = shown_place(alloc, archive.path(), archive.url())?;
+            behind(alloc, "archive ", place.as_str())
+        }
+        PickedSource::Wheel(file) => behind(alloc, "wheel ", file_label(alloc, file)?.as_str()),
+        PickedSource::Sdist(file) => behind(alloc, "sdist ", file_label(alloc, file)?.as_str()),
+    }
+}
+
+/// Two texts, one behind the other.
+fn behind(alloc: Global, front: &str, back: &str) -> Result<String, AllocError>
+    ensures { IfOk result (λ text. string_bytes text ≡ front.now ++ back.now) }
+{
+    let mut text = String::from_str(alloc, front)?;
+    text.push_str(back)?;
+    Ok(text)
+}

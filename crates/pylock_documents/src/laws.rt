@@ -1,0 +1,18 @@
+//! Laws of the definitions alone: each function's contract is a law, and its body is empty.
+
+ghost use Rattle.std.specs.Prelude.{◌≡◌, ℕ, List, Option, None, Some, codes, false};
+ghost use Rattle.serde_json.specs.Find.{get_member};
+ghost use Rattle.pylock_json.specs.Json.{members_of, texts_of};
+ghost use Rattle.pylock_messages.specs.Diagnostic.{DiagnosticValue};
+ghost use Rattle.pylock_documents.specs.Documents.{is_refusal_key, refused_rows};
+
+/// Whatever is told of a refusal, its document has the words, and beside them no member but those
+/// that may tell of it.
+pub fn refusals_have_their_words()
+    ensures words { (words : List (List ℕ)) (told : Option DiagnosticValue)
+        → get_member (codes "refused") (members_of (refused_rows words told))
+        ≡ Some (texts_of words) }
+    ensures others { (key : List ℕ) (words : List (List ℕ)) (told : Option DiagnosticValue)
+        → is_refusal_key key ≡ false
+        → get_member key (members_of (refused_rows words told)) ≡ None }
+{}

@@ -1,0 +1,21 @@
+//! The forms that other tools take.
+
+/// A form for a tool that takes files, whatever is done with them.
+#[derive(Clone, Copy, Debug, PartialEq, Eq)]
+pub enum ListFormat {
+    /// For `sha256sum -c`.
+    Sha256sum,
+    /// For `aria2c -i`.
+    Aria2,
+    /// For `wget -i`, and whatever reads a URL on each line.
+    Urls,
+}
+
+/// A form for another tool.
+#[derive(Clone, Copy, Debug, PartialEq, Eq)]
+pub enum Format {
+    /// A requirements file, for `pip install --no-deps -r` and `uv pip install --no-deps -r`.
+    Requirements,
+    /// A list of files.
+    List(ListFormat),
+}

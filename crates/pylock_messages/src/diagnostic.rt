@@ -1,0 +1,146 @@
+//! Where a file is wrong, as a value.
+
+ghost use Rattle.std.specs.Prelude.{◌≡◌, string_bytes};
+ghost use Rattle.std.specs.Option.{option_copied};
+
+use crate::visible::visible_text;
+use std::alloc::{AllocError, Global};
+use std::marker::Model;
+
+/// What is known of where a file is wrong, or of why something else is refused: the line that tells
+/// a person, and where that points. The line and these are made at once, so they never differ.
+///
+/// Contracts see its texts and numbers.
+pub struct Diagnostic {
+    message: String,
+    pub(crate) file: Option<String>,
+    pub(crate) line: Option<u64>,
+    pub(crate) column: Option<u64>,
+    pub(crate) entry: Option<u64>,
+    pub(crate) name: Option<String>,
+    pub(crate) key: Option<String>,
+}
+
+impl Model for Diagnostic {
+    ghost use Rattle.std.specs.Prelude.{option_map, string_bytes};
+    ghost use Rattle.pylock_messages.specs.Diagnostic.{DiagnosticValue};
+
+    ghost Value = { DiagnosticValue };
+
+    ghost view = { λ d. record {
+      message = string_bytes d.message;
+      file = option_map string_bytes d.file;
+      line = d.line;
+      column = d.column;
+      entry = d.entry;
+      name = option_map string_bytes d.name;
+      key = option_map string_bytes d.key;
+    } };
+}
+
+impl Drop for Diagnostic {
+    fn drop(self) {
+        let Diagnostic {
+            message: _,
+            file: _,
+            line: _,
+            column: _,
+            entry: _,
+            name: _,
+            key: _,
+        } = self;
+    }
+}
+
+impl Diagnostic {
+    /// What a line for a person says, and nothing of where it points. Control characters of the
+    /// line are written as [`crate::push_visible`] writes them. It takes memory for the line.
+    pub fn of_message(alloc: Global, message: &str) -> Result<Diagnostic, AllocError> {
+        Ok(Diagnostic {
+            message: visible_text(alloc, message)?,
+            file: None,
+            line: None,
+            column: None,
+            entry: None,
+            name: None,
+            key: None,
+        })
+    }
+
+    /// The same of a file, by the name that was given for it.
+    pub(crate) fn of_file(
+        alloc: Global,
+        file: &str,
+        message: &str,
+    ) -> Result<Diagnostic, AllocError> {
+        let mut diagnostic = Diagnostic::of_message(alloc, message)?;
+        diagnostic.file = Some(String::from_str(alloc, file)?);
+        Ok(diagnostic)
+    }
+
+    /// The line for a person, without LF. It takes no memory.
+    pub fn message(&self) -> &str
+        ensures { result.now ≡ self.now.message }
+    {
+        self.message.as_str()
+    }
+
+    /// The line itself.
+    pub fn into_message(self) -> String
+        ensures { string_bytes result ≡ self.message }
+    {
+        let Diagnostic {
+            message,
+            file: _,
+            line: _,
+            column: _,
+            entry: _,
+            name: _,
+            key: _,
+        } = self;
+        message
+    }
+
+    /// The name that was given for the file. It takes no memory.
+    pub fn file(&self) -> Option<&str>
+        ensures { option_copied result ≡ self.now.file }
+    {
+        self.file.as_deref()
+    }
+
+    /// The number of the line, from 1. It takes no memory.
+    pub fn line(&self) -> Option<u64>
+        ensures { result ≡ self.now.line }
+    {
+        self.line
+    }
+
+    /// The place in the line, from 1, in characters. It takes no memory.
+    pub fn column(&self) -> Option<u64>
+        ensures { result ≡ self.now.column }
+    {
+        self.column
+    }
+
+    /// The position of the entry in the lock, from 1. It takes no memory.
+    pub fn entry(&self) -> Option<u64>
+        ensures { result ≡ self.now.entry }
+    {
+        self.entry
+    }
+
+    /// The name of the entry as it is written, where that is a name. It takes no memory.
+    pub fn name(&self) -> Option<&str>
+        ensures { option_copied result ≡ self.now.name }
+    {
+        self.name.as_deref()
+    }
+
+    /// The path of the key: keys, and positions from 1, joined by a space, as `vcs commit-id`,
+    /// `wheels 2 hashes` and `extras 3`. It takes no memory.
+    pub fn key(&self) -> Option<&str>
+        ensures { option_copied result ≡ self.now.key }
+    {
+        self.key.as_deref()
+    }
+}

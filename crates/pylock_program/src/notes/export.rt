@@ -1,0 +1,38 @@
+//! What a person is told of the form of another tool.
+
+use crate::notes::{tell_bytes, tell_made};
+use pylock_exports::{Exported, Format, FormatRefusal, explain_exported, explain_refusal};
+use pylock_run::Sink;
+use std::alloc::{AllocError, Global};
+
+/// Tells what the form leaves out, and what the tool may make of it, where there is something.
+pub(crate) fn tell_exported<N: Sink>(
+    alloc: Global,
+    notes: &mut N,
+    form: Format,
+    exported: &Exported,
+) {
+    match explain_exported(alloc, form, exported) {
+        Ok(Some(note)) => tell_made(alloc, notes, Ok(note)),
+        _ => {}
+    }
+}
+
+/// Tells that the form can't hold the entry of this name, which is refused, and why: first the line
+/// of the refusal.
+pub(crate) fn tell_refused_export<N: Sink>(
+    alloc: Global,
+    notes: &mut N,
+    form: Format,
+    name: Option<&str>,
+    refusal: &FormatRefusal,
+) {
+    if let Ok(line) = refusal_line(alloc, refusal.number) {
+        tell_bytes(notes, line.as_bytes());
+    }
+    tell_made(alloc, notes, explain_refusal(alloc, form, name, refusal));
+}
+
+fn refusal_line(alloc: Global, number: u64) -> Result<String, AllocError> {
+    format!(in alloc; "refused\tformat\t{number}\n")
+}

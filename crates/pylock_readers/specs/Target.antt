@@ -1,0 +1,87 @@
+-- The environment of a target, as a machine of its kind has it, and its text.
+use Rattle.std.specs.Prelude.{ℕ, ◌++◌, List, [], ◌∷◌, Some, codes, decimal, map, Result, Ok, Err}
+use Rattle.std.specs.FinSet as set
+use Rattle.serde_json.specs.Data.{Data}
+use Rattle.serde_json.specs.Written.{compact_text}
+use Rattle.pylock_json.specs.Json.{Row, object_of, texts_of, there}
+use Rattle.pymark_core.specs.Environment.{EnvironmentValue}
+use Rattle.pymark_core.specs.Variables.{variable_name, variables}
+use Rattle.pymark_core.specs.declared.variable.Var.{Var}
+use Rattle.pymark_core.specs.declared.variable.Var.TheVariants as var
+use Rattle.pywheel_core.specs.Tag.{TagValue, tag_text}
+use Rattle.pywheel_core.specs.Target.Names.{os_name, platform_machine, platform_system}
+use Rattle.pywheel_core.specs.Target.Names.{sys_platform}
+use Rattle.pywheel_core.specs.Target.Reading.{target_of}
+use Rattle.pywheel_core.specs.Target.Tags.{target_tags}
+use Rattle.pywheel_core.specs.Target.Value.{TargetValue}
+use Rattle.pywheel_core.specs.declared.error.TargetError.{TargetError}
+use Rattle.pywheel_core.specs.declared.error.TargetError.TheVariants as refused
+use Rattle.pywheel_core.specs.declared.target.cpython.CPython.{CPython}
+use Rattle.pylock_readers.specs.declared.error.EnvError.{EnvError}
+use Rattle.pylock_readers.specs.declared.error.EnvError.TheVariants as error
+
+-- ---- its variables (PEP 508, "Environment Markers")
+
+-- the first two numbers of the release, as `3.12`
+abbrev pub version_text : CPython → List ℕ
+version_text python = codes "3." ++ decimal python.minor
+
+-- all three, as `3.12.4`
+abbrev pub release_text : CPython → List ℕ
+release_text python =
+    codes "3." ++ (decimal python.minor ++ (codes "." ++ decimal python.micro))
+
+abbrev pub variable_text : TargetValue → Var → List ℕ
+variable_text target var.OsName = os_name target.platform
+variable_text target var.SysPlatform = sys_platform target.platform
+variable_text target var.PlatformMachine = platform_machine target.platform
+variable_text target var.PlatformPythonImplementation = codes "CPython"
+variable_text target var.PlatformRelease = []
+variable_text target var.PlatformSystem = platform_system target.platform
+variable_text target var.PlatformVersion = []
+variable_text target var.PythonVersion = version_text target.python
+variable_text target var.PythonFullVersion = release_text target.python
+variable_text target var.ImplementationName = codes "cpython"
+variable_text target var.ImplementationVersion = release_text target.python
+
+-- all eleven are set, and nothing is asked for
+unfoldable pub target_environment : TargetValue → EnvironmentValue
+target_environment target = record {
+  variables = map (λ variable. Some (variable_text target variable)) variables;
+  extras = set.empty;
+  groups = set.empty;
+}
+
+-- ---- from its two texts
+
+-- the refusal of a target is that of an environment
+abbrev pub target_refusal : TargetError → EnvError
+target_refusal refused.Python = error.Python
+target_refusal refused.Platform = error.Platform
+
+abbrev pub environment_of : Result TargetValue TargetError
+    → Result (EnvironmentValue × List TagValue) EnvError
+environment_of (Ok target) = Ok (target_environment target, target_tags target)
+environment_of (Err e) = Err (target_refusal e)
+
+-- the environment and the tags of PYTHON and PLATFORM
+unfoldable pub target_env_of : List ℕ → List ℕ → Result (EnvironmentValue × List TagValue) EnvError
+target_env_of python platform = environment_of (target_of python platform)
+
+-- ---- its text
+
+-- the object `environment`
+abbrev pub variable_row : TargetValue → Var → Row
+variable_row target variable = (variable_name variable, there (variable_text target variable))
+
+abbrev pub variable_rows : TargetValue → List Row
+variable_rows target = map (variable_row target) variables
+
+unfoldable pub target_data : TargetValue → Data
+target_data target = object_of (
+    (codes "environment", Some (object_of (variable_rows target)))
+    ∷ (codes "tags", Some (texts_of (map tag_text (target_tags target)))) ∷ [])
+
+-- JSON without white space, and LF
+unfoldable pub target_text : TargetValue → List ℕ
+target_text target = compact_text (target_data target) ++ codes "\n"

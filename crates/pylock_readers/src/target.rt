@@ -1,0 +1,190 @@
+//! The environment of a target, and its text.
+ghost use Rattle.std.specs.Prelude.{◌≡◌, IfOk, OnOk, fold, map, string_bytes};
+ghost use Rattle.serde_json.specs.View.{members_view, view as data_of};
+ghost use Rattle.pytext.specs.Agreement.{Gives};
+ghost use Rattle.pylock_json.specs.Json.{members_of, texts_of, with_rows};
+ghost use Rattle.pymark_core.specs.Environment.{with_variable};
+ghost use Rattle.pywheel_core.specs.Tag.{tag_text};
+ghost use Rattle.pywheel_core.specs.Target.Tags.{target_tags};
+ghost use Rattle.pylock_readers.specs.Target.{target_env_of};
+ghost use Rattle.pylock_readers.specs.Target.{target_environment, target_text, variable_rows};
+ghost use Rattle.pylock_readers.specs.Target.{variable_row, variable_text};
+
+use crate::error::EnvError;
+use pylock_json::{Json, List, Object};
+use pymark_core::{Environment, Var};
+use pywheel_core::{Tag, TagList, Target, TargetError};
+use std::alloc::{AllocError, Global};
+use std::fmt::Write;
+use std::marker::Model;
+
+/// Reads PYTHON and PLATFORM, as `3.12` and `manylinux_2_28_x86_64`, and gives the environment and
+/// the list of tags of such a machine. `Python` comes before `Platform`. It takes memory for both.
+#[tactic(auto, unfolding(crate::specs::Target::target_env_of))]
+pub fn read_target(
+    alloc: Global,
+    python: &str,
+    platform: &str,
+) -> Result<(Environment, TagList), EnvError>
+    ensures { Gives EnvError.Memory (λ e. e) result (target_env_of python.now platform.now) }
+{
+    match Target::parse(python, platform) {
+        Ok(target) => Ok(target_environment(alloc, &target)?),
+        Err(TargetError::Python) => Err(EnvError::Python),
+        Err(TargetError::Platform) => Err(EnvError::Platform),
+    }
+}
+
+/// The environment of a target, in which each variable of markers is set and nothing is asked for,
+/// and its list of tags. It takes memory for both.
+pub fn target_environment(
+    alloc: Global,
+    target: &Target,
+) -> Result<(Environment, TagList), AllocError>
+    ensures { IfOk result (λ e. e ≡ (target_environment target.now, target_tags target.now)) }
+{
+    let texts = VariableTexts::of(alloc, target)?;
+    let environment = texts.environment(alloc)?;
+    let tags = TagList::of_target(alloc, target)?;
+    Ok((environment, tags))
+}
+
+/// The environment of a target as a text that [`read_environment`](crate::read_environment) takes:
+/// JSON without white space, and LF. It takes memory for the text and, while it is made, for its
+/// value and the list of tags.
+#[tactic(auto, unfolding(crate::specs::Target::target_data, crate::specs::Target::target_text))]
+pub fn environment_text(alloc: Global, target: &Target) -> Result<String, AllocError>
+    ensures { IfOk result (λ text. string_bytes text ≡ target_text target.now) }
+{
+    let variables = VariableTexts::of(alloc, target)?.object(alloc)?;
+    let tags = TagList::of_target(alloc, target)?;
+    let mut object = Object::new(alloc);
+    object.put(alloc, "environment", variables.into_json())?;
+    object.put(alloc, "tags", tag_texts(alloc, tags.tags())?)?;
+    let mut text = object.into_json().to_text(alloc)?;
+    text.push_str("\n")?;
+    Ok(text)
+}
+
+/// The texts of the tags.
+fn tag_texts(alloc: Global, tags: &[Tag]) -> Result<Json, AllocError>
+    ensures { IfOk result (λ json. data_of json ≡ texts_of (map tag_text tags.now)) }
+{
+    let mut texts = List::new(alloc);
+    let mut text = String::new(alloc);
+    for tag in tags {
+        text.clear();
+        write!(text, "{tag}")?;
+        texts.push_text(alloc, text.as_str())?;
+    }
+    Ok(texts.into_json())
+}
+
+/// The texts of the variables of a target.
+struct VariableTexts {
+    target: Target,
+    version: String,
+    release: String,
+}
+
+impl Model for VariableTexts {
+    ghost use Rattle.std.specs.Prelude.{◌≡◌, string_bytes};
+    ghost use Rattle.pylock_readers.specs.Target.{release_text, version_text};
+    ghost use Rattle.pywheel_core.specs.Target.Value.{TargetValue};
+
+    ghost Value = { TargetValue };
+
+    ghost view = { λ t. t.target };
+
+    ghost invariant = { λ t. (string_bytes t.version ≡ version_text t.target.python)
+        × (string_bytes t.release ≡ release_text t.target.python) };
+}
+
+impl Drop for VariableTexts {
+    fn drop(self) {
+        let VariableTexts {
+            target: _,
+            version: _,
+            release: _,
+        } = self;
+    }
+}
+
+impl VariableTexts {
+    fn of(alloc: Global, target: &Target) -> Result<VariableTexts, AllocError>
+        ensures { IfOk result (λ texts. texts ≡ target.now) }
+    {
+        let python = target.python();
+        let version = format!(in alloc; "3.{}", python.minor)?;
+        let release = format!(in alloc; "3.{}.{}", python.minor, python.micro)?;
+        Ok(VariableTexts {
+            target: *target,
+            version,
+            release,
+        })
+    }
+
+    fn text(&self, variable: Var) -> &str
+        ensures { result.now ≡ variable_text self.now variable }
+    {
+        let platform = self.target.platform();
+        match variable {
+            Var::OsName => platform.os_name(),
+            Var::SysPlatform => platform.sys_platform(),
+            Var::PlatformMachine => platform.platform_machine(),
+            Var::PlatformPythonImplementation => "CPython",
+            Var::PlatformRelease => "",
+            Var::PlatformSystem => platform.platform_system(),
+            Var::PlatformVersion => "",
+            Var::PythonVersion => self.version.as_str(),
+            Var::PythonFullVersion => self.release.as_str(),
+            Var::ImplementationName => "cpython",
+            Var::ImplementationVersion => self.release.as_str(),
+        }
+    }
+
+    /// The environment with each variable set.
+    fn environment(&self, alloc: Global) -> Result<Environment, AllocError>
+        ensures { IfOk result (λ environment. environment ≡ target_environment self.now) }
+    {
+        let mut environment = Environment::new(alloc);
+        self.set_all(&mut environment, &Var::all())?;
+        Ok(environment)
+    }
+
+    fn set_all(&self, environment: &mut Environment, variables: &[Var]) -> Result<(), AllocError>
+        ensures { OnOk result (environment.new ≡ fold
+            (λ e variable. with_variable variable (variable_text self.now variable) e)
+            environment.old variables.now) }
+    {
+        for variable in variables {
+            environment.set(*variable, self.text(*variable))?;
+        }
+        Ok(())
+    }
+
+    /// The object with a member for each variable.
+    fn object(&self, alloc: Global) -> Result<Object, AllocError>
+        ensures { IfOk result (λ object.
+            members_view object ≡ members_of (variable_rows self.now)) }
+    {
+        let mut object = Object::new(alloc);
+        self.put_all(alloc, &mut object, &Var::all())?;
+        Ok(object)
+    }
+
+    fn put_all(
+        &self,
+        alloc: Global,
+        object: &mut Object,
+        variables: &[Var],
+    ) -> Result<(), AllocError>
+        ensures { OnOk result (members_view object.new
+            ≡ with_rows (map (variable_row self.now) variables.now) (members_view object.old)) }
+    {
+        for variable in variables {
+            object.put_text(alloc, variable.name(), self.text(*variable))?;
+        }
+        Ok(())
+    }
+}

@@ -1,0 +1,9 @@
+pub mod Compatible
+pub mod Distinct
+pub mod Names
+pub mod Newer
+pub mod Once
+pub mod Parts
+pub mod Platforms
+pub mod Read
+pub mod ReadBack

@@ -1,0 +1,8 @@
+-- A target: an environment without its machine.
+pub mod Compatible
+pub mod Names
+pub mod Newer
+pub mod Platforms
+pub mod Reading
+pub mod Tags
+pub mod Value
