@@ -8,6 +8,8 @@ pub mod Steps
 pub mod Strings
 pub mod Lines
 pub mod Keys
+pub mod Numbers
+pub mod Dates
 pub mod Others
 pub mod Inlines
 pub mod Outlines

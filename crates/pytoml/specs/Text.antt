@@ -1,7 +1,7 @@
--- The bytes that the short way passes over in a basic string, and the pieces that it reads there.
--- Only private clauses cite these words.
-use Rattle.std.specs.Prelude.{◌≡◌, ℕ, ◌<◌, Bool, true, false, not, ◌||◌, ◌==◌, nat_lt}
-use Rattle.std.specs.Prelude.{List, ◌++◌, length, Some}
+-- The bytes that the short way passes over in a basic string, the pieces that it reads there, and
+-- the digits of a date-time. Only private clauses cite these words.
+use Rattle.std.specs.Prelude.{◌≡◌, ℕ, ◌+◌, ◌/◌, ◌%◌, ◌<◌, Bool, true, false, not, ◌||◌, ◌==◌}
+use Rattle.std.specs.Prelude.{nat_lt, List, ◌++◌, length, slice_index, Some}
 use Rattle.std.specs.List.{list_all}
 use Rattle.std.specs.Char.{is_digit}
 use Rattle.std.specs.Str.Parse.{digits_value}
@@ -32,3 +32,8 @@ abbrev pub IsWritten : List ℕ → ℕ → Type 0
 IsWritten digits c =
     (list_all (λ d. is_digit d 16) digits ≡ true) × (digits_value 16 digits ≡ c)
     × (is_scalar c ≡ true)
+
+-- the bytes at this place and the next are the two digits of this number
+abbrev pub IsTwoWide : List ℕ → ℕ → ℕ → Type 0
+IsTwoWide bytes i n =
+    (n < 100) × (slice_index bytes i ≡ 48 + n / 10) × (slice_index bytes (i + 1) ≡ 48 + n % 10)

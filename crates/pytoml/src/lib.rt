@@ -25,11 +25,13 @@ ghost use Rattle.pytoml.specs.Members.{with_elements};
 ghost use Rattle.pytoml.specs.declared.fault.TomlError.TheVariants as fault;
 
 mod basic;
+mod date_time;
 mod document;
 mod draft;
 mod fault;
 mod inline;
 mod key;
+mod number;
 mod outline;
 mod text;
 mod value;

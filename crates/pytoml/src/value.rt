@@ -1,6 +1,7 @@
 //! Values: strings, scalars, arrays and inline tables.
 ghost use Rattle.std.specs.Prelude.{◌≡◌, ℕ, ◌<◌, ◌≤◌, IfOk, OnOk, length, string_bytes, true};
-ghost use Rattle.std.specs.Prelude.{None};
+ghost use Rattle.std.specs.Prelude.{IfSome, None, Some};
+ghost use Rattle.toml_parser.specs.Numbers.{unquoted};
 ghost use Rattle.toml_parser.specs.Strings.{quoted, starts_string};
 ghost use Rattle.toml.specs.Data.{get_member, no_items};
 ghost use Rattle.toml.specs.View.{array_view, table_view, view};
@@ -10,8 +11,10 @@ ghost use Rattle.pytoml.specs.Inner.{Reads, Shortens, read_scalar};
 ghost use Rattle.pytoml.specs.Members.{with_member};
 
 use crate::basic::basic_string;
+use crate::date_time::plain_date_time;
 use crate::fault::Unread;
 use crate::key::key_equals;
+use crate::number::plain_integer;
 use crate::text::past_blank;
 use std::alloc::Global;
 use toml::value::Array;
@@ -77,8 +80,23 @@ fn scalar(alloc: Global, s: &str) -> Result<(Value, &str), Unread>
     ensures value { Reads view result (read_scalar s.now) }
     ensures shorter { Shortens s.now result }
 {
+    if let Some((scalar, rest)) = plain_scalar(s) {
+        return Ok((scalar_value(scalar), rest));
+    }
     let (scalar, rest) = unquoted(alloc, s).map_err(Unread::of)?;
     Ok((scalar_value(scalar), rest))
+}
+
+/// A date-time or an integer of the form that nearly all have. None says nothing of the text.
+fn plain_scalar(s: &str) -> Option<(Scalar, &str)>
+    ensures value { IfSome result (λ p. unquoted s.now ≡ Some (p.0, p.1.now)) }
+    ensures shorter { IfSome result (λ p. length p.1.now < length s.now) }
+{
+    if let Some((datetime, rest)) = plain_date_time(s) {
+        return Some((Scalar::Datetime(datetime), rest));
+    }
+    let (integer, rest) = plain_integer(s)?;
+    Some((Scalar::Integer(integer), rest))
 }
 
 fn scalar_value(scalar: Scalar) -> Value
