@@ -14,11 +14,7 @@ use pylock_core::environment_text;
 use pywheel_core::Target;
 use std::alloc::Global;
 
-fn environment_of_target(
-    alloc: Global,
-    python: &[u8],
-    platform: &[u8],
-) -> Result<Vec<u8>, Refusal>
+fn environment_of_target(alloc: Global, python: &[u8], platform: &[u8]) -> Result<Vec<u8>, Refusal>
     ensures { Gives Memory (λ made. made.items) result
         (environment_of_target python.now platform.now) }
 {

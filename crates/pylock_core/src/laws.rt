@@ -90,7 +90,8 @@ pub fn answers_are_never_out_of_memory()
 #[tactic(auto, using(crate::proofs::Lemmas::Tables::Names::policy_again))]
 pub fn same_policy_changes_nothing()
     ensures { (name : List ℕ) (policy : Policy) (state : State) → (policy ≡ Any → ⊥)
-        → policy_of state.policies name ≡ policy → apply (edit.Policy name policy) state ≡ Ok state }
+        → policy_of state.policies name ≡ policy
+        → apply (edit.Policy name policy) state ≡ Ok state }
 {}
 
 /// What becomes of each entry gives the answer: the head's fault; else the first fault of step 5

@@ -11,8 +11,8 @@ use serde_json::Value;
 use std::alloc::{AllocError, Global};
 
 /// What is taken as the Python of a target.
-const PYTHONS: &str = "neither 3.MINOR nor 3.MINOR.MICRO, with MINOR from 8 to 99 and MICRO to 999, \
-and t behind it from 3.13 on for the free-threaded build";
+const PYTHONS: &str = "neither 3.MINOR nor 3.MINOR.MICRO, with MINOR from 8 to 99 and MICRO to \
+999, and t behind it from 3.13 on for the free-threaded build";
 
 /// What is taken as its platform.
 const PLATFORMS: &str = "none of linux, macos, windows, win32, win_amd64, win_arm64, \

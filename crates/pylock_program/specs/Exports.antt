@@ -69,7 +69,8 @@ plan_export asked lock read =
 -- ---- every source of a lock
 
 abbrev pub lock_exported : ListFormat → Result LockValue LockError → Report
-lock_exported form (Ok lock) = exported (format_text (format.List form) (sources_from 1 lock.entries))
+lock_exported form (Ok lock) =
+    exported (format_text (format.List form) (sources_from 1 lock.entries))
 lock_exported form (Err refusal) = silence 2
 
 -- `files --format FORM`, from the bytes of the lock

@@ -1,5 +1,5 @@
--- What the paths of the command line give: `-` is standard input, and any other path a file; and the
--- environment of a machine.
+-- What the paths of the command line give: `-` is standard input, and any other path a file; and
+-- the environment of a machine.
 use Rattle.std.specs.Prelude.{◌≡◌, ℕ, Bool, true, false, List, codes, Result, Ok, Err}
 use Rattle.std.specs.Result.{result_map_both}
 use Rattle.std.specs.Str.{bytes_eq}
@@ -15,8 +15,8 @@ use Rattle.pylock_run.specs.Stream.Whole.{GivesAll, IsCause}
 use Rattle.pylock_run.specs.declared.stream.whole.FileFault.{FileFault}
 use Rattle.pylock_run.specs.declared.stream.whole.FileFault.TheVariants as file
 
--- how the program ends where a file can't be read, and the same where a person is told which file it
--- is, and why
+-- how the program ends where a file can't be read, and the same where a person is told which file
+-- it is, and why
 abbrev pub file_failure : FileFault → Failure
 file_failure file.Memory = Memory
 file_failure fault = File

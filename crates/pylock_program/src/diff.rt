@@ -201,7 +201,8 @@ fn push_after_choices(
     new: &mut Session,
 ) -> Result<u8, AllocError>
     ensures { Pushes out.old.items out.new.items (after_both form
-        (after_choices choices.now old.old.state) (after_choices choices.now new.old.state)) result }
+        (after_choices choices.now old.old.state)
+        (after_choices choices.now new.old.state)) result }
 {
     if let Some(choice) = make_choices(alloc, old, choices)? {
         push_refused_option(alloc, out, form, choice, None)?;

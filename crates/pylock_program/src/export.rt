@@ -47,8 +47,8 @@ fn plan_format(form: PlanFormat) -> Format
 }
 
 /// Writes the plan of a lock in the form of another tool, and answers the status: that of `plan`,
-/// and 1 where the form can't hold the plan. Where there is no plan in this form, it writes nothing;
-/// what is told besides goes to `notes`. It takes the memory of `plan`, and for the form.
+/// and 1 where the form can't hold the plan. Where there is no plan in this form, it writes
+/// nothing; what is told besides goes to `notes`. It takes the memory of `plan`, and for the form.
 pub(crate) fn write_plan_export<W: Sink, N: Sink>(
     alloc: Global,
     asked: &ExportRequest<'_>,

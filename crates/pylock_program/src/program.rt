@@ -6,8 +6,8 @@ ghost use Rattle.pylock_program.specs.Diff.{locks_report, plans_report};
 ghost use Rattle.pylock_program.specs.Exports.{files_export, plan_export};
 ghost use Rattle.pylock_program.specs.declared.reply.queries.Query.TheVariants as query;
 ghost use Rattle.pylock_program.specs.Program.{Compares, failure_message, failure_status, Opens};
-ghost use Rattle.pylock_program.specs.Program.{OpensMachine, Performs, Replies, RepliesTelling, Runs};
-ghost use Rattle.pylock_program.specs.Program.{Tells};
+ghost use Rattle.pylock_program.specs.Program.{OpensMachine, Performs, Replies, RepliesTelling};
+ghost use Rattle.pylock_program.specs.Program.{Runs, Tells};
 ghost use Rattle.pylock_program.specs.Program.{greeting, terminal_note, program_end, IsRunUnless};
 ghost use Rattle.pylock_program.specs.Reply.{answer_report, audit_answer, files_answer};
 ghost use Rattle.pylock_program.specs.Reply.{marker_answer, reply};
@@ -132,10 +132,10 @@ pub fn words_failure(kind: ErrorKind) -> Failure
 }
 
 /// Does the task on the files, standard input and standard output, and answers the status of the
-/// program. A file whose path is `-` is standard input, read to its end. The lock is read first, and
-/// both before either is judged. The memory of a session isn't freed but left to the system, for the
-/// program ends then. What a person is told besides goes to `notes`; what can't be written there is
-/// left out.
+/// program. A file whose path is `-` is standard input, read to its end. The lock is read first,
+/// and both before either is judged. The memory of a session isn't freed but left to the system,
+/// for the program ends then. What a person is told besides goes to `notes`; what can't be written
+/// there is left out.
 pub fn perform<F: Files, R: Source, W: Sink, N: Sink>(
     alloc: Global,
     task: Task<'_>,

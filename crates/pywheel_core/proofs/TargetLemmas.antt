@@ -17,7 +17,6 @@ use Rattle.pywheel_core.specs.Target.Names.{linux_arch_name}
 use Rattle.pywheel_core.specs.Target.Platforms.{down, glibc_names, linux_name, older_names}
 use Rattle.pywheel_core.specs.Target.Reading.{platform_of, python_in, python_of, python_with, release_of, shaped_platform}
 use Rattle.pywheel_core.specs.Target.Value.{TargetValue, glibc_floor, is_cpython, is_intel, is_platform, is_target}
-use Rattle.pywheel_core.specs.Texts.{before_ending}
 use Rattle.pywheel_core.specs.declared.target.cpython.CPython.{CPython}
 use Rattle.pywheel_core.specs.declared.span.Span.{Span}
 use Rattle.pywheel_core.specs.declared.target.platform.LinuxArch.{LinuxArch}
@@ -27,7 +26,7 @@ use Rattle.pywheel_core.specs.declared.target.platform.Platform.TheVariants as p
 
 -- ---- what is read is known
 
-kept_if : {A : Type 0} (test : Bool) (x y : A) → (if test then Some x else None) ≡ Some y → (test ≡ true) × (x ≡ y)
+pub kept_if : {A : Type 0} (test : Bool) (x y : A) → (if test then Some x else None) ≡ Some y → (test ≡ true) × (x ≡ y)
 kept_if true x y h = (refl, same_Some x y h)
 kept_if false x y h = absurd cc
 
@@ -59,7 +58,7 @@ platform_known text p h = elim (option_cases (shaped_platform text)) [
 pub target_known : (python place : List ℕ) (p : CPython) (q : Platform) → python_of python ≡ Some p → platform_of place ≡ Some q → (is_cpython p && is_platform q) ≡ true
 target_known python place p q h g = let a = python_known python p h in let b = platform_known place q g in rw (a, b) refl
 
-pub ruleset known = (target_known, sym)
+pub ruleset fits = (target_known, sym)
 
 pub cpython_in : (t : TargetValue) → is_target t ≡ true → is_cpython t.python ≡ true
 cpython_in t h = (and_parts (is_cpython t.python) (is_platform t.platform) h).0
@@ -169,30 +168,39 @@ linux_last arch name whole now before n e = (λ i. e i ++ (codes "linux_" ++ n i
 
 -- ---- small numbers
 
-pub manylinux_small : (minor : ℕ) (arch : LinuxArch) → is_platform (platform.Manylinux minor arch) ≡ true → minor < 255
-manylinux_small minor arch h = let p = and_parts (nat_le (glibc_floor arch) minor) (nat_le minor 99) h in let e = p.1 in grind (arith, nat_tests)
+pub manylinux_fits : (minor : ℕ) (arch : LinuxArch) → is_platform (platform.Manylinux minor arch) ≡ true → minor < 100
+manylinux_fits minor arch h = let p = and_parts (nat_le (glibc_floor arch) minor) (nat_le minor 99) h in let e = p.1 in grind (arith, nat_tests)
 
-pub musllinux_small : (minor : ℕ) (arch : LinuxArch) → is_platform (platform.Musllinux minor arch) ≡ true → minor < 255
-musllinux_small minor arch h = grind (arith, nat_tests)
+pub musllinux_fits : (minor : ℕ) (arch : LinuxArch) → is_platform (platform.Musllinux minor arch) ≡ true → minor < 100
+musllinux_fits minor arch h = grind (arith, nat_tests)
 
-mac_old : (major minor : ℕ) (arch : MacArch) → ((major == 10) && (is_intel arch && (nat_le 4 minor && nat_le minor 16))) ≡ true → (major < 255) × (minor < 255)
+mac_old : (major minor : ℕ) (arch : MacArch) → ((major == 10) && (is_intel arch && (nat_le 4 minor && nat_le minor 16))) ≡ true → (major < 100) × (minor < 100)
 mac_old major minor arch h =
     let p = and_parts (major == 10) _ h in
     let q = and_parts (is_intel arch) _ p.1 in
     let r = and_parts (nat_le 4 minor) (nat_le minor 16) q.1 in
     let a = p.0 in let b = r.1 in (grind (arith, nat_tests), grind (arith, nat_tests))
 
-mac_new : (major minor : ℕ) → (nat_le 11 major && (nat_le major 99 && (minor == 0))) ≡ true → (major < 255) × (minor < 255)
+mac_new : (major minor : ℕ) → (nat_le 11 major && (nat_le major 99 && (minor == 0))) ≡ true → (major < 100) × (minor < 100)
 mac_new major minor h =
     let p = and_parts (nat_le 11 major) _ h in
     let q = and_parts (nat_le major 99) (minor == 0) p.1 in
     let a = q.0 in let b = q.1 in (grind (arith, nat_tests), grind (arith, nat_tests))
 
-pub mac_small : (major minor : ℕ) (arch : MacArch) → is_platform (platform.MacOs major minor arch) ≡ true → (major < 255) × (minor < 255)
-mac_small major minor arch h = elim (cases_Bool ((major == 10) && (is_intel arch && (nat_le 4 minor && nat_le minor 16)))) [
+pub mac_fits : (major minor : ℕ) (arch : MacArch) → is_platform (platform.MacOs major minor arch) ≡ true → (major < 100) × (minor < 100)
+mac_fits major minor arch h = elim (cases_Bool ((major == 10) && (is_intel arch && (nat_le 4 minor && nat_le minor 16)))) [
   | inl e ↦ mac_old major minor arch e
   | inr e ↦ mac_new major minor (rw e at h)
 ]
+
+pub manylinux_small : (minor : ℕ) (arch : LinuxArch) → is_platform (platform.Manylinux minor arch) ≡ true → minor < 255
+manylinux_small minor arch h = omega (arith, manylinux_fits minor arch h)
+
+pub musllinux_small : (minor : ℕ) (arch : LinuxArch) → is_platform (platform.Musllinux minor arch) ≡ true → minor < 255
+musllinux_small minor arch h = omega (arith, musllinux_fits minor arch h)
+
+pub mac_small : (major minor : ℕ) (arch : MacArch) → is_platform (platform.MacOs major minor arch) ≡ true → (major < 255) × (minor < 255)
+mac_small major minor arch h = let fits = mac_fits major minor arch h in (omega (arith, fits.0), omega (arith, fits.1))
 
 -- ---- all words
 

@@ -1,5 +1,6 @@
 -- A target: an environment without its machine.
 pub mod Compatible
+pub mod Grammar
 pub mod Names
 pub mod Newer
 pub mod Platforms

@@ -12,6 +12,7 @@ ghost use Rattle.pywheel_core.specs.Sdist.Value.{SdistValue, sdist_text};
 ghost use Rattle.pywheel_core.specs.Tag.{AreFirsts, AreTags, IsNoTag, TagText, TagValue, is_among};
 ghost use Rattle.pywheel_core.specs.Tag.{rank_of, tag_eq, tag_of, tag_text, tags_of};
 ghost use Rattle.pywheel_core.specs.Target.Compatible.{IsCompatible};
+ghost use Rattle.pywheel_core.specs.Target.Grammar.{IsPlatform, IsPython, TargetText};
 ghost use Rattle.pywheel_core.specs.Target.Newer.{IsAtLeast, IsPart};
 ghost use Rattle.pywheel_core.specs.Target.Reading.{target_of};
 ghost use Rattle.pywheel_core.specs.Target.Tags.{target_tags};
@@ -20,7 +21,7 @@ ghost use Rattle.pywheel_core.specs.Wheel.Grammar.{Wheel};
 ghost use Rattle.pywheel_core.specs.Wheel.Reading.{set_tags_in, wheel_of};
 ghost use Rattle.pywheel_core.specs.Wheel.Value.{WheelValue};
 
-use crate::{SdistError, TagError, TagListError, WheelError};
+use crate::{SdistError, TagError, TagListError, TargetError, WheelError};
 
 /// What [`Tag::parse`](crate::Tag::parse) reads, the text is, and what the text is, it reads.
 pub fn tag_of_is_the_answer()
@@ -123,6 +124,21 @@ pub fn answers_are_never_out_of_memory()
     ensures tags { (texts : List (List ℕ)) → tags_of texts ≡ Err TagListError.Memory → ⊥ }
     ensures wheel { (text : List ℕ) → wheel_of text ≡ Err WheelError.Memory → ⊥ }
     ensures sdist { (text : List ℕ) → sdist_of text ≡ Err SdistError.Memory → ⊥ }
+{}
+
+/// What [`Target::parse`](crate::Target::parse) reads, PYTHON and PLATFORM name, and what they
+/// name, it reads. PYTHON is refused exactly where it names no CPython, and PLATFORM exactly where
+/// PYTHON names one and PLATFORM names no platform.
+pub fn target_of_is_the_answer()
+    ensures sound { (python place : List ℕ) (target : TargetValue)
+        → target_of python place ≡ Ok target → TargetText python place target }
+    ensures complete { (python place : List ℕ) (target : TargetValue)
+        → TargetText python place target → target_of python place ≡ Ok target }
+    ensures no_python { (python place : List ℕ)
+        → (target_of python place ≡ Err TargetError.Python) ↔ (IsPython python → ⊥) }
+    ensures no_platform { (python place : List ℕ)
+        → (target_of python place ≡ Err TargetError.Platform)
+        ↔ (IsPython python × (IsPlatform place → ⊥)) }
 {}
 
 /// What [`Target::parse`](crate::Target::parse) reads is a target that there is, with a release and

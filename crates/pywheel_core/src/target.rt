@@ -42,7 +42,7 @@ impl Target {
     /// `3.MINOR` or `3.MINOR.MICRO`, with `t` behind it for the free-threaded build; PLATFORM is a
     /// platform under the name of its own wheels, an older name of manylinux, or one of `linux`,
     /// `macos` and `windows`. PYTHON is judged first. It takes no memory.
-    #[tactic(auto, using(crate::proofs::TargetLemmas::known), unfolding(crate::specs::Target::Reading::target_of))]
+    #[tactic(auto, using(crate::proofs::fits), unfolding(crate::specs::Target::Reading::target_of))]
     pub fn parse(python: &str, platform: &str) -> Result<Target, TargetError>
         ensures { result ≡ target_of python.now platform.now }
     {

@@ -39,9 +39,9 @@ pub fn path_file_name(path: &str) -> Option<&str>
     text_unless_empty(last_of_path(path))
 }
 
-/// The file name that a URL ends in: the last segment of its path, percent-decoded where the decoded
-/// bytes are text (RFC 3986, sections 2.1 and 3.3); nothing where that is empty. It takes memory for
-/// the name.
+/// The file name that a URL ends in: the last segment of its path, percent-decoded where the
+/// decoded bytes are text (RFC 3986, sections 2.1 and 3.3); nothing where that is empty. It takes
+/// memory for the name.
 pub fn url_file_name(alloc: Global, url: &str) -> Result<Option<String>, AllocError>
     ensures { IfOk result
         (λ file. option_map string_bytes file

@@ -4,7 +4,8 @@ ghost use Rattle.std.specs.Prelude.{◌≡◌, ◌++◌, OnOk};
 ghost use Rattle.pylock_run.specs.Text.Field.{fields_text};
 ghost use Rattle.pylock_run.specs.Text.Refusal.{head_word, key_word, entry_word, lock_words};
 ghost use Rattle.pylock_run.specs.Text.Refusal.{lock_text, environment_words, environment_text};
-ghost use Rattle.pylock_run.specs.Text.Refusal.{line_refusal_text, line_word, refusal_text, side_text};
+ghost use Rattle.pylock_run.specs.Text.Refusal.{line_refusal_text, line_word, refusal_text};
+ghost use Rattle.pylock_run.specs.Text.Refusal.{side_text};
 
 use crate::line::refusal::LineRefusal;
 use crate::report::opening::OpenError;

@@ -2,8 +2,12 @@ pub mod Compatible
 pub mod Distinct
 pub mod Names
 pub mod Newer
+pub mod Numbers
 pub mod Once
 pub mod Parts
+pub mod PlatformText
 pub mod Platforms
+pub mod PythonText
 pub mod Read
 pub mod ReadBack
+pub mod TargetText

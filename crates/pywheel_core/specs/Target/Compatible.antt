@@ -81,8 +81,8 @@ RunsOn (platform.Windows arch) name = name ≡ windows_name arch
 
 -- ---- all three
 
--- the Python and the ABI are a pair that the CPython takes, and the platform is one whose wheels run
--- there, or any where there is no ABI
+-- the Python and the ABI are a pair that the CPython takes, and the platform is one whose wheels
+-- run there, or any where there is no ABI
 abbrev pub IsCompatible : TargetValue → TagValue → Type 0
 IsCompatible target tag = IsPair target.python tag.python tag.abi
     × (RunsOn target.platform tag.platform

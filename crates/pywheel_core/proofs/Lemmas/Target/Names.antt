@@ -1,12 +1,11 @@
 -- Which names of Pythons, ABIs and platforms differ.
-use Rattle.std.proofs.Common.{◌≡◌, ℕ, ◌+◌, ◌<◌, ◌≤◌, ◌^◌, ◌%◌, Bool, true, false, ◌==◌, ◌&&◌, ◌||◌, not, bytes_eq, List, [], ◌∷◌, ◌++◌, codes, decimal, drop, get_or, length, Some, refl, sym, subst, ap, ◌∙◌, inl, inr, arith}
-use Rattle.std.proofs.lemmas.Bool.Decides.{nat_tests}
-use Rattle.std.proofs.lemmas.Bool.{and_parts, cases_Bool, or_parts}
-use Rattle.std.proofs.lemmas.Fmt.{decimal_by_steps, decimal_injective, decimal_nonempty}
-use Rattle.std.proofs.lemmas.List.Folds.{list_any-append}
+use Rattle.std.proofs.Common.{◌≡◌, ℕ, ◌<◌, ◌^◌, Bool, true, ◌&&◌, not, bytes_eq, List, [], ◌∷◌, ◌++◌, codes, decimal, drop, get_or, length, refl, sym, ap, ◌∙◌, inl, inr, arith}
+use Rattle.std.proofs.lemmas.Bool.{and_parts, cases_Bool}
+use Rattle.std.proofs.lemmas.Fmt.{decimal_injective, decimal_nonempty}
 use Rattle.std.proofs.lemmas.Option.{same_Some}
 use Rattle.std.specs.Cmp.Lexicographic.{bytes_decides}
 use Rattle.std.specs.List.{list_any}
+use Rattle.pywheel_core.proofs.Lemmas.Target.Numbers.{decimal_lacks}
 use Rattle.pywheel_core.proofs.Lemmas.Target.Once.{IsOnce}
 use Rattle.pywheel_core.proofs.Lemmas.Texts.Cuts.{Lacks, cut_joined}
 use Rattle.pywheel_core.specs.Target.Compatible.{IsOneOf}
@@ -18,13 +17,6 @@ use Rattle.pywheel_core.specs.declared.target.platform.LinuxArch.{LinuxArch}
 
 -- ---- numbers in names
 
-digit_plain : (n : ℕ) → n < 10 → ((48 + n) == 95) ≡ false
-digit_plain n h = grind (arith, nat_tests)
-
-decimal_lacks : (n : ℕ) → n < 2 ^ 64 → Lacks 95 (decimal n)
-decimal_lacks n h = decimal_by_steps (λ _ ds. Lacks 95 ds) (λ k small. let e = digit_plain k small in rw e refl)
-    (λ k ds big rest. let e = digit_plain (k % 10) (omega arith) in list_any-append (λ b. b == 95) ds ((48 + k % 10) ∷ []) ∙ rw (rest, e) refl) n h
-
 joined_same : (c : ℕ) (x y r s : List ℕ) → Lacks c x → Lacks c y → x ++ (c ∷ r) ≡ y ++ (c ∷ s) → (x ≡ y) × (r ≡ s)
 joined_same c x y r s p q e =
     let same = same_Some (x, r) (y, s) (sym (cut_joined c x r p) ∙ ap (cut_at c) e ∙ cut_joined c y s q) in
@@ -33,7 +25,7 @@ joined_same c x y r s p q e =
 -- two numbers with `_` behind them
 pub numbered_same : (m n : ℕ) (r s : List ℕ) → m < 2 ^ 64 → n < 2 ^ 64 → decimal m ++ (95 ∷ r) ≡ decimal n ++ (95 ∷ s) → (m ≡ n) × (r ≡ s)
 numbered_same m n r s a b e =
-    let p = joined_same 95 (decimal m) (decimal n) r s (decimal_lacks m a) (decimal_lacks n b) e in
+    let p = joined_same 95 (decimal m) (decimal n) r s (decimal_lacks 95 m refl a) (decimal_lacks 95 n refl b) e in
     (decimal_injective m n a b p.0, p.1)
 
 pub cpython_same : (m n : ℕ) → m < 2 ^ 64 → n < 2 ^ 64 → cpython_name m ≡ cpython_name n → m ≡ n
