@@ -93,6 +93,12 @@ function __pylock_variables
         implementation_version
 end
 
+# __pylock_files END: the files for the word at the cursor, or for what stands behind the = of an option in it; those
+# whose names end with END first
+function __pylock_files
+    __fish_complete_suffix (commandline -ct | string replace -r -- '^--[a-z-]*=' '') $argv[1]
+end
+
 complete -c pylock -f
 complete -c pylock -n __pylock_in_none -s h -l help -d 'Print help'
 complete -c pylock -n __pylock_in_none -s V -l version -d 'Print version'
@@ -113,7 +119,7 @@ complete -c pylock -n '__pylock_in plan explain files audit diff version match n
 complete -c pylock -n '__pylock_in plan explain select files audit diff environment version match name marker requirement wheel sdist' -s h -l help -d 'Print help'
 complete -c pylock -n '__pylock_in select' -l json -d 'Print a JSON document on a line for each answer'
 complete -c pylock -n '__pylock_in files' -l format -x -a 'sha256sum aria2 urls' -d 'Print a form that another tool takes'
-complete -c pylock -n '__pylock_in diff' -l in -x -k -a '(__fish_complete_suffix .json)' -d 'Compare the plans for this environment'
+complete -c pylock -n '__pylock_in diff' -l in -x -k -a '(__pylock_files .json)' -d 'Compare the plans for this environment'
 complete -c pylock -n __pylock_in_none -a plan -d 'Print what a lock installs in an environment'
 complete -c pylock -n '__pylock_at 0 help' -a plan -d 'Print what a lock installs in an environment'
 complete -c pylock -n __pylock_in_none -a explain -d 'Print what becomes of each entry of a lock, and why'
@@ -144,6 +150,6 @@ complete -c pylock -n __pylock_in_none -a sdist -d 'Print the parts of an sdist\
 complete -c pylock -n '__pylock_at 0 help' -a sdist -d 'Print the parts of an sdist\'s file name (PEP 625)'
 complete -c pylock -n __pylock_in_none -a help -d 'Print this message or the help of the given subcommand(s)'
 complete -c pylock -n '__pylock_at 0 help' -a help -d 'Print this message or the help of the given subcommand(s)'
-complete -c pylock -n '__pylock_at 0 plan explain select files audit diff' -k -a '(__fish_complete_suffix .toml)'
-complete -c pylock -n '__pylock_at 1 plan explain select marker' -k -a '(__fish_complete_suffix .json)'
-complete -c pylock -n '__pylock_at 1 diff' -k -a '(__fish_complete_suffix .toml)'
+complete -c pylock -n '__pylock_at 0 plan explain select files audit diff' -k -a '(__pylock_files .toml)'
+complete -c pylock -n '__pylock_at 1 plan explain select marker' -k -a '(__pylock_files .json)'
+complete -c pylock -n '__pylock_at 1 diff' -k -a '(__pylock_files .toml)'
