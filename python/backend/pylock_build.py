@@ -1,9 +1,15 @@
 """Builds the wheel and the sdist of `pylock`, with the standard library alone (PEP 517).
 
-The wheel carries the module and the built library, so its tag is py3-none-PLATFORM. The library is the one that
-PYLOCK_LIBRARY names, else the one beside the module, else out/libpylock.so of the repository, which tools/library
-builds. Where PYLOCK_PROGRAM names the built program, the wheel has it as the command pylock. PYLOCK_PLATFORM names the
-platforms of the tag, with dots between them. A wheel is the same bytes for the same files.
+The wheel carries the module, with `_native` compiled by the machine's `cc`, or that which CC names, for the limited API of
+Python: its tag is cp310-abi3-PLATFORM, or cp38-abi3-PLATFORM where Python 3.8 or 3.9 builds it. The library is linked in:
+the archive that PYLOCK_ARCHIVE names, else out/libpylock.a of the repository, which tools/library builds, else
+dist/libpylock.a. Where PYLOCK_NATIVE names a compiled `_native`, the wheel has that one; PYLOCK_API names its API, as
+cp310. Where PYLOCK_PROGRAM names the built program, the wheel has it as the command pylock. PYLOCK_PLATFORM names the
+platforms of the tag, with dots between them. A wheel is the same bytes for the same files and tools.
+
+    python3 backend/pylock_build.py place FOLDER
+
+compiles `_native` and puts it in FOLDER/pylock beside links to the module's files: for PYTHONPATH.
 """
 
 import base64
@@ -12,15 +18,26 @@ import hashlib
 import io
 import os
 import re
+import shlex
+import shutil
+import subprocess
 import sys
 import sysconfig
 import tarfile
+import tempfile
 import zipfile
 
 HERE = os.path.dirname(os.path.dirname(os.path.abspath(__file__)))
-SUFFIX = {"darwin": ".dylib", "win32": ".dll"}.get(sys.platform, ".so")
-LIBRARY = "libpylock" + SUFFIX
+TOP = os.path.dirname(HERE)
 TIME = (1980, 1, 1, 0, 0, 0)
+NATIVE = "_native.abi3.so"
+WORDS = ["-std=c11", "-O2", "-Wall", "-Wextra", "-Werror", "-fPIC", "-fvisibility=hidden"]
+# calls of Python's functions without a step between, of which there are many short ones
+DIRECT = {"linux": ["-fno-plt"]}
+LINKING = {
+    "darwin": ["-bundle", "-undefined", "dynamic_lookup", "-Wl,-exported_symbol,_PyInit__native"],
+    "linux": ["-shared", "-s", "-Wl,--exclude-libs,ALL"],
+}
 
 
 def get_requires_for_build_wheel(config_settings=None):
@@ -50,20 +67,96 @@ def metadata():
     return "\n".join(lines) + "\n"
 
 
-def library():
-    """The path of the built library."""
-    named = os.environ.get("PYLOCK_LIBRARY")
-    places = [named] if named else [
-        os.path.join(HERE, "pylock", LIBRARY),
-        os.path.join(os.path.dirname(HERE), "out", LIBRARY),
-    ]
+def fail(text):
+    sys.exit("pylock: " + text)
+
+
+# ---- the compiled part
+
+
+def first(places, what):
+    """The first of the files that is there."""
     for place in places:
         if os.path.isfile(place):
             return place
-    sys.exit(
-        "pylock: there is no built library at %s: build it with tools/library, which writes out/%s, or let "
-        "PYLOCK_LIBRARY name it" % (" or ".join(places), LIBRARY)
-    )
+    return fail(what % " or ".join(places))
+
+
+def archive():
+    """The path of the built library."""
+    named = os.environ.get("PYLOCK_ARCHIVE")
+    places = [named] if named else [os.path.join(TOP, folder, "libpylock.a") for folder in ("out", "dist")]
+    return first(places, "there is no built library at %s: tools/library builds it, or PYLOCK_ARCHIVE names it")
+
+
+def header():
+    """The path of the library's header: that of the repository, or of an sdist."""
+    return first([os.path.join(folder, "include", "pylock.h") for folder in (TOP, HERE)], "there is no %s")
+
+
+def api():
+    """The limited API that is compiled for, as a tag of wheels has it."""
+    return os.environ.get("PYLOCK_API") or ("cp310" if sys.version_info >= (3, 10) else "cp38")
+
+
+def compiler():
+    words = shlex.split(os.environ.get("CC") or "cc")
+    if shutil.which(words[0]) is None:
+        fail("there is no C compiler %s, which compiles the module (CC names one)" % words[0])
+    return words
+
+
+def python_headers():
+    """The folders of Python's own headers."""
+    folders = list(dict.fromkeys(sysconfig.get_path(name) for name in ("include", "platinclude")))
+    if not any(os.path.isfile(os.path.join(folder, "Python.h")) for folder in folders):
+        fail("there is no Python.h in %s: the headers of this Python are missing" % " or ".join(folders))
+    return folders
+
+
+def sources():
+    """The paths of the files in C, in order."""
+    folder = os.path.join(HERE, "native")
+    return sorted(os.path.join(folder, name) for name in os.listdir(folder) if name.endswith(".c"))
+
+
+def compile_native(path):
+    """Compiles and links the part that is written in C."""
+    if sysconfig.get_config_var("Py_GIL_DISABLED"):
+        fail("there is no build for a free-threaded Python, as this one is")
+    words = compiler() + WORDS + DIRECT.get(sys.platform, []) + shlex.split(os.environ.get("CFLAGS", ""))
+    words.append("-DPy_LIMITED_API=0x03%02x0000" % int(api()[len("cp3") :]))
+    words.append("-I" + os.path.dirname(header()))
+    for folder in python_headers():
+        words += ["-isystem", folder]
+    words += sources() + LINKING.get(sys.platform, LINKING["linux"]) + [archive(), "-o", path]
+    if subprocess.call(words) != 0:
+        fail("the module was not compiled")
+
+
+def native():
+    """The bytes of the compiled part."""
+    named = os.environ.get("PYLOCK_NATIVE")
+    if named:
+        return content(named)
+    with tempfile.TemporaryDirectory() as folder:
+        path = os.path.join(folder, NATIVE)
+        compile_native(path)
+        return content(path)
+
+
+def place(folder):
+    """Puts the compiled part into the folder's folder pylock, and links to the files of the module beside it."""
+    package = os.path.join(folder, "pylock")
+    os.makedirs(package, exist_ok=True)
+    for module in modules():
+        link = os.path.join(package, *module.split("/"))
+        os.makedirs(os.path.dirname(link), exist_ok=True)
+        os.symlink(os.path.join(HERE, "pylock", *module.split("/")), link)
+    compile_native(os.path.join(package, NATIVE))
+
+
+# ---- the wheel
 
 
 def platform():
@@ -73,9 +166,14 @@ def platform():
 
 
 def modules():
-    """The names of the module's files, in order."""
+    """The names of the module's files, with those of its folders, in order."""
     folder = os.path.join(HERE, "pylock")
-    return sorted(name for name in os.listdir(folder) if name.endswith(".py") or name == "py.typed")
+    found = []
+    for place, _, names in os.walk(folder):
+        within = os.path.relpath(place, folder).replace(os.sep, "/")
+        ours = [name for name in names if name.endswith((".py", ".pyi")) or name == "py.typed"]
+        found += [name if within == "." else within + "/" + name for name in ours]
+    return sorted(found)
 
 
 def content(path):
@@ -90,7 +188,7 @@ def read(*names):
 def tags(platforms):
     """The file WHEEL, with a tag for each platform."""
     lines = ["Wheel-Version: 1.0", "Generator: pylock_build", "Root-Is-Purelib: false"]
-    lines += ["Tag: py3-none-" + name for name in platforms.split(".")]
+    lines += ["Tag: %s-abi3-%s" % (api(), name) for name in platforms.split(".")]
     return "\n".join(lines) + "\n"
 
 
@@ -121,12 +219,13 @@ def build_wheel(wheel_directory, config_settings=None, metadata_directory=None):
     keys = project()
     stem = "%s-%s" % (keys["name"], keys["version"])
     platforms = platform()
-    name = "%s-py3-none-%s.whl" % (stem, platforms)
+    name = "%s-%s-abi3-%s.whl" % (stem, api(), platforms)
     program = os.environ.get("PYLOCK_PROGRAM")
+    compiled = native()
     wheel = Wheel(os.path.join(wheel_directory, name), stem + ".dist-info")
     for module in modules():
         wheel.add("pylock/" + module, read("pylock", module))
-    wheel.add("pylock/" + LIBRARY, content(library()), 0o755)
+    wheel.add("pylock/" + NATIVE, compiled, 0o755)
     if program:
         wheel.add(stem + ".data/scripts/pylock", content(program), 0o755)
     wheel.add(stem + ".dist-info/METADATA", metadata().encode())
@@ -136,19 +235,27 @@ def build_wheel(wheel_directory, config_settings=None, metadata_directory=None):
 
 
 def build_sdist(sdist_directory, config_settings=None):
-    """The module and this backend, without a library: PYLOCK_LIBRARY names one where the sdist is built."""
+    """The module, its part in C and this backend, without a library: PYLOCK_ARCHIVE names one where the sdist is built."""
     keys = project()
     stem = "%s-%s" % (keys["name"], keys["version"])
     files = [("PKG-INFO", metadata().encode()), ("pyproject.toml", read("pyproject.toml"))]
     files.append(("backend/pylock_build.py", read("backend", "pylock_build.py")))
+    files.append(("include/pylock.h", content(header())))
+    files += [("native/" + name, read("native", name)) for name in sorted(os.listdir(os.path.join(HERE, "native")))]
     files += [("pylock/" + module, read("pylock", module)) for module in modules()]
     packed = io.BytesIO()
     with tarfile.open(fileobj=packed, mode="w", format=tarfile.PAX_FORMAT) as file:
-        for name, content in files:
+        for name, packed_content in files:
             info = tarfile.TarInfo(stem + "/" + name)
-            info.size = len(content)
+            info.size = len(packed_content)
             info.mode = 0o644
-            file.addfile(info, io.BytesIO(content))
+            file.addfile(info, io.BytesIO(packed_content))
     with open(os.path.join(sdist_directory, stem + ".tar.gz"), "wb") as file:
         file.write(gzip.compress(packed.getvalue(), mtime=0))
     return stem + ".tar.gz"
+
+
+if __name__ == "__main__":
+    if len(sys.argv) != 3 or sys.argv[1] != "place":
+        sys.exit((__doc__ or "").split("\n\n", 1)[1])
+    place(sys.argv[2])

@@ -7,13 +7,15 @@ submodules of the same names, so that a program changes only its imports. Locks 
     for pick in lock.plan(pylock.environment()):
         print(pick.name, pick.version, pick.place)
 
-Where a meaning differs from that of `packaging`, docs/PYTHON.md says so in a table. Versions, specifiers, markers,
-requirements and environments can't be changed and may be shared between threads; a Lock and a Session stay on the
-thread that made them.
+Where a meaning differs from that of `packaging`, docs/PYTHON.md says so in a table. Versions, markers, tags and
+environments can't be changed, and may be shared between threads as specifiers and requirements may to which nothing is
+assigned; a Lock and a Session stay on the thread that made them.
 """
 
 from __future__ import annotations
 
+# the first of all: it tells where the compiled part is missing
+from . import _library  # isort: skip
 from . import markers, requirements, specifiers, tags, utils, version
 from ._environment import VARIABLES, Environment, environment
 from ._errors import (
@@ -37,7 +39,7 @@ from .markers import (
 )
 from .requirements import InvalidRequirement, Requirement
 from .specifiers import InvalidSpecifier, Specifier, SpecifierSet
-from .tags import InvalidTag, Tag, parse_tag
+from .tags import InvalidTag, Tag, UnsortedTagsError, parse_tag
 from .utils import (
     BuildTag,
     InvalidName,
@@ -54,11 +56,11 @@ from .version import VERSION_PATTERN, InvalidVersion, Version, parse, parse_all,
 
 __all__ = [
     "BuildTag", "Environment", "Explanation", "Finding", "InvalidEdit", "InvalidEnvironment", "InvalidLock",
-    "InvalidMarker", "InvalidName", "InvalidRequirement", "InvalidSdistFilename", "InvalidSpecifier", "InvalidTag", "InvalidTarget",
-    "InvalidVersion", "InvalidWheelFilename", "Lock", "Marker", "MarkerFault", "NormalizedName", "Options", "Package",
-    "Pick", "PlanFault", "Refusal", "Requirement", "Session", "Specifier", "SpecifierSet", "StrictRefusal", "Tag",
-    "UndefinedComparison", "UndefinedEnvironmentName", "VARIABLES", "VERSION_PATTERN", "Verdict", "Version",
-    "WrongThread", "canonicalize_name", "canonicalize_version", "default_environment", "environment",
+    "InvalidMarker", "InvalidName", "InvalidRequirement", "InvalidSdistFilename", "InvalidSpecifier", "InvalidTag",
+    "InvalidTarget", "InvalidVersion", "InvalidWheelFilename", "Lock", "Marker", "MarkerFault", "NormalizedName", "Options",
+    "Package", "Pick", "PlanFault", "Refusal", "Requirement", "Session", "Specifier", "SpecifierSet", "StrictRefusal", "Tag",
+    "UndefinedComparison", "UndefinedEnvironmentName", "UnsortedTagsError", "VARIABLES", "VERSION_PATTERN", "Verdict",
+    "Version", "WrongThread", "canonicalize_name", "canonicalize_version", "default_environment", "environment",
     "is_normalized_name", "markers", "parse", "parse_all", "parse_sdist_filename", "parse_tag", "parse_wheel_filename",
     "requirements", "sorted_versions", "specifiers", "tags", "utils", "version", "version_key",
 ]

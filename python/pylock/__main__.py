@@ -12,7 +12,7 @@ import os
 import sys
 from typing import Any, List, Optional, Sequence, Tuple
 
-from . import _native
+from . import _library as _native
 from ._environment import read_source
 from ._errors import InvalidEdit, InvalidEnvironment, InvalidLock
 from ._lock import lock_head

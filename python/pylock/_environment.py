@@ -3,9 +3,9 @@
 from __future__ import annotations
 
 import json
-from typing import Any, Iterable, Iterator, Mapping, NoReturn, Optional, Tuple
+from typing import Any, Iterable, Mapping, NoReturn, Optional, Tuple
 
-from . import _native
+from . import _library as _native
 
 __all__ = ["Environment", "VARIABLES", "environment"]
 
@@ -121,20 +121,6 @@ def environment_bytes(environment: Any) -> bytes:
     raise TypeError("expected an Environment, a mapping or bytes, not %s" % type(environment).__name__)
 
 
-def _sys_tags() -> Iterator[Any]:
-    """The tags of the running Python, by the library `packaging` or the copy of it in pip."""
-    try:
-        from packaging.tags import sys_tags
-    except ImportError:
-        try:
-            from pip._vendor.packaging.tags import sys_tags
-        except ImportError:
-            raise ImportError(
-                "pylock.environment: this Python has neither the library `packaging` nor a pip that brings it"
-            ) from None
-    return sys_tags()  # type: ignore[no-any-return]
-
-
 def environment(python: Optional[str] = None, platform: Optional[str] = None) -> Environment:
     """The environment of the running Python, as `tools/environment` writes it; or that of a target, of which both are
     given: a Python as "3.12", "3.12.4" or "3.13t", and a platform as "manylinux_2_28_x86_64", "linux", "macos" or
@@ -147,13 +133,14 @@ def environment(python: Optional[str] = None, platform: Optional[str] = None) ->
     >>> sorted(json.loads(json.dumps(environment())))
     ['environment', 'tags']
 
-    The variables are those of the standard library; the tags are asked of `packaging`, or of pip's copy of it: where
-    there is neither, ImportError is raised. A target that is none is refused as InvalidTarget.
+    The variables and tags of the running Python are `default_environment` of `pylock.markers` and `sys_tags` of
+    `pylock.tags`. A target that is none is refused as InvalidTarget.
     """
     if python is not None and platform is not None:
         return Environment.read(_native.environment_target(python, platform))
     if python is not None or platform is not None:
         raise TypeError("expected both python and platform, or neither")
     from .markers import running_variables
+    from .tags import sys_tags
 
-    return Environment(running_variables(), (str(tag) for tag in _sys_tags()))
+    return Environment(running_variables(), map(str, sys_tags()))

@@ -105,6 +105,12 @@ class InvalidTag(Refusal):
     __module__ = "pylock.tags"
 
 
+class UnsortedTagsError(Refusal):
+    """A part of a tag has its pieces out of order (PEP 425), and order was asked for."""
+
+    __module__ = "pylock.tags"
+
+
 class InvalidLock(Refusal):
     """Bytes are no `pylock.toml` (PEP 751). `words` are those that the program prints."""
 

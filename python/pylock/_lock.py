@@ -8,8 +8,8 @@ from typing import (
     TYPE_CHECKING, Any, Dict, Iterable, List, Mapping, NamedTuple, NoReturn, Optional, Tuple, TypedDict, Union,
 )
 
-from . import _native
-from ._environment import Environment, environment_bytes, read_source
+from . import _library as _native
+from ._environment import VARIABLES, Environment, environment_bytes, read_source
 from ._errors import InvalidEdit, PlanFault, StrictRefusal, WrongThread
 from .markers import Marker
 from .specifiers import SpecifierSet
@@ -144,6 +144,26 @@ def _picks(text: str) -> List[Pick]:
     if fault is not None:
         raise PlanFault(fault["id"], fault.get("name"), fault["code"], fault.get("detail"))
     return [_pick(source) for source in document["plan"]]
+
+
+def _plain_picks(text: str) -> Optional[List[Pick]]:
+    """The plan of an answer in lines, of files of a lock that has no path: so the place of each is its URL. None where a
+    line has something else than a file with a URL and one hash, of which the JSON text says more."""
+    if "\\" in text:
+        return None
+    picks = []
+    for line in text.split("\n")[1:-1]:
+        number, name, version, kind, file, place, hashes, _, subdirectory = line.split("\t")
+        algorithm, sign, value = hashes.partition("=")
+        if kind not in ("wheel", "sdist", "archive") or place == "-" or not sign or "," in value or "=" in value:
+            return None
+        picks.append(
+            Pick(
+                int(number), name, None if version == "-" else version, kind, None if file == "-" else file, place,
+                place, None, {algorithm: value}, None, None if subdirectory == "-" else subdirectory,
+            )
+        )
+    return picks
 
 
 def _findings(text: str) -> List[Finding]:
@@ -326,6 +346,20 @@ def given_bytes(content: Any) -> bytes:
     raise TypeError("expected a Lock or bytes, not %s" % type(content).__name__)
 
 
+def _given(blank: Optional[Session], environment: AnyEnvironment) -> Optional[Session]:
+    """The session without variables and tags, with those of a kept environment; None where it can't be given them."""
+    if blank is None or not isinstance(environment, Environment):
+        return None
+    try:
+        for name, value in environment.variables.items():
+            if name in VARIABLES:
+                blank.set(name, value)
+        blank.tags(environment.tags)
+    except InvalidEdit:
+        return None
+    return blank
+
+
 class Lock(_OfThread):
     """A lock: a valid `pylock.toml`.
 
@@ -354,17 +388,21 @@ class Lock(_OfThread):
     A lock stays on the thread that made it, and can't be copied or pickled.
     """
 
-    __slots__ = ("_content", "_session", "_taken_strictly", "_head", "_packages", "__weakref__")
+    __slots__ = ("_content", "_session", "_taken_strictly", "_head", "_packages", "_has_paths", "__weakref__")
 
     def __init__(self, content: bytes) -> None:
         self._keep_thread()
         self._content = given_bytes(content)
-        self._head = lock_head(self._content)
-        # the session on the environment that was asked for last, as it was started
-        self._session: Optional[Tuple[bytes, Session]] = None
+        # read when it is asked for
+        self._head: Optional[Head] = None
+        # the session on the environment that was asked for last, as it was started: at first without variables and tags,
+        # so that the lock is judged here
+        self._session: Optional[Tuple[bytes, Session]] = (_NOTHING, Session(self._content, _NOTHING))
         # whether one was started strictly, so that every other one can be
         self._taken_strictly = False
         self._packages: Optional[Tuple[Package, ...]] = None
+        # whether a source may have a path: None until it was asked for
+        self._has_paths: Optional[bool] = None
 
     @classmethod
     def read(cls, source: Any) -> Lock:
@@ -390,6 +428,8 @@ class Lock(_OfThread):
 
     def _checked_head(self) -> Head:
         self._check_thread()
+        if self._head is None:
+            self._head = lock_head(self._content)
         return self._head
 
     @property
@@ -420,13 +460,18 @@ class Lock(_OfThread):
 
     # ---- what becomes of it ----
 
-    def _started(self, environment: bytes, strict: bool = False) -> Session:
+    def _started(self, environment: AnyEnvironment, strict: bool = False) -> Session:
         """A session on the environment with nothing edited: the one that is kept, or a new one."""
+        text = environment_bytes(environment)
         kept = self._session
         strict = strict and not self._taken_strictly
-        if strict or kept is None or kept[0] != environment:
-            kept = self._session = (environment, Session(self._content, environment, strict=strict))
+        if strict or kept is None or kept[0] != text:
+            # the first environment is given to the session that has none, so the lock isn't read anew
+            blank = kept[1] if kept is not None and kept[0] == _NOTHING and not strict else None
+            self._session = None
+            session = _given(blank, environment) or Session(self._content, text, strict=strict)
             self._taken_strictly = self._taken_strictly or strict
+            kept = self._session = text, session
         return kept[1]
 
     def _edits(self, options: Options) -> List[Tuple[str, ...]]:
@@ -456,7 +501,7 @@ class Lock(_OfThread):
         """A session with the options' edits."""
         self._check_thread()
         edits = self._edits(options)
-        session = self._started(environment_bytes(environment), bool(options.get("strict")))
+        session = self._started(environment, bool(options.get("strict")))
         if edits:
             # what is edited isn't kept for the next question
             self._session = None
@@ -471,7 +516,16 @@ class Lock(_OfThread):
         Raises PlanFault where the lock can't be installed so, InvalidEdit where an option is refused, and
         InvalidEnvironment where the environment is; with `strict`, before any of these, StrictRefusal.
         """
-        return self._asked(environment, options).answer()
+        session = self._asked(environment, options)
+        if self._has_paths is None:
+            # no key of TOML is `path` without these letters, but for an escape
+            self._has_paths = b"path" in self._content or b"\\" in self._content
+        if not self._has_paths:
+            text, is_plan = _native.session_answer(session._kept, False)
+            picks = _plain_picks(text) if is_plan else None
+            if picks is not None:
+                return picks
+        return session.answer()
 
     def explain(self, environment: AnyEnvironment, **options: Unpack[Options]) -> Explanation:
         """What becomes of the head and of each entry, with the options of `plan`."""

@@ -7,8 +7,8 @@
 What is different: a marker is refused where it has `os.name` or another old spelling of a variable, a backslash in a
 quoted text, more than 64 open parentheses, or `extras` and `dependency_groups` elsewhere than right of `in` or
 `not in`. Two texts are compared as versions where the left one is a version and the right one an operand, and as texts
-otherwise; `packaging` refuses a left one that isn't a version. Two variables are compared by their values, and `extra`
-as a name alone. A marker can't be changed.
+otherwise, whatever the variable; `packaging` goes by the variable. Two variables are compared by their values, and
+`extra` as a name alone. A marker can't be changed.
 """
 
 from __future__ import annotations
@@ -18,14 +18,16 @@ import os
 import platform
 import re
 import sys
-from typing import Any, Dict, FrozenSet, List, Mapping, Optional, Tuple, Union
+from typing import AbstractSet, Any, Dict, FrozenSet, List, Literal, Mapping, Optional, Tuple, TypedDict, Union
 
 from . import _native
-from ._environment import Environment, variables_text
+from ._environment import Environment as KeptEnvironment
 from ._errors import InvalidMarker, MarkerFault, UndefinedComparison, UndefinedEnvironmentName
 from .utils import canonicalize_name
 
 __all__ = [
+    "Environment",
+    "EvaluateContext",
     "InvalidMarker",
     "Marker",
     "MarkerFault",
@@ -40,8 +42,27 @@ _TOKEN = re.compile(r"[ \t\n\v\f\r]*(?:[\"']|[()]|[=!<>~]+|[A-Za-z0-9_]+)")
 
 _Atom = Tuple[str, str, str]
 
+EvaluateContext = Literal["metadata", "lock_file", "requirement"]
+"""Where a marker stands: it says which of `extra` and the sets are there without being given."""
 
-def default_environment() -> Dict[str, str]:
+
+class Environment(TypedDict):
+    """The variables of the running Python, for types. What is kept for many markers is `pylock.Environment`."""
+
+    implementation_name: str
+    implementation_version: str
+    os_name: str
+    platform_machine: str
+    platform_release: str
+    platform_system: str
+    platform_version: str
+    python_full_version: str
+    platform_python_implementation: str
+    python_version: str
+    sys_platform: str
+
+
+def default_environment() -> Environment:
     """The variables of the running Python.
 
     >>> sorted(default_environment())[:3]
@@ -71,28 +92,43 @@ def running_variables() -> Dict[str, str]:
 
     A Python that is built from its repository is 3.13.0+, which is no version: it is read as 3.13.0+local.
     """
-    variables = default_environment()
+    variables: Dict[str, str] = dict(default_environment())  # type: ignore[arg-type]
     if variables["python_full_version"].endswith("+"):
         variables["python_full_version"] += "local"
     return variables
 
 
+@functools.lru_cache(maxsize=1)
+def _running() -> Dict[str, str]:
+    return running_variables()
+
+
 @functools.lru_cache(maxsize=64)
 def _environment(
     laid_over: FrozenSet[Tuple[str, str]], running: bool, extras: FrozenSet[str], groups: FrozenSet[str]
-) -> _native.KeptEnvironment:
+) -> _native.Environment:
     """The variables, over those of the running Python where it is asked, kept for the next time."""
-    variables = running_variables() if running else {}
+    variables = dict(_running()) if running else {}
     variables.update(laid_over)
-    kept = _native.environment_read(variables_text(variables, ()))
-    _native.environment_add(kept, sorted(extras), sorted(groups))
+    kept = _native.environment_of(variables)
+    for extra in sorted(extras):
+        kept.add_extra(extra)
+    for group in sorted(groups):
+        kept.add_group(group)
     return kept
 
 
+@functools.lru_cache(maxsize=1)
+def _layers() -> _native.Layers:
+    """The variables of the running Python, for mappings of variables to be laid over."""
+    return _native.Layers(_running())
+
+
 _NONE: FrozenSet[Any] = frozenset()
+_EMPTY: Mapping[str, Any] = {}
 
 
-def _mapped(mapping: Optional[Mapping[str, Any]], running: bool) -> _native.KeptEnvironment:
+def _mapped(mapping: Optional[Mapping[str, Any]], running: bool) -> _native.Environment:
     """The environment of a mapping, whose sets `extras` and `dependency_groups` are asked for."""
     if mapping is None:
         return _environment(_NONE, running, _NONE, _NONE)
@@ -205,12 +241,14 @@ class Marker:
     `text` is the text as it was given; `str` writes it anew as `packaging` does, and markers are equal where that is.
     """
 
-    __slots__ = ("_given", "_kept", "_string", "__weakref__")
+    __slots__ = ("_given", "_kept", "_string", "_sets", "__weakref__")
 
     def __init__(self, marker: str) -> None:
-        self._kept = _native.marker_parse(marker)
+        self._kept = _native.Marker(marker)
         self._given = marker
         self._string: Optional[str] = None
+        # the sets that it reads, once they are known
+        self._sets: Optional[Tuple[str, ...]] = None
 
     @property
     def text(self) -> str:
@@ -220,15 +258,16 @@ class Marker:
     def __str__(self) -> str:
         string = self._string
         if string is None:
-            atoms = _atoms(_tokens(self._given), 0)[0]
-            # as `packaging` has it: the name in the first comparison alone
-            if isinstance(atoms[0], tuple):
-                atoms[0] = _normal_extra(atoms[0])
+            # as `packaging` has it: names in normal form but in parentheses
+            atoms = [_normal_extra(atom) if isinstance(atom, tuple) else atom for atom in self._pieces()]
             string = self._string = _format(atoms)
         return string
 
+    def _pieces(self) -> List[Any]:
+        return _atoms(_tokens(self._given), 0)[0]
+
     def __repr__(self) -> str:
-        return "<Marker('%s')>" % self
+        return "<Marker(%r)>" % str(self)
 
     def __hash__(self) -> int:
         return hash(("Marker", str(self)))
@@ -237,6 +276,26 @@ class Marker:
         if not isinstance(other, Marker):
             return NotImplemented
         return str(self) == str(other)
+
+    def _joined(self, word: str, other: Marker) -> Marker:
+        texts = []
+        for marker in (self, other):
+            pieces = marker._pieces()
+            plain = len(pieces) == 1 and isinstance(pieces[0], tuple)
+            texts.append(str(marker) if plain else "(%s)" % marker)
+        return type(self)((" %s " % word).join(texts))
+
+    def __and__(self, other: Marker) -> Marker:
+        """The marker that both are true.
+
+        >>> Marker("os_name == 'nt' or os_name == 'os2'") & Marker("extra == 'x'")
+        <Marker('(os_name == "nt" or os_name == "os2") and extra == "x"')>
+        """
+        return self._joined("and", other) if isinstance(other, Marker) else NotImplemented
+
+    def __or__(self, other: Marker) -> Marker:
+        """The marker that one of them is true."""
+        return self._joined("or", other) if isinstance(other, Marker) else NotImplemented
 
     def __copy__(self) -> Marker:
         return self
@@ -248,7 +307,11 @@ class Marker:
         return type(self), (self.text,)
 
     def evaluate(
-        self, environment: Union[Environment, Mapping[str, Any], None] = None, *, extra: Optional[str] = None
+        self,
+        environment: Union[KeptEnvironment, Mapping[str, Union[str, AbstractSet[str]]], None] = None,
+        context: EvaluateContext = "metadata",
+        *,
+        extra: Optional[str] = None,
     ) -> bool:
         """The value of the marker: in the running Python with the mapping laid over its variables, or in a kept
         `Environment` as it is.
@@ -257,24 +320,58 @@ class Marker:
         True
         >>> Marker("extra == 'tests'").evaluate(extra="Tests")
         True
+        >>> Marker("'tests' in extras").evaluate({"extras": {"Tests"}}, "lock_file")
+        True
 
-        The operand `extra` is the text of `extra`, else of the mapping's `extra`, else empty; it is compared as a
-        name. The mapping's `extras` and `dependency_groups` are sets of names. The variables of the running Python
-        are read once, and mappings that come again are kept for some time.
+        The operand `extra` is the text of `extra`, else of the mapping's `extra`, else empty in the metadata of a
+        distribution (`context`), and unset elsewhere; it is compared as a name. The mapping's `extras` and
+        `dependency_groups` are sets of names, which are empty in a lock file where it has none, and unset elsewhere.
+        The variables of the running Python are read once, and mappings that come again are kept for some time.
 
-        Raises UndefinedEnvironmentName where a variable isn't set, UndefinedComparison where `~=` or `===` compares
-        what isn't a version or `extra` stands beside another operator than `==`, `!=`, `in` and `not in`, and
-        MarkerFault where a version has a number past 128 bits.
+        Raises UndefinedEnvironmentName where a variable or a set isn't set, UndefinedComparison where `~=` or `===`
+        compares what isn't a version or `extra` stands beside another operator than `==`, `!=`, `in` and `not in`, and
+        MarkerFault where `extra` isn't set or a version has a number past 128 bits.
         """
-        if isinstance(environment, Environment):
+        sets = self._sets
+        if sets is None:
+            sets = self._sets = self._read_sets()
+        if not sets and (environment is None or type(environment) is dict):
+            value = self._kept.evaluate_over(_layers(), environment, extra, context == "metadata", self._given)
+            if value is not None:
+                return value
+        mapping: Mapping[str, Any] = _EMPTY
+        if isinstance(environment, KeptEnvironment):
             kept = environment._kept
         else:
             kept = _mapped(environment, True)
-            if extra is None and environment is not None:
-                extra = environment.get("extra")
-        return _native.marker_evaluate_with_extra(self._kept, kept, extra or "", self._given)
+            if environment is not None:
+                mapping = environment
+                if extra is None:
+                    extra = mapping.get("extra")
+        if sets and context != "lock_file":
+            self._find_sets(sets, mapping)
+        if extra is None:
+            if context != "metadata" and "extra" not in mapping:
+                return self._kept.evaluate(kept, None, self._given)
+            extra = ""
+        return self._kept.evaluate(kept, extra, self._given)
 
-    def evaluate_exactly(self, environment: Union[Environment, Mapping[str, Any]]) -> bool:
+    def _read_sets(self) -> Tuple[str, ...]:
+        """The sets that the marker reads."""
+        text = self._given
+        if "extras" not in text and "dependency_groups" not in text:
+            return ()
+        tokens = _tokens(text)
+        return tuple(name for name in ("extras", "dependency_groups") if name in tokens)
+
+    def _find_sets(self, sets: Tuple[str, ...], mapping: Mapping[str, Any]) -> None:
+        """Refuses a set that isn't given."""
+        for name in sets:
+            if name not in mapping:
+                message = "Marker without a value: %r (it reads %s, which isn't set)" % (self._given, name)
+                raise UndefinedEnvironmentName(message, word="marker-unset")
+
+    def evaluate_exactly(self, environment: Union[KeptEnvironment, Mapping[str, Any]]) -> bool:
         """The value of the marker in exactly this environment, as the installation steps of a lock want it: nothing
         stands under a mapping, and to read `extra` is a fault.
 
@@ -283,5 +380,5 @@ class Marker:
             ...
         pylock.markers.UndefinedEnvironmentName: Marker without a value: "os_name == 'nt'" (it reads a variable that isn't set)
         """
-        kept = environment._kept if isinstance(environment, Environment) else _mapped(environment, False)
-        return _native.marker_evaluate(self._kept, kept, self._given)
+        kept = environment._kept if isinstance(environment, KeptEnvironment) else _mapped(environment, False)
+        return self._kept.evaluate(kept, None, self._given)

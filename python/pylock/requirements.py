@@ -5,14 +5,14 @@
     'requests'
 
 What is different: the markers and specifiers of this library are read, with their differences; empty pieces between
-commas are taken, as `SpecifierSet` takes them; and a requirement can't be changed, so its extras are a frozenset.
+commas are taken, as `SpecifierSet` takes them.
 """
 
 from __future__ import annotations
 
-from typing import Any, FrozenSet, Iterator, List, Optional, Tuple
+from typing import Any, Iterator, List, Optional, Set, Tuple
 
-from . import _native
+from . import _library as _native
 from ._errors import InvalidRequirement
 from .markers import Marker
 from .specifiers import SpecifierSet
@@ -24,7 +24,7 @@ _WHITE = " \t\n\v\f\r"
 
 
 class Requirement:
-    """A requirement: its name, extras and marker as they are written.
+    """A requirement: its name, extras and marker as they are written. They can be assigned.
 
     >>> requirement = Requirement("Foo_Bar [b, a] >= 1.0 ; os_name == 'nt'")
     >>> requirement.name, sorted(requirement.extras), requirement.specifier, requirement.url, requirement.marker
@@ -39,30 +39,36 @@ class Requirement:
     pylock.requirements.InvalidRequirement: Invalid requirement: 'a >= x' (its specifier set)
     """
 
-    __slots__ = ("_given", "_fields", "_extras", "_specifier", "_marker", "__weakref__")
+    __slots__ = ("name", "url", "_given", "_fields", "_extras", "_specifier", "_marker", "__weakref__")
+
+    name: str
+    """The name, as it is written."""
+    url: Optional[str]
+    """The URL."""
 
     def __init__(self, requirement_string: str) -> None:
-        self._fields: List[Optional[str]] = _native.requirement(requirement_string)
+        fields = _native.requirement(requirement_string)
+        self._fields: List[Optional[str]] = fields
         self._given = requirement_string
-        self._extras: Optional[FrozenSet[str]] = None
+        self.name = fields[0]  # type: ignore[assignment]
+        self.url = fields[3]
+        self._extras: Optional[Set[str]] = None
         self._specifier: Optional[SpecifierSet] = None
-        self._marker: Optional[Marker] = None
+        # a tuple once it was read or given
+        self._marker: Optional[Tuple[Optional[Marker]]] = None
 
     @property
-    def name(self) -> str:
-        """The name, as it is written."""
-        name = self._fields[0]
-        assert name is not None
-        return name
-
-    @property
-    def extras(self) -> FrozenSet[str]:
+    def extras(self) -> Set[str]:
         """The extras, as they are written."""
         extras = self._extras
         if extras is None:
             field = self._fields[1]
-            extras = self._extras = frozenset(field.split(",") if field else ())
+            extras = self._extras = set(field.split(",") if field else ())
         return extras
+
+    @extras.setter
+    def extras(self, value: Set[str]) -> None:
+        self._extras = value
 
     @property
     def specifier(self) -> SpecifierSet:
@@ -72,25 +78,28 @@ class Requirement:
             specifier = self._specifier = SpecifierSet(self._set_text() if self._fields[2] else "")
         return specifier
 
-    @property
-    def url(self) -> Optional[str]:
-        """The URL."""
-        return self._fields[3]
+    @specifier.setter
+    def specifier(self, value: SpecifierSet) -> None:
+        self._specifier = value
 
     @property
     def marker(self) -> Optional[Marker]:
         """The marker."""
-        text = self._fields[4]
-        if text is None:
-            return None
         marker = self._marker
         if marker is None:
-            marker = self._marker = Marker(text)
-        return marker
+            text = self._fields[4]
+            marker = self._marker = (None if text is None else Marker(text),)
+        return marker[0]
+
+    @marker.setter
+    def marker(self, value: Optional[Marker]) -> None:
+        self._marker = (value,)
 
     def _set_text(self) -> str:
         """The text of the set, in a requirement that has one: what stands behind name and extras, up to a `;`."""
-        text = self._given.lstrip(_WHITE)[len(self.name) :].lstrip(_WHITE)
+        name = self._fields[0]
+        assert name is not None
+        text = self._given.lstrip(_WHITE)[len(name) :].lstrip(_WHITE)
         if text.startswith("["):
             text = text[text.index("]") + 1 :]
         text = text.split(";", 1)[0].strip(_WHITE)
@@ -103,7 +112,7 @@ class Requirement:
         if self.specifier:
             yield str(self.specifier)
         if self.url:
-            yield "@ " + self.url
+            yield " @ " + self.url
             if self.marker:
                 yield " "
         if self.marker:
@@ -113,10 +122,10 @@ class Requirement:
         return "".join(self._pieces(self.name))
 
     def __repr__(self) -> str:
-        return "<Requirement('%s')>" % self
+        return "<Requirement(%r)>" % str(self)
 
     def __hash__(self) -> int:
-        return hash(("Requirement", *self._pieces(canonicalize_name(self.name))))
+        return hash((canonicalize_name(self.name), frozenset(self.extras), self.specifier, self.url, self.marker))
 
     def __eq__(self, other: object) -> bool:
         if not isinstance(other, Requirement):
@@ -129,11 +138,5 @@ class Requirement:
             and self.marker == other.marker
         )
 
-    def __copy__(self) -> Requirement:
-        return self
-
-    def __deepcopy__(self, memo: Any) -> Requirement:
-        return self
-
     def __reduce__(self) -> Tuple[Any, ...]:
-        return type(self), (self._given,)
+        return type(self), (str(self),)

@@ -4,34 +4,30 @@
     >>> "1.4" in SpecifierSet(">=1.2,!=1.3.*,<2")
     True
 
-Pre-releases are treated as `packaging` 24.2 and 25.0 treat them: one is admitted only where it is asked for, by
-`prereleases=True` or by a specifier that names one. `admits` is the rule of versions alone, which counts them as any
-other version; the installation steps of a lock use that one.
+Pre-releases are treated as `packaging` 26 treats them: `in` and `contains` admit them, and `filter` gives them where it
+finds no final release, unless `prereleases` says otherwise. `admits` is the rule of versions alone, which knows no such
+option; the installation steps of a lock use that one.
 
 What is different: a number has at most 128 bits; white space is ASCII white space; `===` wants an operand, without a
-comma; of `~=` the version counts and not how it is written; and a set can't be changed, so `prereleases` is given where
-it is made.
+comma; of `~=` the version counts and not how it is written; and beside a pre-release or a post-release `>` and `<` are
+those of `packaging` up to 26.0.
 """
 
 from __future__ import annotations
 
-import re
-from typing import Any, Iterable, Iterator, List, Optional, Tuple, TypeVar, Union
+import abc
+from operator import attrgetter
+from typing import Any, Callable, Iterable, Iterator, List, Optional, Tuple, TypeVar, Union, overload
 
 from . import _native
-from ._errors import InvalidSpecifier, InvalidVersion
-from .utils import canonicalize_version
+from ._errors import InvalidSpecifier
 from .version import Version
 
-__all__ = ["InvalidSpecifier", "Specifier", "SpecifierSet"]
+__all__ = ["BaseSpecifier", "InvalidSpecifier", "Specifier", "SpecifierSet"]
 
 UnparsedVersion = Union[Version, str]
 UnparsedVersionVar = TypeVar("UnparsedVersionVar", bound=UnparsedVersion)
-
-_WHITE = " \t\n\v\f\r"
-_OPERATORS = ("===", "~=", "==", "!=", "<=", ">=", "<", ">")
-# a text of these alone is a release, if it is a version at all
-_RELEASE = re.compile(r"[0-9.]*\Z").match
+_Item = TypeVar("_Item")
 
 
 def _given(item: UnparsedVersion) -> str:
@@ -43,77 +39,97 @@ def _given(item: UnparsedVersion) -> str:
     raise TypeError("expected a Version or a str, not %s" % type(item).__name__)
 
 
-def _is_prerelease(item: UnparsedVersion) -> bool:
-    """Whether it is a pre-release; false also of some texts that are no versions."""
-    if _RELEASE(_given(item)):
-        return False
-    return (item if isinstance(item, Version) else Version(item)).is_prerelease
+class BaseSpecifier(metaclass=abc.ABCMeta):
+    """What `Specifier` and `SpecifierSet` are instances of, for `isinstance`, and for specifiers of one's own."""
+
+    __slots__ = ()
+    __match_args__ = ("_str",)
+
+    @property
+    def _str(self) -> str:
+        return str(self)
+
+    @abc.abstractmethod
+    def __str__(self) -> str:
+        """The text."""
+
+    @abc.abstractmethod
+    def __hash__(self) -> int:
+        """Equal ones have one hash."""
+
+    @abc.abstractmethod
+    def __eq__(self, other: object) -> bool:
+        """Whether the other one says the same."""
+
+    @property
+    @abc.abstractmethod
+    def prereleases(self) -> Optional[bool]:
+        """Whether pre-releases are admitted; None where nothing is said of them."""
+
+    @prereleases.setter
+    @abc.abstractmethod
+    def prereleases(self, value: bool) -> None:
+        """Says it."""
+
+    @abc.abstractmethod
+    def contains(self, item: str, prereleases: Optional[bool] = None) -> bool:
+        """Whether the version is admitted."""
+
+    @abc.abstractmethod
+    def filter(
+        self,
+        iterable: Iterable[Any],
+        prereleases: Optional[bool] = None,
+        key: Optional[Callable[[Any], UnparsedVersion]] = None,
+    ) -> Iterator[Any]:
+        """The items whose versions are admitted."""
 
 
-def _text_of(specifier: Specifier) -> str:
-    if isinstance(specifier, Specifier):
-        return specifier.text
-    raise TypeError("expected a str or Specifiers, not %s" % type(specifier).__name__)
+class _Exact:
+    """The specifiers by `===` of a set, which compare texts as they are given, and an object that judges the others."""
+
+    __slots__ = ("operands", "others")
+
+    def __init__(self, items: Iterable[Specifier]) -> None:
+        self.operands: List[str] = []
+        others = []
+        for item in items:
+            if item.operator == "===":
+                self.operands.append(item.version.lower())
+            else:
+                others.append(item.text)
+        self.others = _native.Set(",".join(others)) if others else None
+
+    def passes(self, item: UnparsedVersion) -> Optional[bool]:
+        """Whether all let it through; None of a text that is no version. A version's text is its normal form."""
+        text = str(item) if isinstance(item, Version) else _given(item)
+        if any([text.lower() != operand for operand in self.operands]):
+            return False
+        return self.others is None or self.others.passes(text)
 
 
 class _Judge:
-    """What `Specifier` and `SpecifierSet` share: specifiers, and an object of the library that admits versions."""
+    """What `Specifier` and `SpecifierSet` share."""
 
-    __slots__ = ("_text", "_kept", "_forced", "_asks", "_greater", "__weakref__")
+    __slots__ = ()
+    __match_args__ = ("_str",)
 
-    def _hold(self, text: str, kept: Optional[_native.KeptSet], forced: Optional[bool]) -> None:
-        self._text = text
-        self._kept = kept
-        self._forced = forced
-        # whether the specifiers ask for pre-releases, and the operands of >: a tuple once they are known
-        self._asks: Optional[Tuple[Optional[bool]]] = None
-        self._greater: Optional[Tuple[str, ...]] = None
+    # the text, what was said of pre-releases, and what compares texts where a specifier does
+    _text: str
+    _forced: Optional[bool]
+    _exact: Optional[_Exact]
 
     def _items(self) -> Tuple[Specifier, ...]:
         """The specifiers."""
         raise NotImplementedError
 
-    def _kept_set(self) -> _native.KeptSet:
-        kept = self._kept
-        if kept is None:
-            kept = self._kept = _native.set_parse(self._text)
-        return kept
+    def _passes(self, item: UnparsedVersion) -> bool:
+        """Whether the specifiers let it through, a pre-release as any other; a text that is no version may be given."""
+        raise NotImplementedError
 
     @property
-    def prereleases(self) -> Optional[bool]:
-        """Whether pre-releases are admitted: what was said where it was made, else what the specifiers ask for."""
-        if self._forced is not None:
-            return self._forced
-        asks = self._asks
-        if asks is None:
-            items = self._items()
-            asks = self._asks = (any(item._names_prerelease() for item in items) if items else None,)
-        return asks[0]
-
-    def admits(self, version: UnparsedVersion) -> bool:
-        """Whether the version is admitted by the order of versions alone, a pre-release as any other.
-
-        >>> SpecifierSet(">=1.0").admits("2.0rc1"), "2.0rc1" in SpecifierSet(">=1.0")
-        (True, False)
-        """
-        return _native.set_admits(self._kept_set(), _given(version))
-
-    def _passes(self, version: UnparsedVersion) -> bool:
-        """Whether the specifiers of `packaging` let the version through, a pre-release too.
-
-        Of `>V` it refuses each version with a local part whose base release is that of V, also where its public part
-        is greater.
-        """
-        text = _given(version)
-        if not _native.set_admits(self._kept_set(), text):
-            return False
-        greater = self._greater
-        if greater is None:
-            greater = self._greater = tuple(item.version for item in self._items() if item.operator == ">")
-        if not greater or "+" not in text:
-            return True
-        base = Version(Version(text).base_version)
-        return all(base != Version(Version(operand).base_version) for operand in greater)
+    def _str(self) -> str:
+        return str(self)
 
     def __contains__(self, item: UnparsedVersion) -> bool:
         return self.contains(item)
@@ -121,63 +137,79 @@ class _Judge:
     def contains(
         self, item: UnparsedVersion, prereleases: Optional[bool] = None, installed: Optional[bool] = None
     ) -> bool:
-        """Whether the version is in the set; a pre-release only where these are admitted.
+        """Whether the version is in the set; a pre-release too, unless it is said here or was said before that these
+        are not admitted. One that is installed is admitted in any case.
 
         >>> SpecifierSet(">=1.0").contains("2.0rc1")
-        False
-        >>> SpecifierSet(">=1.0").contains("2.0rc1", prereleases=True)
         True
+        >>> SpecifierSet(">=1.0").contains("2.0rc1", prereleases=False)
+        False
+
+        A text that is no version is in the empty set and in that of its own `===` alone.
         """
         if prereleases is None:
-            prereleases = self.prereleases
-        if (installed or not prereleases) and _is_prerelease(item):
-            if not prereleases:
-                return False
-            item = (item if isinstance(item, Version) else Version(item)).base_version
-        return self._passes(item)
+            prereleases = self._forced
+        if prereleases or prereleases is None or installed:
+            return self._passes(item)
+        return self._passes(item) and not _native.phase(item)
+
+    @overload
+    def filter(
+        self, iterable: Iterable[UnparsedVersionVar], prereleases: Optional[bool] = None, key: None = None
+    ) -> Iterator[UnparsedVersionVar]: ...
+
+    @overload
+    def filter(
+        self, iterable: Iterable[_Item], prereleases: Optional[bool] = None, *, key: Callable[[_Item], UnparsedVersion]
+    ) -> Iterator[_Item]: ...
+
+    @overload
+    def filter(
+        self, iterable: Iterable[_Item], prereleases: Optional[bool], key: Callable[[_Item], UnparsedVersion]
+    ) -> Iterator[_Item]: ...
 
     def filter(
-        self, iterable: Iterable[UnparsedVersionVar], prereleases: Optional[bool] = None
-    ) -> Iterator[UnparsedVersionVar]:
-        """The versions that are admitted; pre-releases where these are.
+        self,
+        iterable: Iterable[Any],
+        prereleases: Optional[bool] = None,
+        key: Optional[Callable[[Any], UnparsedVersion]] = None,
+    ) -> Iterator[Any]:
+        """The items whose versions are admitted; `key` gives the version of an item, which else is one. Pre-releases
+        are among them where it is said, here or before, or a specifier asks for them; where nothing is said, if there
+        is no final release.
 
         >>> list(SpecifierSet(">=1.2.3").filter(["1.2", "1.3", "1.5a1"]))
         ['1.3']
         >>> list(SpecifierSet(">=1.2.3").filter(["1.2", "1.5a1"]))
-        []
-
-        The empty set and one specifier alone give pre-releases where there is nothing else:
-
-        >>> list(SpecifierSet("").filter(["1.5a1"])), list(Specifier(">=1.2.3").filter(["1.2", "1.5a1"]))
-        (['1.5a1'], ['1.5a1'])
+        ['1.5a1']
+        >>> list(SpecifierSet(">=1.2.3").filter([("a", "1.2"), ("b", "1.3")], key=lambda pair: pair[1]))
+        [('b', '1.3')]
         """
-        asked = self.prereleases if prereleases is None else prereleases
-        falls_back = prereleases is None and (asked is None or isinstance(self, Specifier))
-        left_over: List[UnparsedVersionVar] = []
-        found = False
-        for item in iterable:
-            if not self._passes(item):
-                continue
-            if asked or not _is_prerelease(item):
-                found = True
-                yield item
-            elif falls_back:
-                left_over.append(item)
-        if not found:
-            yield from left_over
+        if prereleases is None:
+            prereleases = self._asks()
+        passes = self._passes
+        if key is None:
+            passing: Iterator[Any] = filter(passes, iterable)
+        else:
+            version_of = key
+            passing = (item for item in iterable if passes(version_of(item)))
+        if prereleases:
+            return passing
+        phase: Callable[[Any], Optional[bool]] = _native.phase if key is None else (lambda item: _native.phase(version_of(item)))
+        if prereleases is None:
+            return _finals_or_all(passing, phase)
+        return (item for item in passing if not phase(item))
+
+    def _asks(self) -> Optional[bool]:
+        """What was said of pre-releases, or true where a specifier asks for them."""
+        if self._forced is not None:
+            return self._forced
+        return True if any([item.prereleases for item in self._items()]) else None
 
     @property
     def text(self) -> str:
         """The text as it was given; of one specifier without white space."""
         return self._text
-
-    # ---- copies ----
-
-    def __copy__(self: Any) -> Any:
-        return self
-
-    def __deepcopy__(self: Any, memo: Any) -> Any:
-        return self
 
     def __reduce__(self) -> Tuple[Any, ...]:
         return type(self), (self._text, self._forced)
@@ -187,7 +219,27 @@ class _Judge:
         return "<%s(%r%s)>" % (type(self).__name__, str(self), forced)
 
 
-class Specifier(_Judge):
+def _finals_or_all(items: Iterator[Any], phase: Callable[[Any], Optional[bool]]) -> Iterator[Any]:
+    """The items without the pre-releases, or all where none is a final release."""
+    waiting = []
+    for item in items:
+        is_prerelease = phase(item)
+        waiting.append((is_prerelease, item))
+        if is_prerelease is False:
+            break
+    else:
+        for _, item in waiting:
+            yield item
+        return
+    for is_prerelease, item in waiting:
+        if not is_prerelease:
+            yield item
+    for item in items:
+        if not phase(item):
+            yield item
+
+
+class Specifier(_native.Specifier, _Judge):
     """One specifier.
 
     >>> Specifier("~= 2.2").operator, Specifier("~= 2.2").version
@@ -196,42 +248,46 @@ class Specifier(_Judge):
     True
     """
 
-    __slots__ = ("_spec", "_canonical")
-
-    def __init__(self, spec: str = "", prereleases: Optional[bool] = None) -> None:
-        kept = _native.set_parse(spec)
-        text = spec.strip(_WHITE)
-        if not text or "," in text:
-            raise InvalidSpecifier("Invalid specifier: %r (not one specifier)" % spec, word="syntax")
-        self._cut(text, kept, prereleases)
-
-    @classmethod
-    def _of(cls, piece: str) -> Specifier:
-        """The specifier of a piece of a set's text, which is one."""
-        specifier = cls.__new__(cls)
-        specifier._cut(piece, None, None)
-        return specifier
-
-    def _cut(self, text: str, kept: Optional[_native.KeptSet], forced: Optional[bool]) -> None:
-        """Cuts the text, which is a specifier, into operator and operand."""
-        operator = next(operator for operator in _OPERATORS if text.startswith(operator))
-        self._spec = operator, text[len(operator) :].strip(_WHITE)
-        self._canonical: Optional[Tuple[str, str]] = None
-        self._hold("%s%s" % self._spec, kept, forced)
+    # its text, its operator and operand, and what it is asked for lie in the compiled part
+    __slots__ = ()
 
     def _items(self) -> Tuple[Specifier, ...]:
         return (self,)
 
-    def _names_prerelease(self) -> bool:
-        """Whether it asks for pre-releases: its operand is one."""
+    def _passes(self, item: UnparsedVersion) -> bool:
+        if not self._is_exact:
+            return self._passes_by_order(item)
+        exact = self._exact
+        if exact is None:
+            exact = self._exact = _Exact((self,))
+        return bool(exact.passes(item))
+
+    @property
+    def prereleases(self) -> Optional[bool]:
+        """What was said of pre-releases, else whether the operand is one; None of an operand that is no version.
+
+        >>> Specifier(">=1.0").prereleases, Specifier(">=1.0a1").prereleases
+        (False, True)
+
+        It can be assigned; no copy and no set that was made before takes part.
+        """
+        if self._forced is not None:
+            return self._forced
+        names = self._names
+        if names is None:
+            names = self._names = (self._names_prerelease(),)
+        return names[0]
+
+    @prereleases.setter
+    def prereleases(self, value: Optional[bool]) -> None:
+        self._forced = value
+
+    def _names_prerelease(self) -> Optional[bool]:
         operator, operand = self._spec
-        if operator == "!=" or operator == "==" and operand.endswith(".*") or _RELEASE(operand):
+        if operator == "!=" or operator == "==" and operand.endswith(".*"):
             return False
-        try:
-            return Version(operand).is_prerelease
-        except InvalidVersion:
-            # the operand of === may be any text
-            return False
+        # the operand of === may be any text
+        return _native.phase(operand)
 
     @property
     def operator(self) -> str:
@@ -251,19 +307,7 @@ class Specifier(_Judge):
         """
         return self._spec[1]
 
-    def _canonical_spec(self) -> Tuple[str, str]:
-        canonical = self._canonical
-        if canonical is None:
-            operator, operand = self._spec
-            canonical = operator, canonicalize_version(operand, strip_trailing_zero=operator != "~=")
-            self._canonical = canonical
-        return canonical
-
-    def __str__(self) -> str:
-        return self._text
-
-    def __hash__(self) -> int:
-        return hash(self._canonical_spec())
+    __hash__ = _native.Specifier.__hash__
 
     def __eq__(self, other: object) -> bool:
         if isinstance(other, str):
@@ -289,27 +333,59 @@ class SpecifierSet(_Judge):
     >>> versions & "<2"
     <SpecifierSet('!=1.3.*,<2,>=1.2')>
 
-    `text` is the text as it was given and `normal_text` its normal form; `str`, `==`, `len` and iteration are those of
-    a set, as in `packaging`: order and repetition don't count.
+    `text` is the text as it was given and `normal_text` its normal form; `str` and `==` are those of a set: order and
+    repetition don't count. `len` and iteration tell of each specifier that was given, in its place.
     """
 
-    __slots__ = ("_specs",)
+    __slots__ = ("_text", "_kept", "_forced", "_exact", "_specs", "__weakref__")
 
     def __init__(
-        self, specifiers: Union[str, Iterable[Specifier]] = "", prereleases: Optional[bool] = None
+        self, specifiers: Union[str, Iterable[Union[Specifier, str]]] = "", prereleases: Optional[bool] = None
     ) -> None:
-        if not isinstance(specifiers, str):
-            specifiers = ",".join([_text_of(specifier) for specifier in specifiers])
-        self._hold(specifiers, _native.set_parse(specifiers), prereleases)
         self._specs: Optional[Tuple[Specifier, ...]] = None
+        if not isinstance(specifiers, str):
+            self._specs = tuple([_specifier(one) for one in specifiers])
+            specifiers = ",".join([one.text for one in self._specs])
+        self._kept = _native.Set(specifiers)
+        self._text = specifiers
+        self._forced = prereleases
+        # None where no specifier compares texts
+        self._exact = _Exact(self._items()) if "===" in specifiers else None
 
     def _items(self) -> Tuple[Specifier, ...]:
-        """The specifiers, of equal ones the first."""
+        """The specifiers, in the order of the text."""
         specs = self._specs
         if specs is None:
-            pieces = [piece.strip(_WHITE) for piece in self._text.split(",")]
-            specs = self._specs = tuple(dict.fromkeys(Specifier._of(piece) for piece in pieces if piece))
+            specs = self._specs = _native.specifiers(self._text)
         return specs
+
+    def _passes(self, item: UnparsedVersion) -> bool:
+        passes = (self._exact or self._kept).passes(item)
+        # the empty set says nothing of texts
+        return passes if passes is not None else not self._items()
+
+    def admits(self, version: UnparsedVersion) -> bool:
+        """Whether the version is admitted by the order of versions alone, a pre-release as any other.
+
+        >>> SpecifierSet(">=1.0", prereleases=False).admits("2.0rc1"), "2.0rc1" in SpecifierSet(">=1.0", prereleases=False)
+        (True, False)
+        """
+        return self._kept.admits(version)
+
+    @property
+    def prereleases(self) -> Optional[bool]:
+        """What was said of pre-releases, else true where a specifier asks for them, else None.
+
+        >>> SpecifierSet(">=1.0").prereleases, SpecifierSet(">=1.0a1").prereleases
+        (None, True)
+
+        It can be assigned; no copy takes part.
+        """
+        return self._asks()
+
+    @prereleases.setter
+    def prereleases(self, value: Optional[bool]) -> None:
+        self._forced = value
 
     @property
     def normal_text(self) -> str:
@@ -318,10 +394,26 @@ class SpecifierSet(_Judge):
         >>> SpecifierSet(" >= 2.8.1 ,, == v1!2.0.* ").normal_text
         '>=2.8.1,==1!2.0.*'
         """
-        return _native.set_text(self._kept_set())
+        return str(self._kept)
+
+    def is_unsatisfiable(self) -> bool:
+        """Whether there is no version that it contains.
+
+        >>> SpecifierSet(">=2,<1").is_unsatisfiable(), SpecifierSet(">=1,<2").is_unsatisfiable()
+        (True, False)
+        """
+        items = self._items()
+        if not items:
+            return False
+        tried = self._exact.operands if self._exact is not None else _witnesses(items)
+        return not any(self.contains(version) for version in tried)
 
     def __str__(self) -> str:
-        return ",".join(sorted(str(spec) for spec in self._items()))
+        string = _native.set_string(self._text)
+        if string is None:
+            # of equal specifiers the first in the order of texts
+            string = ",".join([item._text for item in dict.fromkeys(sorted(self._items(), key=_text_of))])
+        return string
 
     def __hash__(self) -> int:
         return hash(frozenset(self._items()))
@@ -347,4 +439,75 @@ class SpecifierSet(_Judge):
         forced = self._forced if other._forced is None else other._forced
         if self._forced is not None and self._forced != forced:
             raise ValueError("Cannot combine SpecifierSets with True and False prerelease overrides.")
+        if self._says_more() or other._says_more():
+            return SpecifierSet(self._items() + other._items(), forced)
         return SpecifierSet(self._text + "," + other._text, forced)
+
+    def __reduce__(self) -> Tuple[Any, ...]:
+        return type(self), (self._items() if self._says_more() else self._text, self._forced)
+
+    def _says_more(self) -> bool:
+        """Whether a specifier was told of pre-releases, of which the text has nothing."""
+        return self._specs is not None and any([item._forced is not None for item in self._specs])
+
+
+_text_of = attrgetter("_text")
+_native.use_specifier(Specifier)
+BaseSpecifier.register(Specifier)
+BaseSpecifier.register(SpecifierSet)
+
+
+def _specifier(one: Union[Specifier, str]) -> Specifier:
+    if isinstance(one, Specifier):
+        return one
+    if isinstance(one, str):
+        return Specifier(one)
+    raise TypeError("expected a str or Specifiers, not %s" % type(one).__name__)
+
+
+# ---- whether any version is admitted ----
+
+
+def _witnesses(items: Iterable[Specifier]) -> Iterator[str]:
+    """Versions of which one is in each stretch of the order of versions that the specifiers, none by `===`, bound, and
+    a final release wherever the stretch has one.
+
+    The bounds lie at an operand, around its local versions, its post-releases and all that begins with its release. So
+    the versions next to these are enough.
+    """
+    operands = [Version(item.version[:-2] if item.version.endswith(".*") else item.version) for item in items]
+    # deeper than all operands: nothing that is named lies between a release and this one behind it
+    depth = max(len(operand.release) for operand in operands) + 1
+    # a local version that is nobody's
+    local = "+" + "x" * (1 + max(len(operand.local or "") for operand in operands))
+    yield "0.dev0"
+    yield "0"
+    for operand in operands:
+        yield str(operand)
+        for stem in _stems(operand, depth):
+            for text in (stem, stem + local, stem + ".dev0"):
+                yield text
+
+
+def _stems(operand: Version, depth: int) -> Iterator[str]:
+    """The public texts next to a version, without or with another development release."""
+    epoch, release = "%d!" % operand.epoch, operand.release
+    base = epoch + ".".join(map(str, release))
+    yield base
+    yield base + ".post0"
+    yield base + ".0" * (depth - len(release)) + ".1"
+    for length in {len(release), max(len(release) - 1, 1)}:
+        yield epoch + ".".join(map(str, (*release[: length - 1], release[length - 1] + 1)))
+    if operand.pre is not None:
+        letter, number = operand.pre
+        yield "%s%s%d" % (base, letter, number + 1)
+        base = "%s%s%d" % (base, letter, number)
+        yield base
+        yield base + ".post0"
+    if operand.post is not None:
+        yield "%s.post%d" % (base, operand.post + 1)
+        base = "%s.post%d" % (base, operand.post)
+        yield base
+    if operand.dev is not None:
+        yield "%s.dev%d" % (base, operand.dev)
+        yield "%s.dev%d" % (base, operand.dev + 1)

@@ -1,17 +1,36 @@
 """Names of projects and of files, with the names and meanings of `packaging.utils`.
 
-    >>> from pylock.utils import canonicalize_name
-    >>> canonicalize_name("Foo.Bar_baz")
-    'foo-bar-baz'
+    >>> from pylock.utils import canonicalize_name, canonicalize_version, is_normalized_name, parse_sdist_filename
+
+The normal form of a text as a name (PEP 503); with `validate` a text that is no name is refused. Letters that aren't ASCII
+become lower case as `str.lower` has it, as in `packaging`.
+
+    >>> canonicalize_name("Django_.-rest")
+    'django-rest'
+    >>> canonicalize_name("-a", validate=True)
+    Traceback (most recent call last):
+        ...
+    pylock.utils.InvalidName: name is invalid: '-a'
+    >>> is_normalized_name("foo-bar"), is_normalized_name("foo_bar"), is_normalized_name("-foo")
+    (True, False, False)
+
+The normal form of a version, by default without zeros at the end of its release. Other texts stay.
+
+    >>> canonicalize_version("1.0.0-RC1"), canonicalize_version("1.0.0-RC1", strip_trailing_zero=False)
+    ('1rc1', '1.0.0rc1')
+
+The name in normal form and the version of an sdist (PEP 625), whose file name is cut at its last dash.
+
+    >>> parse_sdist_filename("foo_bar-1.0.tar.gz")
+    ('foo-bar', <Version('1.0')>)
 """
 
 from __future__ import annotations
 
-import re
-from typing import FrozenSet, NewType, Tuple, Union, cast
+from typing import FrozenSet, NewType, Tuple, Union
 
 from . import _native
-from ._errors import InvalidName, InvalidSdistFilename, InvalidVersion, InvalidWheelFilename
+from ._errors import InvalidName, InvalidSdistFilename, InvalidWheelFilename
 from .tags import Tag
 from .version import Version
 
@@ -31,83 +50,38 @@ __all__ = [
 BuildTag = Union[Tuple[()], Tuple[int, str]]
 NormalizedName = NewType("NormalizedName", str)
 
-_ZEROS = re.compile(r"(\.0)+$")
+canonicalize_name = _native.canonicalize_name
+canonicalize_version = _native.canonicalize_version
+is_normalized_name = _native.is_normalized_name
+parse_sdist_filename = _native.parse_sdist_filename
 
 
-def canonicalize_name(name: str, *, validate: bool = False) -> NormalizedName:
-    """The normal form of a text as a name (PEP 503); with `validate` a text that is no name is refused.
-
-    >>> canonicalize_name("Django_.-rest")
-    'django-rest'
-    >>> canonicalize_name("-a", validate=True)
-    Traceback (most recent call last):
-        ...
-    pylock.utils.InvalidName: name is invalid: '-a'
-
-    Letters that aren't ASCII become lower case as `str.lower` has it, as in `packaging`.
-    """
-    if validate and not _native.is_name(name):
-        raise InvalidName("name is invalid: %r" % name, word="name")
-    normal = _native.name(name)
-    return cast(NormalizedName, normal if normal.isascii() else normal.lower())
-
-
-def is_normalized_name(name: str) -> bool:
-    """Whether the text is a name in normal form.
-
-    >>> is_normalized_name("foo-bar"), is_normalized_name("foo_bar"), is_normalized_name("-foo")
-    (True, False, False)
-    """
-    return _native.is_name(name) and _native.name(name) == name
-
-
-def canonicalize_version(version: Union[Version, str], *, strip_trailing_zero: bool = True) -> str:
-    """The normal form of a version, by default without zeros at the end of its release. Other texts stay.
-
-    >>> canonicalize_version("1.0.0-RC1")
-    '1rc1'
-    >>> canonicalize_version("1.0.0-RC1", strip_trailing_zero=False)
-    '1.0.0rc1'
-    """
-    if isinstance(version, str):
-        try:
-            version = Version(version)
-        except InvalidVersion:
-            return version
-    normal = str(version)
-    if not strip_trailing_zero:
-        return normal
-    base = version.base_version
-    return _ZEROS.sub("", base) + normal[len(base) :]
-
-
-def parse_wheel_filename(filename: str) -> Tuple[NormalizedName, Version, BuildTag, FrozenSet[Tag]]:
+def parse_wheel_filename(
+    filename: str, *, validate_order: bool = False
+) -> Tuple[NormalizedName, Version, BuildTag, FrozenSet[Tag]]:
     """The name in normal form, the version, the build (empty, or a number and the rest) and the tags of a wheel.
 
     >>> name, version, build, tags = parse_wheel_filename("Foo_Bar-1.0-1b-py3-none-any.whl")
     >>> name, version, build, tags == {Tag("py3", "none", "any")}
     ('foo-bar', <Version('1.0')>, (1, 'b'), True)
+
+    With `validate_order` the pieces of a tag's part have to be in the order of texts (PEP 425):
+
+    >>> parse_wheel_filename("a-1-py3.py2-none-any.whl", validate_order=True)
+    Traceback (most recent call last):
+        ...
+    pylock.utils.InvalidWheelFilename: Invalid wheel filename: 'a-1-py3.py2-none-any.whl' (the pieces of a tag aren't in order)
     """
-    name, version, build_text, tags = _native.wheel(filename)
-    assert name is not None and version is not None and tags is not None
-    build: BuildTag = ()
-    if build_text is not None:
-        digits = build_text[: len(build_text) - len(build_text.lstrip("0123456789"))]
-        build = int(digits), build_text[len(digits) :]
-    return (
-        canonicalize_name(name),
-        Version(version),
-        build,
-        frozenset(Tag(*tag.split("-")) for tag in tags.split(" ")),
-    )
+    parts = _native.parse_wheel(filename)
+    if validate_order:
+        _in_order(filename)
+    return parts
 
 
-def parse_sdist_filename(filename: str) -> Tuple[NormalizedName, Version]:
-    """The name in normal form and the version of an sdist (PEP 625), whose file name is cut at its last dash.
-
-    >>> parse_sdist_filename("foo_bar-1.0.tar.gz")
-    ('foo-bar', <Version('1.0')>)
-    """
-    name, version = _native.sdist(filename)
-    assert name is not None and version is not None
-    return cast(NormalizedName, name), Version(version)
+def _in_order(filename: str) -> None:
+    """Refuses the name of a wheel, which is one, where the pieces of a tag's part aren't in the order of texts."""
+    for part in filename[: -len(".whl")].split("-")[-3:]:
+        pieces = part.split(".")
+        if pieces != sorted(pieces):
+            message = "Invalid wheel filename: %r (the pieces of a tag aren't in order)" % filename
+            raise InvalidWheelFilename(message, word="tags")

@@ -11,12 +11,22 @@ What is different: a number of a version has at most 128 bits, and white space i
 
 from __future__ import annotations
 
-from typing import Any, Iterable, List, Optional, Tuple
+import re
+from typing import Any, Iterable, List, NoReturn, Optional, Tuple
 
-from . import _native
+from . import _library, _native
 from ._errors import InvalidVersion
 
-__all__ = ["VERSION_PATTERN", "InvalidVersion", "Version", "parse", "parse_all", "sorted_versions", "version_key"]
+__all__ = [
+    "VERSION_PATTERN",
+    "InvalidVersion",
+    "Version",
+    "normalize_pre",
+    "parse",
+    "parse_all",
+    "sorted_versions",
+    "version_key",
+]
 
 # the text of PEP 440, appendix B, as `packaging` gives it
 VERSION_PATTERN = r"""
@@ -51,10 +61,50 @@ VERSION_PATTERN = r"""
 """
 """The pattern of a version, for use in longer patterns (`re.VERBOSE | re.IGNORECASE`). Nothing here reads it."""
 
-_key_of = _native.version_key
+# the library's refusals are those of this package
+assert _library
+
+# the spellings of pre-releases that aren't normal (PEP 440)
+_PRE = {"alpha": "a", "beta": "b", "c": "rc", "pre": "rc", "preview": "rc"}
+_LOCAL = re.compile(r"[A-Za-z0-9]+(?:[-_.][A-Za-z0-9]+)*\Z").match
 
 
-class Version:
+def normalize_pre(letter: str) -> str:
+    """The normal spelling of the word of a pre-release; another word in lower case.
+
+    >>> normalize_pre("Alpha"), normalize_pre("preview"), normalize_pre("b")
+    ('a', 'rc', 'b')
+    """
+    letter = letter.lower()
+    return _PRE.get(letter, letter)
+
+
+def _no_part(part: str, value: object) -> NoReturn:
+    raise InvalidVersion("Invalid version: %s can't be %r" % (part, value), word="syntax")
+
+
+def _number(part: str, value: object) -> str:
+    if not isinstance(value, int) or value < 0:
+        _no_part(part, value)
+    return "%d" % value
+
+
+def _pre_text(value: object) -> str:
+    if not isinstance(value, tuple) or len(value) != 2 or not isinstance(value[0], str):
+        _no_part("pre", value)
+    letter = normalize_pre(value[0])
+    if letter not in ("a", "b", "rc"):
+        _no_part("pre", value)
+    return letter + _number("pre", value[1])
+
+
+class _BaseVersion:
+    """What `Version` is made from, for `isinstance`."""
+
+    __slots__ = ()
+
+
+class Version(_native.Version, _BaseVersion):
     """A version. Equal versions, as `1` and `1.0`, are equal and have one hash, whatever their texts.
 
     >>> Version("1.0a5") < Version("1.0")
@@ -66,62 +116,71 @@ class Version:
     >>> sorted([Version("1.10"), Version("1.9")])
     [<Version('1.9')>, <Version('1.10')>]
 
-    A version can't be changed. It holds the text that it was read from and its place in the order.
+    Its parts are `epoch`, `release`, `pre`, `post`, `dev` and `local`, and of these `major`, `minor`, `micro`, `public`,
+    `base_version`, `is_prerelease`, `is_postrelease` and `is_devrelease`:
+
+    >>> one = Version("1!2.0c2-3+Ubuntu-01")
+    >>> one.epoch, one.release, one.pre, one.post, one.dev, one.local
+    (1, (2, 0), ('rc', 2), 3, None, 'ubuntu.1')
+    >>> one.major, one.minor, one.micro, one.public, one.base_version
+    (2, 0, 0, '1!2.0rc2.post3', '1!2.0')
+    >>> one.is_prerelease, one.is_postrelease, one.is_devrelease
+    (True, True, False)
+
+    A version can't be changed. It holds the text that it was read from and its place in the order; its parts are made
+    when they are asked for.
     """
 
-    __slots__ = ("_given", "_key", "_fields", "__weakref__")
+    __slots__ = ()
+    __match_args__ = ("_str",)
 
-    def __init__(self, version: str) -> None:
-        self._key: bytes = _key_of(version)
-        self._given = version
-        self._fields: Optional[List[str]] = None
+    @classmethod
+    def from_parts(
+        cls,
+        *,
+        epoch: int = 0,
+        release: Tuple[int, ...],
+        pre: Optional[Tuple[str, int]] = None,
+        post: Optional[int] = None,
+        dev: Optional[int] = None,
+        local: Optional[str] = None,
+    ) -> Version:
+        """The version of these parts, as the attributes of their names give them.
 
-    def _read(self) -> List[str]:
-        fields = self._fields
-        if fields is None:
-            fields = self._fields = _native.version(self._given)
-        return fields
+        >>> Version.from_parts(epoch=1, release=(2, 0), pre=("rc", 1), local="Ubuntu-1")
+        <Version('1!2.0rc1+ubuntu.1')>
 
-    def __str__(self) -> str:
-        return self._read()[0]
+        A part that can't be one is refused as InvalidVersion.
+        """
+        if not isinstance(release, tuple) or not release:
+            _no_part("release", release)
+        pieces = ["%s!" % _number("epoch", epoch) if epoch else ""]
+        pieces.append(".".join([_number("release", number) for number in release]))
+        if pre is not None:
+            pieces.append(_pre_text(pre))
+        if post is not None:
+            pieces.append(".post" + _number("post", post))
+        if dev is not None:
+            pieces.append(".dev" + _number("dev", dev))
+        if local is not None:
+            if not isinstance(local, str) or not _LOCAL(local):
+                _no_part("local", local)
+            pieces.append("+" + local)
+        return cls("".join(pieces))
 
-    def __repr__(self) -> str:
-        return "<Version('%s')>" % self
+    def __replace__(self, **parts: Any) -> Version:
+        """The version with other parts, for `copy.replace`: a part that is None is left away.
 
-    # ---- the order: that of the keys ----
+        >>> Version("1.0a1+x").__replace__(pre=None, post=2)
+        <Version('1.0.post2+x')>
+        """
+        for part in ("epoch", "release", "pre", "post", "dev", "local"):
+            parts.setdefault(part, getattr(self, part))
+        return self.from_parts(**parts)
 
-    def __hash__(self) -> int:
-        return hash(self._key)
-
-    def __lt__(self, other: Version) -> bool:
-        if not isinstance(other, Version):
-            return NotImplemented
-        return self._key < other._key
-
-    def __le__(self, other: Version) -> bool:
-        if not isinstance(other, Version):
-            return NotImplemented
-        return self._key <= other._key
-
-    def __eq__(self, other: object) -> bool:
-        if not isinstance(other, Version):
-            return NotImplemented
-        return self._key == other._key
-
-    def __ge__(self, other: Version) -> bool:
-        if not isinstance(other, Version):
-            return NotImplemented
-        return self._key >= other._key
-
-    def __gt__(self, other: Version) -> bool:
-        if not isinstance(other, Version):
-            return NotImplemented
-        return self._key > other._key
-
-    def __ne__(self, other: object) -> bool:
-        if not isinstance(other, Version):
-            return NotImplemented
-        return self._key != other._key
+    @property
+    def _str(self) -> str:
+        return str(self)
 
     # ---- copies ----
 
@@ -134,124 +193,6 @@ class Version:
     def __reduce__(self) -> Tuple[Any, ...]:
         return type(self), (str(self),)
 
-    # ---- the parts ----
-
-    @property
-    def epoch(self) -> int:
-        """The epoch.
-
-        >>> Version("1!2.0").epoch
-        1
-        """
-        return int(self._read()[3])
-
-    @property
-    def release(self) -> Tuple[int, ...]:
-        """The numbers of the release, with the zeros at its end.
-
-        >>> Version("1!2.0.post0").release
-        (2, 0)
-        """
-        return tuple(map(int, self._read()[4].split(".")))
-
-    @property
-    def pre(self) -> Optional[Tuple[str, int]]:
-        """The letter (`a`, `b` or `rc`) and the number of the pre-release.
-
-        >>> Version("1.0c2").pre
-        ('rc', 2)
-        """
-        text = self._read()[5]
-        if text == "-":
-            return None
-        letter = "rc" if text[0] == "r" else text[0]
-        return letter, int(text[len(letter) :])
-
-    @property
-    def post(self) -> Optional[int]:
-        """The number of the post-release.
-
-        >>> Version("1.0-3").post
-        3
-        """
-        text = self._read()[6]
-        return None if text == "-" else int(text)
-
-    @property
-    def dev(self) -> Optional[int]:
-        """The number of the development release.
-
-        >>> print(Version("1.0").dev)
-        None
-        """
-        text = self._read()[7]
-        return None if text == "-" else int(text)
-
-    @property
-    def local(self) -> Optional[str]:
-        """The local version.
-
-        >>> Version("1.0+Ubuntu-01").local
-        'ubuntu.1'
-        """
-        text = self._read()[8]
-        return None if text == "-" else text
-
-    @property
-    def public(self) -> str:
-        """The version without its local version.
-
-        >>> Version("1.0.dev1+abc").public
-        '1.0.dev1'
-        """
-        return self._read()[1]
-
-    @property
-    def base_version(self) -> str:
-        """The epoch and the release.
-
-        >>> Version("1!1.2.3.dev1+abc").base_version
-        '1!1.2.3'
-        """
-        return self._read()[2]
-
-    @property
-    def is_prerelease(self) -> bool:
-        """Whether it is a pre-release or a development release.
-
-        >>> Version("1.0.dev1").is_prerelease
-        True
-        """
-        fields = self._read()
-        return fields[5] != "-" or fields[7] != "-"
-
-    @property
-    def is_postrelease(self) -> bool:
-        """Whether it is a post-release."""
-        return self._read()[6] != "-"
-
-    @property
-    def is_devrelease(self) -> bool:
-        """Whether it is a development release."""
-        return self._read()[7] != "-"
-
-    @property
-    def major(self) -> int:
-        """The first number of the release."""
-        return self.release[0]
-
-    @property
-    def minor(self) -> int:
-        """The second number of the release, or 0."""
-        release = self.release
-        return release[1] if len(release) >= 2 else 0
-
-    @property
-    def micro(self) -> int:
-        """The third number of the release, or 0."""
-        release = self.release
-        return release[2] if len(release) >= 3 else 0
-
 
 def parse(version: str) -> Version:
     """The version of a text.
@@ -262,13 +203,16 @@ def parse(version: str) -> Version:
     return Version(version)
 
 
+_native.use_version(Version)
+
+
 def parse_all(versions: Iterable[str]) -> List[Version]:
     """The versions of the texts, in their order; the first text that is no version is refused.
 
     >>> parse_all(["1.10", "1.9"])
     [<Version('1.10')>, <Version('1.9')>]
     """
-    return [Version(text) for text in versions]
+    return list(map(Version, versions))
 
 
 def version_key(version: str) -> bytes:
@@ -277,7 +221,7 @@ def version_key(version: str) -> bytes:
     >>> max(["1.9", "1.10"], key=version_key)
     '1.10'
     """
-    return _key_of(version)
+    return _native.version_key(version)
 
 
 def sorted_versions(versions: Iterable[str]) -> List[str]:
@@ -286,4 +230,4 @@ def sorted_versions(versions: Iterable[str]) -> List[str]:
     >>> sorted_versions(["1.10", "v1.9", "1.10.dev1", "1.9.0"])
     ['v1.9', '1.9.0', '1.10.dev1', '1.10']
     """
-    return sorted(versions, key=_key_of)
+    return sorted(versions, key=_native.version_key)

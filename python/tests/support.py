@@ -8,12 +8,21 @@ import sys
 HERE = os.path.dirname(os.path.abspath(__file__))
 PYTHON = os.path.dirname(HERE)
 TOP = os.path.dirname(PYTHON)
-if PYTHON not in sys.path and not os.environ.get("PYLOCK_INSTALLED"):
-    sys.path.insert(0, PYTHON)
+# the folder in which the module lies with its compiled part, as tools/python makes it
+MODULE = os.environ.get("PYLOCK_MODULE", PYTHON)
+if MODULE not in sys.path and not os.environ.get("PYLOCK_INSTALLED"):
+    sys.path.insert(0, MODULE)
 
 
 def reference():
-    """The library `packaging`, or the copy of it in pip; None where there is neither."""
+    """The library `packaging`: that of the folder that PYLOCK_PEER names, which holds the package, or the installed
+    one, or the copy of it in pip; None where there is none."""
+    peer = os.environ.get("PYLOCK_PEER")
+    if peer:
+        if not os.path.isdir(os.path.join(peer, "packaging")):
+            raise SystemExit("PYLOCK_PEER: there is no package `packaging` in %s" % peer)
+        if peer not in sys.path:
+            sys.path.insert(0, peer)
     for name in ("packaging", "pip._vendor.packaging"):
         try:
             found = importlib.import_module(name)

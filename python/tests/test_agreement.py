@@ -1,10 +1,16 @@
 """Rows of agreement with the library `packaging`, or with the copy of it in pip: the same question to both.
 
-Where an answer differs on purpose, the row stands in DIFFERENCES with both answers; docs/PYTHON.md has the reasons.
-Rows of what `packaging` changed stand with the first release that answers so. Some of them are of 25.0 and later.
+The meanings are those of 26.2: PYLOCK_PEER names the folder of such a one. With an older release the rows are left out
+in which `packaging` has changed since. Where an answer differs on purpose, the row stands in DIFFERENCES with both
+answers; docs/PYTHON.md has the reasons.
 """
 
+import copy
+import inspect
 import itertools
+import pickle
+import re
+import sys
 import unittest
 
 from support import reference, release, refused
@@ -13,6 +19,8 @@ import pylock
 
 packaging = reference()
 OLD = packaging is not None and release(packaging) < (22, 0)
+NEW = packaging is not None and release(packaging) >= (26, 2)
+BEFORE = "packaging before 26.2 answers otherwise"
 
 VERSIONS = [
     "1", "1.0", "1.0.0", "0", "0.0", "v1.2", " 1.2 ", "1.0.dev1", "1.0a1", "1.0a1.dev1", "1.0b2", "1.0rc1", "1.0RC1",
@@ -81,6 +89,34 @@ TAGS = ["py3-none-any", "py2.py3-none-any", "CP312-abi3-manylinux_2_17_x86_64.li
 LISTS = [["1.0", "2.0"], ["1.0a1", "0.9"], ["1.0a1"], ["2.0a1", "2.0b1"], [], ["0.5", "1.0", "1.1rc1", "1.1", "2.0.dev0"], ["1.0a1", "3.0"]]
 
 
+# sets with a repetition, which was left out before
+REPEATED = (">=1.0,>=1.0", "==1.0,==1.0.0")
+EXACT = ["===foo", "===FOO", "===1.0", "===V1.0", "===1.0RC1", "===foo,===FOO", "===foo,>=1", "===1.0,>=1", "===1.0rc1,<2",
+         "!=1.0,===foo"]
+# markers of names by an order: `packaging` has none of these since 26
+ORDER_OF_NAMES = ("platform_system < 'M'", "platform_system >= 'linux'", "os_name > 'a' and os_name <= 'z'")
+CONTEXTS = ["extra == 'a'", "extra != 'A.b'", "'a' == extra", "os_name == 'posix' or extra == 'a'",
+            "os_name == 'nt' or extra == 'a'", "os_name == 'posix' and extra == 'a'", "'a_b' in extras", "'a' not in extras",
+            "'a' in dependency_groups", "'a' in extras or 'a' in dependency_groups", "os_name == 'nt' or 'a' in extras", "os_name == 'extras'",
+            "extra == 'dependency_groups'", "extra in 'a b'"]
+
+
+def alike(pieces, version):
+    """Whether the specifiers judge the text of a version as all releases of `packaging` do that are tried here; the
+    rest stands in DIFFERENCES, or has changed since."""
+    for piece in pieces:
+        piece = piece.strip()
+        if piece[:1] in ("<", ">") and piece[1:2] != "=":
+            operand = pylock.Version(piece[1:])
+            if operand.is_prerelease if piece[0] == ">" else operand.is_postrelease and not operand.is_prerelease:
+                return False
+            if piece[0] == ">" and "+" in version and not NEW:
+                return False
+        if piece.startswith("===") and not NEW:
+            return False
+    return True
+
+
 def asked(function, *arguments, **named):
     """The answer, or what kind of refusal there is."""
     try:
@@ -94,8 +130,9 @@ class Agreement(unittest.TestCase):
     maxDiff = None
 
     def same(self, row, ours, theirs):
-        with self.subTest(row):
-            self.assertEqual(ours, theirs)
+        if ours != theirs:
+            with self.subTest(row):
+                self.assertEqual(ours, theirs)
 
     def test_versions(self):
         for text in VERSIONS:
@@ -127,64 +164,101 @@ class Agreement(unittest.TestCase):
         for text in SPECIFIERS:
             ours, theirs = pylock.Specifier(text), packaging.specifiers.Specifier(text)
             self.same(text, (ours.operator, ours.version, str(ours), repr(ours)), (theirs.operator, theirs.version, str(theirs), repr(theirs)))
-            if not text.startswith(("<", ">")) or release(packaging) >= (24, 2):
+            if NEW or not text.startswith(("<", ">")):
                 self.same((text, "prereleases"), ours.prereleases, theirs.prereleases)
             for version, prereleases in itertools.product(VERSIONS, (True, False)):
-                self.same((text, version, prereleases), ours.contains(version, prereleases), theirs.contains(version, prereleases))
+                if alike([text], version):
+                    self.same(
+                        (text, version, prereleases),
+                        ours.contains(version, prereleases),
+                        theirs.contains(version, prereleases),
+                    )
 
-    @unittest.skipIf(packaging is not None and release(packaging) >= (26, 0), "packaging 26 treats pre-releases otherwise")
     def test_contains(self):
-        for text in SPECIFIERS + SETS:
-            ours, theirs = pylock.SpecifierSet(text), packaging.specifiers.SpecifierSet(text)
-            asks = [ours.prereleases, theirs.prereleases]
-            if asks[0] != asks[1]:
-                # the rule of 24.2: < and > ask for pre-releases too
-                self.assertLess(release(packaging), (24, 2), text)
-                theirs = packaging.specifiers.SpecifierSet(text, prereleases=asks[0])
-            for version in VERSIONS:
-                self.same((text, version), version in ours, version in theirs)
-                self.same((text, version), pylock.Version(version) in ours, packaging.version.Version(version) in theirs)
-                for prereleases in (True, False):
-                    self.same((text, version, prereleases), ours.contains(version, prereleases), theirs.contains(version, prereleases))
-                    if not OLD:
-                        self.same(
-                            (text, version, prereleases, "installed"),
-                            ours.contains(version, prereleases, True),
-                            theirs.contains(version, prereleases, True),
-                        )
-
-    @unittest.skipIf(packaging is not None and release(packaging) >= (26, 0), "packaging 26 treats pre-releases otherwise")
-    def test_filter(self):
-        for text, versions, forced in itertools.product(SETS, LISTS, (None, True, False)):
-            if ">1.7" in text:
+        for text, version in itertools.product(SPECIFIERS + SETS, VERSIONS):
+            if not alike(text.split(","), version):
                 continue
             ours, theirs = pylock.SpecifierSet(text), packaging.specifiers.SpecifierSet(text)
-            self.same((text, versions, forced), list(ours.filter(versions, forced)), list(theirs.filter(versions, forced)))
-            ours, theirs = pylock.SpecifierSet(text, forced), packaging.specifiers.SpecifierSet(text, forced)
-            self.same((text, versions, forced), list(ours.filter(versions)), list(theirs.filter(versions)))
-        for text, versions, forced in itertools.product(("==1.0", ">=1.0", ">=1.0a1", "!=2.0", "~=1.0"), LISTS, (None, True, False)):
-            ours, theirs = pylock.Specifier(text), packaging.specifiers.Specifier(text)
-            self.same((text, versions, forced), list(ours.filter(versions, forced)), list(theirs.filter(versions, forced)))
-            ours, theirs = pylock.Specifier(text, forced), packaging.specifiers.Specifier(text, forced)
-            self.same((text, versions, forced), list(ours.filter(versions)), list(theirs.filter(versions)))
+            twins = pylock.Version(version), packaging.version.Version(version)
+            for prereleases in (True, False):
+                self.same((text, version, prereleases), *[
+                    (versions.contains(version, prereleases), versions.contains(twin, prereleases))
+                    for versions, twin in zip((ours, theirs), twins)
+                ])
+            if NEW:
+                self.same((text, version), version in ours, version in theirs)
+                self.same((text, version, "Version"), twins[0] in ours, twins[1] in theirs)
+                for how in itertools.product((None, True, False), (None, True)):
+                    self.same((text, version, how), ours.contains(version, *how), theirs.contains(version, *how))
+
+    def test_filter(self):
+        kinds = ((SETS, "SpecifierSet"), (("==1.0", ">=1.0", ">=1.0a1", "!=2.0", "~=1.0", "===1.0a1"), "Specifier"))
+        for texts, kind in kinds:
+            for text, versions, said in itertools.product(texts, LISTS, (None, True, False) if NEW else (True,)):
+                ours, theirs = getattr(pylock, kind), getattr(packaging.specifiers, kind)
+                row = text, versions, said
+                self.same(row, list(ours(text).filter(versions, said)), list(theirs(text).filter(versions, said)))
+                self.same(row, list(ours(text, said).filter(versions)), list(theirs(text, said).filter(versions)))
+
+    @unittest.skipUnless(NEW, BEFORE)
+    def test_filter_key(self):
+        for text, versions, said in itertools.product(SETS, LISTS, (None, True, False)):
+            items = list(enumerate(versions))
+            self.same((text, versions, said), *[
+                list(kind(text).filter(items, said, lambda item: item[1]))
+                for kind in (pylock.SpecifierSet, packaging.specifiers.SpecifierSet)
+            ])
+
+    @unittest.skipUnless(NEW, BEFORE)
+    def test_texts(self):
+        """Texts that are no versions, and `===` beside texts as they are given."""
+        texts = NO_VERSIONS + ["foo", "FOO", "1.0", "1.0.0", "V1.0", " 1.0", "1.0RC1", "1.0-rc1", "1.0rc1"]
+        for kind, spec in [("SpecifierSet", text) for text in SETS + EXACT] + [("Specifier", text) for text in EXACT[:5]]:
+            ours, theirs = getattr(pylock, kind)(spec), getattr(packaging.specifiers, kind)(spec)
+            self.same((spec, "prereleases"), ours.prereleases, theirs.prereleases)
+            for text, said in itertools.product(texts, (None, True, False)):
+                self.same((spec, text, said), ours.contains(text, said), theirs.contains(text, said))
+            for mixed in itertools.permutations(["foo", "2.0a1", "1.0", "1.0rc1"], 3):
+                self.same((spec, mixed), list(ours.filter(mixed)), list(theirs.filter(mixed)))
+
+    @unittest.skipUnless(NEW, BEFORE)
+    def test_unsatisfiable(self):
+        pieces = [
+            "", ">=1", ">1", "<1", "<=1", "==1", "!=1", "==1.*", "!=1.*", "~=1.0", ">=1a1", "<=1a2", "==1a1", "<1.0.post1.dev1",
+            ">1.post1", ">=1.post1", "<=1.post1", "!=1.post1", "<=1.dev0", ">=1.dev1", "==1+x", "!=1+x", "===1", "===foo", "==1!0",
+            "<1!0", "<0", "<=0.dev0", "!=0", ">=0.9.9", "<1.0.1.dev0", "~=1.0.1", "<2",
+        ]
+        for one, other, said in itertools.product(pieces, pieces, (None, True, False)):
+            if said is False and "0.dev0" in one + other or ">1" in (one, other) and "<=1.post1" in (one, other):
+                # DIFFERENCES has these
+                continue
+            text = one + "," + other
+            ours, theirs = pylock.SpecifierSet(text, said), packaging.specifiers.SpecifierSet(text, said)
+            self.same((text, said), ours.is_unsatisfiable(), theirs.is_unsatisfiable())
 
     def test_sets(self):
         for text in SETS:
             ours, theirs = pylock.SpecifierSet(text), packaging.specifiers.SpecifierSet(text)
-            self.same(text, len(ours), len(theirs))
-            self.same(text, sorted(map(str, ours)), sorted(map(str, theirs)))
-            if text not in ("==1.0,==1.0.0",):
+            if NEW:
+                self.same(text, (len(ours), list(map(str, ours))), (len(theirs), list(map(str, theirs))))
+            if NEW or text not in REPEATED:
+                self.same(text, sorted(map(str, ours)), sorted(map(str, theirs)))
                 self.same(text, (str(ours), repr(ours)), (str(theirs), repr(theirs)))
         for one, other in itertools.product(SETS, repeat=2):
             ours = [pylock.SpecifierSet(text) for text in (one, other)]
             theirs = [packaging.specifiers.SpecifierSet(text) for text in (one, other)]
             self.same((one, other, "=="), ours[0] == ours[1], theirs[0] == theirs[1])
             self.same((one, other, "== str"), ours[0] == other, theirs[0] == other)
-            self.same((one, other, "&"), sorted(map(str, ours[0] & ours[1])), sorted(map(str, theirs[0] & theirs[1])))
-            self.same((one, other, "& str"), len(ours[0] & other), len(theirs[0] & other))
+            self.same((one, other, "&"), ours[0] & ours[1] == str(theirs[0] & theirs[1]), True)
+            if NEW:
+                theirs = [packaging.specifiers.SpecifierSet(text) for text in (one, other)]
+                self.same((one, other, "& in order"), list(map(str, ours[0] & ours[1])), list(map(str, theirs[0] & theirs[1])))
+                self.same((one, other, "& str"), len(ours[0] & other), len(theirs[0] & other))
             if ours[0] == ours[1]:
                 self.assertEqual(hash(ours[0]), hash(ours[1]))
         for one, other in itertools.product(SPECIFIERS, repeat=2):
+            if "===" in one + other and not NEW:
+                continue
             self.same(
                 (one, other),
                 (pylock.Specifier(one) == pylock.Specifier(other), pylock.Specifier(one) == other),
@@ -203,15 +277,18 @@ class Agreement(unittest.TestCase):
         ours, theirs = (library.SpecifierSet for library in (pylock, packaging.specifiers))
         for forced in itertools.product((None, True, False), repeat=2):
             pair = [asked(lambda: (kind(">=1", forced[0]) & kind("<2", forced[1])).prereleases) for kind in (ours, theirs)]
-            self.same(forced, *pair)
+            # what None says was said by False before
+            self.same(forced, *(pair if NEW else [bool(value) for value in pair]))
         self.same("repr", repr(ours(">=1", prereleases=True)), repr(theirs(">=1", prereleases=True)))
 
     def test_markers(self):
         for text in MARKERS:
             ours, theirs = pylock.Marker(text), packaging.markers.Marker(text)
-            if OLD and "Te_sts" in text:
+            if OLD and "Te_sts" in text or NEW and text in ORDER_OF_NAMES:
                 continue
-            self.same(text, (str(ours), repr(ours)), (str(theirs), repr(theirs)))
+            self.same(text, str(ours), str(theirs))
+            if NEW or "'s" not in text:
+                self.same(text, repr(ours), repr(theirs))
             for environment, extra in itertools.product(ENVIRONMENTS, EXTRAS):
                 if OLD and extra == "te-sts":
                     continue
@@ -238,9 +315,43 @@ class Agreement(unittest.TestCase):
                 mapping = {"extras": extras, "dependency_groups": groups}
                 self.same((text, mapping), pylock.Marker(text).evaluate(mapping), packaging.markers.Marker(text).evaluate(mapping, "lock_file"))
 
+    @unittest.skipUnless(NEW, BEFORE)
+    def test_contexts(self):
+        for text in CONTEXTS:
+            contexts = ("metadata", "lock_file", "requirement")
+            for context, extra, extras, groups in itertools.product(
+                contexts, (None, "", "a", "A_b"), (None, set(), {"A.b"}), (None, frozenset(), {"a"})
+            ):
+                mapping = {"os_name": "nt", "extra": extra, "extras": extras, "dependency_groups": groups}
+                mapping = {name: value for name, value in mapping.items() if value is not None}
+                self.same((text, context, mapping), *[
+                    asked(kind(text).evaluate, mapping, context) for kind in (pylock.Marker, packaging.markers.Marker)
+                ])
+            self.same(text, asked(pylock.Marker(text).evaluate), asked(packaging.markers.Marker(text).evaluate))
+        for value in (None, ""):
+            self.same(value, pylock.Marker("extra == ''").evaluate({"extra": value}), True)
+
+    @unittest.skipUnless(NEW, BEFORE)
+    def test_markers_joined(self):
+        # the last two have a name that a text written anew has in normal form
+        texts = MARKERS + CONTEXTS + ["(extra == 'A_b')", "os_name=='a' and (extra=='A_b' or os_name=='b')"]
+        for one, other in itertools.product(texts, repeat=2):
+            ours, theirs = ([kind(text) for text in (one, other)] for kind in (pylock.Marker, packaging.markers.Marker))
+            joined = ours[0] & ours[1], ours[0] | ours[1]
+            self.same((one, other), tuple(map(str, joined)), (str(theirs[0] & theirs[1]), str(theirs[0] | theirs[1])))
+            if "A_b" not in one + other:
+                self.assertEqual(tuple(pylock.Marker(str(marker)) for marker in joined), joined)
+        for wrong in ("os_name == 'a'", None):
+            with self.assertRaises(TypeError):
+                pylock.Marker("os_name == 'a'") & wrong
+            with self.assertRaises(TypeError):
+                pylock.Marker("os_name == 'a'") | wrong
+
     def test_running_environment(self):
         self.assertEqual(pylock.default_environment(), packaging.markers.default_environment())
-        self.assertEqual(list(pylock.environment().tags), [str(tag) for tag in packaging.tags.sys_tags()])
+        # before 22 there was no tag of the Python for any platform
+        if not OLD:
+            self.assertEqual(list(pylock.environment().tags), [str(tag) for tag in packaging.tags.sys_tags()])
 
     def test_requirements(self):
         for text in REQUIREMENTS:
@@ -253,7 +364,7 @@ class Agreement(unittest.TestCase):
                 (ours.name, set(ours.extras), str(ours.specifier), ours.url, ours.marker and str(ours.marker)),
                 (theirs.name, theirs.extras, str(theirs.specifier), theirs.url, theirs.marker and str(theirs.marker)),
             )
-            if release(packaging) < (26, 0):
+            if NEW or "@" not in text:
                 self.same(text, (str(ours), repr(ours)), (str(theirs), repr(theirs)))
         for one, other in itertools.product(REQUIREMENTS, repeat=2):
             if not OLD:
@@ -309,15 +420,77 @@ class Agreement(unittest.TestCase):
         for text in ("py3-none", "", "a-b-c-d"):
             self.same(text, asked(pylock.parse_tag, text), asked(packaging.tags.parse_tag, text))
 
+    @unittest.skipUnless(NEW, BEFORE)
+    def test_orders_of_tags(self):
+        for text in WHEELS + NO_WHEELS + ["a-1-py3.py2-none-any.whl", "a-1-py2.py3-none-b.a.whl", "a-1-2-py2.PY3-none-any.whl",
+                                          "a-1-py2.py2-a.b-x.y.whl", "a-1-PY2.py3-none-any.whl"]:
+            for ordered in (True, False):
+                kinds = pylock.utils, packaging.utils
+                answers = [asked(kind.parse_wheel_filename, text, validate_order=ordered) for kind in kinds]
+                self.same((text, ordered), *["refused" if answer == "refused" else answer[0] for answer in answers])
+
+    @unittest.skipUnless(NEW, BEFORE)
+    def test_parts(self):
+        changes = [
+            {"epoch": epoch} for epoch in (0, 2, -1, "1", None)
+        ] + [{"release": release} for release in ((3,), (0, 0), (1, 2, 3, 4), (), [1], ("1",), (-1,), 1)] + [
+            {"pre": pre} for pre in (None, ("a", 0), ("Alpha", 1), ("c", 2), ("x", 1), ("b", -1), ("b", "1"), ["b", 1], "b1", ())
+        ] + [{part: number} for part in ("post", "dev") for number in (None, 0, 7, -1, "1")] + [
+            {"local": local} for local in (None, "a", "A_1-01", "", "a..b", "a ", 1, "\u017f")
+        ]
+        kinds = pylock.Version, packaging.version.Version
+        for text, one, other in itertools.product(["1.0", "1!2.0a1.post2.dev3+x.1", "v1.0-RC.1"], changes, changes):
+            named = dict(one, **other)
+            self.same((text, named), *[str(asked(kind(text).__replace__, **named)) for kind in kinds])
+            named.setdefault("release", (1, 0))
+            self.same(named, *[str(asked(kind.from_parts, **named)) for kind in kinds])
+        for letter in ("a", "A", "alpha", "Beta", "b", "c", "RC", "pre", "preview", "post", "x", ""):
+            self.same(letter, pylock.version.normalize_pre(letter), packaging.version.normalize_pre(letter))
+        for kind in kinds:
+            for places, named in (((), {}), (((1,),), {}), ((), {"release": (1,), "more": 1})):
+                with self.assertRaises(TypeError):
+                    kind.from_parts(*places, **named)
+
+    @unittest.skipUnless(NEW, BEFORE)
+    def test_assigned(self):
+        """What can be assigned, and that copies and pickles have it."""
+        for text, said in itertools.product((">=1", ">=1a1", "===foo", "!=1"), (None, True, False)):
+            self.same((text, said), *[self.said(library, text, said) for library in (pylock, packaging.specifiers)])
+        libraries = (pylock, pylock), (packaging.requirements, packaging.specifiers)
+        for part, value in (
+            ("name", "B"), ("extras", {"y", "x"}), ("url", "file:///x"), ("marker", None), ("specifier", ">=1,<2"),
+        ):
+            answers = []
+            for requirements, specifiers in libraries:
+                one = requirements.Requirement("a[x]; os_name == 'nt'")
+                setattr(one, part, specifiers.SpecifierSet(value) if part == "specifier" else value)
+                copied = copy.copy(one), copy.deepcopy(one), pickle.loads(pickle.dumps(one))
+                answers.append((str(one), [str(each) for each in copied], [each == one for each in copied]))
+            self.same((part, value), *answers)
+
+    def said(self, library, text, said):
+        """What becomes of specifiers and sets that are told of pre-releases after they are made."""
+        one, versions = library.Specifier(text), library.SpecifierSet(text + ",<3")
+        one.prereleases = versions.prereleases = said
+        held = library.SpecifierSet([one, library.Specifier("<3")])
+        more = library.SpecifierSet(text + ",<3")
+        next(iter(more)).prereleases = said
+        return [
+            (
+                repr(copied), copied.prereleases, copied.contains("2a1"), list(copied.filter(["1", "2a1"])), copied == kept,
+                hash(copied) == hash(kept),
+            )
+            for kept in (one, versions, held, more, held & "<2", more & "<2", versions & ">0")
+            for copied in (kept, copy.copy(kept), copy.deepcopy(kept), pickle.loads(pickle.dumps(kept)))
+        ]
+
     def test_exported_names(self):
         """What `packaging` exports has a namesake here, or stands in the table of docs/PYTHON.md."""
         absent = {
-            "specifiers": {"BaseSpecifier"},
-            "tags": {"INTERPRETER_SHORT_NAMES", "PythonVersion", "AppleVersion", "MacVersion", "compatible_tags", "cpython_tags", "generic_tags",
-                     "interpreter_name", "interpreter_version", "ios_platforms", "android_platforms", "mac_platforms", "platform_tags", "sys_tags",
-                     "create_compatible_tags_selector", "UnsortedTagsError"},
-            "markers": {"Environment", "EvaluateContext", "format_full_version"},
-            "version": {"LegacyVersion", "normalize_pre"},
+            "specifiers": set(),
+            "tags": {"MacVersion"},
+            "markers": set() if NEW else {"format_full_version"},
+            "version": {"LegacyVersion"},
             "utils": set(),
             "requirements": set(),
         }
@@ -332,51 +505,170 @@ class Agreement(unittest.TestCase):
             with self.subTest(part):
                 self.assertLessEqual(missing, {"LegacySpecifier", "VersionTypeVar"} if OLD else set())
 
+    @unittest.skipUnless(NEW, BEFORE)
+    def test_attributes(self):
+        """Classes have the attributes of `packaging`, and functions and methods take its arguments by its names."""
+        for part in ("version", "specifiers", "markers", "requirements", "utils"):
+            for name in getattr(packaging, part).__all__:
+                theirs, ours = getattr(getattr(packaging, part), name), getattr(getattr(pylock, part), name)
+                if inspect.isfunction(theirs):
+                    self.taken((part, name), ours, theirs)
+                elif inspect.isclass(theirs) and not issubclass(theirs, (ValueError, dict)):
+                    self.has_attributes(ours, theirs)
+        ours, theirs = (re.compile(each.VERSION_PATTERN, re.VERBOSE | re.IGNORECASE) for each in (pylock, packaging.version))
+        for text in VERSIONS + NO_VERSIONS:
+            found = [pattern.fullmatch(text) for pattern in (ours, theirs)]
+            self.same((text, "pattern"), *[match and match.groupdict() for match in found])
+        self.assertEqual(pylock.markers.Environment.__annotations__.keys(), packaging.markers.Environment.__annotations__.keys())
+        self.assertEqual(pylock.markers.EvaluateContext, packaging.markers.EvaluateContext)
+        self.assertTrue(issubclass(pylock.Version, pylock.version._BaseVersion))
+        for kind in (pylock.Specifier, pylock.SpecifierSet):
+            self.assertTrue(issubclass(kind, pylock.specifiers.BaseSpecifier))
 
-# What is asked, pylock's answer, the answer of packaging 24.1 ("refused" where it refuses)
+    def has_attributes(self, ours, theirs):
+        name = theirs.__name__
+        self.same((name, "name"), ours.__name__, name)
+        self.taken(name, ours, theirs)
+        self.same((name, "__match_args__"), getattr(ours, "__match_args__", None), getattr(theirs, "__match_args__", None))
+        for attribute in dir(theirs):
+            if attribute.startswith("_") and attribute not in SPECIAL:
+                continue
+            with self.subTest((name, attribute)):
+                self.assertTrue(hasattr(ours, attribute))
+            if inspect.isroutine(getattr(theirs, attribute)) and not attribute.startswith("_"):
+                self.taken((name, attribute), getattr(ours, attribute), getattr(theirs, attribute))
+
+    def taken(self, row, ours, theirs):
+        """The arguments of `packaging` are taken here, by the same names, and by place where it takes them so."""
+        try:
+            inspect.signature(ours)
+        except ValueError:
+            # a type that is made at run time loses the signature of its documentation there
+            if sys.version_info >= (3, 10):
+                raise
+            return
+        ours, theirs = (list(inspect.signature(call).parameters.values()) for call in (ours, theirs))
+        by_place = [[one.name for one in each if one.kind <= one.POSITIONAL_OR_KEYWORD] for each in (ours, theirs)]
+        self.same((row, "by place"), by_place[0][: len(by_place[1])], by_place[1])
+        with self.subTest((row, "by name")):
+            self.assertLessEqual({one.name for one in theirs}, {one.name for one in ours})
+
+
+SPECIAL = (
+    "__and__", "__or__", "__contains__", "__eq__", "__hash__", "__iter__", "__le__", "__len__", "__lt__", "__replace__",
+    "__str__", "_str",
+)
+
+
+def version(text):
+    return lambda library: str(library.version.Version(text))
+
+
+def parts(**named):
+    return lambda library: str(library.version.Version.from_parts(**named))
+
+
+def another_part(library):
+    try:
+        return str(library.version.Version("1").__replace__(more=1))
+    except TypeError:
+        return "refused"
+
+
+def contains(spec, text, *how):
+    return lambda library: library.specifiers.SpecifierSet(spec).contains(text, *how)
+
+
+def unsatisfiable(*made):
+    return lambda library: library.specifiers.SpecifierSet(*made).is_unsatisfiable()
+
+
+def marker(text):
+    return lambda library: str(library.markers.Marker(text))
+
+
+def evaluated(text, *mapping):
+    return lambda library: library.markers.Marker(text).evaluate(*mapping)
+
+
+def requirement(text):
+    return lambda library: str(library.requirements.Requirement(text))
+
+
+def set_in_order(library):
+    versions = library.specifiers.SpecifierSet("==3,<2,==3.0")
+    return str(versions), list(map(str, versions))
+
+
+# What is asked, pylock's answer, the answer of packaging 26.2 ("refused" where it refuses)
 DIFFERENCES = [
-    ("a number past 128 bits", lambda library: str(library.version.Version(str(2**128))), "refused", str(2**128)),
-    ("white space that isn't ASCII", lambda library: str(library.version.Version("\u00a01.0")), "refused", "1.0"),
-    ("a long s in a local version", lambda library: str(library.version.Version("1.0+\u017f")), "refused", "1.0+\u017f"),
+    ("a number past 128 bits", version(str(2**128)), "refused", str(2**128)),
+    ("such a number in a set", contains(">=1", str(2**128)), False, True),
+    ("white space that isn't ASCII", version("\u00a01.0"), "refused", "1.0"),
+    ("a truth value as a number", parts(release=(1, True)), "1.1", "1.True"),
+    ("another part", another_part, "refused", "1"),
+    ("no release", lambda library: str(library.version.Version("1").__replace__(release=None)), "refused", "0"),
+    ("> with a pre-release", contains(">1.7a1", "1.7.post1"), False, True),
+    ("< with a post-release", contains("<1.7.post1", "1.7a1"), False, True),
     ("=== without an operand", lambda library: str(library.specifiers.SpecifierSet("===")), "refused", "==="),
-    ("=== with what is no version", lambda library: "1.0" in library.specifiers.SpecifierSet("===foo"), False, "refused"),
+    ("=== with a comma", lambda library: str(library.specifiers.Specifier("===1,")), "refused", "===1,"),
+    ("=== in filter with a key", lambda library: list(
+        library.specifiers.SpecifierSet("===x").filter(["x_"], key=lambda item: item[0])), ["x_"], []),
     ("~= with v", lambda library: "2.5" in library.specifiers.SpecifierSet("~=v2.2"), True, False),
-    ("~= with a pre-release in capitals", lambda library: library.specifiers.SpecifierSet("~=2.2.RC1").contains("2.5"), True, False),
-    ("a left operand that is no version", lambda library: library.markers.Marker("platform_release >= '5'").evaluate(
-        {"platform_release": "5.15.0-91-generic"}), True, "refused"),
-    ("two texts", lambda library: library.markers.Marker("'a' == 'a'").evaluate(), True, "refused"),
-    ("two variables", lambda library: library.markers.Marker("os_name == sys_platform").evaluate(
-        {"os_name": "sys_platform", "sys_platform": "x"}), False, True),
-    ("an extra that spells a version", lambda library: library.markers.Marker("extra == 'v1'").evaluate({"extra": "1"}), False, True),
-    ("an order of extras", lambda library: library.markers.Marker("extra >= 'a'").evaluate({"extra": "b"}), "refused", True),
-    ("os.name", lambda library: str(library.markers.Marker("os.name == 'nt'")), "refused", 'os_name == "nt"'),
-    ("python_implementation", lambda library: str(library.markers.Marker("python_implementation == 'x'")), "refused",
-     'platform_python_implementation == "x"'),
-    ("65 open parentheses", lambda library: str(library.markers.Marker("(" * 65 + "os_name == 'a'" + ")" * 65)), "refused", 'os_name == "a"'),
-    ("a quotation mark in a text", lambda library: str(library.markers.Marker("os_name == 'a\"b'")), "os_name == 'a\"b'", 'os_name == "a"b"'),
-    ("two pairs of parentheses", lambda library: str(library.markers.Marker("os_name=='a' and ((os_name=='b' or os_name=='c'))")),
+    ("~= with a pre-release in capitals", contains("~=2.2.RC1", "2.5"), True, False),
+    ("no final release below 0", unsatisfiable("<=0.dev0", False), True, False),
+    ("no post-release behind >1", unsatisfiable(">1,<=1.post1"), True, False),
+    ("a set after its text was asked for", set_in_order, ("<2,==3", ["==3", "<2", "==3.0"]), ("<2,==3", ["<2", "==3"])),
+    ("a set of a text that is none", lambda library: str(library.specifiers.SpecifierSet([">=1,<2"])), "refused", ">=1,<2"),
+    ("a release that is no version, by order", evaluated("platform_release >= '5'", {"platform_release": "6-generic"}),
+     True, False),
+    ("a release that is no version, by !=", evaluated("platform_release != '5'", {"platform_release": "6-generic"}), True, False),
+    ("a release that is no version, by ~=", evaluated("platform_release ~= '5.0'", {"platform_release": "6-generic"}),
+     "refused", False),
+    ("a version beside what is no operand", evaluated("python_version < '3.13.*'", {"python_version": "3.12"}), True, False),
+    ("an order of names", evaluated("platform_system < 'M'", {"platform_system": "Linux"}), True, False),
+    ("names that spell versions", evaluated("os_name == '1.0'", {"os_name": "1"}), True, False),
+    ("names that spell versions, by ~=", evaluated("os_name ~= '1.0'", {"os_name": "1.2"}), True, "refused"),
+    ("names that spell versions, by ===", evaluated("os_name === '1.0'", {"os_name": "1.0"}), True, "refused"),
+    ("two texts", evaluated("'a' == 'a'"), True, "refused"),
+    ("two variables", evaluated("os_name == sys_platform", {"os_name": "sys_platform", "sys_platform": "x"}), False, True),
+    ("an order of extras", evaluated("extra >= 'a'", {"extra": "a"}), "refused", True),
+    ("an extra in parentheses", evaluated("(extra == 'A_b')", {"extra": "a-b"}), True, False),
+    ("sets beside ==", marker("'a' == extras"), "refused", '"a" == extras'),
+    ("a text as a set", evaluated("'a' in extras", {"extras": "abc"}), False, True),
+    ("os.name", marker("os.name == 'nt'"), "refused", 'os_name == "nt"'),
+    ("python_implementation", marker("python_implementation == 'x'"), "refused", 'platform_python_implementation == "x"'),
+    ("65 open parentheses", marker("(" * 65 + "os_name == 'a'" + ")" * 65), "refused", 'os_name == "a"'),
+    ("a quotation mark in a text", marker("os_name == 'a\"b'"), "os_name == 'a\"b'", 'os_name == "a"b"'),
+    ("two pairs of parentheses", marker("os_name=='a' and ((os_name=='b' or os_name=='c'))"),
      'os_name == "a" and (os_name == "b" or os_name == "c")', 'os_name == "a" and os_name == "b" or os_name == "c"'),
-    ("a backslash", lambda library: library.markers.Marker("os_name == 'a\\x62'").evaluate({"os_name": "ab"}), "refused", True),
-    ("an empty piece in a requirement", lambda library: str(library.requirements.Requirement("a>=1,,<2")), "a<2,>=1", "refused"),
+    ("a marker in parentheses and another", lambda library: str(
+        library.markers.Marker("(os_name=='b' or os_name=='c')") & library.markers.Marker("os_name=='a'")),
+     '(os_name == "b" or os_name == "c") and os_name == "a"', 'os_name == "b" or os_name == "c" and os_name == "a"'),
+    ("a backslash", evaluated("os_name == 'a\\x62'", {"os_name": "ab"}), "refused", True),
+    ("an empty piece in a requirement", requirement("a>=1,,<2"), "a<2,>=1", "refused"),
+    ("a comma behind a requirement", requirement("a,"), "a", "refused"),
+    ("=== and another in a requirement", requirement("a===1.0, >=1"), "a===1.0,>=1", "refused"),
+    ("hashes of equal requirements", lambda library: len(
+        {library.requirements.Requirement(text) for text in ("a>=1.0", "a>=1")}), 1, 2),
     ("a build that isn't ASCII", lambda library: library.utils.parse_wheel_filename("a-1-1\u00b2-py3-none-any.whl")[2], "refused", (1, "\u00b2")),
     ("an empty name of a wheel", lambda library: library.utils.parse_wheel_filename("-1-py3-none-any.whl")[0], "refused", ""),
     ("a tag with an empty piece", lambda library: len(library.utils.parse_wheel_filename("a-1-py3..py2-none-any.whl")[3]), "refused", 3),
     ("an empty name of an sdist", lambda library: library.utils.parse_sdist_filename("-1.tar.gz")[0], "refused", ""),
     ("a dash behind the name of an sdist", lambda library: library.utils.parse_sdist_filename("a--1.tar.gz")[0], "refused", "a-"),
     ("a--b", lambda library: library.utils.is_normalized_name("a--b"), False, True),
-    ("a line end behind a name", lambda library: library.utils.is_normalized_name("a\n"), False, True),
 ]
 
 
 @unittest.skipIf(packaging is None or OLD, "neither packaging 22 or later nor pip's copy of it is installed")
 class Differences(unittest.TestCase):
-    """The differences on purpose. What `packaging` has changed since 24.1 shows here, and is no failure."""
+    """The differences on purpose, to 26.2."""
 
     def test_rows(self):
         for row, question, ours, theirs in DIFFERENCES:
             with self.subTest(row):
                 self.assertEqual(asked(question, pylock), ours)
-                if release(packaging) <= (24, 1):
+                if release(packaging) == (26, 2):
                     self.assertEqual(asked(question, packaging), theirs)
 
     def test_rows_differ(self):
@@ -387,16 +679,21 @@ class Differences(unittest.TestCase):
 class WithoutPackaging(unittest.TestCase):
     def test_admits_is_the_profile(self):
         """`admits` follows docs/FORMATS.md, where `contains` follows `packaging`."""
-        for text, version, admits, contains in (
-            (">=1.0", "2.0rc1", True, False),
-            ("", "1.0a1", True, False),
-            (">1.0.post1", "1.0.post2+x", True, False),
-            (">1.0a1", "1.0+x", True, False),
-            (">1.7", "1.7+x", False, False),
+        for text, said, version, admits, contains in (
+            (">=1.0", False, "2.0rc1", True, False),
+            ("", False, "1.0a1", True, False),
+            ("===1.0rc1", None, "1.0-RC.1", True, False),
+            ("===v1.0", None, "v1.0", False, True),
+            (">1.0.post1", None, "1.0.post2+x", True, True),
+            (">1.0a1", None, "1.0+x", True, True),
+            (">1.7", None, "1.7+x", False, False),
         ):
             with self.subTest((text, version)):
-                versions = pylock.SpecifierSet(text)
+                versions = pylock.SpecifierSet(text, said)
                 self.assertEqual((versions.admits(version), versions.contains(version)), (admits, contains))
+        for text in ("", ">=1", "===foo"):
+            with refused(self, pylock.InvalidVersion):
+                pylock.SpecifierSet(text).admits("foo")
 
     def test_order_of_the_specification(self):
         row = ["1.0.dev1", "1.0a1.dev1", "1.0a1", "1.0a1.post1", "1.0rc1", "1.0", "1.0+abc", "1.0+5", "1.0.post1.dev1", "1.0.post1", "1!0"]

@@ -11,6 +11,7 @@ from test_manners import LINUX, LOCK, linux
 from test_worked import answer
 
 import pylock
+from pylock import _lock
 
 
 class Locks(unittest.TestCase):
@@ -168,6 +169,80 @@ class Random(unittest.TestCase):
                 [program(), "select", lock.name, environment.name], input="".join(line + "\n" for line in lines).encode(), stdout=subprocess.PIPE
             ).stdout.decode()
         self.assertEqual("".join(report), printed)
+
+
+class Plans(unittest.TestCase):
+    """A lock without paths gives its plan by lines: the same as by the JSON text of a session that was started afresh."""
+
+    NAMES = ("a-1-py3-none-any.whl", "a-1.tar.gz", "-", "a\tb", "a=b,c", "\u00e9", "")
+    HASHES = ("{}", '{sha256 = "00"}', '{sha256 = "00", md5 = "1"}', '{md5 = "a,b=c"}', '{"a=b" = "c"}', '{sha256 = ""}', '{"x" = "-"}')
+
+    def source(self, dice):
+        kind = dice.choice(("wheels", "sdist", "sdist", "archive", "vcs", "directory"))
+        if kind == "directory":
+            return 'directory = {path = "a"}'
+        if kind == "vcs":
+            return 'vcs = {type = "git", url = "https://h/g", commit-id = "f0"}'
+        place = dice.choice(('url = "https://h/a-1.tar.gz"',) * 8 + ('url = "https://h/%61"', 'url = "https://h/\u0061"', 'url = "-"', 'url = ""',
+                            'path = "p"', 'path = "p", url = "u"', '"p\\u0061th" = "q"'))
+        more = dice.choice(("", 'subdirectory = "s", ', 'subdirectory = "-", ')) if kind == "archive" else ""
+        if kind != "archive" and dice.random() < 0.7:
+            more = 'name = "%s", ' % dice.choice(self.NAMES[:1] if kind == "wheels" else self.NAMES[1:])
+        table = "{%s%s, hashes = %s}" % (more, place, dice.choice(self.HASHES))
+        return "%s = %s" % (kind, "[%s]" % table if kind == "wheels" else table)
+
+    def lock(self, dice):
+        text = 'lock-version = "1.0"\ncreated-by = "t"\n'
+        for place in range(dice.randrange(1, 4)):
+            version = dice.choice(("", 'version = "1"\n', 'version = "1.0-1"\n'))
+            text += '[[packages]]\nname = "N%d"\n%s%s\n' % (place, version, self.source(dice))
+        return text.encode()
+
+    def test_by_lines(self):
+        dice, found = random.Random(49), {True: 0, False: 0}
+        for _ in range(3000):
+            content = self.lock(dice)
+            try:
+                session = pylock.Session(content, linux())
+            except pylock.InvalidLock as refusal:
+                with self.assertRaises(pylock.InvalidLock) as caught:
+                    pylock.Lock.read(content)
+                self.assertEqual(str(caught.exception), str(refusal))
+                continue
+            lock = pylock.Lock.read(content)
+            try:
+                picks = session.answer()
+            except pylock.PlanFault as fault:
+                with self.assertRaises(pylock.PlanFault) as caught:
+                    lock.plan(linux())
+                self.assertEqual(str(caught.exception), str(fault))
+                continue
+            self.assertEqual(lock.plan(linux()), picks, content)
+            found[_lock._plain_picks(session._kept.answer(False)[0]) == picks] += 1
+        self.assertGreater(min(found.values()), 100)
+
+    def test_environments(self):
+        """The first environment is given to the session that judged the lock, and others start one of their own."""
+        dice = random.Random(4)
+        texts = ["linux", "win32", "", "\u00e9", "a\nb"]
+        for _ in range(300):
+            lock = pylock.Lock.read(LOCK)
+            for _ in range(3):
+                variables = {name: dice.choice(texts) for name in dice.sample(["sys_platform", "os_name", "python_full_version", "no_variable"], 3)}
+                if "python_full_version" in variables:
+                    variables["python_full_version"] = dice.choice(["3.12.4", "3.7", "x"])
+                tags = dice.choice([[], ["py3-none-any"], ["cp312-cp312-any", "py3-none-any", "py3-none-any"]])
+                environment = pylock.Environment(variables, tags)
+                given = dice.choice([environment, {"environment": variables, "tags": tags}, environment])
+                self.assertEqual(planned(lock.plan, given), planned(pylock.Session(LOCK, environment).answer))
+
+
+def planned(call, *arguments):
+    """The plan, or the words of the fault."""
+    try:
+        return call(*arguments)
+    except pylock.PlanFault as fault:
+        return str(fault)
 
 
 if __name__ == "__main__":

@@ -4,15 +4,16 @@ import copy
 import json
 import os
 import pickle
+import shutil
 import subprocess
 import sys
+import tempfile
 import threading
 import unittest
 
-from support import PYTHON, refused
+from support import MODULE, PYTHON, refused
 
 import pylock
-from pylock import _native
 
 LOCK = b"""
 lock-version = "1.0"
@@ -38,13 +39,15 @@ def linux(tags=("py3-none-any",)):
 
 UNCHANGING = [
     pylock.Version("1.0-RC1"),
-    pylock.Specifier(">= 1.0"),
-    pylock.Specifier(">=1.0", prereleases=True),
-    pylock.SpecifierSet(">=1.0, <2"),
-    pylock.SpecifierSet("", prereleases=False),
     pylock.Marker("os_name=='nt' or extra == 'x'"),
-    pylock.Requirement("A_b[x] >=1 ; os_name == 'nt'"),
     pylock.Tag("py3", "none", "any"),
+]
+ASSIGNED = [
+    (pylock.Specifier(">= 1.0"), "prereleases", True),
+    (pylock.Specifier(">=1.0", prereleases=True), "prereleases", False),
+    (pylock.SpecifierSet(">=1.0, <2"), "prereleases", False),
+    (pylock.SpecifierSet("", prereleases=False), "prereleases", True),
+    (pylock.Requirement("A_b[x] >=1 ; os_name == 'nt'"), "extras", {"y"}),
 ]
 
 
@@ -179,20 +182,37 @@ class Refusals(unittest.TestCase):
 
 
 class Copies(unittest.TestCase):
+    def pickled(self, one):
+        """A pickle gives an equal object of the class."""
+        for protocol in range(pickle.HIGHEST_PROTOCOL + 1):
+            again = pickle.loads(pickle.dumps(one, protocol))
+            self.assertEqual((again, type(again), str(again), hash(again)), (one, type(one), str(one), hash(one)))
+
     def test_unchanging(self):
         for one in UNCHANGING:
             with self.subTest(repr(one)):
                 self.assertIs(copy.copy(one), one)
                 self.assertIs(copy.deepcopy([one])[0], one)
-                for protocol in range(pickle.HIGHEST_PROTOCOL + 1):
-                    again = pickle.loads(pickle.dumps(one, protocol))
-                    self.assertEqual((again, type(again), str(again), hash(again)), (one, type(one), str(one), hash(one)))
+                self.pickled(one)
                 with self.assertRaises(AttributeError):
                     one.anything = 1
-        for one in (pylock.Specifier(">=1", True), pylock.SpecifierSet(">=1", False)):
-            self.assertEqual(pickle.loads(pickle.dumps(one)).prereleases, one.prereleases)
-            with self.assertRaises(AttributeError):
-                one.prereleases = None
+
+    def test_assigned(self):
+        """What can be assigned changes no copy."""
+        for one, name, value in ASSIGNED:
+            with self.subTest(repr(one)):
+                self.pickled(one)
+                copies = copy.copy(one), copy.deepcopy([one])[0], pickle.loads(pickle.dumps(one))
+                before = getattr(one, name), repr(one), hash(one)
+                setattr(one, name, value)
+                self.assertEqual(getattr(one, name), value)
+                self.assertNotEqual(repr(one), before[1])
+                for copied in copies:
+                    self.assertEqual((getattr(copied, name), repr(copied), hash(copied)), before)
+                self.pickled(one)
+                self.assertEqual(getattr(pickle.loads(pickle.dumps(one)), name), value)
+                with self.assertRaises(AttributeError):
+                    one.anything = 1
 
     def test_of_a_thread(self):
         for one in (pylock.Lock.read(LOCK), pylock.Session(LOCK, linux()), linux()):
@@ -244,9 +264,9 @@ class Threads(unittest.TestCase):
         holder = [pylock.Session(LOCK, linux())]
         owner = holder[0]._kept.owner
         self.assertEqual(self.elsewhere(holder.clear), [])
-        self.assertEqual(len(owner.graves), 1)
+        self.assertEqual(owner.graves, 1)
         pylock.Session(LOCK, linux())
-        self.assertEqual(len(owner.graves), 0)
+        self.assertEqual(owner.graves, 0)
         made = []
         self.assertEqual(self.elsewhere(lambda: made.append(pylock.Session(LOCK, linux()))), [])
         made.clear()
@@ -297,7 +317,7 @@ class Ends(unittest.TestCase):
             versions.contains(versions)
 
     def run_python(self, text, **more):
-        environment = dict(os.environ, PYTHONPATH=PYTHON, **more)
+        environment = dict(os.environ, PYTHONPATH=MODULE, **more)
         return subprocess.run([sys.executable, "-W", "error", "-c", text], env=environment, stdout=subprocess.PIPE, stderr=subprocess.STDOUT)
 
     def test_end_of_the_interpreter(self):
@@ -320,15 +340,14 @@ thread.start(); thread.join()
         ended = self.run_python(text)
         self.assertEqual((ended.returncode, ended.stdout), (0, b""))
 
-    def test_library_is_named(self):
-        """Without a library the import fails with a sentence; one that is none, too."""
-        if os.path.exists(os.path.join(PYTHON, "pylock", "libpylock" + _native.SUFFIX)):
-            self.skipTest("a library stands beside the module")
-        for named, words in (("", b"tools/library"), ("/no/such/library", b"can't be loaded")):
-            ended = self.run_python("import pylock", PYLOCK_LIBRARY=named)
-            self.assertEqual(ended.returncode, 1)
-            self.assertIn(b"ImportError: pylock:", ended.stdout)
-            self.assertIn(words, ended.stdout)
+    def test_not_compiled(self):
+        """Without its compiled part the import fails with a sentence."""
+        with tempfile.TemporaryDirectory() as folder:
+            shutil.copytree(os.path.join(PYTHON, "pylock"), os.path.join(folder, "pylock"), ignore=shutil.ignore_patterns("*.so"))
+            environment = dict(os.environ, PYTHONPATH=folder)
+            ended = subprocess.run([sys.executable, "-c", "import pylock"], env=environment, stdout=subprocess.PIPE, stderr=subprocess.STDOUT)
+        self.assertEqual(ended.returncode, 1)
+        self.assertIn(b"ImportError: pylock: there is no compiled module", ended.stdout)
 
 
 if __name__ == "__main__":

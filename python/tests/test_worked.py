@@ -13,7 +13,7 @@ from support import TOP, bytes_of, text_of, toml
 
 import pylock
 import pylock.__main__
-from pylock import _native
+from pylock import _library as _native
 
 READER = toml()
 HEAD = b'lock-version = "1.0"\ncreated-by = "t"\n'

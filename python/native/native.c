@@ -1,0 +1,266 @@
+/* The module itself: its state, and what stands in it. */
+#include "native.h"
+
+#include <stdlib.h>
+
+enum { ABI = 1 };
+
+State *state_of(PyObject *module)
+{
+    State **place = PyModule_GetState(module);
+    return place == NULL ? NULL : *place;
+}
+
+static void leave_state(State *state)
+{
+    if (--state->users == 0) PyMem_Free(state);
+}
+
+bool is_of(PyObject *object, PyTypeObject *type)
+{
+    return Py_TYPE(object) == type || (type != NULL && PyType_IsSubtype(Py_TYPE(object), type));
+}
+
+bool add_type(PyObject *module, const char *name, PyTypeObject *type)
+{
+    Py_INCREF(type);
+    if (PyModule_AddObject(module, name, (PyObject *)type) == 0) return true;
+    Py_DECREF(type);
+    return false;
+}
+
+int visit_type(PyObject *self, visitproc visit, void *arg)
+{
+    Py_VISIT(Py_TYPE(self));
+    return 0;
+}
+
+PyObject *no_new(PyTypeObject *type, PyObject *arguments, PyObject *named)
+{
+    (void)arguments, (void)named;
+    PyErr_Format(PyExc_TypeError, "%R isn't made by itself", (PyObject *)type);
+    return NULL;
+}
+
+PyObject *new_object(State *state, PyTypeObject *type)
+{
+    if (type == NULL) {
+        PyErr_SetString(PyExc_RuntimeError, "pylock: the module was taken apart");
+        return NULL;
+    }
+    PyObject *self = PyType_GenericAlloc(type, 0);
+    if (self == NULL) return NULL;
+    ((Object *)self)->state = state;
+    state->users++;
+    return self;
+}
+
+void free_object(PyObject *self)
+{
+    PyTypeObject *type = Py_TYPE(self);
+    leave_state(((Object *)self)->state);
+#if NATIVE_IS_MODERN
+    /* what all of the module's types have, and classes that are made from them */
+    PyObject_GC_Del(self);
+#else
+    freefunc free_memory = (freefunc)PyType_GetSlot(type, Py_tp_free);
+    free_memory(self);
+#endif
+    /* each instance of a type that was made at run time holds it */
+    Py_DECREF(type);
+}
+
+/* ---- what the Python layer brings ---- */
+
+static bool is_class_of(PyObject *object, PyTypeObject *base)
+{
+    if (base != NULL && PyType_Check(object) && PyType_IsSubtype((PyTypeObject *)object, base)) return true;
+    PyErr_SetString(PyExc_TypeError, "expected classes that are made from those of this module");
+    return false;
+}
+
+static void put(PyObject **place, PyObject *object)
+{
+    PyObject *before = *place;
+    Py_INCREF(object);
+    *place = object;
+    Py_XDECREF(before);
+}
+
+static PyObject *use_refusals(PyObject *module, PyObject *const *arguments, Py_ssize_t count)
+{
+    State *state = state_of(module);
+    if (!check_count("use_refusals", count, 2)) return NULL;
+    put(&state->refuse, arguments[0]);
+    put(&state->refuse_input, arguments[1]);
+    Py_RETURN_NONE;
+}
+TAKES_TUPLE(use_refusals)
+
+static PyObject *use_version(PyObject *module, PyObject *type)
+{
+    State *state = state_of(module);
+    if (!is_class_of(type, state->version)) return NULL;
+    put((PyObject **)&state->version_class, type);
+    Py_RETURN_NONE;
+}
+
+static PyObject *use_tag(PyObject *module, PyObject *type)
+{
+    State *state = state_of(module);
+    if (!is_class_of(type, state->tag)) return NULL;
+    put((PyObject **)&state->tag_class, type);
+    /* those that are kept are of another class */
+    if (state->tags != NULL) PyDict_Clear(state->tags);
+    Py_RETURN_NONE;
+}
+
+static PyObject *use_specifier(PyObject *module, PyObject *type)
+{
+    State *state = state_of(module);
+    if (!is_class_of(type, state->specifier)) return NULL;
+    put((PyObject **)&state->specifier_class, type);
+    Py_RETURN_NONE;
+}
+
+static PyMethodDef functions[] = {
+    CALL("use_refusals", use_refusals, "Two functions that make the exception of a code: of texts, and of locks and environments."),
+    {"use_version", use_version, METH_O, PyDoc_STR("The class of which versions in results are made.")},
+    {"use_specifier", use_specifier, METH_O, PyDoc_STR("The class of which specifiers of sets are made.")},
+    {"use_tag", use_tag, METH_O, PyDoc_STR("The class of which tags in results are made.")},
+    {NULL, NULL, 0, NULL},
+};
+
+/* ---- the module ---- */
+
+#define EACH(state, word)                                                                                                \
+    word(state->version);                                                                                                \
+    word(state->tag);                                                                                                    \
+    word(state->set);                                                                                                    \
+    word(state->specifier);                                                                                              \
+    word(state->marker);                                                                                                 \
+    word(state->environment);                                                                                            \
+    word(state->layers);                                                                                                 \
+    word(state->session);                                                                                                \
+    word(state->owner);                                                                                                  \
+    word(state->version_class);                                                                                          \
+    word(state->tag_class);                                                                                              \
+    word(state->specifier_class);                                                                                        \
+    word(state->refuse);                                                                                                 \
+    word(state->refuse_input);                                                                                           \
+    word(state->tags);                                                                                                   \
+    word(state->places);
+
+static int module_traverse(PyObject *module, visitproc visit, void *arg)
+{
+    State *state = state_of(module);
+    if (state == NULL) return 0;
+    EACH(state, Py_VISIT)
+    return 0;
+}
+
+static int module_clear(PyObject *module)
+{
+    State *state = state_of(module);
+    if (state == NULL) return 0;
+    EACH(state, Py_CLEAR)
+    return 0;
+}
+
+static void module_free(void *module)
+{
+    State *state = state_of(module);
+    module_clear(module);
+    if (state != NULL) leave_state(state);
+}
+
+/* The codes that the Python layer names. */
+static bool add_codes(PyObject *module)
+{
+    static const struct {
+        const char *name;
+        int code;
+    } codes[] = {
+        {"MEMORY", PYLOCK_MEMORY},
+        {"NOT_UTF8", PYLOCK_NOT_UTF8},
+        {"EMPTY", PYLOCK_EMPTY},
+        {"LOCK_REFUSED", PYLOCK_LOCK_REFUSED},
+        {"ENVIRONMENT_REFUSED", PYLOCK_ENVIRONMENT_REFUSED},
+        {"EDIT_NO_ENTRY", PYLOCK_EDIT_NO_ENTRY},
+    };
+    for (size_t index = 0; index < sizeof codes / sizeof codes[0]; index++)
+        if (PyModule_AddIntConstant(module, codes[index].name, codes[index].code) < 0) return false;
+    return true;
+}
+
+/* The state of a new module: NULL with an exception. */
+static State *new_state(PyObject *module)
+{
+    State *state = PyMem_Malloc(sizeof(State));
+    if (state == NULL) return (State *)PyErr_NoMemory();
+    memset(state, 0, sizeof(State));
+    state->users = 1;
+    *(State **)PyModule_GetState(module) = state;
+    return state;
+}
+
+static int module_exec(PyObject *module)
+{
+    State *state = new_state(module);
+    if (state == NULL) return -1;
+    if (pylock_abi() != ABI) {
+        PyErr_Format(PyExc_ImportError, "pylock: the library has the interface %d, and this module wants %d", (int)pylock_abi(), ABI);
+        return -1;
+    }
+    if (!add_versions(module, state) || !add_tags(module, state) || !add_names(module, state)) return -1;
+    if (!add_kept(module, state) || !add_specifiers(module, state) || !add_layers(module, state)) return -1;
+    if (!add_locks(module, state)) return -1;
+    return add_codes(module) ? PyModule_AddFunctions(module, functions) : -1;
+}
+
+/* Python 3.13 and later are told that interpreters with a lock of their own each may have the module: all that is kept is in
+ * its state, and the library keeps nothing between calls. In 3.12 such interpreters have been seen to wait for ever, so it
+ * isn't told, and refuses the import in them. Pythons before that refuse a module with a slot that they don't know, and
+ * their headers have neither its number nor its value. */
+enum { SLOT_OF_INTERPRETERS = 3 };
+#define EACH_WITH_ITS_LOCK ((void *)2)
+
+static PyModuleDef_Slot slots_before[] = {
+    {Py_mod_exec, module_exec},
+    {0, NULL},
+};
+
+static PyModuleDef_Slot slots[] = {
+    {Py_mod_exec, module_exec},
+    {SLOT_OF_INTERPRETERS, EACH_WITH_ITS_LOCK},
+    {0, NULL},
+};
+
+#define DEFINITION(its_slots)                                                                                            \
+    {                                                                                                                    \
+        PyModuleDef_HEAD_INIT, .m_name = "pylock._native", .m_doc = PyDoc_STR("The library of pylock, linked in."),      \
+        .m_size = sizeof(State *), .m_slots = its_slots, .m_traverse = module_traverse, .m_clear = module_clear,         \
+        .m_free = module_free,                                                                                           \
+    }
+
+static PyModuleDef definition_before = DEFINITION(slots_before), definition = DEFINITION(slots);
+
+bool is_this_module(PyObject *object)
+{
+    if (!PyModule_Check(object)) return false;
+    PyModuleDef *its_definition = PyModule_GetDef(object);
+    return its_definition == &definition || its_definition == &definition_before;
+}
+
+/* Whether the Python that runs is 3.13 or later: its text begins with its number. */
+static bool has_good_interpreters(void)
+{
+    const char *text = Py_GetVersion();
+    if (strncmp(text, "3.", 2) != 0) return text[0] > '3';
+    return strtol(text + 2, NULL, 10) >= 13;
+}
+
+__attribute__((visibility("default"))) PyMODINIT_FUNC PyInit__native(void)
+{
+    return PyModuleDef_Init(has_good_interpreters() ? &definition : &definition_before);
+}

@@ -1,0 +1,208 @@
+/* The module pylock._native: the calls of libpylock.a for Python. It judges nothing: texts go in, results come out.
+ *
+ * It keeps to the limited API: of 3.10, or of 3.8 where Py_LIMITED_API says so, which lacks fast calls and the UTF-8 view
+ * of a text. All that it keeps lies in the state of the module, so each interpreter has its own.
+ */
+#ifndef PYLOCK_NATIVE_H
+#define PYLOCK_NATIVE_H
+
+#ifndef Py_LIMITED_API
+#define Py_LIMITED_API 0x030A0000
+#endif
+#define PY_SSIZE_T_CLEAN
+#include <Python.h>
+
+#include <stdbool.h>
+#include <stdint.h>
+#include <string.h>
+
+#include "pylock.h"
+
+/* ---- what differs between the two limited APIs ---- */
+
+#if Py_LIMITED_API >= 0x030A0000
+#define NATIVE_IS_MODERN 1
+#else
+#define NATIVE_IS_MODERN 0
+#endif
+
+/* Objects of the module are found by the collector where its rules are those of 3.9 and later: an instance counts as a
+ * reference to its type. They hold texts alone, so before that nothing is lost where they aren't. */
+#if NATIVE_IS_MODERN
+#define NATIVE_COLLECTED Py_TPFLAGS_HAVE_GC
+#define NATIVE_FIXED Py_TPFLAGS_IMMUTABLETYPE
+#else
+#define NATIVE_COLLECTED 0
+#define NATIVE_FIXED 0
+#endif
+
+/* A function of positional arguments is written once, for an array of them. CALL gives its row in a table of methods;
+ * in the older API a wrapper, which TAKES_TUPLE defines, makes the array of a tuple. */
+typedef PyObject *(*ArrayCall)(PyObject *self, PyObject *const *arguments, Py_ssize_t count);
+#if NATIVE_IS_MODERN
+#define TAKES_TUPLE(name)
+#define CALL(word, name, text) {word, (PyCFunction)(void (*)(void))name, METH_FASTCALL, PyDoc_STR(text)}
+#else
+#define TAKES_TUPLE(name)                                                                                                \
+    static PyObject *name##_of_tuple(PyObject *self, PyObject *tuple) { return call_of_tuple(name, self, tuple); }
+#define CALL(word, name, text) {word, name##_of_tuple, METH_VARARGS, PyDoc_STR(text)}
+PyObject *call_of_tuple(ArrayCall call, PyObject *self, PyObject *tuple);
+#endif
+
+/* The same of a function whose arguments may be given by their names. */
+typedef PyObject *(*NamedCall)(PyObject *self, PyObject *const *arguments, Py_ssize_t count, PyObject *names);
+#if NATIVE_IS_MODERN
+#define TAKES_NAMES(name)
+#define CALL_NAMED(word, name, text)                                                                                   \
+    {word, (PyCFunction)(void (*)(void))name, METH_FASTCALL | METH_KEYWORDS, PyDoc_STR(text)}
+#else
+#define TAKES_NAMES(name)                                                                                                \
+    static PyObject *name##_of_tuple(PyObject *self, PyObject *tuple, PyObject *named)                                   \
+    {                                                                                                                    \
+        return call_of_names(name, self, tuple, named);                                                                  \
+    }
+#define CALL_NAMED(word, name, text)                                                                                   \
+    {word, (PyCFunction)(void (*)(void))name##_of_tuple, METH_VARARGS | METH_KEYWORDS, PyDoc_STR(text)}
+PyObject *call_of_names(NamedCall call, PyObject *self, PyObject *tuple, PyObject *named);
+#endif
+
+/* The type of a specification, as the module holds it: of the module where the API has such types. */
+PyTypeObject *type_of_spec(PyObject *module, PyType_Spec *spec);
+
+/* ---- the state of the module ---- */
+
+typedef struct {
+    /* the module, and each object of its types: an object may outlive the module where the collector takes both apart */
+    Py_ssize_t users;
+    /* NULL where the module was taken apart */
+    PyTypeObject *version, *tag, *set, *specifier, *marker, *environment, *layers, *session, *owner;
+    /* the classes of the Python layer, of which results are made: the types themselves until `use` says otherwise */
+    PyTypeObject *version_class, *tag_class, *specifier_class;
+    /* Python functions that make the exception of a code, or NULL */
+    PyObject *refuse, *refuse_input;
+    /* tags that came before, by their texts */
+    PyObject *tags;
+    /* the numbers of what a mapping may have for markers, by their names */
+    PyObject *places;
+} State;
+
+State *state_of(PyObject *module);
+/* Whether the object is a module of this file, and so has such a state. */
+bool is_this_module(PyObject *object);
+/* The state, by one of the module's types or a class that is made from it. NULL with an exception where there is none. */
+State *state_of_type(PyTypeObject *type);
+
+/* ---- texts ---- */
+
+/* The UTF-8 of a str, as long as it is used. Half a character is handed on, for the library to refuse. */
+typedef struct {
+    const uint8_t *bytes;
+    size_t length;
+    /* holds the bytes where the str itself doesn't */
+    PyObject *holder;
+} Text;
+
+bool text_of(PyObject *object, Text *text);
+void text_done(Text *text);
+/* Cuts off the piece up to the sign, or to the end. Whether the sign was there, and so another piece follows. */
+bool cut_text(Text *rest, char sign, Text *piece);
+/* The bytes of a bytes object. */
+bool bytes_of(PyObject *object, Text *text);
+
+/* The text itself as an exact str: a new reference. */
+PyObject *exact_text(PyObject *object);
+
+/* ---- results ---- */
+
+enum { RESULT_ROOM = 512 };
+
+/* A short result: it stands in `near`, or in memory that `result_done` gives back. */
+typedef struct {
+    uint8_t *bytes;
+    size_t length;
+    uint8_t near[RESULT_ROOM];
+} Result;
+
+typedef int32_t (*TextCall)(const uint8_t *text, size_t length, uint8_t *out, size_t room, size_t *needed);
+
+/* What a call writes of a text. */
+int32_t result_of_text(TextCall call, const Text *text, Result *result);
+/* What a kept text has. It is empty then. */
+int32_t result_of_kept(pylock_text *kept, Result *result);
+void result_done(Result *result);
+
+PyObject *str_of(const uint8_t *bytes, size_t length);
+/* The same of the bytes of a Text, in which half characters may stand. */
+PyObject *str_with_halves(const uint8_t *bytes, size_t length);
+/* A kept text as a str. It is empty then. */
+PyObject *str_of_kept(pylock_text *kept);
+/* The fields of a record: a tuple of str, and None where a field is absent. */
+PyObject *fields_of(const uint8_t *record, size_t length);
+
+/* ---- refusals ---- */
+
+/* Raises the exception of a code that a call on this text has answered. `kind` says of what the text was to be one. */
+void raise_refusal(State *state, int32_t code, PyObject *text, const char *kind);
+/* The same of a lock or an environment; `words` are those of the call, and are given back. */
+void raise_input(State *state, int32_t code, pylock_text *words, PyObject *lock, PyObject *environment, bool json);
+
+bool check_count(const char *name, Py_ssize_t count, Py_ssize_t wanted);
+/* A function of one argument, and of a flag that is given by its name alone, or of none. */
+typedef struct {
+    const char *name, *one, *flag;
+} Signature;
+
+/* The argument: a borrowed reference. `count` arguments stand before the named ones. */
+PyObject *one_and_flag(const Signature *signature, PyObject *const *arguments, Py_ssize_t count, PyObject *names, bool *flag);
+
+/* ---- the parts of the module ---- */
+
+/* What each object of the module's types begins with. */
+typedef struct {
+    PyObject_HEAD
+    State *state;
+} Object;
+
+bool is_of(PyObject *object, PyTypeObject *type);
+bool add_type(PyObject *module, const char *name, PyTypeObject *type);
+/* The collector's walk over an object that holds its type alone; and the maker of a type of which Python makes no object. */
+int visit_type(PyObject *self, visitproc visit, void *arg);
+PyObject *no_new(PyTypeObject *type, PyObject *arguments, PyObject *named);
+/* An object of one of the module's types, or of a class that is made from it, all zeros but for the state. */
+PyObject *new_object(State *state, PyTypeObject *type);
+/* Frees such an object, whose parts were given up. */
+void free_object(PyObject *self);
+
+PyObject *version_of_text(State *state, PyTypeObject *type, PyObject *text);
+/* The same of a text that the library gave as a version's normal form. */
+PyObject *version_of_normal(State *state, PyTypeObject *type, PyObject *text);
+PyObject *version_normal(PyObject *self);
+/* The normal form of a version or of its text, without zeros at the end of its release where these are to go; a text that is
+ * no version as it is. */
+PyObject *canonical_version(State *state, PyObject *item, bool strip);
+/* The text that a version was read from: a borrowed reference, or NULL with an exception where it has none yet. */
+PyObject *version_text(PyObject *self);
+
+/* The text of a version, or the text itself: a borrowed reference, or NULL with an exception. */
+PyObject *given_text(State *state, PyObject *version);
+/* Whether the code says that a text is no version. */
+bool is_no_version(int32_t code);
+
+/* The environment of a dict, or None, laid over layers, as long as no other call on them runs. NULL with an exception, or
+ * without one where the dict has more than variables. `extra` and `has_extra` become those of the dict where it has one
+ * and none was given; `extra` is a new reference where there is an environment. */
+pylock_environment *layers_with(State *state, PyObject *layers, PyObject *mapping, PyObject **extra, bool *has_extra);
+
+bool add_versions(PyObject *module, State *state);
+bool add_specifiers(PyObject *module, State *state);
+bool add_layers(PyObject *module, State *state);
+bool add_tags(PyObject *module, State *state);
+bool add_names(PyObject *module, State *state);
+bool add_kept(PyObject *module, State *state);
+bool add_locks(PyObject *module, State *state);
+
+PyObject *normal_name(State *state, PyObject *text);
+/* The tag of a text of three pieces, as wheels have it; of the class of the Python layer. */
+PyObject *tag_of_piece(State *state, const uint8_t *text, size_t length);
+
+#endif

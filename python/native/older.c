@@ -1,0 +1,90 @@
+/* What the limited API of 3.8 has another way: arguments come as a tuple, and types don't know their module. */
+#include "native.h"
+
+#if NATIVE_IS_MODERN
+
+PyTypeObject *type_of_spec(PyObject *module, PyType_Spec *spec)
+{
+    return (PyTypeObject *)PyType_FromModuleAndSpec(module, spec, NULL);
+}
+
+State *state_of_type(PyTypeObject *type)
+{
+    /* the module's own type is the last before `object`: nothing in it stands on another of its types */
+    for (;;) {
+        PyTypeObject *base = PyType_GetSlot(type, Py_tp_base);
+        if (base == NULL || base == &PyBaseObject_Type) break;
+        type = base;
+    }
+    State **place = PyType_GetModuleState(type);
+    return place == NULL ? NULL : *place;
+}
+
+#else
+
+enum { MOST_ARGUMENTS = 8 };
+
+/* The module stands in each of its types under a name that no one else gives. */
+static const char MODULE_NAME[] = "_pylock_module";
+
+PyTypeObject *type_of_spec(PyObject *module, PyType_Spec *spec)
+{
+    PyObject *type = PyType_FromSpec(spec);
+    if (type != NULL && PyObject_SetAttrString(type, MODULE_NAME, module) < 0) Py_CLEAR(type);
+    return (PyTypeObject *)type;
+}
+
+State *state_of_type(PyTypeObject *type)
+{
+    PyObject *module = PyObject_GetAttrString((PyObject *)type, MODULE_NAME);
+    if (module == NULL) return NULL;
+    State *state = NULL;
+    if (is_this_module(module))
+        state = state_of(module);
+    else
+        PyErr_SetString(PyExc_TypeError, "pylock: the type has lost its module");
+    /* the type holds it further */
+    Py_DECREF(module);
+    return state;
+}
+
+static PyObject *too_many(void)
+{
+    PyErr_SetString(PyExc_TypeError, "there are too many arguments");
+    return NULL;
+}
+
+static bool array_of_tuple(PyObject *tuple, PyObject **arguments, Py_ssize_t *count)
+{
+    *count = PyTuple_Size(tuple);
+    if (*count > MOST_ARGUMENTS) return too_many() != NULL;
+    for (Py_ssize_t index = 0; index < *count; index++) arguments[index] = PyTuple_GetItem(tuple, index);
+    return true;
+}
+
+PyObject *call_of_tuple(ArrayCall call, PyObject *self, PyObject *tuple)
+{
+    PyObject *arguments[MOST_ARGUMENTS];
+    Py_ssize_t count;
+    return array_of_tuple(tuple, arguments, &count) ? call(self, arguments, count) : NULL;
+}
+
+PyObject *call_of_names(NamedCall call, PyObject *self, PyObject *tuple, PyObject *named)
+{
+    PyObject *arguments[2 * MOST_ARGUMENTS];
+    Py_ssize_t count;
+    if (!array_of_tuple(tuple, arguments, &count)) return NULL;
+    if (named == NULL || PyDict_Size(named) == 0) return call(self, arguments, count, NULL);
+    if (PyDict_Size(named) > MOST_ARGUMENTS) return too_many();
+    PyObject *list = PyDict_Keys(named);
+    PyObject *names = list == NULL ? NULL : PyList_AsTuple(list);
+    Py_XDECREF(list);
+    if (names == NULL) return NULL;
+    for (Py_ssize_t index = 0; index < PyTuple_Size(names); index++)
+        arguments[count + index] = PyDict_GetItem(named, PyTuple_GetItem(names, index));
+    PyObject *result = call(self, arguments, count, names);
+    Py_DECREF(names);
+    return result;
+}
+
+#endif

@@ -1,0 +1,253 @@
+/* Texts that go in, results that come out, and refusals. */
+#include "native.h"
+
+/* ---- texts ---- */
+
+static bool text_with_half_characters(PyObject *object, Text *text)
+{
+    PyErr_Clear();
+    text->holder = PyUnicode_AsEncodedString(object, "utf-8", "surrogatepass");
+    return text->holder != NULL && bytes_of(text->holder, text);
+}
+
+bool text_of(PyObject *object, Text *text)
+{
+    text->holder = NULL;
+    if (!PyUnicode_CheckExact(object) && !PyUnicode_Check(object)) {
+        PyErr_Format(PyExc_TypeError, "expected a str, not %R", (PyObject *)Py_TYPE(object));
+        return false;
+    }
+#if NATIVE_IS_MODERN
+    Py_ssize_t length;
+    text->bytes = (const uint8_t *)PyUnicode_AsUTF8AndSize(object, &length);
+    if (text->bytes != NULL) {
+        text->length = (size_t)length;
+        return true;
+    }
+#else
+    text->holder = PyUnicode_AsUTF8String(object);
+    if (text->holder != NULL) return bytes_of(text->holder, text);
+#endif
+    return PyErr_ExceptionMatches(PyExc_UnicodeEncodeError) && text_with_half_characters(object, text);
+}
+
+void text_done(Text *text)
+{
+    Py_CLEAR(text->holder);
+}
+
+/* The holder stays as it is: the bytes are those of the object. */
+bool bytes_of(PyObject *object, Text *text)
+{
+    char *bytes;
+    Py_ssize_t length;
+    if (PyBytes_AsStringAndSize(object, &bytes, &length) < 0) return false;
+    text->bytes = (const uint8_t *)bytes;
+    text->length = (size_t)length;
+    return true;
+}
+
+bool cut_text(Text *rest, char sign, Text *piece)
+{
+    const uint8_t *at = memchr(rest->bytes, sign, rest->length);
+    *piece = *rest;
+    piece->holder = NULL;
+    if (at != NULL) piece->length = (size_t)(at - rest->bytes);
+    size_t taken = piece->length + (at != NULL);
+    rest->bytes += taken;
+    rest->length -= taken;
+    return at != NULL;
+}
+
+PyObject *exact_text(PyObject *object)
+{
+    if (PyUnicode_CheckExact(object)) {
+        Py_INCREF(object);
+        return object;
+    }
+    return PyUnicode_FromObject(object);
+}
+
+/* ---- results ---- */
+
+static bool make_room(Result *result)
+{
+    result->bytes = result->near;
+    if (result->length <= RESULT_ROOM) return true;
+    uint8_t *room = PyMem_Malloc(result->length);
+    if (room == NULL) return false;
+    result->bytes = room;
+    return true;
+}
+
+int32_t result_of_text(TextCall call, const Text *text, Result *result)
+{
+    result->bytes = result->near;
+    int32_t code = call(text->bytes, text->length, result->near, RESULT_ROOM, &result->length);
+    if (code != PYLOCK_ROOM) return code;
+    if (!make_room(result)) return PYLOCK_MEMORY;
+    return call(text->bytes, text->length, result->bytes, result->length, &result->length);
+}
+
+int32_t result_of_kept(pylock_text *kept, Result *result)
+{
+    result->bytes = result->near;
+    int32_t code = pylock_text_copy(kept, result->near, RESULT_ROOM, &result->length);
+    if (code == PYLOCK_ROOM)
+        code = make_room(result) ? pylock_text_copy(kept, result->bytes, result->length, &result->length) : PYLOCK_MEMORY;
+    pylock_text_free(kept);
+    return code;
+}
+
+void result_done(Result *result)
+{
+    if (result->bytes != result->near) PyMem_Free(result->bytes);
+    result->bytes = result->near;
+}
+
+PyObject *str_of(const uint8_t *bytes, size_t length)
+{
+    return PyUnicode_DecodeUTF8((const char *)bytes, (Py_ssize_t)length, NULL);
+}
+
+PyObject *str_with_halves(const uint8_t *bytes, size_t length)
+{
+    return PyUnicode_DecodeUTF8((const char *)bytes, (Py_ssize_t)length, "surrogatepass");
+}
+
+PyObject *str_of_kept(pylock_text *kept)
+{
+    Result result;
+    int32_t code = result_of_kept(kept, &result);
+    PyObject *text = NULL;
+    if (code == PYLOCK_OK)
+        text = str_of(result.bytes, result.length);
+    else
+        PyErr_NoMemory();
+    result_done(&result);
+    return text;
+}
+
+/* ---- records ---- */
+
+static uint8_t unescaped(uint8_t letter)
+{
+    switch (letter) {
+    case 't': return '\t';
+    case 'n': return '\n';
+    case 'r': return '\r';
+    default: return letter;
+    }
+}
+
+static PyObject *field_with_escapes(const uint8_t *field, size_t length)
+{
+    uint8_t *text = PyMem_Malloc(length);
+    if (text == NULL) return PyErr_NoMemory();
+    size_t written = 0;
+    for (size_t place = 0; place < length; place++) {
+        bool is_escape = field[place] == '\\' && place + 1 < length;
+        text[written++] = is_escape ? unescaped(field[++place]) : field[place];
+    }
+    PyObject *result = str_of(text, written);
+    PyMem_Free(text);
+    return result;
+}
+
+static PyObject *field_of(const uint8_t *field, size_t length)
+{
+    if (length == 1 && field[0] == '-') {
+        Py_INCREF(Py_None);
+        return Py_None;
+    }
+    return memchr(field, '\\', length) == NULL ? str_of(field, length) : field_with_escapes(field, length);
+}
+
+PyObject *fields_of(const uint8_t *record, size_t length)
+{
+    Py_ssize_t count = 1;
+    for (size_t place = 0; place < length; place++) count += record[place] == '\t';
+    PyObject *fields = PyTuple_New(count);
+    for (Py_ssize_t index = 0; fields != NULL && index < count; index++) {
+        const uint8_t *tab = index + 1 < count ? memchr(record, '\t', length) : NULL;
+        size_t field_length = tab == NULL ? length : (size_t)(tab - record);
+        PyObject *field = field_of(record, field_length);
+        if (field == NULL || PyTuple_SetItem(fields, index, field) < 0) Py_CLEAR(fields);
+        record += field_length + 1;
+        length -= tab == NULL ? length : field_length + 1;
+    }
+    return fields;
+}
+
+/* ---- refusals ---- */
+
+static void raise_made(PyObject *exception)
+{
+    if (exception == NULL) return;
+    PyErr_SetObject((PyObject *)Py_TYPE(exception), exception);
+    Py_DECREF(exception);
+}
+
+/* The codes that have one exception, whatever the text is; and any, where no Python layer is there. */
+static bool raise_common(PyObject *maker, int32_t code)
+{
+    if (code == PYLOCK_MEMORY)
+        PyErr_NoMemory();
+    else if (code == PYLOCK_EMPTY)
+        PyErr_SetString(PyExc_ValueError, "pylock: the object was closed");
+    else if (maker == NULL)
+        PyErr_Format(PyExc_RuntimeError, "pylock: the library answered %d", (int)code);
+    else
+        return false;
+    return true;
+}
+
+void raise_refusal(State *state, int32_t code, PyObject *text, const char *kind)
+{
+    if (raise_common(state->refuse, code)) return;
+    raise_made(PyObject_CallFunction(state->refuse, "iOs", (int)code, text, kind));
+}
+
+void raise_input(State *state, int32_t code, pylock_text *words, PyObject *lock, PyObject *environment, bool json)
+{
+    if (raise_common(state->refuse_input, code)) {
+        pylock_text_free(words);
+        return;
+    }
+    PyObject *text = str_of_kept(words);
+    if (text == NULL) return;
+    PyObject *flag = json ? Py_True : Py_False;
+    raise_made(PyObject_CallFunction(state->refuse_input, "iOOOO", (int)code, text, lock, environment, flag));
+    Py_DECREF(text);
+}
+
+/* ---- arguments ---- */
+
+bool check_count(const char *name, Py_ssize_t count, Py_ssize_t wanted)
+{
+    if (count == wanted) return true;
+    PyErr_Format(PyExc_TypeError, "%s() takes %zd arguments, not %zd", name, wanted, count);
+    return false;
+}
+
+PyObject *one_and_flag(const Signature *signature, PyObject *const *arguments, Py_ssize_t count, PyObject *names, bool *flag)
+{
+    PyObject *one = count == 1 ? arguments[0] : NULL;
+    Py_ssize_t named = names == NULL ? 0 : PyTuple_Size(names);
+    bool is_good = count <= 1;
+    for (Py_ssize_t index = 0; index < named && is_good; index++) {
+        PyObject *name = PyTuple_GetItem(names, index), *value = arguments[count + index];
+        if (one == NULL && PyUnicode_CompareWithASCIIString(name, signature->one) == 0) {
+            one = value;
+        } else if (signature->flag != NULL && PyUnicode_CompareWithASCIIString(name, signature->flag) == 0) {
+            int truth = PyObject_IsTrue(value);
+            if (truth < 0) return NULL;
+            *flag = truth;
+        } else
+            is_good = false;
+    }
+    if (is_good && one != NULL) return one;
+    PyErr_Format(PyExc_TypeError, "%s() takes the argument '%s'%s%s", signature->name, signature->one,
+                 signature->flag == NULL ? "" : " and by its name alone ", signature->flag == NULL ? "" : signature->flag);
+    return NULL;
+}

@@ -1,0 +1,273 @@
+"""The library of pylock, as the module calls it: the cold half of `_native`, which is compiled and has the library in it.
+
+Here stand the exceptions of refused calls, and what makes lists and messages of the library's texts. What is asked often
+is asked of `_native` directly.
+"""
+
+from __future__ import annotations
+
+import json as _json
+from typing import Any, Dict, List, Optional, Tuple, Type, Union
+
+try:
+    from . import _native
+except ImportError as error:
+    if "_native" not in str(error):
+        raise
+    raise ImportError(
+        "pylock: there is no compiled module beside this one: `pip install` of the folder python/ builds it"
+    ) from None
+
+from ._errors import (
+    InvalidEdit,
+    InvalidEnvironment,
+    InvalidLock,
+    InvalidMarker,
+    InvalidName,
+    InvalidRequirement,
+    InvalidSdistFilename,
+    InvalidSpecifier,
+    InvalidTarget,
+    InvalidVersion,
+    InvalidWheelFilename,
+    MarkerFault,
+    Refusal,
+    UndefinedComparison,
+    UndefinedEnvironmentName,
+)
+
+KeptSet = _native.Set
+KeptMarker = _native.Marker
+KeptEnvironment = _native.Environment
+KeptSession = _native.Session
+
+# ---- refusals ----
+
+# code: the exception, its word, and what a message says in brackets
+_REFUSALS: Dict[int, Tuple[Type[Refusal], str, str]] = {
+    10: (InvalidVersion, "syntax", ""),
+    11: (InvalidVersion, "number", "a number is past 128 bits"),
+    20: (InvalidSpecifier, "syntax", ""),
+    21: (InvalidSpecifier, "number", "a number is past 128 bits"),
+    30: (InvalidMarker, "too-deep", "more than 64 parentheses are open"),
+    31: (InvalidMarker, "syntax", ""),
+    32: (InvalidMarker, "set-misuse", "extras and dependency_groups stand right of in or not in alone"),
+    40: (UndefinedEnvironmentName, "marker-unset", "it reads a variable that isn't set"),
+    41: (MarkerFault, "marker-extra", "it reads extra, which has no value here"),
+    42: (UndefinedComparison, "marker-undefined", "~= and === compare versions, and names have no order"),
+    43: (MarkerFault, "marker-number", "a number is past 128 bits"),
+    50: (InvalidRequirement, "name", "its name"),
+    51: (InvalidRequirement, "extras", "its extras"),
+    52: (InvalidRequirement, "specifier", "its specifier set"),
+    53: (InvalidRequirement, "url", "its URL"),
+    54: (InvalidRequirement, "marker", "its marker"),
+    55: (InvalidRequirement, "trailing", "something follows the URL"),
+    60: (InvalidWheelFilename, "extension", "extension must be '.whl'"),
+    61: (InvalidWheelFilename, "parts", "wrong number of parts"),
+    62: (InvalidWheelFilename, "name", "invalid project name"),
+    63: (InvalidWheelFilename, "version", "invalid version"),
+    64: (InvalidWheelFilename, "build", "invalid build number"),
+    65: (InvalidWheelFilename, "tags", "invalid tags"),
+    66: (InvalidSdistFilename, "extension", "extension must be '.tar.gz' or '.zip'"),
+    67: (InvalidSdistFilename, "parts", "no version"),
+    68: (InvalidSdistFilename, "name", "invalid project name"),
+    69: (InvalidSdistFilename, "version", "invalid version"),
+    73: (InvalidTarget, "python", "python is 3.MINOR or 3.MINOR.MICRO, from 3.8 on"),
+    74: (InvalidTarget, "platform", "no such platform"),
+    80: (InvalidEdit, "long", "the line has more than 1,048,576 bytes"),
+    81: (InvalidEdit, "command", "no such command"),
+    82: (InvalidEdit, "argument", "what follows the command has a wrong form"),
+    83: (InvalidEdit, "variable", "no variable of markers has this name"),
+    84: (InvalidEdit, "extra", "the lock has no such extra"),
+    85: (InvalidEdit, "group", "the lock has no such group"),
+    86: (InvalidEdit, "tag", "one of the tags is none (python-abi-platform)"),
+    87: (InvalidEdit, "toml", "the entry is no table of TOML"),
+    88: (InvalidEdit, "entry", "the entry has a wrong key"),
+    89: (InvalidEdit, "too-many", "the number 100,000 was given out"),
+    90: (InvalidEdit, "no-entry", "no entry has this number"),
+    91: (InvalidEdit, "name", "this is no name"),
+}
+
+_WHAT: Dict[Type[Refusal], str] = {
+    InvalidVersion: "Invalid version",
+    InvalidSpecifier: "Invalid specifier",
+    InvalidMarker: "Invalid marker",
+    UndefinedEnvironmentName: "Marker without a value",
+    UndefinedComparison: "Marker without a value",
+    MarkerFault: "Marker without a value",
+    InvalidName: "Invalid name",
+    InvalidRequirement: "Invalid requirement",
+    InvalidWheelFilename: "Invalid wheel filename",
+    InvalidSdistFilename: "Invalid sdist filename",
+    InvalidTarget: "Invalid target",
+    InvalidEdit: "Refused edit",
+    InvalidEnvironment: "Invalid environment",
+}
+
+
+# what a text was to be, as `_native` says it: the exception where it has half a character
+_KINDS: Dict[str, Type[Refusal]] = {
+    "version": InvalidVersion,
+    "specifier": InvalidSpecifier,
+    "marker": InvalidMarker,
+    "name": InvalidName,
+    "requirement": InvalidRequirement,
+    "wheel": InvalidWheelFilename,
+    "sdist": InvalidSdistFilename,
+    "target": InvalidTarget,
+    "edit": InvalidEdit,
+    "variable": InvalidEnvironment,
+}
+
+
+def _refusal(code: int, text: str, kind: str) -> BaseException:
+    """The exception for a code of a call on a text; one that isn't UTF-8 is refused as `syntax` of its kind."""
+    if code in _REFUSALS:
+        error, word, why = _REFUSALS[code]
+        if kind == "name" and error is InvalidEdit:
+            return InvalidName("name is invalid: %r" % text, word=word)
+    elif code == _native.NOT_UTF8 and kind in _KINDS:
+        error, word, why = _KINDS[kind], "syntax", "it has half a character"
+    else:
+        return RuntimeError("pylock: the library answered %d" % code)
+    shown = text if len(text) <= 200 else text[:200] + "..."
+    return error("%s: %r%s" % (_WHAT[error], shown, " (%s)" % why if why else ""), word=word)
+
+
+def _refused_input(code: int, text: str, lock: Optional[bytes], environment: Optional[bytes], json: bool) -> BaseException:
+    """The exception for a code of a call on a lock or an environment: it has the printed words without the first. They
+    stand in a line, or in a document."""
+    error: Type[InvalidLock]
+    if code == _native.LOCK_REFUSED and lock is not None:
+        error, message = InvalidLock, _native.lock_message(lock)
+    elif code == _native.ENVIRONMENT_REFUSED and environment is not None:
+        error, message = InvalidEnvironment, _native.environment_message(environment)
+    else:
+        return RuntimeError("pylock: the library answered %d" % code)
+    printed = tuple((_json.loads(text)["refused"] if json else text.rstrip("\n").split("\t"))[1:])
+    place: Any = None
+    if len(printed) > 1:
+        place = int(printed[1]) if printed[1].isdigit() else printed[1]
+    return error(message, word=printed[0], place=place, words=printed)
+
+
+_native.use_refusals(_refusal, _refused_input)
+
+
+# ---- versions and names ----
+
+version_key = _native.version_key
+is_name = _native.is_name
+name = _native.library_name
+
+
+def version(text: str) -> List[str]:
+    """The fields of a version: normal form, public part, base release, epoch, release, pre, post, dev, local."""
+    return _native.version_record(text).split("\t")
+
+
+# ---- specifier sets ----
+
+set_parse = _native.Set
+set_text = str
+
+
+def set_admits(kept: KeptSet, version: str) -> bool:
+    """Whether the set admits the version, of any phase."""
+    return kept.admits(version)
+
+
+# ---- markers and environments ----
+
+marker_parse = _native.Marker
+environment_read = _native.environment_read
+
+
+def marker_evaluate(marker: KeptMarker, environment: KeptEnvironment, text: str) -> bool:
+    """The value of the marker in the environment."""
+    return marker.evaluate(environment, None, text)
+
+
+def marker_evaluate_with_extra(marker: KeptMarker, environment: KeptEnvironment, extra: str, text: str) -> bool:
+    """The value of the marker in the environment, where the operand `extra` has this text."""
+    return marker.evaluate(environment, extra, text)
+
+
+def environment_target(python: str, platform: str) -> bytes:
+    """The JSON text of the environment of a target."""
+    return _native.environment_target(python, platform).encode()
+
+
+def environment_add(kept: KeptEnvironment, extras: List[str], groups: List[str]) -> None:
+    """Asks for the extras and the dependency groups."""
+    for extra in extras:
+        kept.add_extra(extra)
+    for group in groups:
+        kept.add_group(group)
+
+
+# ---- requirements, wheel and sdist names ----
+
+
+def requirement(text: str) -> List[Optional[str]]:
+    """The fields of a requirement, as they are written: name, extras, set (in normal form), URL, marker."""
+    return list(_native.requirement(text))
+
+
+def wheel(text: str) -> List[Optional[str]]:
+    """The fields of a wheel's name: name as written, version, build, tags with a space between."""
+    return list(_native.wheel(text))
+
+
+def sdist(text: str) -> List[Optional[str]]:
+    """The fields of an sdist's name: normal form of the name, version."""
+    return list(_native.sdist(text))
+
+
+# ---- a lock at once ----
+
+files = _native.files
+audit = _native.audit
+lock_head = _native.lock_head
+
+
+# ---- sessions ----
+
+session_start = _native.session_start
+session_start_strict: Any = _native.session_start_strict
+
+
+def session_edit(kept: KeptSession, edit: str, *texts: str, number: Optional[int] = None) -> int:
+    """Makes an edit of texts, and of the number of an entry where it takes one; gives how many judgements it made."""
+    if number is not None and not 0 <= number < 1 << 32:
+        # no argument of the call can hold it, and no entry has it
+        judged = -_native.EDIT_NO_ENTRY
+    else:
+        judged = kept.edit(edit, number, *texts)
+    if judged >= 0:
+        return judged
+    raise _of_code(-judged, " ".join(texts if number is None else (str(number), *texts)))
+
+
+def _of_code(code: int, text: str) -> BaseException:
+    """The exception for a code of an edit."""
+    if code == _native.MEMORY:
+        return MemoryError("pylock: a memory request was refused")
+    if code == _native.EMPTY:
+        return ValueError("pylock: the object was closed")
+    return _refusal(code, text, "edit")
+
+
+def session_answer(kept: KeptSession, json: bool) -> Tuple[str, bool]:
+    """The answer, and whether it is a plan."""
+    return kept.answer(json)
+
+
+def session_explain(kept: KeptSession, json: bool) -> Tuple[str, bool]:
+    """What becomes of each entry, and whether the answer is a plan."""
+    return kept.explain(json)
+
+
+def session_judged(kept: KeptSession) -> List[int]:
+    """The numbers that the last accepted edit judged."""
+    return [int(number) for number in kept.judged().split()]

@@ -1,0 +1,40 @@
+"""What several modules raise, with the names of `packaging.errors`.
+
+Every other exception stands in the module that raises it, as in `packaging`.
+"""
+
+from __future__ import annotations
+
+import builtins
+import sys
+from typing import Sequence, Tuple
+
+__all__ = ["ExceptionGroup"]
+
+
+if sys.version_info >= (3, 11):
+    ExceptionGroup = builtins.ExceptionGroup
+else:
+
+    class ExceptionGroup(Exception):
+        """Several exceptions in one, where Python has none of its own: its message, exceptions, `str` and `repr`.
+
+        >>> group = ExceptionGroup("two things are wrong", [ValueError("a"), TypeError("b")])
+        >>> str(group), len(group.exceptions)
+        ('two things are wrong (2 sub-exceptions)', 2)
+        """
+
+        message: str
+        exceptions: Tuple[Exception, ...]
+
+        def __init__(self, message: str, exceptions: Sequence[Exception]) -> None:
+            super().__init__(message, exceptions)
+            self.message = message
+            self.exceptions = tuple(exceptions)
+
+        def __str__(self) -> str:
+            count = len(self.exceptions)
+            return "%s (%d sub-exception%s)" % (self.message, count, "" if count == 1 else "s")
+
+        def __repr__(self) -> str:
+            return "%s(%r, %r)" % (type(self).__name__, self.message, list(self.exceptions))

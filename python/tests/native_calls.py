@@ -1,0 +1,304 @@
+"""Every function, method and part of `_native`, each with arguments that it takes and arguments that it refuses: what is tried
+hard by the other files native_*.py, which tools/native runs."""
+
+import json
+import operator
+
+import pylock
+from pylock import _native
+
+ENVIRONMENT = json.dumps(
+    {"environment": {"os_name": "posix", "sys_platform": "linux", "python_full_version": "3.12.4"}, "tags": ["py3-none-any"]}
+).encode()
+LOCK = b"""
+lock-version = "1.0"
+created-by = "t"
+extras = ["x-y", "z"]
+dependency-groups = ["dev"]
+default-groups = ["main"]
+packages = [
+    {name = "a", version = "1", wheels = [{path = "w/a-1-py3-none-any.whl", hashes = {sha256 = "00"}}]},
+    {name = "b", marker = "'x-y' in extras", directory = {path = "b", editable = true}},
+    {name = "c", marker = "'main' in dependency_groups", archive = {path = "c.zip"}},
+]
+"""
+BAD_LOCK = LOCK.replace(b'version = "1"', b"version = 1")
+LONG = ".".join(str(number) for number in range(300))
+PARTS = ("_given", "_key", "epoch", "release", "pre", "post", "dev", "local", "public", "base_version", "is_prerelease",
+         "is_postrelease", "is_devrelease", "major", "minor", "micro")
+EDITS = (
+    ("set", None, "os_name", "x"), ("unset", None, "os_name"), ("add_extra", None, "z"), ("drop_extra", None, "z"),
+    ("add_group", None, "dev"), ("drop_group", None, "main"), ("tags", None, "py3-none-any\npy2-none-any"),
+    ("add", None, '{name = "d", archive = {path = "d.zip"}}'), ("line", None, "set os_name nt"), ("policy", None, "a", "wheel"),
+    ("target", None, "3.12", "linux"), ("put", 2, '{name = "b", directory = {path = "b"}}'), ("del", 2),
+    # refused, below zero
+    ("set", None, "os.name", "x"), ("add_extra", None, "w"), ("add", None, "{"), ("del", 9), ("del", 2**40), ("tags", None, "-"),
+)
+
+
+class Row:
+    """A call: a function, and what makes its arguments anew each time. `error` is what it raises, or None."""
+
+    def __init__(self, name, function, make, error=None):
+        self.name, self.function, self.make, self.error = name, function, make, error
+
+
+def fixed(*arguments):
+    return lambda: arguments
+
+
+def fresh(text):
+    """A text that no other object is: what is kept with it, as its UTF-8, is found anew."""
+    return "".join(list(text))
+
+
+def version(text):
+    return pylock.Version(fresh(text))
+
+
+def keyless():
+    """A version whose key is found when it is used."""
+    return _native.parse_sdist_filename("a-1.0rc1.tar.gz")[1]
+
+
+def with_new_tags(text):
+    """The text, where no tag is kept that came before."""
+    _native.use_tag(pylock.Tag)
+    return (fresh(text),)
+
+
+def session():
+    return _native.session_start(LOCK, ENVIRONMENT)
+
+
+def environment():
+    return _native.environment_of({"os_name": "posix", "sys_platform": "linux"})
+
+
+class WithInit(_native.Version):
+    """Reads its text in its own __init__."""
+
+    def __init__(self, text):
+        super().__init__(text + ".0")
+
+
+def of_versions():
+    for text in ("1.0", "1!2.3.rc4.post5-dev6+Local.7", LONG, "1.0-é"):
+        error = pylock.InvalidVersion if "é" in text else None
+        for name, function in (("Version", _native.Version), ("Version of the layer", pylock.Version), ("version_key", _native.version_key),
+                               ("version_record", _native.version_record)):
+            yield Row("%s(%.12s)" % (name, text), function, fixed(text), error)
+        for name in ("phase", "canonicalize_version"):
+            yield Row("%s(%.12s)" % (name, text), getattr(_native, name), fixed(text))
+        if error is None:
+            yield Row("Version of a class(%.12s)" % text, WithInit, fixed("7" if "+" in text else text))
+            for part in PARTS:
+                yield Row("%.12s.%s" % (text, part), operator.attrgetter(part), lambda text=text: (version(text),))
+            for function in (str, repr, hash):
+                yield Row("%s(%.12s)" % (function.__name__, text), function, lambda text=text: (version(text),))
+            yield Row("canonicalize_version of one(%.12s)" % text, _native.canonicalize_version, lambda text=text: (version(text),))
+    for name in ("lt", "le", "eq", "ne", "gt", "ge"):
+        yield Row("versions, " + name, getattr(operator, name), lambda: (keyless(), version("2")))
+    yield Row("hash of a keyless", hash, lambda: (keyless(),))
+    yield Row("phase of one", _native.phase, lambda: (version("1.0-rc1"),))
+    yield Row("versions, lt of a text", operator.lt, lambda: (version("1"), "1"), TypeError)
+    yield Row("set again", _native.Version.__init__, lambda: (version("1"), "2"), TypeError)
+    yield Row("of no text", hash, lambda: (_native.Version.__new__(WithInit),), ValueError)
+
+
+def of_names():
+    for name in ("canonicalize_name", "is_normalized_name", "library_name", "is_name"):
+        for text in ("A__b.C", "É-" * 300, "a-b"):
+            yield Row("%s(%.6s)" % (name, text), getattr(_native, name), lambda text=text: (fresh(text),))
+    yield Row("canonicalize_name(half)", _native.canonicalize_name, fixed("a\ud800"), pylock.InvalidName)
+    for name, text, bad, error in (
+        ("requirement", "a[b,c] >=1,<2; os_name == '\t'", "a[", pylock.InvalidRequirement),
+        ("requirement", "a @ https://h/é" + "x" * 600, "-", pylock.InvalidRequirement),
+        ("wheel", "A_b-1.0-5x-py2.py3-none-any.whl", "a.whl", pylock.InvalidWheelFilename),
+        ("parse_wheel", "A_b-1.0.post1-5x-py2.py3-none-any.whl", "a-1-py3..py2-none-any.whl", pylock.InvalidWheelFilename),
+        ("parse_wheel", "a-1-1234567890123456789-cp310.cp311.py3-abi3-any.whl", "a-1\ud800-py3-none-any.whl", pylock.InvalidWheelFilename),
+        ("sdist", "A_b-1.0.tar.gz", "a.tar.gz", pylock.InvalidSdistFilename),
+        ("parse_sdist_filename", "A_b-1.0.zip", "a-x.zip", pylock.InvalidSdistFilename),
+    ):
+        yield Row("%s(%.12s)" % (name, text), getattr(_native, name), lambda text=text: (fresh(text),))
+        yield Row("%s(%.12s), refused" % (name, bad.replace("\ud800", "half")), getattr(_native, name), fixed(bad), error)
+    yield Row("parse_wheel, new tags", _native.parse_wheel, lambda: with_new_tags("a-1-cp310.cp311-abi3-any.whl"))
+
+
+def specifier(text):
+    return _native.Specifier(fresh(text))
+
+
+def of_set(text):
+    """A specifier that a set made, which is read when it is asked."""
+    return _native.specifiers(fresh(text + ",<9"))[0]
+
+
+def of_specifiers():
+    for name in ("specifiers", "set_string"):
+        yield Row(name, getattr(_native, name), lambda: (fresh(" >= 1.0 , !=é, ,<2"),))
+        yield Row(name + " of a long text", getattr(_native, name), lambda: (fresh("===" + "é" * 600 + "\ud800"),))
+    yield Row("set_string of two alike", _native.set_string, lambda: (fresh("!=1,!=2"),))
+    yield Row("Specifier", _native.Specifier, lambda: (fresh(" >= 1.0rc1 "), False))
+    for text in ("?", "", ">=1,<2", "===\ud800"):
+        yield Row("Specifier(%r), refused" % text, _native.Specifier, fixed(text), pylock.InvalidSpecifier)
+    yield Row("Specifier again", _native.Specifier.__init__, lambda: (asked(specifier(">=1")), "<2"))
+    yield Row("Specifier again, refused", _native.Specifier.__init__, lambda: (asked(specifier(">=1")), "?"), pylock.InvalidSpecifier)
+    for make in (specifier, of_set):
+        for text in ("~= 1.0.0", "===x-é" if make is of_set else "===x", "!=1.0.0.*"):
+            parts = [operator.attrgetter(name) for name in ("_text", "_spec", "_is_exact")] + [str, hash, _native.Specifier._canonical_spec]
+            for part in parts:
+                yield Row("%s(%s), %r" % (make.__name__, text, part), part, lambda make=make, text=text: (make(text),))
+        for name in ("admits", "_passes_by_order"):
+            for given in ("1.0", LONG):
+                yield Row("Specifier.%s(%.6s)" % (name, given), getattr(_native.Specifier, name), lambda make=make, given=given: (make(">=1"), given))
+        yield Row("Specifier.admits, refused", _native.Specifier.admits, lambda make=make: (make(">=1"), "x"), pylock.InvalidVersion)
+        yield Row("Specifier._passes_by_order of none", _native.Specifier._passes_by_order, lambda make=make: (make(">=1"), "x"))
+    yield Row("Specifier of no text", str, lambda: (_native.Specifier.__new__(_native.Specifier),), ValueError)
+
+
+def asked(one):
+    """The specifier, with all that it finds when it is asked."""
+    one._canonical_spec()
+    one.admits("1")
+    return one
+
+
+def layers():
+    return _native.Layers({"os_name": "posix", "sys_platform": "linux"})
+
+
+def of_layers():
+    text = "os_name == 'nt' or 'x' == extra"
+    over = _native.Marker.evaluate_over
+    yield Row("Layers", _native.Layers, fixed({"os_name": "é", "sys_platform": "linux"}))
+    yield Row("Layers, refused", _native.Layers, fixed({"os_name": 5}), TypeError)
+    for mapping in (None, {}, {"os_name": fresh("é" * 300)}, {"os_name": "nt", "extra": "x"}, {"more": "x"}, {"os_name": 5}):
+        for extra in (None, "É"):
+            yield Row("Marker.evaluate_over(%.20r, %s)" % (mapping, extra), over,
+                      lambda mapping=mapping, extra=extra: (_native.Marker(text), layers(), mapping, extra, True, ""))
+    yield Row("Marker.evaluate_over, unset", over, lambda: (_native.Marker(text), layers(), {}, None, False, "text"), pylock.MarkerFault)
+    for mapping, error in (({"os_name": "\ud800"}, pylock.InvalidEnvironment), ({"extra": "\ud800"}, pylock.InvalidName)):
+        yield Row("Marker.evaluate_over(%r), refused" % mapping, over,
+                  lambda mapping=mapping: (_native.Marker(text), layers(), mapping, None, False, "text"), error)
+
+
+class Small:
+    """No text, but it says what it is in lower case."""
+
+    def lower(self):
+        return fresh("É").lower()
+
+
+def of_tags():
+    yield Row("parse_tag", _native.parse_tag, fixed("py2.py3-none-any"))
+    yield Row("parse_tag, new", _native.parse_tag, lambda: with_new_tags("P3.é\ud800-none-any"))
+    yield Row("parse_tag of none", _native.parse_tag, fixed("py3-none"))
+    yield Row("Tag", _native.Tag, fixed("CP310", "abi3", "É"))
+    yield Row("Tag of what has a lower", _native.Tag, fixed(Small(), "x", "y"))
+    for odd, error in ((5, AttributeError), (b"x", TypeError)):
+        yield Row("Tag of %r" % odd, _native.Tag, fixed("x", odd, "y"), error)
+    yield Row("Tag of the layer", pylock.Tag, fixed("cp310", "abi3", "x\ud800" * 300))
+    for function in (str, repr, hash, operator.attrgetter("interpreter"), operator.attrgetter("abi"), operator.attrgetter("platform")):
+        yield Row("tag, %r" % function, function, lambda: (_native.Tag("py3", "none", fresh("É" * 300)),))
+    for name in ("eq", "ne"):
+        yield Row("tags, " + name, getattr(operator, name), lambda: (_native.Tag("a", "b", "c"), _native.Tag("A", "b", "c")))
+    yield Row("tags, lt", operator.lt, lambda: (_native.Tag("a", "b", "c"), _native.Tag("A", "b", "c")), TypeError)
+
+
+def of_kept():
+    long = ",".join("!=%d" % number for number in range(200))
+    for text in (">=1.0, !=1.5.*, <3", long):
+        yield Row("Set(%.5s)" % text, _native.Set, lambda text=text: (fresh(text),))
+        yield Row("str(Set(%.5s))" % text, str, lambda text=text: (_native.Set(text),))
+    yield Row("Set, refused", _native.Set, fixed("?"), pylock.InvalidSpecifier)
+    for name in ("admits", "passes"):
+        for given in ("1.0", LONG):
+            yield Row("Set.%s(%.6s)" % (name, given), getattr(_native.Set, name), lambda given=given: (_native.Set(">=1"), given))
+        yield Row("Set.%s of one" % name, getattr(_native.Set, name), lambda: (_native.Set(">=1"), version("1.0rc1")))
+    yield Row("Set.admits, refused", _native.Set.admits, lambda: (_native.Set(">=1"), "x"), pylock.InvalidVersion)
+    yield Row("Set.passes of none", _native.Set.passes, lambda: (_native.Set(">=1"), "x"))
+    yield Row("Marker", _native.Marker, fixed("os_name == 'nt' or (extra == 'x' and python_version > '3')"))
+    yield Row("Marker, refused", _native.Marker, fixed("os_name"), pylock.InvalidMarker)
+    for extra in (None, "x", "É"):
+        yield Row("Marker.evaluate(%s)" % extra, _native.Marker.evaluate,
+                  lambda extra=extra: (_native.Marker("os_name == 'nt' or 'x' == %s" % ("extra" if extra else "os_name")), environment(), extra, ""))
+    yield Row("Marker.evaluate, refused", _native.Marker.evaluate,
+              lambda: (_native.Marker("extra == 'x'"), environment(), None, "text"), pylock.MarkerFault)
+    yield Row("environment_of", _native.environment_of, fixed({"os_name": "é", "no_variable": "x", "sys_platform": "linux"}))
+    yield Row("environment_of, refused", _native.environment_of, fixed({"os_name": "\ud800"}), pylock.InvalidEnvironment)
+    yield Row("environment_read", _native.environment_read, fixed(ENVIRONMENT))
+    yield Row("environment_read, refused", _native.environment_read, fixed(b'{"environment": {}, "tags": ["x"]}'), pylock.InvalidEnvironment)
+    yield Row("environment_message", _native.environment_message, fixed(b"{"))
+    yield Row("environment_target", _native.environment_target, fixed("3.12", "manylinux_2_28_x86_64"))
+    yield Row("environment_target, refused", _native.environment_target, fixed("3.12", "x"), pylock.InvalidTarget)
+    for name in ("add_extra", "add_group"):
+        yield Row("Environment." + name, getattr(_native.Environment, name), lambda: (environment(), "Some_É"))
+        yield Row("Environment.%s, refused" % name, getattr(_native.Environment, name), lambda: (environment(), "\ud800"), pylock.InvalidName)
+
+
+def of_locks():
+    for name in ("files", "audit"):
+        for json_too in (False, True):
+            yield Row("%s(%s)" % (name, json_too), getattr(_native, name), fixed(LOCK, json_too))
+        yield Row(name + " of one that is refused", getattr(_native, name), fixed(BAD_LOCK, True))
+    yield Row("lock_head", _native.lock_head, fixed(LOCK))
+    yield Row("lock_head, refused", _native.lock_head, fixed(BAD_LOCK), pylock.InvalidLock)
+    yield Row("lock_message", _native.lock_message, fixed(BAD_LOCK))
+    yield Row("session_start", _native.session_start, fixed(LOCK, ENVIRONMENT))
+    yield Row("session_start, refused", _native.session_start, fixed(LOCK, b"{"), pylock.InvalidEnvironment)
+    yield Row("session_start_strict, found", _native.session_start_strict, fixed(LOCK, ENVIRONMENT, True))
+    yield Row("session_start_strict", _native.session_start_strict, fixed(LOCK.split(b"packages")[0], ENVIRONMENT, False))
+    yield Row("session_start_strict, refused", _native.session_start_strict, fixed(BAD_LOCK, ENVIRONMENT, True), pylock.InvalidLock)
+    for number, edit in enumerate(EDITS):
+        yield Row("Session.edit %d, %s" % (number, edit[0]), _native.Session.edit, lambda edit=edit: (session(), *edit))
+    for name in ("answer", "explain"):
+        yield Row("Session." + name, getattr(_native.Session, name), lambda: (session(), True))
+    for name in ("judged", "close"):
+        yield Row("Session." + name, getattr(_native.Session, name), lambda: (session(),))
+    yield Row("Session.owner.graves", operator.attrgetter("owner.graves"), lambda: (session(),))
+    yield Row("answer of a closed one", _native.Session.answer, lambda: (closed(), True), ValueError)
+
+
+def closed():
+    one = session()
+    one.close()
+    return one
+
+
+def rows():
+    return [row for part in (of_versions, of_names, of_specifiers, of_layers, of_tags, of_kept, of_locks) for row in part()]
+
+
+def shown(value):
+    """What can be seen of a result or an argument, for comparing."""
+    if isinstance(value, _native.Version):
+        try:
+            return str(value), value._key, value.release, value.pre, value.local
+        except ValueError:
+            return "without a text"
+    if isinstance(value, _native.Session):
+        try:
+            return value.answer(True), value.explain(False), value.judged()
+        except ValueError:
+            return "closed"
+    if isinstance(value, _native.Environment):
+        marker = _native.Marker("os_name == 'nt' or sys_platform == 'linux' or 'some-é' in extras or 'some-é' in dependency_groups")
+        try:
+            return marker.evaluate(value, None, "")
+        except pylock.MarkerFault:
+            return "unset"
+    if isinstance(value, _native.Marker):
+        return "a marker"
+    if isinstance(value, _native.Specifier):
+        try:
+            return str(value), value._spec
+        except ValueError:
+            return "without a text"
+    if isinstance(value, _native.Layers):
+        return _native.Marker("os_name == 'posix' and sys_platform == 'linux'").evaluate_over(value, None, None, False, "")
+    if isinstance(value, (_native.Set, _native.Tag)):
+        return str(value)
+    if isinstance(value, (frozenset, tuple, list)):
+        return type(value), len(value)
+    return value

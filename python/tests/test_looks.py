@@ -1,0 +1,248 @@
+"""What the compiled module looks at without asking the library, held to the library's own call for the same text.
+
+These are the normal form of a short name in ASCII, and of a version whether its text is its normal form already, whether it
+is a pre-release, and where the zeros at the end of its release begin; of a specifier set, where its pieces lie. And what it
+keeps from one call to the next: the variables that a mapping before had, and tags that were cut of a text.
+"""
+
+import collections.abc
+import itertools
+import os
+import random
+import subprocess
+import sys
+import unittest
+
+import support
+from pylock import (
+    Environment, Marker, Tag, Version, canonicalize_name, canonicalize_version, default_environment, is_normalized_name,
+    parse_tag,
+)
+from pylock import _native
+from pylock._errors import InvalidSpecifier, InvalidVersion
+from pylock.specifiers import Specifier, SpecifierSet
+from pylock.utils import parse_wheel_filename
+
+NAME_LETTERS = "aZ0-_.\u00e9"
+VERSION_PIECES = ("0", "1", "10", ".", "a", "rc", "post", "dev", "+", "!", "v")
+# the fields of a record of the library
+NORMAL, BASE, PRE, DEV = 0, 2, 5, 7
+
+
+def short_texts(pieces, length):
+    """All texts of up to so many pieces."""
+    for count in range(length + 1):
+        for chosen in itertools.product(pieces, repeat=count):
+            yield "".join(chosen)
+
+
+def random_version(dice):
+    """A text that is a version, or nearly one."""
+    text = dice.choice(("", "", "", "", "v", "1!", "0!", " "))
+    text += ".".join([dice.choice(("0", "1", "10", "01", "00", "9", "123")) for _ in range(dice.randrange(1, 5))])
+    text += dice.choice(("", "", "a1", "rc2", "b0", "a01", "a", "RC1", "-a1", "c1", "alpha1", "a.1", ".a1", "rc", "beta3"))
+    text += dice.choice(("", "", "", ".post2", "post1", "-1", ".post01", ".post", ".rev2", "_post2", ".Post1"))
+    text += dice.choice(("", "", "", ".dev0", "dev1", ".dev", ".dev01", ".DEV3", "-dev2"))
+    return text + dice.choice(("", "", "", "", "+a", "+1.2", " ", "\u0661"))
+
+
+class Names(unittest.TestCase):
+    def test_short_texts(self):
+        for text in short_texts(NAME_LETTERS, 4):
+            normal = _native.library_name(text)
+            if canonicalize_name(text) != normal or is_normalized_name(text) != (_native.is_name(text) and normal == text):
+                self.fail((text, canonicalize_name(text), normal))
+
+    def test_long_texts(self):
+        dice = random.Random(49)
+        for length in (63, 511, 512, 513, 5000):
+            text = "".join([dice.choice("aZ0-_.") for _ in range(length)])
+            self.assertEqual(canonicalize_name(text), _native.library_name(text))
+
+
+class Versions(unittest.TestCase):
+    def held(self, text):
+        """Compares what is said of the text here and there. Whether it is a version."""
+        try:
+            record = _native.version_record(text).split("\t")
+        except InvalidVersion:
+            with self.assertRaises(InvalidVersion, msg=repr(text)):
+                Version(text)
+            self.assertEqual((canonicalize_version(text), _native.phase(text)), (text, None))
+            return False
+        normal, base = record[NORMAL], record[BASE]
+        epoch, sign, release = base.rpartition("!")
+        numbers = release.split(".")
+        while len(numbers) > 1 and numbers[-1] == "0":
+            numbers.pop()
+        one = Version(text)
+        said = (
+            str(one), str(Version(normal)), one.is_prerelease, _native.phase(text),
+            canonicalize_version(text, strip_trailing_zero=False), canonicalize_version(text),
+        )
+        is_prerelease = record[PRE] != "-" or record[DEV] != "-"
+        stripped = epoch + sign + ".".join(numbers) + normal[len(base) :]
+        if said != (normal, normal, is_prerelease, is_prerelease, normal, stripped):
+            self.fail((text, said, record))
+        return True
+
+    def test_short_texts(self):
+        self.assertGreater(sum(map(self.held, short_texts(VERSION_PIECES, 4))), 500)
+
+    def test_random_texts(self):
+        dice = random.Random(440)
+        self.assertGreater(sum(self.held(random_version(dice)) for _ in range(20_000)), 10_000)
+
+    def test_kept_texts(self):
+        """A version of a wheel's name has the library's normal form as its text."""
+        dice = random.Random(427)
+        for _ in range(2_000):
+            text = random_version(dice).strip()
+            try:
+                record = _native.version_record(text).split("\t")
+            except InvalidVersion:
+                continue
+            if "-" in text or "!" in text or not text.isascii() or "_" in text:
+                continue
+            one = parse_wheel_filename("a-%s-py3-none-any.whl" % text)[1]
+            self.assertEqual((str(one), one, hash(one)), (record[NORMAL], Version(text), hash(Version(text))))
+
+
+class Sets(unittest.TestCase):
+    def test_one_alone(self):
+        for text in short_texts((">=", "===", "!=", "1", ".*", ",", " "), 4):
+            try:
+                items = _native.specifiers(SpecifierSet(text).text)
+            except InvalidSpecifier:
+                items = ()
+            if len(items) == 1 and "," not in text:
+                one = Specifier(text)
+                self.assertEqual((str(one), one._spec, one, hash(one)), (str(items[0]), items[0]._spec, items[0], hash(items[0])))
+                self.assertEqual("1" in one, "1" in items[0])
+            else:
+                with self.assertRaises(InvalidSpecifier):
+                    Specifier(text)
+
+    def test_made_again(self):
+        one = Specifier(">= 1", True)
+        self.assertEqual((str(one), one.prereleases, "2" in one), (">=1", True, True))
+        one.__init__("===x")
+        self.assertEqual((str(one), one.prereleases, one.version, "2" in one, "X" in one), ("===x", None, "x", False, True))
+        with self.assertRaises(InvalidSpecifier):
+            one.__init__("1")
+        self.assertEqual((str(one), "X" in one), ("===x", True))
+        for ask in (str, hash, lambda item: "1" in item, lambda item: item.admits("1")):
+            with self.assertRaises(ValueError):
+                ask(Specifier.__new__(Specifier))
+
+    def test_short_texts(self):
+        """The pieces of a set are its specifiers: each is one alone, and all of them together are the set."""
+        found = 0
+        for text in short_texts((">=", "==", "===", "~=", "1", "1.2", ".*", ",", " "), 5):
+            try:
+                kept = SpecifierSet(text)
+            except InvalidSpecifier:
+                continue
+            found += 1
+            items = list(kept)
+            self.assertEqual(kept.normal_text, ",".join([SpecifierSet(str(item)).normal_text for item in items]))
+            self.assertEqual([Specifier(item.operator + item.version) for item in items], items)
+            first = {}
+            for item in sorted(items, key=str):
+                first.setdefault(item, str(item))
+            self.assertEqual(str(kept), ",".join(first.values()))
+        self.assertGreater(found, 300)
+
+
+class Layers(unittest.TestCase):
+    MARKERS = (
+        "os_name == 'a'", "sys_platform == 'a' or os_name != 'b'", "python_version >= '3.8' and platform_release < '5'",
+        "extra == 'a' and os_name == 'a'", "implementation_name in 'a b'",
+    )
+
+    MORE = ({}, {}, {"extra": "A"}, {"extra": None}, {"no_variable": "x"}, {"os_name": 5}, {"extras": {"x"}})
+
+    def test_mappings(self):
+        """A mapping has the same value whatever was laid over before it."""
+        dice = random.Random(508)
+        markers = [Marker(text) for text in self.MARKERS]
+        running = dict(default_environment())
+        for _ in range(4_000):
+            names = dice.sample(sorted(running), dice.randrange(5))
+            mapping = {name: dice.choice(("a", "b", "3.9", "\u00e9", "\ud800")) for name in names}
+            mapping.update(dice.choice(self.MORE))
+            marker = dice.choice(markers)
+            self.assertEqual(told(marker, mapping), told(marker, _Mapping(mapping)), mapping)
+            if all(isinstance(value, str) and value.isascii() for value in mapping.values()):
+                kept = Environment({name: value for name, value in dict(running, **mapping).items() if name in running})
+                self.assertEqual(told(marker, mapping), told(marker, kept, extra=mapping.get("extra", "")), mapping)
+
+    def test_refused(self):
+        for arguments in ((), (5,), ({"os_name": 5},), ({"x": "y"},)):
+            with self.assertRaises(TypeError):
+                _native.Layers(*arguments)
+        with self.assertRaises(TypeError):
+            _native.Marker("os_name == 'a'").evaluate_over(5, None, None, False, "")
+
+
+class _Mapping(collections.abc.Mapping):
+    """A mapping that is no dict, so it goes another way."""
+
+    def __init__(self, items):
+        self.items_of = items
+
+    def __getitem__(self, name):
+        return self.items_of[name]
+
+    def __iter__(self):
+        return iter(self.items_of)
+
+    def __len__(self):
+        return len(self.items_of)
+
+
+def told(marker, environment, **named):
+    try:
+        return marker.evaluate(environment, **named)
+    except (ValueError, TypeError) as error:
+        return type(error).__name__, str(error)
+
+
+class Tags(unittest.TestCase):
+    def test_two_ways(self):
+        """A tag of a text is that of its pieces, of any length and letters."""
+        dice = random.Random(425)
+        for _ in range(3_000):
+            pieces = ["".join([dice.choice("azAZ09_.@[`{\u00c4\u03a3") for _ in range(dice.randrange(1, 20))]) for _ in range(3)]
+            pieces = [piece.replace(".", "_") for piece in pieces]
+            (found,) = parse_tag("-".join(pieces))
+            made = Tag(*pieces)
+            small = [piece.lower() for piece in pieces]
+            self.assertEqual((found, hash(found), str(found)), (made, hash(made), "-".join(small)))
+            self.assertEqual([found.interpreter, found.abi, found.platform], small)
+            self.assertEqual([made.interpreter, made.abi, made.platform, str(made)], small + [str(found)])
+        self.assertNotEqual(Tag("a-b", "c", "d"), Tag("a", "b-c", "d"))
+        self.assertEqual(str(Tag("a-b", "c", "d")), str(Tag("a", "b-c", "d")))
+
+    def test_hashes(self):
+        """Short texts of other letters have other hashes."""
+        texts = list(short_texts("ab0", 5))
+        self.assertEqual(len({hash(Tag(text, "x", "y")) for text in texts}), len(texts))
+
+    def test_secret(self):
+        """Each process has other hashes: nobody can choose what falls together."""
+        code = """
+from pylock import SpecifierSet, Tag, Version
+print(*[hash(one) for one in (Version("1.0"), Tag("P", "x", "y"), SpecifierSet(">=1"), *SpecifierSet(">=1"))])
+"""
+        found = []
+        for seed in ("1", "2", "2"):
+            environment = dict(os.environ, PYTHONPATH=support.MODULE, PYTHONHASHSEED=seed)
+            found.append(subprocess.check_output([sys.executable, "-c", code], env=environment).split())
+        self.assertEqual(found[1], found[2])
+        for one, other in zip(found[0], found[1]):
+            self.assertNotEqual(one, other)
+
+
+if __name__ == "__main__":
+    unittest.main()
