@@ -60,7 +60,7 @@ impl From<clap::Error> for CommandError {
 /// kept `tools/built stamp` writes the sum over them. No contract speaks of this text.
 const VERSION: &str = "1.0.0
 sources (not told: rt built it; ./pylock and tools/release tell the sum), \
-proved by rattle-kit-13f logic dac8208d650f15bf";
+proved by rattle-kit-13b logic dac8208d650f15bf";
 
 /// The command `pylock` with its subcommands.
 fn pylock_command<'a>(alloc: Global) -> Result<Command<'a>, AllocError>
