@@ -10,6 +10,7 @@ pub mod PartsRef
 pub mod Phase
 pub mod NormalVersion
 pub mod NormalOperand
+pub mod Rank
 pub mod Releases
 pub mod SpecifierDraft
 pub mod Tails

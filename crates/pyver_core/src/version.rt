@@ -2,6 +2,7 @@
 
 ghost use Rattle.std.specs.Prelude.{◌≡◌, ◌≢◌, [], IfOk, string_bytes};
 ghost use Rattle.pyver_core.specs.Inner.PartsRef.{parts_of};
+ghost use Rattle.pyver_core.specs.Inner.Rank.{rank_of};
 ghost use Rattle.pyver_core.specs.Version.Normal.{normal_text};
 ghost use Rattle.pyver_core.specs.Version.Parts.{Parts, base_release, is_postrelease};
 ghost use Rattle.pyver_core.specs.Version.Parts.{is_prerelease, public_part};
@@ -15,6 +16,7 @@ mod order_key;
 mod parse;
 mod part;
 mod parts_ref;
+mod rank;
 pub(crate) mod reading;
 
 pub use error::VersionError;
@@ -24,15 +26,17 @@ pub(crate) use normal::{push_epoch, push_release};
 pub(crate) use order::{compare_fronts, compare_public, compare_to_public};
 pub use part::{LocalPart, PreKind};
 pub(crate) use parts_ref::PartsRef;
+use rank::rank_of;
 use std::alloc::{AllocError, Global};
 use std::marker::Model;
 
-/// A version of a Python package (PEP 440), kept as its parts and its normal form.
+/// A version of a Python package (PEP 440), kept as its parts, its normal form and its rank.
 ///
-/// Contracts see the parts alone, since the normal form follows from them.
+/// Contracts see the parts alone, since the normal form and the rank follow from them.
 pub struct Version {
     parts: VersionParts,
     text: String,
+    rank: u64,
 }
 
 impl Model for Version {
@@ -40,7 +44,8 @@ impl Model for Version {
 
     ghost view = { λ v. v.parts };
 
-    ghost invariant = { λ v. (v.parts.release ≢ []) × (string_bytes v.text ≡ normal_text v.parts) };
+    ghost invariant = { λ v. (v.parts.release ≢ []) × (string_bytes v.text ≡ normal_text v.parts)
+        × (v.rank ≡ rank_of v.parts) };
 }
 
 impl Version {
@@ -49,8 +54,9 @@ impl Version {
         requires { parts.release ≢ [] }
         ensures { IfOk result (λ v. v ≡ parts) }
     {
+        let rank = rank_of(&parts.as_parts_ref());
         let text = normal_text(alloc, &parts.as_parts_ref())?;
-        Ok(Version { parts, text })
+        Ok(Version { parts, text, rank })
     }
 
     /// The parts, lent.
@@ -58,6 +64,14 @@ impl Version {
         ensures { parts_of result ≡ self.now }
     {
         self.parts.as_parts_ref()
+    }
+
+    /// The number by which versions order that have one, 0 where this has none.
+    #[inline(always)]
+    pub(crate) fn rank(&self) -> u64
+        ensures { result ≡ rank_of self.now }
+    {
+        self.rank
     }
 
     /// The epoch, 0 where none is written.
@@ -161,7 +175,11 @@ impl Version {
 /// doesn't open the parts.
 impl Drop for Version {
     fn drop(self) {
-        let Version { parts: _, text: _ } = self;
+        let Version {
+            parts: _,
+            text: _,
+            rank: _,
+        } = self;
     }
 }
 
@@ -171,8 +189,16 @@ impl Clone for Version {
 
     fn clone(&self) -> Result<Version, AllocError> {
         Ok(Version {
-            parts: self.parts.clone()?,
+            parts: copy_of_parts(&self.parts)?,
             text: self.text.clone()?,
+            rank: self.rank,
         })
     }
+}
+
+/// Apart from the copy of a version, which then proves with no file.
+fn copy_of_parts(parts: &VersionParts) -> Result<VersionParts, AllocError>
+    ensures { IfOk result (λ copy. copy ≡ parts.now) }
+{
+    parts.clone()
 }

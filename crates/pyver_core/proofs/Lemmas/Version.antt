@@ -6,4 +6,5 @@ pub mod Normal
 pub mod Order
 pub mod OrderKey
 pub mod NormalVersion
+pub mod Rank
 pub mod Reading

@@ -17,8 +17,43 @@ use crate::version::{PartsRef, PreKind, Version};
 use std::cmp::Ordering;
 
 /// Compares the version without its local part with the operand.
-#[tactic(auto, using(crate::proofs::Lemmas::Version::Fronts::in_parts))]
+#[tactic(auto, using(crate::proofs::Lemmas::Version::Rank::by_rank))]
 pub(crate) fn compare_public(version: &Version, operand: &Version) -> Ordering
+    ensures { result ≡ version_cmp (public_part version.now) operand.now }
+{
+    if version.rank() != 0 && operand.rank() != 0 {
+        return version.rank().cmp(&operand.rank());
+    }
+    compare_public_parts(version, operand)
+}
+
+/// Compares the operand with the version without its local part.
+#[tactic(auto, using(crate::proofs::Lemmas::Version::Rank::by_rank))]
+pub(crate) fn compare_to_public(operand: &Version, version: &Version) -> Ordering
+    ensures { result ≡ version_cmp operand.now (public_part version.now) }
+{
+    if operand.rank() != 0 && version.rank() != 0 {
+        return operand.rank().cmp(&version.rank());
+    }
+    compare_to_public_parts(operand, version)
+}
+
+/// Compares two versions by their parts. This and the two below stand apart from the comparisons by
+/// ranks, which are a few instructions so.
+#[inline(never)]
+#[tactic(auto, using(crate::proofs::Lemmas::Version::Fronts::in_parts))]
+fn compare_parts(left: &Version, right: &Version) -> Ordering
+    ensures { result ≡ version_cmp left.now right.now }
+{
+    match compare_fronts(left, right) {
+        Ordering::Equal => compare_tails(&left.parts(), &right.parts()),
+        decided => decided,
+    }
+}
+
+#[inline(never)]
+#[tactic(auto, using(crate::proofs::Lemmas::Version::Fronts::in_parts))]
+fn compare_public_parts(version: &Version, operand: &Version) -> Ordering
     ensures { result ≡ version_cmp (public_part version.now) operand.now }
 {
     match compare_fronts(version, operand) {
@@ -27,9 +62,9 @@ pub(crate) fn compare_public(version: &Version, operand: &Version) -> Ordering
     }
 }
 
-/// Compares the operand with the version without its local part.
+#[inline(never)]
 #[tactic(auto, using(crate::proofs::Lemmas::Version::Fronts::in_parts))]
-pub(crate) fn compare_to_public(operand: &Version, version: &Version) -> Ordering
+fn compare_to_public_parts(operand: &Version, version: &Version) -> Ordering
     ensures { result ≡ version_cmp operand.now (public_part version.now) }
 {
     match compare_fronts(operand, version) {
@@ -153,7 +188,8 @@ impl PartialOrd for Version {
 }
 
 /// Compares in turn the epochs, the releases (the shorter one padded with zeros), the phases, the
-/// post-releases, the developmental releases and the local parts. It takes no memory.
+/// post-releases, the developmental releases and the local parts. It takes no memory. Where both
+/// versions have a rank, these two numbers say the same.
 impl Ord for Version {
     ghost cmp = { version_cmp };
 
@@ -163,11 +199,11 @@ impl Ord for Version {
 
     ghost matches_eq = { λ v w. refl };
 
-    #[tactic(auto, using(crate::proofs::Lemmas::Version::Fronts::in_parts))]
+    #[tactic(auto, using(crate::proofs::Lemmas::Version::Rank::by_rank))]
     fn cmp(&self, other: &Version) -> Ordering {
-        match compare_fronts(self, other) {
-            Ordering::Equal => compare_tails(&self.parts(), &other.parts()),
-            decided => decided,
+        if self.rank() != 0 && other.rank() != 0 {
+            return self.rank().cmp(&other.rank());
         }
+        compare_parts(self, other)
     }
 }

@@ -8,7 +8,8 @@ ghost use Rattle.pyver_core.specs.Parsed.{parsed_version};
 ghost use Rattle.pyver_core.specs.Version.Parts.{Parts};
 
 use super::reading::{NormalVersion, read_normal, read_version};
-use crate::version::{Version, VersionError, VersionParts};
+use crate::version::rank::rank_of;
+use crate::version::{PartsRef, Version, VersionError, VersionParts};
 use std::alloc::{AllocError, Global};
 
 impl Version {
@@ -64,16 +65,25 @@ impl Version {
         requires normal { IsNormalVersion text.now (normal_parts room.now normal.now) }
         ensures { IfOk result (λ v. v ≡ normal_parts room.now normal.now) }
     {
+        let lent = PartsRef {
+            epoch: 0,
+            release: &room[..normal.count],
+            pre: normal.pre,
+            post: normal.post,
+            dev: normal.dev,
+            local: &[],
+        };
+        let rank = rank_of(&lent);
         let parts = VersionParts {
             epoch: 0,
-            release: Vec::from_slice(alloc, &room[..normal.count])?,
+            release: Vec::from_slice(alloc, lent.release)?,
             pre: normal.pre,
             post: normal.post,
             dev: normal.dev,
             local: Vec::new(alloc),
         };
         let text = String::from_str(alloc, text)?;
-        Ok(Version { parts, text })
+        Ok(Version { parts, text, rank })
     }
 }
 

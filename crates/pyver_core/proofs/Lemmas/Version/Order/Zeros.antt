@@ -12,7 +12,7 @@ unfolding without_trailing_zeros
 without_trailing_zeros-zeros zero = refl
 without_trailing_zeros-zeros (suc n) = ap (prepend_unless_trailing 0) (without_trailing_zeros-zeros n)
 
-without_trailing_zeros-append_zeros : (release : List ℕ) (n : ℕ) → without_trailing_zeros (release ++ replicate n 0) ≡ without_trailing_zeros release
+pub without_trailing_zeros-append_zeros : (release : List ℕ) (n : ℕ) → without_trailing_zeros (release ++ replicate n 0) ≡ without_trailing_zeros release
 unfolding without_trailing_zeros
 without_trailing_zeros-append_zeros [] n = without_trailing_zeros-zeros n
 without_trailing_zeros-append_zeros (x ∷ xs) n = ap (prepend_unless_trailing x) (without_trailing_zeros-append_zeros xs n)
