@@ -214,7 +214,7 @@ static int module_exec(PyObject *module)
     }
     if (!add_versions(module, state) || !add_tags(module, state) || !add_names(module, state)) return -1;
     if (!add_kept(module, state) || !add_specifiers(module, state) || !add_layers(module, state)) return -1;
-    if (!add_locks(module, state)) return -1;
+    if (!add_locks(module, state) || !add_tables(module)) return -1;
     return add_codes(module) ? PyModule_AddFunctions(module, functions) : -1;
 }
 

@@ -200,6 +200,7 @@ bool add_tags(PyObject *module, State *state);
 bool add_names(PyObject *module, State *state);
 bool add_kept(PyObject *module, State *state);
 bool add_locks(PyObject *module, State *state);
+bool add_tables(PyObject *module);
 
 PyObject *normal_name(State *state, PyObject *text);
 /* The tag of a text of three pieces, as wheels have it; of the class of the Python layer. */

@@ -1,32 +1,26 @@
 """A writer of TOML, for tables that are handed to the library, which reads texts.
 
     >>> document({"name": "a", "size": 1, "hashes": {"sha256": "00"}})
-    '"name"="a"\\n"size"=1\\n"hashes"={"sha256"="00"}\\n'
+    b'"name"="a"\\n"size"=1\\n"hashes"={"sha256"="00"}\\n'
 
 It is exact: what a reader of TOML 1.0 makes of the text is equal to the table, and of the same types. What TOML doesn't
 have is refused, and nothing is left out. It isn't made for people: each key of the table has a line, with all that
-is below.
+is below. `_native` writes what is of Python's own types, and asks here for the others.
 """
 
 from __future__ import annotations
 
 from collections.abc import Mapping, Sequence
 from datetime import date, datetime, time
-from functools import lru_cache
-from json.encoder import encode_basestring
-from typing import Any, Callable, Dict, Type
+from typing import Any, Callable, Iterable, Tuple, Type, Union
 
-__all__ = ["document", "value"]
+from . import _native
 
-
-def _boolean(value: bool) -> str:
-    return "true" if value else "false"
+__all__ = ["document"]
 
 
 def _integer(value: int) -> str:
-    if not -(1 << 63) <= value < 1 << 63:
-        raise ValueError("an integer of TOML has 64 bits: %d" % value)
-    return int.__repr__(value)
+    raise ValueError("an integer of TOML has 64 bits: %d" % value)
 
 
 def _moment(value: datetime) -> str:
@@ -42,69 +36,25 @@ def _hour(value: time) -> str:
     return value.isoformat()
 
 
-def _array(value: Sequence[Any]) -> str:
-    return "[" + ",".join([(_writer(type(member)) or _of_kind(member))(member) for member in value]) + "]"
+# a datetime is a date; of integers those past 64 bits are asked for here
+_OF_KIND: Tuple[Tuple[Type[Any], Callable[[Any], str]], ...] = (
+    (datetime, _moment), (date, date.isoformat), (time, _hour), (int, _integer)
+)
 
 
-def _table(value: Mapping[str, Any]) -> str:
-    members = [_key(key) + (_writer(type(member)) or _of_kind(member))(member) for key, member in value.items()]
-    return "{" + ",".join(members) + "}"
-
-
-# the keys of a lock are few, and come again in each of its tables
-@lru_cache(maxsize=256)
-def _key(key: str) -> str:
-    """The key, and the sign behind it."""
-    if not isinstance(key, str):
-        raise TypeError("a key of TOML is a text, not %s" % type(key).__name__)
-    return encode_basestring(key) + "="
-
-
-_OF_TYPE: Dict[Type[Any], Callable[[Any], str]] = {
-    # a text of JSON is one of TOML but for U+007F, which `_escaped` sees to
-    str: encode_basestring,
-    dict: _table,
-    list: _array,
-    tuple: _array,
-    bool: _boolean,
-    int: _integer,
-    float: float.__repr__,
-    datetime: _moment,
-    date: date.isoformat,
-    time: _hour,
-}
-_writer = _OF_TYPE.get
-# the types above and those made from them: a datetime is a date
-_OF_KIND = (str, bool, int, float, datetime, date, time)
-
-
-def _of_kind(value: Any) -> Callable[[Any], str]:
-    """The writer of a value whose type isn't one of TOML's, but made from one."""
-    for kind in _OF_KIND:
+def _other(value: Any) -> Union[str, Tuple[bool, Iterable[Any]]]:
+    """The text of a value whose type `_native` doesn't know; or whether it is a table, and its members."""
+    for kind, text_of in _OF_KIND:
         if isinstance(value, kind):
-            return _OF_TYPE[kind]
+            return text_of(value)
     if isinstance(value, Mapping):
-        return _table
+        return True, ((key, member) for key, member in value.items())
     if isinstance(value, Sequence) and not isinstance(value, (bytes, bytearray, memoryview)):
-        return _array
+        return False, iter(value)
     raise TypeError("TOML has no %s" % type(value).__name__)
 
 
-def _escaped(text: str) -> str:
-    """The text with U+007F as TOML wants it: it stands in quotation marks alone."""
-    return text.replace("\x7f", "\\u007f") if "\x7f" in text else text
-
-
-def value(thing: Any) -> str:
-    """The text of a value, in a line.
-
-    >>> value(["a", {"b": True}])
-    '["a",{"b"=true}]'
-    """
-    return _escaped((_writer(type(thing)) or _of_kind(thing))(thing))
-
-
-def document(table: Mapping[str, Any]) -> str:
+def document(table: Mapping[str, Any]) -> bytes:
     """The text of a table: a line for each key.
 
     >>> document({"a": None})
@@ -112,7 +62,6 @@ def document(table: Mapping[str, Any]) -> str:
         ...
     TypeError: TOML has no NoneType
 
-    A `str` that holds half a surrogate pair gives a text that can't be encoded, and is refused there.
+    A `str` that holds half a surrogate pair is refused as UnicodeEncodeError.
     """
-    lines = [_key(key) + (_writer(type(member)) or _of_kind(member))(member) + "\n" for key, member in table.items()]
-    return _escaped("".join(lines))
+    return _native.toml(table, _other)

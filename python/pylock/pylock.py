@@ -18,6 +18,7 @@ docs/PYTHON.md has the differences. `pylock.Lock` reads the bytes of a file, and
 from __future__ import annotations
 
 import copy
+import functools
 import logging
 from dataclasses import dataclass, fields
 from datetime import datetime
@@ -26,7 +27,7 @@ from typing import (
     Union,
 )
 
-from . import _lock, _lock_shape, _toml
+from . import _lock, _lock_shape, _native, _toml
 from ._environment import VARIABLES, Environment, environment as running_environment, variables_text
 from ._errors import InvalidLock, PlanFault, Refusal, StrictRefusal
 from .markers import Marker, running_variables
@@ -341,7 +342,7 @@ class Pylock:
         if not isinstance(d, Mapping):
             raise TypeError("expected a mapping, not %s" % type(d).__name__)
         _judge(d)
-        lock: _Class = _Builder().lock(cls, d)
+        lock: _Class = _of_table(cls, d)
         version = d["lock-version"]
         if version != "1.0":
             _logger.warning("the lock is of the version %s, of which only what 1.0 has is read", version)
@@ -396,66 +397,48 @@ _CLASSES: Tuple[Type[Any], ...] = (
 _KEYS: Dict[Type[Any], Dict[str, str]] = {
     each: {field.name.replace("_", "-"): field.name for field in fields(each)} for each in _CLASSES
 }
-# what an entry has as texts, and as tables
-_READ: Tuple[Tuple[str, Type[Any]], ...] = (("version", Version), ("marker", Marker), ("requires_python", SpecifierSet))
-_SOURCES: Tuple[Tuple[str, Type[Any]], ...] = (
-    ("vcs", PackageVcs), ("directory", PackageDirectory), ("archive", PackageArchive), ("sdist", PackageSdist)
-)
 
+class _Texts(Dict[str, Any]):
+    """What was read of texts: those that come again are read once, and share an object."""
 
-def _values(kind: Type[Any], table: Mapping[str, Any]) -> Dict[str, Any]:
-    """The attributes that a table gives, as they stand there."""
-    keys = _KEYS[kind]
-    return {keys[key]: member for key, member in table.items() if key in keys}
+    def __init__(self, kind: Type[Any]) -> None:
+        super().__init__()
+        self.kind = kind
 
-
-def _made(kind: Type[Any], values: Dict[str, Any]) -> Any:
-    """An object of these attributes: those that aren't given are None by its class."""
-    made = kind.__new__(kind)
-    object.__setattr__(made, "__dict__", values)
-    return made
-
-
-class _Builder:
-    """Makes the objects of a table that the library took. Texts that come again are read once: objects are shared."""
-
-    def __init__(self) -> None:
-        self._read: Dict[Tuple[Type[Any], str], Any] = {}
-
-    def _text(self, kind: Type[Any], text: str) -> Any:
-        read = self._read.get((kind, text))
-        if read is None:
-            read = self._read[kind, text] = kind(text)
+    def __missing__(self, text: str) -> Any:
+        read = self[text] = self.kind(text)
         return read
 
-    def _package(self, table: Mapping[str, Any]) -> Package:
-        values = _values(Package, table)
-        for attribute, kind in _READ:
-            text = values.get(attribute)
-            if text is not None:
-                values[attribute] = self._text(kind, text)
-        for attribute, kind in _SOURCES:
-            source = values.get(attribute)
-            if source is not None:
-                values[attribute] = _made(kind, _values(kind, source))
-        wheels = values.get("wheels")
-        if wheels is not None:
-            values["wheels"] = [_made(PackageWheel, _values(PackageWheel, wheel)) for wheel in wheels]
-        made: Package = _made(Package, values)
-        return made
 
-    def lock(self, kind: Type[Any], table: Mapping[str, Any]) -> Any:
-        """The lock, of a class made from Pylock."""
-        values = _values(Pylock, table)
-        values["lock_version"] = Version(values["lock_version"])
-        if values.get("requires_python") is not None:
-            values["requires_python"] = self._text(SpecifierSet, values["requires_python"])
-        if values.get("environments") is not None:
-            values["environments"] = [self._text(Marker, text) for text in values["environments"]]
-        if values.get("extras") is not None:
-            values["extras"] = list(values["extras"])
-        values["packages"] = [self._package(entry) for entry in values["packages"]]
-        return kind(**values)
+def _maker(kind: Type[Any]) -> Callable[[Any], Any]:
+    """What makes an object of a class of a table."""
+    return functools.partial(_native.made, kind, _KEYS[kind])
+
+
+_SOURCES: Dict[str, Callable[[Any], Any]] = {
+    "vcs": _maker(PackageVcs),
+    "directory": _maker(PackageDirectory),
+    "archive": _maker(PackageArchive),
+    "sdist": _maker(PackageSdist),
+    "wheels": functools.partial(_native.made_all, PackageWheel, _KEYS[PackageWheel]),
+}
+
+
+def _of_table(kind: Type[Any], table: Mapping[str, Any]) -> Any:
+    """The lock, of a class made from Pylock, of a table that the library took."""
+    marker, python = _Texts(Marker).__getitem__, _Texts(SpecifierSet).__getitem__
+    readers = dict(_SOURCES, version=_Texts(Version).__getitem__, marker=marker, requires_python=python)
+    attributes = {key: (name, readers[name]) if name in readers else name for key, name in _KEYS[Package].items()}
+    values = {name: table[key] for key, name in _KEYS[Pylock].items() if table.get(key) is not None}
+    values["lock_version"] = Version(values["lock_version"])
+    if "requires_python" in values:
+        values["requires_python"] = python(values["requires_python"])
+    if "environments" in values:
+        values["environments"] = [marker(text) for text in values["environments"]]
+    if "extras" in values:
+        values["extras"] = list(values["extras"])
+    values["packages"] = _native.made_all(Package, attributes, values["packages"])
+    return kind(**values)
 
 
 def _keys_of(kind: Type[Any]) -> Dict[str, str]:
@@ -465,8 +448,7 @@ def _keys_of(kind: Type[Any]) -> Dict[str, str]:
 
 def _plain_table(made: Any) -> Dict[str, Any]:
     """The table of an object, in the order of its attributes."""
-    get = vars(made).get
-    members = [(key, get(name)) for key, name in _keys_of(type(made)).items()]
+    members = [(key, getattr(made, name)) for key, name in _keys_of(type(made)).items()]
     return {key: _plain(member) for key, member in members if member is not None}
 
 
@@ -495,8 +477,7 @@ def _plain(value: Any) -> Any:
 def _refusal(table: Mapping[str, Any]) -> Optional[Exception]:
     """Why the library doesn't take a table strictly, or why it can't be written; None where it is taken."""
     try:
-        text = _toml.document(table).encode()
-        _lock.Session(text, _NOTHING, strict=True).close()
+        _lock.Session(_toml.document(table), _NOTHING, strict=True).close()
     except (InvalidLock, TypeError, ValueError, RecursionError) as error:
         return error
     return None
@@ -588,40 +569,39 @@ def _environment_text(environment: Optional[Mapping[str, Any]], tags: Optional[S
 
 
 # a source of which the session has to know only that it stands
-_STANDS = {
-    "vcs": '"vcs"={"type"="","commit-id"="","path"=""}',
-    "directory": '"directory"={"path"=""}',
-    "archive": '"archive"={"path"=""}',
-    "sdist": '"sdist"={"path"=""}',
-}
+_STANDS: Tuple[Tuple[str, Mapping[str, str]], ...] = (
+    ("vcs", {"type": "", "commit-id": "", "path": ""}),
+    ("directory", {"path": ""}),
+    ("archive", {"path": ""}),
+    ("sdist", {"path": ""}),
+)
 
 
-def _asked_wheel(place: int, wheel: PackageWheel) -> str:
+def _asked_wheel(folder: str, wheel: PackageWheel) -> Dict[str, Any]:
     """What the session has to know of a wheel: its place, as a folder before its path, and what its file name is from."""
     if wheel.name:
-        return '{"path"="%d/","name"=%s}' % (place, _toml.value(wheel.name))
-    path = _toml.value("%d/%s" % (place, wheel.path or ""))
-    return '{"path"=%s,"url"=%s}' % (path, _toml.value(wheel.url or ""))
+        return {"path": folder, "name": wheel.name}
+    return {"path": "%s%s" % (folder, wheel.path or ""), "url": wheel.url or ""}
 
 
-def _asked_entry(package: Package) -> str:
-    """What the session has to know of an entry, as an inline table."""
-    values = vars(package)
-    parts = ['"name"=' + _toml.value(package.name)]
+def _asked_entry(package: Package, folders: List[str]) -> Dict[str, Any]:
+    """What the session has to know of an entry."""
+    asked: Dict[str, Any] = {"name": package.name}
     if package.marker is not None:
-        parts.append('"marker"=' + _toml.value(package.marker.text))
+        asked["marker"] = package.marker.text
     if package.requires_python is not None:
-        parts.append('"requires-python"=' + _toml.value(package.requires_python.text))
-    parts += [text for key, text in _STANDS.items() if values.get(key) is not None]
+        asked["requires-python"] = package.requires_python.text
+    for key, stands in _STANDS:
+        if getattr(package, key) is not None:
+            asked[key] = stands
     if package.wheels:
-        wheels = [_asked_wheel(place, wheel) for place, wheel in enumerate(package.wheels)]
-        parts.append('"wheels"=[%s]' % ",".join(wheels))
-    return "{%s}" % ",".join(parts)
+        asked["wheels"] = [_asked_wheel(folder, wheel) for folder, wheel in zip(folders, package.wheels)]
+    return asked
 
 
 def _asked_lock(lock: Pylock, extras: List[str], groups: List[str]) -> bytes:
     """What the session has to know of a lock. It declares what is asked for, also where the lock doesn't."""
-    head: Dict[str, Any] = {
+    asked: Dict[str, Any] = {
         "lock-version": "1.0",
         "created-by": "",
         "extras": extras,
@@ -629,9 +609,11 @@ def _asked_lock(lock: Pylock, extras: List[str], groups: List[str]) -> bytes:
         "environments": [marker.text for marker in lock.environments or ()],
     }
     if lock.requires_python is not None:
-        head["requires-python"] = lock.requires_python.text
-    entries = ",".join([_asked_entry(package) for package in lock.packages])
-    return ("%s\"packages\"=[%s]\n" % (_toml.document(head), entries)).encode()
+        asked["requires-python"] = lock.requires_python.text
+    most = max([len(package.wheels or ()) for package in lock.packages], default=0)
+    folders = ["%d/" % place for place in range(most)]
+    asked["packages"] = [_asked_entry(package, folders) for package in lock.packages]
+    return _toml.document(asked)
 
 
 # the answer in lines, which are read in less time than the documents that `Session.answer` reads

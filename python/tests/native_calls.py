@@ -1,8 +1,11 @@
 """Every function, method and part of `_native`, each with arguments that it takes and arguments that it refuses: what is tried
 hard by the other files native_*.py, which tools/native runs."""
 
+import collections
+import copy
 import json
 import operator
+import re
 
 import pylock
 from pylock import _native
@@ -260,6 +263,50 @@ def of_locks():
     yield Row("answer of a closed one", _native.Session.answer, lambda: (closed(), True), ValueError)
 
 
+class Entry:
+    """An object that `made` makes."""
+
+
+class Narrow:
+    """One without a dict."""
+
+    __slots__ = ("size", "name")
+
+
+ATTRIBUTES = {"name": "name", "size": "size", "version": ("version", pylock.Version)}
+# what `toml` is told of values of other types: a text, a table or an array
+MEMBERS = frozenset(["a table"])
+OTHERS = {5j: "5.0", range(3): (False, range(3)), 2**64: "18446744073709551616", MEMBERS: (True, [("a", 1), ("é", "b")])}
+# and what is no answer, by bytes
+OTHERS.update((repr(found).encode(), found) for found in (5, (True,), (True, 5), (True, [5]), (False, None)))
+
+
+def table():
+    """A table with values of all types, made anew."""
+    return {
+        "text": fresh("\"é\x7f\n" * 9), "é": "", "list": [1, -2**63, 2.5, True, (), [[]]], "empty": {}, "more": {"a": {"b": "c"}},
+        "members": MEMBERS, "other": [range(3), 5j], "long": 2**64, "texts": ["x" * 600] * 20,
+    }
+
+
+def of_tables():
+    other = OTHERS.__getitem__
+    yield Row("toml", _native.toml, lambda: (table(), other))
+    yield Row("toml of a mapping", _native.toml, fixed(MEMBERS, other))
+    for odd, error in ((None, KeyError), ("\ud800", UnicodeEncodeError), ({5: 1}, TypeError), ({"\ud800": []}, UnicodeEncodeError)):
+        yield Row("toml of %.20a" % odd, _native.toml, lambda odd=odd: ({"a": odd, "b": [odd]}, other), error)
+    for told in [key for key in OTHERS if isinstance(key, bytes)]:
+        yield Row("toml, told %r" % told, _native.toml, lambda told=told: ({"a": told}, other), TypeError)
+    for given, error in (({"name": "a", "size": 5, "version": "1.0", "x": 1}, None), (collections.OrderedDict(version=None, name="b"), None),
+                         ({"version": "x"}, pylock.InvalidVersion), (5, AttributeError)):
+        yield Row("made(%.20r)" % (given,), _native.made, lambda given=given: (Entry, ATTRIBUTES, copy.copy(given)), error)
+        yield Row("made_all(%.20r)" % (given,), _native.made_all, lambda given=given: (Entry, ATTRIBUTES, [{}, copy.copy(given)]), error)
+    yield Row("made, narrow", _native.made, fixed(Narrow, ATTRIBUTES, {"size": 1, "name": "a"}))
+    yield Row("made, narrow, refused", _native.made, fixed(Narrow, {"x": "x"}, {"x": 1}), AttributeError)
+    for kind in (5, int, type(re.compile(""))):
+        yield Row("made of %r" % (kind,), _native.made, fixed(kind, {}, {}), TypeError)
+
+
 def closed():
     one = session()
     one.close()
@@ -267,7 +314,7 @@ def closed():
 
 
 def rows():
-    return [row for part in (of_versions, of_names, of_specifiers, of_layers, of_tags, of_kept, of_locks) for row in part()]
+    return [row for part in (of_versions, of_names, of_specifiers, of_layers, of_tags, of_kept, of_locks, of_tables) for row in part()]
 
 
 def shown(value):
@@ -299,6 +346,8 @@ def shown(value):
         return _native.Marker("os_name == 'posix' and sys_platform == 'linux'").evaluate_over(value, None, None, False, "")
     if isinstance(value, (_native.Set, _native.Tag)):
         return str(value)
+    if isinstance(value, (Entry, Narrow)):
+        return [(name, shown(getattr(value, name, None))) for name in ("name", "size", "version")]
     if isinstance(value, (frozenset, tuple, list)):
         return type(value), len(value)
     return value

@@ -8,18 +8,24 @@ import collections
 import copy
 import dataclasses
 import datetime
+import enum
 import importlib
 import inspect
+import itertools
 import logging
 import math
 import os
 import pathlib
 import pickle
 import random
+import signal
+import struct
 import sys
 import threading
+import types
 import unittest
 
+import toml_writer
 from locks import TAGS, broken_lock, sound_lock
 from support import TOP, bytes_of, reference, toml
 
@@ -503,7 +509,7 @@ class Selecting(unittest.TestCase):
             lock = ours.Pylock.from_dict(table)
             kept = pylock.Environment(LINUX, TAGS)
             try:
-                plan = pylock.Lock(_toml.document(table).encode()).plan(kept, strict=True)
+                plan = pylock.Lock(_toml.document(table)).plan(kept, strict=True)
             except pylock.PlanFault as fault:
                 with self.assertRaises(ours.PylockSelectError) as caught:
                     list(lock.select(environment=kept))
@@ -543,7 +549,7 @@ class FileNames(unittest.TestCase):
             if "path" not in file and "url" not in file:
                 file["url"] = "https://h/x%20y"
             table = whole({"packages": [{"name": "a", "wheels": [file]}]})
-            (pick,) = pylock.Lock(_toml.document(table).encode()).files()
+            (pick,) = pylock.Lock(_toml.document(table)).files()
             self.assertEqual(_lock_shape.file_name(file), pick.file, file)
             made = ours.PackageWheel(**file)
             if pick.file is None:
@@ -551,6 +557,74 @@ class FileNames(unittest.TestCase):
                     made.filename
             else:
                 self.assertEqual(made.filename, pick.file)
+
+
+class Text(str):
+    """A text, a number, a table and a list of types of their own, which say something else of themselves."""
+
+    def __str__(self):
+        return "another"
+
+    __repr__ = __str__
+
+
+class Number(int):
+    __str__ = __repr__ = Text.__str__
+
+
+class Real(float):
+    __str__ = __repr__ = Text.__str__
+
+
+class Table(dict):
+    def items(self):
+        return [(key, member) for key, member in super().items() if key != "a b"]
+
+
+class List(list):
+    def __iter__(self):
+        return iter([1, *super().__iter__()])
+
+
+class Tuple(tuple):
+    def __new__(cls, *members):
+        return super().__new__(cls, members)
+
+
+class Day(datetime.date):
+    def isoformat(self):
+        return "another"
+
+
+class Moment(datetime.datetime):
+    def isoformat(self):
+        return "2024-01-01T00:00:00Z"
+
+
+class Kind(enum.IntEnum):
+    ONE = 1
+
+
+def renamed(table):
+    """Puts other keys into the table, as many as there are."""
+    for key in list(table):
+        table["other " + key] = table.pop(key)
+
+
+ZONE = datetime.timezone(datetime.timedelta(hours=1, seconds=1))
+ODD_LEAVES = [
+    Text('"'), Text("\ud800"), "\udfff", Number(5), Number(1 << 64), Real(2.5), Real("nan"), Kind.ONE, 1 << 63, -(1 << 63) - 1,
+    10**5_000, Day(2024, 1, 1), Moment(2024, 1, 1), datetime.datetime(2024, 1, 1, tzinfo=ZONE), datetime.time(1, tzinfo=datetime.timezone.utc),
+    range(3), b"x", memoryview(b"x"), None, 1j, {1}, collections.deque([1]), collections.UserString("x"),
+]
+# what has these members, or these in a table
+KINDS = [
+    lambda members, table: members, lambda members, table: tuple(members), lambda members, table: table,
+    lambda members, table: List(members), lambda members, table: Tuple(*members), lambda members, table: Table(table),
+    lambda members, table: collections.OrderedDict(table), lambda members, table: collections.UserDict(table),
+    lambda members, table: collections.UserList(members), lambda members, table: collections.ChainMap(table, {"z": 1}),
+    lambda members, table: types.MappingProxyType(table), lambda members, table: collections.deque(members),
+]
 
 
 class Toml(unittest.TestCase):
@@ -577,25 +651,140 @@ class Toml(unittest.TestCase):
         for seed in range(1_000):
             dice = random.Random(seed)
             table = {key: self.value(dice, 4) for key in dice.sample(self.KEYS, dice.randrange(5))}
-            again = READER.loads(_toml.document(table))
+            again = READER.loads(_toml.document(table).decode())
             self.assertEqual(again, table)
             # 1 and True, 0.0 and -0.0 are equal
             self.assertEqual(repr(again), repr(table))
-        (number,) = READER.loads(_toml.document({"a": math.nan})).values()
+        (number,) = READER.loads(_toml.document({"a": math.nan}).decode()).values()
         self.assertTrue(math.isnan(number))
 
+    def same(self, table):
+        """What both writers make of a table: the bytes, or the error."""
+        return self.same_of(lambda: table)
+
+    def same_of(self, make):
+        """The same of a table that is made anew for each of them."""
+        found = []
+        for writer in (_toml, toml_writer):
+            try:
+                found.append(writer.document(make()))
+            except RecursionError as error:
+                found.append(type(error))
+            except (TypeError, ValueError, RuntimeError) as error:
+                found.append((type(error), str(error)))
+        self.assertEqual(*found)
+        return found[0]
+
+    def odd(self, dice, depth):
+        """A value that TOML may have or not, of types of its own."""
+        if depth == 0 or dice.random() < 0.4:
+            return dice.choice([*self.LEAVES, *ODD_LEAVES])
+        members = [self.odd(dice, depth - 1) for _ in range(dice.randrange(4))]
+        keys = [dice.choice([*self.KEYS, Text("k\x7f"), "\ud800"] + [5, None] * (dice.random() < 0.05)) for _ in members]
+        return dice.choice(KINDS)(members, dict(zip(keys, members)))
+
+    def test_as_the_writer_in_python(self):
+        counts = collections.Counter()
+        for seed in range(4_000):
+            dice = random.Random(seed)
+            table = {key: self.odd(dice, dice.randrange(4)) for key in dice.sample(self.KEYS, dice.randrange(4))}
+            counts[type(self.same(dice.choice([dict, dict, Table, collections.OrderedDict])(table)))] += 1
+        self.assertGreater(min(counts[bytes], counts[tuple]), 500)
+        for table in (sound_lock(random.Random(seed)) for seed in range(300)):
+            self.assertIsInstance(self.same(table), bytes)
+
+    def test_texts(self):
+        """Each character, and each kind of byte at each place of a word and at its ends."""
+        self.same({"a": "".join(map(chr, range(0xd800))), "b": "".join(map(chr, range(0xe000, 0x11000)))})
+        self.same({"a": [chr(number) for number in range(0xd700, 0xe100) if not 0xd800 <= number < 0xe000]})
+        for sign in ("\x00", "\x1f", " ", "!", '"', "#", "[", "\\", "]", "~", "\x7f", "\x80", "\u00ff", "\ud800", "\udfff", "\U0010ffff"):
+            for length in range(20):
+                self.same({"x" * length: ["x" * place + sign + "x" * (length - place) for place in range(length + 1)]})
+        self.same({"a": '"\\' * 100_000 + "\x7f" * 100_000})
+
+    def test_numbers(self):
+        dice = random.Random(1)
+        for bits in range(66):
+            for number in (1 << bits, (1 << bits) - 1, dice.getrandbits(bits + 1)):
+                self.same({"a": number})
+                self.same({"a": [-number, Number(number)]})
+        for _ in range(2_000):
+            (number,) = struct.unpack("d", struct.pack("Q", dice.getrandbits(64)))
+            self.same({"a": [number, Real(number), dice.random() * 10.0 ** dice.randrange(30)]})
+
+    def test_deep(self):
+        def nested(value, make, depth):
+            for _ in range(depth):
+                value = make(value)
+            return {"a": value}
+
+        makers = [lambda value: [value], lambda value: (value,), lambda value: {"k": value}, lambda value: Table(k=value), lambda value: Tuple(value)]
+        for make in makers:
+            self.same(nested(1, make, 100))
+            for depth in (1_000, 100_000):
+                with self.assertRaises(RecursionError):
+                    _toml.document(nested(1, make, depth))
+        cyclic = {"list": []}
+        cyclic["list"].append(cyclic)
+        with self.assertRaises(RecursionError):
+            _toml.document(cyclic)
+        # what isn't judged may be so
+        self.assertIs(ours.Pylock.from_dict(whole({"tool": cyclic})).tool, cyclic)
+        with self.assertRaises(ours.PylockValidationError) as caught:
+            ours.Pylock.from_dict(whole({"created-by": cyclic}))
+        self.assertEqual(caught.exception.context, "created-by")
+
+    def test_changed_meanwhile(self):
+        """A table or a list that one of its members changes ends as Python's own iterator ends."""
+        class Changing(datetime.datetime):
+            def isoformat(self):
+                change(holders[-1])
+                return "2024-01-01"
+
+        def holder(make):
+            holders.append(make())
+            return holders[-1]
+
+        def table():
+            return {"first": Changing(2024, 1, 1), "middle": "x" * 100, "last": "y" * 100}
+
+        def numbers():
+            return [Changing(2024, 1, 1), "x" * 100, "y" * 100]
+
+        holders, found = [], set()
+        for change in (dict.clear, dict.popitem, lambda table: table.update(new=1), lambda table: table.update(last=[1]), renamed,
+                       lambda table: [renamed(table) for _ in range(9)], lambda table: table.update(first=1)):
+            for make in (lambda: holder(table), lambda: {"a": holder(table)}, lambda: {"a": [holder(table), 1]}):
+                found.add(type(self.same_of(make)))
+        for change in (list.clear, list.pop, lambda numbers: len(numbers) < 9 and numbers.append("new"), lambda numbers: len(numbers) < 9 and numbers.insert(0, 5)):
+            found.add(type(self.same_of(lambda: {"a": holder(numbers), "b": 1})))
+        self.assertEqual(found, {bytes, tuple})
+
+    @unittest.skipUnless(hasattr(signal, "setitimer"), "there are no timers")
+    def test_interrupted(self):
+        class Endless(collections.abc.Sequence):
+            __len__ = __getitem__ = None
+
+            def __iter__(self):
+                return itertools.repeat(5)
+
+        def handler(number, frame):
+            raise KeyboardInterrupt
+
+        before = signal.signal(signal.SIGALRM, handler)
+        signal.setitimer(signal.ITIMER_REAL, 0.1)
+        try:
+            self.assertRaises(KeyboardInterrupt, _toml.document, {"a": Endless()})
+        finally:
+            signal.setitimer(signal.ITIMER_REAL, 0)
+            signal.signal(signal.SIGALRM, before)
+
     def test_types_made_from_those_of_toml(self):
-        class Text(str):
-            pass
-
-        class Number(int):
-            pass
-
         mapping = collections.OrderedDict([("a", Text("x"))])
         table = {
             "m": mapping, "n": Number(5), "t": ("a",), "u": collections.UserList([1]), "c": collections.ChainMap({"z": 1}),
         }
-        self.assertEqual(_toml.document(table), '"m"={"a"="x"}\n"n"=5\n"t"=["a"]\n"u"=[1]\n"c"={"z"=1}\n')
+        self.assertEqual(_toml.document(table), b'"m"={"a"="x"}\n"n"=5\n"t"=["a"]\n"u"=[1]\n"c"={"z"=1}\n')
 
     def test_refused(self):
         offset = datetime.timezone(datetime.timedelta(seconds=1))
