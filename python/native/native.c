@@ -55,17 +55,22 @@ PyObject *new_object(State *state, PyTypeObject *type)
     return self;
 }
 
-void free_object(PyObject *self)
+void free_memory(PyObject *self)
 {
-    PyTypeObject *type = Py_TYPE(self);
-    leave_state(((Object *)self)->state);
 #if NATIVE_IS_MODERN
     /* what all of the module's types have, and classes that are made from them */
     PyObject_GC_Del(self);
 #else
-    freefunc free_memory = (freefunc)PyType_GetSlot(type, Py_tp_free);
-    free_memory(self);
+    freefunc free_it = (freefunc)PyType_GetSlot(Py_TYPE(self), Py_tp_free);
+    free_it(self);
 #endif
+}
+
+void free_object(PyObject *self)
+{
+    PyTypeObject *type = Py_TYPE(self);
+    leave_state(((Object *)self)->state);
+    free_memory(self);
     /* each instance of a type that was made at run time holds it */
     Py_DECREF(type);
 }
@@ -159,10 +164,20 @@ static int module_traverse(PyObject *module, visitproc visit, void *arg)
     return 0;
 }
 
+/* What frees memory looks at the type; no more is kept once the state has it no more. */
+static void clear_spare_tags(State *state)
+{
+    PyTypeObject *type = state->tag;
+    state->tag = NULL;
+    while (state->spare_count > 0) free_memory(state->spare_tags[--state->spare_count]);
+    Py_XDECREF(type);
+}
+
 static int module_clear(PyObject *module)
 {
     State *state = state_of(module);
     if (state == NULL) return 0;
+    clear_spare_tags(state);
     EACH(state, Py_CLEAR)
     return 0;
 }

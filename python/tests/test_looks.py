@@ -266,6 +266,15 @@ def told(marker, environment, **named):
         return type(error).__name__, str(error)
 
 
+class Text(str):
+    def lower(self):
+        raise ZeroDivisionError
+
+
+class Noted(Tag):
+    """A class that is made from that of tags, with attributes of its own."""
+
+
 class Tags(unittest.TestCase):
     def test_two_ways(self):
         """A tag of a text is that of its pieces, of any length and letters."""
@@ -282,10 +291,49 @@ class Tags(unittest.TestCase):
         self.assertNotEqual(Tag("a-b", "c", "d"), Tag("a", "b-c", "d"))
         self.assertEqual(str(Tag("a-b", "c", "d")), str(Tag("a", "b-c", "d")))
 
+    def test_ways(self):
+        """Equal tags have one hash and one text, however they were made."""
+        for pieces in (
+            ("cp312", "abi3", "win32"), ("Py3", "NONE", "any"), ("py3", "none", "manylinux_2_17_x86_64"),
+            ("\u00c4", "b", "\ud800"),
+            ("", "", ""), ("a" * 300, "b" * 300, "C" * 300), ("a", "b", "c" * 511), ("I\u0307", "\u0130", "\u03a3\u03a3"),
+            ("a\0b", "\0", "c\0"), ("abcdefgh", "abcdefg", "abcdefghi"), ("abcdefgH", "abcdefG", "Abcdefghi"),
+        ):
+            small = [piece.lower() for piece in pieces]
+            text = "-".join(pieces)
+            ways = [
+                Tag(*pieces), Tag(*small), Tag(*map(Text, pieces)), Tag(pieces[0], platform=pieces[2], abi=pieces[1]),
+                Noted(*pieces), *parse_tag(text), *parse_tag("-".join(small)), *parse_tag(text),
+            ]
+            ways += [copy.copy(ways[0]), copy.deepcopy(ways[1])]
+            ways += [pickle.loads(pickle.dumps(one, 2)) for one in (ways[0], ways[4], ways[5])]
+            parts = [[one.interpreter, one.abi, one.platform] for one in ways]
+            self.assertEqual({(hash(one), str(one)) for one in ways}, {(hash(ways[0]), "-".join(small))})
+            self.assertEqual(parts, [small] * len(ways))
+            self.assertEqual({type(piece) for part in parts for piece in part}, {str})
+            self.assertTrue(all(one == other and not one != other for one in ways for other in ways) and len(set(ways)) == 1)
+        (found,) = parse_wheel_filename("a-1-cp312-abi3-win32.whl")[3]
+        self.assertEqual((found, hash(found)), (Tag("cp312", "abi3", "win32"), hash(Tag("cp312", "abi3", "win32"))))
+
+    def test_classes(self):
+        """A tag is the compiled type itself, which others may be made from; it can't be changed."""
+        self.assertIs(Tag, _native.Tag)
+        self.assertEqual((Tag.__module__, Tag.__qualname__), ("pylock._tag", "Tag"))
+        one = Noted("a", "b", "c")
+        one.label = "x"
+        self.assertEqual((pickle.loads(pickle.dumps(one)), type(pickle.loads(pickle.dumps(one)))), (one, Noted))
+        self.assertIs(copy.copy(one), one)
+        for one in (Tag("a", "b", "c"), *parse_tag("a-b-d")):
+            for name in ("interpreter", "abi", "platform", "label"):
+                self.assertRaises(AttributeError, setattr, one, name, "x")
+        self.assertNotEqual(one, "a-b-d")
+        given = ["a", "b", "c"]
+        self.assertIs(Tag(*given).platform, given[2])
+
     def test_hashes(self):
-        """Short texts of other letters have other hashes."""
+        """Short texts of other letters have other hashes, but for one in many thousands."""
         texts = list(short_texts("ab0", 5))
-        self.assertEqual(len({hash(Tag(text, "x", "y")) for text in texts}), len(texts))
+        self.assertGreater(len({hash(Tag(text, "x", "y")) for text in texts}), len(texts) - 3)
 
     def test_secret(self):
         """Each process has other hashes: nobody can choose what falls together."""
