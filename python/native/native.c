@@ -1,6 +1,7 @@
 /* The module itself: its state, and what stands in it. */
 #include "native.h"
 
+#include <stdatomic.h>
 #include <stdlib.h>
 
 enum { ABI = 1 };
@@ -11,9 +12,23 @@ State *state_of(PyObject *module)
     return place == NULL ? NULL : *place;
 }
 
+/* The state of a process in which there has been one alone, as in most, so that no type needs to be asked for its own. It is
+ * NULL until there is one, and `several` for ever from when there are others or it is gone. Interpreters with locks of their
+ * own may look here at any time, and each finds its own state or that it is to ask. */
+static State several;
+static _Atomic(State *) single;
+
+State *single_state(void)
+{
+    State *state = atomic_load_explicit(&single, memory_order_relaxed);
+    return state == &several ? NULL : state;
+}
+
 static void leave_state(State *state)
 {
-    if (--state->users == 0) PyMem_Free(state);
+    if (--state->users > 0) return;
+    atomic_store(&single, &several);
+    PyMem_Free(state);
 }
 
 bool is_of(PyObject *object, PyTypeObject *type)
@@ -216,6 +231,8 @@ static State *new_state(PyObject *module)
     memset(state, 0, sizeof(State));
     state->users = 1;
     *(State **)PyModule_GetState(module) = state;
+    State *none = NULL;
+    if (!atomic_compare_exchange_strong(&single, &none, state)) atomic_store(&single, &several);
     return state;
 }
 

@@ -92,6 +92,8 @@ typedef struct {
 } State;
 
 State *state_of(PyObject *module);
+/* The state, where the process has had but one; else NULL. */
+State *single_state(void);
 /* Whether the object is a module of this file, and so has such a state. */
 bool is_this_module(PyObject *object);
 /* The state, by one of the module's types or a class that is made from it. NULL with an exception where there is none. */
