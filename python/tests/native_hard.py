@@ -254,6 +254,24 @@ class Classes(unittest.TestCase):
         Noted.__init__ = lambda self, *given: 1 // 0
         self.assertEqual(str(module.parse_wheel("a-7-py3-none-any.whl")[1]), "7")
 
+    def test_tags_again(self):
+        """The memory of tags is used again, as long as their module has their type."""
+        for _ in range(3):
+            module = new_module()
+            kept = [module.Tag("p%d" % number, "n", "a") for number in range(200)]
+            del kept[::2]
+            kept += [module.Tag("q%d" % number, "n", "a") for number in range(200)]
+            self.assertEqual((len(kept), len({str(one) for one in kept}), len(set(kept))), (300, 300, 300))
+            module.itself = module, kept[:5], [FreeTag("a", "b", "c")]
+            del module
+            gc.collect()
+            del kept[:250]
+            kept.append(type(kept[0])("r", "n", "a"))
+            self.assertEqual({(one.abi, one.platform) for one in kept}, {("n", "a")})
+            kept.append(kept)
+            del kept
+            gc.collect()
+
     def test_cycles(self):
         """The collector finds objects that hold themselves."""
         for make in (lambda: Free("1.0"), lambda: FreeTag("a", "b", "c")):
