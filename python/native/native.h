@@ -138,6 +138,14 @@ bool cut_text(Text *rest, char sign, Text *piece);
 /* The bytes of a bytes object. */
 bool bytes_of(PyObject *object, Text *text);
 
+/* 30 bits of the hash of a text or of bytes, or -1 with an exception: an int of so many takes less time to make, and they are
+ * enough for millions. */
+static inline Py_hash_t short_hash(PyObject *object)
+{
+    Py_hash_t hash = PyObject_Hash(object);
+    return hash == -1 ? -1 : hash & 0x3fffffff;
+}
+
 /* The text itself as an exact str: a new reference. */
 PyObject *exact_text(PyObject *object);
 

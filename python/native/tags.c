@@ -119,11 +119,10 @@ static void leave_tag(PyObject *self)
 /* ---- making ---- */
 
 /* A tag of its text, which is in lower case, and of its pieces where they are known; it takes the references over. Python
- * mixes the hash of a text with a secret: who chooses tags can't make them fall together. Of its bits 30 are kept, as an
- * int of so many takes less time to make. */
+ * mixes the hash of a text with a secret: who chooses tags can't make them fall together. */
 static PyObject *made_tag(State *state, PyTypeObject *type, PyObject *text, PyObject *pieces)
 {
-    Py_hash_t hash = text == NULL ? -1 : PyObject_Hash(text);
+    Py_hash_t hash = text == NULL ? -1 : short_hash(text);
     Tag *tag = hash == -1 ? NULL : empty_tag(state, type);
     if (tag == NULL) {
         Py_XDECREF(text);
@@ -131,7 +130,7 @@ static PyObject *made_tag(State *state, PyTypeObject *type, PyObject *text, PyOb
         return NULL;
     }
     tag->text = text;
-    tag->hash = hash & 0x3fffffff;
+    tag->hash = hash;
     tag->pieces = pieces;
     return (PyObject *)tag;
 }

@@ -267,7 +267,7 @@ static Py_hash_t version_hash(PyObject *self)
     /* Python mixes bytes with a secret: who chooses versions can't make them fall together */
     PyObject *key = PyBytes_FromStringAndSize((const char *)version->key, (Py_ssize_t)version->length);
     if (key == NULL) return -1;
-    version->hash = PyObject_Hash(key);
+    version->hash = short_hash(key);
     Py_DECREF(key);
     return version->hash;
 }
