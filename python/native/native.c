@@ -1,6 +1,7 @@
 /* The module itself: its state, and what stands in it. */
 #include "native.h"
 
+#include <stdatomic.h>
 #include <stdlib.h>
 
 enum { ABI = 1 };
@@ -11,9 +12,23 @@ State *state_of(PyObject *module)
     return place == NULL ? NULL : *place;
 }
 
+/* The state of a process in which there has been one alone, as in most, so that no type needs to be asked for its own. It is
+ * NULL until there is one, and `several` for ever from when there are others or it is gone. Interpreters with locks of their
+ * own may look here at any time, and each finds its own state or that it is to ask. */
+static State several;
+static _Atomic(State *) single;
+
+State *single_state(void)
+{
+    State *state = atomic_load_explicit(&single, memory_order_relaxed);
+    return state == &several ? NULL : state;
+}
+
 static void leave_state(State *state)
 {
-    if (--state->users == 0) PyMem_Free(state);
+    if (--state->users > 0) return;
+    atomic_store(&single, &several);
+    PyMem_Free(state);
 }
 
 bool is_of(PyObject *object, PyTypeObject *type)
@@ -55,17 +70,22 @@ PyObject *new_object(State *state, PyTypeObject *type)
     return self;
 }
 
-void free_object(PyObject *self)
+void free_memory(PyObject *self)
 {
-    PyTypeObject *type = Py_TYPE(self);
-    leave_state(((Object *)self)->state);
 #if NATIVE_IS_MODERN
     /* what all of the module's types have, and classes that are made from them */
     PyObject_GC_Del(self);
 #else
-    freefunc free_memory = (freefunc)PyType_GetSlot(type, Py_tp_free);
-    free_memory(self);
+    freefunc free_it = (freefunc)PyType_GetSlot(Py_TYPE(self), Py_tp_free);
+    free_it(self);
 #endif
+}
+
+void free_object(PyObject *self)
+{
+    PyTypeObject *type = Py_TYPE(self);
+    leave_state(((Object *)self)->state);
+    free_memory(self);
     /* each instance of a type that was made at run time holds it */
     Py_DECREF(type);
 }
@@ -159,10 +179,20 @@ static int module_traverse(PyObject *module, visitproc visit, void *arg)
     return 0;
 }
 
+/* What frees memory looks at the type; no more is kept once the state has it no more. */
+static void clear_spare_tags(State *state)
+{
+    PyTypeObject *type = state->tag;
+    state->tag = NULL;
+    while (state->spare_count > 0) free_memory(state->spare_tags[--state->spare_count]);
+    Py_XDECREF(type);
+}
+
 static int module_clear(PyObject *module)
 {
     State *state = state_of(module);
     if (state == NULL) return 0;
+    clear_spare_tags(state);
     EACH(state, Py_CLEAR)
     return 0;
 }
@@ -201,6 +231,8 @@ static State *new_state(PyObject *module)
     memset(state, 0, sizeof(State));
     state->users = 1;
     *(State **)PyModule_GetState(module) = state;
+    State *none = NULL;
+    if (!atomic_compare_exchange_strong(&single, &none, state)) atomic_store(&single, &several);
     return state;
 }
 

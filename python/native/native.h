@@ -71,6 +71,8 @@ PyTypeObject *type_of_spec(PyObject *module, PyType_Spec *spec);
 
 /* ---- the state of the module ---- */
 
+enum { MOST_SPARE_TAGS = 64 };
+
 typedef struct {
     /* the module, and each object of its types: an object may outlive the module where the collector takes both apart */
     Py_ssize_t users;
@@ -82,11 +84,16 @@ typedef struct {
     PyObject *refuse, *refuse_input;
     /* tags that came before, by their texts */
     PyObject *tags;
+    /* the memory of tags that were let go of, as long as their type is there */
+    PyObject *spare_tags[MOST_SPARE_TAGS];
+    int spare_count;
     /* the numbers of what a mapping may have for markers, by their names */
     PyObject *places;
 } State;
 
 State *state_of(PyObject *module);
+/* The state, where the process has had but one; else NULL. */
+State *single_state(void);
 /* Whether the object is a module of this file, and so has such a state. */
 bool is_this_module(PyObject *object);
 /* The state, by one of the module's types or a class that is made from it. NULL with an exception where there is none. */
@@ -102,12 +109,42 @@ typedef struct {
     PyObject *holder;
 } Text;
 
-bool text_of(PyObject *object, Text *text);
-void text_done(Text *text);
+/* What `text_of` does with all but an exact str that has its bytes. */
+bool text_of_another(PyObject *object, Text *text);
+
+static inline bool text_of(PyObject *object, Text *text)
+{
+#if NATIVE_IS_MODERN
+    Py_ssize_t length;
+    text->holder = NULL;
+    if (PyUnicode_CheckExact(object)) {
+        text->bytes = (const uint8_t *)PyUnicode_AsUTF8AndSize(object, &length);
+        text->length = (size_t)length;
+        if (text->bytes != NULL) return true;
+        /* what was wrong is found again */
+        PyErr_Clear();
+    }
+#endif
+    return text_of_another(object, text);
+}
+
+static inline void text_done(Text *text)
+{
+    Py_CLEAR(text->holder);
+}
+
 /* Cuts off the piece up to the sign, or to the end. Whether the sign was there, and so another piece follows. */
 bool cut_text(Text *rest, char sign, Text *piece);
 /* The bytes of a bytes object. */
 bool bytes_of(PyObject *object, Text *text);
+
+/* 30 bits of the hash of a text or of bytes, or -1 with an exception: an int of so many takes less time to make, and they are
+ * enough for millions. */
+static inline Py_hash_t short_hash(PyObject *object)
+{
+    Py_hash_t hash = PyObject_Hash(object);
+    return hash == -1 ? -1 : hash & 0x3fffffff;
+}
 
 /* The text itself as an exact str: a new reference. */
 PyObject *exact_text(PyObject *object);
@@ -172,6 +209,8 @@ PyObject *no_new(PyTypeObject *type, PyObject *arguments, PyObject *named);
 PyObject *new_object(State *state, PyTypeObject *type);
 /* Frees such an object, whose parts were given up. */
 void free_object(PyObject *self);
+/* Frees the memory of an object that is none any more. */
+void free_memory(PyObject *self);
 
 PyObject *version_of_text(State *state, PyTypeObject *type, PyObject *text);
 /* The same of a text that the library gave as a version's normal form. */

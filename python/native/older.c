@@ -10,6 +10,8 @@ PyTypeObject *type_of_spec(PyObject *module, PyType_Spec *spec)
 
 State *state_of_type(PyTypeObject *type)
 {
+    State *only = single_state();
+    if (only != NULL) return only;
     /* the module's own type is the last before `object`: nothing in it stands on another of its types */
     for (;;) {
         PyTypeObject *base = PyType_GetSlot(type, Py_tp_base);
@@ -36,6 +38,8 @@ PyTypeObject *type_of_spec(PyObject *module, PyType_Spec *spec)
 
 State *state_of_type(PyTypeObject *type)
 {
+    State *only = single_state();
+    if (only != NULL) return only;
     PyObject *module = PyObject_GetAttrString((PyObject *)type, MODULE_NAME);
     if (module == NULL) return NULL;
     State *state = NULL;

@@ -6,7 +6,7 @@
 typedef struct {
     PyObject_HEAD
     State *state;
-    /* empty until it is asked, where a set made the specifier */
+    /* empty until it is asked */
     pylock_set slot;
     /* as it was given; NULL until the specifier is read, and where a set made it */
     PyObject *given;
@@ -116,12 +116,15 @@ static void forget(Specifier *specifier)
     for (size_t place = 0; place < sizeof had / sizeof *had; place++) Py_XDECREF(had[place]);
 }
 
-/* Reads the text into an empty slot. */
-static bool parse_slot(const Specifier *specifier, pylock_set *slot, PyObject *text, const Text *view)
+/* Whether the text is that of a set: the library judges the set first, and then refuses the empty text as a version. To keep
+ * the set as well takes longer, and is done when the specifier is asked. */
+static bool is_set(const Specifier *specifier, PyObject *text, const Text *view)
 {
-    int32_t code = pylock_set_parse(slot, view->bytes, view->length);
-    if (code != PYLOCK_OK) raise_refusal(specifier->state, code, text, "specifier");
-    return code == PYLOCK_OK;
+    bool admits;
+    int32_t code = pylock_admits(view->bytes, view->length, (const uint8_t *)"", 0, &admits);
+    if (code == PYLOCK_VERSION_SYNTAX) return true;
+    raise_refusal(specifier->state, code, text, "specifier");
+    return false;
 }
 
 /* Whether a text that is a set has one specifier: it is no set of none, and of several. */
@@ -134,23 +137,17 @@ static bool is_one(const Text *view)
 static bool read_specifier(Specifier *specifier, PyObject *text)
 {
     Text view;
-    pylock_set slot = {0};
     PyObject *given = NULL;
     if (!text_of(text, &view)) return false;
-    bool is_good = parse_slot(specifier, &slot, text, &view);
+    bool is_good = is_set(specifier, text, &view);
     if (is_good && is_one(&view))
         given = exact_text(text);
     else if (is_good)
         raise_refusal(specifier->state, PYLOCK_SET_SYNTAX, text, "specifier");
     text_done(&view);
-    if (given == NULL) {
-        pylock_set_free(&slot);
-        return false;
-    }
+    if (given == NULL) return false;
     /* what is given up may have finalizers that read another */
     while (specifier->given != NULL || specifier->text != NULL) forget(specifier);
-    pylock_set_free(&specifier->slot);
-    specifier->slot = slot;
     specifier->given = given;
     return true;
 }
@@ -332,20 +329,28 @@ static PyObject *get_is_exact(PyObject *self, void *closure)
     return has_text((Specifier *)self) ? PyBool_FromLong(((Specifier *)self)->sign == 3) : NULL;
 }
 
+/* Whether the specifier's text stands in its slot; else an exception says why not. */
+static bool fill_slot(Specifier *specifier)
+{
+    Text view;
+    PyObject *text = specifier_text((PyObject *)specifier);
+    if (text == NULL || !text_of(text, &view)) {
+        Py_XDECREF(text);
+        return false;
+    }
+    /* what else ran meanwhile may have filled it */
+    int32_t code = specifier->slot.full ? PYLOCK_OK : pylock_set_parse(&specifier->slot, view.bytes, view.length);
+    text_done(&view);
+    if (code != PYLOCK_OK) raise_refusal(specifier->state, code, text, "specifier");
+    Py_DECREF(text);
+    return code == PYLOCK_OK;
+}
+
 /* The code of the library's answer, or -1 with an exception. `text` is then that of the version. */
 static int32_t ask_specifier(Specifier *specifier, PyObject *version, bool *admits, PyObject **text)
 {
     Text view;
-    if (!specifier->slot.full) {
-        PyObject *own = specifier_text((PyObject *)specifier);
-        bool is_good = own != NULL && text_of(own, &view);
-        if (is_good) {
-            is_good = specifier->slot.full || parse_slot(specifier, &specifier->slot, own, &view);
-            text_done(&view);
-        }
-        Py_XDECREF(own);
-        if (!is_good) return -1;
-    }
+    if (!specifier->slot.full && !fill_slot(specifier)) return -1;
     *text = given_text(specifier->state, version);
     if (*text == NULL || !text_of(*text, &view)) return -1;
     int32_t code = pylock_set_admits(&specifier->slot, view.bytes, view.length, admits);

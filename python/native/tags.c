@@ -6,13 +6,51 @@ enum { PIECES = 3, MOST_TAGS = 4096 };
 typedef struct {
     PyObject_HEAD
     State *state;
-    /* NULL until they were asked for, where the tag was made of the text */
-    PyObject *pieces[PIECES];
-    /* the pieces with dashes between, an exact str: NULL until it was asked for, where the tag was made of pieces */
+    /* the pieces with dashes between, an exact str, and its hash */
     PyObject *text;
+    Py_hash_t hash;
+    /* a tuple of three exact str: NULL until it was asked for, where the tag was made of the text */
+    PyObject *pieces;
 } Tag;
 
-/* ---- making ---- */
+/* ---- texts in lower case ---- */
+
+/* Not 0 where one of eight bytes isn't ASCII, or is one of its capitals. */
+static inline uint64_t greater_of(uint64_t word)
+{
+    const uint64_t ones = 0x0101010101010101, high = 0x80 * ones, low = word & ~high;
+    /* the high bit of each byte: set from 'A' on, and behind 'Z' */
+    uint64_t from_first = low + (0x80 - 'A') * ones, behind_last = low + (0x80 - 'Z' - 1) * ones;
+    return (word | (from_first & ~behind_last)) & high;
+}
+
+/* Copies fewer than eight bytes, and gives them in a word, in which some may stand twice. */
+static inline uint64_t last_word(uint8_t *out, const uint8_t *at, size_t length)
+{
+    uint32_t first, last;
+    uint64_t word = 0;
+    if (length < sizeof first) {
+        for (size_t place = 0; place < length; place++) word = word << 8 | (out[place] = at[place]);
+        return word;
+    }
+    memcpy(&first, at, sizeof first);
+    memcpy(&last, at + length - sizeof last, sizeof last);
+    memcpy(out, &first, sizeof first);
+    memcpy(out + length - sizeof last, &last, sizeof last);
+    return (uint64_t)first << 32 | last;
+}
+
+/* Copies a text, and tells whether it is ASCII without capitals: it is in lower case then, and most are. */
+static inline bool copy_small(uint8_t *out, const uint8_t *at, size_t length)
+{
+    uint64_t found = 0, word;
+    for (; length >= sizeof word; out += sizeof word, at += sizeof word, length -= sizeof word) {
+        memcpy(&word, at, sizeof word);
+        memcpy(out, &word, sizeof word);
+        found |= greater_of(word);
+    }
+    return (found | greater_of(last_word(out, at, length))) == 0;
+}
 
 /* What the method `lower` of another object than a text gives, which has to be one. */
 static PyObject *lower_of_another(PyObject *object)
@@ -25,148 +63,96 @@ static PyObject *lower_of_another(PyObject *object)
     return exact;
 }
 
-/* The text in lower case, as str.lower has it: the text itself where it has no ASCII letter that is greater. */
+/* The text in lower case, as str.lower has it. */
 static PyObject *lower(PyObject *object)
 {
-    Text text;
     if (!PyUnicode_Check(object)) return lower_of_another(object);
-    if (!text_of(object, &text)) return NULL;
-    /* to look at all is faster than to look whether there is more to look at */
-    uint8_t others = 0;
-    for (size_t place = 0; place < text.length; place++) {
-        uint8_t letter = text.bytes[place];
-        others |= (letter & 0x80) | ((uint8_t)(letter - 'A') < 26);
-    }
-    text_done(&text);
-    PyObject *exact = exact_text(object);
-    if (others == 0 || exact == NULL) return exact;
     /* of a class that is made from str, its own `lower` isn't asked */
-    PyObject *small = PyObject_CallMethod(exact, "lower", NULL);
-    Py_DECREF(exact);
+    PyObject *exact = exact_text(object);
+    PyObject *small = exact == NULL ? NULL : PyObject_CallMethod(exact, "lower", NULL);
+    Py_XDECREF(exact);
     return small;
 }
 
-/* A tag of three texts in lower case; it takes the references over. */
-static PyObject *tag_of_pieces(State *state, PyTypeObject *type, PyObject *const *pieces)
+/* The tuple of three texts in lower case. */
+static PyObject *lower_pieces(PyObject *const *given)
 {
-    bool are_there = true;
-    Tag *tag = (Tag *)new_object(state, type);
-    for (int index = 0; index < PIECES; index++) {
-        are_there = are_there && pieces[index] != NULL;
-        if (tag != NULL)
-            tag->pieces[index] = pieces[index];
-        else
-            Py_XDECREF(pieces[index]);
+    PyObject *pieces[PIECES], *tuple = NULL;
+    int count = 0;
+    while (count < PIECES && (pieces[count] = lower(given[count])) != NULL) count++;
+    if (count == PIECES) tuple = PyTuple_Pack(PIECES, pieces[0], pieces[1], pieces[2]);
+    while (count > 0) Py_DECREF(pieces[--count]);
+    return tuple;
+}
+
+/* ---- memory ---- */
+
+/* An empty tag, in the memory of one that was let go of, if there is any: what Python does for tuples and numbers. */
+static Tag *empty_tag(State *state, PyTypeObject *type)
+{
+    if (type != state->tag || state->spare_count == 0) return (Tag *)new_object(state, type);
+    Tag *tag = (Tag *)PyObject_Init(state->spare_tags[--state->spare_count], type);
+    tag->state = state;
+    state->users++;
+    tag->text = tag->pieces = NULL;
+#if NATIVE_IS_MODERN
+    PyObject_GC_Track(tag);
+#endif
+    return tag;
+}
+
+/* Keeps the memory of a tag whose parts were given up, or frees it. */
+static void leave_tag(PyObject *self)
+{
+    State *state = ((Tag *)self)->state;
+    PyTypeObject *type = Py_TYPE(self);
+    if (type != state->tag || state->spare_count == MOST_SPARE_TAGS) {
+        free_object(self);
+        return;
     }
-    if (tag == NULL) return NULL;
-    if (!are_there) Py_CLEAR(tag);
+    /* the module has its type still, and so its state */
+    state->spare_tags[state->spare_count++] = self;
+    state->users--;
+    Py_DECREF(type);
+}
+
+/* ---- making ---- */
+
+/* A tag of its text, which is in lower case, and of its pieces where they are known; it takes the references over. Python
+ * mixes the hash of a text with a secret: who chooses tags can't make them fall together. */
+static PyObject *made_tag(State *state, PyTypeObject *type, PyObject *text, PyObject *pieces)
+{
+    Py_hash_t hash = text == NULL ? -1 : short_hash(text);
+    Tag *tag = hash == -1 ? NULL : empty_tag(state, type);
+    if (tag == NULL) {
+        Py_XDECREF(text);
+        Py_XDECREF(pieces);
+        return NULL;
+    }
+    tag->text = text;
+    tag->hash = hash;
+    tag->pieces = pieces;
     return (PyObject *)tag;
 }
 
-/* The three texts of a call: borrowed references. */
-static bool given_pieces(PyObject *arguments, PyObject *named, PyObject **given)
+/* The text of three exact str that are short and in lower case; NULL, without an exception, of others. */
+static PyObject *small_text(PyObject *tuple)
 {
-    static char *words[] = {"interpreter", "abi", "platform", NULL};
-    if (named != NULL || PyTuple_Size(arguments) != PIECES)
-        return PyArg_ParseTupleAndKeywords(arguments, named, "OOO:Tag", words, &given[0], &given[1], &given[2]);
-    for (int index = 0; index < PIECES; index++) given[index] = PyTuple_GetItem(arguments, index);
-    return true;
-}
-
-static PyObject *tag_new(PyTypeObject *type, PyObject *arguments, PyObject *named)
-{
-    PyObject *given[PIECES], *pieces[PIECES] = {NULL, NULL, NULL};
-    State *state = state_of_type(type);
-    if (state == NULL || !given_pieces(arguments, named, given)) return NULL;
+    uint8_t near[RESULT_ROOM];
+    size_t written = 0;
     for (int index = 0; index < PIECES; index++) {
-        pieces[index] = lower(given[index]);
-        if (pieces[index] == NULL) break;
+        Text text;
+        PyObject *object = PyTuple_GetItem(tuple, index);
+        if (!PyUnicode_CheckExact(object) || !text_of(object, &text)) break;
+        if (index > 0) near[written++] = '-';
+        bool is_one = text.length < RESULT_ROOM - written && copy_small(near + written, text.bytes, text.length);
+        written += text.length;
+        text_done(&text);
+        if (!is_one) return NULL;
+        if (index + 1 == PIECES) return PyUnicode_DecodeLatin1((const char *)near, (Py_ssize_t)written, NULL);
     }
-    return tag_of_pieces(state, type, pieces);
-}
-
-static void tag_dealloc(PyObject *self)
-{
-    Tag *tag = (Tag *)self;
-    if (NATIVE_IS_MODERN) PyObject_GC_UnTrack(self);
-    for (int index = 0; index < PIECES; index++) Py_CLEAR(tag->pieces[index]);
-    Py_CLEAR(tag->text);
-    free_object(self);
-}
-
-/* ---- what is asked of a tag ---- */
-
-/* The piece of a text, behind so many dashes; the last one goes to the end. */
-static Text piece_of(Text text, int index)
-{
-    for (int place = 0;; place++) {
-        const uint8_t *dash = place + 1 < PIECES && text.length > 0 ? memchr(text.bytes, '-', text.length) : NULL;
-        size_t length = dash == NULL ? text.length : (size_t)(dash - text.bytes);
-        if (place == index) {
-            text.length = length;
-            return text;
-        }
-        size_t taken = length + (dash != NULL);
-        text.bytes += taken;
-        text.length -= taken;
-    }
-}
-
-static bool cut_pieces(Tag *tag)
-{
-    Text view;
-    PyObject *pieces[PIECES];
-    bool is_good = true;
-    if (!text_of(tag->text, &view)) return false;
-    for (int index = 0; index < PIECES; index++) {
-        Text piece = piece_of(view, index);
-        pieces[index] = is_good ? str_with_halves(piece.bytes, piece.length) : NULL;
-        is_good = pieces[index] != NULL;
-    }
-    text_done(&view);
-    for (int index = 0; index < PIECES; index++) {
-        /* a finalizer that ran meanwhile may have asked for them too */
-        if (is_good && tag->pieces[index] == NULL)
-            tag->pieces[index] = pieces[index];
-        else
-            Py_XDECREF(pieces[index]);
-    }
-    return is_good;
-}
-
-static bool has_pieces(Tag *tag)
-{
-    return tag->pieces[0] != NULL || cut_pieces(tag);
-}
-
-/* Tags of other texts differ; those of one text may too, as a piece may have a dash where it was given alone. */
-static int are_equal(Tag *left, Tag *right)
-{
-    if (left == right) return 1;
-    if (left->text != NULL && right->text != NULL && left->text != right->text) {
-        int order = PyUnicode_Compare(left->text, right->text);
-        if (order == -1 && PyErr_Occurred()) return -1;
-        if (order != 0) return 0;
-    }
-    if (!has_pieces(left) || !has_pieces(right)) return -1;
-    for (int index = 0; index < PIECES; index++) {
-        if (left->pieces[index] == right->pieces[index]) continue;
-        int order = PyUnicode_Compare(left->pieces[index], right->pieces[index]);
-        if (order == -1 && PyErr_Occurred()) return -1;
-        if (order != 0) return 0;
-    }
-    return 1;
-}
-
-static PyObject *tag_compare(PyObject *left, PyObject *right, int how)
-{
-    bool is_tag = Py_TYPE(left) == Py_TYPE(right) || is_of(right, ((Tag *)left)->state->tag);
-    if (!is_tag || (how != Py_EQ && how != Py_NE)) {
-        Py_INCREF(Py_NotImplemented);
-        return Py_NotImplemented;
-    }
-    int equal = are_equal((Tag *)left, (Tag *)right);
-    return equal < 0 ? NULL : PyBool_FromLong(equal == (how == Py_EQ));
+    PyErr_Clear();
+    return NULL;
 }
 
 /* The bytes of three texts with dashes between, as a str. */
@@ -186,39 +172,109 @@ static PyObject *joined(const Text *parts)
     return result;
 }
 
-static PyObject *joined_pieces(const Tag *tag)
+static PyObject *joined_pieces(PyObject *pieces)
 {
     Text parts[PIECES];
     int count = 0;
-    while (count < PIECES && text_of(tag->pieces[count], &parts[count])) count++;
+    while (count < PIECES && text_of(PyTuple_GetItem(pieces, count), &parts[count])) count++;
     PyObject *text = count == PIECES ? joined(parts) : NULL;
     while (count > 0) text_done(&parts[--count]);
     return text;
 }
 
-static PyObject *tag_str(PyObject *self)
+static PyObject *tag_new(PyTypeObject *type, PyObject *arguments, PyObject *named)
 {
-    Tag *tag = (Tag *)self;
-    if (tag->text == NULL) {
-        PyObject *text = joined_pieces(tag);
-        if (text == NULL) return NULL;
-        /* a finalizer that ran meanwhile may have asked for it too */
-        if (tag->text == NULL)
-            tag->text = text;
-        else
-            Py_DECREF(text);
+    static char *words[] = {"interpreter", "abi", "platform", NULL};
+    PyObject *given[PIECES];
+    State *state = state_of_type(type);
+    if (state == NULL) return NULL;
+    bool are_three = named == NULL && PyTuple_CheckExact(arguments) && PyTuple_Size(arguments) == PIECES;
+    PyObject *text = are_three ? small_text(arguments) : NULL;
+    if (text != NULL) {
+        /* the tuple of the call becomes that of the pieces */
+        Py_INCREF(arguments);
+        return made_tag(state, type, text, arguments);
     }
-    Py_INCREF(tag->text);
-    return tag->text;
+    if (!PyArg_ParseTupleAndKeywords(arguments, named, "OOO:Tag", words, &given[0], &given[1], &given[2])) return NULL;
+    PyObject *pieces = lower_pieces(given);
+    return pieces == NULL ? NULL : made_tag(state, type, joined_pieces(pieces), pieces);
 }
 
-/* That of the text, which Python mixes with a secret: who chooses tags can't make them fall together. */
+static void tag_dealloc(PyObject *self)
+{
+    Tag *tag = (Tag *)self;
+    if (NATIVE_IS_MODERN) PyObject_GC_UnTrack(self);
+    Py_CLEAR(tag->pieces);
+    Py_CLEAR(tag->text);
+    leave_tag(self);
+}
+
+/* ---- what is asked of a tag ---- */
+
+/* The pieces of a text, which has a dash behind each but the last. */
+static PyObject *cut_pieces(PyObject *text)
+{
+    Text view, piece;
+    PyObject *pieces[PIECES], *tuple = NULL;
+    int count = 0;
+    if (!text_of(text, &view)) return NULL;
+    Text rest = view;
+    for (; count < PIECES; count++) {
+        cut_text(&rest, '-', &piece);
+        if ((pieces[count] = str_with_halves(piece.bytes, piece.length)) == NULL) break;
+    }
+    text_done(&view);
+    if (count == PIECES) tuple = PyTuple_Pack(PIECES, pieces[0], pieces[1], pieces[2]);
+    while (count > 0) Py_DECREF(pieces[--count]);
+    return tuple;
+}
+
+/* A borrowed reference. */
+static PyObject *tag_pieces(Tag *tag)
+{
+    if (tag->pieces == NULL) {
+        PyObject *pieces = cut_pieces(tag->text);
+        /* a finalizer that ran meanwhile may have asked for them too */
+        if (tag->pieces == NULL)
+            tag->pieces = pieces;
+        else
+            Py_XDECREF(pieces);
+    }
+    return tag->pieces;
+}
+
+/* Tags of other texts differ; those of one text may too, as a piece may have a dash where it was given alone. */
+static int are_equal(Tag *left, Tag *right)
+{
+    if (left == right) return 1;
+    if (left->hash != right->hash) return 0;
+    int equal = left->text == right->text ? 1 : PyObject_RichCompareBool(left->text, right->text, Py_EQ);
+    if (equal <= 0) return equal;
+    PyObject *pieces[] = {tag_pieces(left), tag_pieces(right)};
+    return pieces[0] == NULL || pieces[1] == NULL ? -1 : PyObject_RichCompareBool(pieces[0], pieces[1], Py_EQ);
+}
+
+static PyObject *tag_compare(PyObject *left, PyObject *right, int how)
+{
+    bool is_tag = Py_TYPE(left) == Py_TYPE(right) || is_of(right, ((Tag *)left)->state->tag);
+    if (!is_tag || (how != Py_EQ && how != Py_NE)) {
+        Py_INCREF(Py_NotImplemented);
+        return Py_NotImplemented;
+    }
+    int equal = are_equal((Tag *)left, (Tag *)right);
+    return equal < 0 ? NULL : PyBool_FromLong(equal == (how == Py_EQ));
+}
+
+static PyObject *tag_str(PyObject *self)
+{
+    PyObject *text = ((Tag *)self)->text;
+    Py_INCREF(text);
+    return text;
+}
+
 static Py_hash_t tag_hash(PyObject *self)
 {
-    PyObject *text = tag_str(self);
-    Py_hash_t hash = text == NULL ? -1 : PyObject_Hash(text);
-    Py_XDECREF(text);
-    return hash;
+    return ((Tag *)self)->hash;
 }
 
 static PyObject *tag_repr(PyObject *self)
@@ -228,11 +284,33 @@ static PyObject *tag_repr(PyObject *self)
 
 static PyObject *get_piece(PyObject *self, void *place)
 {
-    Tag *tag = (Tag *)self;
-    PyObject *piece = has_pieces(tag) ? tag->pieces[(intptr_t)place] : NULL;
+    PyObject *pieces = tag_pieces((Tag *)self);
+    PyObject *piece = pieces == NULL ? NULL : PyTuple_GetItem(pieces, (Py_ssize_t)(intptr_t)place);
     Py_XINCREF(piece);
     return piece;
 }
+
+/* A tag can't be changed: a copy is the tag itself. */
+static PyObject *tag_copy(PyObject *self, PyObject *memo)
+{
+    (void)memo;
+    Py_INCREF(self);
+    return self;
+}
+
+static PyObject *tag_reduce(PyObject *self, PyObject *nothing)
+{
+    (void)nothing;
+    PyObject *pieces = tag_pieces((Tag *)self);
+    return pieces == NULL ? NULL : PyTuple_Pack(2, (PyObject *)Py_TYPE(self), pieces);
+}
+
+static PyMethodDef tag_methods[] = {
+    {"__copy__", tag_copy, METH_NOARGS, PyDoc_STR("The tag itself.")},
+    {"__deepcopy__", tag_copy, METH_O, PyDoc_STR("The tag itself.")},
+    {"__reduce__", tag_reduce, METH_NOARGS, PyDoc_STR("The class and the pieces, for pickles.")},
+    {NULL, NULL, 0, NULL},
+};
 
 static PyGetSetDef tag_getters[] = {
     {"interpreter", get_piece, NULL, PyDoc_STR("The part of the Python, as cp312."), (void *)(intptr_t)0},
@@ -241,8 +319,14 @@ static PyGetSetDef tag_getters[] = {
     {NULL, NULL, NULL, NULL, NULL},
 };
 
+#define TAG_TEXT                                                                                                         \
+    "Tag(interpreter, abi, platform)\n--\n\n"                                                                            \
+    "A tag of three parts, in lower case: `interpreter`, `abi` and `platform`.\n\n"                                       \
+    ">>> Tag(\"CP312\", \"abi3\", \"any\")\n<cp312-abi3-any>\n"                                                           \
+    ">>> Tag(\"py3\", \"none\", \"any\") == Tag(\"PY3\", \"none\", \"any\")\nTrue\n"
+
 static PyType_Slot tag_slots[] = {
-    {Py_tp_doc, (void *)PyDoc_STR("Tag(interpreter, abi, platform)\n--\n\nA tag: the base of the class in pylock.tags.")},
+    {Py_tp_doc, (void *)PyDoc_STR(TAG_TEXT)},
     {Py_tp_new, tag_new},
     {Py_tp_dealloc, tag_dealloc},
 #if NATIVE_IS_MODERN
@@ -252,12 +336,14 @@ static PyType_Slot tag_slots[] = {
     {Py_tp_richcompare, tag_compare},
     {Py_tp_str, tag_str},
     {Py_tp_repr, tag_repr},
+    {Py_tp_methods, tag_methods},
     {Py_tp_getset, tag_getters},
     {0, NULL},
 };
 
+/* the Python layer has this type itself: a class in Python that is made from it would take longer to make and to free */
 static PyType_Spec tag_spec = {
-    .name = "pylock._native.Tag",
+    .name = "pylock._tag.Tag",
     .basicsize = sizeof(Tag),
     .flags = Py_TPFLAGS_DEFAULT | Py_TPFLAGS_BASETYPE | NATIVE_COLLECTED,
     .slots = tag_slots,
@@ -265,16 +351,15 @@ static PyType_Spec tag_spec = {
 
 /* ---- tags of the names of wheels, which come again ---- */
 
-/* The tag of a text, which is cut where a piece is asked for. */
+/* The tag of an exact str of three pieces, which are cut where one is asked for. */
 static PyObject *cut_tag(State *state, PyObject *text)
 {
-    PyObject *small = lower(text);
-    Tag *tag = small == NULL ? NULL : (Tag *)new_object(state, state->tag_class);
-    if (tag == NULL)
-        Py_XDECREF(small);
-    else
-        tag->text = small;
-    return (PyObject *)tag;
+    Text view;
+    uint8_t near[RESULT_ROOM];
+    if (!text_of(text, &view)) return NULL;
+    bool is_small = view.length <= RESULT_ROOM && copy_small(near, view.bytes, view.length);
+    text_done(&view);
+    return made_tag(state, state->tag_class, is_small ? exact_text(text) : lower(text), NULL);
 }
 
 static PyObject *tag_of_text(State *state, PyObject *text)

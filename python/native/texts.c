@@ -10,7 +10,7 @@ static bool text_with_half_characters(PyObject *object, Text *text)
     return text->holder != NULL && bytes_of(text->holder, text);
 }
 
-bool text_of(PyObject *object, Text *text)
+bool text_of_another(PyObject *object, Text *text)
 {
     text->holder = NULL;
     if (!PyUnicode_CheckExact(object) && !PyUnicode_Check(object)) {
@@ -29,11 +29,6 @@ bool text_of(PyObject *object, Text *text)
     if (text->holder != NULL) return bytes_of(text->holder, text);
 #endif
     return PyErr_ExceptionMatches(PyExc_UnicodeEncodeError) && text_with_half_characters(object, text);
-}
-
-void text_done(Text *text)
-{
-    Py_CLEAR(text->holder);
 }
 
 /* The holder stays as it is: the bytes are those of the object. */

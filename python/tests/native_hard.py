@@ -214,7 +214,8 @@ class Classes(unittest.TestCase):
 
         late = Late(1, 2, 3)
         for part in native_calls.PARTS:
-            self.assertRaises(ValueError, getattr, late, part)
+            # a member is there or not
+            self.assertRaises(AttributeError if part == "is_prerelease" else ValueError, getattr, late, part)
         for call in (str, repr, hash, lambda one: one == _native.Version("1"), lambda one: _native.Version("1") < one, _native.phase,
                      _native.canonicalize_version, _native.Set("").admits):
             self.assertRaises(ValueError, call, late)
@@ -252,6 +253,24 @@ class Classes(unittest.TestCase):
         self.assertGreaterEqual(len(ended), 200)
         Noted.__init__ = lambda self, *given: 1 // 0
         self.assertEqual(str(module.parse_wheel("a-7-py3-none-any.whl")[1]), "7")
+
+    def test_tags_again(self):
+        """The memory of tags is used again, as long as their module has their type."""
+        for _ in range(3):
+            module = new_module()
+            kept = [module.Tag("p%d" % number, "n", "a") for number in range(200)]
+            del kept[::2]
+            kept += [module.Tag("q%d" % number, "n", "a") for number in range(200)]
+            self.assertEqual((len(kept), len({str(one) for one in kept}), len(set(kept))), (300, 300, 300))
+            module.itself = module, kept[:5], [FreeTag("a", "b", "c")]
+            del module
+            gc.collect()
+            del kept[:250]
+            kept.append(type(kept[0])("r", "n", "a"))
+            self.assertEqual({(one.abi, one.platform) for one in kept}, {("n", "a")})
+            kept.append(kept)
+            del kept
+            gc.collect()
 
     def test_cycles(self):
         """The collector finds objects that hold themselves."""

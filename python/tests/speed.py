@@ -1,15 +1,16 @@
 """Measures the module beside `packaging`, and judges nothing: the time of each, and the ratio.
 
     tools/speed python
-    PYLOCK_MODULE=FOLDER PYLOCK_PEER=FOLDER python3 python/tests/speed.py [ROW ..]
+    PYLOCK_MODULE=FOLDER PYLOCK_PEER=FOLDER python3 python/tests/speed.py [--table] [--with-loop] [ROW ..]
 
 `python/backend/pylock_build.py place FOLDER` makes the first folder; the second has the folder `packaging`, where it isn't
 this Python's own or pip's copy. Words name rows by a part of their names.
 
 Processor time of the process, in microseconds or as said: here and there by turns, and of each the least of nine runs, as
-other work on the machine only adds to a time. Each row is measured with one text that came before and with texts that are
-new, in this order; what is made and read at once has one measurement. With `--table` the rows are those of a table in
-Markdown.
+other work on the machine only adds to a time. What an empty loop over the same items takes is taken off both, so that a time
+is that of the expression alone; `--with-loop` leaves it in. Each row is measured with one text that came before and with
+texts that are new, in this order; what is made and read at once has one measurement. With `--table` the rows are those of a
+table in Markdown.
 """
 
 import importlib
@@ -139,14 +140,23 @@ def loop(expression, values):
 
 
 def measured(expression, values, make, count, fresh):
+    """What the expression takes for an item, and what the empty loop does."""
     if fresh:
         items = [make(values, next(counter)) for _ in range(count)]
     else:
         items = [make(values, 7)] * count
-    return loop(expression, values)(items) / count * 1e6
+    # the empty one comes last: what is new is new to the other
+    return [loop(each, values)(items) / count * 1e6 for each in (expression, "pass")]
+
+
+def least_of(rounds):
+    """The least time of the expression, without that of the empty loop."""
+    whole, empty = [min(times) for times in zip(*rounds)]
+    return whole if with_loop else whole - empty
 
 
 table = False
+with_loop = False
 
 
 def cell(time):
@@ -175,13 +185,12 @@ def row(name, expression, make, count=ITEMS, there=None):
         rounds = [
             (
                 measured(expression, HERE, make, count, fresh),
-                measured(there or expression, THERE, make, max(count // 2, 5), fresh) if THERE else 0.0,
+                measured(there or expression, THERE, make, max(count // 2, 5), fresh) if THERE else (0.0, 0.0),
             )
             for _ in range(ROUNDS)
         ]
-        least = [min(times) for times in zip(*rounds)]
-        here.append(least[0])
-        others.append(least[1])
+        for side, times in zip((here, others), zip(*rounds)):
+            side.append(least_of(times))
     shown(name, here, others if THERE else None)
 
 
@@ -250,9 +259,9 @@ def locks(count):
 
 
 def main(words):
-    global table
-    table = "--table" in words
-    words = [word for word in words if word != "--table"]
+    global table, with_loop
+    table, with_loop = "--table" in words, "--with-loop" in words
+    words = [word for word in words if word not in ("--table", "--with-loop")]
     told = "%s %s" % (theirs.__name__, theirs.__version__) if theirs else "nothing"
     if table:
         print("| Python %s, µs or as said | %s | Here | Times as fast | New texts: %s | Here | Times as fast |" % (

@@ -1,13 +1,16 @@
 """What the compiled module looks at without asking the library, held to the library's own call for the same text.
 
-These are the normal form of a short name in ASCII, and of a version whether its text is its normal form already, whether it
-is a pre-release, and where the zeros at the end of its release begin; of a specifier set, where its pieces lie. And what it
-keeps from one call to the next: the variables that a mapping before had, and tags that were cut of a text.
+These are the normal form of a short name in ASCII, and of a version whether its text is its normal form already, where the
+zeros at the end of its release begin, and by its order key whether it is a pre-release, a post-release and a development
+release; of a specifier set, where its pieces lie. And what it keeps from one call to the next: the variables that a mapping
+before had, and tags that were cut of a text.
 """
 
 import collections.abc
+import copy
 import itertools
 import os
+import pickle
 import random
 import subprocess
 import sys
@@ -26,7 +29,10 @@ from pylock.utils import parse_wheel_filename
 NAME_LETTERS = "aZ0-_.\u00e9"
 VERSION_PIECES = ("0", "1", "10", ".", "a", "rc", "post", "dev", "+", "!", "v")
 # the fields of a record of the library
-NORMAL, BASE, PRE, DEV = 0, 2, 5, 7
+NORMAL, BASE, PRE, POST, DEV = 0, 2, 5, 6, 7
+# about where an order key writes a number in more bytes
+ENDS = (2, 253, 256, 253 * 256, 254 * 256, 255 * 256, 2**16, 2**24, 2**64)
+NUMBERS = [end + step for end in ENDS for step in range(-2, 3)]
 
 
 def short_texts(pieces, length):
@@ -43,7 +49,18 @@ def random_version(dice):
     text += dice.choice(("", "", "a1", "rc2", "b0", "a01", "a", "RC1", "-a1", "c1", "alpha1", "a.1", ".a1", "rc", "beta3"))
     text += dice.choice(("", "", "", ".post2", "post1", "-1", ".post01", ".post", ".rev2", "_post2", ".Post1"))
     text += dice.choice(("", "", "", ".dev0", "dev1", ".dev", ".dev01", ".DEV3", "-dev2"))
-    return text + dice.choice(("", "", "", "", "+a", "+1.2", " ", "\u0661"))
+    return text + dice.choice(("", "", "", "", "+a", "+1.2", "+1.rc1", "+dev.post1", " ", "\u0661"))
+
+
+def kinds(one):
+    """Whether a version is a pre-release, a post-release and a development release."""
+    return one.is_prerelease, one.is_postrelease, one.is_devrelease
+
+
+def kinds_of(record):
+    """The same of a record of the library."""
+    has_pre, has_post, has_dev = [record[part] != "-" for part in (PRE, POST, DEV)]
+    return has_pre or has_dev, has_post, has_dev
 
 
 class Names(unittest.TestCase):
@@ -58,6 +75,17 @@ class Names(unittest.TestCase):
         for length in (63, 511, 512, 513, 5000):
             text = "".join([dice.choice("aZ0-_.") for _ in range(length)])
             self.assertEqual(canonicalize_name(text), _native.library_name(text))
+
+
+class Late(Version):
+    """A version that is read after it was made."""
+
+    def __init__(self):
+        pass
+
+    def read(self, text):
+        super().__init__(text)
+        self.label = text
 
 
 class Versions(unittest.TestCase):
@@ -77,12 +105,12 @@ class Versions(unittest.TestCase):
             numbers.pop()
         one = Version(text)
         said = (
-            str(one), str(Version(normal)), one.is_prerelease, _native.phase(text),
+            str(one), str(Version(normal)), kinds(one), _native.phase(text), _native.phase(one),
             canonicalize_version(text, strip_trailing_zero=False), canonicalize_version(text),
         )
-        is_prerelease = record[PRE] != "-" or record[DEV] != "-"
+        expected = kinds_of(record)
         stripped = epoch + sign + ".".join(numbers) + normal[len(base) :]
-        if said != (normal, normal, is_prerelease, is_prerelease, normal, stripped):
+        if said != (normal, normal, expected, expected[0], expected[0], normal, stripped):
             self.fail((text, said, record))
         return True
 
@@ -92,6 +120,35 @@ class Versions(unittest.TestCase):
     def test_random_texts(self):
         dice = random.Random(440)
         self.assertGreater(sum(self.held(random_version(dice)) for _ in range(20_000)), 10_000)
+
+    def test_numbers(self):
+        """Numbers of each length that an order key has, in each part of a version."""
+        forms = (
+            "%d!1", "%d", "1.%d.0.2", "1a%d", "1rc%d", "1.post%d", "1.dev%d", "1b%d.post%d.dev%d", "%d!%d.%d.post%d", "1+%d",
+            "%d.%d.dev%d+%d.rc1",
+        )
+        for number in NUMBERS:
+            for form in forms:
+                self.assertTrue(self.held(form % ((number,) * form.count("%"))))
+        # a key that is long, and one with several numbers of many bytes
+        long = ".".join(["300"] * 400) + ".post300.dev300"
+        for text in (long, "1" * 30 + "!" + "9" * 38 + "a" + "7" * 30 + ".post" + "8" * 30):
+            self.assertTrue(self.held(text) and self.held(text + "+rc1"))
+
+    def test_attributes(self):
+        """What a version is can't be assigned, nor deleted; nor has one without a text it."""
+        for one in (Version("1.0-RC1"), Version("1"), parse_wheel_filename("a-1rc1-py3-none-any.whl")[1]):
+            for name in ("is_prerelease", "is_postrelease", "is_devrelease", "release", "pre"):
+                had = getattr(one, name)
+                self.assertRaises(AttributeError, setattr, one, name, not had)
+                self.assertRaises(AttributeError, delattr, one, name)
+                self.assertEqual(getattr(one, name), had)
+            for again in (copy.copy(one), copy.deepcopy(one), pickle.loads(pickle.dumps(one))):
+                self.assertEqual(kinds(again), kinds(one))
+        self.assertRaises(AttributeError, getattr, Late.__new__(Late), "is_prerelease")
+        late = Late()
+        late.read("1.dev1")
+        self.assertEqual((late.is_prerelease, late.label), (True, "1.dev1"))
 
     def test_kept_texts(self):
         """A version of a wheel's name has the library's normal form as its text."""
@@ -105,7 +162,8 @@ class Versions(unittest.TestCase):
             if "-" in text or "!" in text or not text.isascii() or "_" in text:
                 continue
             one = parse_wheel_filename("a-%s-py3-none-any.whl" % text)[1]
-            self.assertEqual((str(one), one, hash(one)), (record[NORMAL], Version(text), hash(Version(text))))
+            self.assertEqual((one.is_prerelease, str(one)), (kinds_of(record)[0], record[NORMAL]))
+            self.assertEqual((kinds(one), one, hash(one)), (kinds_of(record), Version(text), hash(Version(text))))
 
 
 class Sets(unittest.TestCase):
@@ -208,6 +266,15 @@ def told(marker, environment, **named):
         return type(error).__name__, str(error)
 
 
+class Text(str):
+    def lower(self):
+        raise ZeroDivisionError
+
+
+class Noted(Tag):
+    """A class that is made from that of tags, with attributes of its own."""
+
+
 class Tags(unittest.TestCase):
     def test_two_ways(self):
         """A tag of a text is that of its pieces, of any length and letters."""
@@ -224,10 +291,49 @@ class Tags(unittest.TestCase):
         self.assertNotEqual(Tag("a-b", "c", "d"), Tag("a", "b-c", "d"))
         self.assertEqual(str(Tag("a-b", "c", "d")), str(Tag("a", "b-c", "d")))
 
+    def test_ways(self):
+        """Equal tags have one hash and one text, however they were made."""
+        for pieces in (
+            ("cp312", "abi3", "win32"), ("Py3", "NONE", "any"), ("py3", "none", "manylinux_2_17_x86_64"),
+            ("\u00c4", "b", "\ud800"),
+            ("", "", ""), ("a" * 300, "b" * 300, "C" * 300), ("a", "b", "c" * 511), ("I\u0307", "\u0130", "\u03a3\u03a3"),
+            ("a\0b", "\0", "c\0"), ("abcdefgh", "abcdefg", "abcdefghi"), ("abcdefgH", "abcdefG", "Abcdefghi"),
+        ):
+            small = [piece.lower() for piece in pieces]
+            text = "-".join(pieces)
+            ways = [
+                Tag(*pieces), Tag(*small), Tag(*map(Text, pieces)), Tag(pieces[0], platform=pieces[2], abi=pieces[1]),
+                Noted(*pieces), *parse_tag(text), *parse_tag("-".join(small)), *parse_tag(text),
+            ]
+            ways += [copy.copy(ways[0]), copy.deepcopy(ways[1])]
+            ways += [pickle.loads(pickle.dumps(one, 2)) for one in (ways[0], ways[4], ways[5])]
+            parts = [[one.interpreter, one.abi, one.platform] for one in ways]
+            self.assertEqual({(hash(one), str(one)) for one in ways}, {(hash(ways[0]), "-".join(small))})
+            self.assertEqual(parts, [small] * len(ways))
+            self.assertEqual({type(piece) for part in parts for piece in part}, {str})
+            self.assertTrue(all(one == other and not one != other for one in ways for other in ways) and len(set(ways)) == 1)
+        (found,) = parse_wheel_filename("a-1-cp312-abi3-win32.whl")[3]
+        self.assertEqual((found, hash(found)), (Tag("cp312", "abi3", "win32"), hash(Tag("cp312", "abi3", "win32"))))
+
+    def test_classes(self):
+        """A tag is the compiled type itself, which others may be made from; it can't be changed."""
+        self.assertIs(Tag, _native.Tag)
+        self.assertEqual((Tag.__module__, Tag.__qualname__), ("pylock._tag", "Tag"))
+        one = Noted("a", "b", "c")
+        one.label = "x"
+        self.assertEqual((pickle.loads(pickle.dumps(one)), type(pickle.loads(pickle.dumps(one)))), (one, Noted))
+        self.assertIs(copy.copy(one), one)
+        for one in (Tag("a", "b", "c"), *parse_tag("a-b-d")):
+            for name in ("interpreter", "abi", "platform", "label"):
+                self.assertRaises(AttributeError, setattr, one, name, "x")
+        self.assertNotEqual(one, "a-b-d")
+        given = ["a", "b", "c"]
+        self.assertIs(Tag(*given).platform, given[2])
+
     def test_hashes(self):
-        """Short texts of other letters have other hashes."""
+        """Short texts of other letters have other hashes, but for one in many thousands."""
         texts = list(short_texts("ab0", 5))
-        self.assertEqual(len({hash(Tag(text, "x", "y")) for text in texts}), len(texts))
+        self.assertGreater(len({hash(Tag(text, "x", "y")) for text in texts}), len(texts) - 3)
 
     def test_secret(self):
         """Each process has other hashes: nobody can choose what falls together."""
