@@ -1,7 +1,6 @@
 /* The module itself: its state, and what stands in it. */
 #include "native.h"
 
-#include <stdatomic.h>
 #include <stdlib.h>
 
 enum { ABI = 1 };
@@ -14,20 +13,21 @@ State *state_of(PyObject *module)
 
 /* The state of a process in which there has been one alone, as in most, so that no type needs to be asked for its own. It is
  * NULL until there is one, and `several` for ever from when there are others or it is gone. Interpreters with locks of their
- * own may look here at any time, and each finds its own state or that it is to ask. */
+ * own may look here at any time, and each finds its own state or that it is to ask. The header for such variables isn't
+ * used, as that of gcc isn't one for clang. */
 static State several;
-static _Atomic(State *) single;
+static State *single;
 
 State *single_state(void)
 {
-    State *state = atomic_load_explicit(&single, memory_order_relaxed);
+    State *state = __atomic_load_n(&single, __ATOMIC_RELAXED);
     return state == &several ? NULL : state;
 }
 
 static void leave_state(State *state)
 {
     if (--state->users > 0) return;
-    atomic_store(&single, &several);
+    __atomic_store_n(&single, &several, __ATOMIC_SEQ_CST);
     PyMem_Free(state);
 }
 
@@ -232,7 +232,8 @@ static State *new_state(PyObject *module)
     state->users = 1;
     *(State **)PyModule_GetState(module) = state;
     State *none = NULL;
-    if (!atomic_compare_exchange_strong(&single, &none, state)) atomic_store(&single, &several);
+    if (!__atomic_compare_exchange_n(&single, &none, state, false, __ATOMIC_SEQ_CST, __ATOMIC_SEQ_CST))
+        __atomic_store_n(&single, &several, __ATOMIC_SEQ_CST);
     return state;
 }
 
