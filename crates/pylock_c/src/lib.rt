@@ -21,6 +21,7 @@ mod answers;
 mod edits;
 mod environments;
 mod kept;
+mod kept_session;
 mod loose;
 mod markers;
 mod object;

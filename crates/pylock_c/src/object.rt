@@ -2,7 +2,7 @@
 
 ghost use Rattle.std.specs.Prelude.{◌≡◌};
 
-use pylock_core::Session;
+use crate::kept_session::KeptSession;
 use pymark_core::{Environment, Marker};
 use pyver_core::SpecifierSet;
 use std::marker::Model;
@@ -19,7 +19,7 @@ pub enum Object {
     /// What markers are judged in.
     Environment(Environment),
     /// A lock in an environment, edited and answered again.
-    Session(Session),
+    Session(KeptSession),
 }
 
 /// The bytes of a text. Contracts see their list.

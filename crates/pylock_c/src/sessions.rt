@@ -1,6 +1,6 @@
 //! Sessions: a lock in an environment (PEP 751), edited and answered again.
 
-ghost use Rattle.std.specs.Prelude.{◌≡◌, ℕ, None, Ok, OnErr, Option, Result, Some};
+ghost use Rattle.std.specs.Prelude.{◌≡◌, ℕ, None, Ok, Option, Result, Some};
 ghost use Rattle.pytext.specs.Agreement.{Gives};
 ghost use Rattle.pymark_core.specs.declared.change.Change.TheVariants as change;
 ghost use Rattle.pylock_core.specs.declared.edit.Edit.TheVariants as edit;
@@ -16,7 +16,7 @@ ghost use Rattle.pylock_c.specs.Edits.{change_command, entry_command, named_chan
 ghost use Rattle.pylock_c.specs.Edits.{policy_command, set_change, tags_command};
 ghost use Rattle.pylock_c.specs.Edits.{target_command, unset_change};
 ghost use Rattle.pylock_c.specs.Opening.{Opens};
-ghost use Rattle.pylock_c.specs.Sessions.{Counts, obeyed_in, session_after, started};
+ghost use Rattle.pylock_c.specs.Sessions.{Counts, obeyed_in, started};
 ghost use Rattle.pylock_c.specs.Slot.{object};
 ghost use Rattle.pylock_c.specs.declared.object.Object.{Object as Kind};
 ghost use Rattle.pylock_c.specs.declared.refusal.Refusal.{Refusal as Refused};
@@ -29,11 +29,12 @@ use crate::edits::{
     drop_group_change, policy_command, put_command, set_change, tags_command, target_command,
     unset_change,
 };
+use crate::kept_session::KeptSession;
 use crate::object::Object;
 use crate::opening::open_into;
 use crate::refusal::Refusal;
 use crate::slot::Slot;
-use pylock_core::{Edit, Session};
+use pylock_core::Edit;
 use pylock_run::{Command, LineRefusal, OpenError, open, read_line};
 use std::alloc::Global;
 
@@ -42,7 +43,8 @@ fn started(alloc: Global, lock: &[u8], environment: &[u8]) -> Result<Object, Ope
     ensures { Gives unopened.Memory (λ kept. kept) result
         (started (open_state lock.now environment.now)) }
 {
-    Ok(Object::Session(open(alloc, lock, environment)?))
+    let session = open(alloc, lock, environment)?;
+    Ok(Object::Session(KeptSession::new(alloc, session)?))
 }
 
 /// Starts a session on a lock and an environment, or leaves the line of a refusal in the slot of
@@ -61,18 +63,6 @@ pub extern "C" fn pylock_session_start(
     open_into(alloc, started(alloc, lock, environment), session, words)
 }
 
-/// Obeys the command, and answers how many judgements that made.
-fn obey_command(session: &mut Session, command: Command) -> Result<u64, LineRefusal>
-    ensures ok { Gives line.Memory (λ judgements. (session.new, judgements)) result
-        (session_after session.old command) }
-    ensures err { OnErr result (session.new ≡ session.old) }
-{
-    match command {
-        Command::Show => Ok(0),
-        Command::Edit(edit) => Ok(session.edit(edit)?),
-    }
-}
-
 /// Obeys the command in the session that is kept. Where none is, the command isn't looked at.
 fn obey_in(object: &mut Object, command: Result<Command, LineRefusal>) -> Result<u64, Refusal>
     ensures { (definition : Result CommandValue RefusalValue)
@@ -81,7 +71,7 @@ fn obey_in(object: &mut Object, command: Result<Command, LineRefusal>) -> Result
         result }
 {
     match object {
-        Object::Session(session) => Ok(obey_command(session, command?)?),
+        Object::Session(session) => Ok(session.obey_command(command?)?),
         _ => Err(Refusal::Empty),
     }
 }

@@ -15,6 +15,7 @@ ghost use Rattle.pylock_c.specs.declared.object.Object.{Object as Kind};
 ghost use Rattle.pylock_c.specs.declared.object.Object.TheVariants as kind;
 
 use crate::answers::form_of;
+use crate::kept_session::KeptSession;
 use crate::object::{Bytes, Object};
 use crate::opening::{leave_object, open_refusal};
 use crate::refusal::Refusal;
@@ -30,7 +31,11 @@ fn strictly_started(alloc: Global, lock: &[u8], environment: &[u8]) -> Result<Ob
     ensures { Gives (unopened.Refused refusal.Memory) (λ kept. kept) result
         (strictly_started (strict_state lock.now (env_of environment.now))) }
 {
-    Ok(Object::Session(open_strictly(alloc, lock, EnvironmentInput::Text(environment))?))
+    let session = open_strictly(alloc, lock, EnvironmentInput::Text(environment))?;
+    match KeptSession::new(alloc, session) {
+        Ok(session) => Ok(Object::Session(session)),
+        Err(AllocError) => Err(Unopened::Refused(OpenError::Memory)),
+    }
 }
 
 /// Starts a session on a lock that is taken strictly and on an environment, or leaves in the slot

@@ -25,7 +25,7 @@ fn session_in(kept: &Option<Box<Object>>) -> Result<&Session, Refusal>
     ensures { Gives Memory (λ session. session.now) result (session_in (kept_object kept.now)) }
 {
     match kept.as_deref() {
-        Some(Object::Session(session)) => Ok(session),
+        Some(Object::Session(session)) => Ok(session.get()),
         _ => Err(Refusal::Empty),
     }
 }
