@@ -54,13 +54,13 @@ impl From<clap::Error> for CommandError {
 }
 
 /// What `--version` prints behind the program's name: its version, and in a second line the sum of
-/// its sources and the kit that proved it, as `rt version` names that.
+/// its sources and the logic that it is proved in, as `rt version` names that.
 ///
 /// No source can hold the sum of itself. So 64 characters stand in its place, and where a build is
 /// kept `tools/built stamp` writes the sum over them. No contract speaks of this text.
 const VERSION: &str = "1.0.0
 sources (not told: rt built it; ./pylock and tools/release tell the sum), \
-proved by rattle-kit-13b logic dac8208d650f15bf";
+proved in logic dac8208d650f15bf";
 
 /// The command `pylock` with its subcommands.
 fn pylock_command<'a>(alloc: Global) -> Result<Command<'a>, AllocError>
