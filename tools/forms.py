@@ -148,7 +148,7 @@ def hash_of(source):
 def requirement(source):
     """The line of a file or an archive."""
     url, path, fragment = source.get("url"), source.get("path"), fragment_of(source)
-    last = last_part(url, path)
+    last = allowed("FILE", last_part(url, path), source)
     require(source["kind"] == "archive" or last == source.get("file"), source)
     require(is_of_its_project(source, last), source)
     if url is not None:
@@ -201,8 +201,9 @@ def can_list(form, source):
         return False
     if form == "urls":
         return "url" in source
-    has_sum = "sha256" in source.get("hashes", {}) and name_of(source) is not None
-    return has_sum and (form == "sha256sum" or "url" in source)
+    if "sha256" not in source.get("hashes", {}):
+        return False
+    return name_of(source) is not None if "url" in source else form == "sha256sum"
 
 
 def entry_of(form, source):
@@ -210,8 +211,8 @@ def entry_of(form, source):
     if form == "urls":
         return url_of(source), None
     value = allowed("sha256", source["hashes"]["sha256"], source)
-    if form == "sha256sum" and "url" not in source:
-        return written_path(allowed("PATH", source["path"], source)), value
+    if "url" not in source:
+        return allowed("PATH", source["path"], source), value
     file = allowed("FILE", name_of(source), source)
     if form == "aria2":
         url_of(source)
@@ -219,8 +220,16 @@ def entry_of(form, source):
     return file, value
 
 
-ARIA2 = "{url}\n out={key}\n checksum=sha-256={value}\n follow-torrent=false\n follow-metalink=false\n auto-file-renaming=false"
-LINES = {"urls": "{key}", "sha256sum": "{value}  {key}", "aria2": ARIA2}
+OPTIONS = " follow-torrent=false\n follow-metalink=false\n auto-file-renaming=false"
+
+
+def line_of(form, key, value, source):
+    """The lines of a source that a list names so."""
+    if form == "aria2":
+        return f"{source['url']}\n out={key}\n checksum=sha-256={value}\n{OPTIONS}"
+    if form == "sha256sum":
+        return f"{value}  {key if 'url' in source else written_path(key)}"
+    return key
 
 
 def list_of(form, sources):
@@ -231,7 +240,7 @@ def list_of(form, sources):
         first = found.setdefault(key, (value, source))
         if first[0] != value:
             raise Refused(source["id"], first[1]["id"])
-    return [LINES[form].format(key=key, value=value, url=source.get("url")) for key, (value, source) in found.items()]
+    return [line_of(form, key, value, source) for key, (value, source) in found.items()]
 
 
 # ---- a form

@@ -48,9 +48,8 @@ def version_of(folder):
     return found[1] if found else None
 
 
-def is_recent(version):
-    numbers = [int(number) for number in re.findall("[0-9]+", version)]
-    return tuple(numbers[:2]) >= OLDEST
+def numbers_of(version):
+    return tuple(int(number) for number in re.findall("[0-9]+", version))
 
 
 def path_of(folder):
@@ -70,7 +69,7 @@ def of_this_machine():
     found = {}
     for folder in filter(None, folders):
         version = version_of(folder)
-        if version and is_recent(version):
+        if version and numbers_of(version) >= OLDEST:
             found.setdefault(version, path_of(os.path.abspath(folder)))
     return found
 

@@ -104,8 +104,10 @@ def read(case, path, session):
 def main():
     cases, readings = sys.argv[1:]
     session = PipSession()
-    with tempfile.TemporaryDirectory() as folder, open(cases, encoding="utf-8") as given, open(readings, "w",
-            encoding="utf-8") as told:
+    print("ready", flush=True)
+    memory = "/dev/shm" if os.access("/dev/shm", os.W_OK) else None
+    with tempfile.TemporaryDirectory(dir=memory) as folder, open(cases, encoding="utf-8") as given, \
+            open(readings, "w", encoding="utf-8") as told:
         for line in given:
             told.write(json.dumps(read(json.loads(line), f"{folder}/requirements.txt", session)) + "\n")
 
