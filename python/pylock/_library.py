@@ -234,7 +234,7 @@ lock_head = _native.lock_head
 # ---- sessions ----
 
 session_start = _native.session_start
-session_start_strict: Any = _native.session_start_strict
+session_start_strict = _native.session_start_strict
 
 
 def session_edit(kept: KeptSession, edit: str, *texts: str, number: Optional[int] = None) -> int:

@@ -104,7 +104,7 @@ def _has_wheels(machines: Sequence[str]) -> bool:
 def _objections() -> Any:
     """The module `_manylinux`, by which a distribution may object to wheels (PEP 513, PEP 600); None without one."""
     try:
-        import _manylinux  # type: ignore[import-not-found]
+        import _manylinux  # type: ignore
     except ImportError:
         return None
     return _manylinux

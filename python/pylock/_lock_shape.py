@@ -187,7 +187,7 @@ def _is_utc(moment: datetime) -> bool:
 
 # half a surrogate pair is no text that the library can read
 _TEXT = _Text(str.encode)
-_SIZE = _Plain(int, lambda size: 0 <= size < 1 << 63, "it is no size")
+_SIZE = _Plain(int, lambda size: 0 <= size < 1 << 63, "it is no size")  # type: ignore[no-any-return]
 _MOMENT = _Plain(datetime, _is_utc, "it isn't in UTC")
 _FLAG = _Plain(bool)
 _TOOL = _Mapping()

@@ -7,7 +7,7 @@ from .utils import BuildTag, NormalizedName
 from .version import Version as _Version
 
 _Made = TypeVar("_Made")
-_Attributes = Dict[str, Union[str, Tuple[str, Callable[[Any], Any]]]]
+_Attributes = Mapping[str, Union[str, Tuple[str, Callable[[Any], Any]]]]
 
 MEMORY: int
 NOT_UTF8: int

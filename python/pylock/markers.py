@@ -263,7 +263,7 @@ class Marker:
             string = self._string = _format(atoms)
         return string
 
-    def _pieces(self) -> List[Any]:
+    def _pieces(self) -> List[Union[str, _Atom, List[Any]]]:
         return _atoms(_tokens(self._given), 0)[0]
 
     def __repr__(self) -> str:
@@ -339,7 +339,7 @@ class Marker:
             value = self._kept.evaluate_over(_layers(), environment, extra, context == "metadata", self._given)
             if value is not None:
                 return value
-        mapping: Mapping[str, Any] = _EMPTY
+        mapping: Any = _EMPTY
         if isinstance(environment, KeptEnvironment):
             kept = environment._kept
         else:

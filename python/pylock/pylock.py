@@ -428,7 +428,9 @@ def _of_table(kind: Type[Any], table: Mapping[str, Any]) -> Any:
     """The lock, of a class made from Pylock, of a table that the library took."""
     marker, python = _Texts(Marker).__getitem__, _Texts(SpecifierSet).__getitem__
     readers = dict(_SOURCES, version=_Texts(Version).__getitem__, marker=marker, requires_python=python)
-    attributes = {key: (name, readers[name]) if name in readers else name for key, name in _KEYS[Package].items()}
+    attributes: Dict[str, Union[str, Tuple[str, Callable[[Any], Any]]]] = {
+        key: (name, readers[name]) if name in readers else name for key, name in _KEYS[Package].items()
+    }
     values = {name: table[key] for key, name in _KEYS[Pylock].items() if table.get(key) is not None}
     values["lock_version"] = Version(values["lock_version"])
     if "requires_python" in values:
