@@ -49,7 +49,7 @@ class Checks:
 
     def skip(self, what, count=1):
         self.skipped += count
-        self.tell(f"skipped: {what}")
+        self.tell(f"skipped: {what}" + (f" ({count} cases)" if count > 1 else ""))
 
     def judge_each(self, what, cases, wrong):
         """Judges a function of each case, some side by side; counts them one by one, and tells of those that fail."""

@@ -1,6 +1,6 @@
-"""The rules of the forms that `plan` and `files` give to other tools (“Forms that other tools take” of docs/FORMATS.md), for
-tools/exports and tools/pips: what a form is of the sources of a lock, worked out beside the program, and what is wrong with
-what the program gives."""
+"""The rules of the forms that `plan` and `files` give to other tools (“Forms that other tools take” of
+docs/FORMATS.md), for tools/exports and tools/pips: what a form is of the sources of a lock, worked out beside the program,
+and what is wrong with what the program gives."""
 
 import posixpath
 import re

@@ -46,8 +46,8 @@ PIECES = [
     "\u00e9", "\u017f", "\u0661", "\uff41", "\U0001f40d",
 ]
 # Those that are tried at other places too.
-OF_ENDS = ["\n", "\t", "\x7f", "\u2028", " ", "\\", '"', "#", "%0a", "../", "..", "/", "${HOME}", ";", "-", "!", "+", "~", "\u00e9",
-    "=", "&", "?", "@", ".whl", ".ZIP", "%25", "%2f"]
+OF_ENDS = ["\n", "\t", "\x7f", "\u2028", " ", "\\", '"', "#", "%0a", "../", "..", "/", "${HOME}", ";", "-", "!", "+", "~",
+    "\u00e9", "=", "&", "?", "@", ".whl", ".ZIP", "%25", "%2f"]
 # A text as a whole.
 WHOLE = [
     "", "requests", "requests==2", "-r", "-rx", "-r x", "-e", "-e .", "--index-url=https://evil/", "--", "-", ".", "..", "../x",
@@ -85,11 +85,13 @@ FIELDS = {
          "https://h/probe-1.tar.gz?x|y", "https://h|/probe-1.tar.gz", "https://|h/probe-1.tar.gz", "http://h:8|/probe-1.tar.gz",
          "file:///|x/probe-1.tar.gz"]),
     "the url of a wheel": (lambda text: wheel(url=text),
-        ["https://h/x|y/probe-1-py3-none-any.whl", "https://h/probe|-1-py3-none-any.whl", "https://h/probe-1-py3-none-any.whl|"]),
+        ["https://h/x|y/probe-1-py3-none-any.whl", "https://h/probe|-1-py3-none-any.whl",
+         "https://h/probe-1-py3-none-any.whl|"]),
     "the url of a wheel with a name": (lambda text: wheel(name="probe-1-py3-none-any.whl", url=text),
         ["https://h/x|y/probe-1-py3-none-any.whl", "https://h/probe-1-py3-none-any.whl|"]),
     "the path of a wheel": (lambda text: wheel(path=text), ["x|y/probe-1-py3-none-any.whl", "|probe-1-py3-none-any.whl"]),
-    "the url of an sdist with a path": (lambda text: sdist(url=text, path="x/probe-1.tar.gz"), ["https://h/x|y/probe-1.tar.gz"]),
+    "the url of an sdist with a path": (lambda text: sdist(url=text, path="x/probe-1.tar.gz"),
+        ["https://h/x|y/probe-1.tar.gz"]),
     "the path of an sdist with a url": (lambda text: sdist(url="https://h/probe-1.tar.gz", path=text),
         ["x|y/probe-1.tar.gz", "|probe-1.tar.gz"]),
     "the path of an sdist": (lambda text: sdist(path=text),
@@ -193,7 +195,8 @@ REFUSED_URLS = {
 }
 REFUSED_LAST_PARTS = {
     "an empty last part": "", "a last part `..`": "..", "a last part `.`": ".", "a last part that begins with -": "-r",
-    "a slash in the last part": "a%2Fb", "a line's end in the last part": "a%0Ab", "an escape in the last part, decoded": "a%2541",
+    "a slash in the last part": "a%2Fb", "a line's end in the last part": "a%0Ab",
+    "an escape in the last part, decoded": "a%2541",
     "`~` in the last part": "a~b", "`@` in the last part": "a@b", "`,` in the last part": "a,b",
     "a backslash in the last part": "a%5Cb", "`?` in the last part, escaped": "a%3Fb", "no escape": "a%",
     "a last part that is no UTF-8": "a%ff", "a query behind no last part": "?a",
@@ -205,8 +208,8 @@ REFUSED = {
     **{f"{what}, {form}": (form, archive(url=f"https://h/{last}")) for what, last in REFUSED_LAST_PARTS.items()
        for form in ("requirements", "urls")},
     **{f"a directory that ends in {end}": ("requirements-local", directory(f"x/alpha{end}")) for end in (
-        ".whl", ".zip", ".tar", ".tar.gz", ".tgz", ".tar.bz2", ".tbz", ".tar.xz", ".txz", ".tlz", ".tar.lz", ".tar.lzma", ".WHL",
-        ".Tar.Gz")},
+        ".whl", ".zip", ".tar", ".tar.gz", ".tgz", ".tar.bz2", ".tbz", ".tar.xz", ".txz", ".tlz", ".tar.lz", ".tar.lzma",
+        ".WHL", ".Tar.Gz")},
     "a directory whose last part ends so, with a slash": ("requirements-local", directory("x/alpha.whl/")),
     "a directory whose last part ends so, with a dot": ("requirements-local", directory("x/alpha.whl/./.")),
     "a subdirectory that ends so": ("requirements-local", directory("x", subdirectory="y/alpha.whl")),

@@ -33,6 +33,11 @@ def main():
     whole = {getattr(test, "test_case", test) for test, _ in result.failures + result.errors}
     failed = len(whole)
     skipped = len(result.skipped)
+    reasons = {}
+    for test, reason in result.skipped:
+        reasons.setdefault(reason, []).append(test.id())
+    for reason, names in reasons.items():
+        print("python: skipped: %s: %s" % (", ".join(names), reason))
     print("python: %.0f seconds" % (time.monotonic() - start))
     print("python: %d passed, %d failed%s" % (result.passed, failed, ", %d skipped" % skipped if skipped else ""))
     return 1 if failed else 0

@@ -84,8 +84,8 @@ def run(*words, folder=None):
     except (OSError, subprocess.TimeoutExpired) as error:
         raise Absent(f"{words[0]}: {error}") from None
     if ran.returncode != 0:
-        told = ran.stdout.decode("utf-8", "replace").strip().splitlines()
-        raise Absent(f"{words[0]} says {told[-1] if told else 'nothing'!r}")
+        told = ran.stdout.decode("utf-8", "replace").strip().splitlines() or ["nothing"]
+        raise Absent(f"{words[0]} says {next((line for line in told if line.startswith('E: ')), told[-1])!r}")
 
 
 def write(path, text):
