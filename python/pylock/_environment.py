@@ -124,7 +124,8 @@ def environment_bytes(environment: Any) -> bytes:
 def environment(python: Optional[str] = None, platform: Optional[str] = None) -> Environment:
     """The environment of the running Python, as `tools/environment` writes it; or that of a target, of which both are
     given: a Python as "3.12", "3.12.4" or "3.13t", and a platform as "manylinux_2_28_x86_64", "linux", "macos" or
-    "windows".
+    "windows", or in uv's words as "aarch64-apple-darwin". A target leaves `platform_release` and `platform_version`
+    unset.
 
     >>> environment(python="3.12", platform="win_amd64").tags[0]
     'cp312-cp312-win_amd64'

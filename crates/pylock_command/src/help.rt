@@ -56,6 +56,11 @@ or 3.12.4, with t behind it for the build without the GIL. PLATFORM is one of:
   macos               macosx_14_0_arm64
   windows             win_amd64
 
+uv's names are taken too, such as aarch64-manylinux_2_28, x86_64-pc-windows-msvc
+or x86_64-unknown-linux-gnu, which is manylinux_2_28_x86_64. A target knows no
+platform_release and no platform_version: a marker that reads one is a fault,
+marker-unset, and --set gives it.
+
 --format prints what another tool takes, and nothing else. FORM is one of:
   requirements  for pip install --no-deps -r FILE, or uv pip install with these
   sha256sum     for sha256sum -c FILE

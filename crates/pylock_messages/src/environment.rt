@@ -1,6 +1,7 @@
 //! Why an environment is refused.
 
 use crate::diagnostic::Diagnostic;
+use crate::platform::{PLATFORMS, meant_platform};
 use crate::shown_value::ShownValue;
 use crate::syntax::{not_text, wrong_json};
 use crate::value_form::ValueForm;
@@ -13,11 +14,6 @@ use std::alloc::{AllocError, Global};
 /// What is taken as the Python of a target.
 const PYTHONS: &str = "neither 3.MINOR nor 3.MINOR.MICRO, with MINOR from 8 to 99 and MICRO to \
 999, and t behind it from 3.13 on for the free-threaded build";
-
-/// What is taken as its platform.
-const PLATFORMS: &str = "none of linux, macos, windows, win32, win_amd64, win_arm64, \
-manylinux_2_N_ARCH, manylinux1_ARCH, manylinux2010_ARCH, manylinux2014_ARCH, musllinux_1_N_ARCH, \
-macosx_10_N_x86_64, macosx_M_0_ARCH";
 
 /// Why the text is refused as an environment, in a line for a person, without LF; `name` is the
 /// name given for the file. Nothing where it isn't refused. The line is that of
@@ -76,8 +72,9 @@ pub fn target_message(
     }
 }
 
-/// Why the words of a target are refused so: the word that is none, and what is taken in its place.
-/// It takes memory for the line. No contract says what it tells.
+/// Why the words of a target are refused so: the word that is none, the name of a platform for
+/// which it may be meant, and what is taken. It takes memory for the line. No contract says what it
+/// tells.
 pub fn target_diagnostic(
     alloc: Global,
     python: &str,
@@ -86,10 +83,20 @@ pub fn target_diagnostic(
 ) -> Result<Option<Diagnostic>, AllocError> {
     let line = match refusal {
         EnvError::Python => format!(in alloc; "--python: `{python}`: {PYTHONS}")?,
-        EnvError::Platform => format!(in alloc; "--platform: `{platform}`: {PLATFORMS}")?,
+        EnvError::Platform => platform_line(alloc, platform)?,
         _ => return Ok(None),
     };
     Ok(Some(Diagnostic::of_message(alloc, line.as_str())?))
+}
+
+/// What is told of a word that is no platform.
+fn platform_line(alloc: Global, platform: &str) -> Result<String, AllocError> {
+    match meant_platform(alloc, platform)? {
+        Some(name) => {
+            format!(in alloc; "--platform: `{platform}` (did you mean `{name}`?): {PLATFORMS}")
+        }
+        None => format!(in alloc; "--platform: `{platform}`: {PLATFORMS}"),
+    }
 }
 
 /// The text that is no tag, or the part that has another shape, the first in the order in which

@@ -15,6 +15,7 @@ mod entry;
 mod environment;
 mod lock;
 mod one_line;
+mod platform;
 mod shown_value;
 mod sources;
 mod syntax;

@@ -1,5 +1,5 @@
 -- The environment of a target, set variable by variable, and read back from its text.
-use Rattle.std.proofs.Common.{◌≡◌, ℕ, ◌≤◌, ◌<◌, ◌+◌, suc, true, max, ◌^◌, ◌&&◌, nat_lt, inl, inr, get_or, length, take, List, [], ◌∷◌, ◌++◌, codes, decimal, map, fold, Option, Some, None, Result, Ok, Err, IsUtf8, ok_or, refl, sym, subst, ap, ◌∙◌, arith}
+use Rattle.std.proofs.Common.{◌≡◌, ℕ, ◌≤◌, ◌<◌, ◌+◌, suc, true, max, ◌^◌, ◌&&◌, nat_lt, inl, inr, get_or, length, take, List, [], ◌∷◌, ◌++◌, codes, decimal, map, fold, Option, Some, None, Result, Ok, Err, IsUtf8, IfSome, ok_or, refl, sym, subst, ap, ◌∙◌, arith}
 use Rattle.std.proofs.lemmas.Bool.Decides.{nat_tests}
 use Rattle.std.proofs.lemmas.Bool.{and_parts}
 use Rattle.std.proofs.lemmas.List.{map-append, take_more}
@@ -14,8 +14,8 @@ use Rattle.serde_json.specs.Find.{get_member}
 use Rattle.serde_json.specs.Read.{max_depth, read}
 use Rattle.pytext.specs.Results.{◌>>=◌}
 use Rattle.pylock_json.proofs.Rows.{with_rows_behind}
-use Rattle.pylock_json.specs.Json.{items_of, members_of, object_of, texts_of, with_rows}
-use Rattle.pymark_core.specs.Environment.{EnvironmentValue, empty_environment, with_variable}
+use Rattle.pylock_json.specs.Json.{items_of, maybe, members_of, object_of, texts_of, with_row, with_rows}
+use Rattle.pymark_core.specs.Environment.{EnvironmentValue, empty_environment}
 use Rattle.pymark_core.specs.Variables.{variable_name, variables}
 use Rattle.pymark_core.specs.declared.variable.Var.{Var}
 use Rattle.pymark_core.specs.declared.variable.Var.TheVariants as var
@@ -35,7 +35,7 @@ use Rattle.pywheel_core.specs.declared.target.platform.WindowsArch.TheVariants a
 use Rattle.pywheel_core.specs.Target.Tags.{target_tags}
 use Rattle.pywheel_core.specs.Target.Value.{TargetValue, is_target}
 use Rattle.pylock_readers.proofs.JsonText.{AllUtf8, IsText, IsTextual, list_depth, text_reads, text_utf8, textual_list, texts_both}
-use Rattle.pylock_readers.specs.Environment.{env_in, env_of, from_tags, tag_list_of, texts_in, value_of, with_member, with_members}
+use Rattle.pylock_readers.specs.Environment.{env_in, env_of, from_tags, member_text_in, tag_list_of, texts_in, value_of, with_member, with_members, with_text}
 use Rattle.serde_json.specs.Written.{compact_text}
 use Rattle.pylock_readers.specs.Target.{release_text, target_data, target_environment, target_text, variable_row, variable_rows, variable_text}
 use Rattle.pylock_readers.specs.Text.{utf8_text}
@@ -43,7 +43,7 @@ use Rattle.pylock_readers.specs.declared.error.EnvError.{EnvError}
 use Rattle.pylock_readers.specs.declared.error.EnvError.TheVariants as error
 
 abbrev pub set_one : TargetValue → EnvironmentValue → Var → EnvironmentValue
-set_one t e variable = with_variable variable (variable_text t variable) e
+set_one t e variable = with_text variable (variable_text t variable) e
 
 pub all_set : (t : TargetValue) → fold (set_one t) empty_environment variables ≡ target_environment t
 unfolding target_environment
@@ -51,7 +51,7 @@ all_set t = refl
 
 -- ---- the variables, read back
 
-name_there : (t : TargetValue) (v : Var) → get_member (variable_name v) (members_of (variable_rows t)) ≡ Some (value.string (variable_text t v))
+name_there : (t : TargetValue) (v : Var) → get_member (variable_name v) (members_of (variable_rows t)) ≡ maybe (variable_text t v)
 name_there t var.OsName = refl
 name_there t var.SysPlatform = refl
 name_there t var.PlatformMachine = refl
@@ -64,19 +64,24 @@ name_there t var.PythonFullVersion = refl
 name_there t var.ImplementationName = refl
 name_there t var.ImplementationVersion = refl
 
-members_set : (t : TargetValue) (ms : Members) (vs : List Var) (e : EnvironmentValue) → ((v : Var) → get_member (variable_name v) ms ≡ Some (value.string (variable_text t v)))
+text_there : (text : Option (List ℕ)) → member_text_in (maybe text) ≡ Ok text
+text_there None = refl
+text_there (Some text) = refl
+
+members_set : (t : TargetValue) (ms : Members) (vs : List Var) (e : EnvironmentValue) → ((v : Var) → get_member (variable_name v) ms ≡ maybe (variable_text t v))
     → with_members vs ms e ≡ Ok (fold (set_one t) e vs)
 unfolding with_members
 members_set t ms [] e there = refl
 members_set t ms (v ∷ vs) e there =
-    let here = there v in rw here (members_set t ms vs (set_one t e v) there)
+    let here : member_text_in (get_member (variable_name v) ms) ≡ Ok (variable_text t v) = ap member_text_in (there v) ∙ text_there (variable_text t v) in
+    rw here (members_set t ms vs (set_one t e v) there)
 
 -- a variable more among the members
-pub put_more : (t : TargetValue) (vs : List Var) (i : ℕ) (ms now next : Members) (key text : List ℕ) → i < length vs → now ≡ with_rows (map (variable_row t) (take i vs)) ms
-    → key ≡ variable_name (get_or vs i var.OsName) → text ≡ variable_text t (get_or vs i var.OsName) → next ≡ put key (value.string text) now
+pub put_more : (t : TargetValue) (vs : List Var) (i : ℕ) (ms now next : Members) (key : List ℕ) (text : Option (List ℕ)) → i < length vs → now ≡ with_rows (map (variable_row t) (take i vs)) ms
+    → key ≡ variable_name (get_or vs i var.OsName) → text ≡ variable_text t (get_or vs i var.OsName) → next ≡ with_row (key, maybe text) now
     → next ≡ with_rows (map (variable_row t) (take (i + 1) vs)) ms
 put_more t vs i ms now next key text within is k x e =
-    e ∙ (λ j. put (k j) (value.string (x j)) (is j))
+    e ∙ (λ j. with_row (k j, maybe (x j)) (is j))
     ∙ sym (ap (λ l. with_rows l ms) (ap (map (variable_row t)) (take_more vs i var.OsName within) ∙ map-append (variable_row t) (take i vs) (get_or vs i var.OsName ∷ []))
     ∙ with_rows_behind (map (variable_row t) (take i vs)) (variable_row t (get_or vs i var.OsName) ∷ []) ms)
 
@@ -140,14 +145,18 @@ machine_ascii (platform.Windows windows.Arm64) = refl
 release_ascii : (p : CPython) → p.minor < 2 ^ 64 → p.micro < 2 ^ 64 → are_ascii (release_text p) ≡ true
 release_ascii p a b = both_ascii (decimal p.minor) (codes "." ++ decimal p.micro) (number_ascii p.minor a) (number_ascii p.micro b)
 
-variable_ascii : (t : TargetValue) (v : Var) → is_target t ≡ true → are_ascii (variable_text t v) ≡ true
+-- the text of a variable, where there is one
+abbrev IsAsciiWhere : Option (List ℕ) → Type 0
+IsAsciiWhere text = IfSome text (λ w. are_ascii w ≡ true)
+
+variable_ascii : (t : TargetValue) (v : Var) → is_target t ≡ true → IsAsciiWhere (variable_text t v)
 variable_ascii t var.OsName known = os_ascii t.platform
 variable_ascii t var.SysPlatform known = sys_ascii t.platform
 variable_ascii t var.PlatformMachine known = machine_ascii t.platform
 variable_ascii t var.PlatformPythonImplementation known = refl
-variable_ascii t var.PlatformRelease known = refl
+variable_ascii t var.PlatformRelease known = tt
 variable_ascii t var.PlatformSystem known = system_ascii t.platform
-variable_ascii t var.PlatformVersion known = refl
+variable_ascii t var.PlatformVersion known = tt
 variable_ascii t var.PythonVersion known = let b = (numbers_fit t known).0 in number_ascii t.python.minor b
 variable_ascii t var.PythonFullVersion known = let b = numbers_fit t known in release_ascii t.python b.0 b.1
 variable_ascii t var.ImplementationName known = refl
@@ -164,10 +173,6 @@ unfolding AllUtf8
 all_utf8 [] each = tt
 all_utf8 (x ∷ tags) each = (each x (inl refl), all_utf8 tags (λ y h. each y (inr h)))
 
--- the texts of the variables are UTF-8
-variable_utf8 : (t : TargetValue) (v : Var) → is_target t ≡ true → IsUtf8 (variable_text t v)
-variable_utf8 t v known = IsUtf8-are_ascii (variable_text t v) (variable_ascii t v known)
-
 abbrev pub variables_of : TargetValue → Data
 variables_of t = object_of (variable_rows t)
 
@@ -175,71 +180,8 @@ textual_variables : (t : TargetValue) → is_target t ≡ true → IsTextual (va
 unfolding IsText
 textual_variables t known =
     let lit : (w : List ℕ) → are_ascii w ≡ true → IsUtf8 w = IsUtf8-are_ascii in
-    let of : (v : Var) → IsUtf8 (variable_text t v) = λ v. variable_utf8 t v known in record {
-      texts = (
-        tt,
-        (
-          lit (codes "implementation_name") refl,
-          (
-            of var.ImplementationName,
-            (
-              lit (codes "implementation_version") refl,
-              (
-                of var.ImplementationVersion,
-                (
-                  lit (codes "os_name") refl,
-                  (
-                    of var.OsName,
-                    (
-                      lit (codes "platform_machine") refl,
-                      (
-                        of var.PlatformMachine,
-                        (
-                          lit (codes "platform_python_implementation") refl,
-                          (
-                            of var.PlatformPythonImplementation,
-                            (
-                              lit (codes "platform_release") refl,
-                              (
-                                of var.PlatformRelease,
-                                (
-                                  lit (codes "platform_system") refl,
-                                  (
-                                    of var.PlatformSystem,
-                                    (
-                                      lit (codes "platform_version") refl,
-                                      (
-                                        of var.PlatformVersion,
-                                        (
-                                          lit (codes "python_full_version") refl,
-                                          (
-                                            of var.PythonFullVersion,
-                                            (
-                                              lit (codes "python_version") refl,
-                                              (
-                                                of var.PythonVersion,
-                                                (lit (codes "sys_platform") refl, (of var.SysPlatform, (tt, tt))),
-                                              ),
-                                            ),
-                                          ),
-                                        ),
-                                      ),
-                                    ),
-                                  ),
-                                ),
-                              ),
-                            ),
-                          ),
-                        ),
-                      ),
-                    ),
-                  ),
-                ),
-              ),
-            ),
-          ),
-        ),
-      );
+    let of : (v : Var) → IsAsciiWhere (variable_text t v) = λ v. variable_ascii t v known in record {
+      texts = (tt, (lit (codes "implementation_name") refl, (lit _ (of var.ImplementationName), (lit (codes "implementation_version") refl, (lit _ (of var.ImplementationVersion), (lit (codes "os_name") refl, (lit _ (of var.OsName), (lit (codes "platform_machine") refl, (lit _ (of var.PlatformMachine), (lit (codes "platform_python_implementation") refl, (lit _ (of var.PlatformPythonImplementation), (lit (codes "platform_system") refl, (lit _ (of var.PlatformSystem), (lit (codes "python_full_version") refl, (lit _ (of var.PythonFullVersion), (lit (codes "python_version") refl, (lit _ (of var.PythonVersion), (lit (codes "sys_platform") refl, (lit _ (of var.SysPlatform), (tt, tt))))))))))))))))))));
       read = refl;
       nested = omega arith;
     }

@@ -1,9 +1,10 @@
 -- The environment of a target, as a machine of its kind has it, and its text.
-use Rattle.std.specs.Prelude.{ℕ, ◌++◌, List, [], ◌∷◌, Some, codes, decimal, map, Result, Ok, Err}
+use Rattle.std.specs.Prelude.{ℕ, ◌++◌, List, [], ◌∷◌, codes, decimal, map}
+use Rattle.std.specs.Prelude.{Option, Some, None, Result, Ok, Err}
 use Rattle.std.specs.FinSet as set
 use Rattle.serde_json.specs.Data.{Data}
 use Rattle.serde_json.specs.Written.{compact_text}
-use Rattle.pylock_json.specs.Json.{Row, object_of, texts_of, there}
+use Rattle.pylock_json.specs.Json.{Row, maybe, object_of, texts_of}
 use Rattle.pymark_core.specs.Environment.{EnvironmentValue}
 use Rattle.pymark_core.specs.Variables.{variable_name, variables}
 use Rattle.pymark_core.specs.declared.variable.Var.{Var}
@@ -31,23 +32,25 @@ abbrev pub release_text : CPython → List ℕ
 release_text python =
     codes "3." ++ (decimal python.minor ++ (codes "." ++ decimal python.micro))
 
-abbrev pub variable_text : TargetValue → Var → List ℕ
-variable_text target var.OsName = os_name target.platform
-variable_text target var.SysPlatform = sys_platform target.platform
-variable_text target var.PlatformMachine = platform_machine target.platform
-variable_text target var.PlatformPythonImplementation = codes "CPython"
-variable_text target var.PlatformRelease = []
-variable_text target var.PlatformSystem = platform_system target.platform
-variable_text target var.PlatformVersion = []
-variable_text target var.PythonVersion = version_text target.python
-variable_text target var.PythonFullVersion = release_text target.python
-variable_text target var.ImplementationName = codes "cpython"
-variable_text target var.ImplementationVersion = release_text target.python
+-- what is known of such a machine: not which release and which build of its system it has
+abbrev pub variable_text : TargetValue → Var → Option (List ℕ)
+variable_text target var.OsName = Some (os_name target.platform)
+variable_text target var.SysPlatform = Some (sys_platform target.platform)
+variable_text target var.PlatformMachine = Some (platform_machine target.platform)
+variable_text target var.PlatformPythonImplementation = Some (codes "CPython")
+variable_text target var.PlatformRelease = None
+variable_text target var.PlatformSystem = Some (platform_system target.platform)
+variable_text target var.PlatformVersion = None
+variable_text target var.PythonVersion = Some (version_text target.python)
+variable_text target var.PythonFullVersion = Some (release_text target.python)
+variable_text target var.ImplementationName = Some (codes "cpython")
+variable_text target var.ImplementationVersion = Some (release_text target.python)
 
--- all eleven are set, and nothing is asked for
+-- a variable without a text is unset, so that a marker that reads it is a fault and never a guess;
+-- nothing is asked for
 unfoldable pub target_environment : TargetValue → EnvironmentValue
 target_environment target = record {
-  variables = map (λ variable. Some (variable_text target variable)) variables;
+  variables = map (variable_text target) variables;
   extras = set.empty;
   groups = set.empty;
 }
@@ -70,9 +73,9 @@ target_env_of python platform = environment_of (target_of python platform)
 
 -- ---- its text
 
--- the object `environment`
+-- the object `environment`, which has no member for a variable without a text
 abbrev pub variable_row : TargetValue → Var → Row
-variable_row target variable = (variable_name variable, there (variable_text target variable))
+variable_row target variable = (variable_name variable, maybe (variable_text target variable))
 
 abbrev pub variable_rows : TargetValue → List Row
 variable_rows target = map (variable_row target) variables

@@ -1,11 +1,12 @@
 //! The environment of a target, and its text.
 ghost use Rattle.std.specs.Prelude.{◌≡◌, IfOk, OnOk, fold, map, string_bytes};
+ghost use Rattle.std.specs.Option.{option_copied};
 ghost use Rattle.serde_json.specs.View.{members_view, view as data_of};
 ghost use Rattle.pytext.specs.Agreement.{Gives};
 ghost use Rattle.pylock_json.specs.Json.{members_of, texts_of, with_rows};
-ghost use Rattle.pymark_core.specs.Environment.{with_variable};
 ghost use Rattle.pywheel_core.specs.Tag.{tag_text};
 ghost use Rattle.pywheel_core.specs.Target.Tags.{target_tags};
+ghost use Rattle.pylock_readers.specs.Environment.{with_text};
 ghost use Rattle.pylock_readers.specs.Target.{target_env_of};
 ghost use Rattle.pylock_readers.specs.Target.{target_environment, target_text, variable_rows};
 ghost use Rattle.pylock_readers.specs.Target.{variable_row, variable_text};
@@ -35,8 +36,9 @@ pub fn read_target(
     }
 }
 
-/// The environment of a target, in which each variable of markers is set and nothing is asked for,
-/// and its list of tags. It takes memory for both.
+/// The environment of a target, and its list of tags. Each variable of markers is set but
+/// `platform_release` and `platform_version`, which a target doesn't know, and nothing is asked for.
+/// It takes memory for both.
 pub fn target_environment(
     alloc: Global,
     target: &Target,
@@ -124,26 +126,26 @@ impl VariableTexts {
         })
     }
 
-    fn text(&self, variable: Var) -> &str
-        ensures { result.now ≡ variable_text self.now variable }
+    /// The text of the variable, where a target knows it.
+    fn text(&self, variable: Var) -> Option<&str>
+        ensures { option_copied result ≡ variable_text self.now variable }
     {
         let platform = self.target.platform();
         match variable {
-            Var::OsName => platform.os_name(),
-            Var::SysPlatform => platform.sys_platform(),
-            Var::PlatformMachine => platform.platform_machine(),
-            Var::PlatformPythonImplementation => "CPython",
-            Var::PlatformRelease => "",
-            Var::PlatformSystem => platform.platform_system(),
-            Var::PlatformVersion => "",
-            Var::PythonVersion => self.version.as_str(),
-            Var::PythonFullVersion => self.release.as_str(),
-            Var::ImplementationName => "cpython",
-            Var::ImplementationVersion => self.release.as_str(),
+            Var::OsName => Some(platform.os_name()),
+            Var::SysPlatform => Some(platform.sys_platform()),
+            Var::PlatformMachine => Some(platform.platform_machine()),
+            Var::PlatformPythonImplementation => Some("CPython"),
+            Var::PlatformSystem => Some(platform.platform_system()),
+            Var::PlatformRelease | Var::PlatformVersion => None,
+            Var::PythonVersion => Some(self.version.as_str()),
+            Var::PythonFullVersion => Some(self.release.as_str()),
+            Var::ImplementationName => Some("cpython"),
+            Var::ImplementationVersion => Some(self.release.as_str()),
         }
     }
 
-    /// The environment with each variable set.
+    /// The environment with each variable that has a text.
     fn environment(&self, alloc: Global) -> Result<Environment, AllocError>
         ensures { IfOk result (λ environment. environment ≡ target_environment self.now) }
     {
@@ -154,16 +156,27 @@ impl VariableTexts {
 
     fn set_all(&self, environment: &mut Environment, variables: &[Var]) -> Result<(), AllocError>
         ensures { OnOk result (environment.new ≡ fold
-            (λ e variable. with_variable variable (variable_text self.now variable) e)
+            (λ e variable. with_text variable (variable_text self.now variable) e)
             environment.old variables.now) }
     {
         for variable in variables {
-            environment.set(*variable, self.text(*variable))?;
+            self.set_one(environment, *variable)?;
         }
         Ok(())
     }
 
-    /// The object with a member for each variable.
+    /// Sets the variable where it has a text.
+    fn set_one(&self, environment: &mut Environment, variable: Var) -> Result<(), AllocError>
+        ensures { OnOk result (environment.new
+            ≡ with_text variable (variable_text self.now variable) environment.old) }
+    {
+        match self.text(variable) {
+            Some(text) => environment.set(variable, text),
+            None => Ok(()),
+        }
+    }
+
+    /// The object with a member for each variable that has a text.
     fn object(&self, alloc: Global) -> Result<Object, AllocError>
         ensures { IfOk result (λ object.
             members_view object ≡ members_of (variable_rows self.now)) }
@@ -183,7 +196,7 @@ impl VariableTexts {
             ≡ with_rows (map (variable_row self.now) variables.now) (members_view object.old)) }
     {
         for variable in variables {
-            object.put_text(alloc, variable.name(), self.text(*variable))?;
+            object.put_maybe(alloc, variable.name(), self.text(*variable))?;
         }
         Ok(())
     }

@@ -81,7 +81,8 @@ pub enum TargetError {
     /// from 8 to 99 and a MICRO to 999.
     #[error("python")]
     Python,
-    /// PLATFORM isn't the name of a platform, or one of `linux`, `macos` and `windows`.
+    /// PLATFORM isn't the name of a platform, in the words of wheels or of uv, or one of `linux`,
+    /// `macos` and `windows`.
     #[error("platform")]
     Platform,
 }

@@ -40,8 +40,9 @@ impl Model for Target {
 impl Target {
     /// The target that PYTHON and PLATFORM name, as `3.12` and `manylinux_2_28_x86_64`. PYTHON is
     /// `3.MINOR` or `3.MINOR.MICRO`, with `t` behind it for the free-threaded build; PLATFORM is a
-    /// platform under the name of its own wheels, an older name of manylinux, or one of `linux`,
-    /// `macos` and `windows`. PYTHON is judged first. It takes no memory.
+    /// platform under the name of its own wheels, an older name of manylinux, what uv calls it (as
+    /// `x86_64-manylinux_2_28`, `aarch64-apple-darwin`), or one of `linux`, `macos` and `windows`.
+    /// PYTHON is judged first. It takes no memory.
     #[tactic(auto, using(crate::proofs::fits), unfolding(crate::specs::Target::Reading::target_of))]
     pub fn parse(python: &str, platform: &str) -> Result<Target, TargetError>
         ensures { result ≡ target_of python.now platform.now }

@@ -103,7 +103,7 @@ complete -c pylock -f
 complete -c pylock -n __pylock_in_none -s h -l help -d 'Print help'
 complete -c pylock -n __pylock_in_none -s V -l version -d 'Print version'
 complete -c pylock -n '__pylock_in plan explain select diff environment marker' -l python -x -a '3.10 3.11 3.12 3.13 3.14 3.13t 3.14t' -d 'The Python of a target: 3.12, 3.12.4 or 3.13t'
-complete -c pylock -n '__pylock_in plan explain select diff environment marker' -l platform -x -a 'linux macos windows manylinux_2_28_x86_64 manylinux_2_28_aarch64 musllinux_1_2_x86_64 musllinux_1_2_aarch64 macosx_14_0_arm64 macosx_14_0_x86_64 win_amd64 win_arm64 win32' -d 'Its platform: linux or manylinux_2_28_x86_64'
+complete -c pylock -n '__pylock_in plan explain select diff environment marker' -l platform -x -a 'linux macos windows manylinux_2_28_x86_64 manylinux_2_28_aarch64 musllinux_1_2_x86_64 musllinux_1_2_aarch64 macosx_14_0_arm64 macosx_14_0_x86_64 win_amd64 win_arm64 win32 x86_64-unknown-linux-gnu aarch64-unknown-linux-gnu aarch64-apple-darwin x86_64-pc-windows-msvc' -d 'Its platform: linux or manylinux_2_28_x86_64'
 complete -c pylock -n '__pylock_in plan explain diff' -l all-extras -d 'Ask for each extra of the lock'
 complete -c pylock -n '__pylock_in plan explain diff' -l extra -x -a '(__pylock_names extras)' -d 'Ask for an extra of the lock: --extra test'
 complete -c pylock -n '__pylock_in plan explain diff' -l no-default-groups -d 'Leave out the default groups'

@@ -2,10 +2,12 @@
 -- written in decimal, with no zero in front of it.
 use Rattle.std.specs.Prelude.{◌≡◌, ◌⊎◌, ℕ, true, if◌then◌else◌, List, [], ◌++◌, codes, decimal}
 use Rattle.pywheel_core.specs.Target.Compatible.{IsGlibcName}
-use Rattle.pywheel_core.specs.Target.Names.{mac_arch_name, windows_name}
+use Rattle.pywheel_core.specs.Target.Names.{linux_arch_name, mac_arch_name, mac_triple}
+use Rattle.pywheel_core.specs.Target.Names.{windows_name, windows_triple}
 use Rattle.pywheel_core.specs.Target.Platforms.{mac_name, musl_name}
 use Rattle.pywheel_core.specs.Target.Value.{TargetValue, is_cpython, is_platform}
 use Rattle.pywheel_core.specs.declared.target.cpython.CPython.{CPython}
+use Rattle.pywheel_core.specs.declared.target.platform.LinuxArch.{LinuxArch}
 use Rattle.pywheel_core.specs.declared.target.platform.LinuxArch.TheVariants as linux
 use Rattle.pywheel_core.specs.declared.target.platform.MacArch.TheVariants as mac
 use Rattle.pywheel_core.specs.declared.target.platform.Platform.{Platform}
@@ -45,6 +47,26 @@ IsWheelName (platform.MacOs major minor arch) text =
     text ≡ mac_name major minor (mac_arch_name arch)
 IsWheelName (platform.Windows arch) text = text ≡ windows_name arch
 
+-- what uv calls a platform of glibc 2.`minor`: `unknown-linux-gnu` is of 2.28
+abbrev pub IsGlibcTriple : LinuxArch → ℕ → List ℕ → Type 0
+IsGlibcTriple arch minor text =
+    (text ≡ linux_arch_name arch ++ (codes "-manylinux_2_" ++ decimal minor))
+    ⊎ (((minor ≡ 17) × (text ≡ linux_arch_name arch ++ codes "-manylinux2014"))
+    ⊎ ((minor ≡ 28) × (text ≡ linux_arch_name arch ++ codes "-unknown-linux-gnu")))
+
+-- what uv calls the platform, a musl being of 1.2 and a macOS of 14.0:
+--     ARCH-manylinux_2_MINOR, ARCH-manylinux2014, ARCH-unknown-linux-gnu
+--     ARCH-unknown-linux-musl
+--     aarch64-apple-darwin, x86_64-apple-darwin
+--     x86_64-pc-windows-msvc, i686-pc-windows-msvc, aarch64-pc-windows-msvc
+abbrev pub IsTriple : Platform → List ℕ → Type 0
+IsTriple (platform.Manylinux minor arch) text = IsGlibcTriple arch minor text
+IsTriple (platform.Musllinux minor arch) text =
+    (minor ≡ 2) × (text ≡ linux_arch_name arch ++ codes "-unknown-linux-musl")
+IsTriple (platform.MacOs major minor arch) text =
+    (major ≡ 14) × (minor ≡ 0) × (text ≡ mac_triple arch)
+IsTriple (platform.Windows arch) text = text ≡ windows_triple arch
+
 -- one of the words that stand for a platform, and the platform for which it stands
 abbrev pub IsShortName : Platform → List ℕ → Type 0
 IsShortName place text =
@@ -54,7 +76,7 @@ IsShortName place text =
 
 -- The text is a name of a platform that there is.
 pub record PlatformText (text : List ℕ) (place : Platform) : Type 0 where
-  pub named : IsWheelName place text ⊎ IsShortName place text
+  pub named : IsWheelName place text ⊎ (IsTriple place text ⊎ IsShortName place text)
   pub known : is_platform place ≡ true
 
 -- the text names a platform

@@ -28,6 +28,17 @@ windows_name windows.X86 = codes "win32"
 windows_name windows.Amd64 = codes "win_amd64"
 windows_name windows.Arm64 = codes "win_arm64"
 
+-- ---- what Rust's target triples, which uv takes, call them
+
+abbrev pub mac_triple : MacArch → List ℕ
+mac_triple mac.X86_64 = codes "x86_64-apple-darwin"
+mac_triple mac.Arm64 = codes "aarch64-apple-darwin"
+
+abbrev pub windows_triple : WindowsArch → List ℕ
+windows_triple windows.X86 = codes "i686-pc-windows-msvc"
+windows_triple windows.Amd64 = codes "x86_64-pc-windows-msvc"
+windows_triple windows.Arm64 = codes "aarch64-pc-windows-msvc"
+
 -- ---- what `os`, `sys` and `platform` of Python say there
 
 abbrev pub os_name : Platform → List ℕ

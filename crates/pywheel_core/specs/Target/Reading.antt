@@ -144,14 +144,58 @@ platform_behind word rest =
     else (if bytes_eq word (codes "manylinux2010") then older_platform 12 rest
     else (if bytes_eq word (codes "manylinux2014") then older_platform 17 rest else None))))))
 
--- a PLATFORM as it is cut at its first `_`
+-- a PLATFORM without `-`, as it is cut at its first `_`
+abbrev pub undashed_in : List ℕ → Option (List ℕ × List ℕ) → Option Platform
+undashed_in text None = lone_platform text
+undashed_in text (Some parts) = platform_behind parts.0 parts.1
+
+unfoldable pub undashed_platform : List ℕ → Option Platform
+undashed_platform text = undashed_in text (cut_at 95 text)
+
+-- ARCH before `-apple-darwin`
+unfoldable pub apple_platform : List ℕ → Option Platform
+apple_platform text =
+    if bytes_eq text (codes "aarch64") then Some (platform.MacOs 14 0 mac.Arm64)
+    else (if bytes_eq text (codes "x86_64") then Some (platform.MacOs 14 0 mac.X86_64) else None)
+
+-- ARCH before `-pc-windows-msvc`
+unfoldable pub msvc_platform : List ℕ → Option Platform
+msvc_platform text =
+    if bytes_eq text (codes "x86_64") then Some (platform.Windows windows.Amd64)
+    else (if bytes_eq text (codes "i686") then Some (platform.Windows windows.X86)
+    else (if bytes_eq text (codes "aarch64") then Some (platform.Windows windows.Arm64) else None))
+
+-- `manylinux_2_MINOR` behind ARCH and `-`
+unfoldable pub glibc_triple : LinuxArch → List ℕ → Option Platform
+glibc_triple arch text = do
+  parts ← versioned text
+  minor ← number_below 100 parts.2
+  if bytes_eq parts.0 (codes "manylinux") && bytes_eq parts.1 (codes "2")
+      then Some (platform.Manylinux minor arch) else None
+
+-- by what stands behind ARCH and `-`
+unfoldable pub linux_triple : LinuxArch → List ℕ → Option Platform
+linux_triple arch text =
+    if bytes_eq text (codes "unknown-linux-gnu") then Some (platform.Manylinux 28 arch)
+    else (if bytes_eq text (codes "unknown-linux-musl") then Some (platform.Musllinux 2 arch)
+    else (if bytes_eq text (codes "manylinux2014") then Some (platform.Manylinux 17 arch)
+    else glibc_triple arch text))
+
+-- by ARCH, and what stands behind its `-`
+unfoldable pub triple_platform : List ℕ → List ℕ → Option Platform
+triple_platform arch rest =
+    if bytes_eq rest (codes "apple-darwin") then apple_platform arch
+    else (if bytes_eq rest (codes "pc-windows-msvc") then msvc_platform arch
+    else linux_arch_of arch >>= λ machine. linux_triple machine rest)
+
+-- a PLATFORM as it is cut at its first `-`
 abbrev pub platform_in : List ℕ → Option (List ℕ × List ℕ) → Option Platform
-platform_in text None = lone_platform text
-platform_in text (Some parts) = platform_behind parts.0 parts.1
+platform_in text None = undashed_platform text
+platform_in text (Some parts) = triple_platform parts.0 parts.1
 
 -- a platform, be there one or not
 unfoldable pub shaped_platform : List ℕ → Option Platform
-shaped_platform text = platform_in text (cut_at 95 text)
+shaped_platform text = platform_in text (cut_at 45 text)
 
 -- a platform that there is
 unfoldable pub platform_of : List ℕ → Option Platform

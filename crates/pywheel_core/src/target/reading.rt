@@ -4,7 +4,7 @@ ghost use Rattle.std.specs.Prelude.{◌≡◌, ◌<◌, IfSome, option_map};
 ghost use Rattle.pywheel_core.specs.Target.Reading as reading;
 ghost use Rattle.pywheel_core.specs.Texts.{cut_at};
 
-use crate::cut::before_ending;
+use crate::cut::{before_ending, cut};
 use crate::tag_set::cut_at_dot;
 use crate::target::cpython::CPython;
 use crate::target::platform::{LinuxArch, MacArch, Platform, WindowsArch};
@@ -118,6 +118,17 @@ pub(crate) fn read_platform(text: &str) -> Option<Platform>
 #[tactic(auto, unfolding(crate::specs::Target::Reading::shaped_platform))]
 fn shaped_platform(text: &str) -> Option<Platform>
     ensures { result ≡ reading.shaped_platform text.now }
+{
+    match cut(text) {
+        Some((arch, rest)) => triple_platform(arch, rest),
+        None => undashed_platform(text),
+    }
+}
+
+/// The platform with this name of wheels, or with this word.
+#[tactic(auto, unfolding(crate::specs::Target::Reading::undashed_platform))]
+fn undashed_platform(text: &str) -> Option<Platform>
+    ensures { result ≡ reading.undashed_platform text.now }
 {
     match cut_at_underscore(text) {
         Some((word, rest)) => platform_behind(word, rest),
@@ -245,6 +256,84 @@ fn windows_platform(text: &str) -> Option<Platform>
         Some(Platform::Windows(WindowsArch::Amd64))
     } else if text == "arm64" {
         Some(Platform::Windows(WindowsArch::Arm64))
+    } else {
+        None
+    }
+}
+
+/// The platform that uv calls by an architecture, `-`, and the rest.
+#[tactic(auto, unfolding(crate::specs::Target::Reading::triple_platform))]
+fn triple_platform(arch: &str, rest: &str) -> Option<Platform>
+    ensures { result ≡ reading.triple_platform arch.now rest.now }
+{
+    if rest == "apple-darwin" {
+        apple_platform(arch)
+    } else if rest == "pc-windows-msvc" {
+        msvc_platform(arch)
+    } else {
+        linux_triple(linux_arch(arch)?, rest)
+    }
+}
+
+#[tactic(auto, unfolding(crate::specs::Target::Reading::apple_platform))]
+fn apple_platform(arch: &str) -> Option<Platform>
+    ensures { result ≡ reading.apple_platform arch.now }
+{
+    if arch == "aarch64" {
+        Some(Platform::MacOs {
+            major: 14,
+            minor: 0,
+            arch: MacArch::Arm64,
+        })
+    } else if arch == "x86_64" {
+        Some(Platform::MacOs {
+            major: 14,
+            minor: 0,
+            arch: MacArch::X86_64,
+        })
+    } else {
+        None
+    }
+}
+
+#[tactic(auto, unfolding(crate::specs::Target::Reading::msvc_platform))]
+fn msvc_platform(arch: &str) -> Option<Platform>
+    ensures { result ≡ reading.msvc_platform arch.now }
+{
+    if arch == "x86_64" {
+        Some(Platform::Windows(WindowsArch::Amd64))
+    } else if arch == "i686" {
+        Some(Platform::Windows(WindowsArch::X86))
+    } else if arch == "aarch64" {
+        Some(Platform::Windows(WindowsArch::Arm64))
+    } else {
+        None
+    }
+}
+
+#[tactic(auto, unfolding(crate::specs::Target::Reading::linux_triple))]
+fn linux_triple(arch: LinuxArch, text: &str) -> Option<Platform>
+    ensures { result ≡ reading.linux_triple arch text.now }
+{
+    if text == "unknown-linux-gnu" {
+        Some(Platform::Manylinux { minor: 28, arch })
+    } else if text == "unknown-linux-musl" {
+        Some(Platform::Musllinux { minor: 2, arch })
+    } else if text == "manylinux2014" {
+        Some(Platform::Manylinux { minor: 17, arch })
+    } else {
+        glibc_triple(arch, text)
+    }
+}
+
+#[tactic(auto, unfolding(crate::specs::Target::Reading::glibc_triple))]
+fn glibc_triple(arch: LinuxArch, text: &str) -> Option<Platform>
+    ensures { result ≡ reading.glibc_triple arch text.now }
+{
+    let (name, major, minor) = versioned(text)?;
+    let minor = number_below_100(minor)?;
+    if name == "manylinux" && major == "2" {
+        Some(Platform::Manylinux { minor, arch })
     } else {
         None
     }
