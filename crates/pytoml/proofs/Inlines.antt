@@ -10,7 +10,7 @@ use Rattle.toml_parser.specs.declared.scalar.Scalar.{Scalar}
 use Rattle.toml_parser.specs.declared.scalar.Scalar.TheVariants.{Boolean, Integer, Float, Datetime}
 use Rattle.toml.specs.Data.{Data, Items, no_items, item, Members, push_item, array, string, table}
 use Rattle.toml.specs.Parse.{after_element, atom, items, read_map, scalar_data, val}
-use Rattle.toml.proofs.Turns.{items_end, val_atom, val_open_array, val_open_table}
+use Rattle.toml.proofs.Turns.{val_atom, val_open_array, val_open_table}
 use Rattle.pytoml.specs.Elements.{has_elements}
 use Rattle.pytoml.specs.Inline.{begins_elements}
 use Rattle.pytoml.specs.Outline.{AreSome}

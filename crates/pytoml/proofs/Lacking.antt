@@ -2,7 +2,7 @@
 use Rattle.std.proofs.Common.{◌≡◌, ℕ, Bool, true, false, List, ◌∷◌, Option, Some, None, option_map, refl, sym, ap, ◌∙◌}
 use Rattle.std.proofs.lemmas.Bool.{true≢false}
 use Rattle.toml.specs.Data.{Data, Items, no_items, item, array, push_item, same_key, table}
-use Rattle.toml.specs.Tables.{Node, Nodes, no_nodes, Origin, implicit, dotted, header, open_table, open_array, value, insert, replace, get_node, close, close_node}
+use Rattle.toml.specs.Tables.{Node, Nodes, no_nodes, implicit, dotted, header, open_table, open_array, value, insert, replace, get_node, close, close_node}
 use Rattle.toml.specs.Tables.{Edit, header_node, by_header, along_header, at_found, at_key, redefine, new_node, Definition, std_table, array_table, key_value}
 use Rattle.toml.proofs.NodeLaws.{get_node-insert, get_node-replace}
 use Rattle.pytoml.specs.Elements.{has_elements}

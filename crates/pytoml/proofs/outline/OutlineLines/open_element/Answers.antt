@@ -26,7 +26,7 @@ returns-in-Before g c = λ doc stands.
     let key = g.E.Elements.key in
     let (taken, holds, at) = stands in
     let before = subst (λ p. StandsAt key taken o.root p doc) c.in-Before.is at in
-    let some : (length c.args.key.path.items == 0) ≡ false = sym c.is_empty.ensures ∙ c.if-is_empty.false in
+    let some : (length c.args.key.path.items == 0) ≡ false = grind (arith, nat_tests, common_steps) in
     let n = c.open_element-in-Before.new.self in
     let r = c.open_element-in-Before.result in
     on_ok_then r (λ made. (made.0, made.1, (taken, holds, subst (λ p. StandsAt key taken n p made.0) (sym c.in-Before.is) made.2)))
