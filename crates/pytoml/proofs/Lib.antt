@@ -12,4 +12,5 @@ pub mod Numbers
 pub mod Dates
 pub mod Others
 pub mod Inlines
+pub mod Lacking
 pub mod Outlines

@@ -1,6 +1,8 @@
 -- Nodes and members at a key, beside what is done at other keys.
 use Rattle.std.proofs.Common.{◌≡◌, ℕ, cond, Bool, true, false, List, Some, nat_cmp, Ordering, Less, Equal, Greater, refl, sym, ap, ◌∙◌, None}
 use Rattle.std.specs.Cmp.{tied_itself}
+use Rattle.std.proofs.lemmas.Map.Text.{is_eq-slice_cmp}
+use Rattle.std.proofs.lemmas.Slice.Eq.{bytes_eq-Decides}
 use Rattle.std.proofs.lemmas.Cmp.{nat_list_cmp_total}
 use Rattle.std.specs.Cmp.Lexicographic.{slice_cmp}
 use Rattle.std.proofs.lemmas.Bool.{true≢false}
@@ -37,6 +39,9 @@ other_same : (k l m : List ℕ) → same_key k l ≡ false → slice_cmp nat_cmp
 other_same k l m other same =
     sym (eq_turned (slice_cmp nat_cmp k m))
     ∙ ap is_eq (sym (equal_to k l m (slice_cmp nat_cmp k m) refl same)) ∙ other_turned k l other
+
+pub same_is : (k l : List ℕ) → same_key k l ≡ true → k ≡ l
+same_is k l same = (bytes_eq-Decides k l).0 (sym (is_eq-slice_cmp k l) ∙ same)
 
 -- ---- nodes
 

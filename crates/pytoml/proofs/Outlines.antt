@@ -1,29 +1,29 @@
 -- What lines do to a document from which elements are handed out.
-use Rattle.std.proofs.Common.{◌≡◌, ℕ, Bool, ◌&&◌, ◌==◌, true, false, List, [], ◌∷◌, ◌++◌, Option, Some, None, option_map, refl, sym, ap, ap₂, subst, ◌∙◌}
+use Rattle.std.proofs.Common.{◌≡◌, ℕ, Bool, ◌&&◌, ◌==◌, true, false, List, [], ◌∷◌, ◌++◌, length, Option, Some, None, option_map, String, Global, refl, sym, ap, ap₂, subst, ◌∙◌}
 use Rattle.std.specs.Prelude.{⊤, Result, IfOk, OnOk, vec_len}
 use Rattle.std.specs.Borrow.{Bor}
 use Rattle.std.proofs.lemmas.Result.{IfOk-weaker}
 use Rattle.std.proofs.lemmas.Bool.{eq-eqb, eqb-true, true≢false}
-use Rattle.std.proofs.lemmas.Map.Text.{is_eq-slice_cmp}
-use Rattle.std.proofs.lemmas.Option.{none-some}
-use Rattle.std.proofs.lemmas.Slice.Eq.{bytes_eq-Decides}
 use Rattle.toml_parser.specs.Strings.{Key, recursion_limit}
+use Rattle.toml_parser.specs.Reading.{path_view}
 use Rattle.toml.specs.Parse.{val}
-use Rattle.toml.specs.Data.{Data, Items, no_items, item, Members, array, push_item, same_key, table}
+use Rattle.toml.specs.Data.{Data, Items, no_items, item, Members, array, get_member, push_item, same_key, table}
 use Rattle.toml.specs.Tables.{Node, Nodes, no_nodes, open_table, open_array, implicit, insert, replace, get_node, close, close_node, value, Edit, header_node, by_header, along_header, at_found, at_key, redefine, new_node, Definition, std_table, array_table, key_value, put, Document, define}
 use Rattle.toml.proofs.Turns.{at_key_new}
 use Rattle.pytoml.specs.Draft.{Defines, Puts, Ring, Stands, in_array, plug}
+use Rattle.pytoml.specs.Elements.{LacksElements, has_elements}
 use Rattle.pytoml.specs.Members.{with_elements, with_member}
-use Rattle.pytoml.specs.Outline.{AreSome, IsApart, IsAround, IsBefore, IsBehind, IsElsewhere, IsInline, IsLeft, IsOther, IsWithin, StandsAt, StandsBy, first_part}
+use Rattle.pytoml.specs.Outline.{AreSome, IsApart, IsAround, IsBefore, IsBehind, IsElsewhere, IsInline, IsLeft, IsOther, IsWithin, LacksArray, StandsAt, StandsBy, first_part}
 use Rattle.pytoml.specs.declared.draft.Draft.{Draft}
 use Rattle.pytoml.specs.declared.fault.Unread.{Unread}
 use Rattle.pytoml.specs.declared.outline.Place.{Place}
 use Rattle.pytoml.specs.declared.outline.Place.TheVariants.{Before, Within, Behind, Inline}
 use Rattle.pytoml.proofs.Levels.{along_none, next_in_array, no_levels}
 use Rattle.pytoml.proofs.Inlines.{push_some}
-use Rattle.pytoml.proofs.Others.{get_node-insert_other, get_node-replace_other, insert-other, other_turned, replace-insert_other}
-use Rattle.pytoml.proofs.Results.{on_ok_then}
-use Rattle.pytoml.proofs.Rings.{along-plug, close-insert}
+use Rattle.pytoml.proofs.Lacking.{IsPlain, lacks_along, lacks_at}
+use Rattle.pytoml.proofs.Others.{get_node-insert_other, get_node-replace_other, insert-other, other_turned, replace-insert_other, same_is}
+use Rattle.pytoml.proofs.Results.{made_of, none_made, on_ok_then}
+use Rattle.pytoml.proofs.Rings.{along-plug, close-get, close-insert}
 
 -- ---- an edit at another key
 
@@ -59,17 +59,6 @@ other_at_key key k what n rest other =
     by : (found : Option Node) → at_found k what (insert key n rest) found ≡ option_map (insert key n) (at_found k what rest found)
     by None = ap Some (insert-other k key (new_node what) n rest other)
     by (Some x) = changed (redefine what x)
-
--- what is made has at the key what was there
-made_of : {A : Type 0} (P : A → Type 0) (x made : A) → Some x ≡ Some made → P x → P made
-made_of {A = A} P x made e p = subst P (ap (λ o. or_else o) e) p
-  where
-    or_else : Option A → A
-    or_else None = x
-    or_else (Some y) = y
-
-none_made : {A : Type 0} {P : Type 0} (made : A) → None ≡ Some made → P
-none_made made e = absurd (none-some made e)
 
 absent_along : (key q : List ℕ) (qs : List (List ℕ)) (e : Edit) (rest made : Nodes) → same_key q key ≡ false → get_node key rest ≡ None
     → along_header (q ∷ qs) e rest ≡ Some made → get_node key made ≡ None
@@ -160,11 +149,43 @@ around_other : (key : List ℕ) (path : List (List ℕ)) → IsOther key path �
 around_other key [] other = absurd other
 around_other key (q ∷ qs) other = other
 
+-- ---- headers where no element was met
+
+-- the header puts no array at the key
+abbrev pub IsSparing : List ℕ → Key → Definition → Type 0
+IsSparing key ([], k) what = same_key k key ≡ true → IsPlain (new_node what)
+IsSparing key (q ∷ qs, k) what = ⊤
+
+sparing_other : (key : List ℕ) (e : Key) (what : Definition) → same_key (first_part e) key ≡ false → IsSparing key e what
+sparing_other key ([], k) what other = λ same. absurd (true≢false (sym same ∙ other))
+sparing_other key (q ∷ qs, k) what other = tt
+
+pub sparing_table : (key : List ℕ) (e : Key) → IsSparing key e std_table
+sparing_table key ([], k) = λ same. refl
+sparing_table key (q ∷ qs, k) = tt
+
+pub sparing_path : (key last : List ℕ) (path : List (String Global)) (what : Definition) → (length path == 0) ≡ false → IsSparing key (path_view path, last) what
+sparing_path key last [] what some = absurd (true≢false some)
+sparing_path key last (p ∷ ps) what some = tt
+
+header_lacks : (key : List ℕ) (e : Key) (what : Definition) (ns made : Nodes) → IsSparing key e what → LacksArray key ns → header_edit e what ns ≡ Some made → LacksArray key made
+header_lacks key ([], k) what ns made sparing lacks is = lacks_at key k what ns made sparing lacks (sym (along_none (at_key k what) ns) ∙ is)
+header_lacks key (q ∷ qs, k) what ns made sparing lacks is = lacks_along key q qs (at_key k what) ns made lacks is
+
+pub before_defined : (what : Definition) → IsHeader what → (key : List ℕ) (taken : Items) (old new : Draft) (result : Result ⊤ Unread) (e : Key) (doc : Document)
+    → IsBefore key taken old doc → IsSparing key e what → Defines Stands old new result (e, what)
+    → OnOk result ((next : Document) × (define doc (e, what) ≡ Some next) × IsBefore key taken new next)
+before_defined what is key taken old new result e doc before sparing defines =
+    on_ok_then result (λ made.
+    let (next, defined, stands) = made in
+    let (nodes, leads) = header_made (e.0 ++ e.1 ∷ []) (header_edit e what doc.0) next (sym (is doc e) ∙ defined) in
+    (next, defined, (before.0, stands, header_lacks key e what doc.0 next.0 sparing before.2 nodes))) (defines doc before.1)
+
 -- a header that doesn't go through the key, where no element is open
 pub left_defined : (what : Definition) → IsHeader what → (key : List ℕ) (taken : Items) (place : Place) (old new : Draft) (result : Result ⊤ Unread) (e : Key) (doc : Document)
     → IsLeft key taken old place doc → same_key (first_part e) key ≡ false → Defines Stands old new result (e, what)
     → OnOk result ((next : Document) × (define doc (e, what) ≡ Some next) × StandsAt key taken new place next)
-left_defined what is key taken Before old new result e doc left other defines = on_ok_then result (λ made. (made.0, made.1, (left.0, made.2))) (defines doc left.1)
+left_defined what is key taken Before old new result e doc left other defines = before_defined what is key taken old new result e doc left (sparing_other key e what other) defines
 left_defined what is key taken (Within element) old new result e doc left other defines = absurd left
 left_defined what is key taken Behind old new result e doc left other defines =
     on_ok_then result (λ made.
@@ -174,9 +195,6 @@ left_defined what is key taken Inline old new result e doc left other defines =
     on_ok_then result (λ made.
     let (after, defined, apart, path, away) = elsewhere what is key (value (array taken)) old new doc left.apart e other made.0 made.1 made.2 in
     (after, defined, record { apart = apart; path = path; around = around_other key after.1 away; some = left.some })) (defines (left.apart.rest, left.apart.path) left.apart.stands)
-
-pub same_is : (k l : List ℕ) → same_key k l ≡ true → k ≡ l
-same_is k l same = (bytes_eq-Decides k l).0 (sym (is_eq-slice_cmp k l) ∙ same)
 
 -- ---- within an element
 
@@ -282,14 +300,14 @@ IsPut holds key k text root place doc result =
 
 -- a pair, by what it makes of another document
 put_over : (holds : Items → Type 0) (key k text : List ℕ) (taken : Items) (root : Draft) (place : Place) (doc other : Document) (S : Document → Type 0) (result : Result (Bor (List ℕ)) Unread) → holds taken
-    → ((d : Data) (next : Document) → define other (([], k), key_value d) ≡ Some next → S next
+    → ((d : Data) (rest : List ℕ) (next : Document) → val recursion_limit text ≡ Some (d, rest) → define other (([], k), key_value d) ≡ Some next → S next
     → (after : Document) × (define doc (([], k), key_value d) ≡ Some after) × StandsAt key taken root place after)
     → IfOk result (λ rest. (d : Data) × (next : Document) × (val recursion_limit text ≡ Some (d, rest.now)) × (define other (([], k), key_value d) ≡ Some next) × S next)
     → IsPut holds key k text root place doc result
 put_over holds key k text taken root place doc other S result h step puts =
     IfOk-weaker result _ _ (λ rest made.
     let (d, next, read, defined, stands) = made in
-    let (after, now, at) = step d next defined stands in
+    let (after, now, at) = step d rest.now next read defined stands in
     (d, after, read, now, (taken, h, at))) puts
 
 -- in an element
@@ -297,13 +315,23 @@ pub put_within : (holds : Items → Type 0) (key k text : List ℕ) (taken : Ite
     → IsWithin key taken root old doc → Puts Stands old new result k text → IsPut holds key k text root (Within new) doc result
 put_within holds key k text taken root old new doc result h w puts =
     put_over holds key k text taken root (Within new) doc (w.inner, w.path) (Stands new) result h
-    (λ d next defined stands. within_put key taken root old new k d doc w next defined stands) (puts (w.inner, w.path) w.inside)
+    (λ d rest next read defined stands. within_put key taken root old new k d doc w next defined stands) (puts (w.inner, w.path) w.inside)
+
+-- a pair puts no array with elements at the key
+pair_lacks : (key : List ℕ) (path : List (List ℕ)) (k : List ℕ) (d : Data) (ns made : Nodes) → (path ≡ [] → same_key k key ≡ true → IsPlain (value d)) → LacksArray key ns
+    → along_header path (put ([], k) d) ns ≡ Some made → LacksArray key made
+pair_lacks key [] k d ns made plain lacks is = lacks_at key k (key_value d) ns made (plain refl) lacks (sym (put_root k d ns) ∙ is)
+pair_lacks key (q ∷ qs) k d ns made plain lacks is = lacks_along key q qs (put ([], k) d) ns made lacks is
 
 -- where no element was met
 pub put_before : (holds : Items → Type 0) (key k text : List ℕ) (taken : Items) (old new : Draft) (doc : Document) (result : Result (Bor (List ℕ)) Unread) → holds taken
-    → IsBefore taken old doc → Puts Stands old new result k text → IsPut holds key k text new Before doc result
-put_before holds key k text taken old new doc result h before puts =
-    put_over holds key k text taken new Before doc doc (Stands new) result h (λ d next defined stands. (next, defined, (before.0, stands))) (puts doc before.1)
+    → ((d : Data) (rest : List ℕ) → val recursion_limit text ≡ Some (d, rest) → doc.1 ≡ [] → same_key k key ≡ true → IsPlain (value d))
+    → IsBefore key taken old doc → Puts Stands old new result k text → IsPut holds key k text new Before doc result
+put_before holds key k text taken old new doc result h plain before puts =
+    put_over holds key k text taken new Before doc doc (Stands new) result h
+    (λ d rest next read defined stands.
+    let (nodes, leads) = header_made doc.1 (pair_edit doc k d) next (sym (of_pair doc k d) ∙ defined) in
+    (next, defined, (before.0, stands, pair_lacks key doc.1 k d doc.0 next.0 (plain d rest read) before.2 nodes))) (puts doc before.1)
 
 put_behind : (holds : Items → Type 0) (key k text : List ℕ) (taken : Items) (old new : Draft) (doc : Document) (result : Result (Bor (List ℕ)) Unread) → holds taken
     → IsElsewhere key taken old doc → Puts Stands old new result k text → IsPut holds key k text new Behind doc result
@@ -312,7 +340,7 @@ put_behind holds key k text taken old new doc result h at puts =
     let x : Node = open_array b.done b.last in
     let free : IsFree key b.apart.path k = free_other key k b.apart.path (subst (IsOther key) same other) in
     put_over holds key k text taken new Behind doc (b.apart.rest, b.apart.path) (Stands new) result h
-    (λ d next defined stands.
+    (λ d rest next read defined stands.
     let (after, now, apart, path, stays) = apart_put key k x old new d doc b.apart same free next defined stands in
     (after, now, (record { done = b.done; last = b.last; apart = apart; all = b.all }, path, subst (IsOther key) stays other))) (puts (b.apart.rest, b.apart.path) b.apart.stands)
 
@@ -341,7 +369,7 @@ put_inline holds key k text taken old new doc result h other i puts =
     let free : IsFree key b.path k =
     free_around key k b.path (subst (IsAround key) i.path i.around) (not_ours key k old (b.rest, b.path) other b.stands) in
     put_over holds key k text taken new Inline doc (b.rest, b.path) (Stands new) result h
-    (λ d next defined stands.
+    (λ d rest next read defined stands.
     let (after, now, apart, path, stays) = apart_put key k (value (array taken)) old new d doc b i.path free next defined stands in
     (after, now, record { apart = apart; path = path; around = subst (IsAround key) stays i.around; some = i.some })) (puts (b.rest, b.path) b.stands)
 
@@ -349,7 +377,8 @@ put_inline holds key k text taken old new doc result h other i puts =
 pub put_rest : (holds : Items → Type 0) (key k text : List ℕ) (taken : Items) (place : Place) (old new : Draft) (doc : Document) (result : Result (Bor (List ℕ)) Unread) → holds taken
     → ((element : Draft) → place ≡ Within element → ⊥) → IsNotOurs key k old → StandsAt key taken old place doc → Puts Stands old new result k text
     → IsPut holds key k text new place doc result
-put_rest holds key k text taken Before old new doc result h none other at puts = put_before holds key k text taken old new doc result h at puts
+put_rest holds key k text taken Before old new doc result h none other at puts =
+    put_before holds key k text taken old new doc result h (λ d rest read root same. absurd (true≢false (sym same ∙ not_ours key k old doc other at.1 root))) at puts
 put_rest holds key k text taken (Within element) old new doc result h none other at puts = absurd (none element refl)
 put_rest holds key k text taken Behind old new doc result h none other at puts = put_behind holds key k text taken old new doc result h at puts
 put_rest holds key k text taken Inline old new doc result h none other at puts = put_inline holds key k text taken old new doc result h other at puts
@@ -444,3 +473,22 @@ left_closed key taken (Within element) root doc ms left closes = absurd left
 left_closed key taken Behind root doc ms b closes =
     apart_closed key taken (open_array b.done b.last) root doc ms b.apart (ap array (sym b.all)) (subst AreSome (sym b.all) (push_some b.done (table (close b.last)))) closes
 left_closed key taken Inline root doc ms i closes = apart_closed key taken (value (array taken)) root doc ms i.apart refl i.some closes
+
+-- ---- what is left at the key
+
+absent_lacks : (key : List ℕ) (taken : Items) (ms : Members) → get_member key ms ≡ None → LacksElements key taken ms
+absent_lacks key no_items ms absent = ap has_elements absent
+absent_lacks key (item d ds) ms absent = absent
+
+apart_lacks : (key : List ℕ) (taken : Items) (x : Node) (root : Draft) (doc : Document) (ms : Members) → IsApart key x root doc.0
+    → ((d : Document) → Stands root d → ms ≡ close d.0) → LacksElements key taken ms
+apart_lacks key taken x root doc ms b closes =
+    absent_lacks key taken ms (ap (get_member key) (closes (b.rest, b.path) b.stands) ∙ sym (close-get key b.rest) ∙ ap (option_map close_node) b.absent)
+
+pub left_lacks : (key : List ℕ) (taken : Items) (place : Place) (root : Draft) (doc : Document) (ms : Members) → IsLeft key taken root place doc
+    → ((d : Document) → Stands root d → ms ≡ close d.0) → LacksElements key taken ms
+left_lacks key taken Before root doc ms left closes =
+    subst (λ t. LacksElements key t ms) (sym left.0) (ap (λ m. has_elements (get_member key m)) (closes doc left.1) ∙ ap has_elements (sym (close-get key doc.0)) ∙ left.2)
+left_lacks key taken (Within element) root doc ms left closes = absurd left
+left_lacks key taken Behind root doc ms b closes = apart_lacks key taken (open_array b.done b.last) root doc ms b.apart closes
+left_lacks key taken Inline root doc ms i closes = apart_lacks key taken (value (array taken)) root doc ms i.apart closes

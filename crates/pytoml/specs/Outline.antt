@@ -1,10 +1,12 @@
 -- How a document from which the elements of one array of tables are handed out, at a key of the
 -- root, stands to the nodes of TOML's rules. Only private clauses cite these words.
-use Rattle.std.specs.Prelude.{◌≡◌, ℕ, List, [], ◌∷◌, false, None, ⊤}
+use Rattle.std.specs.Prelude.{◌≡◌, ℕ, List, [], ◌∷◌, false, None, option_map, ⊤}
 use Rattle.toml_parser.specs.Strings.{Key}
 use Rattle.toml.specs.Data.{Items, no_items, item, push_item, same_key, array, table}
-use Rattle.toml.specs.Tables.{Document, Node, Nodes, close, get_node, insert, open_array, value}
+use Rattle.toml.specs.Tables.{Document, Node, Nodes, close, close_node, get_node, insert}
+use Rattle.toml.specs.Tables.{open_array, value}
 use Rattle.pytoml.specs.Draft.{Stands}
+use Rattle.pytoml.specs.Elements.{has_elements}
 use Rattle.pytoml.specs.declared.draft.Draft.{Draft}
 use Rattle.pytoml.specs.declared.outline.Place.{Place}
 use Rattle.pytoml.specs.declared.outline.Place.TheVariants.{Before, Within, Behind, Inline}
@@ -68,20 +70,24 @@ pub record IsInline (key : List ℕ) (taken : Items) (root : Draft) (doc : Docum
   pub around : IsAround key doc.1
   pub some : AreSome taken
 
+-- no array that has elements stands at the key
+abbrev pub LacksArray : List ℕ → Nodes → Type 0
+LacksArray key nodes = has_elements (option_map close_node (get_node key nodes)) ≡ false
+
 -- no element was met, and none taken
-abbrev pub IsBefore : Items → Draft → Document → Type 0
-IsBefore taken root doc = (taken ≡ no_items) × Stands root doc
+abbrev pub IsBefore : List ℕ → Items → Draft → Document → Type 0
+IsBefore key taken root doc = (taken ≡ no_items) × Stands root doc × LacksArray key doc.0
 
 -- a document, by the place that its reading has come to
 abbrev pub StandsAt : List ℕ → Items → Draft → Place → Document → Type 0
-StandsAt key taken root Before doc = IsBefore taken root doc
+StandsAt key taken root Before doc = IsBefore key taken root doc
 StandsAt key taken root (Within element) doc = IsWithin key taken root element doc
 StandsAt key taken root Behind doc = IsElsewhere key taken root doc
 StandsAt key taken root Inline doc = IsInline key taken root doc
 
 -- the same, where no element is open
 abbrev pub IsLeft : List ℕ → Items → Draft → Place → Document → Type 0
-IsLeft key taken root Before doc = IsBefore taken root doc
+IsLeft key taken root Before doc = IsBefore key taken root doc
 IsLeft key taken root (Within element) doc = ⊥
 IsLeft key taken root Behind doc = IsBehind key taken root doc.0
 IsLeft key taken root Inline doc = IsInline key taken root doc

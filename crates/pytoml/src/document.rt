@@ -8,6 +8,7 @@ ghost use Rattle.toml.specs.Parse as spec;
 ghost use Rattle.pytoml.specs.Inner.{Reads, Shortens};
 ghost use Rattle.toml.specs.Tables.{Document, array_table, no_nodes, std_table};
 ghost use Rattle.toml.specs.Data.{Items, no_items};
+ghost use Rattle.pytoml.specs.Elements.{LacksElements};
 ghost use Rattle.pytoml.specs.Members.{with_elements};
 ghost use Rattle.pytoml.specs.Draft.{Adds, Defines, IsDocument, Puts, array_header};
 
@@ -59,7 +60,8 @@ pub(crate) fn document_without<E: Elements>(
 ) -> Result<(Table, E), Unread>
     requires { E.holds elements no_items }
     ensures { IfOk result (λ read. (taken : Items) × E.holds read.1 taken
-        × (parse_document s.now ≡ Some (with_elements E.key taken (table_view read.0)))) }
+        × (parse_document s.now ≡ Some (with_elements E.key taken (table_view read.0)))
+        × LacksElements E.key taken (table_view read.0)) }
 {
     let mut outline = Outline::new(alloc, elements);
     add_lines(alloc, s, &mut outline)?;

@@ -21,6 +21,7 @@ ghost use Rattle.std.specs.Prelude.{◌≡◌, Err, IfOk, IfSome, None, Some};
 ghost use Rattle.toml.specs.Data.{Items, no_items};
 ghost use Rattle.toml.specs.Parse.{parse_document, parse_value};
 ghost use Rattle.toml.specs.View.{table_view, view};
+ghost use Rattle.pytoml.specs.Elements.{LacksElements};
 ghost use Rattle.pytoml.specs.Members.{with_elements};
 ghost use Rattle.pytoml.specs.declared.fault.TomlError.TheVariants as fault;
 
@@ -61,8 +62,9 @@ pub fn read_table(alloc: Global, text: &str) -> Result<Table, TomlError>
 /// The table that a document of TOML 1.1 is without the elements of one array of tables, at the key
 /// of `elements`, to which they are handed in their order, each as soon as it is complete: so one
 /// element's table stands at a time, be the array written with a header for each element or as one
-/// value. None where the text is of a shape that the short way doesn't know, a refused one among
-/// them; `elements` is let go then, and [`read_table_by_toml`] decides.
+/// value. What else stands at the key stays in the table: a value that is no array, or an array with
+/// no elements. None where the text is of a shape that the short way doesn't know, a refused one
+/// among them; `elements` is let go then, and [`read_table_by_toml`] decides.
 ///
 /// Takes memory for the table, for one element, and for what `elements` takes.
 pub fn read_table_without<E: Elements>(
@@ -72,7 +74,8 @@ pub fn read_table_without<E: Elements>(
 ) -> Result<Option<(Table, E)>, AllocError>
     requires { E.holds elements no_items }
     ensures { IfOk result (λ read. IfSome read (λ r. (taken : Items) × E.holds r.1 taken
-        × (parse_document text.now ≡ Some (with_elements E.key taken (table_view r.0))))) }
+        × (parse_document text.now ≡ Some (with_elements E.key taken (table_view r.0)))
+        × LacksElements E.key taken (table_view r.0))) }
 {
     match document_without(alloc, text, elements) {
         Ok(read) => Ok(Some(read)),

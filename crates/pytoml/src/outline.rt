@@ -8,6 +8,7 @@ ghost use Rattle.toml_parser.specs.Reading.{key_view};
 ghost use Rattle.toml.specs.Data.{Items, no_items, push_item, same_key, table};
 ghost use Rattle.toml.specs.Tables.{Document, array_table, close, no_nodes};
 ghost use Rattle.toml.specs.View.{table_view};
+ghost use Rattle.pytoml.specs.Elements.{LacksElements};
 ghost use Rattle.pytoml.specs.Members.{with_elements};
 ghost use Rattle.pytoml.specs.Draft.{Defines, Puts};
 ghost use Rattle.pytoml.specs.Inline.{begins_elements};
@@ -90,8 +91,9 @@ impl<E: Elements> Outline<E> {
     pub(crate) fn finish(mut self) -> Result<(Table, E), Unread>
         ensures { (doc : Document) → StandsBy (E.holds self.elements) E.key
             self.root self.place doc
-            → IfOk result (λ read. (taken : Items) × E.holds read.1 taken × (close doc.0
-            ≡ with_elements E.key taken (table_view read.0))) }
+            → IfOk result (λ read. (taken : Items) × E.holds read.1 taken
+            × (close doc.0 ≡ with_elements E.key taken (table_view read.0))
+            × LacksElements E.key taken (table_view read.0)) }
     {
         self.leave()?;
         let Outline {

@@ -1,4 +1,4 @@
-use Rattle.std.proofs.Common.{◌≡◌, ◌∙◌, ◌∷◌, [], Some, length, string_bytes, sym, ap, subst, arith}
+use Rattle.std.proofs.Common.{◌≡◌, ◌==◌, ◌∙◌, ◌∷◌, [], Some, false, length, string_bytes, sym, ap, subst, arith}
 use Rattle.std.proofs.lemmas.Bool.Decides.{nat_tests}
 use Rattle.std.proofs.lemmas.Grind.{common_steps}
 use Rattle.std.specs.Prelude.{OnOk}
@@ -7,7 +7,8 @@ use Rattle.toml.specs.Tables.{Document, array_table, define}
 use Rattle.toml.proofs.Turns.{path_view-none}
 use Rattle.pytoml.specs.Outline.{StandsAt, StandsBy, first_part}
 use Rattle.pytoml.specs.declared.outline.Place.TheVariants.{Within}
-use Rattle.pytoml.proofs.Outlines.{left_defined, of_array, on_ok_over, same_is, within_defined}
+use Rattle.pytoml.proofs.Outlines.{before_defined, left_defined, of_array, on_ok_over, sparing_path, within_defined}
+use Rattle.pytoml.proofs.Others.{same_is}
 use Rattle.pytoml.proofs.Results.{on_ok_then}
 use Rattle.pytoml.proofs.outline.OutlineLines.open_element.Goals as goal
 
@@ -25,9 +26,11 @@ returns-in-Before g c = λ doc stands.
     let key = g.E.Elements.key in
     let (taken, holds, at) = stands in
     let before = subst (λ p. StandsAt key taken o.root p doc) c.in-Before.is at in
-    on_ok_then c.open_element-in-Before.result
-    (λ made. (made.0, made.1, (taken, holds, subst (λ p. StandsAt key taken c.open_element-in-Before.new.self p made.0) (sym c.in-Before.is) (before.0, made.2))))
-    (c.open_element-in-Before.ensures doc before.1)
+    let some : (length c.args.key.path.items == 0) ≡ false = grind (arith, nat_tests, common_steps) in
+    let n = c.open_element-in-Before.new.self in
+    let r = c.open_element-in-Before.result in
+    on_ok_then r (λ made. (made.0, made.1, (taken, holds, subst (λ p. StandsAt key taken n p made.0) (sym c.in-Before.is) made.2)))
+    (before_defined array_table of_array key taken o.root n r (key_view c.args.key) doc before (sparing_path key (string_bytes c.args.key.last) c.args.key.path.items array_table some) c.open_element-in-Before.ensures)
 
 pub returns-in_ok-without_first-in-Within : goal.returns-in_ok-without_first-in-Within
 returns-in_ok-without_first-in-Within g c = λ doc stands.

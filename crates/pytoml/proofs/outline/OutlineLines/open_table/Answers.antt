@@ -4,7 +4,8 @@ use Rattle.toml_parser.specs.Reading.{key_view}
 use Rattle.toml.specs.Tables.{Document, std_table, define}
 use Rattle.pytoml.specs.Outline.{StandsAt, StandsBy, first_part}
 use Rattle.pytoml.specs.declared.outline.Place.TheVariants.{Within}
-use Rattle.pytoml.proofs.Outlines.{left_defined, of_table, on_ok_over, same_is, within_defined}
+use Rattle.pytoml.proofs.Outlines.{before_defined, left_defined, of_table, on_ok_over, sparing_table, within_defined}
+use Rattle.pytoml.proofs.Others.{same_is}
 use Rattle.pytoml.proofs.Results.{on_ok_then}
 use Rattle.pytoml.proofs.outline.OutlineLines.open_table.Goals as goal
 
@@ -22,9 +23,10 @@ returns-in-Before g c = λ doc stands.
     let key = g.E.Elements.key in
     let (taken, holds, at) = stands in
     let before = subst (λ p. StandsAt key taken o.root p doc) c.in-Before.is at in
-    on_ok_then c.open_table-in-Before.result
-    (λ made. (made.0, made.1, (taken, holds, subst (λ p. StandsAt key taken c.open_table-in-Before.new.self p made.0) (sym c.in-Before.is) (before.0, made.2))))
-    (c.open_table-in-Before.ensures doc before.1)
+    let n = c.open_table-in-Before.new.self in
+    let r = c.open_table-in-Before.result in
+    on_ok_then r (λ made. (made.0, made.1, (taken, holds, subst (λ p. StandsAt key taken n p made.0) (sym c.in-Before.is) made.2)))
+    (before_defined std_table of_table key taken o.root n r (key_view c.args.key) doc before (sparing_table key (key_view c.args.key)) c.open_table-in-Before.ensures)
 
 pub returns-in_ok-without_first-in-Within : goal.returns-in_ok-without_first-in-Within
 returns-in_ok-without_first-in-Within g c = λ doc stands.
