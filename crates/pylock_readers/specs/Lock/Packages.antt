@@ -3,6 +3,7 @@
 use Rattle.std.specs.Prelude.{◌≡◌, ℕ, ◌+◌, ◌≤◌, ◌<◌, List, length, Option, Some, None}
 use Rattle.std.specs.Prelude.{Result, Ok, Err}
 use Rattle.toml.specs.Data.{Items, Members}
+use Rattle.pytoml.specs.Elements.{LacksElements}
 use Rattle.pytoml.specs.Members.{with_elements}
 use Rattle.pylock_readers.specs.Entry.{EntryValue}
 use Rattle.pylock_readers.specs.Lock.Reading.{entries_of, item_count, most_entries}
@@ -31,9 +32,11 @@ pub record HasRead (packages : PackagesValue) (taken : Items) : Type 0 where
   pub read : item_count taken ≤ most_entries
       → entries_of 1 taken ≡ entries_or packages.entries packages.refusal
 
--- what was read of a document: all of it, or all but the elements at a key, which somebody took
+-- what was read of a document: all of it, or all but the elements at a key, which somebody took and
+-- the rest lacks
 abbrev pub IsDocument : {E : Type 0} → (E → Items → Type 0) → List ℕ → Members × Option E
     → Result Members LockError → Type 0
 IsDocument holds key (rest, None) document = document ≡ Ok rest
 IsDocument holds key (rest, Some taker) document =
     (taken : Items) × holds taker taken × (document ≡ Ok (with_elements key taken rest))
+    × LacksElements key taken rest
