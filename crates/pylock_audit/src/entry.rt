@@ -16,7 +16,7 @@ use crate::finding::{Finding, FindingKind, push_each, push_where, told_where};
 use crate::keys::joined;
 use crate::marker::push_compared;
 use crate::source::over_sources;
-use crate::tables::TableFindings;
+use crate::tables::{IndexFindings, TableFindings};
 use crate::unsafe_text::has_control;
 use pylock_core::{Entry, Head, NamedSource, sources};
 use pyver_core::{Version, VersionError};
@@ -34,29 +34,31 @@ pub(crate) fn entry_findings(
 {
     let mut findings = Vec::new(alloc);
     let list = sources(alloc, entry)?;
-    push_names(alloc, &mut findings, table, entry)?;
+    let index = push_names(alloc, &mut findings, table, entry)?;
     push_marker(alloc, &mut findings, head, entry)?;
     push_kinds(alloc, &mut findings, entry)?;
     push_hashes(alloc, &mut findings, list.as_slice())?;
     push_file_names(alloc, &mut findings, entry)?;
-    push_sources(alloc, &mut findings, list.as_slice())?;
+    push_sources(alloc, &mut findings, index, list.as_slice())?;
     push_controls(alloc, &mut findings, list.as_slice(), entry)?;
     Ok(findings)
 }
 
-/// Adds what its keys, its name and its version give.
+/// Adds what its keys, its name and its version give, and gives what its index gave.
 fn push_names(
     alloc: Global,
     findings: &mut Vec<Finding>,
     table: TableFindings,
     entry: &Entry,
-) -> Result<(), AllocError>
-    ensures { OnOk result (findings.new.items
+) -> Result<IndexFindings, AllocError>
+    ensures told { OnOk result (findings.new.items
         ≡ findings.old.items ++ of_names_by table entry.now) }
+    ensures index { IfOk result (λ index. index ≡ table.index) }
 {
-    table.push(findings)?;
+    let index = table.push(findings)?;
     let versions = refused_version(alloc, entry)?;
-    push_each(findings, FindingKind::Version, versions)
+    push_each(findings, FindingKind::Version, versions)?;
+    Ok(index)
 }
 
 /// The version, where it is none.
@@ -135,18 +137,23 @@ fn push_hashes(
     push_over(alloc, findings, FindingKind::BadHash, sources)
 }
 
-/// Adds what its sources give by their names, paths, URLs and commits.
+/// Adds what its index gave, and what its sources give by their names, paths, URLs and commits.
 fn push_sources(
     alloc: Global,
     findings: &mut Vec<Finding>,
+    index: IndexFindings,
     sources: &[NamedSource<'_>],
 ) -> Result<(), AllocError>
     ensures { OnOk result (findings.new.items
-        ≡ findings.old.items ++ of_sources (map lent_named sources.now)) }
+        ≡ findings.old.items ++ of_sources index (map lent_named sources.now)) }
 {
     push_over(alloc, findings, FindingKind::UnsafeFileName, sources)?;
+    push_over(alloc, findings, FindingKind::OutsidePath, sources)?;
     push_over(alloc, findings, FindingKind::UnsafeSubdirectory, sources)?;
+    let (not_https, credentials) = index.into_parts();
+    push_each(findings, FindingKind::NotHttps, not_https)?;
     push_over(alloc, findings, FindingKind::NotHttps, sources)?;
+    push_each(findings, FindingKind::Credentials, credentials)?;
     push_over(alloc, findings, FindingKind::Credentials, sources)?;
     push_over(alloc, findings, FindingKind::SecretInUrl, sources)?;
     push_over(alloc, findings, FindingKind::MovingCommit, sources)

@@ -53,11 +53,13 @@ pub enum FindingKind {
     SameFileName,
     /// A file name leaves its folder, or has a control character.
     UnsafeFileName,
+    /// A path leaves the folder of the lock.
+    OutsidePath,
     /// A subdirectory leaves its folder.
     UnsafeSubdirectory,
-    /// What a URL names may be changed on the way.
+    /// A URL, of a source or of the index, isn't of HTTPS.
     NotHttps,
-    /// A URL names a user or a password.
+    /// A URL, of a source or of the index, names a user or a password.
     Credentials,
     /// The query of a URL has a password or a token.
     SecretInUrl,
@@ -94,6 +96,7 @@ impl FindingKind {
             FindingKind::OtherVersion => "other-version",
             FindingKind::SameFileName => "same-file-name",
             FindingKind::UnsafeFileName => "unsafe-file-name",
+            FindingKind::OutsidePath => "outside-path",
             FindingKind::UnsafeSubdirectory => "unsafe-subdirectory",
             FindingKind::NotHttps => "not-https",
             FindingKind::Credentials => "credentials",

@@ -87,6 +87,7 @@ impl FindingKind {
             | FindingKind::BadHash
             | FindingKind::SameFileName
             | FindingKind::UnsafeFileName
+            | FindingKind::OutsidePath
             | FindingKind::UnsafeSubdirectory
             | FindingKind::NotHttps
             | FindingKind::Credentials

@@ -9,24 +9,26 @@ use Rattle.pylock_readers.specs.Lock.Reading.{item_count, lock_in, most_entries}
 use Rattle.pylock_readers.specs.declared.error.LockError.{LockError}
 use Rattle.pylock_core.specs.Session.Picks.{sources}
 use Rattle.pylock_audit.specs.Audit.{head_findings, items_at, members_in}
-use Rattle.pylock_audit.specs.Entry.{of_controls, of_file_names, of_hashes, of_kinds, of_marker}
-use Rattle.pylock_audit.specs.Entry.{of_sources, other_form, refused_version}
+use Rattle.pylock_audit.specs.Entry.{IndexValue, index_of, of_controls, of_file_names, of_hashes}
+use Rattle.pylock_audit.specs.Entry.{of_kinds, of_marker, of_sources, other_form, refused_version}
 use Rattle.pylock_audit.specs.Finding.{FindingValue, LockFindingValue, findings_at, findings_each}
 use Rattle.pylock_audit.specs.EntryKeys.{entry_keys_told}
 use Rattle.pylock_audit.specs.declared.finding.FindingKind.TheVariants as kind
 
--- the keys of a table that aren't named and those of another type, and its name where that isn't in
--- normal form
+-- the keys of a table that aren't named and those of another type, its name where that isn't in
+-- normal form, and what its index gives
 pub record TableValue : Type 0 where
   pub unknown : List (List ℕ)
   pub wrong : List (List ℕ)
   pub name : List (List ℕ)
+  pub index : IndexValue
 
 abbrev pub of_table : Members → TableValue
 of_table members = record {
   unknown = entry_keys_told kind.UnknownKey members;
   wrong = entry_keys_told kind.WrongType members;
   name = other_form members;
+  index = index_of members;
 }
 
 abbrev pub of_tables : Items → List TableValue
@@ -42,7 +44,7 @@ looked_at items = if nat_lt most_entries (item_count items) then no_items else i
 abbrev pub tables_in : Members → List TableValue
 tables_in document = of_tables (looked_at (items_at (get_member (codes "packages") document)))
 
--- the findings that they are
+-- the findings that its keys and its name are
 abbrev pub told_by : TableValue → List FindingValue
 told_by table =
     findings_each kind.UnknownKey table.unknown ++ findings_each kind.WrongType table.wrong
@@ -60,8 +62,8 @@ of_names_by table entry =
 abbrev pub entry_findings_by : HeadValue → TableValue → EntryValue → List FindingValue
 entry_findings_by head table entry =
     of_names_by table entry ++ of_marker head entry ++ of_kinds entry
-    ++ of_hashes (sources entry) ++ of_file_names entry ++ of_sources (sources entry)
-    ++ of_controls entry (sources entry)
+    ++ of_hashes (sources entry) ++ of_file_names entry
+    ++ of_sources table.index (sources entry) ++ of_controls entry (sources entry)
 
 -- those of entries, the first of which has this number
 abbrev pub of_entries_by : HeadValue → ℕ → List EntryValue → List TableValue
