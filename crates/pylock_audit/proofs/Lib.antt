@@ -1,3 +1,4 @@
+pub mod ClimbLemmas
 pub mod FrontLemmas
 pub mod HiddenLemmas
 pub mod KeyLemmas

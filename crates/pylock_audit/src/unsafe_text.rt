@@ -139,17 +139,31 @@ fn cuts_path(windows: bool, b: u8) -> bool
     b == b'/' || (windows && b == b'\\')
 }
 
+fn is_folder_above(piece: &[u8]) -> bool
+    ensures { result ≡ is_folder_above piece.now }
+{
+    matches!(piece, [b'.', b'.'])
+}
+
+fn is_same_folder(piece: &[u8]) -> bool
+    ensures { result ≡ is_same_folder piece.now }
+{
+    matches!(piece, [] | [b'.'])
+}
+
 /// Whether a path climbs out of the folder that it begins in, as one system or the other cuts it.
 fn climbs_out(windows: bool, text: &str) -> bool
     ensures { result ≡ climbs_out windows text.now }
 {
-    let mut depth = 0;
+    let mut depth = 0usize;
     for piece in text.as_bytes().split(|b| cuts_path(windows, *b)) {
-        match piece {
-            b".." if depth == 0 => return true,
-            b".." => depth -= 1,
-            b"" | b"." => {}
-            _ => depth += 1,
+        if is_folder_above(piece) {
+            if depth == 0 {
+                return true;
+            }
+            depth -= 1;
+        } else if !is_same_folder(piece) {
+            depth += 1;
         }
     }
     false
