@@ -6,6 +6,7 @@ pub mod MaskLemmas
 pub mod NameLemmas
 pub mod PrintableLemmas
 pub mod QueryLemmas
+pub mod ScopeLemmas
 pub mod ShownLemmas
 pub mod StrictLemmas
 pub mod TableLemmas
