@@ -30,8 +30,8 @@ abbrev Same : (Scope → List FindingValue) → Type 0
 Same findings = refused_among (findings Refused) ≡ refused_among (findings All)
 
 none_of : (kind : FindingKind) (details : List (List ℕ)) → is_refused kind ≡ false → refused_among (findings_each kind details) ≡ []
-none_of kind [] no = refl
-none_of kind (detail ∷ details) no = rw no (none_of kind details no)
+none_of kind [] other = refl
+none_of kind (detail ∷ details) other = rw other (none_of kind details other)
 
 of_kind : (kind : FindingKind) (list : Sources) → Same (λ asked. over_in asked kind list)
 of_kind kind list = by (is_refused kind) refl
@@ -47,70 +47,62 @@ behind front rest fronts rests =
     ∙ ap (λ xs. refused_among (front All) ++ xs) rests
     ∙ sym (filter-append (λ one. is_refused one.kind) (front All) (rest All))
 
-behind_kind : (kind : FindingKind) (list : Sources) (rest : Scope → List FindingValue) → Same rest → Same (λ asked. over_in asked kind list ++ rest asked)
-behind_kind kind list rest rests = behind (λ asked. over_in asked kind list) rest (of_kind kind list) rests
+and_kind : (front : Scope → List FindingValue) (kind : FindingKind) (list : Sources) → Same front → Same (λ asked. front asked ++ over_in asked kind list)
+and_kind front kind list fronts = behind front (λ asked. over_in asked kind list) fronts (of_kind kind list)
 
-behind_these : (these : List FindingValue) (rest : Scope → List FindingValue) → Same rest → Same (λ asked. these ++ rest asked)
-behind_these these rest rests = behind (λ asked. these) rest refl rests
+and_these : (front : Scope → List FindingValue) (these : List FindingValue) → Same front → Same (λ asked. front asked ++ these)
+and_these front these fronts = behind front (λ asked. these) fronts refl
 
 of_hashes_same : (list : Sources) → Same (λ asked. of_hashes_in asked list)
 of_hashes_same list =
-    behind_kind kind.NoHash list (λ asked. over_in asked kind.WeakHash list ++ over_in asked kind.OddHash list ++ over_in asked kind.BadHash list)
-    (behind_kind kind.WeakHash list (λ asked. over_in asked kind.OddHash list ++ over_in asked kind.BadHash list)
-    (behind_kind kind.OddHash list (λ asked. over_in asked kind.BadHash list) (of_kind kind.BadHash list)))
-
-of_urls_same : (index : IndexValue) (list : Sources)
-    → Same (λ asked. findings_each kind.NotHttps index.not_https ++ over_in asked kind.NotHttps list
-    ++ findings_each kind.Credentials index.credentials ++ over_in asked kind.Credentials list
-    ++ over_in asked kind.SecretInUrl list ++ over_in asked kind.MovingCommit list)
-of_urls_same index list =
-    let secrets = behind_kind kind.SecretInUrl list (λ asked. over_in asked kind.MovingCommit list) (of_kind kind.MovingCommit list) in
-    let credentials = behind_kind kind.Credentials list (λ asked. over_in asked kind.SecretInUrl list ++ over_in asked kind.MovingCommit list) secrets in
-    let of_index = behind_these (findings_each kind.Credentials index.credentials) (λ asked. over_in asked kind.Credentials list
-    ++ over_in asked kind.SecretInUrl list ++ over_in asked kind.MovingCommit list) credentials in
-    let open_urls = behind_kind kind.NotHttps list (λ asked. findings_each kind.Credentials index.credentials ++ over_in asked kind.Credentials list
-    ++ over_in asked kind.SecretInUrl list ++ over_in asked kind.MovingCommit list) of_index in
-    behind_these (findings_each kind.NotHttps index.not_https) (λ asked. over_in asked kind.NotHttps list
-    ++ findings_each kind.Credentials index.credentials ++ over_in asked kind.Credentials list
-    ++ over_in asked kind.SecretInUrl list ++ over_in asked kind.MovingCommit list) open_urls
+    let one : Scope → List FindingValue = λ asked. over_in asked kind.NoHash list in
+    let two : Scope → List FindingValue = λ asked. one asked ++ over_in asked kind.WeakHash list in
+    let three : Scope → List FindingValue = λ asked. two asked ++ over_in asked kind.OddHash list in
+    and_kind three kind.BadHash list (and_kind two kind.OddHash list (and_kind one kind.WeakHash list (of_kind kind.NoHash list)))
 
 of_sources_same : (index : IndexValue) (list : Sources) → Same (λ asked. of_sources_in asked index list)
 of_sources_same index list =
-    let urls : Scope → List FindingValue = λ asked. findings_each kind.NotHttps index.not_https ++ over_in asked kind.NotHttps list
-    ++ findings_each kind.Credentials index.credentials ++ over_in asked kind.Credentials list
-    ++ over_in asked kind.SecretInUrl list ++ over_in asked kind.MovingCommit list in
-    behind_kind kind.UnsafeFileName list (λ asked. over_in asked kind.OutsidePath list ++ over_in asked kind.UnsafeSubdirectory list ++ urls asked)
-    (behind_kind kind.OutsidePath list (λ asked. over_in asked kind.UnsafeSubdirectory list ++ urls asked)
-    (behind_kind kind.UnsafeSubdirectory list urls (of_urls_same index list)))
+    let one : Scope → List FindingValue = λ asked. over_in asked kind.UnsafeFileName list in
+    let two : Scope → List FindingValue = λ asked. one asked ++ over_in asked kind.OutsidePath list in
+    let three : Scope → List FindingValue = λ asked. two asked ++ over_in asked kind.UnsafeSubdirectory list in
+    let four : Scope → List FindingValue = λ asked. three asked ++ findings_each kind.NotHttps index.not_https in
+    let five : Scope → List FindingValue = λ asked. four asked ++ over_in asked kind.NotHttps list in
+    let six : Scope → List FindingValue = λ asked. five asked ++ findings_each kind.Credentials index.credentials in
+    let seven : Scope → List FindingValue = λ asked. six asked ++ over_in asked kind.Credentials list in
+    let eight : Scope → List FindingValue = λ asked. seven asked ++ over_in asked kind.SecretInUrl list in
+    let paths = and_kind two kind.UnsafeSubdirectory list (and_kind one kind.OutsidePath list (of_kind kind.UnsafeFileName list)) in
+    let urls = and_kind four kind.NotHttps list (and_these three (findings_each kind.NotHttps index.not_https) paths) in
+    let users = and_kind six kind.Credentials list (and_these five (findings_each kind.Credentials index.credentials) urls) in
+    and_kind eight kind.MovingCommit list (and_kind seven kind.SecretInUrl list users)
 
 of_controls_same : (entry : EntryValue) (list : Sources) → Same (λ asked. of_controls_in asked entry list)
 of_controls_same entry list =
-    behind_these (findings_each kind.ControlCharacter (text_where has_control (λ version. codes "version " ++ version) entry.version))
-    (λ asked. over_in asked kind.ControlCharacter list) (of_kind kind.ControlCharacter list)
+    let version = findings_each kind.ControlCharacter (text_where has_control (λ version. codes "version " ++ version) entry.version) in
+    and_kind (λ asked. version) kind.ControlCharacter list refl
 
 of_entry_same : (head : HeadValue) (table : TableValue) (entry : EntryValue) → Same (λ asked. entry_findings_by asked head table entry)
 of_entry_same head table entry =
     let list = sources entry in
-    let last : Scope → List FindingValue = λ asked. of_sources_in asked table.index list ++ of_controls_in asked entry list in
-    let files : Scope → List FindingValue = λ asked. of_file_names entry ++ last asked in
-    let hashes : Scope → List FindingValue = λ asked. of_hashes_in asked list ++ files asked in
-    let lasts = behind (λ asked. of_sources_in asked table.index list) (λ asked. of_controls_in asked entry list) (of_sources_same table.index list) (of_controls_same entry list) in
-    let all = behind (λ asked. of_hashes_in asked list) files (of_hashes_same list) (behind_these (of_file_names entry) last lasts) in
-    behind_these (of_names_by table entry) (λ asked. of_marker head entry ++ of_kinds entry ++ hashes asked)
-    (behind_these (of_marker head entry) (λ asked. of_kinds entry ++ hashes asked)
-    (behind_these (of_kinds entry) hashes all))
+    let before = of_names_by table entry ++ of_marker head entry ++ of_kinds entry in
+    let hashes : Scope → List FindingValue = λ asked. before ++ of_hashes_in asked list in
+    let names : Scope → List FindingValue = λ asked. hashes asked ++ of_file_names entry in
+    let places : Scope → List FindingValue = λ asked. names asked ++ of_sources_in asked table.index list in
+    let by_hashes = behind (λ asked. before) (λ asked. of_hashes_in asked list) refl (of_hashes_same list) in
+    let by_places = behind names (λ asked. of_sources_in asked table.index list) (and_these hashes (of_file_names entry) by_hashes) (of_sources_same table.index list) in
+    behind places (λ asked. of_controls_in asked entry list) by_places (of_controls_same entry list)
 
 -- ---- of a lock
 
 refused_at : (number : ℕ) (name : Option (List ℕ)) (findings : List FindingValue)
     → strict_findings (findings_at number name findings) ≡ findings_at number name (refused_among findings)
 refused_at number name [] = refl
-refused_at number name (one ∷ others) = by (is_refused one.kind) refl
+refused_at number name (one ∷ others) = by (refused_at number name others) (is_refused one.kind) refl
   where
-    by : (refused : Bool) → is_refused one.kind ≡ refused
+    by : strict_findings (findings_at number name others) ≡ findings_at number name (refused_among others)
+        → (refused : Bool) → is_refused one.kind ≡ refused
         → strict_findings (findings_at number name (one ∷ others)) ≡ findings_at number name (refused_among (one ∷ others))
-    by true is = rw is (ap (λ found. record { number = number; name = name; finding = one } ∷ found) (refused_at number name others))
-    by false is = rw is (refused_at number name others)
+    by more true is = rw is (ap (λ found. record { number = number; name = name; finding = one } ∷ found) more)
+    by more false is = rw is more
 
 same_entry : (head : HeadValue) (number : ℕ) (table : TableValue) (entry : EntryValue)
     → strict_findings (findings_at number (Some entry.name) (entry_findings_by Refused head table entry))
