@@ -1,3 +1,4 @@
+pub mod ClimbLemmas
 pub mod FrontLemmas
 pub mod HiddenLemmas
 pub mod KeyLemmas
@@ -5,6 +6,7 @@ pub mod MaskLemmas
 pub mod NameLemmas
 pub mod PrintableLemmas
 pub mod QueryLemmas
+pub mod ScopeLemmas
 pub mod ShownLemmas
 pub mod StrictLemmas
 pub mod TableLemmas

@@ -1,16 +1,20 @@
 -- What a strict reading gives where the lock and its findings were read at once.
-use Rattle.std.proofs.Common.{◌≡◌, ℕ, List, [], Result, Ok, Err, refl}
+use Rattle.std.proofs.Common.{◌≡◌, ◌∙◌, ℕ, List, [], Result, Ok, Err, ap, refl, sym}
 use Rattle.std.specs.Result.{result_map_both, result_unwrap_or}
 use Rattle.toml.specs.Data.{Members}
 use Rattle.pytext.specs.Results.{◌>>=◌}
 use Rattle.pylock_readers.specs.Lock.{LockValue}
 use Rattle.pylock_readers.specs.Lock.Reading.{document_in, lock_in, lock_of}
 use Rattle.pylock_readers.specs.declared.error.LockError.{LockError}
-use Rattle.pylock_audit.specs.Audit.{audited_of, findings_of, lock_findings}
+use Rattle.pylock_audit.specs.Audit.{audited_of, findings_of, head_findings, lock_findings}
 use Rattle.pylock_audit.specs.Finding.{LockFindingValue}
+use Rattle.pylock_audit.specs.Inner.Tables.{audited_from, tables_in, with_findings}
 use Rattle.pylock_audit.specs.Strict.{strict_findings, strict_findings_of, strict_lock_of, unless_found}
+use Rattle.pylock_audit.specs.declared.scope.Scope.TheVariants.{All, Refused}
 use Rattle.pylock_audit.specs.declared.strict.StrictError.{StrictError}
 use Rattle.pylock_audit.specs.declared.strict.StrictError.TheVariants as refusal
+use Rattle.pylock_audit.proofs.ScopeLemmas.{same_refused}
+use Rattle.pylock_audit.proofs.TableLemmas.{read_once}
 
 -- the lock, unless these findings are refused
 abbrev pub taken : LockValue × List LockFindingValue → Result LockValue StrictError
@@ -25,7 +29,7 @@ found_in lock document = do
   document ← document
   Ok (lock_findings document lock)
 
-pub strict_once : (bytes : List ℕ) → strict_lock_of bytes ≡ taken_of (audited_of bytes)
+strict_once : (bytes : List ℕ) → strict_lock_of bytes ≡ taken_of (audited_of bytes)
 unfolding audited_of findings_of lock_of
 strict_once bytes = by (document_in bytes)
   where
@@ -46,3 +50,16 @@ strict_once bytes = by (document_in bytes)
           Ok (l, lock_findings d l))
     by (Err e) = refl
     by (Ok d) = by_lock d (lock_in d)
+
+-- the lock and what is refused of it, where these findings alone were asked for
+refused_alone : (document : Result Members LockError) → taken_of (audited_from All document) ≡ taken_of (audited_from Refused document)
+refused_alone (Err e) = refl
+refused_alone (Ok d) = by (lock_in d)
+  where
+    by : (lock : Result LockValue LockError)
+        → taken_of (with_findings All (head_findings d) (tables_in d) lock) ≡ taken_of (with_findings Refused (head_findings d) (tables_in d) lock)
+    by (Err e) = refl
+    by (Ok l) = ap (λ found. unless_found found (Ok l)) (sym (same_refused (head_findings d) (tables_in d) l))
+
+pub strict_alone : (bytes : List ℕ) → strict_lock_of bytes ≡ taken_of (audited_from Refused (document_in bytes))
+strict_alone bytes = strict_once bytes ∙ ap taken_of (read_once bytes) ∙ refused_alone (document_in bytes)

@@ -21,9 +21,11 @@ use Rattle.pylock_audit.specs.Finding.{LockFindingValue, findings_at}
 use Rattle.pylock_audit.specs.Inner.Tables.{HasLooked, TableValue, document_audited, has_no_packages, lock_findings_by, looked_at, of_entries_by, of_table, of_tables, tables_after, tables_in, with_findings}
 use Rattle.pylock_audit.specs.Keys.{is_named, table_keys}
 use Rattle.pylock_audit.specs.declared.keys.LockTable.TheVariants as tables
+use Rattle.pylock_audit.specs.declared.scope.Scope.{Scope}
+use Rattle.pylock_audit.specs.declared.scope.Scope.TheVariants.{All}
 
 entries_by_tables : (head : HeadValue) (n : ℕ) (es : List EntryValue) (ds : Items)
-    → of_entries_by head n es (of_tables ds) ≡ of_entries head n es ds
+    → of_entries_by All head n es (of_tables ds) ≡ of_entries head n es ds
 entries_by_tables head n [] no_items = refl
 entries_by_tables head n (e ∷ es) no_items = refl
 entries_by_tables head n [] (item d ds) = refl
@@ -49,7 +51,7 @@ beside found lock = Ok (lock, found lock)
 abbrev Same : List LockFindingValue → Result LockValue LockError → Items → Items → Type 0
 Same found lock ds looked =
     (lock >>= beside (λ lock. found ++ of_entries lock.head 1 lock.entries ds))
-    ≡ (lock >>= beside (λ lock. found ++ of_entries_by lock.head 1 lock.entries (of_tables looked)))
+    ≡ (lock >>= beside (λ lock. found ++ of_entries_by All lock.head 1 lock.entries (of_tables looked)))
 
 -- room for entries, and the tables that are looked at, where there are too many or not
 abbrev room_unless : Bool → Result ⊤ LockError
@@ -84,7 +86,7 @@ by_steps found (Ok x) (Ok y) (Ok head) (Some (table fields)) = refl
 
 -- a document has the findings that the lock has with it
 beside_tables : (document : Members)
-    → (lock_in document >>= beside (lock_findings document)) ≡ document_audited document
+    → (lock_in document >>= beside (lock_findings document)) ≡ document_audited All document
 unfolding lock_in entries_in
 beside_tables document =
     by_steps
@@ -108,12 +110,12 @@ found_in lock document = do
   Ok (lock_findings document lock)
 
 -- the lock that the bytes are with its findings, from the document that they are
-read_once : (bytes : List ℕ) → audited_of bytes ≡ (document_in bytes >>= document_audited)
+pub read_once : (bytes : List ℕ) → audited_of bytes ≡ (document_in bytes >>= document_audited All)
 unfolding audited_of lock_of
 read_once bytes = by (document_in bytes)
   where
     by : (document : Result Members LockError)
-        → audited_in (document >>= lock_in) document ≡ (document >>= document_audited)
+        → audited_in (document >>= lock_in) document ≡ (document >>= document_audited All)
     by (Err e) = refl
     by (Ok d) = beside_tables d
 
@@ -136,13 +138,13 @@ abbrev pub Read : Type 0
 Read = Result (LockValue × Vec LockFindingValue Global) LockError
 
 pub given_audited : (bytes : List ℕ) (result : Read)
-    → Gives Memory (λ audited. (audited.0, audited.1.items)) result (document_in bytes >>= document_audited)
+    → Gives Memory (λ audited. (audited.0, audited.1.items)) result (document_in bytes >>= document_audited All)
     → Gives Memory (λ audited. (audited.0, audited.1.items)) result (audited_of bytes)
 given_audited bytes (Ok a) is = read_once bytes ∙ is
 given_audited bytes (Err e) is = λ never. read_once bytes ∙ is never
 
 pub given_found : (bytes : List ℕ) (result : Read)
-    → Gives Memory (λ audited. (audited.0, audited.1.items)) result (document_in bytes >>= document_audited)
+    → Gives Memory (λ audited. (audited.0, audited.1.items)) result (document_in bytes >>= document_audited All)
     → Gives Memory (λ audited. audited.1.items) result (findings_of bytes)
 given_found bytes (Ok a) is = findings_alone bytes ∙ ap (λ r. r >>= alone) (read_once bytes ∙ is)
 given_found bytes (Err e) is = λ never. findings_alone bytes ∙ ap (λ r. r >>= alone) (read_once bytes ∙ is never)
@@ -197,22 +199,22 @@ refused_by document d ds found other many =
     by (Ok x) (Ok y) (Ok head) = refl
 
 -- a document has the findings that it has with what its tables gave as they came
-pub looked_is : (document : Members) (taken : Items) (tables : List TableValue) → HasLooked tables taken
-    → with_findings (head_findings_where (has_no_packages tables document) document) (tables_after tables document) (lock_in (with_elements (codes "packages") taken document))
-    ≡ document_audited (with_elements (codes "packages") taken document)
-looked_is document no_items [] looked = refl
-looked_is document no_items (t ∷ ts) looked = let none : t ∷ ts ≡ [] = looked (omega arith) in cc
-looked_is document (item d ds) tables looked = by (nat_lt most_entries (item_count (item d ds))) refl
+pub looked_is : (asked : Scope) (document : Members) (taken : Items) (tables : List TableValue) → HasLooked tables taken
+    → with_findings asked (head_findings_where (has_no_packages tables document) document) (tables_after tables document) (lock_in (with_elements (codes "packages") taken document))
+    ≡ document_audited asked (with_elements (codes "packages") taken document)
+looked_is asked document no_items [] looked = refl
+looked_is asked document no_items (t ∷ ts) looked = let none : t ∷ ts ≡ [] = looked (omega arith) in cc
+looked_is asked document (item d ds) tables looked = by (nat_lt most_entries (item_count (item d ds))) refl
   where
     whole : Members
     whole = with_elements (codes "packages") (item d ds) document
 
     by : (many : Bool) → nat_lt most_entries (item_count (item d ds)) ≡ many
-        → with_findings (head_findings_where (has_no_packages tables document) document) (tables_after tables document) (lock_in whole) ≡ document_audited whole
+        → with_findings asked (head_findings_where (has_no_packages tables document) document) (tables_after tables document) (lock_in whole) ≡ document_audited asked whole
     by true is =
         refused_by document d ds
-        (lock_findings_by (head_findings_where (has_no_packages tables document) document) (tables_after tables document))
-        (lock_findings_by (head_findings whole) (tables_in whole))
+        (lock_findings_by asked (head_findings_where (has_no_packages tables document) document) (tables_after tables document))
+        (lock_findings_by asked (head_findings whole) (tables_in whole))
         is
     by false is =
         let came : tables ≡ of_tables (item d ds) = looked (ltb-false most_entries (item_count (item d ds)) is) in

@@ -30,6 +30,7 @@ use Rattle.pylock_audit.specs.EntryKeys.{entry_keys_told}
 use Rattle.pylock_audit.specs.Readings.{differs}
 use Rattle.pylock_audit.specs.Source.{name_where, over_sources, text_where}
 use Rattle.pylock_audit.specs.Unsafe.{has_control}
+use Rattle.pylock_audit.specs.Url.{has_credentials, is_https, shown_url}
 use Rattle.pylock_audit.specs.declared.finding.FindingKind.{FindingKind}
 use Rattle.pylock_audit.specs.declared.finding.FindingKind.TheVariants as kind
 
@@ -50,6 +51,19 @@ other_form members = text_where is_other_form (λ name. name) (text_at (codes "n
 abbrev pub refused_version : EntryValue → List (List ℕ)
 refused_version entry =
     text_where (λ version. is_err (parsed_version version)) (λ version. version) entry.version
+
+-- ---- the index
+
+-- the key `index`, as it is shown, where it isn't of HTTPS and where it has credentials
+pub record IndexValue : Type 0 where
+  pub not_https : List (List ℕ)
+  pub credentials : List (List ℕ)
+
+abbrev pub index_of : Members → IndexValue
+index_of members = record {
+  not_https = text_where (λ url. not (is_https url)) shown_url (text_at (codes "index") members);
+  credentials = text_where has_credentials shown_url (text_at (codes "index") members);
+}
 
 -- ---- markers
 
@@ -228,11 +242,14 @@ of_file_names_by sdist entry =
 abbrev pub of_file_names : EntryValue → List FindingValue
 of_file_names entry = of_file_names_by (sdist_name entry) entry
 
-abbrev pub of_sources : List (PickSource × SourceValue) → List FindingValue
-of_sources list =
-    over kind.UnsafeFileName list ++ over kind.UnsafeSubdirectory list
-    ++ over kind.NotHttps list ++ over kind.Credentials list ++ over kind.SecretInUrl list
-    ++ over kind.MovingCommit list
+-- of a kind that looks at the index too, that comes first
+abbrev pub of_sources : IndexValue → List (PickSource × SourceValue) → List FindingValue
+of_sources index list =
+    over kind.UnsafeFileName list ++ over kind.OutsidePath list
+    ++ over kind.UnsafeSubdirectory list
+    ++ findings_each kind.NotHttps index.not_https ++ over kind.NotHttps list
+    ++ findings_each kind.Credentials index.credentials ++ over kind.Credentials list
+    ++ over kind.SecretInUrl list ++ over kind.MovingCommit list
 
 -- the version first, and then each source
 abbrev pub of_controls : EntryValue → List (PickSource × SourceValue) → List FindingValue
@@ -244,4 +261,5 @@ of_controls entry list =
 abbrev pub entry_findings : HeadValue → Members → EntryValue → List FindingValue
 entry_findings head members entry =
     of_names members entry ++ of_marker head entry ++ of_kinds entry ++ of_hashes (sources entry)
-    ++ of_file_names entry ++ of_sources (sources entry) ++ of_controls entry (sources entry)
+    ++ of_file_names entry ++ of_sources (index_of members) (sources entry)
+    ++ of_controls entry (sources entry)

@@ -1,4 +1,5 @@
 pub mod Names
 pub mod User
 pub mod Printable
+pub mod Scope
 pub mod Tables

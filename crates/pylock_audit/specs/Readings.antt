@@ -1,16 +1,18 @@
--- Comparisons of markers that `packaging` 26 reads by the variable and not by the two texts: only
--- the variables of Python's version are versions to it, and any other is a text, whatever it spells
--- (PEP 508, "Environment Markers": versions where both texts are versions). So installers may
--- answer otherwise on some machine.
+-- Comparisons of markers that installers read in two ways, so that they may answer otherwise on some
+-- machine. By PEP 508, "Environment Markers", the two texts decide, whatever the variable: they are
+-- compared as versions where the left one is a version and the right one an operand of the operator,
+-- and as texts otherwise. `packaging` 26 asks the variable first: beside `python_version`,
+-- `python_full_version`, `implementation_version` and `platform_release` an operand is compared as a
+-- version, with which a value that is none never agrees, and beside any other variable as a text.
 use Rattle.std.specs.Prelude.{ℕ, Bool, true, false, ◌&&◌, ◌||◌, not, List, Option}
 use Rattle.std.specs.Prelude.{Result, Ok, Err}
 use Rattle.std.specs.Option.{option_map_or}
-use Rattle.pyver_core.specs.Parsed.{parsed_version}
-use Rattle.pyver_core.specs.Version.Parts.{Parts}
+use Rattle.pyver_core.specs.Parsed.{parsed_operand}
+use Rattle.pyver_core.specs.declared.set.error.SpecifierError.{SpecifierError}
+use Rattle.pyver_core.specs.declared.set.error.SpecifierError.TheVariants as refused
 use Rattle.pyver_core.specs.declared.set.specifier.Operator.{Operator}
 use Rattle.pyver_core.specs.declared.set.specifier.Operator.TheVariants as operator
-use Rattle.pyver_core.specs.declared.version.error.VersionError.{VersionError}
-use Rattle.pyver_core.specs.declared.version.error.VersionError.TheVariants as refused
+use Rattle.pyver_core.specs.declared.set.specifier.Specifier.{Specifier}
 use Rattle.pymark_core.specs.Marker.Asked.{operand_variable, quoted_text}
 use Rattle.pymark_core.specs.Marker.Comparison.{ComparisonValue}
 use Rattle.pymark_core.specs.declared.operand.Comparator.{Comparator}
@@ -23,31 +25,32 @@ is_python_version var.PythonVersion = true
 is_python_version var.PythonFullVersion = true
 is_python_version variable = false
 
--- a variable other than these two; `extra` is none
-abbrev pub is_text_variable : Option Var → Bool
-is_text_variable variable = option_map_or (λ v. not (is_python_version v)) variable false
+-- a variable other than these two, whose value may be no version; `extra` is none
+abbrev pub is_other_variable : Option Var → Bool
+is_other_variable variable = option_map_or (λ v. not (is_python_version v)) variable false
 
--- a text spells a version, also where one of its numbers is past the limit
-abbrev pub is_spelt : Result Parts VersionError → Bool
-is_spelt (Ok v) = true
+-- a text follows the grammar of an operand, also where one of its numbers is past the limit
+abbrev pub is_spelt : Result Specifier SpecifierError → Bool
+is_spelt (Ok specifier) = true
 is_spelt (Err refused.NumberTooLarge) = true
 is_spelt (Err refusal) = false
 
--- a quoted text that does
-abbrev pub spells_version : Option (List ℕ) → Bool
-spells_version text = option_map_or (λ text. is_spelt (parsed_version text)) text false
+-- a quoted text that is an operand of the operator
+abbrev pub is_operand : Operator → Option (List ℕ) → Bool
+is_operand by text = option_map_or (λ text. is_spelt (parsed_operand by text)) text false
 
 abbrev pub is_equality : Operator → Bool
 is_equality operator.Equal = true
 is_equality operator.NotEqual = true
 is_equality other = false
 
--- equal texts are equal versions, but not the other way round; no other operator has one meaning
+-- by `==` and `!=` a text that is no operand is a text to all; any other operator means one thing of
+-- texts and another of versions
 abbrev pub differs_by : Comparator → ComparisonValue → Bool
 differs_by (By by) c =
-    (is_text_variable (operand_variable c.left) || is_text_variable (operand_variable c.right))
-    && (not (is_equality by) || spells_version (quoted_text c.left)
-    || spells_version (quoted_text c.right))
+    (is_other_variable (operand_variable c.left) || is_other_variable (operand_variable c.right))
+    && (not (is_equality by) || is_operand by (quoted_text c.left)
+    || is_operand by (quoted_text c.right))
 differs_by In c = false
 differs_by NotIn c = false
 

@@ -14,7 +14,7 @@ use Rattle.pylock_audit.specs.Finding.{told_where}
 use Rattle.pylock_audit.specs.Hash.{Hash, is_bad, is_odd, is_weak}
 use Rattle.pylock_audit.specs.Keys.{source_path}
 use Rattle.pylock_audit.specs.Query.{has_secret}
-use Rattle.pylock_audit.specs.Unsafe.{has_control, is_unsafe_name, is_unsafe_path}
+use Rattle.pylock_audit.specs.Unsafe.{has_control, is_outside_path, is_unsafe_name, is_unsafe_path}
 use Rattle.pylock_audit.specs.Url.{has_credentials, is_https, is_safe_remote, shown_place}
 use Rattle.pylock_audit.specs.Url.{shown_url}
 use Rattle.pylock_audit.specs.declared.finding.FindingKind.{FindingKind}
@@ -28,6 +28,13 @@ url_of (OfDirectory directory) = None
 url_of (OfArchive archive) = archive.location.url
 url_of (OfWheel file) = file.location.url
 url_of (OfSdist file) = file.location.url
+
+abbrev pub path_of : SourceValue → Option (List ℕ)
+path_of (OfVcs vcs) = vcs.location.path
+path_of (OfDirectory directory) = Some directory.path
+path_of (OfArchive archive) = archive.location.path
+path_of (OfWheel file) = file.location.path
+path_of (OfSdist file) = file.location.path
 
 abbrev pub hashes_of : SourceValue → Option (List Hash)
 hashes_of (OfVcs vcs) = None
@@ -189,10 +196,10 @@ details kind.WeakHash s = over_hashes (weakly_hashed s.1) s.1
 details kind.OddHash s = over_hashes (tested_hashes kind.OddHash s.1) s.1
 details kind.BadHash s = over_hashes (tested_hashes kind.BadHash s.1) s.1
 details kind.UnsafeFileName s = option_map_or (name_where is_unsafe_name) (file_of s.1) []
+details kind.OutsidePath s = text_where is_outside_path (λ path. path) (path_of s.1)
 details kind.UnsafeSubdirectory s = text_where is_unsafe_path (λ path. path) (subdirectory_of s.1)
 details kind.NotHttps s = text_where (is_open_url s.1) shown_url (url_of s.1)
-details kind.Credentials s =
-    text_where has_credentials (λ url. source_path s.0 ++ codes "url") (url_of s.1)
+details kind.Credentials s = text_where has_credentials shown_url (url_of s.1)
 details kind.SecretInUrl s =
     text_where has_secret (λ url. source_path s.0 ++ codes "url") (url_of s.1)
 details kind.MovingCommit s = moving_commit s.1

@@ -4,59 +4,64 @@ ghost use Rattle.std.specs.Prelude.{◌≡◌, ◌++◌, IfOk, OnOk, codes, map,
 ghost use Rattle.std.specs.Result.{is_err};
 ghost use Rattle.pyver_core.specs.Parsed.{parsed_version};
 ghost use Rattle.pylock_core.specs.Session.Picks.{lent_named};
-ghost use Rattle.pylock_audit.specs.Entry.{of_controls, of_hashes, of_kinds, of_marker};
-ghost use Rattle.pylock_audit.specs.Entry.{of_sources, refused_version};
+ghost use Rattle.pylock_audit.specs.Entry.{of_kinds, of_marker, refused_version};
 ghost use Rattle.pylock_audit.specs.Finding.{findings_each};
+ghost use Rattle.pylock_audit.specs.Inner.Scope.{of_controls_in, of_hashes_in, of_sources_in};
+ghost use Rattle.pylock_audit.specs.Inner.Scope.{over_in};
 ghost use Rattle.pylock_audit.specs.Inner.Tables.{entry_findings_by, of_names_by};
-ghost use Rattle.pylock_audit.specs.Source.{over_sources, text_where};
+ghost use Rattle.pylock_audit.specs.Source.{text_where};
 ghost use Rattle.pylock_audit.specs.Unsafe.{has_control};
 
 use crate::files::push_file_names;
 use crate::finding::{Finding, FindingKind, push_each, push_where, told_where};
 use crate::keys::joined;
 use crate::marker::push_compared;
+use crate::scope::Scope;
 use crate::source::over_sources;
-use crate::tables::TableFindings;
+use crate::tables::{IndexFindings, TableFindings};
 use crate::unsafe_text::has_control;
 use pylock_core::{Entry, Head, NamedSource, sources};
 use pyver_core::{Version, VersionError};
 use std::alloc::{AllocError, Global};
 
-/// The findings of an entry, with what its table gave.
+/// The findings of an entry that are asked for, with what its table gave.
 pub(crate) fn entry_findings(
     alloc: Global,
+    asked: Scope,
     head: &Head,
     table: TableFindings,
     entry: &Entry,
 ) -> Result<Vec<Finding>, AllocError>
     ensures { IfOk result (λ findings. findings.items
-        ≡ entry_findings_by head.now table entry.now) }
+        ≡ entry_findings_by asked head.now table entry.now) }
 {
     let mut findings = Vec::new(alloc);
     let list = sources(alloc, entry)?;
-    push_names(alloc, &mut findings, table, entry)?;
+    let index = push_names(alloc, &mut findings, table, entry)?;
     push_marker(alloc, &mut findings, head, entry)?;
     push_kinds(alloc, &mut findings, entry)?;
-    push_hashes(alloc, &mut findings, list.as_slice())?;
+    push_hashes(alloc, &mut findings, asked, list.as_slice())?;
     push_file_names(alloc, &mut findings, entry)?;
-    push_sources(alloc, &mut findings, list.as_slice())?;
-    push_controls(alloc, &mut findings, list.as_slice(), entry)?;
+    push_sources(alloc, &mut findings, asked, index, list.as_slice())?;
+    push_controls(alloc, &mut findings, asked, list.as_slice(), entry)?;
     Ok(findings)
 }
 
-/// Adds what its keys, its name and its version give.
+/// Adds what its keys, its name and its version give, and gives what its index gave.
 fn push_names(
     alloc: Global,
     findings: &mut Vec<Finding>,
     table: TableFindings,
     entry: &Entry,
-) -> Result<(), AllocError>
-    ensures { OnOk result (findings.new.items
+) -> Result<IndexFindings, AllocError>
+    ensures told { OnOk result (findings.new.items
         ≡ findings.old.items ++ of_names_by table entry.now) }
+    ensures index { IfOk result (λ index. index ≡ table.index) }
 {
-    table.push(findings)?;
+    let index = table.push(findings)?;
     let versions = refused_version(alloc, entry)?;
-    push_each(findings, FindingKind::Version, versions)
+    push_each(findings, FindingKind::Version, versions)?;
+    Ok(index)
 }
 
 /// The version, where it is none.
@@ -107,64 +112,88 @@ fn push_kinds(alloc: Global, findings: &mut Vec<Finding>, entry: &Entry) -> Resu
     Ok(())
 }
 
-/// Adds what each of the sources gives to a kind of finding.
+/// Adds what each of the sources gives to a kind of finding, where that is asked for.
 fn push_over(
     alloc: Global,
     findings: &mut Vec<Finding>,
+    asked: Scope,
     kind: FindingKind,
     sources: &[NamedSource<'_>],
 ) -> Result<(), AllocError>
-    ensures { OnOk result (findings.new.items ≡ findings.old.items
-        ++ findings_each kind (over_sources kind (map lent_named sources.now))) }
+    ensures { OnOk result (findings.new.items
+        ≡ findings.old.items ++ over_in asked kind (map lent_named sources.now)) }
 {
-    push_each(findings, kind, over_sources(alloc, kind, sources)?)
+    if asked.wants(kind) {
+        push_each(findings, kind, over_sources(alloc, kind, sources)?)?;
+    }
+    Ok(())
 }
 
 /// Adds what the hashes of its sources give.
 fn push_hashes(
     alloc: Global,
     findings: &mut Vec<Finding>,
+    asked: Scope,
     sources: &[NamedSource<'_>],
 ) -> Result<(), AllocError>
     ensures { OnOk result (findings.new.items
-        ≡ findings.old.items ++ of_hashes (map lent_named sources.now)) }
+        ≡ findings.old.items ++ of_hashes_in asked (map lent_named sources.now)) }
 {
-    push_over(alloc, findings, FindingKind::NoHash, sources)?;
-    push_over(alloc, findings, FindingKind::WeakHash, sources)?;
-    push_over(alloc, findings, FindingKind::OddHash, sources)?;
-    push_over(alloc, findings, FindingKind::BadHash, sources)
+    push_over(alloc, findings, asked, FindingKind::NoHash, sources)?;
+    push_over(alloc, findings, asked, FindingKind::WeakHash, sources)?;
+    push_over(alloc, findings, asked, FindingKind::OddHash, sources)?;
+    push_over(alloc, findings, asked, FindingKind::BadHash, sources)
 }
 
-/// Adds what its sources give by their names, paths, URLs and commits.
+/// Adds what its index gave, and what its sources give by their names, paths, URLs and commits.
 fn push_sources(
     alloc: Global,
     findings: &mut Vec<Finding>,
+    asked: Scope,
+    index: IndexFindings,
     sources: &[NamedSource<'_>],
 ) -> Result<(), AllocError>
     ensures { OnOk result (findings.new.items
-        ≡ findings.old.items ++ of_sources (map lent_named sources.now)) }
+        ≡ findings.old.items ++ of_sources_in asked index (map lent_named sources.now)) }
 {
-    push_over(alloc, findings, FindingKind::UnsafeFileName, sources)?;
-    push_over(alloc, findings, FindingKind::UnsafeSubdirectory, sources)?;
-    push_over(alloc, findings, FindingKind::NotHttps, sources)?;
-    push_over(alloc, findings, FindingKind::Credentials, sources)?;
-    push_over(alloc, findings, FindingKind::SecretInUrl, sources)?;
-    push_over(alloc, findings, FindingKind::MovingCommit, sources)
+    push_over(alloc, findings, asked, FindingKind::UnsafeFileName, sources)?;
+    push_over(alloc, findings, asked, FindingKind::OutsidePath, sources)?;
+    push_over(
+        alloc,
+        findings,
+        asked,
+        FindingKind::UnsafeSubdirectory,
+        sources,
+    )?;
+    let (not_https, credentials) = index.into_parts();
+    push_each(findings, FindingKind::NotHttps, not_https)?;
+    push_over(alloc, findings, asked, FindingKind::NotHttps, sources)?;
+    push_each(findings, FindingKind::Credentials, credentials)?;
+    push_over(alloc, findings, asked, FindingKind::Credentials, sources)?;
+    push_over(alloc, findings, asked, FindingKind::SecretInUrl, sources)?;
+    push_over(alloc, findings, asked, FindingKind::MovingCommit, sources)
 }
 
 /// Adds its texts that have a control character.
 fn push_controls(
     alloc: Global,
     findings: &mut Vec<Finding>,
+    asked: Scope,
     sources: &[NamedSource<'_>],
     entry: &Entry,
 ) -> Result<(), AllocError>
     ensures { OnOk result (findings.new.items
-        ≡ findings.old.items ++ of_controls entry.now (map lent_named sources.now)) }
+        ≡ findings.old.items ++ of_controls_in asked entry.now (map lent_named sources.now)) }
 {
     let versions = controlled_version(alloc, entry)?;
     push_each(findings, FindingKind::ControlCharacter, versions)?;
-    push_over(alloc, findings, FindingKind::ControlCharacter, sources)
+    push_over(
+        alloc,
+        findings,
+        asked,
+        FindingKind::ControlCharacter,
+        sources,
+    )
 }
 
 fn controlled_version(alloc: Global, entry: &Entry) -> Result<Vec<String>, AllocError>

@@ -5,8 +5,10 @@ ghost use Rattle.std.specs.Option.{option_copied};
 ghost use Rattle.pylock_audit.specs.Finding.{findings_at, findings_each, finding_where, told_where};
 ghost use Rattle.pylock_audit.specs.Words.{finding_word};
 
+use pytext::Text;
 use std::alloc::{AllocError, Global};
 use std::marker::Model;
+use std::sync::Arc;
 
 /// The kind of a finding, in the order in which those of one entry are told.
 #[derive(Clone, Copy, Debug, PartialEq, Eq)]
@@ -53,11 +55,13 @@ pub enum FindingKind {
     SameFileName,
     /// A file name leaves its folder, or has a control character.
     UnsafeFileName,
+    /// A path leaves the folder of the lock.
+    OutsidePath,
     /// A subdirectory leaves its folder.
     UnsafeSubdirectory,
-    /// What a URL names may be changed on the way.
+    /// A URL, of a source or of the index, isn't of HTTPS.
     NotHttps,
-    /// A URL names a user or a password.
+    /// A URL, of a source or of the index, names a user or a password.
     Credentials,
     /// The query of a URL has a password or a token.
     SecretInUrl,
@@ -94,6 +98,7 @@ impl FindingKind {
             FindingKind::OtherVersion => "other-version",
             FindingKind::SameFileName => "same-file-name",
             FindingKind::UnsafeFileName => "unsafe-file-name",
+            FindingKind::OutsidePath => "outside-path",
             FindingKind::UnsafeSubdirectory => "unsafe-subdirectory",
             FindingKind::NotHttps => "not-https",
             FindingKind::Credentials => "credentials",
@@ -141,22 +146,68 @@ impl Finding {
     }
 }
 
+/// The name of an entry, which its findings share.
+struct SharedName {
+    text: Arc<Text>,
+}
+
+impl Model for SharedName {
+    ghost use Rattle.std.specs.Prelude.{List, ℕ};
+
+    ghost Value = { List ℕ };
+
+    ghost view = { λ s. s.text.value };
+}
+
+impl Drop for SharedName {
+    fn drop(self) {
+        let SharedName { text: _ } = self;
+    }
+}
+
+impl SharedName {
+    /// A copy of this name.
+    fn new(alloc: Global, name: &str) -> Result<SharedName, AllocError>
+        ensures { IfOk result (λ shared. shared ≡ name.now) }
+    {
+        let text = Arc::new(alloc, Text::copy_of(alloc, name)?)?;
+        Ok(SharedName { text })
+    }
+
+    /// The name.
+    fn as_str(&self) -> &str
+        ensures { result.now ≡ self.now }
+    {
+        self.text.as_str()
+    }
+}
+
+/// It takes no memory; it is refused only where 2^63 copies stand.
+impl Clone for SharedName {
+    ghost is_clone = { λ shared copy. copy ≡ shared };
+
+    fn clone(&self) -> Result<SharedName, AllocError> {
+        Ok(SharedName {
+            text: self.text.clone()?,
+        })
+    }
+}
+
 /// A finding, and where it is.
 pub struct LockFinding {
     number: usize,
-    name: Option<String>,
+    name: Option<SharedName>,
     finding: Finding,
 }
 
 impl Model for LockFinding {
-    ghost use Rattle.std.specs.Prelude.{option_map, string_bytes};
     ghost use Rattle.pylock_audit.specs.Finding.{LockFindingValue};
 
     ghost Value = { LockFindingValue };
 
     ghost view = { λ f. record {
       number = f.number;
-      name = option_map string_bytes f.name;
+      name = f.name;
       finding = f.finding;
     } };
 }
@@ -183,7 +234,10 @@ impl LockFinding {
     pub fn name(&self) -> Option<&str>
         ensures { option_copied result ≡ self.now.name }
     {
-        self.name.as_deref()
+        match &self.name {
+            Some(name) => Some(name.as_str()),
+            None => None,
+        }
     }
 
     /// What is found.
@@ -239,7 +293,7 @@ pub(crate) fn push_each(
     Ok(())
 }
 
-/// Adds the findings of the head or of an entry.
+/// Adds the findings of the head or of an entry, whose name is copied once.
 pub(crate) fn push_findings_at(
     alloc: Global,
     found: &mut Vec<LockFinding>,
@@ -250,9 +304,32 @@ pub(crate) fn push_findings_at(
     ensures { OnOk result (found.new.items ≡ found.old.items
         ++ findings_at number (option_copied name.entry) findings.items) }
 {
+    match name {
+        Some(name) if !findings.is_empty() => {
+            push_shared(
+                found,
+                number,
+                Some(&SharedName::new(alloc, name)?),
+                findings,
+            )
+        }
+        _ => push_shared(found, number, None, findings),
+    }
+}
+
+/// Adds findings with a name that they share.
+fn push_shared(
+    found: &mut Vec<LockFinding>,
+    number: usize,
+    name: Option<&SharedName>,
+    findings: Vec<Finding>,
+) -> Result<(), AllocError>
+    ensures { OnOk result (found.new.items ≡ found.old.items
+        ++ findings_at number (option_copied name.entry) findings.items) }
+{
     for finding in findings {
         let name = match name {
-            Some(name) => Some(String::from_str(alloc, name)?),
+            Some(name) => Some(name.clone()?),
             None => None,
         };
         found.push(LockFinding {

@@ -24,6 +24,7 @@ use crate::finding::{
     Finding, FindingKind, LockFinding, push_each, push_findings_at, push_where, told_where,
 };
 use crate::keys::{LockTable, field, push_unknown};
+use crate::scope::Scope;
 use crate::tables::{Looked, TableFindings, is_other_form, table_findings, text_at};
 use crate::types::push_wrong_types;
 use pylock_core::{Entry, Head, Lock, LockError};
@@ -55,44 +56,59 @@ pub fn read_audited(alloc: Global, bytes: &[u8]) -> Result<(Lock, Vec<LockFindin
     ensures found { Gives LockError.Memory (λ audited. audited.1.items) result
         (findings_of bytes.now) }
 {
-    audited_bytes(alloc, bytes)
+    audited_bytes(alloc, Scope::All, bytes)
 }
 
-/// The same, by what the document gives.
-fn audited_bytes(alloc: Global, bytes: &[u8]) -> Result<(Lock, Vec<LockFinding>), LockError>
+/// The lock, and those of its findings that are asked for, by what the document gives.
+pub(crate) fn audited_bytes(
+    alloc: Global,
+    asked: Scope,
+    bytes: &[u8],
+) -> Result<(Lock, Vec<LockFinding>), LockError>
     ensures { Gives LockError.Memory (λ audited. (audited.0, audited.1.items)) result
-        (audited_from (document_in bytes.now)) }
+        (audited_from asked (document_in bytes.now)) }
 {
     match read_document_without(alloc, bytes, Looked::new(alloc))? {
-        (document, Some(looked)) => audited(alloc, document, looked),
-        (document, None) => audited_document(alloc, document),
+        (document, Some(looked)) => audited(alloc, asked, document, looked),
+        (document, None) => audited_document(alloc, asked, document),
     }
 }
 
 /// The lock of a whole document, with its findings.
-fn audited_document(alloc: Global, document: Table) -> Result<(Lock, Vec<LockFinding>), LockError>
+fn audited_document(
+    alloc: Global,
+    asked: Scope,
+    document: Table,
+) -> Result<(Lock, Vec<LockFinding>), LockError>
     ensures { Gives LockError.Memory (λ audited. (audited.0, audited.1.items)) result
-        (document_audited (table_view document)) }
+        (document_audited asked (table_view document)) }
 {
-    audited(alloc, document, Looked::new(alloc))
+    audited(alloc, asked, document, Looked::new(alloc))
 }
 
 /// The lock of a document from which the tables of entries were taken, with its findings.
 fn audited(
     alloc: Global,
+    asked: Scope,
     document: Table,
     looked: Looked,
 ) -> Result<(Lock, Vec<LockFinding>), LockError>
     ensures { (taken : Items) → HasRead looked.packages taken
         → HasLooked looked.tables.items taken
         → Gives LockError.Memory (λ audited. (audited.0, audited.1.items)) result
-        (document_audited (with_elements (codes "packages") taken (table_view document))) }
+        (document_audited asked (with_elements (codes "packages") taken (table_view document))) }
 {
     let (packages, tables) = looked.into_parts();
     let is_absent = has_no_packages(&tables, &document);
     let head = head_findings(alloc, &document, is_absent)?;
     let tables = tables_after(alloc, tables, &document)?;
-    with_findings(alloc, head, tables, packages.into_lock(alloc, document))
+    with_findings(
+        alloc,
+        asked,
+        head,
+        tables,
+        packages.into_lock(alloc, document),
+    )
 }
 
 /// Whether the document names no packages, where these tables were taken from it.
@@ -121,32 +137,34 @@ fn tables_after(
 /// The lock with its findings, where it isn't refused.
 fn with_findings(
     alloc: Global,
+    asked: Scope,
     head: Vec<Finding>,
     tables: Vec<TableFindings>,
     lock: Result<Lock, LockError>,
 ) -> Result<(Lock, Vec<LockFinding>), LockError>
     ensures { (known : Result LockValue LockError) → Gives LockError.Memory (λ l. l) lock known
         → Gives LockError.Memory (λ audited. (audited.0, audited.1.items)) result
-        (with_findings head.items tables.items known) }
+        (with_findings asked head.items tables.items known) }
 {
     let lock = lock?;
-    let found = lock_findings(alloc, head, tables, &lock)?;
+    let found = lock_findings(alloc, asked, head, tables, &lock)?;
     Ok((lock, found))
 }
 
 /// The findings of a lock, with those of its head and with what the tables of its entries gave.
 fn lock_findings(
     alloc: Global,
+    asked: Scope,
     head: Vec<Finding>,
     tables: Vec<TableFindings>,
     lock: &Lock,
 ) -> Result<Vec<LockFinding>, AllocError>
     ensures { IfOk result (λ found. found.items
-        ≡ lock_findings_by head.items tables.items lock.now) }
+        ≡ lock_findings_by asked head.items tables.items lock.now) }
 {
     let mut found = Vec::new(alloc);
     push_findings_at(alloc, &mut found, 0, None, head)?;
-    push_entries(alloc, &mut found, lock, tables)?;
+    push_entries(alloc, &mut found, asked, lock, tables)?;
     Ok(found)
 }
 
@@ -259,16 +277,17 @@ fn items_at(field: Option<&Value>) -> &[Value]
 fn push_entries(
     alloc: Global,
     found: &mut Vec<LockFinding>,
+    asked: Scope,
     lock: &Lock,
     tables: Vec<TableFindings>,
 ) -> Result<(), AllocError>
     ensures { OnOk result (found.new.items ≡ found.old.items
-        ++ of_entries_by lock.now.head 1 lock.now.entries tables.items) }
+        ++ of_entries_by asked lock.now.head 1 lock.now.entries tables.items) }
 {
     let mut place = 0;
     for table in tables {
         match lock.entries().get(place) {
-            Some(entry) => push_entry(alloc, found, lock.head(), place + 1, table, entry)?,
+            Some(entry) => push_entry(alloc, found, asked, lock.head(), place + 1, table, entry)?,
             None => return Ok(()),
         }
         place += 1;
@@ -280,14 +299,16 @@ fn push_entries(
 fn push_entry(
     alloc: Global,
     found: &mut Vec<LockFinding>,
+    asked: Scope,
     head: &Head,
     number: usize,
     table: TableFindings,
     entry: &Entry,
 ) -> Result<(), AllocError>
     ensures { OnOk result (found.new.items ≡ found.old.items
-        ++ findings_at number (Some entry.now.name) (entry_findings_by head.now table entry.now)) }
+        ++ findings_at number (Some entry.now.name)
+        (entry_findings_by asked head.now table entry.now)) }
 {
-    let findings = entry_findings(alloc, head, table, entry)?;
+    let findings = entry_findings(alloc, asked, head, table, entry)?;
     push_findings_at(alloc, found, number, Some(entry.name()), findings)
 }

@@ -27,6 +27,7 @@ mod hash;
 mod keys;
 mod marker;
 mod query;
+mod scope;
 mod source;
 mod strict;
 mod tables;

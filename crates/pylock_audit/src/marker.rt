@@ -5,13 +5,13 @@ ghost use Rattle.std.specs.List.{list_any};
 ghost use Rattle.std.specs.Option.{option_copied};
 ghost use Rattle.pymark_core.specs.Marker.Asked.{comparison_reads_extra};
 ghost use Rattle.pylock_audit.specs.Entry.{asks_undeclared, is_undeclared, marker_findings};
-ghost use Rattle.pylock_audit.specs.Readings.{differs, differs_by, is_equality, is_text_variable};
-ghost use Rattle.pylock_audit.specs.Readings.{spells_version};
+ghost use Rattle.pylock_audit.specs.Readings.{differs, differs_by, is_equality, is_operand};
+ghost use Rattle.pylock_audit.specs.Readings.{is_other_variable};
 
 use crate::finding::{Finding, FindingKind, push_each, told_where};
 use pylock_core::Head;
 use pymark_core::{Comparator, Comparison, Marker, Var};
-use pyver_core::{Operator, Version, VersionError, normal_name};
+use pyver_core::{Operator, Specifier, SpecifierError, normal_name};
 use std::alloc::{AllocError, Global};
 
 /// Adds what the marker gives. Its comparisons are listed once.
@@ -80,19 +80,19 @@ fn differs_by(
 ) -> Result<bool, AllocError>
     ensures { IfOk result (λ found. found ≡ differs_by (Comparator.By operator) comparison.now) }
 {
-    let left = is_text_variable(comparison.left_variable());
-    if !(left || is_text_variable(comparison.right_variable())) {
+    let left = is_other_variable(comparison.left_variable());
+    if !(left || is_other_variable(comparison.right_variable())) {
         return Ok(false);
     }
-    if !is_equality(operator) || spells_version(alloc, comparison.left_text())? {
+    if !is_equality(operator) || is_operand(alloc, operator, comparison.left_text())? {
         return Ok(true);
     }
-    spells_version(alloc, comparison.right_text())
+    is_operand(alloc, operator, comparison.right_text())
 }
 
-/// Whether it is a variable other than those of Python's version.
-fn is_text_variable(variable: Option<Var>) -> bool
-    ensures { result ≡ is_text_variable variable }
+/// Whether it is a variable other than those of Python's version, whose value may be no version.
+fn is_other_variable(variable: Option<Var>) -> bool
+    ensures { result ≡ is_other_variable variable }
 {
     match variable {
         Some(Var::PythonVersion | Var::PythonFullVersion) | None => false,
@@ -106,17 +106,17 @@ fn is_equality(operator: Operator) -> bool
     matches!(operator, Operator::Equal | Operator::NotEqual)
 }
 
-/// Whether a text is there and spells a version. One that doesn't takes no memory.
-fn spells_version(alloc: Global, text: Option<&str>) -> Result<bool, AllocError>
-    ensures { IfOk result (λ spells. spells ≡ spells_version (option_copied text.entry)) }
+/// Whether a text is there and is an operand of the operator. One that isn't takes no memory.
+fn is_operand(alloc: Global, operator: Operator, text: Option<&str>) -> Result<bool, AllocError>
+    ensures { IfOk result (λ is. is ≡ is_operand operator (option_copied text.entry)) }
 {
     let Some(text) = text else {
         return Ok(false);
     };
-    match Version::parse(alloc, text) {
-        Ok(_) | Err(VersionError::NumberTooLarge) => Ok(true),
-        Err(VersionError::Memory) => Err(AllocError),
-        Err(VersionError::Syntax) => Ok(false),
+    match Specifier::new(alloc, operator, text) {
+        Ok(_) | Err(SpecifierError::NumberTooLarge) => Ok(true),
+        Err(SpecifierError::Memory) => Err(AllocError),
+        Err(SpecifierError::Syntax) => Ok(false),
     }
 }
 

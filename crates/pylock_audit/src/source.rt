@@ -13,9 +13,9 @@ ghost use Rattle.pylock_audit.specs.Source.{algorithms, details, file_label, fil
 ghost use Rattle.pylock_audit.specs.Source.{has_commit_hashes, hashes_of, is_commit_hash};
 ghost use Rattle.pylock_audit.specs.Source.{is_hash_digit, is_open_url, is_told, label};
 ghost use Rattle.pylock_audit.specs.Source.{moving_commit, name_where, over_hashes, over_sources};
-ghost use Rattle.pylock_audit.specs.Source.{subdirectory_of, tested_hashes, text_where, url_of};
-ghost use Rattle.pylock_audit.specs.Source.{weakly_hashed, without_hash};
-ghost use Rattle.pylock_audit.specs.Unsafe.{is_unsafe_name, is_unsafe_path};
+ghost use Rattle.pylock_audit.specs.Source.{path_of, subdirectory_of, tested_hashes, text_where};
+ghost use Rattle.pylock_audit.specs.Source.{url_of, weakly_hashed, without_hash};
+ghost use Rattle.pylock_audit.specs.Unsafe.{is_outside_path, is_unsafe_name, is_unsafe_path};
 ghost use Rattle.pylock_audit.specs.Url.{has_credentials, shown_place, shown_url};
 
 use crate::control::push_controlled;
@@ -24,7 +24,7 @@ use crate::finding::FindingKind;
 use crate::hash::{Hash, is_bad, is_odd, is_weak};
 use crate::keys::{joined, source_key_path};
 use crate::query::has_secret;
-use crate::unsafe_text::{is_unsafe_name, is_unsafe_path};
+use crate::unsafe_text::{is_outside_path, is_unsafe_name, is_unsafe_path};
 use crate::url::{has_credentials, is_https, is_safe_remote, shown_url};
 use pylock_core::{DistributionFile, NamedSource, PickSource, PickedSource, Vcs};
 use std::alloc::{AllocError, Global};
@@ -39,6 +39,17 @@ fn url_of<'a>(source: PickedSource<'a>) -> Option<&'a str>
         PickedSource::Directory(_) => None,
         PickedSource::Archive(archive) => archive.url(),
         PickedSource::Wheel(file) | PickedSource::Sdist(file) => file.url(),
+    }
+}
+
+fn path_of<'a>(source: PickedSource<'a>) -> Option<&'a str>
+    ensures { option_copied result ≡ path_of (lent_source source.entry) }
+{
+    match source {
+        PickedSource::Vcs(vcs) => vcs.path(),
+        PickedSource::Directory(directory) => Some(directory.path()),
+        PickedSource::Archive(archive) => archive.path(),
+        PickedSource::Wheel(file) | PickedSource::Sdist(file) => file.path(),
     }
 }
 
@@ -262,6 +273,21 @@ fn push_unsafe_path(
     }
 }
 
+/// Adds a path that leaves the folder of the lock.
+fn push_outside_path(
+    alloc: Global,
+    list: &mut Vec<String>,
+    source: PickedSource<'_>,
+) -> Result<(), AllocError>
+    ensures { OnOk result (map string_bytes list.new.items ≡ map string_bytes list.old.items
+        ++ text_where is_outside_path (λ path. path) (path_of (lent_source source.entry))) }
+{
+    match path_of(source) {
+        Some(path) if is_outside_path(path) => Ok(list.push(String::from_str(alloc, path)?)?),
+        _ => Ok(()),
+    }
+}
+
 /// Whether anybody on the way may change what the URL names.
 fn is_open_url(source: PickedSource<'_>, url: &str) -> bool
     ensures { result ≡ is_open_url (lent_source source.entry) url.now }
@@ -288,19 +314,17 @@ fn push_open_url(
     }
 }
 
-/// Adds the path of a URL that names a user or a password.
+/// Adds a URL that names a user or a password, as it is shown.
 fn push_credentials(
     alloc: Global,
     list: &mut Vec<String>,
-    name: PickSource,
     source: PickedSource<'_>,
 ) -> Result<(), AllocError>
     ensures { OnOk result (map string_bytes list.new.items ≡ map string_bytes list.old.items
-        ++ text_where has_credentials (λ url. source_path name ++ codes "url")
-        (url_of (lent_source source.entry))) }
+        ++ text_where has_credentials shown_url (url_of (lent_source source.entry))) }
 {
     match url_of(source) {
-        Some(url) if has_credentials(url) => Ok(list.push(source_key_path(alloc, name, "url")?)?),
+        Some(url) if has_credentials(url) => Ok(list.push(shown_url(alloc, url)?)?),
         _ => Ok(()),
     }
 }
@@ -380,9 +404,10 @@ fn push_details(
             push_tested_hashes(alloc, list, kind, source)
         }
         FindingKind::UnsafeFileName => push_unsafe_name(alloc, list, source),
+        FindingKind::OutsidePath => push_outside_path(alloc, list, source),
         FindingKind::UnsafeSubdirectory => push_unsafe_path(alloc, list, source),
         FindingKind::NotHttps => push_open_url(alloc, list, source),
-        FindingKind::Credentials => push_credentials(alloc, list, name, source),
+        FindingKind::Credentials => push_credentials(alloc, list, source),
         FindingKind::SecretInUrl => push_secret(alloc, list, name, source),
         FindingKind::MovingCommit => push_moving_commit(alloc, list, source),
         FindingKind::ControlCharacter => push_controlled(alloc, list, name, source),

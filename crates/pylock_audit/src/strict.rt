@@ -7,7 +7,8 @@ ghost use Rattle.pylock_audit.specs.Strict.{unless_found};
 ghost use Rattle.pylock_audit.specs.declared.strict.StrictError.TheVariants.{Memory};
 
 use crate::finding::{FindingKind, LockFinding};
-use crate::findings::read_audited;
+use crate::findings::audited_bytes;
+use crate::scope::Scope;
 use pylock_core::{Lock, LockError};
 use std::alloc::Global;
 use std::marker::Model;
@@ -87,6 +88,7 @@ impl FindingKind {
             | FindingKind::BadHash
             | FindingKind::SameFileName
             | FindingKind::UnsafeFileName
+            | FindingKind::OutsidePath
             | FindingKind::UnsafeSubdirectory
             | FindingKind::NotHttps
             | FindingKind::Credentials
@@ -101,12 +103,13 @@ impl FindingKind {
 /// refuses ([`FindingKind::is_refused_by_strict`]). A lock that [`Lock::read`] refuses is refused
 /// as there, first.
 ///
-/// It takes the memory of [`read_audited`], and none besides.
-#[tactic(auto, using(crate::proofs::StrictLemmas::strict_once))]
+/// It takes the memory of [`read_audited`] but for what isn't refused and stands beside a file or a
+/// URL: so it takes no more than a few times that of the lock, however long the names in it are.
+#[tactic(auto, using(crate::proofs::StrictLemmas::strict_alone))]
 pub fn read_strict(alloc: Global, bytes: &[u8]) -> Result<Lock, StrictError>
     ensures { Gives Memory (λ lock. lock) result (strict_lock_of bytes.now) }
 {
-    match read_audited(alloc, bytes) {
+    match audited_bytes(alloc, Scope::Refused, bytes) {
         Ok((lock, found)) => lock_unless_found(lock, found),
         Err(LockError::Memory) => Err(StrictError::Memory),
         Err(error) => Err(StrictError::Lock(error)),

@@ -8,12 +8,15 @@ ghost use Rattle.toml.specs.Data.{Items, as_str, no_items, push_item, table};
 ghost use Rattle.toml.specs.View.{items_view, table_view, view};
 ghost use Rattle.pylock_readers.specs.Lock.Packages.{HasRead};
 ghost use Rattle.pylock_audit.specs.Audit.{members_in};
-ghost use Rattle.pylock_audit.specs.Entry.{is_other_form, other_form, text_at};
+ghost use Rattle.pylock_audit.specs.Entry.{index_of, is_other_form, other_form, text_at};
+ghost use Rattle.pylock_audit.specs.Finding.{told_where};
 ghost use Rattle.pylock_audit.specs.Inner.Tables.{HasLooked, of_table, of_tables, told_by};
+ghost use Rattle.pylock_audit.specs.Url.{shown_url};
 
 use crate::entry_keys::entry_keys_told;
 use crate::finding::{Finding, FindingKind, push_each, told_where};
 use crate::keys::field;
+use crate::url::{has_credentials, is_https, shown_url};
 use pylock_readers::{MOST_ENTRIES, Packages};
 use pytoml::Elements;
 use pyver_core::NormalForm;
@@ -29,6 +32,7 @@ pub(crate) struct TableFindings {
     wrong: Vec<String>,
     /// The name as written, where that isn't its own normal form.
     name: Vec<String>,
+    index: IndexFindings,
 }
 
 impl Model for TableFindings {
@@ -41,6 +45,7 @@ impl Model for TableFindings {
       unknown = map string_bytes t.unknown.items;
       wrong = map string_bytes t.wrong.items;
       name = map string_bytes t.name.items;
+      index = t.index;
     } };
 }
 
@@ -50,6 +55,7 @@ impl Drop for TableFindings {
             unknown: _,
             wrong: _,
             name: _,
+            index: _,
         } = self;
     }
 }
@@ -62,10 +68,12 @@ impl TableFindings {
         let unknown = entry_keys_told(alloc, FindingKind::UnknownKey, table)?;
         let wrong = entry_keys_told(alloc, FindingKind::WrongType, table)?;
         let name = other_form(alloc, table)?;
+        let index = IndexFindings::of(alloc, table)?;
         Ok(TableFindings {
             unknown,
             wrong,
             name,
+            index,
         })
     }
 
@@ -79,19 +87,93 @@ impl TableFindings {
         }
     }
 
-    /// Adds them as findings.
-    pub(crate) fn push(self, findings: &mut Vec<Finding>) -> Result<(), AllocError>
-        ensures { OnOk result (findings.new.items ≡ findings.old.items ++ told_by self) }
+    /// Adds the keys and the name as findings, and gives what the index gave.
+    pub(crate) fn push(self, findings: &mut Vec<Finding>) -> Result<IndexFindings, AllocError>
+        ensures told { OnOk result (findings.new.items ≡ findings.old.items ++ told_by self) }
+        ensures index { IfOk result (λ index. index ≡ self.index) }
     {
         let TableFindings {
             unknown,
             wrong,
             name,
+            index,
         } = self;
         push_each(findings, FindingKind::UnknownKey, unknown)?;
         push_each(findings, FindingKind::WrongType, wrong)?;
-        push_each(findings, FindingKind::NameForm, name)
+        push_each(findings, FindingKind::NameForm, name)?;
+        Ok(index)
     }
+}
+
+/// What the index of an entry gives.
+pub(crate) struct IndexFindings {
+    /// The URL as it is shown, where that isn't of HTTPS.
+    not_https: Vec<String>,
+    /// The URL as it is shown, where that names a user or a password.
+    credentials: Vec<String>,
+}
+
+impl Model for IndexFindings {
+    ghost use Rattle.std.specs.Prelude.{map, string_bytes};
+    ghost use Rattle.pylock_audit.specs.Entry.{IndexValue};
+
+    ghost Value = { IndexValue };
+
+    ghost view = { λ i. record {
+      not_https = map string_bytes i.not_https.items;
+      credentials = map string_bytes i.credentials.items;
+    } };
+}
+
+impl Drop for IndexFindings {
+    fn drop(self) {
+        let IndexFindings {
+            not_https: _,
+            credentials: _,
+        } = self;
+    }
+}
+
+impl IndexFindings {
+    /// What the index of this table gives, where that is a text.
+    fn of(alloc: Global, table: &Table) -> Result<IndexFindings, AllocError>
+        ensures { IfOk result (λ index. index ≡ index_of (table_view table.now)) }
+    {
+        let Some(url) = text_at(table, "index") else {
+            return Ok(IndexFindings {
+                not_https: Vec::new(alloc),
+                credentials: Vec::new(alloc),
+            });
+        };
+        Ok(IndexFindings {
+            not_https: shown_where(alloc, !is_https(url), url)?,
+            credentials: shown_where(alloc, has_credentials(url), url)?,
+        })
+    }
+
+    /// Where it isn't of HTTPS, and where it names a user or a password.
+    pub(crate) fn into_parts(self) -> (Vec<String>, Vec<String>)
+        ensures not_https { map string_bytes result.0.items ≡ self.not_https }
+        ensures credentials { map string_bytes result.1.items ≡ self.credentials }
+    {
+        let IndexFindings {
+            not_https,
+            credentials,
+        } = self;
+        (not_https, credentials)
+    }
+}
+
+/// A URL as it is shown, where it counts.
+fn shown_where(alloc: Global, counts: bool, url: &str) -> Result<Vec<String>, AllocError>
+    ensures { IfOk result (λ list. map string_bytes list.items
+        ≡ told_where counts (shown_url url.now)) }
+{
+    let mut list = Vec::new(alloc);
+    if counts {
+        list.push(shown_url(alloc, url)?)?;
+    }
+    Ok(list)
 }
 
 /// What each of these values gives. Where each key is named and each name is in normal form, it

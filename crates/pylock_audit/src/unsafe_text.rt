@@ -1,12 +1,13 @@
 //! Texts that do harm where they are used as they stand.
 
 ghost use Rattle.std.specs.Prelude.{◌≡◌};
-ghost use Rattle.std.specs.List.{list_all, list_any};
+ghost use Rattle.std.specs.List.{list_all, list_any, slice_split};
 ghost use Rattle.std.specs.Str.{chars};
 ghost use Rattle.pylock_audit.specs.Inner.Printable.{is_printable};
 ghost use Rattle.pylock_audit.specs.Unsafe.{begins_with_parent, begins_with_root, has_control};
 ghost use Rattle.pylock_readers.specs.Entry.FileName.{ends_segment};
-ghost use Rattle.pylock_audit.specs.Unsafe.{has_drive, has_later_parent};
+ghost use Rattle.pylock_audit.specs.Unsafe.{climbs_out, cuts_path, has_drive, has_later_parent};
+ghost use Rattle.pylock_audit.specs.Unsafe.{is_folder_above, is_outside_path, is_same_folder};
 ghost use Rattle.pylock_audit.specs.Unsafe.{is_unsafe_name, is_unsafe_path};
 
 use pylock_messages::is_control;
@@ -67,7 +68,7 @@ fn ends_a_segment(text: &str) -> bool
     !whole
 }
 
-/// Whether a path leaves the folder that it begins in.
+/// Whether a path within a source leaves the folder that it begins in, or goes up at all.
 pub(crate) fn is_unsafe_path(text: &str) -> bool
     ensures { result ≡ is_unsafe_path text.now }
 {
@@ -115,6 +116,55 @@ fn has_later_parent(text: &[u8]) -> bool
             return true;
         }
         left = rest;
+    }
+    false
+}
+
+// ---- outside of a folder
+
+/// Whether a path names something outside of the folder that it begins in, on Windows or elsewhere.
+pub(crate) fn is_outside_path(text: &str) -> bool
+    ensures { result ≡ is_outside_path text.now }
+{
+    begins_with_root(text.as_bytes())
+        || has_drive(text)
+        || climbs_out(false, text)
+        || climbs_out(true, text)
+}
+
+/// Whether a piece of a path ends here, on Windows or elsewhere.
+fn cuts_path(windows: bool, b: u8) -> bool
+    ensures { result ≡ cuts_path windows b }
+{
+    b == b'/' || (windows && b == b'\\')
+}
+
+fn is_folder_above(piece: &[u8]) -> bool
+    ensures { result ≡ is_folder_above piece.now }
+{
+    matches!(piece, [b'.', b'.'])
+}
+
+fn is_same_folder(piece: &[u8]) -> bool
+    ensures { result ≡ is_same_folder piece.now }
+{
+    matches!(piece, [] | [b'.'])
+}
+
+/// Whether a path climbs out of the folder that it begins in, as one system or the other cuts it.
+fn climbs_out(windows: bool, text: &str) -> bool
+    ensures { result ≡ climbs_out windows text.now }
+{
+    let mut depth = 0usize;
+    for piece in text.as_bytes().split(|b| cuts_path(windows, *b)) {
+        if is_folder_above(piece) {
+            if depth == 0 {
+                return true;
+            }
+            depth -= 1;
+        } else if !is_same_folder(piece) {
+            depth += 1;
+        }
     }
     false
 }

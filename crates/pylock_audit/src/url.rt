@@ -24,11 +24,11 @@ fn begins(word: &[u8], text: &str) -> bool
     }
 }
 
-/// Whether nobody on the way may change what the URL names.
+/// Whether the URL is of HTTPS, so that nobody on the way may change what it names.
 pub(crate) fn is_https(url: &str) -> bool
     ensures { result ≡ is_https url.now }
 {
-    begins(b"https://", url) || begins(b"file:", url)
+    begins(b"https://", url)
 }
 
 /// The same of what a version control system encrypts besides.

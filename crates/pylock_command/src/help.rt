@@ -198,10 +198,10 @@ ran out.";
 pub(crate) const AUDIT: &str = "\
 Example, with spaces for the TABs:
   $ pylock audit audited.toml
-  findings 26
+  findings 27
   0  -  lock-version  1.1
   ..
-  17  requests  credentials  wheels 1 url
+  18  s3transfer  secret-in-url  wheels 1 url
   ..
 
 Prints findings K and then K lines, one for each finding: ID NAME FINDING
@@ -234,11 +234,14 @@ FINDING is one of these:
   same-file-name      an earlier wheel of the entry has the file name
   unsafe-file-name    the file name of a wheel or an sdist has a /, a \\ or a
                       control character, or is . or ..
+  outside-path        a path is absolute, begins with a drive or a share of
+                      Windows, or climbs out of the folder of the lock
   unsafe-subdirectory the path begins with / or \\, has : as its second
                       character, or has .. as a part
-  not-https           a URL isn't of https or file, nor that of a VCS by ssh
-  credentials         a URL has an @ in front of its host; one of ssh only where
-                      a password stands there
+  not-https           a URL, or the index, isn't of https, nor that of a VCS
+                      by ssh
+  credentials         a URL, or the index, has an @ in front of its host; one of
+                      ssh only where a password stands there
   secret-in-url       the query of a URL has a password, a token or the like
   moving-commit       a commit of git or hg isn't a full hash
   control-character   a text has a control character

@@ -19,5 +19,5 @@ returns c = λ taken read looked.
     let tables = c.args.looked.tables.items in
     let head = c.in_ok-head.ensures ∙ ap (λ absent. head_findings_where absent document) (c.has_no_packages-is_absent.ensures ∙ ap (λ ts. has_no_packages ts document) (c.deref.ensures.value ∙ ap (λ v. v.items) c.into_parts-packages.ensures.tables)) in
     let after = c.in_ok-tables.ensures ∙ ap (λ ts. tables_after ts document) (ap (λ v. v.items) c.into_parts-packages.ensures.tables) in
-    let same = ap (λ h. with_findings h c.in_ok-tables.tables.items lock) head ∙ ap (λ ts. with_findings (head_findings_where (has_no_packages tables document) document) ts lock) after ∙ looked_is document taken tables looked in
+    let same = ap (λ h. with_findings c.args.asked h c.in_ok-tables.tables.items lock) head ∙ ap (λ ts. with_findings c.args.asked (head_findings_where (has_no_packages tables document) document) ts lock) after ∙ looked_is c.args.asked document taken tables looked in
     subst (Gives Memory (λ audited. (audited.0, audited.1.items)) c.with_findings.result) same gives

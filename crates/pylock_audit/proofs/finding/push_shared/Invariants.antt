@@ -1,6 +1,6 @@
 use Rattle.std.proofs.Common.{◌≡◌, ◌++◌, option_map}
 use Rattle.pylock_audit.specs.Finding.{findings_at}
-use Rattle.pylock_audit.proofs.finding.push_findings_at.Given as goal
+use Rattle.pylock_audit.proofs.finding.push_shared.Given as goal
 
 abbrev pub invariant-loop-finding : goal.invariant-loop-finding
 invariant-loop-finding l =
