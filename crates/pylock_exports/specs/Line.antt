@@ -1,7 +1,7 @@
 -- The lines that each form may have, by their parts. Each part is of a class of characters, so no
 -- line has a space but those that stand here, and none has an end of a line within it.
 use Rattle.std.specs.Prelude.{◌≡◌, ◌⊎◌, ℕ, ◌==◌, ◌++◌, true, false, codes, List, [], length}
-use Rattle.std.specs.Prelude.{Option, Some, None, unwrap_or}
+use Rattle.std.specs.Prelude.{Option, Some, None, unwrap_or, ⊤}
 use Rattle.std.specs.Char.{is_ascii_alphanumeric}
 use Rattle.std.specs.List.{list_all}
 use Rattle.std.specs.Option.{option_map_or}
@@ -134,10 +134,14 @@ IsPlace text =
     (IsWebUrl class.PipUrl text × EndsInFile text) ⊎ (IsFileUrl text × EndsInFile text)
     ⊎ IsPathUrl text
 
--- of a directory: a subdirectory, and whether pip takes it for a directory
+abbrev pub IsSub : Option (List ℕ) → Type 0
+IsSub None = ⊤
+IsSub (Some path) = IsSubdirectory path
+
+-- a directory, which pip takes for no file unless it is editable
 pub record IsDirectory (editable : List ℕ) (path : List ℕ) (sub : Option (List ℕ)) : Type 0 where
   pub is_path : IsDirectoryPath path
-  pub is_sub : option_map_or (λ sub. IsSubdirectory sub) sub (⊤ {0})
+  pub is_sub : IsSub sub
   pub is_taken : (editable ≡ codes "-e ")
       ⊎ ((editable ≡ []) × (ends_as_file (option_map_or (last_step (last_step [] path)) sub
       (last_step [] path)) ≡ false))

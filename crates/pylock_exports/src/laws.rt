@@ -26,7 +26,6 @@ pub fn lines_are_allowed()
 /// Whatever name and URL pip or a reader of RFC 3986 finds in a line of a requirements file, the
 /// URL names the host that stands between `://` and the next `/`, and nothing else is found in it
 /// than a subdirectory: no user, no other fragment, no algorithm and no egg.
-#[tactic(auto, using(crate::proofs::PipLemmas::plain_lines))]
 pub fn nothing_else_is_found_in_a_line()
     ensures hashed { (sources : List ListedValue) (lines : List (List ℕ))
         → format_lines format.Requirements sources ≡ Ok lines → All ReadsPlainly lines }
