@@ -312,8 +312,10 @@ lines_are Aria2 source taken =
     let one = both _ _ two.0 in
     let name = both _ _ one.0 in (
       aria2_url (unwrap_or (url_of source) []) (fetched_is (url_of source) two.1),
-      (aria2_file (key_of Aria2 source) (file_name_is field.FileName (key_of Aria2 source) name.0) (not_true (is_control_file (key_of Aria2 source)) (required _ _ _ name.1)),
-      (aria2_hash (value_of Aria2 source) (sum_is source one.1), (aria2_torrent, (aria2_metalink, (aria2_renaming, tt))))),
+      (
+        aria2_file (key_of Aria2 source) (file_name_is field.FileName (key_of Aria2 source) name.0) (not_true (is_control_file (key_of Aria2 source)) (required _ _ _ name.1)),
+        (aria2_hash (value_of Aria2 source) (sum_is source one.1), (aria2_torrent, (aria2_metalink, (aria2_renaming, tt)))),
+      ),
     )
 lines_are Urls source taken = (url_line (key_of Urls source) (fetched_is (url_of source) taken), tt)
 

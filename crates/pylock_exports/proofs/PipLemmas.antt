@@ -106,7 +106,7 @@ found_key base rest bare (inl none) front back is =
 found_key base rest bare (inr some) front back is =
     let path = some.0 in
     let same : (base ++ codes "#subdirectory") ++ (61 ∷ path) ≡ front ++ (61 ∷ back) =
-        append_assoc base (codes "#subdirectory") (61 ∷ path) ∙ sym (ap (λ r. base ++ r) some.2) ∙ is ∙ append_assoc front (codes "=") back in
+    append_assoc base (codes "#subdirectory") (61 ∷ path) ∙ sym (ap (λ r. base ++ r) some.2) ∙ is ∙ append_assoc front (codes "=") back in
     (base, (one_cut 61 (base ++ codes "#subdirectory") path front back (fails_both (λ x. x == 61) base (codes "#subdirectory") bare.equals refl) (sub_bare path some.1).equals same).0)
 
 lacks_ampersand : (base rest : List ℕ) → IsBare base → IsFragment rest → Lacks 38 (base ++ rest)
@@ -128,10 +128,25 @@ not_found url keys x key other found =
 none_found : (url : List ℕ) → ((front back : List ℕ) → url ≡ front ++ codes "=" ++ back → (own : List ℕ) × (front ≡ own ++ codes "#subdirectory"))
     → All (λ key. Finds key url → ⊥) sought
 none_found url keys =
-    All-from_recursion (λ key. Finds key url → ⊥) sought
-    (not_found url keys 109 (codes "d5") refl, (not_found url keys 115 (codes "ha1") refl, (not_found url keys 115 (codes "ha224") refl,
-    (not_found url keys 115 (codes "ha256") refl, (not_found url keys 115 (codes "ha384") refl, (not_found url keys 115 (codes "ha512") refl,
-    (not_found url keys 101 (codes "gg") refl, tt)))))))
+    All-from_recursion (λ key. Finds key url → ⊥) sought (
+      not_found url keys 109 (codes "d5") refl,
+      (
+        not_found url keys 115 (codes "ha1") refl,
+        (
+          not_found url keys 115 (codes "ha224") refl,
+          (
+            not_found url keys 115 (codes "ha256") refl,
+            (
+              not_found url keys 115 (codes "ha384") refl,
+              (
+                not_found url keys 115 (codes "ha512") refl,
+                (not_found url keys 101 (codes "gg") refl, tt),
+              ),
+            ),
+          ),
+        ),
+      ),
+    )
 
 plain_url : (base rest : List ℕ) → IsBare base → IsFragment rest
     → ((scheme rest' : List ℕ) → Lacks 58 scheme → base ++ rest ≡ scheme ++ codes "://" ++ rest' → IsAuthority scheme rest') → IsPlainUrl (base ++ rest)
@@ -405,4 +420,3 @@ plain_hashed sources lines made = pip_lines format.Requirements tt sources lines
 
 pub plain_local : (sources : List ListedValue) (lines : List (List ℕ)) → format_lines format.RequirementsLocal sources ≡ Ok lines → All ReadsPlainly lines
 plain_local sources lines made = pip_lines format.RequirementsLocal tt sources lines made
-

@@ -1,6 +1,7 @@
 -- What the names of files say: of which project they are, and what a tool takes them for.
 use Rattle.std.specs.Prelude.{ℕ, Bool, true, false, ◌||◌, ◌-◌, codes, List, [], ◌∷◌, length, drop}
 use Rattle.std.specs.Prelude.{Option, Some, None, option_map, not, ◌==◌, ◌&&◌, if◌then◌else◌}
+use Rattle.std.specs.Option.{option_map_or}
 use Rattle.std.specs.Result.{result_ok}
 use Rattle.std.specs.Str.{bytes_eq, str_eq_ignore_ascii_case}
 use Rattle.pyver_core.specs.Name.{normal_name}
@@ -32,15 +33,22 @@ project_check name None = require field.FileName reason.Unread false
 project_check name (Some project) =
     require field.FileName reason.OtherProject (bytes_eq project name)
 
--- ---- what pip takes for a file
+-- ---- how they end
 
--- the text ends so, ASCII letter case ignored
+abbrev pub ends : (ending text : List ℕ) → Bool
+ends ending text = bytes_eq (drop (length text - length ending) text) ending
+
+-- the same, ASCII letter case ignored
 abbrev pub ends_in : (ending text : List ℕ) → Bool
 ends_in ending text =
     str_eq_ignore_ascii_case (drop (length text - length ending) text) ending
 
 abbrev pub ends_as_wheel : List ℕ → Bool
 ends_as_wheel text = ends_in (codes ".whl") text
+
+-- what stands there does
+abbrev pub is_wheel_end : Option (List ℕ) → Bool
+is_wheel_end last = option_map_or ends_as_wheel last false
 
 abbrev pub ends_as_tar : List ℕ → Bool
 ends_as_tar text =

@@ -1,16 +1,16 @@
 -- The forms that list files: what each file has to have, and the lines of a list.
-use Rattle.std.specs.Prelude.{◌≡◌, ℕ, Bool, false, not, ◌&&◌, ◌||◌, nat_eq, codes, ◌++◌, List, []}
+use Rattle.std.specs.Prelude.{◌≡◌, ℕ, Bool, false, not, ◌||◌, codes, ◌++◌, List, []}
 use Rattle.std.specs.Prelude.{◌∷◌, map, Option, Some, None, is_none, is_some, unwrap_or}
 use Rattle.std.specs.Prelude.{option_map, Result, Ok, Err, if◌then◌else◌}
-use Rattle.std.specs.List.{ends_with, find, flat_map}
+use Rattle.std.specs.List.{find, flat_map}
 use Rattle.std.specs.Option.{option_map_or}
 use Rattle.std.specs.Str.{bytes_eq}
 use Rattle.pytext.specs.Results.{◌>>=◌}
 use Rattle.pylock_core.specs.Session.Picks.{SourceValue}
-use Rattle.pylock_exports.specs.FileNames.{last_part}
+use Rattle.pylock_exports.specs.FileNames.{ends, last_part}
 use Rattle.pylock_exports.specs.Listed.{ListedValue, file_name_of_source, path_alone, sha256_of}
 use Rattle.pylock_exports.specs.Listed.{url_of}
-use Rattle.pylock_exports.specs.Parts.{Check, file_name_check, hash_check, path_check, require}
+use Rattle.pylock_exports.specs.Parts.{Check, end_check, file_name_check, hash_check, path_check, require}
 use Rattle.pylock_exports.specs.Parts.{there, web_url_check}
 use Rattle.pylock_exports.specs.Refusals.{at_number, other_value}
 use Rattle.pylock_exports.specs.Requirements.{path_text}
@@ -60,7 +60,7 @@ is_left format source = lacks format source (name_in format source)
 abbrev pub fetched_check : (url last : Option (List ℕ)) → Check
 fetched_check url last =
     there field.Url (web_url_check class.Url) url
-    >>= (λ _. file_name_check field.UrlEnd (unwrap_or last []))
+    >>= (λ _. end_check field.UrlEnd last)
 
 -- the path of a file without a URL, else its file name
 abbrev pub sum_name_check : (path : Option (List ℕ)) → (name : List ℕ) → Check
@@ -70,7 +70,7 @@ sum_name_check None name = file_name_check field.FileName name
 -- a file beside which `aria2c` keeps what it knows of a download
 abbrev pub is_control_file : List ℕ → Bool
 is_control_file name =
-    ends_with nat_eq name (codes ".aria2") || ends_with nat_eq name (codes ".aria2__temp")
+    ends (codes ".aria2") name || ends (codes ".aria2__temp") name
 
 abbrev pub aria2_name_check : List ℕ → Check
 aria2_name_check name =
@@ -81,7 +81,8 @@ abbrev pub own_sum_check : SourceValue → Check
 own_sum_check source = there field.Hash (hash_check 64) (sha256_of source)
 
 -- what is named so, and whose URL ends so
-abbrev pub listed_check : ListFormat → SourceValue → (name : List ℕ) → (last : Option (List ℕ)) → Check
+abbrev pub listed_check : ListFormat → SourceValue → (name : List ℕ) → (last : Option (List ℕ))
+    → Check
 listed_check Sha256sum source name last =
     sum_name_check (path_alone source) name >>= (λ _. own_sum_check source)
 listed_check Aria2 source name last =

@@ -1,7 +1,7 @@
 -- What each part of a line has to be. A text is the list of the bytes of its UTF-8.
 use Rattle.std.specs.Prelude.{ℕ, Bool, true, false, ◌==◌, ◌||◌, ◌&&◌, not, codes, nat_eq, List, []}
 use Rattle.std.specs.Prelude.{◌∷◌, length, drop, Option, Some, None, is_some, option_map}
-use Rattle.std.specs.Prelude.{option_and_then, Result, Ok, Err, ⊤, if◌then◌else◌}
+use Rattle.std.specs.Prelude.{option_and_then, unwrap_or, Result, Ok, Err, ⊤, if◌then◌else◌}
 use Rattle.std.specs.Char.{is_ascii_alphanumeric}
 use Rattle.std.specs.List.{find, list_all, list_any, prefix_len, slice_split, starts_with}
 use Rattle.std.specs.Option.{option_map_or}
@@ -65,6 +65,10 @@ abbrev pub file_name_check : Field → List ℕ → Check
 file_name_check field name =
     allowed class.FileName field name
     >>= (λ _. require field reason.Form (starts is_ascii_alphanumeric name))
+
+-- what the field ends in is a file name
+abbrev pub end_check : Field → Option (List ℕ) → Check
+end_check field last = file_name_check field (unwrap_or last [])
 
 -- ---- URLs
 

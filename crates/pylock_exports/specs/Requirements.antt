@@ -13,11 +13,11 @@ use Rattle.pylock_readers.specs.Entry.{file_name}
 use Rattle.pylock_readers.specs.Entry.FileName.{is_slash}
 use Rattle.pylock_core.specs.Session.Picks.{SourceValue, OfVcs, OfDirectory, OfArchive, OfWheel}
 use Rattle.pylock_core.specs.Session.Picks.{OfSdist}
-use Rattle.pylock_exports.specs.FileNames.{ends_as_file, ends_as_wheel, last_step, project_check}
+use Rattle.pylock_exports.specs.FileNames.{ends_as_file, is_wheel_end, last_step, project_check}
 use Rattle.pylock_exports.specs.FileNames.{sdist_project, wheel_project}
 use Rattle.pylock_exports.specs.Listed.{ListedValue, hash_of, is_unhashed, last_of}
 use Rattle.pylock_exports.specs.Parts.{Check, any_url_check, checkout_url_check, commit_check}
-use Rattle.pylock_exports.specs.Parts.{directory_path_check, file_name_check, hash_check}
+use Rattle.pylock_exports.specs.Parts.{directory_path_check, end_check, hash_check}
 use Rattle.pylock_exports.specs.Parts.{kind_check, missing, name_check, path_check, require}
 use Rattle.pylock_exports.specs.Parts.{subdirectory_check, there, where_there}
 use Rattle.pylock_exports.specs.Refusals.{at_number}
@@ -42,7 +42,7 @@ end_field None = field.PathEnd
 -- the URL, else the path, which ends in this file name
 abbrev pub place_check : (url path last : Option (List ℕ)) → Check
 place_check url path last =
-    location_check url path >>= (λ _. file_name_check (end_field url) (unwrap_or last []))
+    location_check url path >>= (λ _. end_check (end_field url) last)
 
 -- it is written as a path: it has no URL, and the path doesn't begin with `/`
 abbrev pub is_relative : (url path : Option (List ℕ)) → Bool
@@ -88,7 +88,7 @@ archive_subdirectory_check archive =
 -- what ends as a wheel does is one of the entry's project
 abbrev pub archive_name_check : List ℕ → (last project : Option (List ℕ)) → Check
 archive_name_check name last project =
-    if ends_as_wheel (unwrap_or last []) then project_check name project else Ok tt
+    if is_wheel_end last then project_check name project else Ok tt
 
 abbrev pub archive_check : List ℕ → ArchiveValue → (last project : Option (List ℕ)) → Check
 archive_check name archive last project =

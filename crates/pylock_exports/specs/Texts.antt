@@ -10,12 +10,17 @@ use Rattle.pylock_exports.specs.Requirements.{is_in, requirements_lines}
 use Rattle.pylock_exports.specs.declared.format.Format.{Format}
 use Rattle.pylock_exports.specs.declared.format.Format.TheVariants as format
 use Rattle.pylock_exports.specs.declared.format.ListFormat.TheVariants.{Sha256sum, Aria2, Urls}
+use Rattle.pylock_exports.specs.declared.format.PlanPart.{PlanPart}
 use Rattle.pylock_exports.specs.declared.format.PlanPart.TheVariants.{Hashed, Local}
 use Rattle.pylock_exports.specs.declared.left.LeftSource.{LeftSource}
 use Rattle.pylock_exports.specs.declared.refusal.ExportError.{ExportError}
 
 abbrev pub lines_text : List (List ℕ) → List ℕ
 lines_text lines = flat_map (λ line. line ++ codes "\n") lines
+
+-- the text of a requirements file
+abbrev pub part_text : PlanPart → List ListedValue → Result (List ℕ) ExportError
+part_text part sources = requirements_lines part sources >>= (λ lines. Ok (lines_text lines))
 
 abbrev pub format_lines : Format → List ListedValue → Result (List (List ℕ)) ExportError
 format_lines format.Requirements sources = requirements_lines Hashed sources

@@ -1,10 +1,11 @@
 //! What the names of files say: of which project they are, and what a tool takes them for.
 
-ghost use Rattle.std.specs.Prelude.{◌≡◌, option_map, IfOk, string_bytes};
+ghost use Rattle.std.specs.Prelude.{◌≡◌, None, option_map, IfOk, string_bytes};
 ghost use Rattle.std.specs.Option.{option_copied};
-ghost use Rattle.pylock_exports.specs.FileNames.{ends_as_bz2, ends_as_file, ends_as_tar};
+ghost use Rattle.pylock_exports.specs.FileNames.{ends, ends_as_bz2, ends_as_file, ends_as_tar};
 ghost use Rattle.pylock_exports.specs.FileNames.{ends_as_wheel, ends_as_xz, ends_in, is_step};
-ghost use Rattle.pylock_exports.specs.FileNames.{last_part, last_step, project_check};
+ghost use Rattle.pylock_exports.specs.FileNames.{is_wheel_end, last_part, last_step};
+ghost use Rattle.pylock_exports.specs.FileNames.{project_check};
 ghost use Rattle.pylock_exports.specs.FileNames.{sdist_project, wheel_project};
 
 use crate::parts::require;
@@ -26,10 +27,17 @@ pub(crate) fn last_part(
     if let Some(url) = url {
         return url_file_name(alloc, url);
     }
-    match path.and_then(path_file_name) {
+    match last_of_path(path) {
         Some(last) => Ok(Some(String::from_str(alloc, last)?)),
         None => Ok(None),
     }
+}
+
+/// What a path ends in.
+fn last_of_path(path: Option<&str>) -> Option<&str>
+    ensures { option_copied result ≡ last_part None (option_copied path.entry) }
+{
+    path_file_name(path?)
 }
 
 // ---- of which project
@@ -66,20 +74,43 @@ pub(crate) fn check_project(name: &str, project: Option<&str>) -> Result<(), Fie
     }
 }
 
-// ---- what pip takes for a file
+// ---- how they end
 
-/// Whether the text ends so, ASCII letter case ignored.
+/// Whether the text ends so.
+pub(crate) fn ends(ending: &[u8], text: &[u8]) -> bool
+    ensures { result ≡ ends ending.now text.now }
+{
+    text.ends_with(ending)
+}
+
+/// The same, ASCII letter case ignored.
 fn ends_in(ending: &str, text: &str) -> bool
     ensures { result ≡ ends_in ending.now text.now }
 {
-    let place = text.len().saturating_sub(ending.len());
-    text.as_bytes()[place..].eq_ignore_ascii_case(ending.as_bytes())
+    has_end(ending.as_bytes(), text.as_bytes())
 }
 
-pub(crate) fn ends_as_wheel(text: &str) -> bool
+fn has_end(ending: &[u8], text: &[u8]) -> bool
+    ensures { result ≡ ends_in ending.now text.now }
+{
+    let place = text.len().saturating_sub(ending.len());
+    text[place..].eq_ignore_ascii_case(ending)
+}
+
+fn ends_as_wheel(text: &str) -> bool
     ensures { result ≡ ends_as_wheel text.now }
 {
     ends_in(".whl", text)
+}
+
+/// Whether what stands there ends as a wheel does.
+pub(crate) fn is_wheel_end(last: Option<&str>) -> bool
+    ensures { result ≡ is_wheel_end (option_copied last.entry) }
+{
+    match last {
+        Some(last) => ends_as_wheel(last),
+        None => false,
+    }
 }
 
 fn ends_as_tar(text: &str) -> bool

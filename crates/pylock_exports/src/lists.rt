@@ -1,7 +1,7 @@
 //! The forms that list files.
 
 ghost use Rattle.std.specs.Prelude.{◌≡◌, ◌++◌, ◌∷◌, [], IfOk, OnOk, option_map, string_bytes};
-ghost use Rattle.std.specs.Prelude.{unwrap_or};
+ghost use Rattle.std.specs.Prelude.{false, unwrap_or};
 ghost use Rattle.std.specs.BTreeMap.{get_by_text};
 ghost use Rattle.std.specs.List.{flat_map};
 ghost use Rattle.std.specs.Option.{option_copied};
@@ -17,6 +17,7 @@ ghost use Rattle.pylock_exports.specs.Lists.{listed_check, name_in, own_sum_chec
 ghost use Rattle.pylock_exports.specs.Lists.{sum_name, sum_name_check, value_of, with_source};
 ghost use Rattle.pylock_exports.specs.Lists.{with_sources};
 ghost use Rattle.pylock_exports.specs.Parts.{there, web_url_check};
+ghost use Rattle.pylock_exports.specs.Refusals.{at_number};
 ghost use Rattle.pylock_exports.specs.Texts.{format_text, lines_text};
 ghost use Rattle.pylock_exports.specs.declared.class.Class.TheVariants as class;
 ghost use Rattle.pylock_exports.specs.declared.format.Format.TheVariants as format;
@@ -25,11 +26,13 @@ ghost use Rattle.pylock_exports.specs.declared.refusal.ExportError.TheVariants a
 ghost use Rattle.pylock_exports.specs.declared.refusal.Field.TheVariants as field;
 
 use crate::class::Class;
-use crate::file_names::last_part;
+use crate::file_names::{ends, last_part};
 use crate::format::ListFormat;
 use crate::hashes::sha256_of;
 use crate::listed::{Listed, file_name_of, owned, path_alone, url_of};
-use crate::parts::{check_file_name, check_hash, check_path, check_web_url, missing, require};
+use crate::parts::{
+    check_end, check_file_name, check_hash, check_path, check_web_url, missing, require,
+};
 use crate::refusal::{ExportError, Field, FieldFault, Reason, at_number, other_value};
 use crate::requirements::push_path;
 use pylock_core::PickedSource;
@@ -120,7 +123,7 @@ fn check_fetched(url: Option<&str>, last: Option<&str>) -> Result<(), FieldFault
     ensures { result ≡ fetched_check (option_copied url.entry) (option_copied last.entry) }
 {
     check_own_url(url)?;
-    check_file_name(Field::UrlEnd, last.unwrap_or(""))
+    check_end(Field::UrlEnd, last)
 }
 
 /// The path of a file without a URL, else its file name.
@@ -137,7 +140,7 @@ fn check_sum_name(path: Option<&str>, name: &str) -> Result<(), FieldFault>
 fn is_control_file(name: &str) -> bool
     ensures { result ≡ is_control_file name.now }
 {
-    name.ends_with(".aria2") || name.ends_with(".aria2__temp")
+    ends(b".aria2", name.as_bytes()) || ends(b".aria2__temp", name.as_bytes())
 }
 
 fn check_aria2_name(name: &str) -> Result<(), FieldFault>
@@ -237,7 +240,18 @@ fn keep<'a>(
     if lacks(format, listed.source, name.as_deref()) {
         return Ok(());
     }
-    keep_named(alloc, format, kept, values, listed, name)
+    let key = text_or_empty(alloc, name);
+    keep_named(alloc, format, kept, values, listed, key)
+}
+
+/// The text, or none where it isn't there.
+fn text_or_empty(alloc: Global, text: Option<String>) -> String
+    ensures { string_bytes result ≡ unwrap_or (option_map string_bytes text) [] }
+{
+    match text {
+        Some(text) => text,
+        None => String::new(alloc),
+    }
 }
 
 /// Adds a source that has this name, unless it stands there.
@@ -247,17 +261,16 @@ fn keep_named<'a>(
     kept: &mut Vec<Listed<'a>>,
     values: &mut BTreeMap<String, &'a str>,
     listed: &Listed<'a>,
-    name: Option<String>,
+    key: String,
 ) -> Result<(), ExportError>
     requires holds { Holds format (get_by_text values.old) (all_lent kept.old.items) }
-    requires name { option_map string_bytes name ≡ name_in format (lent listed.now).source }
+    requires named { string_bytes key ≡ key_of format (lent listed.now).source }
     requires held { is_left format (lent listed.now).source ≡ false }
     ensures kept { Gives export.Memory (λ _. all_lent kept.new.items) result
         (with_source format (all_lent kept.old.items) (lent listed.now)) }
     ensures holds { OnOk result (Holds format (get_by_text values.new)
         (all_lent kept.new.items)) }
 {
-    let key = name.unwrap_or(String::new(alloc));
     check_at_number(alloc, format, listed, key.as_str())?;
     let value = value_of(format, listed.source);
     match values.get(key.as_str()) {

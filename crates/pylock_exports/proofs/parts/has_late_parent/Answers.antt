@@ -19,7 +19,7 @@ returns-then-is_up c =
 pub loop-part-preserved : goal.loop-part-preserved
 loop-part-preserved c =
     let none : (c.loop-part.is_behind && is_parent c.in-Some.part.now) ≡ false =
-        ap (λ up. c.loop-part.is_behind && up) (sym c.is_parent-is_up.ensures) ∙ not_late c.loop-part.is_behind c.is_parent-is_up.result c.else-is_behind.either in
+    ap (λ up. c.loop-part.is_behind && up) (sym c.is_parent-is_up.ensures) ∙ not_late c.loop-part.is_behind c.is_parent-is_up.result c.else-is_behind.either in
     next_part c.args.path.now c.loop-part.part-iterator c.next.new.self c.in-Some.part c.loop-part.is_behind _ c.in-Some.ensures.steps c.loop-part.invariant
     none (search rules)
 
