@@ -11,6 +11,7 @@ use Rattle.pylock_command.specs.declared.form.Form.{Form}
 use Rattle.pylock_command.specs.declared.form.Form.TheVariants.{Json, Lines}
 use Rattle.pylock_command.specs.declared.form.PlanFormat.{PlanFormat}
 use Rattle.pylock_command.specs.declared.form.PlanFormat.TheVariants.{Files, Requirements}
+use Rattle.pylock_command.specs.declared.form.PlanFormat.TheVariants.{RequirementsLocal}
 use Rattle.pylock_command.specs.declared.misuse.Misuse.{Misuse}
 use Rattle.pylock_command.specs.declared.misuse.Misuse.TheVariants.{NoFileFormat, NoPlanFormat}
 use Rattle.pylock_command.specs.declared.misuse.Misuse.TheVariants.{TwoForms}
@@ -29,7 +30,8 @@ file_format_named word =
 abbrev pub plan_format_named : Text → Option PlanFormat
 plan_format_named word =
     if bytes_eq word (codes "requirements") then Some Requirements
-    else option_map Files (file_format_named word)
+    else (if bytes_eq word (codes "requirements-local") then Some RequirementsLocal
+    else option_map Files (file_format_named word))
 
 -- the form of that kind that the words ask for, if any
 abbrev pub format_at : {F : Type 0} → (Text → Option F) → List Row → Option F

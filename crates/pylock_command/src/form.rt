@@ -34,8 +34,10 @@ pub enum FileFormat {
 /// A form of a plan that tools of others take.
 #[derive(Clone, Copy, Debug, PartialEq, Eq)]
 pub enum PlanFormat {
-    /// For `pip install -r`.
+    /// What has hashes, for `pip install -r`.
     Requirements,
+    /// The rest, for a second `pip install -r`.
+    RequirementsLocal,
     /// One of its files.
     Files(FileFormat),
 }
@@ -123,6 +125,9 @@ fn plan_format_named(word: &str) -> Option<PlanFormat>
 {
     if word == "requirements" {
         return Some(PlanFormat::Requirements);
+    }
+    if word == "requirements-local" {
+        return Some(PlanFormat::RequirementsLocal);
     }
     match file_format_named(word) {
         Some(format) => Some(PlanFormat::Files(format)),

@@ -62,22 +62,27 @@ platform_release and no platform_version: a marker that reads one is a fault,
 marker-unset, and --set gives it.
 
 --format prints what another tool takes, and nothing else. FORM is one of:
-  requirements  for pip install --no-deps -r FILE, or uv pip install with these
-  sha256sum     for sha256sum -c FILE
-  aria2         for aria2c -i FILE
-  urls          for wget -i FILE: a URL on each line
+  requirements        for pip install --no-deps -r FILE, or uv pip install with
+                      these: wheels, sdists and archives, each with one hash
+  requirements-local  for a second such run: VCS sources and directories, since
+                      pip takes no line without a hash beside one that has one
+  sha256sum           for sha256sum -c FILE
+  aria2               for aria2c -i FILE
+  urls                for wget -i FILE: a URL on each line
 
 Run the tool in the lock's folder, from which paths are meant:
-  $ pylock plan pylock.toml env.json --format requirements
+  $ pylock plan pylock.toml env.json --format requirements-local
   ..
   # plan by pylock
   -e ./.
   acme-protocol @ git+https://git.acme.example/protocol.git@..
   ..
 
-The last three leave out VCS sources and directories, and standard error counts
-them. What the tool could read in another way is refused: standard error has
-refused, TAB, format, TAB and the number of the entry.
+A VCS line is as good as its host: a branch may be named as a commit is. What a
+form doesn't hold is left out, and standard error counts it and names the first
+of it: of either requirements file what the other has, else what has no file
+name, URL or sha256. What the tool could read in another way is refused:
+standard error has refused, TAB, format, TAB and the number of the entry.
 
 With --strict the lock is taken only where audit has none of these findings:
 no-packages, name-form, version, wrong-type, marker-extra, no-source,
@@ -182,7 +187,8 @@ lock but TAB and LF, which are written \\t and \\n.
   aria2      for aria2c -i FILE
   urls       for wget -i FILE: a URL on each line
 
-VCS sources and directories are left out, and standard error counts them:
+What has no file name, URL or sha256 where the form wants one is left out, as
+VCS sources and directories are; standard error counts it and names the first:
   $ pylock files pylock.toml --format urls
   ..
   https://downloads.acme.example/acme-theme-0.4.2.tar.gz

@@ -60,7 +60,9 @@ impl Misuse {
             Misuse::HalfTarget => "--python and --platform have to be given together",
             Misuse::NoPlans => { "the options of plan want --in, or --python and --platform" }
             Misuse::TwoForms => "--format can't be used with --json",
-            Misuse::NoPlanFormat => "--format takes requirements, sha256sum, aria2 or urls",
+            Misuse::NoPlanFormat => {
+                "--format takes requirements, requirements-local, sha256sum, aria2 or urls"
+            }
             Misuse::NoFileFormat => "--format takes sha256sum, aria2 or urls",
             Misuse::EditsAndFile => {
                 "select reads its edits from standard input, so LOCK and ENV can't be -"

@@ -1,30 +1,30 @@
 -- The sources of a list and the table of their values, with one source more.
-use Rattle.std.proofs.Common.{◌≡◌, ◌∙◌, ℕ, Bool, true, false, cond, List, [], ◌∷◌, ◌++◌, Option, Some, None, Ok, Err, option_map, nat_cmp, refl, sym, ap}
+use Rattle.std.proofs.Common.{◌≡◌, ◌∙◌, ℕ, Bool, true, false, cond, List, [], ◌∷◌, ◌++◌, Option, Some, None, Ok, Err, option_map, refl, sym, ap}
 use Rattle.std.proofs.lemmas.Bool.Decides.{Decides-like, same_from_decides}
-use Rattle.std.specs.BTreeMap.{BTreeMap, get_by}
-use Rattle.std.specs.Cmp.Lexicographic.{bytes_decides, slice_cmp}
+use Rattle.std.specs.Cmp.Lexicographic.{bytes_decides}
 use Rattle.std.specs.List.{find}
 use Rattle.std.specs.Map.{update}
 use Rattle.std.specs.Str.{bytes_eq}
 use denote.Ref.{Bor}
 use Rattle.pylock_exports.specs.Inner.Kept.{Holds}
-use Rattle.pylock_exports.specs.Listed.{ListedValue, is_unlisted}
-use Rattle.pylock_exports.specs.Lists.{at_number, key_of, list_check, other_value, value_named, value_of, with_source}
+use Rattle.pylock_exports.specs.Listed.{ListedValue}
+use Rattle.pylock_exports.specs.Lists.{is_left, key_of, list_check, value_named, value_of, with_source}
+use Rattle.pylock_exports.specs.Refusals.{at_number, other_value}
 use Rattle.pylock_exports.specs.declared.format.ListFormat.{ListFormat}
 
 -- ---- what is made of it
 
-pub kept_new : (form : ListFormat) (kept : List ListedValue) (s : ListedValue) → is_unlisted s.source ≡ false
+pub kept_new : (form : ListFormat) (kept : List ListedValue) (s : ListedValue) → is_left form s.source ≡ false
     → at_number s.number (list_check form s.source) ≡ Ok tt → value_named form (key_of form s.source) kept ≡ None
     → with_source form kept s ≡ Ok (kept ++ s ∷ [])
 kept_new form kept s listed taken none = rw (listed, taken, none) refl
 
-pub kept_same : (form : ListFormat) (kept : List ListedValue) (s : ListedValue) (value : List ℕ) → is_unlisted s.source ≡ false
+pub kept_same : (form : ListFormat) (kept : List ListedValue) (s : ListedValue) (value : List ℕ) → is_left form s.source ≡ false
     → at_number s.number (list_check form s.source) ≡ Ok tt → value_named form (key_of form s.source) kept ≡ Some value
     → bytes_eq value (value_of form s.source) ≡ true → with_source form kept s ≡ Ok kept
 kept_same form kept s value listed taken some same = rw (listed, taken, some, same) refl
 
-pub kept_other : (form : ListFormat) (kept : List ListedValue) (s : ListedValue) (value : List ℕ) → is_unlisted s.source ≡ false
+pub kept_other : (form : ListFormat) (kept : List ListedValue) (s : ListedValue) (value : List ℕ) → is_left form s.source ≡ false
     → at_number s.number (list_check form s.source) ≡ Ok tt → value_named form (key_of form s.source) kept ≡ Some value
     → bytes_eq value (value_of form s.source) ≡ false → with_source form kept s ≡ Err (other_value s.number)
 kept_other form kept s value listed taken some other = rw (listed, taken, some, other) refl
@@ -59,15 +59,12 @@ named_more form key (k ∷ kept) s =
     (find (λ s. bytes_eq key (key_of form s.source)) (kept ++ s ∷ [])) (find (λ s. bytes_eq key (key_of form s.source)) kept)
     (bytes_eq key (key_of form s.source)) (value_of form s.source) (named_more form key kept s)
 
-abbrev Table : Type 0
-Table = BTreeMap (Bor (List ℕ)) (Bor (List ℕ))
+abbrev Found : Type 0
+Found = List ℕ → Option (Bor (List ℕ))
 
-abbrev found : Table → List ℕ → Option (Bor (List ℕ))
-found table key = get_by (λ k. slice_cmp nat_cmp key k.now) table
-
-pub holds_more : (form : ListFormat) (old new : Table) (kept : List ListedValue) (s : ListedValue) (key : List ℕ) (value : Bor (List ℕ))
+pub holds_more : (form : ListFormat) (old new : Found) (kept : List ListedValue) (s : ListedValue) (key : List ℕ) (value : Bor (List ℕ))
     → key ≡ key_of form s.source → value.now ≡ value_of form s.source
-    → ((q : List ℕ) → found new q ≡ update bytes_eq (found old) key (Some value) q)
+    → ((q : List ℕ) → new q ≡ update bytes_eq old key (Some value) q)
     → value_named form key kept ≡ None → Holds form old kept → Holds form new (kept ++ s ∷ [])
 holds_more form old new kept s key value key_is value_is updated none holds q =
     ap (λ v. option_map (λ value. value.now) v) (updated q)
@@ -83,6 +80,6 @@ holds_more form old new kept s key value key_is value_is updated none holds q =
     at_key same = ap (λ k. value_named form k kept) (sym same) ∙ none
 
     by : (b : Bool) → bytes_eq key q ≡ b
-        → option_map (λ (value : Bor (List ℕ)). value.now) (cond b (Some value) (found old q)) ≡ later (value_named form q kept) b (value_of form s.source)
+        → option_map (λ (value : Bor (List ℕ)). value.now) (cond b (Some value) (old q)) ≡ later (value_named form q kept) b (value_of form s.source)
     by true is = ap Some value_is ∙ ap (λ v. later v true (value_of form s.source)) (sym (at_key ((bytes_decides key q).0 is)))
     by false is = holds q ∙ settled (value_named form q kept)

@@ -1,7 +1,13 @@
 mod BehindLemmas
+mod DealLemmas
 mod KeptLemmas
+mod LeftLemmas
 mod LineLemmas
 mod NeverMemory
 mod NextLemmas
 mod OnceLemmas
+mod ParentLemmas
+mod PipLemmas
+mod SplitLemmas
+mod StepLemmas
 mod TextLemmas

@@ -1,7 +1,8 @@
 -- Lines of what was taken: each part that a check takes is of its form.
-use Rattle.std.proofs.Common.{◌≡◌, ◌∙◌, inl, inr, ℕ, Bool, true, false, not, cond, codes, List, [], ◌∷◌, ◌++◌, map, flat_map, Option, Some, None, Result, Ok, Err, unwrap_or, refl, sym, ap, subst}
+use Rattle.std.proofs.Common.{◌≡◌, ◌∙◌, ◌⊎◌, inl, inr, ℕ, Bool, true, false, not, ◌||◌, cond, codes, List, [], ◌∷◌, ◌++◌, map, flat_map, Option, Some, None, Result, Ok, Err, unwrap_or, refl, sym, ap, subst}
 use Rattle.std.proofs.lemmas.List.Elements.{All-from_recursion}
 use Rattle.std.specs.Prelude.{⊤}
+use Rattle.std.specs.Char.{is_ascii_alphanumeric}
 use Rattle.std.specs.List.{All, AllByRecursion}
 use Rattle.std.specs.Option.{option_map_or}
 use Rattle.pytext.specs.Bytes.{starts}
@@ -9,18 +10,26 @@ use Rattle.pytext.specs.Results.{◌>>=◌}
 use Rattle.pylock_readers.specs.Entry.{ArchiveValue, DirectoryValue, FileValue, VcsValue}
 use Rattle.pylock_readers.specs.Entry.FileName.{is_slash}
 use Rattle.pylock_core.specs.Session.Picks.{SourceValue, OfVcs, OfDirectory, OfArchive, OfWheel, OfSdist}
-use Rattle.pylock_exports.specs.Line.{IsLine, IsName, IsFileName, IsWebUrl, IsAnyUrl, IsPath, IsSubdirectory, IsHash, IsCommit, IsFragment, IsFolder, IsHashOption, IsHashes, IsEditable, IsWrittenPath}
-use Rattle.pylock_exports.specs.Line.{sum_line, aria2_url, aria2_file, aria2_hash, aria2_torrent, aria2_metalink, url_line, header_line, place_line, path_line, checkout_line, folder_line}
-use Rattle.pylock_exports.specs.Listed.{ListedValue, hash_of, url_of, file_name_of_source}
-use Rattle.pylock_exports.specs.Lists.{at_number, key_of, list_check, sha256_of, source_lines, sum_check, with_sources}
-use Rattle.pylock_exports.specs.Parts.{Check, any_url_check, checkout_url_check, commit_check, file_name_check, has_hex_commits, hash_check, name_check, path_check, require, subdirectory_check, there, web_url_check, where_there}
-use Rattle.pylock_exports.specs.Requirements.{archive_check, directory_check, directory_line, file_check, fragment, hash_option, hash_options, hashes_check, header, location_check, location_text, named, parts_check, path_text, requirement_check, requirement_line, requirements_lines, source_check, source_line, source_requirements, vcs_check, vcs_line}
+use Rattle.pylock_exports.specs.FileNames.{ends_as_file, last_part}
+use Rattle.pylock_exports.specs.Line.{EndsInFile, IsCheckoutUrl, IsCommit, IsDirectory, IsDirectoryPath, IsFetchedUrl, IsFileName, IsFilePath, IsFileUrl, IsFragment, IsHash, IsHashOption, IsLine, IsName, IsOf, IsPath, IsPlace, IsPlainPath, IsSub, IsSubdirectory, IsSumName, IsWebUrl, folder}
+use Rattle.pylock_exports.specs.Line.{option_sha256, option_sha384, option_sha512}
+use Rattle.pylock_exports.specs.Line.{sum_line, aria2_url, aria2_file, aria2_hash, aria2_torrent, aria2_metalink, aria2_renaming, url_line, header_line, place_line, path_line, local_header_line, checkout_line, directory_line}
+use Rattle.pylock_exports.specs.Listed.{ListedValue, file_name_of_source, hash_of, last_of, path_alone, sha256_of, url_of}
+use Rattle.pylock_exports.specs.Lists.{aria2_name_check, fetched_check, is_control_file, key_of, list_check, own_sum_check, source_lines, sum_name, sum_name_check, value_of, with_sources}
+use Rattle.pylock_exports.specs.Parts.{Check, any_url_check, behind, checkout_url_check, commit_check, directory_path_check, file_name_check, has_hex_commits, hash_check, host_check, host_cut, is_file_url, name_check, path_check, plain_check, require, subdirectory_check, there, web_url_check, where_there}
+use Rattle.pylock_exports.specs.Refusals.{at_number}
+use Rattle.pylock_exports.specs.Requirements.{archive_check, best_hash_check, best_hash_option, directory_check, directory_end, file_check, fragment, hashes_check, hashes_option, header, is_in, location_text, named, part_of, parts_check, path_text, place_check, project_of, requirement_check, requirement_line, requirements_lines, source_check, source_line, source_requirements, vcs_check, vcs_line}
 use Rattle.pylock_exports.specs.Texts.{format_lines}
 use Rattle.pylock_exports.proofs.OnceLemmas.{all_from}
+use Rattle.pylock_exports.proofs.SplitLemmas.{behind_found, joined_five, web_found}
+use Rattle.pylock_exports.specs.declared.class.Class.{Class}
+use Rattle.pylock_exports.specs.declared.class.Class.TheVariants as class
 use Rattle.pylock_exports.specs.declared.format.Format.{Format}
 use Rattle.pylock_exports.specs.declared.format.Format.TheVariants as format
 use Rattle.pylock_exports.specs.declared.format.ListFormat.{ListFormat}
 use Rattle.pylock_exports.specs.declared.format.ListFormat.TheVariants.{Sha256sum, Aria2, Urls}
+use Rattle.pylock_exports.specs.declared.format.PlanPart.{PlanPart}
+use Rattle.pylock_exports.specs.declared.format.PlanPart.TheVariants.{Hashed, Local}
 use Rattle.pylock_exports.specs.declared.refusal.ExportError.{ExportError}
 use Rattle.pylock_exports.specs.declared.refusal.Field.{Field}
 use Rattle.pylock_exports.specs.declared.refusal.Field.TheVariants as field
@@ -54,33 +63,76 @@ not_true false is = refl
 name_is : (name : List ℕ) → name_check name ≡ Ok tt → IsName name
 name_is name taken = let p = both _ _ taken in (required _ _ _ p.0, required _ _ _ p.1)
 
-file_name_is : (name : List ℕ) → file_name_check name ≡ Ok tt → IsFileName name
-file_name_is name taken = let p = both _ _ taken in (required _ _ _ p.0, required _ _ _ p.1)
+file_name_is : (field : Field) (name : List ℕ) → file_name_check field name ≡ Ok tt → IsFileName name
+file_name_is field name taken = let p = both _ _ taken in (required _ _ _ p.0, required _ _ _ p.1)
 
-web_url_is : (url : List ℕ) → web_url_check url ≡ Ok tt → IsWebUrl url
-web_url_is url taken = let p = both _ _ taken in (required _ _ _ p.0, required _ _ _ p.1)
+web_url_is : (class : Class) (url : List ℕ) → web_url_check class url ≡ Ok tt → IsWebUrl class url
+web_url_is class url taken =
+    let p = both _ _ taken in
+    by (host_cut url) refl p.1 (required _ _ _ (both _ _ p.0).1)
+  where
+    by : (cut : Option (List ℕ × List ℕ)) → host_cut url ≡ cut → host_check cut ≡ Ok tt → IsOf class url → IsWebUrl class url
+    by None is host all = cc host
+    by (Some cut) is host all =
+        let at = web_found url cut is in
+        let p = both _ _ host in
+        record {
+          scheme = at.0;
+          host = cut.0;
+          path = cut.1;
+          whole = at.2 ∙ sym (joined_five at.0 (codes "://") cut.0 (codes "/") cut.1);
+          is_scheme = at.1;
+          is_host = (required _ _ _ p.0, required _ _ _ p.1);
+          characters = all;
+        }
 
-any_url_is : (url : List ℕ) → any_url_check url ≡ Ok tt → IsAnyUrl url
-any_url_is url taken = let p = both _ _ taken in (required _ _ _ p.0, required _ _ _ p.1)
+file_url_is : (url : List ℕ) → is_file_url url ≡ true → IsOf class.PipUrl url → IsFileUrl url
+file_url_is url is all = by (behind (codes "file:///") url) refl is
+  where
+    by : (rest : Option (List ℕ)) → behind (codes "file:///") url ≡ rest → option_map_or (starts is_ascii_alphanumeric) rest false ≡ true → IsFileUrl url
+    by None found is = cc is
+    by (Some path) found is = record { path = path; whole = behind_found (codes "file:///") url path found; begins = is; characters = all }
 
-checkout_url_is : (url : List ℕ) → checkout_url_check url ≡ Ok tt → IsAnyUrl url
-checkout_url_is url taken = any_url_is url (both _ _ taken).0
+any_url_is : (url : List ℕ) → any_url_check url ≡ Ok tt → IsWebUrl class.PipUrl url ⊎ IsFileUrl url
+any_url_is url taken = by (is_file_url url) refl taken
+  where
+    by : (b : Bool) → is_file_url url ≡ b → any_url_check url ≡ Ok tt → IsWebUrl class.PipUrl url ⊎ IsFileUrl url
+    by true is taken = inr (file_url_is url is (required _ _ _ (rw is at taken)))
+    by false is taken = inl (web_url_is class.PipUrl url (rw is at taken))
+
+checkout_url_is : (url : List ℕ) → checkout_url_check url ≡ Ok tt → IsCheckoutUrl url
+checkout_url_is url taken =
+    let two = both _ _ taken in
+    let one = both _ _ two.0 in
+    (web_url_is class.PipUrl url one.0, not_true _ (required _ _ _ one.1), required _ _ _ two.1)
+
+plain_is : (field : Field) (path : List ℕ) → plain_check field path ≡ Ok tt → IsPlainPath path
+plain_is field path taken =
+    let two = both _ _ taken in
+    let one = both _ _ two.0 in
+    record { characters = required _ _ _ one.0; something = not_true _ (required _ _ _ one.1); single = not_true _ (required _ _ _ two.1) }
 
 path_is : (path : List ℕ) → path_check path ≡ Ok tt → IsPath path
-path_is path taken = let p = both _ _ taken in (required _ _ _ p.0, not_true _ (required _ _ _ p.1))
+path_is path taken = let p = both _ _ taken in (plain_is field.Path path p.0, not_true _ (required _ _ _ p.1))
+
+directory_path_is : (path : List ℕ) → directory_path_check path ≡ Ok tt → IsDirectoryPath path
+directory_path_is path taken = let p = both _ _ taken in (plain_is field.Path path p.0, not_true _ (required _ _ _ p.1))
 
 subdirectory_is : (path : List ℕ) → subdirectory_check path ≡ Ok tt → IsSubdirectory path
-subdirectory_is path taken = let p = both _ _ taken in (required _ _ _ p.0, not_true _ (required _ _ _ p.1))
+subdirectory_is path taken =
+    let two = both _ _ taken in
+    let one = both _ _ two.0 in
+    ((plain_is field.Subdirectory path one.0, not_true _ (required _ _ _ one.1)), not_true _ (required _ _ _ two.1))
 
 hash_is : (digits : ℕ) (value : List ℕ) → hash_check digits value ≡ Ok tt → IsHash digits value
 hash_is digits value taken = let p = both _ _ taken in (required _ _ _ p.0, required _ _ _ p.1)
 
-commit_is : (kind commit : List ℕ) → commit_check kind commit ≡ Ok tt → IsCommit commit
+commit_is : (kind commit : List ℕ) → commit_check kind commit ≡ Ok tt → IsCommit kind commit
 commit_is kind commit = by (has_hex_commits kind) refl
   where
-    by : (hex : Bool) → has_hex_commits kind ≡ hex → commit_check kind commit ≡ Ok tt → IsCommit commit
-    by true is taken = inl (required _ _ _ (both _ _ (rw is at taken)).0)
-    by false is taken = inr (required _ _ _ (both _ _ (rw is at taken)).0)
+    by : (hex : Bool) → has_hex_commits kind ≡ hex → commit_check kind commit ≡ Ok tt → IsCommit kind commit
+    by true is taken = let p = both _ _ (rw is at taken) in inl (is, required _ _ _ p.0, required _ _ _ p.1)
+    by false is taken = let p = both _ _ (rw is at taken) in inr (is, required _ _ _ p.0, not_true _ (required _ _ _ p.1))
 
 -- ---- parts that may be absent
 
@@ -88,60 +140,46 @@ fragment_is : (subdirectory : Option (List ℕ)) → where_there subdirectory_ch
 fragment_is None taken = inl refl
 fragment_is (Some path) taken = inr (path, subdirectory_is path taken, refl)
 
-abbrev folder : Option (List ℕ) → List ℕ
-folder subdirectory = option_map_or (λ path. codes "/" ++ path) subdirectory []
+sub_is : (sub : Option (List ℕ)) → where_there subdirectory_check sub ≡ Ok tt → IsSub sub
+sub_is None taken = tt
+sub_is (Some path) taken = subdirectory_is path taken
 
-folder_is : (subdirectory : Option (List ℕ)) → where_there subdirectory_check subdirectory ≡ Ok tt → IsFolder (folder subdirectory)
-folder_is None taken = inl refl
-folder_is (Some path) taken = inr (path, subdirectory_is path taken, refl)
+best_is : (sha256 sha384 sha512 : Option (List ℕ)) → best_hash_check sha256 sha384 sha512 ≡ Ok tt → IsHashOption (best_hash_option sha256 sha384 sha512)
+best_is (Some value) sha384 sha512 taken = option_sha256 value (hash_is 64 value taken)
+best_is None (Some value) sha512 taken = option_sha384 value (hash_is 96 value taken)
+best_is None None (Some value) taken = option_sha512 value (hash_is 128 value taken)
+best_is None None None taken = cc taken
 
-option_is : (algorithm : List ℕ) (digits : ℕ) (value : Option (List ℕ)) → where_there (hash_check digits) value ≡ Ok tt
-    → IsHashOption algorithm digits (option_map_or (λ value. codes " --hash=" ++ algorithm ++ codes ":" ++ value) value [])
-option_is algorithm digits None taken = inl refl
-option_is algorithm digits (Some value) taken = inr (value, hash_is digits value taken, refl)
-
-hashes_are : (hashes : List (List ℕ × List ℕ)) → hashes_check hashes ≡ Ok tt → IsHashes (hash_options hashes)
-hashes_are hashes taken =
-    let three = (both _ _ taken).0 in
-    let two = both _ _ three in
-    let one = both _ _ two.0 in
-    record {
-      sha256 = hash_option (codes "sha256") hashes;
-      sha384 = hash_option (codes "sha384") hashes;
-      sha512 = hash_option (codes "sha512") hashes;
-      whole = refl;
-      is_sha256 = option_is (codes "sha256") 64 (hash_of (codes "sha256") hashes) one.0;
-      is_sha384 = option_is (codes "sha384") 96 (hash_of (codes "sha384") hashes) one.1;
-      is_sha512 = option_is (codes "sha512") 128 (hash_of (codes "sha512") hashes) two.1;
-    }
-
-editable_is : (editable : Bool) → IsEditable (cond editable (codes "-e ") [])
-editable_is true = inr refl
-editable_is false = inl refl
-
-written_is : (path : List ℕ) → path_check path ≡ Ok tt → IsWrittenPath (path_text path)
-written_is path taken = by (starts is_slash path) refl
-  where
-    by : (slash : Bool) → starts is_slash path ≡ slash → IsWrittenPath (cond slash path (codes "./" ++ path))
-    by true is = inl (path_is path taken, is)
-    by false is = inr (path, path_is path taken, refl)
+hashes_are : (hashes : List (List ℕ × List ℕ)) → hashes_check hashes ≡ Ok tt → IsHashOption (hashes_option hashes)
+hashes_are hashes taken = best_is (hash_of (codes "sha256") hashes) (hash_of (codes "sha384") hashes) (hash_of (codes "sha512") hashes) taken
 
 -- ---- lines of requirements
 
-located_line : (name : List ℕ) (url path subdirectory : Option (List ℕ)) (hashes : List ℕ) → IsName name
-    → location_check url path ≡ Ok tt → where_there subdirectory_check subdirectory ≡ Ok tt → IsHashes hashes
-    → IsLine format.Requirements (location_text name url path subdirectory ++ hashes)
-located_line name (Some url) path subdirectory hashes is_name taken inner are =
-    place_line name url (fragment subdirectory) hashes is_name (inl (any_url_is url taken)) (fragment_is subdirectory inner) are
-located_line name None None subdirectory hashes is_name taken inner are = cc taken
-located_line name None (Some path) subdirectory hashes is_name taken inner are = by (starts is_slash path)
-  where
-    by : (slash : Bool) → IsLine format.Requirements
-        (cond (not slash) (codes "./" ++ path) (named name ++ (codes "file://" ++ path) ++ fragment subdirectory) ++ hashes)
-    by true = place_line name (codes "file://" ++ path) (fragment subdirectory) hashes is_name (inr (path, path_is path taken, refl)) (fragment_is subdirectory inner) are
-    by false = path_line path hashes (path_is path taken) are
+url_place : (url : List ℕ) → IsWebUrl class.PipUrl url ⊎ IsFileUrl url → EndsInFile url → IsPlace url
+url_place url (inl web) ends = inl (web, ends)
+url_place url (inr file) ends = inr (inl (file, ends))
 
-checkout_is : (name : List ℕ) (vcs : VcsValue) → IsName name → vcs_check vcs ≡ Ok tt → IsLine format.Requirements (vcs_line name vcs)
+-- what is to be a file name
+abbrev end_of : (url path : Option (List ℕ)) → List ℕ
+end_of url path = unwrap_or (last_part url path) []
+
+located_line : (name : List ℕ) (url path subdirectory : Option (List ℕ)) (hash : List ℕ) → IsName name
+    → place_check url path (last_part url path) ≡ Ok tt → where_there subdirectory_check subdirectory ≡ Ok tt → IsHashOption hash
+    → IsLine format.Requirements (location_text name url path subdirectory ++ hash)
+located_line name (Some url) path subdirectory hash is_name taken inner is =
+    let p = both _ _ taken in
+    place_line name url (fragment subdirectory) hash is_name (url_place url (any_url_is url p.0) (file_name_is field.UrlEnd (end_of (Some url) path) p.1)) (fragment_is subdirectory inner) is
+located_line name None None subdirectory hash is_name taken inner is = cc taken
+located_line name None (Some path) subdirectory hash is_name taken inner is =
+    let p = both _ _ taken in
+    by (path_is path p.0, file_name_is field.PathEnd (end_of None (Some path)) p.1) (starts is_slash path) refl
+  where
+    by : IsFilePath path → (slash : Bool) → starts is_slash path ≡ slash → IsLine format.Requirements
+        (cond (not slash) (codes "./" ++ path) (named name ++ (codes "file://" ++ path) ++ fragment subdirectory) ++ hash)
+    by own true slash = place_line name (codes "file://" ++ path) (fragment subdirectory) hash is_name (inr (inr (path, own, slash, refl))) (fragment_is subdirectory inner) is
+    by own false slash = path_line path hash own is
+
+checkout_is : (name : List ℕ) (vcs : VcsValue) → IsName name → vcs_check vcs ≡ Ok tt → IsLine format.RequirementsLocal (vcs_line name vcs)
 checkout_is name vcs is_name taken =
     let three = both _ _ taken in
     let two = both _ _ three.0 in
@@ -149,54 +187,91 @@ checkout_is name vcs is_name taken =
     checkout_line name vcs.kind (unwrap_or vcs.location.url []) vcs.commit_id (fragment vcs.subdirectory) is_name (required _ _ _ one.0)
     (checkout_url_is (unwrap_or vcs.location.url []) (is_there field.Url checkout_url_check vcs.location.url one.1)) (commit_is vcs.kind vcs.commit_id two.1) (fragment_is vcs.subdirectory three.1)
 
-folder_line_is : (directory : DirectoryValue) → directory_check directory ≡ Ok tt → IsLine format.Requirements (directory_line directory)
-folder_line_is directory taken =
-    let p = both _ _ taken in
-    folder_line (cond directory.editable (codes "-e ") []) (path_text directory.path) (folder directory.subdirectory)
-    (editable_is directory.editable) (written_is directory.path p.0) (folder_is directory.subdirectory p.1)
-
-archive_is : (name : List ℕ) (archive : ArchiveValue) → IsName name → archive_check archive ≡ Ok tt → IsLine format.Requirements (source_line name (OfArchive archive))
-archive_is name archive is_name taken =
+directory_is : (directory : DirectoryValue) → directory_check directory ≡ Ok tt → IsLine format.RequirementsLocal (source_line [] (OfDirectory directory))
+directory_is directory taken =
     let two = both _ _ taken in
     let one = both _ _ two.0 in
-    located_line name archive.location.url archive.location.path archive.subdirectory (hash_options archive.hashes) is_name one.0 (both _ _ one.1).0 (hashes_are archive.hashes two.1)
+    directory_line (cond directory.editable (codes "-e ") []) directory.path directory.subdirectory
+    (record { is_path = directory_path_is directory.path one.0; is_sub = sub_is directory.subdirectory one.1; is_taken = by directory.editable (required _ _ _ two.1) })
+  where
+    by : (editable : Bool) → (editable || not (ends_as_file (directory_end directory))) ≡ true
+        → (cond editable (codes "-e ") [] ≡ codes "-e ") ⊎ ((cond editable (codes "-e ") [] ≡ []) × (ends_as_file (directory_end directory) ≡ false))
+    by true is = inl refl
+    by false is = inr (refl, not_true _ is)
 
-file_is : (name : List ℕ) (file : FileValue) → IsName name → file_check file ≡ Ok tt → IsLine format.Requirements (source_line name (OfWheel file))
-file_is name file is_name taken =
-    let p = both _ _ taken in
-    located_line name file.location.url file.location.path None (hash_options file.hashes) is_name p.0 refl (hashes_are file.hashes p.1)
+archive_is : (name : List ℕ) (archive : ArchiveValue) (project : Option (List ℕ)) → IsName name
+    → archive_check name archive (last_of (OfArchive archive)) project ≡ Ok tt → IsLine format.Requirements (source_line name (OfArchive archive))
+archive_is name archive project is_name taken =
+    let three = both _ _ taken in
+    let two = both _ _ three.0 in
+    let one = both _ _ two.0 in
+    located_line name archive.location.url archive.location.path archive.subdirectory (hashes_option archive.hashes) is_name one.0 (both _ _ one.1).0 (hashes_are archive.hashes two.1)
 
-source_is : (name : List ℕ) (source : SourceValue) → IsName name → source_check source ≡ Ok tt → IsLine format.Requirements (source_line name source)
-source_is name (OfVcs vcs) is_name taken = checkout_is name vcs is_name taken
-source_is name (OfDirectory directory) is_name taken = folder_line_is directory taken
-source_is name (OfArchive archive) is_name taken = archive_is name archive is_name taken
-source_is name (OfWheel file) is_name taken = file_is name file is_name taken
-source_is name (OfSdist file) is_name taken = file_is name file is_name taken
+file_is : (name : List ℕ) (file : FileValue) (project : Option (List ℕ)) → IsName name
+    → file_check name file (last_of (OfWheel file)) project ≡ Ok tt → IsLine format.Requirements (source_line name (OfWheel file))
+file_is name file project is_name taken =
+    let three = both _ _ taken in
+    let two = both _ _ three.0 in
+    let one = both _ _ two.0 in
+    located_line name file.location.url file.location.path None (hashes_option file.hashes) is_name one.0 refl (hashes_are file.hashes one.1)
 
-requirement_is : (s : ListedValue) → requirement_check s ≡ Ok tt → IsLine format.Requirements (requirement_line s)
-requirement_is s taken =
-    let p = both _ _ (numbered s.number (parts_check s) (both _ _ taken).0) in
-    source_is s.entry.name s.source (name_is s.entry.name p.0) p.1
+-- the form that has a line of a source
+abbrev form_of : PlanPart → Format
+form_of Hashed = format.Requirements
+form_of Local = format.RequirementsLocal
+
+source_is : (part : PlanPart) (name : List ℕ) (source : SourceValue) (project : Option (List ℕ)) → is_in part source ≡ true → IsName name
+    → source_check name source (last_of source) project ≡ Ok tt → IsLine (form_of part) (source_line name source)
+source_is Hashed name (OfVcs vcs) project has is_name taken = cc has
+source_is Hashed name (OfDirectory directory) project has is_name taken = cc has
+source_is Hashed name (OfArchive archive) project has is_name taken = archive_is name archive project is_name taken
+source_is Hashed name (OfWheel file) project has is_name taken = file_is name file project is_name taken
+source_is Hashed name (OfSdist file) project has is_name taken = file_is name file project is_name taken
+source_is Local name (OfVcs vcs) project has is_name taken = checkout_is name vcs is_name taken
+source_is Local name (OfDirectory directory) project has is_name taken = directory_is directory taken
+source_is Local name (OfArchive archive) project has is_name taken = cc has
+source_is Local name (OfWheel file) project has is_name taken = cc has
+source_is Local name (OfSdist file) project has is_name taken = cc has
+
+requirement_is : (part : PlanPart) (s : ListedValue) → is_in part s.source ≡ true → requirement_check s ≡ Ok tt → IsLine (form_of part) (requirement_line s)
+requirement_is part s has taken =
+    let p = both _ _ (numbered s.number (parts_check s) taken) in
+    source_is part s.entry.name s.source (project_of s.source) has (name_is s.entry.name p.0) p.1
 
 -- the lines are one for each source, each as it has to be
-abbrev Are : List ListedValue → List (List ℕ) → Type 0
-Are sources lines = (lines ≡ map requirement_line sources) × AllByRecursion (IsLine format.Requirements) lines
+abbrev Are : PlanPart → List ListedValue → List (List ℕ) → Type 0
+Are part sources lines = (lines ≡ map requirement_line sources) × AllByRecursion (IsLine (form_of part)) lines
 
-one_more : (s : ListedValue) (rest : List ListedValue) (lines : List (List ℕ)) (check : Result ⊤ ExportError) (others : Result (List (List ℕ)) ExportError)
-    → requirement_check s ≡ check → ((found : List (List ℕ)) → others ≡ Ok found → Are rest found)
-    → (check >>= (λ _. others >>= (λ found. Ok (requirement_line s ∷ found)))) ≡ Ok lines → Are (s ∷ rest) lines
-one_more s rest lines (Err e) others is more made = cc made
-one_more s rest lines (Ok u) (Err e) is more made = cc made
-one_more s rest lines (Ok u) (Ok found) is more made =
+one_more : (part : PlanPart) (s : ListedValue) (rest : List ListedValue) (lines : List (List ℕ)) (check : Result ⊤ ExportError) (others : Result (List (List ℕ)) ExportError)
+    → is_in part s.source ≡ true → requirement_check s ≡ check → ((found : List (List ℕ)) → others ≡ Ok found → Are part rest found)
+    → (check >>= (λ _. others >>= (λ found. Ok (requirement_line s ∷ found)))) ≡ Ok lines → Are part (s ∷ rest) lines
+one_more part s rest lines (Err e) others has is more made = cc made
+one_more part s rest lines (Ok u) (Err e) has is more made = cc made
+one_more part s rest lines (Ok u) (Ok found) has is more made =
     let same : lines ≡ requirement_line s ∷ found = cc made in
     let later = more found refl in
-    (same ∙ ap (λ ls. requirement_line s ∷ ls) later.0, subst (AllByRecursion (IsLine format.Requirements)) (sym same) (requirement_is s is, later.1))
+    (same ∙ ap (λ ls. requirement_line s ∷ ls) later.0, subst (AllByRecursion (IsLine (form_of part))) (sym same) (requirement_is part s has is, later.1))
 
-requirements_are : (sources : List ListedValue) (lines : List (List ℕ)) → source_requirements sources ≡ Ok lines → Are sources lines
-requirements_are [] lines made =
+-- the sources of a part, each with what puts it there
+requirements_are : (part : PlanPart) (sources : List ListedValue) (lines : List (List ℕ)) → AllByRecursion (λ s. is_in part s.source ≡ true) sources
+    → source_requirements sources ≡ Ok lines → Are part sources lines
+requirements_are part [] lines all made =
     let same : lines ≡ [] = cc made in
-    (same, subst (AllByRecursion (IsLine format.Requirements)) (sym same) tt)
-requirements_are (s ∷ rest) lines made = one_more s rest lines (requirement_check s) (source_requirements rest) refl (requirements_are rest) made
+    (same, subst (AllByRecursion (IsLine (form_of part))) (sym same) tt)
+requirements_are part (s ∷ rest) lines all made =
+    one_more part s rest lines (requirement_check s) (source_requirements rest) all.0 refl (λ found is. requirements_are part rest found all.1 is) made
+
+all_in : (part : PlanPart) (sources : List ListedValue) → AllByRecursion (λ s. is_in part s.source ≡ true) (part_of part sources)
+all_in part [] = tt
+all_in part (s ∷ rest) = by (is_in part s.source) refl (all_in part rest)
+  where
+    by : (b : Bool) → is_in part s.source ≡ b → AllByRecursion (λ s. is_in part s.source ≡ true) (part_of part rest)
+        → AllByRecursion (λ s. is_in part s.source ≡ true) (cond b (s ∷ part_of part rest) (part_of part rest))
+    by true is more = (is, more)
+    by false is more = more
+
+part_are : (part : PlanPart) (sources : List ListedValue) (lines : List (List ℕ)) → source_requirements (part_of part sources) ≡ Ok lines → Are part (part_of part sources) lines
+part_are part sources lines made = requirements_are part (part_of part sources) lines (all_in part sources) made
 
 -- ---- lines of lists
 
@@ -213,20 +288,36 @@ all_kept form sources all made = all_from (λ s. list_check form s.source ≡ Ok
 abbrev AreLines : ListFormat → List (List ℕ) → Type 0
 AreLines form lines = AllByRecursion (IsLine (format.List form)) lines
 
-sum_is : (source : SourceValue) → sum_check source ≡ Ok tt → IsFileName (key_of Sha256sum source) × IsHash 64 (unwrap_or (sha256_of source) [])
-sum_is source taken =
-    let p = both _ _ taken in
-    (file_name_is (unwrap_or (file_name_of_source source) []) (is_there field.FileName file_name_check (file_name_of_source source) p.0), hash_is 64 (unwrap_or (sha256_of source) []) (is_there field.Hash (hash_check 64) (sha256_of source) p.1))
+-- the name of a file that has this path alone, or else this file name
+abbrev named_by : (path name : Option (List ℕ)) → List ℕ
+named_by path name = unwrap_or (option_map_or (λ path. Some path) path name) []
+
+sum_name_is : (path name : Option (List ℕ)) → sum_name_check path (named_by path name) ≡ Ok tt → IsSumName (sum_name path (named_by path name))
+sum_name_is None name taken = inl (file_name_is field.FileName (unwrap_or name []) taken)
+sum_name_is (Some path) name taken = inr (path, path_is path taken, refl)
+
+sum_is : (source : SourceValue) → own_sum_check source ≡ Ok tt → IsHash 64 (unwrap_or (sha256_of source) [])
+sum_is source taken = hash_is 64 (unwrap_or (sha256_of source) []) (is_there field.Hash (hash_check 64) (sha256_of source) taken)
+
+fetched_is : (url : Option (List ℕ)) → fetched_check url (last_part url None) ≡ Ok tt → IsFetchedUrl (unwrap_or url [])
+fetched_is None taken = cc taken
+fetched_is (Some url) taken = let p = both _ _ taken in (web_url_is class.Url url p.0, file_name_is field.UrlEnd (end_of (Some url) None) p.1)
 
 lines_are : (form : ListFormat) (source : SourceValue) → list_check form source ≡ Ok tt → AreLines form (source_lines form source)
-lines_are Sha256sum source taken = let p = sum_is source taken in (sum_line _ _ p.1 p.0, tt)
+lines_are Sha256sum source taken =
+    let p = both _ _ taken in
+    (sum_line (value_of Sha256sum source) (sum_name (path_alone source) (key_of Sha256sum source)) (sum_is source p.1) (sum_name_is (path_alone source) (file_name_of_source source) p.0), tt)
 lines_are Aria2 source taken =
-    let both = both _ _ taken in
-    let p = sum_is source both.0 in (
-      aria2_url _ (web_url_is (unwrap_or (url_of source) []) (is_there field.Url web_url_check (url_of source) both.1)),
-      (aria2_file _ p.0, (aria2_hash _ p.1, (aria2_torrent, (aria2_metalink, tt)))),
+    let two = both _ _ taken in
+    let one = both _ _ two.0 in
+    let name = both _ _ one.0 in (
+      aria2_url (unwrap_or (url_of source) []) (fetched_is (url_of source) two.1),
+      (
+        aria2_file (key_of Aria2 source) (file_name_is field.FileName (key_of Aria2 source) name.0) (not_true (is_control_file (key_of Aria2 source)) (required _ _ _ name.1)),
+        (aria2_hash (value_of Aria2 source) (sum_is source one.1), (aria2_torrent, (aria2_metalink, (aria2_renaming, tt)))),
+      ),
     )
-lines_are Urls source taken = (url_line _ (web_url_is (unwrap_or (url_of source) []) (is_there field.Url web_url_check (url_of source) taken)), tt)
+lines_are Urls source taken = (url_line (key_of Urls source) (fetched_is (url_of source) taken), tt)
 
 joined : (form : ListFormat) (a b : List (List ℕ)) → AreLines form a → AreLines form b → AreLines form (a ++ b)
 joined form [] b are others = others
@@ -238,14 +329,23 @@ kept_lines form (s ∷ kept) are = joined form (source_lines form s.source) _ (l
 
 -- ---- the laws
 
-pub allowed_lines : (form : Format) (sources : List ListedValue) (lines : List (List ℕ)) → format_lines form sources ≡ Ok lines → All (IsLine form) lines
-allowed_lines format.Requirements sources lines made = by (source_requirements sources) refl made
+header_is : (part : PlanPart) → IsLine (form_of part) header
+header_is Hashed = header_line
+header_is Local = local_header_line
+
+pub allowed_part : (part : PlanPart) (sources : List ListedValue) (lines : List (List ℕ)) → requirements_lines part sources ≡ Ok lines → All (IsLine (form_of part)) lines
+allowed_part part sources lines made = by (source_requirements (part_of part sources)) refl made
   where
-    by : (r : Result (List (List ℕ)) ExportError) → source_requirements sources ≡ r → (r >>= (λ found. Ok (header ∷ found))) ≡ Ok lines → All (IsLine format.Requirements) lines
+    by : (r : Result (List (List ℕ)) ExportError) → source_requirements (part_of part sources) ≡ r → (r >>= (λ found. Ok (header ∷ found))) ≡ Ok lines
+        → All (IsLine (form_of part)) lines
     by (Err e) is made = cc made
     by (Ok found) is made =
         let same : header ∷ found ≡ lines = cc made in
-        subst (All (IsLine format.Requirements)) same (All-from_recursion (IsLine format.Requirements) (header ∷ found) (header_line, (requirements_are sources found is).1))
+        subst (All (IsLine (form_of part))) same (All-from_recursion (IsLine (form_of part)) (header ∷ found) (header_is part, (part_are part sources found is).1))
+
+pub allowed_lines : (form : Format) (sources : List ListedValue) (lines : List (List ℕ)) → format_lines form sources ≡ Ok lines → All (IsLine form) lines
+allowed_lines format.Requirements sources lines made = allowed_part Hashed sources lines made
+allowed_lines format.RequirementsLocal sources lines made = allowed_part Local sources lines made
 allowed_lines (format.List form) sources lines made = by (with_sources form [] sources) refl made
   where
     by : (r : Result (List ListedValue) ExportError) → with_sources form [] sources ≡ r
@@ -256,11 +356,13 @@ allowed_lines (format.List form) sources lines made = by (with_sources form [] s
         subst (All (IsLine (format.List form))) same
         (All-from_recursion (IsLine (format.List form)) _ (kept_lines form kept (all_kept form sources kept is)))
 
-pub requirement_each : (sources : List ListedValue) (lines : List (List ℕ)) → requirements_lines sources ≡ Ok lines → lines ≡ header ∷ map requirement_line sources
-requirement_each sources lines made = by (source_requirements sources) refl made
+pub requirement_each : (part : PlanPart) (sources : List ListedValue) (lines : List (List ℕ)) → requirements_lines part sources ≡ Ok lines
+    → lines ≡ header ∷ map requirement_line (part_of part sources)
+requirement_each part sources lines made = by (source_requirements (part_of part sources)) refl made
   where
-    by : (r : Result (List (List ℕ)) ExportError) → source_requirements sources ≡ r → (r >>= (λ found. Ok (header ∷ found))) ≡ Ok lines → lines ≡ header ∷ map requirement_line sources
+    by : (r : Result (List (List ℕ)) ExportError) → source_requirements (part_of part sources) ≡ r → (r >>= (λ found. Ok (header ∷ found))) ≡ Ok lines
+        → lines ≡ header ∷ map requirement_line (part_of part sources)
     by (Err e) is made = cc made
     by (Ok found) is made =
         let same : lines ≡ header ∷ found = cc made in
-        same ∙ ap (λ ls. header ∷ ls) (requirements_are sources found is).0
+        same ∙ ap (λ ls. header ∷ ls) (part_are part sources found is).0

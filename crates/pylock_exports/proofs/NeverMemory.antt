@@ -3,18 +3,19 @@ use Rattle.std.proofs.Common.{◌≡◌, ℕ, List, [], ◌∷◌, ◌++◌, Opt
 use Rattle.std.specs.Str.{bytes_eq}
 use Rattle.pytext.specs.Results.{◌>>=◌}
 use Rattle.pytext.proofs.NeverLemmas.{Never, never_cond, never_err, never_ok, never_then}
-use Rattle.pylock_exports.specs.Listed.{ListedValue, is_unlisted}
-use Rattle.pylock_exports.specs.Lists.{at_number, beside, key_of, list_check, other_value, source_lines, value_named, value_of, with_source, with_sources}
-use Rattle.pylock_exports.specs.Parts.{Check, require}
-use Rattle.pylock_exports.specs.Requirements.{header, parts_check, requirement_check, requirement_line, source_ends_in_name, source_requirements}
+use Rattle.pylock_exports.specs.Listed.{ListedValue}
+use Rattle.pylock_exports.specs.Lists.{beside, is_left, key_of, list_check, source_lines, value_named, value_of, with_source, with_sources}
+use Rattle.pylock_exports.specs.Parts.{Check}
+use Rattle.pylock_exports.specs.Refusals.{at_number, other_value}
+use Rattle.pylock_exports.specs.Requirements.{header, part_of, parts_check, requirement_check, requirement_line, requirements_lines, source_requirements}
 use Rattle.pylock_exports.specs.Texts.{format_lines, format_text, lines_text}
 use Rattle.pylock_exports.specs.declared.format.Format.{Format}
 use Rattle.pylock_exports.specs.declared.format.Format.TheVariants as format
 use Rattle.pylock_exports.specs.declared.format.ListFormat.{ListFormat}
+use Rattle.pylock_exports.specs.declared.format.PlanPart.{PlanPart}
+use Rattle.pylock_exports.specs.declared.format.PlanPart.TheVariants.{Hashed, Local}
 use Rattle.pylock_exports.specs.declared.refusal.ExportError.TheVariants.{Memory, Refused}
-use Rattle.pylock_exports.specs.declared.refusal.Field.TheVariants as field
 use Rattle.pylock_exports.specs.declared.refusal.FormatRefusal.{FormatRefusal}
-use Rattle.pylock_exports.specs.declared.refusal.Reason.TheVariants.{OtherName}
 
 other : (refusal : FormatRefusal) → Refused refusal ≡ Memory → ⊥
 other refusal e = cc e
@@ -32,7 +33,7 @@ never_beside form kept s (Some value) =
 never_source : (form : ListFormat) (kept : List ListedValue) (s : ListedValue) → Never Memory (with_source form kept s)
 never_source form kept s =
     let value = value_named form (key_of form s.source) kept in
-    never_cond Memory (is_unlisted s.source) (Ok kept) (at_number s.number (list_check form s.source) >>= (λ _. beside form kept s value)) (never_ok Memory kept)
+    never_cond Memory (is_left form s.source) (Ok kept) (at_number s.number (list_check form s.source) >>= (λ _. beside form kept s value)) (never_ok Memory kept)
     (never_then Memory (at_number s.number (list_check form s.source)) (λ _. beside form kept s value) (never_numbered s.number (list_check form s.source))
     (λ _. never_beside form kept s value))
 
@@ -42,9 +43,7 @@ never_sources form kept (s ∷ rest) =
     never_then Memory (with_source form kept s) (λ more. with_sources form more rest) (never_source form kept s) (λ more. never_sources form more rest)
 
 never_requirement : (s : ListedValue) → Never Memory (requirement_check s)
-never_requirement s =
-    let ends = require field.FileName OtherName (source_ends_in_name s.source) in
-    never_then Memory (at_number s.number (parts_check s)) (λ _. at_number s.number ends) (never_numbered s.number (parts_check s)) (λ _. never_numbered s.number ends)
+never_requirement s = never_numbered s.number (parts_check s)
 
 never_requirements : (sources : List ListedValue) → Never Memory (source_requirements sources)
 never_requirements [] = never_ok Memory []
@@ -53,9 +52,14 @@ never_requirements (s ∷ rest) =
     (λ _. never_then Memory (source_requirements rest) (λ lines. Ok (requirement_line s ∷ lines)) (never_requirements rest)
     (λ lines. never_ok Memory (requirement_line s ∷ lines)))
 
+never_part : (part : PlanPart) (sources : List ListedValue) → Never Memory (requirements_lines part sources)
+never_part part sources =
+    never_then Memory (source_requirements (part_of part sources)) (λ lines. Ok (header ∷ lines)) (never_requirements (part_of part sources))
+    (λ lines. never_ok Memory (header ∷ lines))
+
 never_lines : (form : Format) (sources : List ListedValue) → Never Memory (format_lines form sources)
-never_lines format.Requirements sources =
-    never_then Memory (source_requirements sources) (λ lines. Ok (header ∷ lines)) (never_requirements sources) (λ lines. never_ok Memory (header ∷ lines))
+never_lines format.Requirements sources = never_part Hashed sources
+never_lines format.RequirementsLocal sources = never_part Local sources
 never_lines (format.List form) sources =
     never_then Memory (with_sources form [] sources) (λ kept. Ok (flat_map (λ s. source_lines form s.source) kept)) (never_sources form [] sources)
     (λ kept. never_ok Memory (flat_map (λ s. source_lines form s.source) kept))

@@ -7,9 +7,10 @@ use Rattle.std.specs.Cmp.Lexicographic.{bytes_decides, nat_list_eq_equiv}
 use Rattle.std.specs.List.{All, AllByRecursion, Contains, IsDistinct, find, list_any}
 use Rattle.std.specs.Str.{bytes_eq}
 use Rattle.pytext.specs.Results.{◌>>=◌}
-use Rattle.pylock_exports.specs.Listed.{ListedValue, is_unlisted}
-use Rattle.pylock_exports.specs.Lists.{IsKept, at_number, beside, key_of, keys, list_check, other_value, value_named, value_of, with_source, with_sources}
+use Rattle.pylock_exports.specs.Listed.{ListedValue}
+use Rattle.pylock_exports.specs.Lists.{IsKept, beside, is_left, key_of, keys, list_check, value_named, value_of, with_source, with_sources}
 use Rattle.pylock_exports.specs.Parts.{Check}
+use Rattle.pylock_exports.specs.Refusals.{at_number, other_value}
 use Rattle.pylock_exports.specs.declared.format.ListFormat.{ListFormat}
 use Rattle.pylock_exports.specs.declared.refusal.ExportError.{ExportError}
 use Rattle.pylock_exports.proofs.KeptLemmas.{later, named_more}
@@ -17,12 +18,12 @@ use Rattle.pylock_exports.proofs.KeptLemmas.{later, named_more}
 -- a source is left out, or is kept already, or comes to those that are kept
 abbrev pub Made : ListFormat → List ListedValue → ListedValue → List ListedValue → Type 0
 Made form kept s more =
-    ((is_unlisted s.source ≡ true) × (more ≡ kept))
+    ((is_left form s.source ≡ true) × (more ≡ kept))
     ⊎ (((value_named form (key_of form s.source) kept ≡ Some (value_of form s.source)) × (more ≡ kept))
     ⊎ ((list_check form s.source ≡ Ok tt) × (value_named form (key_of form s.source) kept ≡ None) × (more ≡ kept ++ s ∷ [])))
 
 pub made_of : (form : ListFormat) (kept more : List ListedValue) (s : ListedValue) → with_source form kept s ≡ Ok more → Made form kept s more
-made_of form kept more s = unlisted (is_unlisted s.source) refl
+made_of form kept more s = unlisted (is_left form s.source) refl
   where
     same_named : (value : List ℕ) (b : Bool) → value_named form (key_of form s.source) kept ≡ Some value → bytes_eq value (value_of form s.source) ≡ b
         → cond b (Ok kept) (Err (other_value s.number)) ≡ Ok more → Made form kept s more
@@ -43,7 +44,7 @@ made_of form kept more s = unlisted (is_unlisted s.source) refl
     checked (Ok u) is made = valued (value_named form (key_of form s.source) kept) refl is made
     checked (Err e) is made = cc made
 
-    unlisted : (b : Bool) → is_unlisted s.source ≡ b
+    unlisted : (b : Bool) → is_left form s.source ≡ b
         → cond b (Ok kept) (at_number s.number (list_check form s.source) >>= (λ _. beside form kept s (value_named form (key_of form s.source) kept))) ≡ Ok more
         → Made form kept s more
     unlisted true is made =

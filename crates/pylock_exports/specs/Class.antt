@@ -22,8 +22,16 @@ is_hex c = is_lower_hex c || is_in_range 65 70 c
 abbrev pub is_name_character : ℕ → Bool
 is_name_character c = is_ascii_lowercase c || is_ascii_digit c || c == 45
 
+-- of a URL that pip reads: no `=` and no `&`, since it looks for `sha256=`, `egg=` and
+-- `subdirectory=` wherever they stand
+abbrev pub is_pip_url_character : ℕ → Bool
+is_pip_url_character c = is_ascii_alphanumeric c || is_one_of (codes "-._~/:@%+,!?") c
+
 abbrev pub is_url_character : ℕ → Bool
-is_url_character c = is_ascii_alphanumeric c || is_one_of (codes "-._~/:@%+,=&?!") c
+is_url_character c = is_pip_url_character c || is_one_of (codes "=&") c
+
+abbrev pub is_host_character : ℕ → Bool
+is_host_character c = is_ascii_alphanumeric c || is_one_of (codes "-.:") c
 
 abbrev pub is_path_character : ℕ → Bool
 is_path_character c = is_ascii_alphanumeric c || is_one_of (codes "-._+/") c
@@ -35,6 +43,8 @@ is_file_name_character c = is_ascii_alphanumeric c || is_one_of (codes "-._+!") 
 abbrev pub allows : Class → ℕ → Bool
 allows class.Name c = is_name_character c
 allows class.Url c = is_url_character c
+allows class.PipUrl c = is_pip_url_character c
+allows class.Host c = is_host_character c
 allows class.Path c = is_path_character c
 allows class.FileName c = is_file_name_character c
 allows class.LowerHex c = is_lower_hex c

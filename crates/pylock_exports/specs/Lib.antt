@@ -2,7 +2,10 @@ pub mod Class
 pub mod Line
 pub mod Listed
 pub mod Parts
+pub mod FileNames
+pub mod Refusals
 pub mod Lists
+pub mod Pip
 pub mod Requirements
 pub mod Texts
 pub mod Inner

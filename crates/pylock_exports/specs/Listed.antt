@@ -1,7 +1,7 @@
 -- What is exported: the sources of a plan, or all that a lock names, each with its entry.
-use Rattle.std.specs.Prelude.{ℕ, ◌+◌, ◌++◌, Bool, true, false, not, ◌&&◌, List, [], ◌∷◌, map}
-use Rattle.std.specs.Prelude.{Option, None, option_map, filter, length}
-use Rattle.std.specs.List.{find, flat_map, list_any}
+use Rattle.std.specs.Prelude.{ℕ, ◌+◌, ◌++◌, Bool, true, false, codes, List, [], ◌∷◌, map}
+use Rattle.std.specs.Prelude.{Option, Some, None, option_map}
+use Rattle.std.specs.List.{find, flat_map}
 use Rattle.std.specs.Option.{option_map_or}
 use Rattle.std.specs.Str.{bytes_eq}
 use Rattle.pylock_readers.specs.Entry.{EntryValue, file_name}
@@ -9,6 +9,7 @@ use Rattle.pylock_core.specs.Session.Picks.{SourceValue, OfVcs, OfDirectory, OfA
 use Rattle.pylock_core.specs.Session.Picks.{OfSdist, source_in, sources}
 use Rattle.pylock_core.specs.Session.State.{State, entry_at}
 use Rattle.pylock_core.specs.declared.answer.Pick.{Pick}
+use Rattle.pylock_exports.specs.FileNames.{last_part}
 
 -- a source of an entry, which has this number
 pub record ListedValue : Type 0 where
@@ -39,25 +40,42 @@ sources_from number (entry ∷ entries) =
 
 -- ---- what a source has
 
--- a checkout or a directory, which no list of files can hold
-abbrev pub is_unlisted : SourceValue → Bool
-is_unlisted (OfVcs vcs) = true
-is_unlisted (OfDirectory directory) = true
-is_unlisted (OfArchive archive) = false
-is_unlisted (OfWheel wheel) = false
-is_unlisted (OfSdist sdist) = false
+-- a checkout or a directory, which is no file and has no hash
+abbrev pub is_unhashed : SourceValue → Bool
+is_unhashed (OfVcs vcs) = true
+is_unhashed (OfDirectory directory) = true
+is_unhashed (OfArchive archive) = false
+is_unhashed (OfWheel wheel) = false
+is_unhashed (OfSdist sdist) = false
 
+-- where a file is fetched from
 abbrev pub url_of : SourceValue → Option (List ℕ)
-url_of (OfVcs vcs) = vcs.location.url
+url_of (OfVcs vcs) = None
 url_of (OfDirectory directory) = None
 url_of (OfArchive archive) = archive.location.url
 url_of (OfWheel wheel) = wheel.location.url
 url_of (OfSdist sdist) = sdist.location.url
 
+abbrev pub path_of : SourceValue → Option (List ℕ)
+path_of (OfVcs vcs) = None
+path_of (OfDirectory directory) = None
+path_of (OfArchive archive) = archive.location.path
+path_of (OfWheel wheel) = wheel.location.path
+path_of (OfSdist sdist) = sdist.location.path
+
+-- the path of a file that has no URL
+abbrev pub path_alone : SourceValue → Option (List ℕ)
+path_alone source = option_map_or (λ url. None) (url_of source) (path_of source)
+
+-- what the URL of a file ends in, else its path
+abbrev pub last_of : SourceValue → Option (List ℕ)
+last_of source = last_part (url_of source) (path_of source)
+
+-- that of an archive is what its URL ends in, else its path
 abbrev pub file_name_of_source : SourceValue → Option (List ℕ)
 file_name_of_source (OfVcs vcs) = None
 file_name_of_source (OfDirectory directory) = None
-file_name_of_source (OfArchive archive) = None
+file_name_of_source (OfArchive archive) = last_of (OfArchive archive)
 file_name_of_source (OfWheel wheel) = file_name wheel
 file_name_of_source (OfSdist sdist) = file_name sdist
 
@@ -74,14 +92,5 @@ abbrev pub hash_of : List ℕ → List (List ℕ × List ℕ) → Option (List �
 hash_of algorithm hashes =
     option_map (λ hash. hash.1) (find (λ hash. bytes_eq hash.0 algorithm) hashes)
 
--- ---- what is told beside the text
-
--- how many sources no list of files can hold
-abbrev pub unlisted_count : List ListedValue → ℕ
-unlisted_count listed = length (filter (λ s. is_unlisted s.source) listed)
-
--- checkouts or directories stand beside files and archives
-abbrev pub is_mixed : List ListedValue → Bool
-is_mixed listed =
-    list_any (λ s. is_unlisted s.source) listed
-    && list_any (λ s. not (is_unlisted s.source)) listed
+abbrev pub sha256_of : SourceValue → Option (List ℕ)
+sha256_of source = hash_of (codes "sha256") (hashes_of source)

@@ -1,69 +1,106 @@
 -- The forms that list files: what each file has to have, and the lines of a list.
-use Rattle.std.specs.Prelude.{◌≡◌, ℕ, false, codes, ◌++◌, List, [], ◌∷◌, map, Option, Some, None}
-use Rattle.std.specs.Prelude.{unwrap_or, option_map, Result, Ok, Err, if◌then◌else◌}
+use Rattle.std.specs.Prelude.{◌≡◌, ℕ, Bool, false, not, ◌||◌, codes, ◌++◌, List, []}
+use Rattle.std.specs.Prelude.{◌∷◌, map, Option, Some, None, is_none, is_some, unwrap_or}
+use Rattle.std.specs.Prelude.{option_map, Result, Ok, Err, if◌then◌else◌}
 use Rattle.std.specs.List.{find, flat_map}
+use Rattle.std.specs.Option.{option_map_or}
 use Rattle.std.specs.Str.{bytes_eq}
 use Rattle.pytext.specs.Results.{◌>>=◌}
 use Rattle.pylock_core.specs.Session.Picks.{SourceValue}
-use Rattle.pylock_exports.specs.Listed.{ListedValue, file_name_of_source, hash_of, hashes_of}
-use Rattle.pylock_exports.specs.Listed.{is_unlisted, url_of}
-use Rattle.pylock_exports.specs.Parts.{Check, file_name_check, hash_check, there, web_url_check}
+use Rattle.pylock_exports.specs.FileNames.{ends, last_part}
+use Rattle.pylock_exports.specs.Listed.{ListedValue, file_name_of_source, path_alone, sha256_of}
+use Rattle.pylock_exports.specs.Listed.{url_of}
+use Rattle.pylock_exports.specs.Parts.{Check, end_check, file_name_check, hash_check, path_check, require}
+use Rattle.pylock_exports.specs.Parts.{there, web_url_check}
+use Rattle.pylock_exports.specs.Refusals.{at_number, other_value}
+use Rattle.pylock_exports.specs.Requirements.{path_text}
+use Rattle.pylock_exports.specs.declared.class.Class.TheVariants as class
 use Rattle.pylock_exports.specs.declared.format.ListFormat.{ListFormat}
 use Rattle.pylock_exports.specs.declared.format.ListFormat.TheVariants.{Sha256sum, Aria2, Urls}
 use Rattle.pylock_exports.specs.declared.refusal.Field.TheVariants as field
-use Rattle.pylock_exports.specs.declared.refusal.FieldFault.{FieldFault}
 use Rattle.pylock_exports.specs.declared.refusal.ExportError.{ExportError}
-use Rattle.pylock_exports.specs.declared.refusal.ExportError.TheVariants.{Refused}
-use Rattle.pylock_exports.specs.declared.refusal.Reason.TheVariants.{OtherValue}
+use Rattle.pylock_exports.specs.declared.refusal.Reason.TheVariants as reason
+
+-- ---- what a list names a file by
+
+-- its file name; of `sha256sum` its path, where it has no URL; of `urls` its URL
+abbrev pub name_in : ListFormat → SourceValue → Option (List ℕ)
+name_in Sha256sum source =
+    option_map_or (λ path. Some path) (path_alone source) (file_name_of_source source)
+name_in Aria2 source = file_name_of_source source
+name_in Urls source = url_of source
+
+abbrev pub key_of : ListFormat → SourceValue → List ℕ
+key_of format source = unwrap_or (name_in format source) []
+
+-- what is one for each of these: the sha256 of a file, and of `urls` again the URL
+abbrev pub value_in : ListFormat → SourceValue → Option (List ℕ)
+value_in Sha256sum source = sha256_of source
+value_in Aria2 source = sha256_of source
+value_in Urls source = url_of source
+
+abbrev pub value_of : ListFormat → SourceValue → List ℕ
+value_of format source = unwrap_or (value_in format source) []
+
+-- ---- what a list can hold
+
+-- a name, or what it is one for, is absent, or a URL that it is fetched from
+abbrev pub lacks : ListFormat → SourceValue → Option (List ℕ) → Bool
+lacks Sha256sum source name = is_none name || is_none (sha256_of source)
+lacks Aria2 source name = is_none name || is_none (sha256_of source) || is_none (url_of source)
+lacks Urls source name = is_none name
+
+-- a list leaves out what lacks one of these
+abbrev pub is_left : ListFormat → SourceValue → Bool
+is_left format source = lacks format source (name_in format source)
 
 -- ---- what a file has to have
 
-abbrev pub sha256_of : SourceValue → Option (List ℕ)
-sha256_of source = hash_of (codes "sha256") (hashes_of source)
+-- a URL that is fetched, which ends in a file name
+abbrev pub fetched_check : (url last : Option (List ℕ)) → Check
+fetched_check url last =
+    there field.Url (web_url_check class.Url) url
+    >>= (λ _. end_check field.UrlEnd last)
 
--- a file name and a sha256; an archive has no file name
-abbrev pub sum_check : SourceValue → Check
-sum_check source =
-    there field.FileName file_name_check (file_name_of_source source)
-    >>= (λ _. there field.Hash (hash_check 64) (sha256_of source))
+-- the path of a file without a URL, else its file name
+abbrev pub sum_name_check : (path : Option (List ℕ)) → (name : List ℕ) → Check
+sum_name_check (Some path) name = path_check path
+sum_name_check None name = file_name_check field.FileName name
 
-abbrev pub fetched_check : SourceValue → Check
-fetched_check source = there field.Url web_url_check (url_of source)
+-- a file beside which `aria2c` keeps what it knows of a download
+abbrev pub is_control_file : List ℕ → Bool
+is_control_file name =
+    ends (codes ".aria2") name || ends (codes ".aria2__temp") name
+
+abbrev pub aria2_name_check : List ℕ → Check
+aria2_name_check name =
+    file_name_check field.FileName name
+    >>= (λ _. require field.FileName reason.Control (not (is_control_file name)))
+
+abbrev pub own_sum_check : SourceValue → Check
+own_sum_check source = there field.Hash (hash_check 64) (sha256_of source)
+
+-- what is named so, and whose URL ends so
+abbrev pub listed_check : ListFormat → SourceValue → (name : List ℕ) → (last : Option (List ℕ))
+    → Check
+listed_check Sha256sum source name last =
+    sum_name_check (path_alone source) name >>= (λ _. own_sum_check source)
+listed_check Aria2 source name last =
+    aria2_name_check name >>= (λ _. own_sum_check source)
+    >>= (λ _. fetched_check (url_of source) last)
+listed_check Urls source name last = fetched_check (url_of source) last
 
 abbrev pub list_check : ListFormat → SourceValue → Check
-list_check Sha256sum source = sum_check source
-list_check Aria2 source = sum_check source >>= (λ _. fetched_check source)
-list_check Urls source = fetched_check source
+list_check format source =
+    listed_check format source (key_of format source) (last_part (url_of source) None)
 
 -- ---- each file once
-
--- what a list names a file by: its file name, and of `urls` its URL
-abbrev pub key_of : ListFormat → SourceValue → List ℕ
-key_of Sha256sum source = unwrap_or (file_name_of_source source) []
-key_of Aria2 source = unwrap_or (file_name_of_source source) []
-key_of Urls source = unwrap_or (url_of source) []
-
--- what is one for each of these: the sha256 of a file, and of `urls` again the URL
-abbrev pub value_of : ListFormat → SourceValue → List ℕ
-value_of Sha256sum source = unwrap_or (sha256_of source) []
-value_of Aria2 source = unwrap_or (sha256_of source) []
-value_of Urls source = unwrap_or (url_of source) []
 
 -- the value of the first that is named so
 abbrev pub value_named : ListFormat → List ℕ → List ListedValue → Option (List ℕ)
 value_named format key kept =
     option_map (λ s. value_of format s.source)
     (find (λ s. bytes_eq key (key_of format s.source)) kept)
-
--- a fault of the entry of this number
-abbrev pub at_number : {A : Type 0} → ℕ → Result A FieldFault → Result A ExportError
-at_number number (Ok x) = Ok x
-at_number number (Err fault) = Err (Refused (record { number = number; fault = fault }))
-
--- an earlier file of the name has another value
-abbrev pub other_value : ℕ → ExportError
-other_value number =
-    Refused (record { number = number; fault = record { field = field.Hash; reason = OtherValue } })
 
 -- a source beside those so far, among which one that is named so has this value
 abbrev pub beside : ListFormat → List ListedValue → ListedValue → Option (List ℕ)
@@ -73,12 +110,12 @@ beside format kept s (Some value) =
     if bytes_eq value (value_of format s.source) then Ok kept
     else Err (other_value s.number)
 
--- those so far with one more source: checkouts and directories are left out, and what is named as
--- an earlier one is has to have its value
+-- those so far with one more source: what lacks something is left out, and what is named as an
+-- earlier one is has to have its value
 abbrev pub with_source : ListFormat → List ListedValue → ListedValue
     → Result (List ListedValue) ExportError
 with_source format kept s =
-    if is_unlisted s.source then Ok kept
+    if is_left format s.source then Ok kept
     else (at_number s.number (list_check format s.source)
     >>= (λ _. beside format kept s (value_named format (key_of format s.source) kept)))
 
@@ -91,16 +128,26 @@ with_sources format kept (s ∷ rest) =
 
 -- ---- the lines
 
-abbrev pub source_lines : ListFormat → SourceValue → List (List ℕ)
-source_lines Sha256sum source =
-    (value_of Sha256sum source ++ codes "  " ++ key_of Sha256sum source) ∷ []
-source_lines Aria2 source =
+-- a path as it is written, else the file name
+abbrev pub sum_name : (path : Option (List ℕ)) → (name : List ℕ) → List ℕ
+sum_name (Some path) name = path_text name
+sum_name None name = name
+
+-- the lines of a source that is named so
+abbrev pub lines_named : ListFormat → SourceValue → (name : List ℕ) → List (List ℕ)
+lines_named Sha256sum source name =
+    (value_of Sha256sum source ++ codes "  " ++ sum_name (path_alone source) name) ∷ []
+lines_named Aria2 source name =
     unwrap_or (url_of source) []
-    ∷ (codes " out=" ++ key_of Aria2 source)
+    ∷ (codes " out=" ++ name)
     ∷ (codes " checksum=sha-256=" ++ value_of Aria2 source)
     ∷ codes " follow-torrent=false"
-    ∷ codes " follow-metalink=false" ∷ []
-source_lines Urls source = key_of Urls source ∷ []
+    ∷ codes " follow-metalink=false"
+    ∷ codes " auto-file-renaming=false" ∷ []
+lines_named Urls source name = name ∷ []
+
+abbrev pub source_lines : ListFormat → SourceValue → List (List ℕ)
+source_lines format source = lines_named format source (key_of format source)
 
 -- the lines of a list
 abbrev pub list_lines : ListFormat → List ListedValue → Result (List (List ℕ)) ExportError
@@ -114,8 +161,8 @@ list_lines format sources =
 abbrev pub keys : ListFormat → List ListedValue → List (List ℕ)
 keys format kept = map (λ s. key_of format s.source) kept
 
--- a file or an archive is kept, or one that is named as it is and has its value
+-- what lacks nothing is kept, or one that is named as it is and has its value
 abbrev pub IsKept : ListFormat → List ListedValue → ListedValue → Type 0
 IsKept format kept s =
-    is_unlisted s.source ≡ false
+    is_left format s.source ≡ false
     → value_named format (key_of format s.source) kept ≡ Some (value_of format s.source)

@@ -1,57 +1,103 @@
--- A requirements file, as pip and uv read it (PEP 508, "direct references"; pip, "Requirements File
--- Format"). It is to be given with `--no-deps`, and its paths are meant from the lock's folder.
-use Rattle.std.specs.Prelude.{ℕ, Bool, true, ◌&&◌, ◌||◌, ◌++◌, not, codes, List, [], ◌∷◌, Option}
-use Rattle.std.specs.Prelude.{Some, None, is_none, is_some, unwrap_or, Result, Ok, ⊤, false}
-use Rattle.std.specs.Prelude.{if◌then◌else◌}
+-- The two requirements files of a plan, as pip and uv read them (PEP 508, "direct references"; pip,
+-- "Requirements File Format"): what has hashes, and checkouts and directories. They are to be given
+-- with `--no-deps`, and their paths are meant from the lock's folder.
+use Rattle.std.specs.Prelude.{ℕ, Bool, true, false, ◌&&◌, ◌||◌, ◌++◌, not, codes, List, [], ◌∷◌}
+use Rattle.std.specs.Prelude.{Option, Some, None, is_none, unwrap_or, option_and_then, filter}
+use Rattle.std.specs.Prelude.{Result, Ok, Err, ⊤, if◌then◌else◌}
 use Rattle.std.specs.Option.{option_map_or}
 use Rattle.std.specs.Str.{bytes_eq}
 use Rattle.pytext.specs.Bytes.{starts}
 use Rattle.pytext.specs.Results.{◌>>=◌}
 use Rattle.pylock_readers.specs.Entry.{ArchiveValue, DirectoryValue, FileValue, VcsValue}
 use Rattle.pylock_readers.specs.Entry.{file_name}
-use Rattle.pylock_readers.specs.Entry.FileName.{file_name_of, is_slash}
+use Rattle.pylock_readers.specs.Entry.FileName.{is_slash}
 use Rattle.pylock_core.specs.Session.Picks.{SourceValue, OfVcs, OfDirectory, OfArchive, OfWheel}
 use Rattle.pylock_core.specs.Session.Picks.{OfSdist}
-use Rattle.pylock_exports.specs.Listed.{ListedValue, hash_of}
-use Rattle.pylock_exports.specs.Lists.{at_number}
+use Rattle.pylock_exports.specs.FileNames.{ends_as_file, is_wheel_end, last_step, project_check}
+use Rattle.pylock_exports.specs.FileNames.{sdist_project, wheel_project}
+use Rattle.pylock_exports.specs.Listed.{ListedValue, hash_of, is_unhashed, last_of}
 use Rattle.pylock_exports.specs.Parts.{Check, any_url_check, checkout_url_check, commit_check}
-use Rattle.pylock_exports.specs.Parts.{hash_check, kind_check}
-use Rattle.pylock_exports.specs.Parts.{name_check, path_check, require, subdirectory_check, there}
-use Rattle.pylock_exports.specs.Parts.{where_there}
+use Rattle.pylock_exports.specs.Parts.{directory_path_check, end_check, hash_check}
+use Rattle.pylock_exports.specs.Parts.{kind_check, missing, name_check, path_check, require}
+use Rattle.pylock_exports.specs.Parts.{subdirectory_check, there, where_there}
+use Rattle.pylock_exports.specs.Refusals.{at_number}
+use Rattle.pylock_exports.specs.declared.format.PlanPart.{PlanPart}
+use Rattle.pylock_exports.specs.declared.format.PlanPart.TheVariants as part
+use Rattle.pylock_exports.specs.declared.refusal.Field.{Field}
 use Rattle.pylock_exports.specs.declared.refusal.Field.TheVariants as field
 use Rattle.pylock_exports.specs.declared.refusal.ExportError.{ExportError}
-use Rattle.pylock_exports.specs.declared.refusal.Reason.TheVariants.{Form, Missing, OtherName}
+use Rattle.pylock_exports.specs.declared.refusal.Reason.TheVariants as reason
 
--- ---- what each part has to be
+-- ---- where a file lies
 
 -- the URL, else the path
 abbrev pub location_check : (url path : Option (List ℕ)) → Check
 location_check (Some url) path = any_url_check url
-location_check None path = there field.Url path_check path
+location_check None path = there field.Path path_check path
 
-abbrev pub any_hash : List (List ℕ × List ℕ) → Bool
-any_hash hashes =
-    is_some (hash_of (codes "sha256") hashes) || is_some (hash_of (codes "sha384") hashes)
-    || is_some (hash_of (codes "sha512") hashes)
+abbrev pub end_field : (url : Option (List ℕ)) → Field
+end_field (Some url) = field.UrlEnd
+end_field None = field.PathEnd
 
--- one of these three has to be there, and each that is has to be of its form
-abbrev pub hashes_check : List (List ℕ × List ℕ) → Check
-hashes_check hashes =
-    where_there (hash_check 64) (hash_of (codes "sha256") hashes)
-    >>= (λ _. where_there (hash_check 96) (hash_of (codes "sha384") hashes))
-    >>= (λ _. where_there (hash_check 128) (hash_of (codes "sha512") hashes))
-    >>= (λ _. require field.Hash Missing (any_hash hashes))
+-- the URL, else the path, which ends in this file name
+abbrev pub place_check : (url path last : Option (List ℕ)) → Check
+place_check url path last =
+    location_check url path >>= (λ _. end_check (end_field url) last)
 
 -- it is written as a path: it has no URL, and the path doesn't begin with `/`
 abbrev pub is_relative : (url path : Option (List ℕ)) → Bool
 is_relative url path = is_none url && not (starts is_slash (unwrap_or path []))
 
+-- ---- its hash
+
+-- pip takes a file that has one of several hashes, so one is written: the first that is there
+abbrev pub best_hash_check : (sha256 sha384 sha512 : Option (List ℕ)) → Check
+best_hash_check (Some value) sha384 sha512 = hash_check 64 value
+best_hash_check None (Some value) sha512 = hash_check 96 value
+best_hash_check None None (Some value) = hash_check 128 value
+best_hash_check None None None = Err (missing field.Hash)
+
+abbrev pub hashes_check : List (List ℕ × List ℕ) → Check
+hashes_check hashes =
+    best_hash_check (hash_of (codes "sha256") hashes) (hash_of (codes "sha384") hashes)
+    (hash_of (codes "sha512") hashes)
+
+-- ---- what has hashes
+
+abbrev pub is_same_text : (a b : Option (List ℕ)) → Bool
+is_same_text (Some a) (Some b) = bytes_eq a b
+is_same_text (Some a) None = false
+is_same_text None b = false
+
+-- a wheel or an sdist, by what it ends in and by the project that this says: what is written ends
+-- in its file name, which is of the entry's project
+abbrev pub file_check : List ℕ → FileValue → (last project : Option (List ℕ)) → Check
+file_check name file last project =
+    place_check file.location.url file.location.path last
+    >>= (λ _. hashes_check file.hashes)
+    >>= (λ _. require field.FileName reason.OtherName (is_same_text last (file_name file)))
+    >>= (λ _. project_check name project)
+
 -- a subdirectory is written behind a URL
 abbrev pub archive_subdirectory_check : ArchiveValue → Check
 archive_subdirectory_check archive =
     where_there subdirectory_check archive.subdirectory
-    >>= (λ _. require field.Subdirectory Form (is_none archive.subdirectory
+    >>= (λ _. require field.Subdirectory reason.NoUrl (is_none archive.subdirectory
     || not (is_relative archive.location.url archive.location.path)))
+
+-- what ends as a wheel does is one of the entry's project
+abbrev pub archive_name_check : List ℕ → (last project : Option (List ℕ)) → Check
+archive_name_check name last project =
+    if is_wheel_end last then project_check name project else Ok tt
+
+abbrev pub archive_check : List ℕ → ArchiveValue → (last project : Option (List ℕ)) → Check
+archive_check name archive last project =
+    place_check archive.location.url archive.location.path last
+    >>= (λ _. archive_subdirectory_check archive)
+    >>= (λ _. hashes_check archive.hashes)
+    >>= (λ _. archive_name_check name last project)
+
+-- ---- what has none
 
 abbrev pub vcs_check : VcsValue → Check
 vcs_check vcs =
@@ -60,59 +106,44 @@ vcs_check vcs =
     >>= (λ _. commit_check vcs.kind vcs.commit_id)
     >>= (λ _. where_there subdirectory_check vcs.subdirectory)
 
+-- the last part of a directory that names something, with its subdirectory
+abbrev pub directory_end : DirectoryValue → List ℕ
+directory_end directory =
+    option_map_or (last_step (last_step [] directory.path)) directory.subdirectory
+    (last_step [] directory.path)
+
+-- pip may take a directory for a file, unless it is editable
 abbrev pub directory_check : DirectoryValue → Check
 directory_check directory =
-    path_check directory.path >>= (λ _. where_there subdirectory_check directory.subdirectory)
+    directory_path_check directory.path
+    >>= (λ _. where_there subdirectory_check directory.subdirectory)
+    >>= (λ _. require field.Path reason.LikeFile
+    (directory.editable || not (ends_as_file (directory_end directory))))
 
-abbrev pub archive_check : ArchiveValue → Check
-archive_check archive =
-    location_check archive.location.url archive.location.path
-    >>= (λ _. archive_subdirectory_check archive)
-    >>= (λ _. hashes_check archive.hashes)
+-- ---- each source
 
-abbrev pub file_check : FileValue → Check
-file_check file =
-    location_check file.location.url file.location.path >>= (λ _. hashes_check file.hashes)
+-- the project that the file name of a wheel or an sdist says, and of an archive that is a wheel
+abbrev pub project_of : SourceValue → Option (List ℕ)
+project_of (OfVcs vcs) = None
+project_of (OfDirectory directory) = None
+project_of (OfArchive archive) = option_and_then wheel_project (last_of (OfArchive archive))
+project_of (OfWheel wheel) = option_and_then wheel_project (last_of (OfWheel wheel))
+project_of (OfSdist sdist) = option_and_then sdist_project (last_of (OfSdist sdist))
 
-abbrev pub source_check : SourceValue → Check
-source_check (OfVcs vcs) = vcs_check vcs
-source_check (OfDirectory directory) = directory_check directory
-source_check (OfArchive archive) = archive_check archive
-source_check (OfWheel wheel) = file_check wheel
-source_check (OfSdist sdist) = file_check sdist
+abbrev pub source_check : List ℕ → SourceValue → (last project : Option (List ℕ)) → Check
+source_check name (OfVcs vcs) last project = vcs_check vcs
+source_check name (OfDirectory directory) last project = directory_check directory
+source_check name (OfArchive archive) last project = archive_check name archive last project
+source_check name (OfWheel wheel) last project = file_check name wheel last project
+source_check name (OfSdist sdist) last project = file_check name sdist last project
 
 abbrev pub parts_check : ListedValue → Check
-parts_check s = name_check s.entry.name >>= (λ _. source_check s.source)
-
--- ---- what installers find a file by
-
--- what the URL ends in, else the path, decoded
-abbrev pub last_part : (url path : Option (List ℕ)) → Option (List ℕ)
-last_part (Some url) path = file_name_of None None (Some url)
-last_part None path = file_name_of None path None
-
-abbrev pub is_same_text : (a b : Option (List ℕ)) → Bool
-is_same_text (Some a) (Some b) = bytes_eq a b
-is_same_text (Some a) None = false
-is_same_text None b = false
-
--- the file name is what is written in the end
-abbrev pub ends_in_name : FileValue → Bool
-ends_in_name file =
-    is_same_text (last_part file.location.url file.location.path) (file_name file)
-
-abbrev pub source_ends_in_name : SourceValue → Bool
-source_ends_in_name (OfVcs vcs) = true
-source_ends_in_name (OfDirectory directory) = true
-source_ends_in_name (OfArchive archive) = true
-source_ends_in_name (OfWheel wheel) = ends_in_name wheel
-source_ends_in_name (OfSdist sdist) = ends_in_name sdist
+parts_check s =
+    name_check s.entry.name
+    >>= (λ _. source_check s.entry.name s.source (last_of s.source) (project_of s.source))
 
 abbrev pub requirement_check : ListedValue → Result ⊤ ExportError
-requirement_check s =
-    at_number s.number (parts_check s)
-    >>= (λ _. at_number s.number
-    (require field.FileName OtherName (source_ends_in_name s.source)))
+requirement_check s = at_number s.number (parts_check s)
 
 -- ---- the lines
 
@@ -127,15 +158,19 @@ abbrev pub fragment : Option (List ℕ) → List ℕ
 fragment subdirectory =
     option_map_or (λ path. codes "#subdirectory=" ++ path) subdirectory []
 
-abbrev pub hash_option : List ℕ → List (List ℕ × List ℕ) → List ℕ
-hash_option algorithm hashes =
-    option_map_or (λ value. codes " --hash=" ++ algorithm ++ codes ":" ++ value)
-    (hash_of algorithm hashes) []
+abbrev pub hash_option : (algorithm value : List ℕ) → List ℕ
+hash_option algorithm value = codes " --hash=" ++ algorithm ++ codes ":" ++ value
 
-abbrev pub hash_options : List (List ℕ × List ℕ) → List ℕ
-hash_options hashes =
-    hash_option (codes "sha256") hashes ++ hash_option (codes "sha384") hashes
-    ++ hash_option (codes "sha512") hashes
+abbrev pub best_hash_option : (sha256 sha384 sha512 : Option (List ℕ)) → List ℕ
+best_hash_option (Some value) sha384 sha512 = hash_option (codes "sha256") value
+best_hash_option None (Some value) sha512 = hash_option (codes "sha384") value
+best_hash_option None None (Some value) = hash_option (codes "sha512") value
+best_hash_option None None None = []
+
+abbrev pub hashes_option : List (List ℕ × List ℕ) → List ℕ
+hashes_option hashes =
+    best_hash_option (hash_of (codes "sha256") hashes) (hash_of (codes "sha384") hashes)
+    (hash_of (codes "sha512") hashes)
 
 -- the URL, else the path as a URL
 abbrev pub location_url : (url path : Option (List ℕ)) → List ℕ
@@ -165,11 +200,11 @@ directory_line directory =
 abbrev pub archive_line : List ℕ → ArchiveValue → List ℕ
 archive_line name archive =
     location_text name archive.location.url archive.location.path archive.subdirectory
-    ++ hash_options archive.hashes
+    ++ hashes_option archive.hashes
 
 abbrev pub file_line : List ℕ → FileValue → List ℕ
 file_line name file =
-    location_text name file.location.url file.location.path None ++ hash_options file.hashes
+    location_text name file.location.url file.location.path None ++ hashes_option file.hashes
 
 abbrev pub source_line : List ℕ → SourceValue → List ℕ
 source_line name (OfVcs vcs) = vcs_line name vcs
@@ -181,13 +216,32 @@ source_line name (OfSdist sdist) = file_line name sdist
 abbrev pub requirement_line : ListedValue → List ℕ
 requirement_line s = source_line s.entry.name s.source
 
--- one for each source
+-- ---- the two files
+
+-- which sources a file has
+abbrev pub is_in : PlanPart → SourceValue → Bool
+is_in part.Hashed source = not (is_unhashed source)
+is_in part.Local source = is_unhashed source
+
+-- the sources of a file, in the plan's order
+abbrev pub part_of : PlanPart → List ListedValue → List ListedValue
+part_of part sources = filter (λ s. is_in part s.source) sources
+
+-- a line for each source
 abbrev pub source_requirements : List ListedValue → Result (List (List ℕ)) ExportError
 source_requirements [] = Ok []
 source_requirements (s ∷ rest) =
     requirement_check s
     >>= (λ _. source_requirements rest >>= (λ lines. Ok (requirement_line s ∷ lines)))
 
-abbrev pub requirements_lines : List ListedValue → Result (List (List ℕ)) ExportError
-requirements_lines sources =
-    source_requirements sources >>= (λ lines. Ok (header ∷ lines))
+abbrev pub requirements_lines : PlanPart → List ListedValue → Result (List (List ℕ)) ExportError
+requirements_lines part sources =
+    source_requirements (part_of part sources) >>= (λ lines. Ok (header ∷ lines))
+
+-- a list is dealt out into two, each in its order
+pub data Deals {A : Type 0} : (all one other : List A) → Type 0 where
+  deals_none : Deals [] [] []
+  deals_one : (x : A) (all one other : List A) → Deals all one other
+      → Deals (x ∷ all) (x ∷ one) other
+  deals_other : (x : A) (all one other : List A) → Deals all one other
+      → Deals (x ∷ all) one (x ∷ other)

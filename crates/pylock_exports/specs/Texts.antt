@@ -1,29 +1,42 @@
 -- The text of each form: its lines, each with its end, or the first refusal in their order.
-use Rattle.std.specs.Prelude.{ℕ, Bool, false, zero, codes, ◌++◌, List, Result, Ok}
+use Rattle.std.specs.Prelude.{ℕ, Bool, not, codes, ◌++◌, List, Result, Ok, filter, length, map, take}
+use Rattle.std.specs.Prelude.{string_bytes}
 use Rattle.std.specs.List.{flat_map}
 use Rattle.pytext.specs.Results.{◌>>=◌}
-use Rattle.pylock_exports.specs.Listed.{ListedValue, is_mixed, unlisted_count}
-use Rattle.pylock_exports.specs.Lists.{list_lines}
-use Rattle.pylock_exports.specs.Requirements.{requirements_lines}
+use Rattle.pylock_core.specs.Session.Picks.{SourceValue}
+use Rattle.pylock_exports.specs.Listed.{ListedValue}
+use Rattle.pylock_exports.specs.Lists.{is_left, list_lines}
+use Rattle.pylock_exports.specs.Requirements.{is_in, requirements_lines}
 use Rattle.pylock_exports.specs.declared.format.Format.{Format}
 use Rattle.pylock_exports.specs.declared.format.Format.TheVariants as format
 use Rattle.pylock_exports.specs.declared.format.ListFormat.TheVariants.{Sha256sum, Aria2, Urls}
+use Rattle.pylock_exports.specs.declared.format.PlanPart.{PlanPart}
+use Rattle.pylock_exports.specs.declared.format.PlanPart.TheVariants.{Hashed, Local}
+use Rattle.pylock_exports.specs.declared.left.LeftSource.{LeftSource}
 use Rattle.pylock_exports.specs.declared.refusal.ExportError.{ExportError}
 
 abbrev pub lines_text : List (List ℕ) → List ℕ
 lines_text lines = flat_map (λ line. line ++ codes "\n") lines
 
+-- the text of a requirements file
+abbrev pub part_text : PlanPart → List ListedValue → Result (List ℕ) ExportError
+part_text part sources = requirements_lines part sources >>= (λ lines. Ok (lines_text lines))
+
 abbrev pub format_lines : Format → List ListedValue → Result (List (List ℕ)) ExportError
-format_lines format.Requirements sources = requirements_lines sources
+format_lines format.Requirements sources = requirements_lines Hashed sources
+format_lines format.RequirementsLocal sources = requirements_lines Local sources
 format_lines (format.List form) sources = list_lines form sources
 
 abbrev pub format_text : Format → List ListedValue → Result (List ℕ) ExportError
 format_text form sources = format_lines form sources >>= (λ lines. Ok (lines_text lines))
 
--- ---- the four forms
+-- ---- the five forms
 
 abbrev pub requirements_text : List ListedValue → Result (List ℕ) ExportError
 requirements_text sources = format_text format.Requirements sources
+
+abbrev pub requirements_local_text : List ListedValue → Result (List ℕ) ExportError
+requirements_local_text sources = format_text format.RequirementsLocal sources
 
 abbrev pub sha256sum_text : List ListedValue → Result (List ℕ) ExportError
 sha256sum_text sources = format_text (format.List Sha256sum) sources
@@ -36,12 +49,28 @@ urls_text sources = format_text (format.List Urls) sources
 
 -- ---- what is told beside the text
 
--- how many sources have no line
-abbrev pub left_out : Format → List ListedValue → ℕ
-left_out format.Requirements sources = zero
-left_out (format.List form) sources = unlisted_count sources
+-- the form has no line of the source
+abbrev pub is_left_out : Format → SourceValue → Bool
+is_left_out format.Requirements source = not (is_in Hashed source)
+is_left_out format.RequirementsLocal source = not (is_in Local source)
+is_left_out (format.List form) source = is_left form source
 
--- pip refuses hashed files beside others
-abbrev pub mixes_hashed : Format → List ListedValue → Bool
-mixes_hashed format.Requirements sources = is_mixed sources
-mixes_hashed (format.List form) sources = false
+-- the sources without a line, in order
+abbrev pub left_sources : Format → List ListedValue → List ListedValue
+left_sources form sources = filter (λ s. is_left_out form s.source) sources
+
+-- how many they are
+abbrev pub left_out : Format → List ListedValue → ℕ
+left_out form sources = length (left_sources form sources)
+
+-- the number and the name of a source's entry
+abbrev pub entry_of : ListedValue → ℕ × List ℕ
+entry_of s = (s.number, s.entry.name)
+
+-- those of the first of them, five at most
+abbrev pub first_left : Format → List ListedValue → List (ℕ × List ℕ)
+first_left form sources = take 5 (map entry_of (left_sources form sources))
+
+-- the same, as the code hands them out
+abbrev pub shown_left : LeftSource → ℕ × List ℕ
+shown_left left = (left.number, string_bytes left.name)

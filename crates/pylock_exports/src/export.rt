@@ -1,15 +1,16 @@
 //! The text of a form, and what is told beside it.
 
-ghost use Rattle.std.specs.Prelude.{◌≡◌, IfOk, string_bytes};
+ghost use Rattle.std.specs.Prelude.{◌≡◌, IfOk, map, string_bytes};
 ghost use Rattle.pytext.specs.Agreement.{Gives};
 ghost use Rattle.pylock_exports.specs.Inner.Lent.{all_lent};
 ghost use Rattle.pylock_exports.specs.Listed.{plan_sources, sources_from};
-ghost use Rattle.pylock_exports.specs.Texts.{format_text, left_out, mixes_hashed};
+ghost use Rattle.pylock_exports.specs.Texts.{first_left, format_text, left_out, shown_left};
 ghost use Rattle.pylock_exports.specs.declared.format.Format.TheVariants as format;
 ghost use Rattle.pylock_exports.specs.declared.refusal.ExportError.TheVariants as export;
 
-use crate::format::{Format, ListFormat};
-use crate::listed::{Listed, entry_sources, is_mixed, plan_sources, unlisted_count};
+use crate::format::{Format, ListFormat, PlanPart};
+use crate::left::{LeftSource, first_left, left_count};
+use crate::listed::{Listed, entry_sources, plan_sources};
 use crate::lists::list_text;
 use crate::refusal::ExportError;
 use crate::requirements::requirements_text;
@@ -21,11 +22,11 @@ use std::alloc::Global;
 pub struct Exported {
     /// The text. It is ASCII.
     pub text: String,
-    /// How many checkouts and directories have no line, since the form lists files.
+    /// How many sources have no line: of a requirements file those that the other one has, of a
+    /// list what has no file name, no URL or no SHA-256 where the list wants one.
     pub left_out: usize,
-    /// Whether hashed files stand beside checkouts or directories in a requirements file: pip
-    /// refuses those under `--require-hashes`, which one `--hash` switches on; uv takes them.
-    pub is_mixed: bool,
+    /// The first of them in order, five at most.
+    pub first_left: Vec<LeftSource>,
 }
 
 impl Drop for Exported {
@@ -33,30 +34,35 @@ impl Drop for Exported {
         let Exported {
             text: _,
             left_out: _,
-            is_mixed: _,
+            first_left: _,
         } = self;
     }
 }
 
 /// The text of a form of these sources.
+fn text_of(alloc: Global, form: Format, list: &[Listed<'_>]) -> Result<String, ExportError>
+    ensures { Gives export.Memory string_bytes result (format_text form (all_lent list.now)) }
+{
+    match form {
+        Format::Requirements => requirements_text(alloc, PlanPart::Hashed, list),
+        Format::RequirementsLocal => requirements_text(alloc, PlanPart::Local, list),
+        Format::List(form) => list_text(alloc, form, list),
+    }
+}
+
+/// The text of a form of these sources, and what is told beside it.
 fn export(alloc: Global, form: Format, list: &[Listed<'_>]) -> Result<Exported, ExportError>
     ensures text { Gives export.Memory (λ e. string_bytes e.text) result
         (format_text form (all_lent list.now)) }
     ensures left_out { IfOk result (λ e. e.left_out ≡ left_out form (all_lent list.now)) }
-    ensures mixed { IfOk result (λ e. e.is_mixed ≡ mixes_hashed form (all_lent list.now)) }
+    ensures first { IfOk result (λ e. map shown_left e.first_left.items
+        ≡ first_left form (all_lent list.now)) }
 {
-    match form {
-        Format::Requirements => Ok(Exported {
-            text: requirements_text(alloc, list)?,
-            left_out: 0,
-            is_mixed: is_mixed(list),
-        }),
-        Format::List(form) => Ok(Exported {
-            text: list_text(alloc, form, list)?,
-            left_out: unlisted_count(list),
-            is_mixed: false,
-        }),
-    }
+    Ok(Exported {
+        text: text_of(alloc, form, list)?,
+        left_out: left_count(alloc, form, list)?,
+        first_left: first_left(alloc, form, list)?,
+    })
 }
 
 /// A plan on the state of its session in a form for another tool, whole, or the first refusal in
@@ -72,8 +78,8 @@ pub fn export_plan(
         (format_text form (plan_sources session.now.state plan.now)) }
     ensures left_out { IfOk result (λ e. e.left_out
         ≡ left_out form (plan_sources session.now.state plan.now)) }
-    ensures mixed { IfOk result (λ e. e.is_mixed
-        ≡ mixes_hashed form (plan_sources session.now.state plan.now)) }
+    ensures first { IfOk result (λ e. map shown_left e.first_left.items
+        ≡ first_left form (plan_sources session.now.state plan.now)) }
 {
     let list = plan_sources(alloc, session, plan.picks())?;
     export(alloc, form, list.as_slice())
@@ -91,8 +97,8 @@ pub fn export_files(
         (format_text (format.List form) (sources_from 1 entries.now)) }
     ensures left_out { IfOk result (λ e. e.left_out
         ≡ left_out (format.List form) (sources_from 1 entries.now)) }
-    ensures mixed { IfOk result (λ e. e.is_mixed
-        ≡ mixes_hashed (format.List form) (sources_from 1 entries.now)) }
+    ensures first { IfOk result (λ e. map shown_left e.first_left.items
+        ≡ first_left (format.List form) (sources_from 1 entries.now)) }
 {
     let list = entry_sources(alloc, entries)?;
     export(alloc, Format::List(form), list.as_slice())

@@ -4,8 +4,7 @@ ghost use Rattle.std.specs.Prelude.{◌≡◌};
 ghost use Rattle.std.specs.Option.{option_copied};
 ghost use Rattle.pylock_readers.specs.Text.{text_pairs};
 ghost use Rattle.pylock_core.specs.Session.Picks.{lent_source};
-ghost use Rattle.pylock_exports.specs.Listed.{hash_of, hashes_of};
-ghost use Rattle.pylock_exports.specs.Lists.{sha256_of};
+ghost use Rattle.pylock_exports.specs.Listed.{hash_of, hashes_of, sha256_of};
 
 use pylock_core::PickedSource;
 

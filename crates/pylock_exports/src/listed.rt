@@ -1,14 +1,14 @@
 //! What is exported: the sources of a plan, or all that a lock names, lent by their entries.
 
-ghost use Rattle.std.specs.Prelude.{◌≡◌, ◌++◌, not, IfOk, OnOk, map};
-ghost use Rattle.std.specs.List.{list_any};
+ghost use Rattle.std.specs.Prelude.{◌≡◌, ◌++◌, IfOk, OnOk, map, option_map, string_bytes};
 ghost use Rattle.std.specs.Option.{option_copied};
 ghost use Rattle.pylock_core.specs.Session.Picks.{lent_named, lent_source, sources};
 ghost use Rattle.pylock_exports.specs.Inner.Lent.{all_lent, lent};
-ghost use Rattle.pylock_exports.specs.Listed.{file_name_of_source, is_mixed, is_unlisted, listed};
-ghost use Rattle.pylock_exports.specs.Listed.{picked_source, plan_sources, sources_from};
-ghost use Rattle.pylock_exports.specs.Listed.{unlisted_count, url_of};
+ghost use Rattle.pylock_exports.specs.Listed.{file_name_of_source, is_unhashed, last_of, listed};
+ghost use Rattle.pylock_exports.specs.Listed.{path_alone, path_of, picked_source, plan_sources};
+ghost use Rattle.pylock_exports.specs.Listed.{sources_from, url_of};
 
+use crate::file_names::last_part;
 use pylock_core::{Entry, NamedSource, Pick, PickedSource, Session, sources};
 use std::alloc::{AllocError, Global};
 
@@ -105,74 +105,73 @@ fn push_named<'a>(
     Ok(())
 }
 
-/// Whether a source is a checkout or a directory, which no list of files can hold.
-pub(crate) fn is_unlisted(source: PickedSource<'_>) -> bool
-    ensures { result ≡ is_unlisted (lent_source source.entry) }
+/// Whether a source is a checkout or a directory, which is no file and has no hash.
+pub(crate) fn is_unhashed(source: PickedSource<'_>) -> bool
+    ensures { result ≡ is_unhashed (lent_source source.entry) }
 {
     matches!(source, PickedSource::Vcs(_) | PickedSource::Directory(_))
 }
 
-/// How many sources no list of files can hold.
-pub(crate) fn unlisted_count(list: &[Listed<'_>]) -> usize
-    ensures { result ≡ unlisted_count (all_lent list.now) }
-{
-    let mut count = 0;
-    for listed in list {
-        if is_unlisted(listed.source) {
-            count += 1;
-        }
-    }
-    count
-}
-
-/// The key `url` of a source.
+/// Where a file is fetched from.
 pub(crate) fn url_of(source: PickedSource<'_>) -> Option<&str>
     ensures { option_copied result ≡ url_of (lent_source source.entry) }
 {
     match source {
-        PickedSource::Vcs(vcs) => vcs.url(),
-        PickedSource::Directory(_) => None,
+        PickedSource::Vcs(_) | PickedSource::Directory(_) => None,
         PickedSource::Archive(archive) => archive.url(),
         PickedSource::Wheel(file) | PickedSource::Sdist(file) => file.url(),
     }
 }
 
-/// The file name of a wheel or an sdist.
-pub(crate) fn file_name_of(source: PickedSource<'_>) -> Option<&str>
-    ensures { option_copied result ≡ file_name_of_source (lent_source source.entry) }
+fn path_of(source: PickedSource<'_>) -> Option<&str>
+    ensures { option_copied result ≡ path_of (lent_source source.entry) }
 {
     match source {
-        PickedSource::Wheel(file) | PickedSource::Sdist(file) => file.file_name(),
-        _ => None,
+        PickedSource::Vcs(_) | PickedSource::Directory(_) => None,
+        PickedSource::Archive(archive) => archive.path(),
+        PickedSource::Wheel(file) | PickedSource::Sdist(file) => file.path(),
     }
 }
 
-/// Whether checkouts or directories stand beside files and archives.
-pub(crate) fn is_mixed(list: &[Listed<'_>]) -> bool
-    ensures { result ≡ is_mixed (all_lent list.now) }
+/// The path of a file that has no URL.
+pub(crate) fn path_alone(source: PickedSource<'_>) -> Option<&str>
+    ensures { option_copied result ≡ path_alone (lent_source source.entry) }
 {
-    has_unlisted(list) && has_hashed(list)
+    match url_of(source) {
+        Some(_) => None,
+        None => path_of(source),
+    }
 }
 
-fn has_unlisted(list: &[Listed<'_>]) -> bool
-    ensures { result ≡ list_any (λ s. is_unlisted s.source) (all_lent list.now) }
+/// What the URL of a file ends in, else its path.
+pub(crate) fn last_of(alloc: Global, source: PickedSource<'_>) -> Result<Option<String>, AllocError>
+    ensures { IfOk result (λ last. option_map string_bytes last
+        ≡ last_of (lent_source source.entry)) }
 {
-    for listed in list {
-        if is_unlisted(listed.source) {
-            return true;
-        }
-    }
-    false
+    last_part(alloc, url_of(source), path_of(source))
 }
 
-/// Whether a file or an archive stands there.
-fn has_hashed(list: &[Listed<'_>]) -> bool
-    ensures { result ≡ list_any (λ s. not (is_unlisted s.source)) (all_lent list.now) }
+/// The file name of a source. That of an archive is what its URL ends in, else its path.
+pub(crate) fn file_name_of(
+    alloc: Global,
+    source: PickedSource<'_>,
+) -> Result<Option<String>, AllocError>
+    ensures { IfOk result (λ name. option_map string_bytes name
+        ≡ file_name_of_source (lent_source source.entry)) }
 {
-    for listed in list {
-        if !is_unlisted(listed.source) {
-            return true;
-        }
+    match source {
+        PickedSource::Vcs(_) | PickedSource::Directory(_) => Ok(None),
+        PickedSource::Archive(_) => last_of(alloc, source),
+        PickedSource::Wheel(file) | PickedSource::Sdist(file) => owned(alloc, file.file_name()),
     }
-    false
+}
+
+/// A copy of a text that may be there.
+pub(crate) fn owned(alloc: Global, text: Option<&str>) -> Result<Option<String>, AllocError>
+    ensures { IfOk result (λ copy. option_map string_bytes copy ≡ option_copied text.entry) }
+{
+    match text {
+        Some(text) => Ok(Some(String::from_str(alloc, text)?)),
+        None => Ok(None),
+    }
 }

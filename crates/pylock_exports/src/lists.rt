@@ -1,96 +1,72 @@
 //! The forms that list files.
 
-ghost use Rattle.std.specs.Prelude.{◌≡◌, ◌++◌, ◌∷◌, [], OnOk, option_map, string_bytes};
+ghost use Rattle.std.specs.Prelude.{◌≡◌, ◌++◌, ◌∷◌, [], IfOk, OnOk, option_map, string_bytes};
+ghost use Rattle.std.specs.Prelude.{false, unwrap_or};
+ghost use Rattle.std.specs.BTreeMap.{get_by_text};
 ghost use Rattle.std.specs.List.{flat_map};
 ghost use Rattle.std.specs.Option.{option_copied};
 ghost use Rattle.pytext.specs.Agreement.{Gives};
 ghost use Rattle.pylock_core.specs.Session.Picks.{lent_source};
+ghost use Rattle.pylock_exports.specs.FileNames.{last_part};
 ghost use Rattle.pylock_exports.specs.Inner.Kept.{Holds};
 ghost use Rattle.pylock_exports.specs.Inner.Lent.{all_lent, lent};
-ghost use Rattle.pylock_exports.specs.Lists.{fetched_check, key_of, list_check};
-ghost use Rattle.pylock_exports.specs.Lists.{other_value, source_lines, sum_check, value_of};
-ghost use Rattle.pylock_exports.specs.Lists.{with_source};
+ghost use Rattle.pylock_exports.specs.Listed.{url_of};
+ghost use Rattle.pylock_exports.specs.Lists.{aria2_name_check, fetched_check, is_control_file};
+ghost use Rattle.pylock_exports.specs.Lists.{is_left, key_of, lacks, lines_named, list_check};
+ghost use Rattle.pylock_exports.specs.Lists.{listed_check, name_in, own_sum_check, source_lines};
+ghost use Rattle.pylock_exports.specs.Lists.{sum_name, sum_name_check, value_of, with_source};
 ghost use Rattle.pylock_exports.specs.Lists.{with_sources};
-ghost use Rattle.pylock_exports.specs.Parts.{file_name_check, hash_check, there, web_url_check};
+ghost use Rattle.pylock_exports.specs.Parts.{there, web_url_check};
+ghost use Rattle.pylock_exports.specs.Refusals.{at_number};
 ghost use Rattle.pylock_exports.specs.Texts.{format_text, lines_text};
+ghost use Rattle.pylock_exports.specs.declared.class.Class.TheVariants as class;
 ghost use Rattle.pylock_exports.specs.declared.format.Format.TheVariants as format;
 ghost use Rattle.pylock_exports.specs.declared.format.ListFormat.TheVariants.{Aria2, Sha256sum};
 ghost use Rattle.pylock_exports.specs.declared.refusal.ExportError.TheVariants as export;
 ghost use Rattle.pylock_exports.specs.declared.refusal.Field.TheVariants as field;
 
+use crate::class::Class;
+use crate::file_names::{ends, last_part};
 use crate::format::ListFormat;
 use crate::hashes::sha256_of;
-use crate::listed::{Listed, file_name_of, is_unlisted, url_of};
-use crate::parts::{check_file_name, check_hash, check_web_url, missing};
-use crate::refusal::{ExportError, Field, FieldFault, FormatRefusal, Reason, at_number};
+use crate::listed::{Listed, file_name_of, owned, path_alone, url_of};
+use crate::parts::{
+    check_end, check_file_name, check_hash, check_path, check_web_url, missing, require,
+};
+use crate::refusal::{ExportError, Field, FieldFault, Reason, at_number, other_value};
+use crate::requirements::push_path;
 use pylock_core::PickedSource;
 use std::alloc::{AllocError, Global};
 use std::collections::BTreeMap;
 
-// ---- what a file has to have
+// ---- what a list names a file by, and what it can hold
 
-/// A file name that has to be there.
-fn check_own_name(name: Option<&str>) -> Result<(), FieldFault>
-    ensures { result ≡ there field.FileName file_name_check (option_copied name.entry) }
-{
-    match name {
-        Some(name) => check_file_name(name),
-        None => Err(missing(Field::FileName)),
-    }
-}
-
-/// A SHA-256 that has to be there.
-fn check_own_sum(value: Option<&str>) -> Result<(), FieldFault>
-    ensures { result ≡ there field.Hash (hash_check 64) (option_copied value.entry) }
-{
-    match value {
-        Some(value) => check_hash(64, value),
-        None => Err(missing(Field::Hash)),
-    }
-}
-
-/// The URL that a source is fetched from.
-fn check_fetched(source: PickedSource<'_>) -> Result<(), FieldFault>
-    ensures { result ≡ fetched_check (lent_source source.entry) }
-{
-    match url_of(source) {
-        Some(url) => check_web_url(url),
-        None => Err(missing(Field::Url)),
-    }
-}
-
-/// A file name and a SHA-256.
-fn check_sum(source: PickedSource<'_>) -> Result<(), FieldFault>
-    ensures { result ≡ sum_check (lent_source source.entry) }
-{
-    check_own_name(file_name_of(source))?;
-    check_own_sum(sha256_of(source))
-}
-
-fn check_listed(format: ListFormat, source: PickedSource<'_>) -> Result<(), FieldFault>
-    ensures { result ≡ list_check format (lent_source source.entry) }
+/// What a list names a file by: its file name; of `sha256sum` its path, where it has no URL; of
+/// `urls` its URL.
+pub(crate) fn name_in(
+    alloc: Global,
+    format: ListFormat,
+    source: PickedSource<'_>,
+) -> Result<Option<String>, AllocError>
+    ensures { IfOk result (λ name. option_map string_bytes name
+        ≡ name_in format (lent_source source.entry)) }
 {
     match format {
-        ListFormat::Sha256sum => check_sum(source),
-        ListFormat::Aria2 => {
-            check_sum(source)?;
-            check_fetched(source)
-        }
-        ListFormat::Urls => check_fetched(source),
+        ListFormat::Sha256sum => sum_name(alloc, source),
+        ListFormat::Aria2 => file_name_of(alloc, source),
+        ListFormat::Urls => owned(alloc, url_of(source)),
     }
 }
 
-// ---- each file once
-
-/// What a list names a file by: its file name, and of `urls` its URL.
-fn key_of(format: ListFormat, source: PickedSource<'_>) -> &str
-    ensures { result.now ≡ key_of format (lent_source source.entry) }
+/// The path of a file that has no URL, else its file name.
+fn sum_name(alloc: Global, source: PickedSource<'_>) -> Result<Option<String>, AllocError>
+    ensures { IfOk result (λ name. option_map string_bytes name
+        ≡ name_in Sha256sum (lent_source source.entry)) }
 {
-    let key = match format {
-        ListFormat::Sha256sum | ListFormat::Aria2 => file_name_of(source),
-        ListFormat::Urls => url_of(source),
-    };
-    key.unwrap_or("")
+    match path_alone(source) {
+        Some(path) => Ok(Some(String::from_str(alloc, path)?)),
+        None => file_name_of(alloc, source),
+    }
 }
 
 /// What is one for each of these: the SHA-256 of a file, and of `urls` again the URL.
@@ -104,8 +80,132 @@ fn value_of(format: ListFormat, source: PickedSource<'_>) -> &str
     value.unwrap_or("")
 }
 
-/// The sources of a list, each file once; where checkouts and directories stand, they are left out.
-/// Names are found by an ordered table, so that no lock makes it slow.
+/// Whether a list leaves out a source of this name: the name is absent, or the SHA-256, or the URL
+/// that it is fetched from.
+fn lacks(format: ListFormat, source: PickedSource<'_>, name: Option<&str>) -> bool
+    ensures { result ≡ lacks format (lent_source source.entry) (option_copied name.entry) }
+{
+    match format {
+        ListFormat::Sha256sum => name.is_none() || sha256_of(source).is_none(),
+        ListFormat::Aria2 => {
+            name.is_none() || sha256_of(source).is_none() || url_of(source).is_none()
+        }
+        ListFormat::Urls => name.is_none(),
+    }
+}
+
+/// Whether a list leaves out a source.
+pub(crate) fn is_left(
+    alloc: Global,
+    format: ListFormat,
+    source: PickedSource<'_>,
+) -> Result<bool, AllocError>
+    ensures { IfOk result (λ left. left ≡ is_left format (lent_source source.entry)) }
+{
+    let name = name_in(alloc, format, source)?;
+    Ok(lacks(format, source, name.as_deref()))
+}
+
+// ---- what a file has to have
+
+/// The URL that a source is fetched from.
+fn check_own_url(url: Option<&str>) -> Result<(), FieldFault>
+    ensures { result ≡ there field.Url (web_url_check class.Url) (option_copied url.entry) }
+{
+    match url {
+        Some(url) => check_web_url(Class::Url, url),
+        None => Err(missing(Field::Url)),
+    }
+}
+
+/// A URL that is fetched, which ends in this file name.
+fn check_fetched(url: Option<&str>, last: Option<&str>) -> Result<(), FieldFault>
+    ensures { result ≡ fetched_check (option_copied url.entry) (option_copied last.entry) }
+{
+    check_own_url(url)?;
+    check_end(Field::UrlEnd, last)
+}
+
+/// The path of a file without a URL, else its file name.
+fn check_sum_name(path: Option<&str>, name: &str) -> Result<(), FieldFault>
+    ensures { result ≡ sum_name_check (option_copied path.entry) name.now }
+{
+    match path {
+        Some(path) => check_path(path),
+        None => check_file_name(Field::FileName, name),
+    }
+}
+
+/// Whether `aria2c` keeps what it knows of a download in a file of this name.
+fn is_control_file(name: &str) -> bool
+    ensures { result ≡ is_control_file name.now }
+{
+    ends(b".aria2", name.as_bytes()) || ends(b".aria2__temp", name.as_bytes())
+}
+
+fn check_aria2_name(name: &str) -> Result<(), FieldFault>
+    ensures { result ≡ aria2_name_check name.now }
+{
+    check_file_name(Field::FileName, name)?;
+    require(Field::FileName, Reason::Control, !is_control_file(name))
+}
+
+/// A SHA-256 that has to be there.
+fn check_own_sum(source: PickedSource<'_>) -> Result<(), FieldFault>
+    ensures { result ≡ own_sum_check (lent_source source.entry) }
+{
+    match sha256_of(source) {
+        Some(value) => check_hash(64, value),
+        None => Err(missing(Field::Hash)),
+    }
+}
+
+/// A source that is named so, and whose URL ends so.
+fn check_listed(
+    format: ListFormat,
+    source: PickedSource<'_>,
+    name: &str,
+    last: Option<&str>,
+) -> Result<(), FieldFault>
+    ensures { result ≡ listed_check format (lent_source source.entry) name.now
+        (option_copied last.entry) }
+{
+    match format {
+        ListFormat::Sha256sum => {
+            check_sum_name(path_alone(source), name)?;
+            check_own_sum(source)
+        }
+        ListFormat::Aria2 => {
+            check_aria2_name(name)?;
+            check_own_sum(source)?;
+            check_fetched(url_of(source), last)
+        }
+        ListFormat::Urls => check_fetched(url_of(source), last),
+    }
+}
+
+/// The same, under the number of its entry.
+fn check_at_number(
+    alloc: Global,
+    format: ListFormat,
+    listed: &Listed<'_>,
+    name: &str,
+) -> Result<(), ExportError>
+    requires { name.now ≡ key_of format (lent listed.now).source }
+    ensures { Gives export.Memory (λ u. u) result
+        (at_number (lent listed.now).number (list_check format (lent listed.now).source)) }
+{
+    let last = last_part(alloc, url_of(listed.source), None)?;
+    at_number(
+        listed.number,
+        check_listed(format, listed.source, name, last.as_deref()),
+    )
+}
+
+// ---- each file once
+
+/// The sources of a list, each file once; what lacks something is left out. Names are found by an
+/// ordered table, so that no lock makes it slow.
 pub(crate) fn kept_sources<'a>(
     alloc: Global,
     format: ListFormat,
@@ -117,30 +217,63 @@ pub(crate) fn kept_sources<'a>(
     let mut kept = Vec::new(alloc);
     let mut values = BTreeMap::new(alloc);
     for listed in list {
-        keep(format, &mut kept, &mut values, listed)?;
+        keep(alloc, format, &mut kept, &mut values, listed)?;
     }
     Ok(kept)
 }
 
 /// Adds a source, unless it is left out or stands there.
 fn keep<'a>(
+    alloc: Global,
     format: ListFormat,
     kept: &mut Vec<Listed<'a>>,
-    values: &mut BTreeMap<&'a str, &'a str>,
+    values: &mut BTreeMap<String, &'a str>,
     listed: &Listed<'a>,
 ) -> Result<(), ExportError>
-    requires { Holds format values.old (all_lent kept.old.items) }
+    requires { Holds format (get_by_text values.old) (all_lent kept.old.items) }
     ensures kept { Gives export.Memory (λ _. all_lent kept.new.items) result
         (with_source format (all_lent kept.old.items) (lent listed.now)) }
-    ensures holds { OnOk result (Holds format values.new (all_lent kept.new.items)) }
+    ensures holds { OnOk result (Holds format (get_by_text values.new)
+        (all_lent kept.new.items)) }
 {
-    if is_unlisted(listed.source) {
+    let name = name_in(alloc, format, listed.source)?;
+    if lacks(format, listed.source, name.as_deref()) {
         return Ok(());
     }
-    at_number(listed.number, check_listed(format, listed.source))?;
-    let key = key_of(format, listed.source);
+    let key = text_or_empty(alloc, name);
+    keep_named(alloc, format, kept, values, listed, key)
+}
+
+/// The text, or none where it isn't there.
+fn text_or_empty(alloc: Global, text: Option<String>) -> String
+    ensures { string_bytes result ≡ unwrap_or (option_map string_bytes text) [] }
+{
+    match text {
+        Some(text) => text,
+        None => String::new(alloc),
+    }
+}
+
+/// Adds a source that has this name, unless it stands there.
+fn keep_named<'a>(
+    alloc: Global,
+    format: ListFormat,
+    kept: &mut Vec<Listed<'a>>,
+    values: &mut BTreeMap<String, &'a str>,
+    listed: &Listed<'a>,
+    key: String,
+) -> Result<(), ExportError>
+    requires holds { Holds format (get_by_text values.old) (all_lent kept.old.items) }
+    requires named { string_bytes key ≡ key_of format (lent listed.now).source }
+    requires held { is_left format (lent listed.now).source ≡ false }
+    ensures kept { Gives export.Memory (λ _. all_lent kept.new.items) result
+        (with_source format (all_lent kept.old.items) (lent listed.now)) }
+    ensures holds { OnOk result (Holds format (get_by_text values.new)
+        (all_lent kept.new.items)) }
+{
+    check_at_number(alloc, format, listed, key.as_str())?;
     let value = value_of(format, listed.source);
-    match values.get(key) {
+    match values.get(key.as_str()) {
         None => {
             values.insert(key, value)?;
             Ok(kept.push(*listed)?)
@@ -148,19 +281,6 @@ fn keep<'a>(
         Some(known) if *known == value => Ok(()),
         Some(_) => Err(other_value(listed.number)),
     }
-}
-
-/// An earlier file of the name has another value.
-fn other_value(number: u64) -> ExportError
-    ensures { result ≡ other_value number }
-{
-    ExportError::Refused(FormatRefusal {
-        number,
-        fault: FieldFault {
-            field: Field::Hash,
-            reason: Reason::OtherValue,
-        },
-    })
 }
 
 // ---- the lines
@@ -175,12 +295,26 @@ fn push_line(text: &mut String, front: &str, back: &str) -> Result<(), AllocErro
     text.push_str("\n")
 }
 
-fn push_sum(text: &mut String, source: PickedSource<'_>) -> Result<(), AllocError>
+/// Pushes a path as it is written, else the file name.
+fn push_sum_name(text: &mut String, path: Option<&str>, name: &str) -> Result<(), AllocError>
     ensures { OnOk result (string_bytes text.new ≡ string_bytes text.old
-        ++ lines_text (source_lines Sha256sum (lent_source source.entry))) }
+        ++ sum_name (option_copied path.entry) name.now) }
+{
+    match path {
+        Some(_) => push_path(text, name),
+        None => text.push_str(name),
+    }
+}
+
+#[tactic(auto, using(crate::proofs::TextLemmas::four_parts))]
+fn push_sum(text: &mut String, source: PickedSource<'_>, name: &str) -> Result<(), AllocError>
+    ensures { OnOk result (string_bytes text.new ≡ string_bytes text.old
+        ++ lines_text (lines_named Sha256sum (lent_source source.entry) name.now)) }
 {
     text.push_str(value_of(ListFormat::Sha256sum, source))?;
-    push_line(text, "  ", key_of(ListFormat::Sha256sum, source))
+    text.push_str("  ")?;
+    push_sum_name(text, path_alone(source), name)?;
+    text.push_str("\n")
 }
 
 /// Pushes a whole line.
@@ -192,23 +326,42 @@ fn push_whole(text: &mut String, line: &str) -> Result<(), AllocError>
     text.push_str("\n")
 }
 
-fn push_aria2(text: &mut String, source: PickedSource<'_>) -> Result<(), AllocError>
+fn push_aria2(text: &mut String, source: PickedSource<'_>, name: &str) -> Result<(), AllocError>
     ensures { OnOk result (string_bytes text.new ≡ string_bytes text.old
-        ++ lines_text (source_lines Aria2 (lent_source source.entry))) }
+        ++ lines_text (lines_named Aria2 (lent_source source.entry) name.now)) }
 {
     push_whole(text, url_of(source).unwrap_or(""))?;
-    push_line(text, " out=", key_of(ListFormat::Aria2, source))?;
+    push_line(text, " out=", name)?;
     push_line(
         text,
         " checksum=sha-256=",
         value_of(ListFormat::Aria2, source),
     )?;
     push_whole(text, " follow-torrent=false")?;
-    push_whole(text, " follow-metalink=false")
+    push_whole(text, " follow-metalink=false")?;
+    push_whole(text, " auto-file-renaming=false")
+}
+
+/// Pushes the lines of a source that is named so.
+fn push_named_lines(
+    text: &mut String,
+    format: ListFormat,
+    source: PickedSource<'_>,
+    name: &str,
+) -> Result<(), AllocError>
+    ensures { OnOk result (string_bytes text.new ≡ string_bytes text.old
+        ++ lines_text (lines_named format (lent_source source.entry) name.now)) }
+{
+    match format {
+        ListFormat::Sha256sum => push_sum(text, source, name),
+        ListFormat::Aria2 => push_aria2(text, source, name),
+        ListFormat::Urls => push_whole(text, name),
+    }
 }
 
 /// Pushes the lines of a source.
 fn push_lines(
+    alloc: Global,
     text: &mut String,
     format: ListFormat,
     source: PickedSource<'_>,
@@ -216,19 +369,21 @@ fn push_lines(
     ensures { OnOk result (string_bytes text.new ≡ string_bytes text.old
         ++ lines_text (source_lines format (lent_source source.entry))) }
 {
-    match format {
-        ListFormat::Sha256sum => push_sum(text, source),
-        ListFormat::Aria2 => push_aria2(text, source),
-        ListFormat::Urls => push_whole(text, key_of(ListFormat::Urls, source)),
-    }
+    let name = name_in(alloc, format, source)?;
+    push_named_lines(text, format, source, name.as_deref().unwrap_or(""))
 }
 
-fn push_kept(text: &mut String, format: ListFormat, kept: &[Listed<'_>]) -> Result<(), AllocError>
+fn push_kept(
+    alloc: Global,
+    text: &mut String,
+    format: ListFormat,
+    kept: &[Listed<'_>],
+) -> Result<(), AllocError>
     ensures { OnOk result (string_bytes text.new ≡ string_bytes text.old
         ++ flat_map (λ s. lines_text (source_lines format s.source)) (all_lent kept.now)) }
 {
     for listed in kept {
-        push_lines(text, format, listed.source)?;
+        push_lines(alloc, text, format, listed.source)?;
     }
     Ok(())
 }
@@ -244,6 +399,6 @@ pub(crate) fn list_text(
 {
     let kept = kept_sources(alloc, form, list)?;
     let mut text = String::new(alloc);
-    push_kept(&mut text, form, kept.as_slice())?;
+    push_kept(alloc, &mut text, form, kept.as_slice())?;
     Ok(text)
 }

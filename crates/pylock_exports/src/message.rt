@@ -10,6 +10,7 @@ impl Format {
     pub fn word(self) -> &'static str {
         match self {
             Format::Requirements => "requirements",
+            Format::RequirementsLocal => "requirements-local",
             Format::List(ListFormat::Sha256sum) => "sha256sum",
             Format::List(ListFormat::Aria2) => "aria2",
             Format::List(ListFormat::Urls) => "urls",
@@ -41,8 +42,8 @@ pub fn explain_refusal(
 fn field_word(field: Field) -> &'static str {
     match field {
         Field::Name => "name",
-        Field::Url => "url",
-        Field::Path => "path",
+        Field::Url | Field::Host | Field::UrlEnd => "url",
+        Field::Path | Field::PathEnd => "path",
         Field::FileName => "file name",
         Field::Hash => "hash",
         Field::Type => "type",
@@ -53,22 +54,25 @@ fn field_word(field: Field) -> &'static str {
 
 fn reason_text(alloc: Global, form: Format, fault: FieldFault) -> Result<String, AllocError> {
     match fault.reason {
-        Reason::Character(character) => character_text(alloc, character),
+        Reason::Character(character) => character_text(alloc, fault.field, character),
         Reason::Missing => String::from_str(alloc, missing_text(form, fault.field)),
         Reason::Form => String::from_str(alloc, form_text(form, fault.field)),
-        Reason::OtherName => String::from_str(alloc, "the url or path ends in another name"),
-        Reason::OtherValue => {
-            String::from_str(alloc, "an earlier file of the same name has another one")
-        }
+        reason => String::from_str(alloc, other_text(reason)),
     }
 }
 
 /// The character as it is where it is a printable one of ASCII, and else its number.
-fn character_text(alloc: Global, character: char) -> Result<String, AllocError> {
+fn character_text(alloc: Global, field: Field, character: char) -> Result<String, AllocError> {
+    let place = match field {
+        Field::Host => " in the host",
+        Field::UrlEnd => " in its last part, decoded",
+        Field::PathEnd => " in its last part",
+        _ => "",
+    };
     if character.is_ascii_graphic() {
-        return format!(in alloc; "`{character}` isn't allowed");
+        return format!(in alloc; "`{character}` isn't allowed{place}");
     }
-    format!(in alloc; "`\\u{{{:x}}}` isn't allowed", u32::from(character))
+    format!(in alloc; "`\\u{{{:x}}}` isn't allowed{place}", u32::from(character))
 }
 
 fn missing_text(form: Format, field: Field) -> &'static str {
@@ -82,33 +86,83 @@ fn missing_text(form: Format, field: Field) -> &'static str {
 fn form_text(form: Format, field: Field) -> &'static str {
     match (form, field) {
         (_, Field::Name | Field::FileName) => "begins with neither a letter nor a digit",
-        (Format::Requirements, Field::Url) => "begins with none of https://, http://, file:///",
-        (Format::List(_), Field::Url) => "begins with neither https:// nor http://",
-        (_, Field::Path) => "has a part `..`",
+        (_, Field::UrlEnd | Field::PathEnd) => {
+            "its last part is empty, or begins with neither a letter nor a digit"
+        }
+        (Format::Requirements, Field::Url) => {
+            "begins with none of https://, http://, file:/// and a letter or digit"
+        }
+        (_, Field::Url) => "begins with neither https:// nor http://",
+        (_, Field::Host) => "no host, `:` and digits or nothing, and `/` behind the `//`",
+        (_, Field::Path | Field::Subdirectory) => "isn't a path",
         (_, Field::Hash) => "isn't as long as its algorithm wants it",
         (_, Field::Type) => "none of git, hg, svn, bzr",
         (_, Field::Commit) => "isn't the hash of a commit",
-        (_, Field::Subdirectory) => {
-            "begins with `/`, has a part `..`, or stands with a relative path"
-        }
     }
 }
 
-/// What a person is told beside a text, where there is something. It takes memory for it.
+fn other_text(reason: Reason) -> &'static str {
+    match reason {
+        Reason::NoPath => "nothing stands behind the host",
+        Reason::Empty => "is empty",
+        Reason::DoubleSlash => "has `//`",
+        Reason::Parent => "has a part `..`",
+        Reason::Absolute => "begins with `/`",
+        Reason::NoUrl => "stands with a relative path, and no url to stand behind",
+        Reason::OtherName => "the url or path ends in another name",
+        Reason::Unread => "can't be read as that of a wheel or an sdist",
+        Reason::OtherProject => "is of another project than the entry",
+        Reason::LikeFile => "pip takes it for a file, by how it ends",
+        Reason::Control => "aria2c keeps what it knows of a download under such a name",
+        Reason::OtherValue => "an earlier file of the same name has another one",
+        Reason::Missing | Reason::Character(_) | Reason::Form => "isn't allowed",
+    }
+}
+
+/// What a person is told beside a text, where there is something: how many sources have no line,
+/// the first of them by the numbers and names of their entries, and where they are. It takes memory
+/// for the text.
 pub fn explain_exported(
     alloc: Global,
     form: Format,
     exported: &Exported,
 ) -> Result<Option<String>, AllocError> {
-    let word = form.word();
-    let count = exported.left_out;
-    if exported.is_mixed {
-        let note = "note: pip refuses a vcs or a directory beside a --hash, uv takes it";
-        return Ok(Some(String::from_str(alloc, note)?));
-    }
-    if count == 0 {
+    if exported.left_out == 0 {
         return Ok(None);
     }
-    let note = format!(in alloc; "note: --format {word} leaves out vcs and directories: {count}")?;
+    let word = form.word();
+    let count = exported.left_out;
+    let mut note = format!(in alloc; "note: --format {word} leaves out {count}")?;
+    note.push_str(left_text(form))?;
+    push_left(alloc, &mut note, exported)?;
     Ok(Some(note))
+}
+
+/// What is left out, and where it is.
+fn left_text(form: Format) -> &'static str {
+    match form {
+        Format::Requirements => { ", vcs and directories, which --format requirements-local has" }
+        Format::RequirementsLocal => {
+            ", wheels, sdists and archives, which --format requirements has"
+        }
+        Format::List(ListFormat::Sha256sum) => ", without a file name and a path, or a sha256",
+        Format::List(ListFormat::Aria2) => ", without a file name, a url or a sha256",
+        Format::List(ListFormat::Urls) => ", without a url of a file",
+    }
+}
+
+/// Pushes the entries of what is left out, the first of them.
+fn push_left(alloc: Global, note: &mut String, exported: &Exported) -> Result<(), AllocError> {
+    let mut front = ": ";
+    for left in &exported.first_left {
+        let number = left.number;
+        let name = left.name.as_str();
+        let entry = format!(in alloc; "{front}entry {number} (`{name}`)")?;
+        note.push_str(entry.as_str())?;
+        front = ", ";
+    }
+    if exported.first_left.len() < exported.left_out {
+        note.push_str(", ..")?;
+    }
+    Ok(())
 }

@@ -35,6 +35,7 @@ list_format file.Urls = list.Urls
 
 abbrev pub plan_format : PlanFormat → Format
 plan_format plan.Requirements = format.Requirements
+plan_format plan.RequirementsLocal = format.RequirementsLocal
 plan_format (plan.Files form) = format.List (list_format form)
 
 -- nothing is printed

@@ -42,6 +42,7 @@ fn plan_format(form: PlanFormat) -> Format
 {
     match form {
         PlanFormat::Requirements => Format::Requirements,
+        PlanFormat::RequirementsLocal => Format::RequirementsLocal,
         PlanFormat::Files(form) => Format::List(list_format(form)),
     }
 }

@@ -114,7 +114,7 @@ complete -c pylock -n '__pylock_in plan explain diff' -l only-binary -x -a '(ech
 complete -c pylock -n '__pylock_in plan explain diff' -l no-binary -x -a '(echo :all:; __pylock_names packages)' -d 'Take no wheels: --no-binary numpy, or :all:'
 complete -c pylock -n '__pylock_in plan explain diff' -l set -x -a '(__pylock_variables)' -d 'Give a marker variable a text: --set os_name=nt'
 complete -c pylock -n '__pylock_in plan explain select' -l strict -d 'Refuse a lock with certain findings of audit'
-complete -c pylock -n '__pylock_in plan' -l format -x -a 'requirements sha256sum aria2 urls' -d 'Print a form that another tool takes'
+complete -c pylock -n '__pylock_in plan' -l format -x -a 'requirements requirements-local sha256sum aria2 urls' -d 'Print a form that another tool takes'
 complete -c pylock -n '__pylock_in plan explain files audit diff version match name marker requirement wheel sdist' -l json -d 'Print one JSON document in place of the lines'
 complete -c pylock -n '__pylock_in plan explain select files audit diff environment version match name marker requirement wheel sdist' -s h -l help -d 'Print help'
 complete -c pylock -n '__pylock_in select' -l json -d 'Print a JSON document on a line for each answer'

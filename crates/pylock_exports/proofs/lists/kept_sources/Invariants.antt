@@ -1,4 +1,5 @@
 use Rattle.std.proofs.Common.{◌≡◌, [], drop}
+use Rattle.std.specs.BTreeMap.{get_by_text}
 use Rattle.pylock_exports.specs.Inner.Kept.{Holds}
 use Rattle.pylock_exports.specs.Inner.Lent.{all_lent}
 use Rattle.pylock_exports.specs.Lists.{with_sources}
@@ -8,4 +9,4 @@ use Rattle.pylock_exports.proofs.lists.kept_sources.Given as goal
 abbrev pub invariant-loop-listed : goal.invariant-loop-listed
 invariant-loop-listed l =
     (with_sources l.format (all_lent l.kept.items) (all_lent (drop l.listed-index l.list)) ≡ with_sources l.format [] (all_lent l.list))
-    × Holds l.format l.values (all_lent l.kept.items)
+    × Holds l.format (get_by_text l.values) (all_lent l.kept.items)

@@ -1,0 +1,95 @@
+//! What a form has no line of.
+
+ghost use Rattle.std.specs.Prelude.{◌≡◌, ◌++◌, ◌-◌, [], ◌∷◌, IfOk, OnOk, length, map, take};
+ghost use Rattle.pylock_core.specs.Session.Picks.{lent_source};
+ghost use Rattle.pylock_exports.specs.Inner.Lent.{all_lent, lent};
+ghost use Rattle.pylock_exports.specs.Texts.{entry_of, first_left, is_left_out, left_out};
+ghost use Rattle.pylock_exports.specs.Texts.{shown_left};
+
+use crate::format::Format;
+use crate::listed::{Listed, is_unhashed};
+use crate::lists::is_left;
+use pylock_core::PickedSource;
+use std::alloc::{AllocError, Global};
+
+/// How many of the sources without a line are named.
+const MOST_NAMED: usize = 5;
+
+/// A source of which a form has no line, by its entry.
+#[derive(Debug)]
+pub struct LeftSource {
+    /// The number of the entry.
+    pub number: u64,
+    /// The entry's name, as the lock has it in normal form.
+    pub name: String,
+}
+
+impl Drop for LeftSource {
+    fn drop(self) {
+        let LeftSource { number: _, name: _ } = self;
+    }
+}
+
+/// Whether the form has no line of a source.
+fn is_left_out(alloc: Global, form: Format, source: PickedSource<'_>) -> Result<bool, AllocError>
+    ensures { IfOk result (λ left. left ≡ is_left_out form (lent_source source.entry)) }
+{
+    match form {
+        Format::Requirements => Ok(is_unhashed(source)),
+        Format::RequirementsLocal => Ok(!is_unhashed(source)),
+        Format::List(form) => is_left(alloc, form, source),
+    }
+}
+
+/// How many sources the form has no line of.
+pub(crate) fn left_count(
+    alloc: Global,
+    form: Format,
+    list: &[Listed<'_>],
+) -> Result<usize, AllocError>
+    ensures { IfOk result (λ count. count ≡ left_out form (all_lent list.now)) }
+{
+    let mut count = 0;
+    for listed in list {
+        if is_left_out(alloc, form, listed.source)? {
+            count += 1;
+        }
+    }
+    Ok(count)
+}
+
+/// The first of the sources that the form has no line of.
+pub(crate) fn first_left(
+    alloc: Global,
+    form: Format,
+    list: &[Listed<'_>],
+) -> Result<Vec<LeftSource>, AllocError>
+    ensures { IfOk result (λ first. map shown_left first.items
+        ≡ first_left form (all_lent list.now)) }
+{
+    let mut first = Vec::new(alloc);
+    for listed in list {
+        if is_left_out(alloc, form, listed.source)? {
+            push_named(alloc, &mut first, listed)?;
+        }
+    }
+    Ok(first)
+}
+
+/// Adds a source, where fewer are there than are named.
+fn push_named(
+    alloc: Global,
+    first: &mut Vec<LeftSource>,
+    listed: &Listed<'_>,
+) -> Result<(), AllocError>
+    ensures { OnOk result (map shown_left first.new.items ≡ map shown_left first.old.items
+        ++ take (5 - length first.old.items) (entry_of (lent listed.now) ∷ [])) }
+{
+    if first.len() < MOST_NAMED {
+        first.push(LeftSource {
+            number: listed.number,
+            name: String::from_str(alloc, listed.entry.name())?,
+        })?;
+    }
+    Ok(())
+}
