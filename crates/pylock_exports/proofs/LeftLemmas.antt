@@ -11,22 +11,30 @@ Entries = List (ℕ × List ℕ)
 abbrev pub with_left : Format → Entries → List ListedValue → Entries
 with_left form first sources = first ++ take (5 - length first) (map entry_of (left_sources form sources))
 
--- a source that has a line changes nothing
-pub left_same : (form : Format) (first : Entries) (s : ListedValue) (rest : List ListedValue) → is_left_out form s.source ≡ false
-    → with_left form first (s ∷ rest) ≡ with_left form first rest
-left_same form first s rest has = rw has refl
+take_none : {X : Type 0} (n : ℕ) (xs : List X) → xs ≡ [] → take n xs ≡ []
+take_none zero xs is = refl
+take_none (suc n) [] is = refl
+take_none (suc n) (x ∷ xs) is = cc is
 
 -- as many more, one of them first
 taken : (first : Entries) (x : ℕ × List ℕ) (more : Entries) (room : ℕ) → room ≡ 5 - length first
     → first ++ take room (x ∷ more) ≡ (first ++ take room (x ∷ [])) ++ take (5 - length (first ++ take room (x ∷ []))) more
 taken first x more zero is =
     let none : 5 - length (first ++ []) ≡ 0 = omega (arith, sym is, ap length (append-nil first)) in
-    sym (rw none (append-nil (first ++ []) ∙ refl))
+    sym (ap (λ n. (first ++ []) ++ take n more) none ∙ append-nil (first ++ []))
 taken first x more (suc room) is =
+    let one : take (suc room) (x ∷ []) ≡ x ∷ [] = ap (λ r. x ∷ r) (take_none room [] refl) in
     let left : 5 - length (first ++ x ∷ []) ≡ room = omega (arith, sym is, length-append first (x ∷ [])) in
-    rw left (sym (append_assoc first (x ∷ []) (take room more)))
+    sym (append_assoc first (x ∷ []) (take room more))
+    ∙ ap (λ n. (first ++ x ∷ []) ++ take n more) (sym left)
+    ∙ ap (λ l. (first ++ l) ++ take (5 - length (first ++ l)) more) (sym one)
 
-pub left_more : (form : Format) (first new : Entries) (s : ListedValue) (rest : List ListedValue) → is_left_out form s.source ≡ true
-    → new ≡ first ++ take (5 - length first) (entry_of s ∷ []) → with_left form first (s ∷ rest) ≡ with_left form new rest
-left_more form first new s rest left is =
-    rw (left, is) (taken first (entry_of s) (map entry_of (left_sources form rest)) (5 - length first) refl)
+-- one more source
+pub left_more : (form : Format) (first new : Entries) (s : ListedValue) (rest : List ListedValue)
+    → new ≡ first ++ cond (is_left_out form s.source) (take (5 - length first) (entry_of s ∷ [])) [] → with_left form new rest ≡ with_left form first (s ∷ rest)
+left_more form first new s rest is = ap (λ n. with_left form n rest) is ∙ by (is_left_out form s.source)
+  where
+    by : (b : Bool) → with_left form (first ++ cond b (take (5 - length first) (entry_of s ∷ [])) []) rest
+        ≡ first ++ take (5 - length first) (map entry_of (cond b (s ∷ left_sources form rest) (left_sources form rest)))
+    by true = sym (taken first (entry_of s) (map entry_of (left_sources form rest)) (5 - length first) refl)
+    by false = ap (λ f. with_left form f rest) (append-nil first)

@@ -84,23 +84,18 @@ pub(crate) fn ends(ending: &[u8], text: &[u8]) -> bool
 }
 
 /// The same, ASCII letter case ignored.
-fn ends_in(ending: &str, text: &str) -> bool
-    ensures { result ≡ ends_in ending.now text.now }
-{
-    has_end(ending.as_bytes(), text.as_bytes())
-}
-
-fn has_end(ending: &[u8], text: &[u8]) -> bool
+fn ends_in(ending: &[u8], text: &[u8]) -> bool
     ensures { result ≡ ends_in ending.now text.now }
 {
     let place = text.len().saturating_sub(ending.len());
-    text[place..].eq_ignore_ascii_case(ending)
+    let (_, end) = text.split_at(place);
+    end.eq_ignore_ascii_case(ending)
 }
 
-fn ends_as_wheel(text: &str) -> bool
+fn ends_as_wheel(text: &[u8]) -> bool
     ensures { result ≡ ends_as_wheel text.now }
 {
-    ends_in(".whl", text)
+    ends_in(b".whl", text)
 }
 
 /// Whether what stands there ends as a wheel does.
@@ -108,59 +103,59 @@ pub(crate) fn is_wheel_end(last: Option<&str>) -> bool
     ensures { result ≡ is_wheel_end (option_copied last.entry) }
 {
     match last {
-        Some(last) => ends_as_wheel(last),
+        Some(last) => ends_as_wheel(last.as_bytes()),
         None => false,
     }
 }
 
-fn ends_as_tar(text: &str) -> bool
+fn ends_as_tar(text: &[u8]) -> bool
     ensures { result ≡ ends_as_tar text.now }
 {
-    ends_in(".tar", text) || ends_in(".tar.gz", text) || ends_in(".tgz", text)
+    ends_in(b".tar", text) || ends_in(b".tar.gz", text) || ends_in(b".tgz", text)
 }
 
-fn ends_as_bz2(text: &str) -> bool
+fn ends_as_bz2(text: &[u8]) -> bool
     ensures { result ≡ ends_as_bz2 text.now }
 {
-    ends_in(".tar.bz2", text) || ends_in(".tbz", text)
+    ends_in(b".tar.bz2", text) || ends_in(b".tbz", text)
 }
 
-fn ends_as_xz(text: &str) -> bool
+fn ends_as_xz(text: &[u8]) -> bool
     ensures { result ≡ ends_as_xz text.now }
 {
-    ends_in(".tar.xz", text)
-        || ends_in(".txz", text)
-        || ends_in(".tlz", text)
-        || ends_in(".tar.lz", text)
-        || ends_in(".tar.lzma", text)
+    ends_in(b".tar.xz", text)
+        || ends_in(b".txz", text)
+        || ends_in(b".tlz", text)
+        || ends_in(b".tar.lz", text)
+        || ends_in(b".tar.lzma", text)
 }
 
 /// Whether pip takes a path that ends so for the file that may stand there.
-pub(crate) fn ends_as_file(text: &str) -> bool
+pub(crate) fn ends_as_file(text: &[u8]) -> bool
     ensures { result ≡ ends_as_file text.now }
 {
     ends_as_wheel(text)
-        || ends_in(".zip", text)
+        || ends_in(b".zip", text)
         || ends_as_tar(text)
         || ends_as_bz2(text)
         || ends_as_xz(text)
 }
 
 /// Whether a part of a path names something.
-fn is_step(part: &str) -> bool
+fn is_step(part: &[u8]) -> bool
     ensures { result ≡ is_step part.now }
 {
-    part.len() != 0 && part != "."
+    part.len() != 0 && part != b".".as_slice()
 }
 
 /// The last part of a path that names something, else the one before it.
-pub(crate) fn last_step<'a>(before: &'a str, path: &'a str) -> &'a str
+pub(crate) fn last_step<'a>(before: &'a [u8], path: &'a str) -> &'a [u8]
     ensures { result.now ≡ last_step before.now path.now }
 {
     let mut last = before;
     for part in path.split('/') {
-        if is_step(part) {
-            last = part;
+        if is_step(part.as_bytes()) {
+            last = part.as_bytes();
         }
     }
     last

@@ -1,6 +1,7 @@
 //! What a form has no line of.
 
 ghost use Rattle.std.specs.Prelude.{◌≡◌, ◌++◌, ◌-◌, [], ◌∷◌, IfOk, OnOk, length, map, take};
+ghost use Rattle.std.specs.Prelude.{if◌then◌else◌};
 ghost use Rattle.pylock_core.specs.Session.Picks.{lent_source};
 ghost use Rattle.pylock_exports.specs.Inner.Lent.{all_lent, lent};
 ghost use Rattle.pylock_exports.specs.Texts.{entry_of, first_left, is_left_out, left_out};
@@ -69,11 +70,26 @@ pub(crate) fn first_left(
 {
     let mut first = Vec::new(alloc);
     for listed in list {
-        if is_left_out(alloc, form, listed.source)? {
-            push_named(alloc, &mut first, listed)?;
-        }
+        push_where_left(alloc, form, &mut first, listed)?;
     }
     Ok(first)
+}
+
+/// Adds a source that the form has no line of, where fewer are there than are named.
+fn push_where_left(
+    alloc: Global,
+    form: Format,
+    first: &mut Vec<LeftSource>,
+    listed: &Listed<'_>,
+) -> Result<(), AllocError>
+    ensures { OnOk result (map shown_left first.new.items ≡ map shown_left first.old.items
+        ++ (if is_left_out form (lent listed.now).source
+        then take (5 - length first.old.items) (entry_of (lent listed.now) ∷ []) else [])) }
+{
+    if is_left_out(alloc, form, listed.source)? {
+        push_named(alloc, first, listed)?;
+    }
+    Ok(())
 }
 
 /// Adds a source, where fewer are there than are named.
