@@ -8,19 +8,19 @@ from hostile import A256, A384, A512, B256, COMMIT, OF_ENDS, PIECES, WHOLE
 
 NAMES = ["a", "a-b", "alpha", "x2", "pip", "http", "git", "file", "r", "e", "sha256", "c", "localhost", "0", "a-1", "setup-py"]
 HOSTS = ["h", "h.example", "127.0.0.1", "localhost", "h:80", "h:8080", "H.Example", "h-i", "h:0443", "xn--h", "1", "h."]
-WRONG_HOSTS = ["", "u@h", "u:p@h", "h:80@evil", "h%40evil", "[::1]", "h:", "h:x", "h\\evil", "h_x", "@", "h@", ":80", "h?x", "h#x",
-    "h,evil", "h&x", "h:99999"]
+WRONG_HOSTS = ["", "u@h", "u:p@h", "h:80@evil", "h%40evil", "[::1]", "h:", "h:x", "h\\evil", "h_x", "@", "h@", ":80", "h?x",
+    "h#x", "h,evil", "h&x", "h:99999"]
 # Parts of paths that a URL may have; behind them what a URL for pip can't have.
 PARTS = ["x", "..", ".", "", "%2e%2e", "%2F", "%252F", "sha256", "md5:0", "egg", "egg:evil", "@", "a@b", "%40", "%23egg%3Devil",
-    "%3Fx", "%26subdirectory%3Devil", "~u", "!", "+", ",", ":", "git+https:", "http:", "-r", "--hash", "%00", "%0a", "%5C..", "%25",
-    "a.whl", "evil-1.0-py3-none-any.whl", "C:", "0" * 40, "@" + COMMIT, "...", "~", "%", "%zz", "%C3%A9", "a.b+c_d-e"]
-WRONG_PARTS = ["sha256=" + B256, "md5=" + "0" * 32, "&sha512=" + A512, "egg=evil", "&egg=evil", "&subdirectory=evil&", "=", "&", "#",
-    "a b", ";", "$x", "${HOME}", "\\", "\n", "'", '"', "*", "[x]", "\u00e9", "|"]
+    "%3Fx", "%26subdirectory%3Devil", "~u", "!", "+", ",", ":", "git+https:", "http:", "-r", "--hash", "%00", "%0a", "%5C..",
+    "%25", "a.whl", "evil-1.0-py3-none-any.whl", "C:", "0" * 40, "@" + COMMIT, "...", "~", "%", "%zz", "%C3%A9", "a.b+c_d-e"]
+WRONG_PARTS = ["sha256=" + B256, "md5=" + "0" * 32, "&sha512=" + A512, "egg=evil", "&egg=evil", "&subdirectory=evil&", "=", "&",
+    "#", "a b", ";", "$x", "${HOME}", "\\", "\n", "'", '"', "*", "[x]", "\u00e9", "|"]
 QUERIES = ["?", "?x", "?sha256:0", "?a/b", "?/../y", "?@evil", "??", "?.whl", "?%26egg%3Devil", "?a,b!c~d+e"]
-WRONG_QUERIES = ["?x=1", "?sha256=" + B256, "?x&md5=" + "0" * 32, "?x&subdirectory=evil&y", "?x&egg=evil", "?#", "#sha256=" + B256,
-    "#egg=evil", "? ", "#"]
-FOLDERS = ["x", "x", "d-1", "a.b", "a+b", "...", ".x", "-r", "-e", "requests", "x.zip", "X.WHL", "a.tar.gz", "alpha-1.0-py3-none-any.whl",
-    ".", "x.", "http", "git", "0", "_"]
+WRONG_QUERIES = ["?x=1", "?sha256=" + B256, "?x&md5=" + "0" * 32, "?x&subdirectory=evil&y", "?x&egg=evil", "?#",
+    "#sha256=" + B256, "#egg=evil", "? ", "#"]
+FOLDERS = ["x", "x", "d-1", "a.b", "a+b", "...", ".x", "-r", "-e", "requests", "x.zip", "X.WHL", "a.tar.gz",
+    "alpha-1.0-py3-none-any.whl", ".", "x.", "http", "git", "0", "_"]
 WRONG_FOLDERS = ["..", "", "a b", "a;b", "a[x]", "${X}", "a\\b", "C:", "a#b", "a@b", "%2e%2e", "a\n", "~", "a=b", "\u00e9"]
 ENDS = [".zip", ".tar.gz", ".tgz", ".whl", ".WHL", "", ".txt", ".tar.xz", ".tar", ".exe", ".ZIP"]
 VERSIONS = ["1", "1.0", "1!2", "1.0+x.1", "1.0.post1", "2a1", "0", "1_0", "x", "1..0", "v1"]
@@ -59,7 +59,8 @@ class Locks:
 
     def file_name(self, kind, name):
         """What could be the name of a file of the project, mostly."""
-        project = self.one([name, name.replace("-", "_"), name.title(), name.replace("-", ".")], ["evil", name + "-x", "x y", ""])
+        own = [name, name.replace("-", "_"), name.title(), name.replace("-", ".")]
+        project = self.one(own, ["evil", name + "-x", "x y", ""])
         version = self.random.choice(VERSIONS)
         if kind == "wheel" or kind == "archive" and self.rarely(0.1):
             build = self.random.choice(["", "", "", "-1", "-1x", "-0a.b"])
@@ -72,7 +73,8 @@ class Locks:
         return self.one(PARTS, WRONG_PARTS)
 
     def url(self, last):
-        scheme = self.one(["https://", "http://"], ["HTTPS://", "ftp://", "file://", "file:", "https:", "git+https://", "//", ""])
+        others = ["HTTPS://", "ftp://", "file://", "file:", "https:", "git+https://", "//", ""]
+        scheme = self.one(["https://", "http://"], others)
         host = self.one(HOSTS, WRONG_HOSTS)
         if self.rarely(0.05):
             scheme, host = "file://", ""
@@ -98,7 +100,8 @@ class Locks:
         found = {}
         for name, value in (("sha512", A512), ("sha256", A256), ("sha384", A384), ("md5", A256[:32])):
             if self.rarely(0.6 if name == "sha256" else 0.3):
-                found[name] = value if self.random.random() < 0.95 else self.random.choice(["", "0", value.upper(), value + "0", B256])
+                wrong = self.random.choice(["", "0", value.upper(), value + "0", B256])
+                found[name] = wrong if self.rarely(0.05) else value
         return found or {"sha256": A256}
 
     def place(self, kind, name):
