@@ -5,7 +5,7 @@ use pylock_exports::{Exported, Format, FormatRefusal, explain_exported, explain_
 use pylock_run::Sink;
 use std::alloc::{AllocError, Global};
 
-/// Tells what the form leaves out, and what the tool may make of it, where there is something.
+/// Tells what the form leaves out, and where that is, if there is something.
 pub(crate) fn tell_exported<N: Sink>(
     alloc: Global,
     notes: &mut N,
