@@ -1,5 +1,6 @@
 -- What a lock's findings are where the document was read once.
-use Rattle.std.proofs.Common.{◌≡◌, ◌∙◌, ◌++◌, ◌≤◌, ℕ, List, [], ◌∷◌, length, Option, None, Some, Result, Ok, Err, suc, refl, ap, sym, codes, nat_lt, nat_cmp, not, filter, Bool, true, false, if◌then◌else◌, Ordering, Less, Equal, Greater, Vec, Global, arith, ltb-false}
+use Rattle.std.proofs.Common.{◌≡◌, ◌∙◌, ◌++◌, ◌≤◌, ℕ, List, [], ◌∷◌, length, Option, None, Some, Result, Ok, Err, suc, refl, ap, sym, codes, nat_lt, nat_cmp, not, filter, Bool, true, false, if◌then◌else◌, Ordering, Less, Equal, Greater, Vec, Global, arith, ltb-false, ◌+◌, ◌<◌, drop, get_or}
+use Rattle.std.proofs.lemmas.List.{at_drop_more}
 use Rattle.std.specs.Prelude.{⊤}
 use Rattle.std.specs.Cmp.Lexicographic.{slice_cmp}
 use Rattle.toml.specs.Data.{Data, Items, Members, member, no_members, item, no_items, push_item, get_member, string, integer, float, boolean, datetime, array, table}
@@ -18,7 +19,7 @@ use Rattle.pylock_readers.specs.declared.error.LockError.TheVariants.{Memory, To
 use Rattle.pylock_audit.specs.Audit.{audited_of, findings_of, head_findings, head_findings_where, items_at, lock_findings, members_in, of_entries}
 use Rattle.pylock_audit.specs.Entry.{entry_findings}
 use Rattle.pylock_audit.specs.Finding.{LockFindingValue, findings_at}
-use Rattle.pylock_audit.specs.Inner.Tables.{HasLooked, TableValue, document_audited, has_no_packages, lock_findings_by, looked_at, of_entries_by, of_table, of_tables, tables_after, tables_in, with_findings}
+use Rattle.pylock_audit.specs.Inner.Tables.{HasLooked, TableValue, document_audited, entry_findings_by, has_no_packages, lock_findings_by, looked_at, of_entries_by, of_table, of_tables, tables_after, tables_in, with_findings}
 use Rattle.pylock_audit.specs.Keys.{is_named, table_keys}
 use Rattle.pylock_audit.specs.declared.keys.LockTable.TheVariants as tables
 use Rattle.pylock_audit.specs.declared.scope.Scope.{Scope}
@@ -31,6 +32,17 @@ entries_by_tables head n (e ∷ es) no_items = refl
 entries_by_tables head n [] (item d ds) = refl
 entries_by_tables head n (e ∷ es) (item d ds) =
     ap (λ rest. findings_at n (Some e.name) (entry_findings head (members_in d) e) ++ rest) (entries_by_tables head (suc n) es ds)
+
+-- the findings of entries from a place on, of which this one stands there
+pub next_entry : (asked : Scope) (head : HeadValue) (place : ℕ) (es : List EntryValue) (e : EntryValue) (t : TableValue) (ts : List TableValue)
+    → place < length es → e ≡ get_or es place e
+    → of_entries_by asked head (place + 1) (drop place es) (t ∷ ts)
+    ≡ findings_at (place + 1) (Some e.name) (entry_findings_by asked head t e) ++ of_entries_by asked head ((place + 1) + 1) (drop (place + 1) es) ts
+next_entry asked head place es e t ts within here =
+    let number : suc (place + 1) ≡ (place + 1) + 1 = omega arith in
+    at_drop_more (λ rest. of_entries_by asked head (place + 1) rest (t ∷ ts)) es place e within
+    ∙ ap (λ x. of_entries_by asked head (place + 1) (x ∷ drop (place + 1) es) (t ∷ ts)) (sym here)
+    ∙ ap (λ n. findings_at (place + 1) (Some e.name) (entry_findings_by asked head t e) ++ of_entries_by asked head n (drop (place + 1) es) ts) number
 
 -- the lock of a head and entries
 abbrev lock_of_parts : HeadValue → List EntryValue → LockValue
