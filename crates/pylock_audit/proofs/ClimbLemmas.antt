@@ -1,10 +1,9 @@
 -- The pieces of a path, one after the other.
 use denote.Param.Members.{Mut}
 use denote.Ref.{Bor}
-use Rattle.std.proofs.Common.{◌≡◌, ◌<◌, ◌≤◌, ◌+◌, ℕ, Bool, List, ◌∷◌, Option, None, Some, drop, get_or, length, false, true, refl, sym, ap, ◌∙◌, ◌-◌, ◌==◌, arith, rules, tests}
+use Rattle.std.proofs.Common.{◌≡◌, ◌<◌, ◌+◌, ℕ, Bool, List, ◌∷◌, Option, None, Some, drop, length, false, true, refl, sym, ap, ◌∙◌, ◌-◌, ◌==◌, arith, rules, tests}
 use Rattle.std.specs.Fn.{CalledAt}
 use Rattle.std.specs.Iterator.{Yields}
-use Rattle.std.specs.List.{slice_split}
 use Rattle.std.specs.Slice.Iter as slice
 use Rattle.std.specs.declared.slice.Split.{Split}
 use Rattle.std.proofs.lemmas.Iterator.Consumers.{YieldsList-at, YieldsList-end, YieldsList-turn}

@@ -1,11 +1,11 @@
 -- The findings that a strict reading refuses are the same, whether all were asked for or these alone.
-use Rattle.std.proofs.Common.{◌≡◌, ◌∙◌, ◌++◌, ℕ, List, [], ◌∷◌, Option, None, Some, Bool, true, false, suc, refl, ap, sym, codes, filter, if◌then◌else◌}
+use Rattle.std.proofs.Common.{◌≡◌, ◌∙◌, ◌++◌, ℕ, List, [], ◌∷◌, Option, None, Some, Bool, true, false, suc, refl, ap, sym, codes, filter}
 use Rattle.std.proofs.lemmas.List.Elements.{filter-append}
 use Rattle.pylock_readers.specs.Entry.{EntryValue}
 use Rattle.pylock_readers.specs.Lock.{HeadValue, LockValue}
 use Rattle.pylock_core.specs.Session.Picks.{SourceValue, sources}
 use Rattle.pylock_core.specs.declared.answer.PickSource.{PickSource}
-use Rattle.pylock_audit.specs.Entry.{IndexValue, of_file_names, of_kinds, of_marker, over}
+use Rattle.pylock_audit.specs.Entry.{IndexValue, of_file_names, of_kinds, of_marker}
 use Rattle.pylock_audit.specs.Finding.{FindingValue, LockFindingValue, findings_at, findings_each}
 use Rattle.pylock_audit.specs.Inner.Scope.{of_controls_in, of_hashes_in, of_sources_in, over_in}
 use Rattle.pylock_audit.specs.Inner.Tables.{TableValue, entry_findings_by, lock_findings_by, of_entries_by, of_names_by}

@@ -9,7 +9,7 @@ use Rattle.pylock_readers.specs.declared.error.LockError.{LockError}
 use Rattle.pylock_audit.specs.Audit.{audited_of, findings_of, head_findings, lock_findings}
 use Rattle.pylock_audit.specs.Finding.{LockFindingValue}
 use Rattle.pylock_audit.specs.Inner.Tables.{audited_from, tables_in, with_findings}
-use Rattle.pylock_audit.specs.Strict.{strict_findings, strict_findings_of, strict_lock_of, unless_found}
+use Rattle.pylock_audit.specs.Strict.{strict_findings, strict_lock_of, unless_found}
 use Rattle.pylock_audit.specs.declared.scope.Scope.TheVariants.{All, Refused}
 use Rattle.pylock_audit.specs.declared.strict.StrictError.{StrictError}
 use Rattle.pylock_audit.specs.declared.strict.StrictError.TheVariants as refusal

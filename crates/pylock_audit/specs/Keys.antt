@@ -1,10 +1,10 @@
 -- The keys of a lock that PEP 751 names, and those that it doesn't.
 use Rattle.std.specs.Prelude.{ℕ, Bool, ◌+◌, ◌++◌, not, codes, decimal, filter}
-use Rattle.std.specs.Prelude.{List, [], ◌∷◌, map, Option, Some}
+use Rattle.std.specs.Prelude.{List, [], ◌∷◌, map}
 use Rattle.std.specs.List.{list_any}
 use Rattle.std.specs.Str.{bytes_eq}
-use Rattle.toml.specs.Data.{Data, Items, Members, array, get_member, item, member, no_items}
-use Rattle.toml.specs.Data.{no_members, table}
+use Rattle.toml.specs.Data.{Members, member}
+use Rattle.toml.specs.Data.{no_members}
 use Rattle.pylock_core.specs.declared.answer.PickSource.{PickSource}
 use Rattle.pylock_core.specs.declared.answer.PickSource.TheVariants as source
 use Rattle.pylock_audit.specs.declared.keys.LockTable.{LockTable}

@@ -1,5 +1,5 @@
 -- What a strict reading of a lock refuses: findings by which one installer may differ from another.
-use Rattle.std.specs.Prelude.{ℕ, Bool, List, [], ◌∷◌, codes, filter, Result, Ok, Err}
+use Rattle.std.specs.Prelude.{ℕ, Bool, List, [], ◌∷◌, codes, filter, Result, Err}
 use Rattle.std.specs.List.{list_any}
 use Rattle.std.specs.Result.{result_map_both, result_unwrap_or}
 use Rattle.std.specs.Str.{bytes_eq}

@@ -1,4 +1,4 @@
-use Rattle.std.proofs.Common.{◌≡◌, ◌∙◌, Some, List, ap, codes, subst, sym}
+use Rattle.std.proofs.Common.{◌∙◌, ap, codes, subst, sym}
 use Rattle.toml.specs.View.{table_view}
 use Rattle.pytext.specs.Agreement.{Gives}
 use Rattle.pytoml.specs.Members.{with_elements}
