@@ -163,6 +163,8 @@ TRICKS = {
     "a directory that may be a wheel": directory("alpha-1.0-py3-none-any.whl"),
     "a directory that may be an archive": directory("x/alpha-1.0.tar.gz"),
     "a directory that may be a file, by its subdirectory": directory("x", subdirectory="alpha.zip/."),
+    # a share of Windows; elsewhere pip refuses it
+    "a share of Windows, by the root and a subdirectory": directory("/", subdirectory="evil/x"),
     # the file says which project is installed
     "a relative wheel of another project": wheel(path="evil-1.0-py3-none-any.whl"),
     "a relative archive that is a wheel": archive(path="evil-1.0-py3-none-any.whl"),
@@ -223,6 +225,7 @@ REFUSED = {
     "an empty subdirectory": ("requirements-local", directory("a", subdirectory="")),
     "a directory with `//`": ("requirements-local", directory("a//b")),
     "a share as a directory": ("requirements-local", directory("//h/b")),
+    "a share as an editable directory": ("requirements-local", directory("/", subdirectory="h/b", editable=True)),
     "an editable directory above, in the middle": ("requirements-local", directory("a/../b", editable=True)),
     "a directory with a space": ("requirements-local", directory("a b")),
     "a directory with extras": ("requirements-local", directory("a[x]")),
