@@ -189,10 +189,11 @@ checkout_is name vcs is_name taken =
 
 directory_is : (directory : DirectoryValue) → directory_check directory ≡ Ok tt → IsLine format.RequirementsLocal (source_line [] (OfDirectory directory))
 directory_is directory taken =
-    let two = both _ _ taken in
+    let three = both _ _ taken in
+    let two = both _ _ three.0 in
     let one = both _ _ two.0 in
     directory_line (cond directory.editable (codes "-e ") []) directory.path directory.subdirectory
-    (record { is_path = directory_path_is directory.path one.0; is_sub = sub_is directory.subdirectory one.1; is_taken = by directory.editable (required _ _ _ two.1) })
+    (record { is_path = directory_path_is directory.path one.0; is_sub = sub_is directory.subdirectory one.1; is_joined = required _ _ _ two.1; is_taken = by directory.editable (required _ _ _ three.1) })
   where
     by : (editable : Bool) → (editable || not (ends_as_file (directory_end directory))) ≡ true
         → (cond editable (codes "-e ") [] ≡ codes "-e ") ⊎ ((cond editable (codes "-e ") [] ≡ []) × (ends_as_file (directory_end directory) ≡ false))

@@ -12,7 +12,7 @@ use Rattle.pylock_exports.specs.FileNames.{ends_as_file, last_part, last_step}
 use Rattle.pylock_exports.specs.Lists.{is_control_file}
 use Rattle.pylock_exports.specs.Parts.{has_double_slash, has_hex_commits, has_late_parent}
 use Rattle.pylock_exports.specs.Parts.{has_parent, has_path, has_query, is_host, is_kind}
-use Rattle.pylock_exports.specs.Requirements.{header, named, path_text}
+use Rattle.pylock_exports.specs.Requirements.{header, joins_once, named, path_text}
 use Rattle.pylock_exports.specs.declared.class.Class.{Class}
 use Rattle.pylock_exports.specs.declared.class.Class.TheVariants as class
 use Rattle.pylock_exports.specs.declared.format.Format.{Format}
@@ -142,6 +142,7 @@ IsSub (Some path) = IsSubdirectory path
 pub record IsDirectory (editable : List ℕ) (path : List ℕ) (sub : Option (List ℕ)) : Type 0 where
   pub is_path : IsDirectoryPath path
   pub is_sub : IsSub sub
+  pub is_joined : joins_once path sub ≡ true
   pub is_taken : (editable ≡ codes "-e ")
       ⊎ ((editable ≡ []) × (ends_as_file (option_map_or (last_step (last_step [] path)) sub
       (last_step [] path)) ≡ false))

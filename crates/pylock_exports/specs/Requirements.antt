@@ -13,7 +13,7 @@ use Rattle.pylock_readers.specs.Entry.{file_name}
 use Rattle.pylock_readers.specs.Entry.FileName.{is_slash}
 use Rattle.pylock_core.specs.Session.Picks.{SourceValue, OfVcs, OfDirectory, OfArchive, OfWheel}
 use Rattle.pylock_core.specs.Session.Picks.{OfSdist}
-use Rattle.pylock_exports.specs.FileNames.{ends_as_file, is_wheel_end, last_step, project_check}
+use Rattle.pylock_exports.specs.FileNames.{ends, ends_as_file, is_wheel_end, last_step, project_check}
 use Rattle.pylock_exports.specs.FileNames.{sdist_project, wheel_project}
 use Rattle.pylock_exports.specs.Listed.{ListedValue, hash_of, is_unhashed, last_of}
 use Rattle.pylock_exports.specs.Parts.{Check, any_url_check, checkout_url_check, commit_check}
@@ -112,11 +112,17 @@ directory_end directory =
     option_map_or (last_step (last_step [] directory.path)) directory.subdirectory
     (last_step [] directory.path)
 
+-- a subdirectory stands behind a `/`; a second one beside it, at the root, is a share of Windows
+abbrev pub joins_once : (path : List ℕ) → (sub : Option (List ℕ)) → Bool
+joins_once path sub = is_none sub || not (ends (codes "/") path)
+
 -- pip may take a directory for a file, unless it is editable
 abbrev pub directory_check : DirectoryValue → Check
 directory_check directory =
     directory_path_check directory.path
     >>= (λ _. where_there subdirectory_check directory.subdirectory)
+    >>= (λ _. require field.Path reason.DoubleSlash
+    (joins_once directory.path directory.subdirectory))
     >>= (λ _. require field.Path reason.LikeFile
     (directory.editable || not (ends_as_file (directory_end directory))))
 
