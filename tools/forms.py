@@ -283,7 +283,7 @@ OF_NAME = r"[a-z0-9]([a-z0-9\-]*[a-z0-9])?"
 NOTHING_ELSE = {
     "requirements": rf"{HEADER}|({OF_NAME} @ {OF_PIP}{OF_SUB}|\./[\w\-.+/]+) --hash={OF_HASH}",
     "requirements-local": rf"{HEADER}|(-e )?(\./|/)[\w\-.+/]*|{OF_NAME} @ (git|hg|svn|bzr)\+{OF_PIP}@[0-9A-Za-z]+{OF_SUB}",
-    "sha256sum": rf"[0-9a-f]{{64}}  ({FILE}|(\./|/)[\w\-.+/]+)",
+    "sha256sum": rf"[0-9a-f]{{64}}  ({FILE}|\./[\w\-.+/]+|/[\w\-.+/]*)",
     "aria2": rf"{OF_URL}|[ \t]+(out={FILE}|checksum=sha-256=[0-9a-f]{{64}}|follow-(torrent|metalink)=false"
              r"|auto-file-renaming=false)",
     "urls": OF_URL,
