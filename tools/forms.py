@@ -173,7 +173,7 @@ def requirement_of_checkout(source):
 def requirement_of_directory(source):
     path, sub = allowed("PATH of a directory", source["path"], source), source.get("subdirectory")
     if sub is not None:
-        require(path != "/", source)  # what begins with `//` is a share of Windows
+        require(not path.endswith("/"), source)  # at the root `//` is a share of Windows
         path = f"{path}/{allowed('SUB', sub, source)}"
     if source["kind"] == "editable":
         return f"-e {written_path(path)}"
@@ -290,12 +290,6 @@ NOTHING_ELSE = {
 }
 
 
-def has_double_slash(form, source):
-    """A directory whose path and subdirectory are written with `//` between them: it may be refused too."""
-    return form == "requirements-local" and not is_file(source) and source["kind"] != "vcs" \
-        and source["path"].endswith("/") and "subdirectory" in source
-
-
 def is_told(left, error):
     """What is wrong with the note of the sources that are left out: it has their number and the name of the first."""
     if not left:
@@ -310,9 +304,6 @@ def compare(ran, form, sources, name=None):
     text, ids, left = expected(form, sources)
     if text is None:
         return compare_refusal(ran, ids, name)
-    doubled = [source["id"] for source in sources if has_double_slash(form, source)]
-    if doubled and ran.status == 1:
-        return compare_refusal(ran, doubled[:1], name)
     lines = ran.output.split("\n")
     if not all(re.fullmatch(NOTHING_ELSE[form], line, re.ASCII) for line in lines[:-1]) or lines[-1]:
         return f"a line that {form} can't have: {ran.output!r}"
