@@ -15,7 +15,7 @@ use Rattle.pylock_core.specs.Session.Picks.{SourceValue}
 use Rattle.pylock_diff.specs.Inner.Others.{HasSources, HasVersions}
 use Rattle.pylock_diff.specs.Item.{ItemValue}
 use Rattle.pylock_diff.specs.Sources.{has_source, lone_in, lone_sources, source_key}
-use Rattle.pylock_diff.specs.Texts.{Texts, are_alike, texts_cmp}
+use Rattle.pylock_compare.specs.Texts.{Texts, are_alike, texts_cmp}
 use Rattle.pylock_diff.specs.Versions.{version_key}
 
 one : (x y : Option (Bor (List ℕ)))

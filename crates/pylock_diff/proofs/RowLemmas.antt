@@ -7,8 +7,8 @@ use Rattle.std.specs.Cmp.Lexicographic.{slice_cmp}
 use Rattle.std.specs.List.{filter, flat_map}
 use Rattle.std.specs.Ordering.{nat_cmp, match_ordering}
 use Rattle.std.specs.Str.{bytes_eq}
-use Rattle.pylock_diff.specs.Inner.Lent.{lent_rows, lent_texts}
-use Rattle.pylock_diff.specs.Rows.{Row, in_order, names_of, put_among, under_each, values_at}
+use Rattle.pylock_compare.specs.Lent.{lent_rows, lent_texts}
+use Rattle.pylock_compare.specs.Rows.{Row, in_order, names_of, put_among, under_each, values_at}
 
 moved : {A B C : Type 0} (f : A → B) (g : A → C) (h : C → B) (is : Bool) (x : A) (xs : List A) (ys : List C)
     → f x ≡ h (g x) → map f xs ≡ map h ys → map f (cond is (x ∷ xs) xs) ≡ map h (cond is (g x ∷ ys) ys)

@@ -1,3 +1,3 @@
--- What contracts cite inside the crate alone.
+-- What contracts inside the crate alone cite.
 pub mod Lent
 pub mod Others

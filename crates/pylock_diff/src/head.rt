@@ -1,154 +1,170 @@
 //! The head of a lock, key by key.
 
-ghost use Rattle.std.specs.Prelude.{◌≡◌, ◌++◌, ◌∷◌, [], IfOk, OnOk, map, string_bytes};
-ghost use Rattle.std.specs.Option.{option_copied};
-ghost use Rattle.pylock_diff.specs.Head.{environments_of, head_changes, list_changes, pythons_of};
-ghost use Rattle.pylock_diff.specs.Head.{set_changes};
-ghost use Rattle.pylock_diff.specs.Inner.Lent.{lent_texts};
-ghost use Rattle.pylock_diff.specs.Texts.{are_alike};
-
 use crate::change::{Change, ChangeKind, push_change};
-use crate::conditions::bytes_of;
-use crate::hashes::are_same_texts;
-use crate::key::Key;
-use crate::texts::{joined_if_any, lent, owned};
-use pylock_core::Lock;
+use crate::texts::owned;
+use pylock_compare::Sides;
+use pytoml_code::{push_code, shown_code};
 use std::alloc::{AllocError, Global};
+use toml::{Table, Value};
 
-/// Adds a line for each key of the head that isn't alike.
+/// A key of the head: the code of its value, and how it is shown.
+pub(crate) struct HeadKey {
+    key: String,
+    code: Vec<u8>,
+    text: String,
+}
+
+impl Drop for HeadKey {
+    fn drop(self) {
+        let HeadKey {
+            key: _,
+            code: _,
+            text: _,
+        } = self;
+    }
+}
+
+/// The keys of the head of a document, but `packages`, in order.
+pub(crate) fn head_keys(alloc: Global, document: &Table) -> Result<Vec<HeadKey>, AllocError> {
+    let mut keys = Vec::new(alloc);
+    for (key, value) in document.iter() {
+        if is_compared(key.as_str()) {
+            keys.push(head_key(alloc, key.as_str(), value)?)?;
+        }
+    }
+    Ok(keys)
+}
+
+/// Whether a key of the document is compared as one of the head.
+fn is_compared(key: &str) -> bool {
+    !matches!(key, "packages" | "created-by")
+}
+
+fn head_key(alloc: Global, key: &str, value: &Value) -> Result<HeadKey, AllocError> {
+    let mut code = Vec::new(alloc);
+    push_code(&mut code, value)?;
+    let text = if is_list_key(key) {
+        list_text(alloc, value)?
+    } else {
+        shown_code(alloc, code.as_slice())?
+    };
+    let key = String::from_str(alloc, key)?;
+    Ok(HeadKey { key, code, text })
+}
+
+/// The keys of which the texts are shown, in the order in which they are told.
+const LISTS: [&str; 5] = [
+    "requires-python",
+    "environments",
+    "extras",
+    "dependency-groups",
+    "default-groups",
+];
+
+fn is_list_key(key: &str) -> bool {
+    matches!(
+        key,
+        "requires-python" | "environments" | "extras" | "dependency-groups" | "default-groups"
+    )
+}
+
+/// A text as it is, a list of texts joined by `,`, and `[]` where it is empty.
+fn list_text(alloc: Global, value: &Value) -> Result<String, AllocError> {
+    match value {
+        Value::String(text) => String::from_str(alloc, text.as_str()),
+        Value::Array(items) if items.is_empty() => String::from_str(alloc, "[]"),
+        Value::Array(items) => items_text(alloc, items.as_slice()),
+        _ => String::from_str(alloc, ""),
+    }
+}
+
+fn items_text(alloc: Global, items: &[Value]) -> Result<String, AllocError> {
+    let mut text = String::new(alloc);
+    for (place, item) in items.iter().enumerate() {
+        if place > 0 {
+            text.push_str(",")?;
+        }
+        text.push_str(item.as_str().unwrap_or(""))?;
+    }
+    Ok(text)
+}
+
+/// Adds a line for each key of the head that isn't alike: first those of which lists are shown.
 pub(crate) fn push_head(
     alloc: Global,
     changes: &mut Vec<Change>,
-    old: &Lock,
-    new: &Lock,
-) -> Result<(), AllocError>
-    ensures { OnOk result (changes.new.items
-        ≡ changes.old.items ++ head_changes old.now.head new.now.head) }
-{
-    push_set(
-        alloc,
-        changes,
-        "requires-python",
-        pythons_of(old),
-        pythons_of(new),
-    )?;
-    let olds = environments_of(alloc, old)?;
-    let news = environments_of(alloc, new)?;
-    push_list(
-        alloc,
-        changes,
-        "environments",
-        olds.as_slice(),
-        news.as_slice(),
-    )?;
-    push_names(alloc, changes, "extras", old.extras(), new.extras())?;
-    push_names(
-        alloc,
-        changes,
-        "dependency-groups",
-        old.groups(),
-        new.groups(),
-    )?;
-    push_names(
-        alloc,
-        changes,
-        "default-groups",
-        old.default_groups(),
-        new.default_groups(),
-    )?;
+    old: &[HeadKey],
+    new: &[HeadKey],
+) -> Result<(), AllocError> {
+    let olds = head_rows(alloc, old)?;
+    let news = head_rows(alloc, new)?;
+    let sides = Sides::new(alloc, olds.as_slice(), news.as_slice())?;
+    push_keys(alloc, changes, &sides, LISTS.as_slice())?;
+    let others = other_keys(alloc, sides.names.as_slice())?;
+    push_keys(alloc, changes, &sides, others.as_slice())
+}
+
+/// The keys under their names.
+fn head_rows<'a>(
+    alloc: Global,
+    keys: &'a [HeadKey],
+) -> Result<Vec<(&'a str, &'a HeadKey)>, AllocError> {
+    let mut rows = Vec::with_capacity(alloc, keys.len())?;
+    for key in keys {
+        rows.push((key.key.as_str(), key))?;
+    }
+    Ok(rows)
+}
+
+/// Those of which no list is shown.
+fn other_keys<'a>(alloc: Global, keys: &[&'a str]) -> Result<Vec<&'a str>, AllocError> {
+    let mut others = Vec::new(alloc);
+    for key in keys {
+        if !is_list_key(key) {
+            others.push(*key)?;
+        }
+    }
+    Ok(others)
+}
+
+fn push_keys(
+    alloc: Global,
+    changes: &mut Vec<Change>,
+    sides: &Sides<'_, &HeadKey>,
+    keys: &[&str],
+) -> Result<(), AllocError> {
+    for key in keys {
+        let old = sides.old(key).first();
+        let new = sides.new_values(key).first();
+        push_key(alloc, changes, key, old.copied(), new.copied())?;
+    }
     Ok(())
 }
 
-/// The normal text of the set of Pythons.
-fn pythons_of(lock: &Lock) -> Option<&str>
-    ensures { option_copied result ≡ pythons_of lock.now.head }
-{
-    Some(lock.requires_python()?.text())
-}
-
-/// The markers of the environments.
-fn environments_of(alloc: Global, lock: &Lock) -> Result<Vec<&str>, AllocError>
-    ensures { IfOk result (λ list. lent_texts list.items ≡ environments_of lock.now.head) }
-{
-    let mut list = Vec::new(alloc);
-    for marker in lock.environments() {
-        list.push(marker.text())?;
-    }
-    Ok(list)
-}
-
-/// Adds that the sets of Pythons differ, where they do.
-fn push_set(
+/// Adds that a key differs, where it does.
+fn push_key(
     alloc: Global,
     changes: &mut Vec<Change>,
     key: &str,
-    old: Option<&str>,
-    new: Option<&str>,
-) -> Result<(), AllocError>
-    ensures { OnOk result (changes.new.items ≡ changes.old.items
-        ++ set_changes key.now (option_copied old.entry) (option_copied new.entry)) }
-{
-    if are_same_sets(alloc, old, new)? {
+    old: Option<&HeadKey>,
+    new: Option<&HeadKey>,
+) -> Result<(), AllocError> {
+    if are_same(old, new) {
         return Ok(());
     }
-    let from = owned(alloc, old)?;
-    let to = owned(alloc, new)?;
+    let from = owned(alloc, text_of(old))?;
+    let to = owned(alloc, text_of(new))?;
     push_change(alloc, changes, ChangeKind::Head, key, from, to)
 }
 
-fn are_same_sets<'x>(
-    alloc: Global,
-    old: Option<&'x str>,
-    new: Option<&'x str>,
-) -> Result<bool, AllocError>
-    ensures { IfOk result (λ same. same
-        ≡ are_alike (option_copied old.entry ∷ []) (option_copied new.entry ∷ [])) }
-{
-    let old = one_text(alloc, old)?;
-    let new = one_text(alloc, new)?;
-    Ok(old == new)
-}
-
-/// One text, or that it is absent.
-fn one_text(alloc: Global, text: Option<&str>) -> Result<Key<'_>, AllocError>
-    ensures { IfOk result (λ key. key ≡ option_copied text.entry ∷ []) }
-{
-    let mut key = Key::new(alloc);
-    key.push(bytes_of(text))?;
-    Ok(key)
-}
-
-/// Adds that lists of names differ, where they do.
-fn push_names(
-    alloc: Global,
-    changes: &mut Vec<Change>,
-    key: &str,
-    olds: &[String],
-    news: &[String],
-) -> Result<(), AllocError>
-    ensures { OnOk result (changes.new.items ≡ changes.old.items
-        ++ list_changes key.now (map string_bytes olds.now) (map string_bytes news.now)) }
-{
-    let olds = lent(alloc, olds)?;
-    let news = lent(alloc, news)?;
-    push_list(alloc, changes, key, olds.as_slice(), news.as_slice())
-}
-
-/// Adds that lists of texts differ, where they do.
-fn push_list(
-    alloc: Global,
-    changes: &mut Vec<Change>,
-    key: &str,
-    olds: &[&str],
-    news: &[&str],
-) -> Result<(), AllocError>
-    ensures { OnOk result (changes.new.items ≡ changes.old.items
-        ++ list_changes key.now (lent_texts olds.now) (lent_texts news.now)) }
-{
-    if are_same_texts(alloc, olds, news)? {
-        return Ok(());
+fn are_same(old: Option<&HeadKey>, new: Option<&HeadKey>) -> bool {
+    match (old, new) {
+        (Some(old), Some(new)) => old.code.as_slice() == new.code.as_slice(),
+        (None, None) => true,
+        (Some(_), None) | (None, Some(_)) => false,
     }
-    let from = joined_if_any(alloc, ",", olds)?;
-    let to = joined_if_any(alloc, ",", news)?;
-    push_change(alloc, changes, ChangeKind::Head, key, from, to)
+}
+
+fn text_of(key: Option<&HeadKey>) -> Option<&str> {
+    Some(key?.text.as_str())
 }

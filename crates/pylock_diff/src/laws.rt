@@ -13,9 +13,9 @@ ghost use Rattle.pylock_readers.specs.Lock.{LockValue};
 ghost use Rattle.pylock_diff.specs.Change.{coming_and_going, turned};
 ghost use Rattle.pylock_diff.specs.Changes.{answer_changes, lock_changes};
 ghost use Rattle.pylock_diff.specs.Item.{entry_items};
-ghost use Rattle.pylock_diff.specs.Rows.{in_order, values_at};
+ghost use Rattle.pylock_compare.specs.Rows.{in_order, values_at};
 ghost use Rattle.pylock_diff.specs.Same.{AreSame, IsSameHead};
-ghost use Rattle.pylock_diff.specs.Texts.{Texts, are_alike};
+ghost use Rattle.pylock_compare.specs.Texts.{Texts, are_alike};
 
 /// Lists of texts are alike where they are equal.
 #[tactic(auto, using(crate::proofs::SameLemmas::alike_texts))]

@@ -15,7 +15,7 @@ use crate::text::diff::push_changes;
 use crate::text::json::push_side_json;
 use pylock_command::{Choice, Form};
 use pylock_core::{EnvError, EnvironmentInput, Lock, LockError, Session};
-use pylock_diff::{Change, diff_document, lock_changes, plan_changes};
+use pylock_diff::{Change, diff_document, lock_changes, plan_changes, read_compared};
 use pylock_json::push_document;
 use pylock_run::{OpenError, RunFault, Sink, print, push_side_error};
 use pymark_core::Environment;
@@ -56,13 +56,13 @@ fn push_lock_diff(
     ensures { Pushes out.old.items out.new.items
         (locks_report form sides.entry.old.now sides.entry.new.now) result }
 {
-    let old = match Lock::read(alloc, sides.old) {
-        Ok(lock) => lock,
+    let old = match read_compared(alloc, sides.old) {
+        Ok(compared) => compared,
         Err(LockError::Memory) => return Err(AllocError),
         Err(error) => return push_side(alloc, out, form, "old", &error),
     };
-    let new = match Lock::read(alloc, sides.new) {
-        Ok(lock) => lock,
+    let new = match read_compared(alloc, sides.new) {
+        Ok(compared) => compared,
         Err(LockError::Memory) => return Err(AllocError),
         Err(error) => return push_side(alloc, out, form, "new", &error),
     };

@@ -1,5 +1,5 @@
 use Rattle.std.proofs.Common.{◌≡◌, map, take}
-use Rattle.pylock_diff.specs.Inner.Lent.{lent_texts}
+use Rattle.pylock_compare.specs.Lent.{lent_texts}
 use Rattle.pylock_diff.proofs.head.environments_of.Given as goal
 
 abbrev pub invariant-loop-marker : goal.invariant-loop-marker

@@ -1,6 +1,6 @@
 use Rattle.std.proofs.Common.{◌∙◌, ◌++◌, ap, codes}
 use Rattle.pylock_diff.specs.Head.{environments_of, list_changes, pythons_of, set_changes}
-use Rattle.pylock_diff.specs.Inner.Lent.{lent_texts}
+use Rattle.pylock_compare.specs.Lent.{lent_texts}
 use Rattle.pylock_diff.proofs.RowLemmas.{five_in_turn}
 use Rattle.pylock_diff.proofs.head.push_head.Goals as goal
 

@@ -3,7 +3,7 @@ use Rattle.std.specs.BTreeSet.{contains}
 use Rattle.std.specs.List.{filter}
 use Rattle.pylock_core.specs.Session.Picks.{lent_source}
 use Rattle.pylock_diff.specs.Sources.{source_key}
-use Rattle.pylock_diff.specs.Texts.{texts_cmp}
+use Rattle.pylock_compare.specs.Texts.{texts_cmp}
 use Rattle.pylock_diff.proofs.sources.push_lone.Given as goal
 
 abbrev pub invariant-loop-source : goal.invariant-loop-source

@@ -3,7 +3,7 @@ use Rattle.std.specs.BTreeSet.{contains}
 use Rattle.std.specs.List.{list_any}
 use Rattle.pylock_core.specs.Session.Picks.{lent_source}
 use Rattle.pylock_diff.specs.Sources.{source_key}
-use Rattle.pylock_diff.specs.Texts.{Texts, are_alike, texts_cmp}
+use Rattle.pylock_compare.specs.Texts.{Texts, are_alike, texts_cmp}
 use Rattle.pylock_diff.proofs.sources.put_sources.Given as goal
 
 abbrev pub invariant-loop-source : goal.invariant-loop-source

@@ -4,7 +4,7 @@ use Rattle.std.specs.List.{list_any}
 use Rattle.pylock_core.specs.Session.Picks.{SourceValue}
 use Rattle.pylock_diff.specs.Item.{ItemValue}
 use Rattle.pylock_diff.specs.Sources.{source_key}
-use Rattle.pylock_diff.specs.Texts.{are_alike, texts_cmp}
+use Rattle.pylock_compare.specs.Texts.{are_alike, texts_cmp}
 use Rattle.pylock_diff.proofs.KeyLemmas.{any_joined}
 use Rattle.pylock_diff.proofs.sources.sources_of.Goals as goal
 

@@ -1,0 +1,89 @@
+//! Partners: entries of a name that are alike in both locks in all keys drop out first.
+
+use crate::codes::Codes;
+use crate::item::Item;
+use pylock_compare::{Key, are_alone};
+use std::alloc::{AllocError, Global};
+
+/// Whether the items have the same keys, one by one, as nearly each has of two locks that follow one
+/// another: then each has a partner. It takes no memory.
+pub(crate) fn have_same_keys(olds: &[Item<'_>], news: &[Item<'_>]) -> bool {
+    if olds.len() != news.len() {
+        return false;
+    }
+    for (place, old) in olds.iter().enumerate() {
+        let Some(new) = news.get(place) else {
+            return false;
+        };
+        if !are_same_codes(old.codes.keys(), new.codes.keys()) {
+            return false;
+        }
+    }
+    true
+}
+
+fn are_same_codes(old: &Codes, new: &Codes) -> bool {
+    are_same_rows(old.rows(), new.rows())
+}
+
+fn are_same_rows(olds: &[(String, Vec<u8>)], news: &[(String, Vec<u8>)]) -> bool {
+    if olds.len() != news.len() {
+        return false;
+    }
+    for (place, old) in olds.iter().enumerate() {
+        let Some(new) = news.get(place) else {
+            return false;
+        };
+        if !is_same_row(old, new) {
+            return false;
+        }
+    }
+    true
+}
+
+fn is_same_row(old: &(String, Vec<u8>), new: &(String, Vec<u8>)) -> bool {
+    old.0.as_str() == new.0.as_str() && old.1.as_slice() == new.1.as_slice()
+}
+
+/// The items that have no partner among the others.
+pub(crate) fn without_partners<'a>(
+    alloc: Global,
+    items: &[Item<'a>],
+    others: &[Item<'a>],
+) -> Result<Vec<Item<'a>>, AllocError> {
+    let alone = are_alone(alloc, keys_of(alloc, items)?, keys_of(alloc, others)?)?;
+    where_true(alloc, alone.as_slice(), items)
+}
+
+/// The items at whose places it is true.
+fn where_true<'a>(
+    alloc: Global,
+    flags: &[bool],
+    items: &[Item<'a>],
+) -> Result<Vec<Item<'a>>, AllocError> {
+    let mut list = Vec::new(alloc);
+    for (place, item) in items.iter().enumerate() {
+        if let Some(true) = flags.get(place).copied() {
+            list.push(*item)?;
+        }
+    }
+    Ok(list)
+}
+
+/// The keys of each item with their codes.
+fn keys_of<'a>(alloc: Global, items: &[Item<'a>]) -> Result<Vec<Key<'a>>, AllocError> {
+    let mut keys = Vec::with_capacity(alloc, items.len())?;
+    for item in items {
+        keys.push(key_of(alloc, item.codes.keys().rows())?)?;
+    }
+    Ok(keys)
+}
+
+fn key_of<'a>(alloc: Global, rows: &'a [(String, Vec<u8>)]) -> Result<Key<'a>, AllocError> {
+    let mut key = Key::new(alloc);
+    for (name, code) in rows {
+        key.push(Some(name.as_bytes()))?;
+        key.push(Some(code.as_slice()))?;
+    }
+    Ok(key)
+}
