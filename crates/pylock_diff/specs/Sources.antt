@@ -53,11 +53,19 @@ abbrev pub has_version : List ItemValue → ItemValue → Bool
 has_version others item =
     list_any (λ other. are_alike (version_key item ∷ []) (version_key other ∷ [])) others
 
--- an entry of the other lock has the version and the same sources, so that only its conditions and
--- other keys may differ
+-- an entry of the other lock has the version, the marker and the set of Pythons
+abbrev pub has_condition : List ItemValue → ItemValue → Bool
+has_condition others item =
+    list_any (λ other. are_alike (condition_key item) (condition_key other)) others
+
+-- an entry of the other lock has the version and the same sources
 abbrev pub has_counterpart : List ItemValue → ItemValue → Bool
 has_counterpart others item =
     list_any (λ other. are_alike (whole_key item) (whole_key other)) others
+
+-- the other lock has what the entry has, for other machines alone: its marker tells that
+abbrev pub is_moved : List ItemValue → ItemValue → Bool
+is_moved others item = not (has_condition others item) && has_counterpart others item
 
 -- the other lock has the source, in an entry of that version, marker and set of Pythons
 abbrev pub has_source : List ItemValue → ItemValue → SourceValue → Bool
@@ -69,7 +77,7 @@ has_source others item source =
 -- the sources of an entry that the other lock hasn't; a version that it hasn't is told as such
 abbrev pub lone_in : List ItemValue → ItemValue → List SourceValue
 lone_in others item =
-    if has_version others item && not (has_counterpart others item)
+    if has_version others item && not (is_moved others item)
     then filter (λ source. not (has_source others item source)) item.sources
     else []
 

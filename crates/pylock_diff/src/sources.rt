@@ -242,16 +242,28 @@ fn push_lone_of<'x>(
     others: &Others<'x>,
     item: &'x Keyed<'x>,
 ) -> Result<(), AllocError> {
-    if !others.versions.contains(&version_only(alloc, item)?)
-        || others.wholes.contains(&whole_key(alloc, item)?)
-    {
+    if !others.versions.contains(&version_only(alloc, item)?) {
         return Ok(());
     }
     let key = condition_key(alloc, item)?;
     match others.sources.get(&key) {
         Some(set) => push_lone(alloc, list, set, item.sources()),
-        None => push_sources(list, item.sources()),
+        None => push_unless_moved(alloc, list, others, item),
     }
+}
+
+/// Adds those of an item of whose version, marker and set of Pythons the others have none, unless
+/// one of them has the same sources.
+fn push_unless_moved<'x>(
+    alloc: Global,
+    list: &mut Vec<PickedSource<'x>>,
+    others: &Others<'x>,
+    item: &'x Keyed<'x>,
+) -> Result<(), AllocError> {
+    if others.wholes.contains(&whole_key(alloc, item)?) {
+        return Ok(());
+    }
+    push_sources(list, item.sources())
 }
 
 fn push_sources<'x>(
