@@ -36,10 +36,15 @@ abbrev pub more_texts : Items → List ℕ
 more_texts no_items = []
 more_texts (item d ds) = codes "," ++ item_text d ++ more_texts ds
 
--- texts joined by `,`, and `[]` where there is none
+-- texts joined by `,`
+abbrev pub joined_texts : Items → List ℕ
+joined_texts no_items = []
+joined_texts (item d ds) = item_text d ++ more_texts ds
+
+-- the same, and `[]` where there is none
 abbrev pub list_text : Data → List ℕ
 list_text (array no_items) = codes "[]"
-list_text (array (item d ds)) = item_text d ++ more_texts ds
+list_text (array (item d ds)) = joined_texts (item d ds)
 list_text d = item_text d
 
 abbrev pub head_key : List ℕ → Data → HeadKey

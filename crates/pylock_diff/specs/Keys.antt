@@ -23,13 +23,17 @@ placed_rows rows place [] = []
 placed_rows rows place (item ∷ items) =
     map (λ row. (row.0, (place, row.1))) (rows item) ++ placed_rows rows (suc place) items
 
+-- the same value in the same entry
+abbrev pub is_same_value : (old new : Placed) → Bool
+is_same_value old new = (old.0 == new.0) && bytes_eq old.1 new.1
+
 -- the same values in the same entries
 abbrev pub are_same_values : (olds news : List Placed) → Bool
 are_same_values [] [] = true
 are_same_values [] (new ∷ news) = false
 are_same_values (old ∷ olds) [] = false
 are_same_values (old ∷ olds) (new ∷ news) =
-    (old.0 == new.0) && bytes_eq old.1 new.1 && are_same_values olds news
+    is_same_value old new && are_same_values olds news
 
 -- the values joined by ` | `, or `-`
 abbrev pub values_text : List Placed → List ℕ

@@ -50,13 +50,23 @@ file_members file =
     put_hashes file.hashes
     (put_place file.location (put (codes "name") (file_name file) no_members))
 
+abbrev pub source_members : SourceValue → Members
+source_members (OfVcs vcs) = vcs_members vcs
+source_members (OfDirectory directory) = directory_members directory
+source_members (OfArchive archive) = archive_members archive
+source_members (OfWheel file) = file_members file
+source_members (OfSdist file) = file_members file
+
+-- its kind, as a plan names it
+abbrev pub kind_word : SourceValue → List ℕ
+kind_word (OfVcs vcs) = codes "vcs"
+kind_word (OfDirectory directory) = directory_word directory
+kind_word (OfArchive archive) = codes "archive"
+kind_word (OfWheel file) = codes "wheel"
+kind_word (OfSdist file) = codes "sdist"
+
 abbrev pub source_row : SourceValue → Rows
-source_row (OfVcs vcs) = (codes "vcs", code (table (vcs_members vcs))) ∷ []
-source_row (OfDirectory directory) =
-    (directory_word directory, code (table (directory_members directory))) ∷ []
-source_row (OfArchive archive) = (codes "archive", code (table (archive_members archive))) ∷ []
-source_row (OfWheel file) = (codes "wheel", code (table (file_members file))) ∷ []
-source_row (OfSdist file) = (codes "sdist", code (table (file_members file))) ∷ []
+source_row source = (kind_word source, code (table (source_members source))) ∷ []
 
 abbrev pub version_row : Option (List ℕ) → Rows
 version_row version = option_map_or (λ text. (codes "version", code (string text)) ∷ []) version []

@@ -1,15 +1,14 @@
 //! Locks that are read to be compared: beside the lock the codes of all keys, known and unknown.
 
-ghost use Rattle.std.specs.Prelude.{◌≡◌, ◌≢◌, IfErr, IfOk, Err, Ok, codes, option_map};
-ghost use Rattle.toml.specs.Data.{Items, get_member, no_items};
+ghost use Rattle.std.specs.Prelude.{◌≡◌, [], IfOk, OnOk, Ok, codes};
+ghost use Rattle.toml.specs.Data.{Items, Members, no_items, table};
 ghost use Rattle.toml.specs.View.{items_view, table_view, view};
 ghost use Rattle.pytext.specs.Agreement.{Gives};
 ghost use Rattle.pytoml.specs.Members.{with_elements};
-ghost use Rattle.pylock_readers.specs.Lock.Packages.{HasRead};
 ghost use Rattle.pylock_readers.specs.Lock.Reading.{document_in};
-ghost use Rattle.pylock_diff.specs.Compared.{compared_in, compared_of, head_of, item_codes};
-ghost use Rattle.pylock_diff.specs.Compared.{items_at};
-ghost use Rattle.pytoml_code.specs.Proper.{AreProper, HasProper};
+ghost use Rattle.pylock_diff.specs.Compared.{compared_in, compared_of, entry_codes};
+ghost use Rattle.pylock_diff.specs.Inner.Kept.{HasKept, entries_after, kept_of};
+ghost use Rattle.pytoml_code.specs.Proper.{HasProper};
 
 use crate::codes::Codes;
 use crate::head::{HeadKey, head_keys};
@@ -45,14 +44,19 @@ impl Drop for EntryCodes {
 
 impl EntryCodes {
     /// Those of a table.
-    fn of(alloc: Global, table: &Table) -> Result<EntryCodes, AllocError> {
+    fn of(alloc: Global, table: &Table) -> Result<EntryCodes, AllocError>
+        ensures codes { IfOk result (λ codes. codes ≡ entry_codes (table (table_view table.now))) }
+        ensures proper { OnOk result (HasProper (table_view table.now)) }
+    {
         let keys = Codes::of(alloc, table)?;
         let inner = inner_codes(alloc, table)?;
         Ok(EntryCodes { keys, inner })
     }
 
     /// Those of a value, which is a table in a lock, and otherwise has none.
-    fn of_value(alloc: Global, value: &Value) -> Result<EntryCodes, AllocError> {
+    fn of_value(alloc: Global, value: &Value) -> Result<EntryCodes, AllocError>
+        ensures { IfOk result (λ codes. codes ≡ entry_codes (view value.now)) }
+    {
         match value {
             Value::Table(table) => EntryCodes::of(alloc, table),
             _ => Ok(EntryCodes::new(Codes::new(alloc), alloc)),
@@ -60,18 +64,24 @@ impl EntryCodes {
     }
 
     /// Keys, and none of sources.
-    pub(crate) fn new(keys: Codes, alloc: Global) -> EntryCodes {
+    pub(crate) fn new(keys: Codes, alloc: Global) -> EntryCodes
+        ensures { result ≡ record { keys = keys; inner = [] } }
+    {
         let inner = Codes::new(alloc);
         EntryCodes { keys, inner }
     }
 
     /// The keys of the table.
-    pub(crate) fn keys(&self) -> &Codes {
+    pub(crate) fn keys(&self) -> &Codes
+        ensures { result.now ≡ self.now.keys }
+    {
         &self.keys
     }
 
     /// The keys of sources.
-    pub(crate) fn inner(&self) -> &Codes {
+    pub(crate) fn inner(&self) -> &Codes
+        ensures { result.now ≡ self.now.inner }
+    {
         &self.inner
     }
 }
@@ -83,6 +93,22 @@ pub struct Compared {
     lock: Lock,
     head: Vec<HeadKey>,
     entries: Vec<EntryCodes>,
+}
+
+impl Model for Compared {
+    ghost use Rattle.std.specs.Coded.{codes};
+    ghost use Rattle.pymark_core.specs.Marker.Coding.{marker_code};
+    ghost use Rattle.pylock_diff.specs.Compared.{ComparedValue};
+
+    ghost Value = { ComparedValue };
+
+    ghost coded = { Prim.hlevel (codes, marker_code) };
+
+    ghost view = { λ c. record {
+      lock = c.lock;
+      head = c.head.items;
+      entries = c.entries.items;
+    } };
 }
 
 impl Drop for Compared {
@@ -97,12 +123,16 @@ impl Drop for Compared {
 
 impl Compared {
     /// The lock.
-    pub fn lock(&self) -> &Lock {
+    pub fn lock(&self) -> &Lock
+        ensures { result.now ≡ self.now.lock }
+    {
         &self.lock
     }
 
     /// Gives up the lock.
-    pub fn into_lock(self) -> Lock {
+    pub fn into_lock(self) -> Lock
+        ensures { result ≡ self.lock }
+    {
         let Compared {
             lock,
             head: _,
@@ -111,11 +141,15 @@ impl Compared {
         lock
     }
 
-    pub(crate) fn head(&self) -> &[HeadKey] {
+    pub(crate) fn head(&self) -> &[HeadKey]
+        ensures { result.now ≡ self.now.head }
+    {
         self.head.as_slice()
     }
 
-    pub(crate) fn entries(&self) -> &[EntryCodes] {
+    pub(crate) fn entries(&self) -> &[EntryCodes]
+        ensures { result.now ≡ self.now.entries }
+    {
         self.entries.as_slice()
     }
 }
@@ -124,7 +158,12 @@ impl Compared {
 ///
 /// The bytes are read once. It takes the memory of [`Lock::read`], and for each key the key and the
 /// code of its value, which is about its text.
-pub fn read_compared(alloc: Global, bytes: &[u8]) -> Result<Compared, LockError> {
+pub fn read_compared(alloc: Global, bytes: &[u8]) -> Result<Compared, LockError>
+    ensures gives { Gives LockError.Memory (λ compared. compared) result
+        (compared_of bytes.now) }
+    ensures proper { OnOk result ((document : Members) → document_in bytes.now ≡ Ok document
+        → HasProper document) }
+{
     match read_document_without(alloc, bytes, Kept::new(alloc))? {
         (document, Some(kept)) => kept.with(alloc, document),
         (document, None) => Kept::new(alloc).with(alloc, document),
@@ -151,7 +190,9 @@ impl Drop for Kept {
 
 impl Kept {
     /// Before the first table.
-    fn new(alloc: Global) -> Kept {
+    fn new(alloc: Global) -> Kept
+        ensures { HasKept result no_items }
+    {
         Kept {
             alloc,
             packages: Packages::new(alloc),
@@ -160,7 +201,13 @@ impl Kept {
     }
 
     /// The lock with its document, from which these tables were taken.
-    fn with(self, alloc: Global, document: Table) -> Result<Compared, LockError> {
+    fn with(self, alloc: Global, document: Table) -> Result<Compared, LockError>
+        ensures gives { (taken : Items) → HasKept self taken
+            → Gives LockError.Memory (λ compared. compared) result
+            (compared_in (with_elements (codes "packages") taken (table_view document))) }
+        ensures proper { (taken : Items) → HasKept self taken → OnOk result
+            (HasProper (with_elements (codes "packages") taken (table_view document))) }
+    {
         let Kept {
             alloc: _,
             packages,
@@ -180,7 +227,7 @@ impl Kept {
 impl Elements for Kept {
     ghost key = { codes "packages" };
 
-    ghost holds = { λ kept taken. HasRead kept.packages taken };
+    ghost holds = { HasKept };
 
     fn key() -> &'static str {
         "packages"
@@ -199,7 +246,10 @@ fn entries_after(
     alloc: Global,
     entries: Vec<EntryCodes>,
     document: &Table,
-) -> Result<Vec<EntryCodes>, AllocError> {
+) -> Result<Vec<EntryCodes>, AllocError>
+    ensures { IfOk result (λ after. after.items
+        ≡ entries_after entries.items (table_view document.now)) }
+{
     if !entries.is_empty() {
         return Ok(entries);
     }
@@ -210,7 +260,9 @@ fn entries_after(
 }
 
 /// Those of each value, unless a lock may not have so many.
-fn entries_of(alloc: Global, values: &[Value]) -> Result<Vec<EntryCodes>, AllocError> {
+fn entries_of(alloc: Global, values: &[Value]) -> Result<Vec<EntryCodes>, AllocError>
+    ensures { IfOk result (λ entries. entries.items ≡ kept_of (items_view values.now)) }
+{
     let mut entries = Vec::new(alloc);
     if values.len() > MOST_ENTRIES {
         return Ok(entries);

@@ -4,10 +4,10 @@ ghost use Rattle.std.specs.Prelude.{◌≡◌, ◌++◌, IfOk, OnOk, map, string
 ghost use Rattle.std.specs.List.{flat_map};
 ghost use Rattle.std.specs.Option.{option_copied};
 ghost use Rattle.pylock_readers.specs.Text.{text_pairs};
-ghost use Rattle.pylock_audit.specs.Url.{shown_place};
 ghost use Rattle.pylock_diff.specs.Files.{archive_hash_changes, archives_label, file_hash_changes};
 ghost use Rattle.pylock_diff.specs.Files.{files_label, hashed_archives, hashed_files, if_both};
 ghost use Rattle.pylock_diff.specs.Files.{if_there, paths_of, place_change, places_text, urls_of};
+ghost use Rattle.pylock_diff.specs.Files.{shown_places};
 ghost use Rattle.pylock_diff.specs.Hashes.{are_same_sets};
 ghost use Rattle.pylock_diff.specs.Inner.Lent.{archive_row, file_row, hash_row};
 ghost use Rattle.pylock_compare.specs.Lent.{lent_texts};
@@ -342,7 +342,10 @@ fn push_places(
     list: &mut Vec<String>,
     path: Option<&str>,
     url: Option<&str>,
-) -> Result<(), AllocError> {
+) -> Result<(), AllocError>
+    ensures { OnOk result (map string_bytes list.new.items ≡ map string_bytes list.old.items
+        ++ shown_places (record { url = option_copied url.entry; path = option_copied path.entry })) }
+{
     if path.is_some() {
         list.push(shown_place(alloc, path, None)?)?;
     }

@@ -1,17 +1,45 @@
 //! The head of a lock, key by key.
 
+ghost use Rattle.std.specs.Prelude.{◌≡◌, ◌++◌, ◌∷◌, [], List, ℕ, IfOk, OnOk, filter, map, not};
+ghost use Rattle.std.specs.Prelude.{option_map, string_bytes};
+ghost use Rattle.std.specs.Option.{option_copied};
+ghost use Rattle.toml.specs.View.{items_view, table_view, view};
+ghost use Rattle.pylock_compare.specs.Lent.{found, lent_texts};
+ghost use Rattle.pylock_compare.specs.Rows.{Row, values_at};
+ghost use Rattle.pylock_compare.specs.Texts.{are_alike};
+ghost use Rattle.pylock_diff.specs.Compared.{head_of, is_head_key};
+ghost use Rattle.pylock_diff.specs.Head.{HeadKey as HeadKeyValue, head_changes, head_key};
+ghost use Rattle.pylock_diff.specs.Head.{head_rows, is_list_key, key_change, keys_changes};
+ghost use Rattle.pylock_diff.specs.Head.{list_text, joined_texts};
+ghost use Rattle.pylock_diff.specs.Inner.Lent.{key_row, lent_keys};
+ghost use Rattle.pytoml_code.specs.Proper.{HasProper};
+
 use crate::change::{Change, ChangeKind, push_change};
 use crate::texts::owned;
 use pylock_compare::Sides;
 use pytoml_code::{push_code, shown_code};
 use std::alloc::{AllocError, Global};
+use std::marker::Model;
 use toml::{Table, Value};
 
-/// A key of the head: the code of its value, and how it is shown.
+/// A key of the head: the code of its value, and how it is shown. Contracts see the three.
 pub(crate) struct HeadKey {
     key: String,
     code: Vec<u8>,
     text: String,
+}
+
+impl Model for HeadKey {
+    ghost use Rattle.std.specs.Prelude.{string_bytes};
+    ghost use Rattle.pylock_diff.specs.Head.{HeadKey as HeadKeyValue};
+
+    ghost Value = { HeadKeyValue };
+
+    ghost view = { λ h. record {
+      key = string_bytes h.key;
+      code = h.code.items;
+      text = string_bytes h.text;
+    } };
 }
 
 impl Drop for HeadKey {
@@ -25,7 +53,9 @@ impl Drop for HeadKey {
 }
 
 /// The keys of the head of a document, but `packages`, in order.
-pub(crate) fn head_keys(alloc: Global, document: &Table) -> Result<Vec<HeadKey>, AllocError> {
+pub(crate) fn head_keys(alloc: Global, document: &Table) -> Result<Vec<HeadKey>, AllocError>
+    ensures keys { IfOk result (λ keys. keys.items ≡ head_of (table_view document.now)) }
+{
     let mut keys = Vec::new(alloc);
     for (key, value) in document.iter() {
         if is_compared(key.as_str()) {
@@ -36,11 +66,15 @@ pub(crate) fn head_keys(alloc: Global, document: &Table) -> Result<Vec<HeadKey>,
 }
 
 /// Whether a key of the document is compared as one of the head.
-fn is_compared(key: &str) -> bool {
+fn is_compared(key: &str) -> bool
+    ensures { result ≡ is_head_key key.now }
+{
     !matches!(key, "packages" | "created-by")
 }
 
-fn head_key(alloc: Global, key: &str, value: &Value) -> Result<HeadKey, AllocError> {
+fn head_key(alloc: Global, key: &str, value: &Value) -> Result<HeadKey, AllocError>
+    ensures { IfOk result (λ one. one ≡ head_key key.now (view value.now)) }
+{
     let mut code = Vec::new(alloc);
     push_code(&mut code, value)?;
     let text = if is_list_key(key) {
@@ -61,7 +95,9 @@ const LISTS: [&str; 5] = [
     "default-groups",
 ];
 
-fn is_list_key(key: &str) -> bool {
+fn is_list_key(key: &str) -> bool
+    ensures { result ≡ is_list_key key.now }
+{
     matches!(
         key,
         "requires-python" | "environments" | "extras" | "dependency-groups" | "default-groups"
@@ -69,7 +105,9 @@ fn is_list_key(key: &str) -> bool {
 }
 
 /// A text as it is, a list of texts joined by `,`, and `[]` where it is empty.
-fn list_text(alloc: Global, value: &Value) -> Result<String, AllocError> {
+fn list_text(alloc: Global, value: &Value) -> Result<String, AllocError>
+    ensures { IfOk result (λ text. string_bytes text ≡ list_text (view value.now)) }
+{
     match value {
         Value::String(text) => String::from_str(alloc, text.as_str()),
         Value::Array(items) if items.is_empty() => String::from_str(alloc, "[]"),
@@ -78,7 +116,9 @@ fn list_text(alloc: Global, value: &Value) -> Result<String, AllocError> {
     }
 }
 
-fn items_text(alloc: Global, items: &[Value]) -> Result<String, AllocError> {
+fn items_text(alloc: Global, items: &[Value]) -> Result<String, AllocError>
+    ensures { IfOk result (λ text. string_bytes text ≡ joined_texts (items_view items.now)) }
+{
     let mut text = String::new(alloc);
     for (place, item) in items.iter().enumerate() {
         if place > 0 {
@@ -95,7 +135,10 @@ pub(crate) fn push_head(
     changes: &mut Vec<Change>,
     old: &[HeadKey],
     new: &[HeadKey],
-) -> Result<(), AllocError> {
+) -> Result<(), AllocError>
+    ensures { OnOk result (changes.new.items
+        ≡ changes.old.items ++ head_changes old.now new.now) }
+{
     let olds = head_rows(alloc, old)?;
     let news = head_rows(alloc, new)?;
     let sides = Sides::new(alloc, olds.as_slice(), news.as_slice())?;
@@ -108,7 +151,9 @@ pub(crate) fn push_head(
 fn head_rows<'a>(
     alloc: Global,
     keys: &'a [HeadKey],
-) -> Result<Vec<(&'a str, &'a HeadKey)>, AllocError> {
+) -> Result<Vec<(&'a str, &'a HeadKey)>, AllocError>
+    ensures { IfOk result (λ rows. map key_row rows.items ≡ head_rows keys.now) }
+{
     let mut rows = Vec::with_capacity(alloc, keys.len())?;
     for key in keys {
         rows.push((key.key.as_str(), key))?;
@@ -117,7 +162,10 @@ fn head_rows<'a>(
 }
 
 /// Those of which no list is shown.
-fn other_keys<'a>(alloc: Global, keys: &[&'a str]) -> Result<Vec<&'a str>, AllocError> {
+fn other_keys<'a>(alloc: Global, keys: &[&'a str]) -> Result<Vec<&'a str>, AllocError>
+    ensures { IfOk result (λ others. lent_texts others.items
+        ≡ filter (λ key. not (is_list_key key)) (lent_texts keys.now)) }
+{
     let mut others = Vec::new(alloc);
     for key in keys {
         if !is_list_key(key) {
@@ -132,7 +180,13 @@ fn push_keys(
     changes: &mut Vec<Change>,
     sides: &Sides<'_, &HeadKey>,
     keys: &[&str],
-) -> Result<(), AllocError> {
+) -> Result<(), AllocError>
+    ensures { (olds news : List (Row HeadKeyValue))
+        → ((key : List ℕ) → lent_keys (found sides.now.olds key) ≡ values_at key olds)
+        → ((key : List ℕ) → lent_keys (found sides.now.news key) ≡ values_at key news)
+        → OnOk result (changes.new.items
+        ≡ changes.old.items ++ keys_changes olds news (lent_texts keys.now)) }
+{
     for key in keys {
         let old = sides.old(key).first();
         let new = sides.new_values(key).first();
@@ -148,7 +202,10 @@ fn push_key(
     key: &str,
     old: Option<&HeadKey>,
     new: Option<&HeadKey>,
-) -> Result<(), AllocError> {
+) -> Result<(), AllocError>
+    ensures { OnOk result (changes.new.items ≡ changes.old.items
+        ++ key_change key.now (option_copied old.entry) (option_copied new.entry)) }
+{
     if are_same(old, new) {
         return Ok(());
     }
@@ -157,7 +214,10 @@ fn push_key(
     push_change(alloc, changes, ChangeKind::Head, key, from, to)
 }
 
-fn are_same(old: Option<&HeadKey>, new: Option<&HeadKey>) -> bool {
+fn are_same(old: Option<&HeadKey>, new: Option<&HeadKey>) -> bool
+    ensures { result ≡ are_alike (option_map (λ one. one.code) (option_copied old.entry) ∷ [])
+        (option_map (λ one. one.code) (option_copied new.entry) ∷ []) }
+{
     match (old, new) {
         (Some(old), Some(new)) => old.code.as_slice() == new.code.as_slice(),
         (None, None) => true,
@@ -165,6 +225,8 @@ fn are_same(old: Option<&HeadKey>, new: Option<&HeadKey>) -> bool {
     }
 }
 
-fn text_of(key: Option<&HeadKey>) -> Option<&str> {
+fn text_of(key: Option<&HeadKey>) -> Option<&str>
+    ensures { option_copied result ≡ option_map (λ one. one.text) (option_copied key.entry) }
+{
     Some(key?.text.as_str())
 }

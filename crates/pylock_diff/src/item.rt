@@ -5,7 +5,9 @@ ghost use Rattle.std.specs.List.{flat_map};
 ghost use Rattle.std.specs.Option.{option_copied};
 ghost use Rattle.pylock_core.specs.Session.Picks.{lent_named, lent_source};
 ghost use Rattle.pylock_diff.specs.Inner.Lent.{item_row, lent_item};
-ghost use Rattle.pylock_diff.specs.Item.{entry_items, pick_item, pick_items};
+ghost use Rattle.pylock_diff.specs.Inner.Picked.{lent_pick, picked_codes, picked_entries};
+ghost use Rattle.pylock_diff.specs.Inner.Picked.{picked_entry, picked_row};
+ghost use Rattle.pylock_diff.specs.Item.{entry_items};
 ghost use Rattle.pylock_diff.specs.Versions.{text_key, version_key};
 
 use crate::codes::Codes;
@@ -108,7 +110,10 @@ pub(crate) fn picked<'a>(
     alloc: Global,
     session: &'a Session,
     picks: &[Pick],
-) -> Result<Vec<Picked<'a>>, AllocError> {
+) -> Result<Vec<Picked<'a>>, AllocError>
+    ensures { IfOk result (λ list. map lent_pick list.items
+        ≡ picked_entries session.now.state picks.now) }
+{
     let mut list = Vec::with_capacity(alloc, picks.len())?;
     for pick in picks {
         push_picked(&mut list, session, pick)?;
@@ -121,7 +126,10 @@ fn push_picked<'a>(
     list: &mut Vec<Picked<'a>>,
     session: &'a Session,
     pick: &Pick,
-) -> Result<(), AllocError> {
+) -> Result<(), AllocError>
+    ensures { OnOk result (map lent_pick list.new.items
+        ≡ map lent_pick list.old.items ++ picked_entry session.now.state pick.now) }
+{
     let Some(package) = session.entry(pick.id) else {
         return Ok(());
     };
@@ -137,7 +145,10 @@ pub(crate) fn pick_items<'a>(
     alloc: Global,
     picks: &[Picked<'a>],
     codes: &'a [EntryCodes],
-) -> Result<Vec<(&'a str, Item<'a>)>, AllocError> {
+) -> Result<Vec<(&'a str, Item<'a>)>, AllocError>
+    ensures { IfOk result (λ rows. codes.now ≡ map picked_codes (map lent_pick picks.now)
+        → map item_row rows.items ≡ map picked_row (map lent_pick picks.now)) }
+{
     let mut rows = Vec::with_capacity(alloc, picks.len())?;
     for (place, pick) in picks.iter().enumerate() {
         if let Some(codes) = codes.get(place) {
@@ -229,12 +240,16 @@ impl<'a> Keyed<'a> {
     }
 
     /// The keys of its sources of which no other line tells.
-    pub(crate) fn inner(&self) -> &'a Codes {
+    pub(crate) fn inner(&self) -> &'a Codes
+        ensures { result.now ≡ self.now.inner }
+    {
         self.item.codes.inner()
     }
 
     /// The keys of its table.
-    pub(crate) fn keys(&self) -> &'a Codes {
+    pub(crate) fn keys(&self) -> &'a Codes
+        ensures { result.now ≡ self.now.keys }
+    {
         self.item.codes.keys()
     }
 

@@ -1,6 +1,6 @@
 //! What is told of each name.
 
-ghost use Rattle.std.specs.Prelude.{◌≡◌, ◌++◌, IfOk, OnOk, map};
+ghost use Rattle.std.specs.Prelude.{◌≡◌, ◌++◌, ◌⊎◌, [], IfOk, OnOk, map};
 ghost use Rattle.pylock_diff.specs.Changes.{item_changes, name_changes, rest_changes, row_changes, shared_changes};
 ghost use Rattle.pylock_diff.specs.Files.{hash_changes, place_changes};
 ghost use Rattle.pylock_diff.specs.Inner.Lent.{item_row, lent_items};
@@ -67,7 +67,11 @@ fn push_lone<'a>(
     name: &str,
     olds: &[Item<'a>],
     news: &[Item<'a>],
-) -> Result<(), AllocError> {
+) -> Result<(), AllocError>
+    ensures { OnOk result ((lent_items olds.now ≡ []) ⊎ (lent_items news.now ≡ [])
+        → changes.new.items ≡ changes.old.items
+        ++ name_changes name.now (lent_items olds.now) (lent_items news.now)) }
+{
     let from = versions_text(alloc, with_keys(alloc, olds)?.as_slice())?;
     let to = versions_text(alloc, with_keys(alloc, news)?.as_slice())?;
     if olds.is_empty() && news.is_empty() {

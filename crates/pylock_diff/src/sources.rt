@@ -1,16 +1,16 @@
 //! The sources of a name that one lock alone has.
 
 ghost use Rattle.std.specs.Prelude.{◌≡◌, ◌++◌, ◌∷◌, ◌||◌, [], IfOk, List, OnOk, None, Some, filter};
-ghost use Rattle.std.specs.Prelude.{map, not, string_bytes};
+ghost use Rattle.std.specs.Prelude.{if◌then◌else◌, map, not, string_bytes};
 ghost use Rattle.std.specs.BTreeSet.{contains};
-ghost use Rattle.std.specs.List.{list_any};
+ghost use Rattle.std.specs.List.{flat_map, list_any};
 ghost use Rattle.std.specs.Option.{option_copied};
 ghost use Rattle.pylock_core.specs.Session.Picks.{lent_source};
 ghost use Rattle.pylock_diff.specs.Change.{change_of};
-ghost use Rattle.pylock_diff.specs.Inner.Others.{HasSources, HasVersions};
+ghost use Rattle.pylock_diff.specs.Inner.Others.{AreOthers, HasSources, HasVersions, HasWholes};
 ghost use Rattle.pylock_diff.specs.Item.{ItemValue};
-ghost use Rattle.pylock_diff.specs.Sources.{called, file_changes, identity, lone_in, lone_sources};
-ghost use Rattle.pylock_diff.specs.Sources.{source_key, source_text};
+ghost use Rattle.pylock_diff.specs.Sources.{called, condition_key, file_changes, has_counterpart};
+ghost use Rattle.pylock_diff.specs.Sources.{identity, lone_in, lone_sources, source_text, whole_key};
 ghost use Rattle.pylock_compare.specs.Texts.{Texts, are_alike, texts_cmp};
 ghost use Rattle.pylock_diff.specs.Versions.{version_key};
 ghost use Rattle.pylock_diff.specs.declared.change.ChangeKind.TheVariants.{File};
@@ -241,7 +241,11 @@ fn push_lone_of<'x>(
     list: &mut Vec<PickedSource<'x>>,
     others: &Others<'x>,
     item: &'x Keyed<'x>,
-) -> Result<(), AllocError> {
+) -> Result<(), AllocError>
+    ensures { OnOk result ((known : List ItemValue) → AreOthers others.now known
+        → map lent_source list.new.items
+        ≡ map lent_source list.old.items ++ lone_in known item.now) }
+{
     if !others.versions.contains(&version_only(alloc, item)?) {
         return Ok(());
     }
@@ -259,7 +263,11 @@ fn push_unless_moved<'x>(
     list: &mut Vec<PickedSource<'x>>,
     others: &Others<'x>,
     item: &'x Keyed<'x>,
-) -> Result<(), AllocError> {
+) -> Result<(), AllocError>
+    ensures { OnOk result ((known : List ItemValue) → AreOthers others.now known
+        → map lent_source list.new.items ≡ map lent_source list.old.items
+        ++ (if has_counterpart known item.now then [] else item.now.sources)) }
+{
     if others.wholes.contains(&whole_key(alloc, item)?) {
         return Ok(());
     }

@@ -5,6 +5,7 @@ use Rattle.pyver_core.specs.Set.Normal.{set_text}
 use Rattle.pylock_readers.specs.Entry.{ArchiveValue, EntryValue, FileValue}
 use Rattle.pylock_core.specs.Session.Picks.{SourceValue, lent_source, sources}
 use Rattle.pylock_core.specs.declared.picked.PickedSource.{PickedSource}
+use Rattle.pylock_diff.specs.Head.{HeadKey}
 use Rattle.pylock_diff.specs.Item.{ItemValue}
 use Rattle.pylock_compare.specs.Rows.{Row}
 use Rattle.pylock_diff.specs.declared.item.Item.{Item}
@@ -47,6 +48,12 @@ lent_files files = map (λ file. file.now) files
 
 abbrev pub lent_archives : List (Bor ArchiveValue) → List ArchiveValue
 lent_archives archives = map (λ archive. archive.now) archives
+
+abbrev pub lent_keys : List (Bor HeadKey) → List HeadKey
+lent_keys keys = map (λ key. key.now) keys
+
+abbrev pub key_row : Bor (List ℕ) × Bor HeadKey → Row HeadKey
+key_row row = (row.0.now, row.1.now)
 
 abbrev pub hash_row : Bor (List ℕ) × Bor (List ℕ) → Row (List ℕ)
 hash_row row = (row.0.now, row.1.now)

@@ -8,6 +8,7 @@ use Rattle.pylock_compare.specs.Texts.{Texts, are_alike, texts_cmp}
 use Rattle.pylock_diff.specs.Item.{ItemValue}
 use Rattle.pylock_diff.specs.Sources.{condition_key, identity, whole_key}
 use Rattle.pylock_diff.specs.Versions.{version_key}
+use Rattle.pylock_diff.specs.declared.sources.Others.{Others}
 
 -- the set has the versions of these items
 abbrev pub HasVersions : BTreeSet Texts → List ItemValue → Type 0
@@ -32,3 +33,9 @@ HasSources table items =
     (condition key : Texts) → holds_at table condition key
     ≡ list_any (λ item. are_alike condition (condition_key item)
     && list_any (λ source. are_alike key (identity source)) item.sources) items
+
+-- what the other lock has of a name
+pub record AreOthers (others : Others) (items : List ItemValue) : Type 0 where
+  pub versions : HasVersions others.versions items
+  pub wholes : HasWholes others.wholes items
+  pub sources : HasSources others.sources items
