@@ -9,7 +9,7 @@ ghost use Rattle.pylock_diff.specs.Item.{pick_items};
 use crate::change::{Change, ChangeKind};
 use crate::head::push_head;
 use crate::compared::Compared;
-use crate::item::{entry_items, pick_items, picked};
+use crate::item::{entries_picked, entry_items, pick_items};
 use crate::names::push_items;
 use crate::picks::pick_codes;
 use pylock_core::{Answer, Pick, Session, fault_word};
@@ -73,8 +73,8 @@ fn picks_changes(
         (pick_items new.entry.0.now.state new.entry.1.now)) }
 {
     let mut changes = Vec::new(alloc);
-    let before = picked(alloc, old.0, old.1)?;
-    let after = picked(alloc, new.0, new.1)?;
+    let before = entries_picked(alloc, old.0, old.1)?;
+    let after = entries_picked(alloc, new.0, new.1)?;
     let old_codes = pick_codes(alloc, before.as_slice())?;
     let new_codes = pick_codes(alloc, after.as_slice())?;
     let olds = pick_items(alloc, before.as_slice(), old_codes.as_slice())?;

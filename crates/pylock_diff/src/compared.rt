@@ -44,12 +44,13 @@ impl Drop for EntryCodes {
 
 impl EntryCodes {
     /// Those of a table.
-    fn of(alloc: Global, table: &Table) -> Result<EntryCodes, AllocError>
-        ensures codes { IfOk result (λ codes. codes ≡ entry_codes (table (table_view table.now))) }
-        ensures proper { OnOk result (HasProper (table_view table.now)) }
+    fn of(alloc: Global, members: &Table) -> Result<EntryCodes, AllocError>
+        ensures codes { IfOk result (λ codes. codes
+            ≡ entry_codes (table (table_view members.now))) }
+        ensures proper { OnOk result (HasProper (table_view members.now)) }
     {
-        let keys = Codes::of(alloc, table)?;
-        let inner = inner_codes(alloc, table)?;
+        let keys = Codes::of(alloc, members)?;
+        let inner = inner_codes(alloc, members)?;
         Ok(EntryCodes { keys, inner })
     }
 

@@ -106,7 +106,7 @@ pub(crate) struct Picked<'a> {
 }
 
 /// The picks of a plan, in its order.
-pub(crate) fn picked<'a>(
+pub(crate) fn entries_picked<'a>(
     alloc: Global,
     session: &'a Session,
     picks: &[Pick],

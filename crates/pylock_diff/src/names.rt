@@ -1,7 +1,8 @@
 //! What is told of each name.
 
 ghost use Rattle.std.specs.Prelude.{◌≡◌, ◌++◌, ◌⊎◌, [], IfOk, OnOk, map};
-ghost use Rattle.pylock_diff.specs.Changes.{item_changes, name_changes, rest_changes, row_changes, shared_changes};
+ghost use Rattle.pylock_diff.specs.Changes.{item_changes, name_changes, rest_changes, row_changes};
+ghost use Rattle.pylock_diff.specs.Changes.{shared_changes};
 ghost use Rattle.pylock_diff.specs.Files.{hash_changes, place_changes};
 ghost use Rattle.pylock_diff.specs.Inner.Lent.{item_row, lent_items};
 
@@ -10,11 +11,11 @@ use crate::conditions::push_condition_change;
 use crate::file_changes::{push_archive_hashes, push_file_hashes};
 use crate::files::{archives_of, files_of};
 use crate::item::{Item, Keyed, with_keys};
-use pylock_compare::Sides;
 use crate::keys::{push_inner_keys, push_keys};
 use crate::partners::{have_same_keys, without_partners};
 use crate::sources::push_lone_sources;
 use crate::versions::{push_version_change, versions_text};
+use pylock_compare::Sides;
 use std::alloc::{AllocError, Global};
 
 /// Adds what changed of items, each under its name.

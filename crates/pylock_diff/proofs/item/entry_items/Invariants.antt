@@ -3,5 +3,5 @@ use Rattle.pylock_diff.specs.Inner.Lent.{item_row}
 use Rattle.pylock_diff.specs.Item.{entry_items}
 use Rattle.pylock_diff.proofs.item.entry_items.Given as goal
 
-abbrev pub invariant-loop-package : goal.invariant-loop-package
-invariant-loop-package l = map item_row l.rows.items ≡ entry_items (take l.package-index l.entries)
+abbrev pub invariant-loop-place : goal.invariant-loop-place
+invariant-loop-place l = map item_row l.rows.items ≡ entry_items (take l.place l.entries) l.codes

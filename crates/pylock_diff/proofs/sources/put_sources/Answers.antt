@@ -4,7 +4,7 @@ use Rattle.pylock_core.specs.Session.Picks.{SourceValue, lent_source}
 use Rattle.pylock_core.specs.declared.picked.PickedSource.{PickedSource}
 use Rattle.pylock_diff.specs.Sources.{source_key}
 use Rattle.pylock_compare.specs.Texts.{are_alike, texts_cmp}
-use Rattle.pylock_diff.proofs.KeyLemmas.{any_grown, any_mapped}
+use Rattle.pylock_compare.proofs.KeyLemmas.{any_grown, any_mapped}
 use Rattle.pylock_diff.proofs.sources.put_sources.Goals as goal
 
 pub loop-source-preserved : goal.loop-source-preserved

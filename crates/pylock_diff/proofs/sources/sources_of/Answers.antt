@@ -5,7 +5,7 @@ use Rattle.pylock_core.specs.Session.Picks.{SourceValue}
 use Rattle.pylock_diff.specs.Item.{ItemValue}
 use Rattle.pylock_diff.specs.Sources.{source_key}
 use Rattle.pylock_compare.specs.Texts.{are_alike, texts_cmp}
-use Rattle.pylock_diff.proofs.KeyLemmas.{any_joined}
+use Rattle.pylock_compare.proofs.KeyLemmas.{any_joined}
 use Rattle.pylock_diff.proofs.sources.sources_of.Goals as goal
 
 pub loop-item-preserved : goal.loop-item-preserved

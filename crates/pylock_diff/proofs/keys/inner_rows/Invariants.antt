@@ -1,0 +1,7 @@
+use Rattle.std.proofs.Common.{◌≡◌, map, take}
+use Rattle.pylock_diff.specs.Inner.Placed.{place_row}
+use Rattle.pylock_diff.specs.Keys.{placed_rows}
+use Rattle.pylock_diff.proofs.keys.inner_rows.Given as goal
+
+abbrev pub invariant-loop-place : goal.invariant-loop-place
+invariant-loop-place l = map place_row l.rows.items ≡ placed_rows (λ item. item.inner) 0 (take l.place l.items)
