@@ -1,15 +1,14 @@
 -- The order of texts that are lent is that of the texts; and sets of lists of texts.
-use Rattle.std.proofs.Common.{Less, Equal, Greater, ◌≡◌, ◌∙◌, ◌++◌, ◌||◌, ℕ, ◌+◌, ◌<◌, Bool, true, false, cond, not, Bor, List, [], ◌∷◌, length, get_or, map, take, Option, Some, None, refl, sym, ap, append-nil}
+use Rattle.std.proofs.Common.{Less, Equal, Greater, ◌≡◌, ◌∙◌, ◌||◌, ℕ, ◌+◌, ◌<◌, Bool, true, false, Bor, List, [], ◌∷◌, length, get_or, map, take, Option, Some, None, refl, sym, ap}
 use Rattle.std.proofs.Math.Bool.{or-false}
-use Rattle.std.proofs.lemmas.Grind.{flat_map-append}
 use Rattle.std.proofs.lemmas.List.{take_more}
 use Rattle.std.proofs.lemmas.List.Folds.{list_any-append}
-use Rattle.std.specs.BTreeSet.{BTreeSet, contains, insert_key}
+use Rattle.std.specs.BTreeSet.{insert_key}
 use Rattle.std.specs.Cmp.{Equal-is, eq_by_cmp_equiv}
 use Rattle.std.specs.Cmp.Derive.Mapped.{lex_map}
 use Rattle.std.specs.Cmp.Lexicographic.{slice_cmp}
 use Rattle.std.specs.FinSet.{nat_cmp-IsAntisymmetric, slice_cmp-IsAntisymmetric}
-use Rattle.std.specs.List.{filter, flat_map, list_any}
+use Rattle.std.specs.List.{list_any}
 use Rattle.std.specs.Option.{option_cmp, option_copied}
 use Rattle.std.specs.Ordering.{match_ordering, nat_cmp}
 use Rattle.pylock_compare.specs.Texts.{Texts, are_alike, texts_cmp}

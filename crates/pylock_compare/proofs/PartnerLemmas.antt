@@ -1,12 +1,10 @@
 -- Partners, by how often each key stands.
-use Rattle.std.proofs.Common.{◌≡◌, ◌∙◌, ◌++◌, ◌||◌, ℕ, ◌+◌, ◌-◌, ◌<◌, ◌≤◌, Bool, true, false, cond, not, nat_lt, unwrap_or, Option, Some, None, List, [], ◌∷◌, length, map, zero, suc, refl, sym, ap, inl, inr, arith}
+use Rattle.std.proofs.Common.{◌≡◌, ◌∙◌, ◌||◌, ℕ, ◌+◌, ◌-◌, ◌<◌, ◌≤◌, Bool, true, false, cond, not, nat_lt, unwrap_or, Some, List, [], ◌∷◌, length, map, suc, refl, sym, ap, inl, inr, arith}
 use Rattle.std.proofs.lemmas.Bool.{cases_Bool, false≢true}
 use Rattle.std.proofs.lemmas.Bool.Decides.{nat_tests}
-use Rattle.std.proofs.lemmas.List.Sorted.{IsPermutation-cons, IsPermutation-middle, IsPermutation-refl, IsPermutation-sym, IsPermutation-trans, sum_by-IsPermutation}
 use Rattle.std.specs.BTreeMap.{BTreeMap, Updates, get}
 use Rattle.std.specs.List.{list_any}
-use Rattle.std.specs.List.Sorted.{IsPermutation}
-use Rattle.pylock_compare.specs.Counts.{Counts, count, count_in}
+use Rattle.pylock_compare.specs.Counts.{count, count_in}
 use Rattle.pylock_compare.specs.Partners.{are_alone, where_true, without_one}
 use Rattle.pylock_compare.specs.Texts.{Texts, are_alike, texts_cmp}
 use Rattle.pylock_compare.proofs.KeyLemmas.{alike_equal, alike_itself}
@@ -121,6 +119,12 @@ count_bound key (k ∷ keys) = by (are_alike key k) (count_bound key keys)
     by true below = omega arith
     by false below = omega arith
 
+-- a key at the front stands once at least
+pub stands_once : (key : Texts) (before rest : List Texts) → before ≡ key ∷ rest → 1 ≤ count key before
+stands_once key before rest front =
+    let split : count key before ≡ 1 + count key rest = ap (count key) front ∙ ap (λ b. cond b 1 0 + count key rest) (alike_itself key) in
+    omega arith
+
 -- ---- who is alone
 module _ {V : Type 0} (key : V → Texts) where
   -- where none is alone, each key stands as often among the others
@@ -139,6 +143,7 @@ module _ {V : Type 0} (key : V → Texts) where
     where
       not_none : (x : V) (xs : List V) → x ∷ xs ≡ [] → ⊥
       not_none x xs e = absurd cc
+
       one_more : (b : Bool) (n left m : ℕ) → n ≤ left → left ≡ m - cond b 1 0 → (b ≡ true → nat_lt 0 m ≡ true) → cond b 1 0 + n ≤ m
       one_more true n left m below is some = let positive = some refl in grind (arith, nat_tests)
       one_more false n left m below is some = omega arith
@@ -155,6 +160,7 @@ module _ {V : Type 0} (key : V → Texts) where
       positive : (b : Bool) (n m : ℕ) → b ≡ true → cond b 1 0 + n ≤ m → nat_lt 0 m ≡ true
       positive true n m is few = grind (arith, nat_tests)
       positive false n m is few = absurd (false≢true is)
+
       one_less : (b : Bool) (n left m : ℕ) → cond b 1 0 + n ≤ m → left ≡ m - cond b 1 0 → n ≤ left
       one_less true n left m few is = omega arith
       one_less false n left m few is = omega arith
@@ -179,6 +185,7 @@ module _ {V : Type 0} (key : V → Texts) where
       shifted : (b : Bool) (left m n : ℕ) → left < n → left ≡ m - cond b 1 0 → m < cond b 1 0 + n
       shifted true left m n below is = omega arith
       shifted false left m n below is = omega arith
+
       lone : (b : Bool) (m n : ℕ) → b ≡ true → nat_lt 0 m ≡ false → m < cond b 1 0 + n
       lone true m n is none = grind (arith, nat_tests)
       lone false m n is none = absurd (false≢true is)

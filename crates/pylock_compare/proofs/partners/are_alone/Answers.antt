@@ -1,5 +1,4 @@
-use Rattle.std.proofs.Common.{◌≡◌, ◌∙◌, ◌++◌, ◌∷◌, [], ◌-◌, Bool, cond, not, nat_lt, sym, ap, append_assoc, arith}
-use Rattle.std.proofs.lemmas.Grind.{common_steps}
+use Rattle.std.proofs.Common.{◌≡◌, ◌∙◌, ◌++◌, ◌∷◌, [], ◌-◌, cond, not, nat_lt, sym, ap, append_assoc}
 use Rattle.pylock_compare.specs.Counts.{count}
 use Rattle.pylock_compare.specs.Partners.{are_alone, without_one}
 use Rattle.pylock_compare.specs.Texts.{are_alike}
@@ -18,5 +17,5 @@ loop-key-preserved c =
       left,
       (λ k. c.in_ok-taken.ensures.left k ∙ ap (λ n. n - cond (are_alike key k) 1 0) (counts k) ∙ ap (λ b. count k others - cond b 1 0) (alike_turned key k) ∙ sym (counted_without k key others)),
       ap (λ flags. flags ++ are_alone rest left) c.in_ok-push.ensures.items ∙ append_assoc c.loop-key.alone.items (not taken ∷ []) (are_alone rest left)
-      ∙ ap (λ flags. c.loop-key.alone.items ++ flags) (sym judged ∙ ap (λ keys. are_alone keys others) (sym front)) ∙ whole,
+          ∙ ap (λ flags. c.loop-key.alone.items ++ flags) (sym judged ∙ ap (λ keys. are_alone keys others) (sym front)) ∙ whole,
     )
