@@ -9,8 +9,8 @@ use Rattle.pylock_readers.specs.Entry.{ArchiveValue, FileValue, LocationValue, f
 use Rattle.pylock_readers.specs.Entry.{place_of}
 use Rattle.pylock_core.specs.Session.Picks.{SourceValue, OfVcs, OfDirectory, OfArchive, OfWheel}
 use Rattle.pylock_core.specs.Session.Picks.{OfSdist}
-use Rattle.pylock_audit.specs.Source.{file_label}
-use Rattle.pylock_audit.specs.Url.{shown_place}
+use Rattle.pylock_places.specs.Shown.{file_label}
+use Rattle.pylock_places.specs.Shown.{shown_place}
 use Rattle.pylock_diff.specs.Change.{ChangeValue, change_of, told_where}
 use Rattle.pylock_diff.specs.Hashes.{Hashed, are_same_sets, hashed_changes}
 use Rattle.pylock_diff.specs.Item.{ItemValue}

@@ -6,8 +6,8 @@ use Rattle.pylock_readers.specs.Entry.{FileValue, file_name, place_of}
 use Rattle.pylock_core.specs.Session.Picks.{SourceValue, OfVcs, OfDirectory, OfArchive, OfWheel}
 use Rattle.pylock_core.specs.Session.Picks.{OfSdist}
 use Rattle.pylock_core.specs.Words.{directory_word}
-use Rattle.pylock_audit.specs.Source.{file_label}
-use Rattle.pylock_audit.specs.Url.{shown_place}
+use Rattle.pylock_places.specs.Shown.{file_label}
+use Rattle.pylock_places.specs.Shown.{shown_place}
 use Rattle.pylock_diff.specs.Change.{ChangeValue, change_of}
 use Rattle.pylock_diff.specs.Item.{ItemValue}
 use Rattle.pylock_compare.specs.Texts.{Texts, are_alike}

@@ -18,7 +18,7 @@ use crate::change::{Change, ChangeKind, push_change};
 use crate::hashes::{Hashed, are_same_texts, push_hashed};
 use pylock_compare::{Sides, in_order};
 use crate::texts::{joined, lent};
-use pylock_audit::{file_label, shown_place};
+use pylock_places::{file_label, shown_place};
 use pylock_core::{Archive, DistributionFile};
 use std::alloc::{AllocError, Global};
 

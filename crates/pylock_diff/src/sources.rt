@@ -19,7 +19,7 @@ use crate::change::{Change, ChangeKind, push_change};
 use crate::conditions::bytes_of;
 use crate::item::Keyed;
 use pylock_compare::Key;
-use pylock_audit::{file_label, shown_place};
+use pylock_places::{file_label, shown_place};
 use pylock_core::{DistributionFile, PickedSource, directory_word};
 use std::alloc::{AllocError, Global};
 use std::collections::{BTreeMap, BTreeSet};

@@ -1,5 +1,5 @@
 use Rattle.std.proofs.Common.{◌≡◌, map, string_bytes, take}
-use Rattle.pylock_audit.specs.Url.{shown_place}
+use Rattle.pylock_places.specs.Shown.{shown_place}
 use Rattle.pylock_diff.specs.Inner.Lent.{lent_files}
 use Rattle.pylock_diff.proofs.file_changes.places.Given as goal
 
