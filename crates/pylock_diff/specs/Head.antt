@@ -1,11 +1,10 @@
 -- The head of a lock (PEP 751), key by key.
-use Rattle.std.specs.Prelude.{ℕ, Bool, ◌++◌, not, List, [], ◌∷◌, codes, filter, map, Option}
+use Rattle.std.specs.Prelude.{ℕ, Bool, true, false, ◌++◌, not, List, [], ◌∷◌, codes, filter, map, Option}
 use Rattle.std.specs.Prelude.{Some, None, option_map, if◌then◌else◌}
 use Rattle.std.specs.List.{flat_map, list_any}
 use Rattle.std.specs.Str.{bytes_eq}
 use Rattle.toml.specs.Data.{Data, Items, array, as_str, item, no_items, string}
 use Rattle.pylock_compare.specs.Rows.{Row, in_order, names_of, values_at}
-use Rattle.pylock_compare.specs.Texts.{are_alike}
 use Rattle.pytoml_code.specs.Code.{code}
 use Rattle.pytoml_code.specs.Shown.{shown}
 use Rattle.pylock_diff.specs.Change.{ChangeValue, change_of, told_where}
@@ -64,11 +63,16 @@ abbrev pub first : List HeadKey → Option HeadKey
 first [] = None
 first (one ∷ more) = Some one
 
+-- both have the same value, or neither has one
+abbrev pub have_same_value : (old new : Option HeadKey) → Bool
+have_same_value None None = true
+have_same_value (Some old) (Some new) = bytes_eq old.code new.code
+have_same_value old new = false
+
 -- a key whose value isn't the same
 abbrev pub key_change : List ℕ → (old new : Option HeadKey) → List ChangeValue
 key_change key old new =
-    told_where
-    (not (are_alike (option_map (λ one. one.code) old ∷ []) (option_map (λ one. one.code) new ∷ [])))
+    told_where (not (have_same_value old new))
     (change_of Head key (option_map (λ one. one.text) old) (option_map (λ one. one.text) new))
 
 abbrev pub keys_changes : (olds news : List (Row HeadKey)) → List (List ℕ) → List ChangeValue

@@ -7,8 +7,8 @@ ghost use Rattle.pylock_diff.specs.Changes.{lock_changes};
 ghost use Rattle.pylock_diff.specs.Item.{pick_items};
 
 use crate::change::{Change, ChangeKind};
-use crate::head::push_head;
 use crate::compared::Compared;
+use crate::head::push_head;
 use crate::item::{entries_picked, entry_items, pick_items};
 use crate::names::push_items;
 use crate::picks::pick_codes;

@@ -5,7 +5,7 @@ ghost use Rattle.toml.specs.Data.{string};
 ghost use Rattle.toml.specs.View.{table_view, view};
 ghost use Rattle.pylock_diff.specs.Codes.{code_row, member_rows};
 ghost use Rattle.pytoml_code.specs.Code.{code};
-ghost use Rattle.pytoml_code.specs.Proper.{HasProper};
+ghost use Rattle.pytoml_code.specs.Proper.{HasProper, IsProper};
 
 use pytoml_code::{push_code, push_text_code};
 use std::alloc::{AllocError, Global};
@@ -62,7 +62,9 @@ impl Codes {
         key: &str,
         value: &Value,
     ) -> Result<(), AllocError>
-        ensures { OnOk result (self.new ≡ self.old ++ (key.now, code (view value.now)) ∷ []) }
+        ensures codes { OnOk result
+            (self.new ≡ self.old ++ (key.now, code (view value.now)) ∷ []) }
+        ensures proper { OnOk result (IsProper (view value.now)) }
     {
         let mut code = Vec::new(alloc);
         push_code(&mut code, value)?;

@@ -8,8 +8,8 @@ ghost use Rattle.pylock_compare.specs.Texts.{are_alike, or_dash};
 
 use crate::change::{Change, ChangeKind, push_change};
 use crate::item::Keyed;
-use pylock_compare::Key;
 use crate::texts::{joined_if_any, or_dash};
+use pylock_compare::Key;
 use std::alloc::{AllocError, Global};
 
 /// A text where it is there, as bytes.

@@ -16,10 +16,10 @@ ghost use Rattle.pylock_compare.specs.Rows.{under_each};
 
 use crate::change::{Change, ChangeKind, push_change};
 use crate::hashes::{Hashed, are_same_texts, push_hashed};
-use pylock_compare::{Sides, in_order};
 use crate::texts::{joined, lent};
-use pylock_places::{file_label, shown_place};
+use pylock_compare::{Sides, in_order};
 use pylock_core::{Archive, DistributionFile};
+use pylock_places::{file_label, shown_place};
 use std::alloc::{AllocError, Global};
 
 // ---- over all of a name

@@ -8,9 +8,8 @@ ghost use Rattle.pylock_compare.specs.Rows.{under_each};
 ghost use Rattle.pylock_compare.specs.Texts.{all_there, are_alike};
 
 use crate::change::{Change, ChangeKind, push_change};
-use pylock_compare::Key;
-use pylock_compare::{Sides, in_order};
 use crate::texts::joined;
+use pylock_compare::{Key, Sides, in_order};
 use std::alloc::{AllocError, Global};
 use std::marker::Model;
 

@@ -6,11 +6,10 @@ ghost use Rattle.std.specs.Option.{option_copied};
 ghost use Rattle.toml.specs.View.{items_view, table_view, view};
 ghost use Rattle.pylock_compare.specs.Lent.{found, lent_texts};
 ghost use Rattle.pylock_compare.specs.Rows.{Row, values_at};
-ghost use Rattle.pylock_compare.specs.Texts.{are_alike};
 ghost use Rattle.pylock_diff.specs.Compared.{head_of, is_head_key};
 ghost use Rattle.pylock_diff.specs.Head.{HeadKey as HeadKeyValue, head_changes, head_key};
 ghost use Rattle.pylock_diff.specs.Head.{head_rows, is_list_key, key_change, keys_changes};
-ghost use Rattle.pylock_diff.specs.Head.{list_text, joined_texts};
+ghost use Rattle.pylock_diff.specs.Head.{have_same_value, item_text, joined_texts, list_text};
 ghost use Rattle.pylock_diff.specs.Inner.Lent.{key_row, lent_keys};
 ghost use Rattle.pytoml_code.specs.Proper.{HasProper};
 
@@ -120,13 +119,25 @@ fn items_text(alloc: Global, items: &[Value]) -> Result<String, AllocError>
     ensures { IfOk result (λ text. string_bytes text ≡ joined_texts (items_view items.now)) }
 {
     let mut text = String::new(alloc);
-    for (place, item) in items.iter().enumerate() {
-        if place > 0 {
-            text.push_str(",")?;
-        }
-        text.push_str(item.as_str().unwrap_or(""))?;
+    let [first, others @ ..] = items else {
+        return Ok(text);
+    };
+    text.push_str(item_text(first))?;
+    for item in others {
+        text.push_str(",")?;
+        text.push_str(item_text(item))?;
     }
     Ok(text)
+}
+
+/// A text, and nothing of another value.
+fn item_text(item: &Value) -> &str
+    ensures { result.now ≡ item_text (view item.now) }
+{
+    match item {
+        Value::String(text) => text.as_str(),
+        _ => "",
+    }
 }
 
 /// Adds a line for each key of the head that isn't alike: first those of which lists are shown.
@@ -215,8 +226,7 @@ fn push_key(
 }
 
 fn are_same(old: Option<&HeadKey>, new: Option<&HeadKey>) -> bool
-    ensures { result ≡ are_alike (option_map (λ one. one.code) (option_copied old.entry) ∷ [])
-        (option_map (λ one. one.code) (option_copied new.entry) ∷ []) }
+    ensures { result ≡ have_same_value (option_copied old.entry) (option_copied new.entry) }
 {
     match (old, new) {
         (Some(old), Some(new)) => old.code.as_slice() == new.code.as_slice(),

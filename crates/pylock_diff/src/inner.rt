@@ -27,18 +27,24 @@ pub(crate) fn inner_codes(alloc: Global, entry: &Table) -> Result<Codes, AllocEr
 {
     let mut codes = Codes::new(alloc);
     push_source(alloc, &mut codes, SourceTable::Vcs, entry.get("vcs"))?;
-    push_source(alloc, &mut codes, SourceTable::Directory, entry.get("directory"))?;
-    push_source(alloc, &mut codes, SourceTable::Archive, entry.get("archive"))?;
+    push_source(
+        alloc,
+        &mut codes,
+        SourceTable::Directory,
+        entry.get("directory"),
+    )?;
+    push_source(
+        alloc,
+        &mut codes,
+        SourceTable::Archive,
+        entry.get("archive"),
+    )?;
     push_wheels(alloc, &mut codes, entry.get("wheels"))?;
     push_source(alloc, &mut codes, SourceTable::File, entry.get("sdist"))?;
     Ok(codes)
 }
 
-fn push_wheels(
-    alloc: Global,
-    codes: &mut Codes,
-    field: Option<&Value>,
-) -> Result<(), AllocError>
+fn push_wheels(alloc: Global, codes: &mut Codes, field: Option<&Value>) -> Result<(), AllocError>
     ensures { OnOk result (codes.new
         ≡ codes.old ++ wheels_rows (option_map (λ v. view v.now) field.entry)) }
 {

@@ -89,11 +89,21 @@ pub(crate) fn entry_items<'a>(
     ensures { IfOk result (λ rows. map item_row rows.items ≡ entry_items entries.now codes.now) }
 {
     let mut rows = Vec::with_capacity(alloc, entries.len())?;
-    for (place, package) in entries.iter().enumerate() {
-        if let Some(codes) = codes.get(place) {
-            let picked = None;
-            rows.push((package.name(), Item { package, picked, codes }))?;
-        }
+    let mut left = codes;
+    for package in entries {
+        let [codes, rest @ ..] = left else {
+            return Ok(rows);
+        };
+        let picked = None;
+        rows.push((
+            package.name(),
+            Item {
+                package,
+                picked,
+                codes,
+            },
+        ))?;
+        left = rest;
     }
     Ok(rows)
 }
@@ -150,12 +160,22 @@ pub(crate) fn pick_items<'a>(
         → map item_row rows.items ≡ map picked_row (map lent_pick picks.now)) }
 {
     let mut rows = Vec::with_capacity(alloc, picks.len())?;
-    for (place, pick) in picks.iter().enumerate() {
-        if let Some(codes) = codes.get(place) {
-            let package = pick.package;
-            let picked = Some(pick.source);
-            rows.push((package.name(), Item { package, picked, codes }))?;
-        }
+    let mut left = codes;
+    for pick in picks {
+        let [codes, rest @ ..] = left else {
+            return Ok(rows);
+        };
+        let package = pick.package;
+        let picked = Some(pick.source);
+        rows.push((
+            package.name(),
+            Item {
+                package,
+                picked,
+                codes,
+            },
+        ))?;
+        left = rest;
     }
     Ok(rows)
 }

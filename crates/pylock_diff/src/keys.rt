@@ -146,18 +146,17 @@ fn push_key(
 fn are_same(olds: &[Placed<'_>], news: &[Placed<'_>]) -> bool
     ensures { result ≡ are_same_values (lent_places olds.now) (lent_places news.now) }
 {
-    if olds.len() != news.len() {
-        return false;
-    }
-    for (place, old) in olds.iter().enumerate() {
-        let Some(new) = news.get(place) else {
+    let mut left = news;
+    for old in olds {
+        let [new, rest @ ..] = left else {
             return false;
         };
         if !is_same(*old, *new) {
             return false;
         }
+        left = rest;
     }
-    true
+    matches!(left, [])
 }
 
 fn is_same(old: Placed<'_>, new: Placed<'_>) -> bool
@@ -188,11 +187,7 @@ fn values_text(alloc: Global, values: &[Placed<'_>]) -> Result<String, AllocErro
 }
 
 /// Adds the values, each behind ` | `.
-fn push_others(
-    alloc: Global,
-    text: &mut String,
-    others: &[Placed<'_>],
-) -> Result<(), AllocError>
+fn push_others(alloc: Global, text: &mut String, others: &[Placed<'_>]) -> Result<(), AllocError>
     ensures { OnOk result (string_bytes text.new
         ≡ string_bytes text.old ++ more_values (lent_places others.now)) }
 {

@@ -40,18 +40,17 @@ fn are_same_codes(old: &Codes, new: &Codes) -> bool
 fn are_same_rows(olds: &[(String, Vec<u8>)], news: &[(String, Vec<u8>)]) -> bool
     ensures { IsTrue result → map code_row olds.now ≡ map code_row news.now }
 {
-    if olds.len() != news.len() {
-        return false;
-    }
-    for (place, old) in olds.iter().enumerate() {
-        let Some(new) = news.get(place) else {
+    let mut left = news;
+    for old in olds {
+        let [new, rest @ ..] = left else {
             return false;
         };
         if !is_same_row(old, new) {
             return false;
         }
+        left = rest;
     }
-    true
+    matches!(left, [])
 }
 
 fn is_same_row(old: &(String, Vec<u8>), new: &(String, Vec<u8>)) -> bool
@@ -82,10 +81,15 @@ fn where_true<'a>(
     ensures { IfOk result (λ list. list.items ≡ where_true flags.now items.now) }
 {
     let mut list = Vec::new(alloc);
-    for (place, item) in items.iter().enumerate() {
-        if let Some(true) = flags.get(place).copied() {
+    let mut left = items;
+    for flag in flags {
+        let [item, rest @ ..] = left else {
+            return Ok(list);
+        };
+        if *flag {
             list.push(*item)?;
         }
+        left = rest;
     }
     Ok(list)
 }

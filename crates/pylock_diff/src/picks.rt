@@ -19,10 +19,7 @@ use std::alloc::{AllocError, Global};
 use toml::{Table, Value};
 
 /// The fields of each pick.
-pub(crate) fn pick_codes(
-    alloc: Global,
-    picks: &[Picked<'_>],
-) -> Result<Vec<EntryCodes>, AllocError>
+pub(crate) fn pick_codes(alloc: Global, picks: &[Picked<'_>]) -> Result<Vec<EntryCodes>, AllocError>
     ensures { IfOk result (λ list. list.items ≡ map picked_codes (map lent_pick picks.now)) }
 {
     let mut list = Vec::with_capacity(alloc, picks.len())?;
@@ -73,12 +70,7 @@ fn source_table(alloc: Global, source: PickedSource<'_>) -> Result<Table, AllocE
 }
 
 /// Puts a text in, where it is there.
-fn put(
-    alloc: Global,
-    table: &mut Table,
-    key: &str,
-    text: Option<&str>,
-) -> Result<(), AllocError>
+fn put(alloc: Global, table: &mut Table, key: &str, text: Option<&str>) -> Result<(), AllocError>
     ensures { OnOk result (table_view table.new
         ≡ put key.now (option_copied text.entry) (table_view table.old)) }
 {

@@ -19,8 +19,8 @@ use crate::change::{Change, ChangeKind, push_change};
 use crate::conditions::bytes_of;
 use crate::item::Keyed;
 use pylock_compare::Key;
-use pylock_places::{file_label, shown_place};
 use pylock_core::{DistributionFile, PickedSource, directory_word};
+use pylock_places::{file_label, shown_place};
 use std::alloc::{AllocError, Global};
 use std::collections::{BTreeMap, BTreeSet};
 
@@ -57,10 +57,7 @@ fn whole_key<'x>(alloc: Global, item: &'x Keyed<'x>) -> Result<Key<'x>, AllocErr
     Ok(key)
 }
 
-fn push_identities<'x>(
-    key: &mut Key<'x>,
-    sources: &[PickedSource<'x>],
-) -> Result<(), AllocError>
+fn push_identities<'x>(key: &mut Key<'x>, sources: &[PickedSource<'x>]) -> Result<(), AllocError>
     ensures { OnOk result (key.new ≡ key.old ++ flat_map identity (map lent_source sources.now)) }
 {
     for source in sources {

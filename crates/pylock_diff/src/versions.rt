@@ -9,8 +9,8 @@ ghost use Rattle.pylock_diff.specs.Versions.{versions_text};
 
 use crate::change::{Change, ChangeKind, push_change};
 use crate::item::Keyed;
-use pylock_compare::Key;
 use crate::texts::{joined_if_any, or_dash};
+use pylock_compare::Key;
 use pyver_core::{Version, VersionError};
 use std::alloc::{AllocError, Global};
 
@@ -51,7 +51,7 @@ pub(crate) fn versions_text(
 
 /// Adds the version of each item, or `-`.
 fn push_versions<'a>(texts: &mut Vec<&'a str>, items: &[Keyed<'a>]) -> Result<(), AllocError>
-    ensures { OnOk result (lent_texts texts.new.items 
+    ensures { OnOk result (lent_texts texts.new.items
         ≡ lent_texts texts.old.items ++ map (λ item. or_dash item.version) items.now) }
 {
     for item in items {
