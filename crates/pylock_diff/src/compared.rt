@@ -1,12 +1,12 @@
 //! Locks that are read to be compared: beside the lock the codes of all keys, known and unknown.
 
 ghost use Rattle.std.specs.Prelude.{◌≡◌, [], IfOk, OnOk, Ok, codes};
-ghost use Rattle.toml.specs.Data.{Items, Members, no_items, table};
+ghost use Rattle.toml.specs.Data.{Items, Members, get_member, no_items, table};
 ghost use Rattle.toml.specs.View.{items_view, table_view, view};
 ghost use Rattle.pytext.specs.Agreement.{Gives};
 ghost use Rattle.pytoml.specs.Members.{with_elements};
 ghost use Rattle.pylock_readers.specs.Lock.Reading.{document_in};
-ghost use Rattle.pylock_diff.specs.Compared.{compared_in, compared_of, entry_codes};
+ghost use Rattle.pylock_diff.specs.Compared.{compared_in, compared_of, entry_codes, items_at};
 ghost use Rattle.pylock_diff.specs.Inner.Kept.{HasKept, entries_after, kept_of};
 ghost use Rattle.pytoml_code.specs.Proper.{HasProper};
 
@@ -251,12 +251,20 @@ fn entries_after(
     ensures { IfOk result (λ after. after.items
         ≡ entries_after entries.items (table_view document.now)) }
 {
-    if !entries.is_empty() {
-        return Ok(entries);
-    }
-    match document.get("packages") {
-        Some(Value::Array(values)) => entries_of(alloc, values.as_slice()),
+    match entries.as_slice() {
+        [] => entries_of(alloc, packages_in(document)),
         _ => Ok(entries),
+    }
+}
+
+/// The elements of the key `packages`, where it is an array.
+fn packages_in(document: &Table) -> &[Value]
+    ensures { items_view result.now
+        ≡ items_at (get_member (codes "packages") (table_view document.now)) }
+{
+    match document.get("packages") {
+        Some(Value::Array(values)) => values.as_slice(),
+        _ => &[],
     }
 }
 
