@@ -1,4 +1,4 @@
-use Rattle.std.proofs.Common.{◌≡◌, ◌×◌, ◌++◌, drop, map}
+use Rattle.std.proofs.Common.{◌≡◌, ◌++◌, drop, map}
 use Rattle.pylock_diff.specs.Inner.Lent.{item_row}
 use Rattle.pylock_diff.specs.Inner.Picked.{lent_pick, picked_codes, picked_row}
 use Rattle.pylock_diff.proofs.item.pick_items.Given as goal

@@ -1,4 +1,4 @@
-use Rattle.std.proofs.Common.{◌≡◌, ◌∙◌, ◌++◌, ◌∷◌, [], append_assoc, string_bytes, ap, arith}
+use Rattle.std.proofs.Common.{◌≡◌, ◌∙◌, ℕ, List, ◌++◌, ◌∷◌, [], append_assoc, string_bytes, ap, arith}
 use Rattle.std.proofs.lemmas.Grind.{common_steps}
 use Rattle.std.specs.List.Sorted.{IsStrictlySortedBy}
 use Rattle.toml.specs.View.{members_view, view}
@@ -17,7 +17,7 @@ loop-key-preserved c =
     let sorted = rw iter at c.loop-key.invariant.sorted in
     let so_far = c.loop-key.codes in
     let tail = member_rows (members_view rest) in
-    let row = (string_bytes k, code (view v)) in
+    let row : List ℕ × List ℕ = (string_bytes k, code (view v)) in
     let one : c.push_value.new.self ≡ so_far ++ (row ∷ []) = c.in_ok-push_value.ensures.codes ∙ ap (λ t. so_far ++ ((t, code (view v)) ∷ [])) c.as_str.ensures.value in
     record {
       sorted = sorted.1;
