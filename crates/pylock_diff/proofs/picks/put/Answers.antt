@@ -9,4 +9,4 @@ returns-in_ok-insert c =
     let old = c.args.table.now.entries in
     ap members_view c.in_ok-insert.ensures.entries
     ∙ members_view-insert_entry old c.in_ok-from_str.field-0 c.in_ok-string.field-0
-    ∙ ap₂ (λ k d. with_member k d (members_view old)) c.in_ok-from_str.ensures.value c.in_ok-string.ensures
+    ∙ ap₂ (λ k d. with_member k d (members_view old)) c.in_ok-from_str.ensures.ok c.in_ok-string.ensures
