@@ -12,10 +12,10 @@ use Rattle.pylock_diff.specs.Files.{file_hash_changes, archive_hash_changes, fil
 use Rattle.pylock_diff.specs.Hashes.{Hashed, are_same_sets, hashed_changes, value_changes}
 use Rattle.pylock_diff.specs.Head.{environments_of, head_changes, pythons_of}
 use Rattle.pylock_diff.specs.Item.{ItemValue, entry_items}
-use Rattle.pylock_diff.specs.Rows.{Row, in_order, names_of, under_each, values_at}
+use Rattle.pylock_compare.specs.Rows.{Row, in_order, names_of, under_each, values_at}
 use Rattle.pylock_diff.specs.Sources.{file_changes, has_source, has_version, lone_in, lone_sources, source_key, source_text}
-use Rattle.pylock_diff.specs.Texts.{Texts, all_there, are_alike, joined_if_any}
-use Rattle.pylock_diff.specs.TextsOrder.{texts_total}
+use Rattle.pylock_compare.specs.Texts.{Texts, all_there, are_alike, joined_if_any}
+use Rattle.pylock_compare.specs.TextsOrder.{texts_total}
 use Rattle.pylock_diff.specs.Versions.{version_changes, version_keys}
 use Rattle.pylock_diff.specs.declared.change.ChangeKind.TheVariants.{File, Head}
 

@@ -14,15 +14,15 @@ use Rattle.pylock_diff.specs.Conditions.{condition_changes, conditions}
 use Rattle.pylock_diff.specs.Files.{hash_changes, place_changes}
 use Rattle.pylock_diff.specs.Head.{environments_of, head_changes, list_changes, pythons_of, set_changes}
 use Rattle.pylock_diff.specs.Item.{ItemValue, entry_items}
-use Rattle.pylock_diff.specs.Rows.{Row, in_order, names_of, values_at}
+use Rattle.pylock_compare.specs.Rows.{Row, in_order, names_of, values_at}
 use Rattle.pylock_diff.specs.Same.{AreSame, IsSameHead}
 use Rattle.pylock_diff.specs.Sources.{file_changes, lone_sources, source_text}
-use Rattle.pylock_diff.specs.Texts.{Texts, all_there, are_alike, texts_cmp}
+use Rattle.pylock_compare.specs.Texts.{Texts, all_there, are_alike, texts_cmp}
 use Rattle.pylock_diff.specs.Versions.{version_changes, version_keys}
 use Rattle.pylock_diff.specs.declared.change.ChangeKind.TheVariants.{File}
 use Rattle.pylock_diff.proofs.ChangeLemmas.{alike_itself}
 use Rattle.pylock_diff.proofs.KeyLemmas.{texts_exact}
-use Rattle.pylock_diff.proofs.OrderLemmas.{stands_in_order}
+use Rattle.pylock_compare.proofs.OrderLemmas.{stands_in_order}
 
 pub alike_equal : (xs ys : Texts) → are_alike xs ys ≡ true → xs ≡ ys
 alike_equal xs ys is = texts_exact xs ys ((Equal-is (texts_cmp xs ys)).0 is)

@@ -10,13 +10,13 @@ use Rattle.pylock_diff.specs.Files.{archive_hash_changes, archives_of, file_hash
 use Rattle.pylock_diff.specs.Hashes.{Hashed, are_same_sets, hash_text, hashed_changes, value_changes}
 use Rattle.pylock_diff.specs.Head.{head_changes, list_changes, set_changes, environments_of, pythons_of}
 use Rattle.pylock_diff.specs.Item.{ItemValue, entry_items}
-use Rattle.pylock_diff.specs.Rows.{Row, in_order, names_of, under_each, values_at}
+use Rattle.pylock_compare.specs.Rows.{Row, in_order, names_of, under_each, values_at}
 use Rattle.pylock_diff.specs.Sources.{file_changes, lone_sources, source_text}
-use Rattle.pylock_diff.specs.Texts.{all_there, are_alike, joined_if_any}
+use Rattle.pylock_compare.specs.Texts.{all_there, are_alike, joined_if_any}
 use Rattle.pylock_diff.specs.Versions.{version_changes, version_keys, versions_text}
 use Rattle.pylock_diff.specs.declared.change.ChangeKind.TheVariants.{Condition, File, Hash, Head, Place, Version}
 use Rattle.pylock_diff.proofs.ChangeLemmas.{nothing}
-use Rattle.pylock_diff.proofs.OrderLemmas.{in_order-swap}
+use Rattle.pylock_compare.proofs.OrderLemmas.{in_order-swap}
 
 taken : (b : Bool) (c : ChangeValue) (cs ds : List ChangeValue) → cond b (c ∷ cs ++ ds) (cs ++ ds) ≡ cond b (c ∷ cs) cs ++ ds
 taken true c cs ds = refl

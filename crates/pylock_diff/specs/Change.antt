@@ -20,6 +20,7 @@ change_word kind.Hash = codes "hash"
 change_word kind.File = codes "file"
 change_word kind.Place = codes "place"
 change_word kind.Condition = codes "condition"
+change_word kind.Key = codes "key"
 change_word kind.Fault = codes "fault"
 
 -- a change of what stands under a name
@@ -42,6 +43,7 @@ comes_or_goes kind.Hash = false
 comes_or_goes kind.File = false
 comes_or_goes kind.Place = false
 comes_or_goes kind.Condition = false
+comes_or_goes kind.Key = false
 comes_or_goes kind.Fault = false
 
 -- the changes that tell so
@@ -58,6 +60,7 @@ turned_kind kind.Hash = kind.Hash
 turned_kind kind.File = kind.File
 turned_kind kind.Place = kind.Place
 turned_kind kind.Condition = kind.Condition
+turned_kind kind.Key = kind.Key
 turned_kind kind.Fault = kind.Fault
 
 abbrev pub turned : ChangeValue → ChangeValue

@@ -2,19 +2,20 @@
 -- whose bytes changed under its name is what an auditor looks for, so it is told whatever else
 -- changed.
 use Rattle.std.specs.Prelude.{ℕ, not, ◌&&◌, ◌++◌, List, [], ◌∷◌, codes, map, Option}
-use Rattle.std.specs.Prelude.{Some}
+use Rattle.std.specs.Prelude.{Some, None, is_some, if◌then◌else◌}
 use Rattle.std.specs.List.{flat_map}
 use Rattle.std.specs.Option.{option_map_or}
-use Rattle.pylock_readers.specs.Entry.{ArchiveValue, FileValue, file_name, place_of}
+use Rattle.pylock_readers.specs.Entry.{ArchiveValue, FileValue, LocationValue, file_name}
+use Rattle.pylock_readers.specs.Entry.{place_of}
 use Rattle.pylock_core.specs.Session.Picks.{SourceValue, OfVcs, OfDirectory, OfArchive, OfWheel}
 use Rattle.pylock_core.specs.Session.Picks.{OfSdist}
-use Rattle.pylock_audit.specs.Source.{file_label}
-use Rattle.pylock_audit.specs.Url.{shown_place}
+use Rattle.pylock_places.specs.Shown.{file_label}
+use Rattle.pylock_places.specs.Shown.{shown_place}
 use Rattle.pylock_diff.specs.Change.{ChangeValue, change_of, told_where}
 use Rattle.pylock_diff.specs.Hashes.{Hashed, are_same_sets, hashed_changes}
 use Rattle.pylock_diff.specs.Item.{ItemValue}
-use Rattle.pylock_diff.specs.Rows.{Row, in_order, under_each}
-use Rattle.pylock_diff.specs.Texts.{joined}
+use Rattle.pylock_compare.specs.Rows.{Row, in_order, under_each}
+use Rattle.pylock_compare.specs.Texts.{joined}
 use Rattle.pylock_diff.specs.declared.change.ChangeKind.TheVariants.{Place}
 
 -- ---- what a name has
@@ -101,10 +102,23 @@ urls_of files = flat_map (λ file. if_there file.location.url) files
 abbrev pub paths_of : List FileValue → List (List ℕ)
 paths_of files = flat_map (λ file. if_there file.location.path) files
 
+-- a place by its path alone, and by its URL alone
+abbrev pub by_path : LocationValue → LocationValue
+by_path location = record { url = None; path = location.path }
+
+abbrev pub by_url : LocationValue → LocationValue
+by_url location = record { url = location.url; path = None }
+
+-- the path and the URL as they are shown, where they are there
+abbrev pub shown_places : LocationValue → List (List ℕ)
+shown_places location =
+    (if is_some location.path then shown_place (by_path location) ∷ [] else [])
+    ++ (if is_some location.url then shown_place (by_url location) ∷ [] else [])
+
 -- the places of files of one name, credentials hidden as in `audit`
 abbrev pub places_text : List FileValue → List ℕ
 places_text files =
-    joined (codes ",") (in_order (map (λ file. shown_place file.location) files))
+    joined (codes ",") (in_order (flat_map (λ file. shown_places file.location) files))
 
 -- the files of a name have other URLs, or other paths
 abbrev pub place_change : List ℕ → (olds news : List FileValue) → List ChangeValue

@@ -1,8 +1,8 @@
 -- Hashes under one name: how they are compared, and how they are shown.
 use Rattle.std.specs.Prelude.{ℕ, Bool, not, ◌++◌, List, [], ◌∷◌, codes, Some}
 use Rattle.pylock_diff.specs.Change.{ChangeValue, change_of, told_where}
-use Rattle.pylock_diff.specs.Rows.{Row, in_order, under_each}
-use Rattle.pylock_diff.specs.Texts.{all_there, are_alike, joined}
+use Rattle.pylock_compare.specs.Rows.{Row, in_order, under_each}
+use Rattle.pylock_compare.specs.Texts.{all_there, are_alike, joined}
 use Rattle.pylock_diff.specs.declared.change.ChangeKind.TheVariants.{Hash}
 
 -- what has hashes: how it is shown, and its hashes, the pairs of algorithm and value of each file

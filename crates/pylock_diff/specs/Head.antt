@@ -1,32 +1,88 @@
 -- The head of a lock (PEP 751), key by key.
-use Rattle.std.specs.Prelude.{ℕ, ◌++◌, not, List, [], ◌∷◌, codes, map, Option, option_map}
-use Rattle.pyver_core.specs.Set.Normal.{set_text}
-use Rattle.pylock_readers.specs.Lock.{HeadValue}
+use Rattle.std.specs.Prelude.{ℕ, Bool, true, false, ◌++◌, not, List, [], ◌∷◌, codes, filter, map, Option}
+use Rattle.std.specs.Prelude.{Some, None, option_map, if◌then◌else◌}
+use Rattle.std.specs.List.{flat_map, list_any}
+use Rattle.std.specs.Str.{bytes_eq}
+use Rattle.toml.specs.Data.{Data, Items, array, as_str, item, no_items, string}
+use Rattle.pylock_compare.specs.Rows.{Row, in_order, names_of, values_at}
+use Rattle.pytoml_code.specs.Code.{code}
+use Rattle.pytoml_code.specs.Shown.{shown}
 use Rattle.pylock_diff.specs.Change.{ChangeValue, change_of, told_where}
-use Rattle.pylock_diff.specs.Texts.{all_there, are_alike, joined_if_any}
 use Rattle.pylock_diff.specs.declared.change.ChangeKind.TheVariants.{Head}
 
--- a key whose lists differ; an empty list, and a key that is absent, give no text
-abbrev pub list_changes : List ℕ → (olds news : List (List ℕ)) → List ChangeValue
-list_changes key olds news =
-    told_where (not (are_alike (all_there olds) (all_there news)))
-    (change_of Head key (joined_if_any (codes ",") olds) (joined_if_any (codes ",") news))
+-- a key of the head: the code of its value, and how it is shown
+pub record HeadKey : Type 0 where
+  pub key : List ℕ
+  pub code : List ℕ
+  pub text : List ℕ
 
--- a set's normal text has its specifiers joined by `,`; the set without one isn't an absent key
-abbrev pub set_changes : List ℕ → (old new : Option (List ℕ)) → List ChangeValue
-set_changes key old new =
-    told_where (not (are_alike (old ∷ []) (new ∷ []))) (change_of Head key old new)
+-- the keys of which the texts are shown, in the order in which they are told
+abbrev pub list_keys : List (List ℕ)
+list_keys =
+    codes "requires-python" ∷ codes "environments" ∷ codes "extras" ∷ codes "dependency-groups"
+    ∷ codes "default-groups" ∷ []
 
-abbrev pub pythons_of : HeadValue → Option (List ℕ)
-pythons_of head = option_map set_text head.requires_python
+abbrev pub is_list_key : List ℕ → Bool
+is_list_key key = list_any (bytes_eq key) list_keys
 
-abbrev pub environments_of : HeadValue → List (List ℕ)
-environments_of head = map (λ marker. marker.text) head.environments
+-- a text, and nothing of another value, which no lock has there
+abbrev pub item_text : Data → List ℕ
+item_text (string text) = text
+item_text d = []
 
-abbrev pub head_changes : (old new : HeadValue) → List ChangeValue
+-- texts, each behind a comma
+abbrev pub more_texts : Items → List ℕ
+more_texts no_items = []
+more_texts (item d ds) = codes "," ++ item_text d ++ more_texts ds
+
+-- texts joined by `,`
+abbrev pub joined_texts : Items → List ℕ
+joined_texts no_items = []
+joined_texts (item d ds) = item_text d ++ more_texts ds
+
+-- the same, and `[]` where there is none
+abbrev pub list_text : Data → List ℕ
+list_text (array no_items) = codes "[]"
+list_text (array (item d ds)) = joined_texts (item d ds)
+list_text d = item_text d
+
+abbrev pub head_key : List ℕ → Data → HeadKey
+head_key key d = record {
+  key = key;
+  code = code d;
+  text = if is_list_key key then list_text d else shown (code d);
+}
+
+-- ---- two heads
+
+abbrev pub head_rows : List HeadKey → List (Row HeadKey)
+head_rows keys = map (λ one. (one.key, one)) keys
+
+-- the first of them
+abbrev pub first : List HeadKey → Option HeadKey
+first [] = None
+first (one ∷ more) = Some one
+
+-- both have the same value, or neither has one
+abbrev pub have_same_value : (old new : Option HeadKey) → Bool
+have_same_value None None = true
+have_same_value (Some old) (Some new) = bytes_eq old.code new.code
+have_same_value old new = false
+
+-- a key whose value isn't the same
+abbrev pub key_change : List ℕ → (old new : Option HeadKey) → List ChangeValue
+key_change key old new =
+    told_where (not (have_same_value old new))
+    (change_of Head key (option_map (λ one. one.text) old) (option_map (λ one. one.text) new))
+
+abbrev pub keys_changes : (olds news : List (Row HeadKey)) → List (List ℕ) → List ChangeValue
+keys_changes olds news keys =
+    flat_map (λ key. key_change key (first (values_at key olds)) (first (values_at key news))) keys
+
+-- the keys of which the texts are shown, and then the others in order of code point
+abbrev pub head_changes : (old new : List HeadKey) → List ChangeValue
 head_changes old new =
-    set_changes (codes "requires-python") (pythons_of old) (pythons_of new)
-    ++ list_changes (codes "environments") (environments_of old) (environments_of new)
-    ++ list_changes (codes "extras") old.extras new.extras
-    ++ list_changes (codes "dependency-groups") old.groups new.groups
-    ++ list_changes (codes "default-groups") old.default_groups new.default_groups
+    keys_changes (head_rows old) (head_rows new) list_keys
+    ++ keys_changes (head_rows old) (head_rows new)
+    (filter (λ key. not (is_list_key key))
+    (in_order (names_of (head_rows old) ++ names_of (head_rows new))))

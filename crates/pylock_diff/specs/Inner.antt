@@ -1,3 +1,7 @@
--- What contracts cite inside the crate alone.
+-- What contracts inside the crate alone cite.
+pub mod Kept
 pub mod Lent
 pub mod Others
+pub mod Picked
+pub mod Placed
+pub mod Told

@@ -4,32 +4,43 @@ use Rattle.std.specs.Prelude.{ℕ, List, [], ◌∷◌, map, Option, None, optio
 use Rattle.std.specs.List.{flat_map}
 use Rattle.std.specs.Option.{option_map_or}
 use Rattle.pyver_core.specs.Set.Normal.{set_text}
+use Rattle.pylock_compare.specs.Rows.{Row}
 use Rattle.pylock_readers.specs.Entry.{EntryValue}
 use Rattle.pylock_core.specs.Session.Picks.{SourceValue, source_in, sources}
 use Rattle.pylock_core.specs.Session.State.{State, entry_at}
 use Rattle.pylock_core.specs.declared.answer.Pick.{Pick}
-use Rattle.pylock_diff.specs.Rows.{Row}
+use Rattle.pylock_diff.specs.Codes.{Rows}
+use Rattle.pylock_diff.specs.Compared.{EntryCodesValue}
+use Rattle.pylock_diff.specs.Picks.{pick_fields}
 
--- a marker's text has no white space round it, and a set stands for its normal text
+-- A marker's text has no white space round it, and a set stands for its normal text. The keys are
+-- all that the entry has, with the codes of their values.
 pub record ItemValue : Type 0 where
   pub version : Option (List ℕ)
   pub marker : Option (List ℕ)
   pub pythons : Option (List ℕ)
   pub sources : List SourceValue
+  pub keys : Rows
+  pub inner : Rows
 
-abbrev pub entry_item : EntryValue → Row ItemValue
-entry_item entry = (
+abbrev pub entry_item : EntryValue → EntryCodesValue → Row ItemValue
+entry_item entry codes = (
   entry.name,
   record {
     version = entry.version;
     marker = option_map (λ marker. marker.text) entry.marker;
     pythons = option_map set_text entry.requires_python;
     sources = map (λ named. named.1) (sources entry);
+    keys = codes.keys;
+    inner = codes.inner;
   },
 )
 
-abbrev pub entry_items : List EntryValue → List (Row ItemValue)
-entry_items entries = map entry_item entries
+-- entries, each with its codes
+abbrev pub entry_items : List EntryValue → List EntryCodesValue → List (Row ItemValue)
+entry_items [] codes = []
+entry_items (entry ∷ entries) [] = []
+entry_items (entry ∷ entries) (code ∷ codes) = entry_item entry code ∷ entry_items entries codes
 
 abbrev pub picked_item : EntryValue → SourceValue → Row ItemValue
 picked_item entry source = (
@@ -39,6 +50,8 @@ picked_item entry source = (
     marker = None;
     pythons = None;
     sources = source ∷ [];
+    keys = pick_fields entry source;
+    inner = [];
   },
 )
 

@@ -1,5 +1,7 @@
 pub mod Change
 pub mod Changes
+pub mod Codes
+pub mod Compared
 pub mod Conditions
 pub mod Document
 pub mod Files
@@ -7,9 +9,10 @@ pub mod Hashes
 pub mod Head
 pub mod Inner
 pub mod Item
-pub mod Rows
+pub mod Keys
+pub mod Partners
+pub mod Picks
 pub mod Same
 pub mod Sources
-pub mod Texts
-pub mod TextsOrder
+pub mod SourceKeys
 pub mod Versions

@@ -1,27 +1,28 @@
--- What two locks have in common where no line tells of them: the lists of what is compared. The
--- plans of the two may still be told apart: by the numbers and the order of entries of different
--- names, by the order of the wheels of an entry, where two are as good, by the spelling of a
--- version, and by which of several files of one name has which hash, URL or path.
-use Rattle.std.specs.Prelude.{◌≡◌, List, []}
-use Rattle.pylock_readers.specs.Lock.{HeadValue}
-use Rattle.pylock_diff.specs.Conditions.{conditions}
-use Rattle.pylock_diff.specs.Head.{environments_of, pythons_of}
-use Rattle.pylock_diff.specs.Item.{ItemValue}
-use Rattle.pylock_diff.specs.Sources.{lone_sources}
-use Rattle.pylock_diff.specs.Versions.{version_keys}
+-- When two documents hold the same lock: the same head, but for who made it, and the same entries,
+-- each with all its keys, known and unknown, as values of TOML. The order of entries doesn't count,
+-- nor that of keys, which stand in order in a table, nor how TOML writes them; lists count in order.
+use Rattle.std.specs.Prelude.{◌≡◌, ℕ, true, List, [], ◌∷◌, map, codes, Ok}
+use Rattle.std.specs.List.Sorted.{IsPermutation}
+use Rattle.toml.specs.Data.{Data, Items, Members, get_member, item, no_items}
+use Rattle.pylock_readers.specs.Lock.{LockValue}
+use Rattle.pylock_readers.specs.Lock.Reading.{lock_in}
+use Rattle.pytoml_code.specs.Proper.{HasProper}
+use Rattle.pylock_diff.specs.Compared.{ComparedValue, compared, is_head_key, items_at}
 
--- of the entries of a name: their versions, as versions, their markers and sets of Pythons, entry
--- by entry; and neither has a source that the other hasn't
-pub record AreSame (olds news : List ItemValue) : Type 0 where
-  pub versions : version_keys olds ≡ version_keys news
-  pub conditions : conditions olds ≡ conditions news
-  pub gone : lone_sources olds news ≡ []
-  pub come : lone_sources news olds ≡ []
+abbrev pub values_of : Items → List Data
+values_of no_items = []
+values_of (item d ds) = d ∷ values_of ds
 
--- of the heads
-pub record IsSameHead (old new : HeadValue) : Type 0 where
-  pub pythons : pythons_of old ≡ pythons_of new
-  pub environments : environments_of old ≡ environments_of new
-  pub extras : old.extras ≡ new.extras
-  pub groups : old.groups ≡ new.groups
-  pub default_groups : old.default_groups ≡ new.default_groups
+-- the entries of a document
+abbrev pub entries_of : Members → List Data
+entries_of document = values_of (items_at (get_member (codes "packages") document))
+
+pub record HoldSameLock (old new : Members) : Type 0 where
+  pub head : (key : List ℕ) → is_head_key key ≡ true → get_member key old ≡ get_member key new
+  pub entries : IsPermutation (entries_of old) (entries_of new)
+
+-- a lock as it was read from a document, whose values stand in memory
+pub record IsRead (lock : ComparedValue) (document : Members) : Type 0 where
+  pub proper : HasProper document
+  pub reads : lock_in document ≡ Ok lock.lock
+  pub all : lock ≡ compared document lock.lock

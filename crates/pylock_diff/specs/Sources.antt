@@ -1,16 +1,16 @@
 -- The sources of a name that one lock alone has (PEP 751, `packages`).
-use Rattle.std.specs.Prelude.{ℕ, Bool, not, ◌++◌, List, [], ◌∷◌, codes, map, filter}
+use Rattle.std.specs.Prelude.{ℕ, Bool, not, ◌&&◌, ◌++◌, List, [], ◌∷◌, codes, map, filter}
 use Rattle.std.specs.Prelude.{Some, None, unwrap_or, if◌then◌else◌}
 use Rattle.std.specs.List.{flat_map, list_any}
 use Rattle.pylock_readers.specs.Entry.{FileValue, file_name, place_of}
 use Rattle.pylock_core.specs.Session.Picks.{SourceValue, OfVcs, OfDirectory, OfArchive, OfWheel}
 use Rattle.pylock_core.specs.Session.Picks.{OfSdist}
 use Rattle.pylock_core.specs.Words.{directory_word}
-use Rattle.pylock_audit.specs.Source.{file_label}
-use Rattle.pylock_audit.specs.Url.{shown_place}
+use Rattle.pylock_places.specs.Shown.{file_label}
+use Rattle.pylock_places.specs.Shown.{shown_place}
 use Rattle.pylock_diff.specs.Change.{ChangeValue, change_of}
 use Rattle.pylock_diff.specs.Item.{ItemValue}
-use Rattle.pylock_diff.specs.Texts.{Texts, are_alike}
+use Rattle.pylock_compare.specs.Texts.{Texts, are_alike}
 use Rattle.pylock_diff.specs.Versions.{version_key}
 use Rattle.pylock_diff.specs.declared.change.ChangeKind.TheVariants.{File}
 
@@ -40,27 +40,44 @@ source_text (OfArchive archive) = codes "archive " ++ shown_place archive.locati
 source_text (OfWheel file) = codes "wheel " ++ file_label file
 source_text (OfSdist file) = codes "sdist " ++ file_label file
 
--- by what a source is compared: the version, the marker and the set of Pythons of its entry, and
--- what it is
-abbrev pub source_key : ItemValue → SourceValue → Texts
-source_key item source = version_key item ∷ item.marker ∷ item.pythons ∷ identity source
+-- by what an entry's sources are compared besides themselves
+abbrev pub condition_key : ItemValue → Texts
+condition_key item = version_key item ∷ item.marker ∷ item.pythons ∷ []
+
+-- the version of an entry, and what its sources are
+abbrev pub whole_key : ItemValue → Texts
+whole_key item = version_key item ∷ flat_map identity item.sources
 
 -- an entry of the other lock has the version
 abbrev pub has_version : List ItemValue → ItemValue → Bool
 has_version others item =
     list_any (λ other. are_alike (version_key item ∷ []) (version_key other ∷ [])) others
 
+-- an entry of the other lock has the version, the marker and the set of Pythons
+abbrev pub has_condition : List ItemValue → ItemValue → Bool
+has_condition others item =
+    list_any (λ other. are_alike (condition_key item) (condition_key other)) others
+
+-- an entry of the other lock has the version and the same sources
+abbrev pub has_counterpart : List ItemValue → ItemValue → Bool
+has_counterpart others item =
+    list_any (λ other. are_alike (whole_key item) (whole_key other)) others
+
+-- the other lock has what the entry has, for other machines alone: its marker tells that
+abbrev pub is_moved : List ItemValue → ItemValue → Bool
+is_moved others item = not (has_condition others item) && has_counterpart others item
+
 -- the other lock has the source, in an entry of that version, marker and set of Pythons
 abbrev pub has_source : List ItemValue → ItemValue → SourceValue → Bool
 has_source others item source =
     list_any
-    (λ other. list_any (λ s. are_alike (source_key item source) (source_key other s)) other.sources)
-    others
+    (λ other. are_alike (condition_key item) (condition_key other)
+    && list_any (λ s. are_alike (identity source) (identity s)) other.sources) others
 
 -- the sources of an entry that the other lock hasn't; a version that it hasn't is told as such
 abbrev pub lone_in : List ItemValue → ItemValue → List SourceValue
 lone_in others item =
-    if has_version others item
+    if has_version others item && not (is_moved others item)
     then filter (λ source. not (has_source others item source)) item.sources
     else []
 

@@ -26,6 +26,8 @@ pub enum ChangeKind {
     Place,
     /// The lists of markers, or of the sets of Pythons, differ.
     Condition,
+    /// Another key differs, or one of which no line before it tells.
+    Key,
     /// One of the two has a fault in place of a plan.
     Fault,
 }
@@ -44,6 +46,7 @@ impl ChangeKind {
             ChangeKind::File => "file",
             ChangeKind::Place => "place",
             ChangeKind::Condition => "condition",
+            ChangeKind::Key => "key",
             ChangeKind::Fault => "fault",
         }
     }

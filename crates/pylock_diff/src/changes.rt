@@ -7,21 +7,27 @@ ghost use Rattle.pylock_diff.specs.Changes.{lock_changes};
 ghost use Rattle.pylock_diff.specs.Item.{pick_items};
 
 use crate::change::{Change, ChangeKind};
+use crate::compared::Compared;
 use crate::head::push_head;
-use crate::item::{entry_items, pick_items};
+use crate::item::{entries_picked, entry_items, pick_items};
 use crate::names::push_items;
-use pylock_core::{Answer, Lock, Pick, Session, fault_word};
+use crate::picks::pick_codes;
+use pylock_core::{Answer, Pick, Session, fault_word};
 use std::alloc::{AllocError, Global};
 
 /// What changed from one lock to another: first keys of the head, then of each name, in order of
 /// code point, what changed of its entries.
-pub fn lock_changes(alloc: Global, old: &Lock, new: &Lock) -> Result<Vec<Change>, AllocError>
+pub fn lock_changes(
+    alloc: Global,
+    old: &Compared,
+    new: &Compared,
+) -> Result<Vec<Change>, AllocError>
     ensures { IfOk result (λ changes. changes.items ≡ lock_changes old.now new.now) }
 {
     let mut changes = Vec::new(alloc);
-    push_head(alloc, &mut changes, old, new)?;
-    let olds = entry_items(alloc, old.entries())?;
-    let news = entry_items(alloc, new.entries())?;
+    push_head(alloc, &mut changes, old.head(), new.head())?;
+    let olds = entry_items(alloc, old.lock().entries(), old.entries())?;
+    let news = entry_items(alloc, new.lock().entries(), new.entries())?;
     push_items(alloc, &mut changes, olds.as_slice(), news.as_slice())?;
     Ok(changes)
 }
@@ -67,8 +73,12 @@ fn picks_changes(
         (pick_items new.entry.0.now.state new.entry.1.now)) }
 {
     let mut changes = Vec::new(alloc);
-    let olds = pick_items(alloc, old.0, old.1)?;
-    let news = pick_items(alloc, new.0, new.1)?;
+    let before = entries_picked(alloc, old.0, old.1)?;
+    let after = entries_picked(alloc, new.0, new.1)?;
+    let old_codes = pick_codes(alloc, before.as_slice())?;
+    let new_codes = pick_codes(alloc, after.as_slice())?;
+    let olds = pick_items(alloc, before.as_slice(), old_codes.as_slice())?;
+    let news = pick_items(alloc, after.as_slice(), new_codes.as_slice())?;
     push_items(alloc, &mut changes, olds.as_slice(), news.as_slice())?;
     Ok(changes)
 }

@@ -1,15 +1,15 @@
 //! On which machines the entries of a name are installed.
 
-ghost use Rattle.std.specs.Prelude.{◌≡◌, ◌++◌, IfOk, OnOk, map, string_bytes};
+ghost use Rattle.std.specs.Prelude.{◌≡◌, ◌++◌, IfOk, OnOk, map, option_map, string_bytes};
 ghost use Rattle.std.specs.Option.{option_copied};
 ghost use Rattle.pylock_diff.specs.Conditions.{condition_changes, conditions, conditions_text};
-ghost use Rattle.pylock_diff.specs.Inner.Lent.{lent_texts};
-ghost use Rattle.pylock_diff.specs.Texts.{are_alike, or_dash};
+ghost use Rattle.pylock_compare.specs.Lent.{lent_texts};
+ghost use Rattle.pylock_compare.specs.Texts.{are_alike, or_dash};
 
 use crate::change::{Change, ChangeKind, push_change};
 use crate::item::Keyed;
-use crate::key::Key;
-use crate::texts::{joined, or_dash};
+use crate::texts::{joined_if_any, or_dash};
+use pylock_compare::Key;
 use std::alloc::{AllocError, Global};
 
 /// A text where it is there, as bytes.
@@ -50,14 +50,14 @@ fn push_pythons<'a>(key: &mut Key<'a>, items: &[Keyed<'a>]) -> Result<(), AllocE
     Ok(())
 }
 
-/// The same as one text.
-fn conditions_text(alloc: Global, items: &[Keyed<'_>]) -> Result<String, AllocError>
-    ensures { IfOk result (λ text. string_bytes text ≡ conditions_text items.now) }
+/// The same as one text, where there is an item.
+fn conditions_text(alloc: Global, items: &[Keyed<'_>]) -> Result<Option<String>, AllocError>
+    ensures { IfOk result (λ text. option_map string_bytes text ≡ conditions_text items.now) }
 {
     let mut texts = Vec::new(alloc);
     push_marker_texts(&mut texts, items)?;
     push_python_texts(&mut texts, items)?;
-    joined(alloc, " | ", texts.as_slice())
+    joined_if_any(alloc, " | ", texts.as_slice())
 }
 
 fn push_marker_texts<'a>(texts: &mut Vec<&'a str>, items: &[Keyed<'a>]) -> Result<(), AllocError>
@@ -109,12 +109,5 @@ pub(crate) fn push_condition_change(
     }
     let from = conditions_text(alloc, olds)?;
     let to = conditions_text(alloc, news)?;
-    push_change(
-        alloc,
-        changes,
-        ChangeKind::Condition,
-        name,
-        Some(from),
-        Some(to),
-    )
+    push_change(alloc, changes, ChangeKind::Condition, name, from, to)
 }

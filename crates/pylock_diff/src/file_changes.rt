@@ -4,21 +4,22 @@ ghost use Rattle.std.specs.Prelude.{◌≡◌, ◌++◌, IfOk, OnOk, map, string
 ghost use Rattle.std.specs.List.{flat_map};
 ghost use Rattle.std.specs.Option.{option_copied};
 ghost use Rattle.pylock_readers.specs.Text.{text_pairs};
-ghost use Rattle.pylock_audit.specs.Url.{shown_place};
 ghost use Rattle.pylock_diff.specs.Files.{archive_hash_changes, archives_label, file_hash_changes};
 ghost use Rattle.pylock_diff.specs.Files.{files_label, hashed_archives, hashed_files, if_both};
 ghost use Rattle.pylock_diff.specs.Files.{if_there, paths_of, place_change, places_text, urls_of};
+ghost use Rattle.pylock_diff.specs.Files.{shown_places};
 ghost use Rattle.pylock_diff.specs.Hashes.{are_same_sets};
 ghost use Rattle.pylock_diff.specs.Inner.Lent.{archive_row, file_row, hash_row};
-ghost use Rattle.pylock_diff.specs.Inner.Lent.{lent_archives, lent_files, lent_texts};
-ghost use Rattle.pylock_diff.specs.Rows.{under_each};
+ghost use Rattle.pylock_compare.specs.Lent.{lent_texts};
+ghost use Rattle.pylock_diff.specs.Inner.Lent.{lent_archives, lent_files};
+ghost use Rattle.pylock_compare.specs.Rows.{under_each};
 
 use crate::change::{Change, ChangeKind, push_change};
 use crate::hashes::{Hashed, are_same_texts, push_hashed};
-use crate::rows::{Sides, in_order};
 use crate::texts::{joined, lent};
-use pylock_audit::{file_label, shown_place};
+use pylock_compare::{Sides, in_order};
 use pylock_core::{Archive, DistributionFile};
+use pylock_places::{file_label, shown_place};
 use std::alloc::{AllocError, Global};
 
 // ---- over all of a name
@@ -326,11 +327,30 @@ fn places_text(alloc: Global, files: &[&DistributionFile]) -> Result<String, All
 
 fn places(alloc: Global, files: &[&DistributionFile]) -> Result<Vec<String>, AllocError>
     ensures { IfOk result (λ list. map string_bytes list.items
-        ≡ map (λ file. shown_place file.location) (lent_files files.now)) }
+        ≡ flat_map (λ file. shown_places file.location) (lent_files files.now)) }
 {
     let mut list = Vec::with_capacity(alloc, files.len())?;
     for file in files {
-        list.push(shown_place(alloc, file.path(), file.url())?)?;
+        push_places(alloc, &mut list, file.path(), file.url())?;
     }
     Ok(list)
+}
+
+/// Adds the path and the URL, where they are there.
+fn push_places(
+    alloc: Global,
+    list: &mut Vec<String>,
+    path: Option<&str>,
+    url: Option<&str>,
+) -> Result<(), AllocError>
+    ensures { OnOk result (map string_bytes list.new.items ≡ map string_bytes list.old.items
+        ++ shown_places (record { url = option_copied url.entry; path = option_copied path.entry })) }
+{
+    if path.is_some() {
+        list.push(shown_place(alloc, path, None)?)?;
+    }
+    if url.is_some() {
+        list.push(shown_place(alloc, None, url)?)?;
+    }
+    Ok(())
 }

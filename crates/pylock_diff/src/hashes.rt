@@ -2,14 +2,14 @@
 
 ghost use Rattle.std.specs.Prelude.{◌≡◌, ◌++◌, IfOk, OnOk, map, string_bytes};
 ghost use Rattle.pylock_diff.specs.Hashes.{hash_text, hash_values, hashed_changes, value_changes};
-ghost use Rattle.pylock_diff.specs.Inner.Lent.{hash_row, lent_texts};
-ghost use Rattle.pylock_diff.specs.Rows.{under_each};
-ghost use Rattle.pylock_diff.specs.Texts.{all_there, are_alike};
+ghost use Rattle.pylock_compare.specs.Lent.{lent_texts};
+ghost use Rattle.pylock_diff.specs.Inner.Lent.{hash_row};
+ghost use Rattle.pylock_compare.specs.Rows.{under_each};
+ghost use Rattle.pylock_compare.specs.Texts.{all_there, are_alike};
 
 use crate::change::{Change, ChangeKind, push_change};
-use crate::key::Key;
-use crate::rows::{Sides, in_order};
 use crate::texts::joined;
+use pylock_compare::{Key, Sides, in_order};
 use std::alloc::{AllocError, Global};
 use std::marker::Model;
 

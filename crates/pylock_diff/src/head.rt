@@ -1,154 +1,242 @@
 //! The head of a lock, key by key.
 
-ghost use Rattle.std.specs.Prelude.{◌≡◌, ◌++◌, ◌∷◌, [], IfOk, OnOk, map, string_bytes};
+ghost use Rattle.std.specs.Prelude.{◌≡◌, ◌++◌, ◌∷◌, [], List, ℕ, IfOk, OnOk, filter, map, not};
+ghost use Rattle.std.specs.Prelude.{option_map, string_bytes};
 ghost use Rattle.std.specs.Option.{option_copied};
-ghost use Rattle.pylock_diff.specs.Head.{environments_of, head_changes, list_changes, pythons_of};
-ghost use Rattle.pylock_diff.specs.Head.{set_changes};
-ghost use Rattle.pylock_diff.specs.Inner.Lent.{lent_texts};
-ghost use Rattle.pylock_diff.specs.Texts.{are_alike};
+ghost use Rattle.toml.specs.View.{items_view, table_view, view};
+ghost use Rattle.pylock_compare.specs.Lent.{found, lent_texts};
+ghost use Rattle.pylock_compare.specs.Rows.{Row, values_at};
+ghost use Rattle.pylock_diff.specs.Compared.{head_of, is_head_key};
+ghost use Rattle.pylock_diff.specs.Head.{HeadKey as HeadKeyValue, head_changes, head_key};
+ghost use Rattle.pylock_diff.specs.Head.{head_rows, is_list_key, key_change, keys_changes};
+ghost use Rattle.pylock_diff.specs.Head.{have_same_value, item_text, joined_texts, list_text};
+ghost use Rattle.pylock_diff.specs.Inner.Lent.{key_row, lent_keys};
+ghost use Rattle.pytoml_code.specs.Proper.{HasProper};
 
 use crate::change::{Change, ChangeKind, push_change};
-use crate::conditions::bytes_of;
-use crate::hashes::are_same_texts;
-use crate::key::Key;
-use crate::texts::{joined_if_any, lent, owned};
-use pylock_core::Lock;
+use crate::texts::owned;
+use pylock_compare::Sides;
+use pytoml_code::{push_code, shown_code};
 use std::alloc::{AllocError, Global};
+use std::marker::Model;
+use toml::{Table, Value};
 
-/// Adds a line for each key of the head that isn't alike.
+/// A key of the head: the code of its value, and how it is shown. Contracts see the three.
+pub(crate) struct HeadKey {
+    key: String,
+    code: Vec<u8>,
+    text: String,
+}
+
+impl Model for HeadKey {
+    ghost use Rattle.std.specs.Prelude.{string_bytes};
+    ghost use Rattle.pylock_diff.specs.Head.{HeadKey as HeadKeyValue};
+
+    ghost Value = { HeadKeyValue };
+
+    ghost view = { λ h. record {
+      key = string_bytes h.key;
+      code = h.code.items;
+      text = string_bytes h.text;
+    } };
+}
+
+impl Drop for HeadKey {
+    fn drop(self) {
+        let HeadKey {
+            key: _,
+            code: _,
+            text: _,
+        } = self;
+    }
+}
+
+/// The keys of the head of a document, but `packages`, in order.
+pub(crate) fn head_keys(alloc: Global, document: &Table) -> Result<Vec<HeadKey>, AllocError>
+    ensures keys { IfOk result (λ keys. keys.items ≡ head_of (table_view document.now)) }
+{
+    let mut keys = Vec::new(alloc);
+    for (key, value) in document.iter() {
+        if is_compared(key.as_str()) {
+            keys.push(head_key(alloc, key.as_str(), value)?)?;
+        }
+    }
+    Ok(keys)
+}
+
+/// Whether a key of the document is compared as one of the head.
+fn is_compared(key: &str) -> bool
+    ensures { result ≡ is_head_key key.now }
+{
+    !matches!(key, "packages" | "created-by")
+}
+
+fn head_key(alloc: Global, key: &str, value: &Value) -> Result<HeadKey, AllocError>
+    ensures { IfOk result (λ one. one ≡ head_key key.now (view value.now)) }
+{
+    let mut code = Vec::new(alloc);
+    push_code(&mut code, value)?;
+    let text = if is_list_key(key) {
+        list_text(alloc, value)?
+    } else {
+        shown_code(alloc, code.as_slice())?
+    };
+    let key = String::from_str(alloc, key)?;
+    Ok(HeadKey { key, code, text })
+}
+
+/// The keys of which the texts are shown, in the order in which they are told.
+const LISTS: [&str; 5] = [
+    "requires-python",
+    "environments",
+    "extras",
+    "dependency-groups",
+    "default-groups",
+];
+
+fn is_list_key(key: &str) -> bool
+    ensures { result ≡ is_list_key key.now }
+{
+    matches!(
+        key,
+        "requires-python" | "environments" | "extras" | "dependency-groups" | "default-groups"
+    )
+}
+
+/// A text as it is, a list of texts joined by `,`, and `[]` where it is empty.
+fn list_text(alloc: Global, value: &Value) -> Result<String, AllocError>
+    ensures { IfOk result (λ text. string_bytes text ≡ list_text (view value.now)) }
+{
+    match value {
+        Value::String(text) => String::from_str(alloc, text.as_str()),
+        Value::Array(items) if items.is_empty() => String::from_str(alloc, "[]"),
+        Value::Array(items) => items_text(alloc, items.as_slice()),
+        _ => String::from_str(alloc, ""),
+    }
+}
+
+fn items_text(alloc: Global, items: &[Value]) -> Result<String, AllocError>
+    ensures { IfOk result (λ text. string_bytes text ≡ joined_texts (items_view items.now)) }
+{
+    let mut text = String::new(alloc);
+    let [first, others @ ..] = items else {
+        return Ok(text);
+    };
+    text.push_str(item_text(first))?;
+    for item in others {
+        text.push_str(",")?;
+        text.push_str(item_text(item))?;
+    }
+    Ok(text)
+}
+
+/// A text, and nothing of another value.
+fn item_text(item: &Value) -> &str
+    ensures { result.now ≡ item_text (view item.now) }
+{
+    match item {
+        Value::String(text) => text.as_str(),
+        _ => "",
+    }
+}
+
+/// Adds a line for each key of the head that isn't alike: first those of which lists are shown.
 pub(crate) fn push_head(
     alloc: Global,
     changes: &mut Vec<Change>,
-    old: &Lock,
-    new: &Lock,
+    old: &[HeadKey],
+    new: &[HeadKey],
 ) -> Result<(), AllocError>
     ensures { OnOk result (changes.new.items
-        ≡ changes.old.items ++ head_changes old.now.head new.now.head) }
+        ≡ changes.old.items ++ head_changes old.now new.now) }
 {
-    push_set(
-        alloc,
-        changes,
-        "requires-python",
-        pythons_of(old),
-        pythons_of(new),
-    )?;
-    let olds = environments_of(alloc, old)?;
-    let news = environments_of(alloc, new)?;
-    push_list(
-        alloc,
-        changes,
-        "environments",
-        olds.as_slice(),
-        news.as_slice(),
-    )?;
-    push_names(alloc, changes, "extras", old.extras(), new.extras())?;
-    push_names(
-        alloc,
-        changes,
-        "dependency-groups",
-        old.groups(),
-        new.groups(),
-    )?;
-    push_names(
-        alloc,
-        changes,
-        "default-groups",
-        old.default_groups(),
-        new.default_groups(),
-    )?;
+    let olds = head_rows(alloc, old)?;
+    let news = head_rows(alloc, new)?;
+    let sides = Sides::new(alloc, olds.as_slice(), news.as_slice())?;
+    push_keys(alloc, changes, &sides, LISTS.as_slice())?;
+    let others = other_keys(alloc, sides.names.as_slice())?;
+    push_keys(alloc, changes, &sides, others.as_slice())
+}
+
+/// The keys under their names.
+fn head_rows<'a>(
+    alloc: Global,
+    keys: &'a [HeadKey],
+) -> Result<Vec<(&'a str, &'a HeadKey)>, AllocError>
+    ensures { IfOk result (λ rows. map key_row rows.items ≡ head_rows keys.now) }
+{
+    let mut rows = Vec::with_capacity(alloc, keys.len())?;
+    for key in keys {
+        rows.push((key.key.as_str(), key))?;
+    }
+    Ok(rows)
+}
+
+/// Those of which no list is shown.
+fn other_keys<'a>(alloc: Global, keys: &[&'a str]) -> Result<Vec<&'a str>, AllocError>
+    ensures { IfOk result (λ others. lent_texts others.items
+        ≡ filter (λ key. not (is_list_key key)) (lent_texts keys.now)) }
+{
+    let mut others = Vec::new(alloc);
+    for key in keys {
+        if !is_list_key(key) {
+            others.push(*key)?;
+        }
+    }
+    Ok(others)
+}
+
+fn push_keys(
+    alloc: Global,
+    changes: &mut Vec<Change>,
+    sides: &Sides<'_, &HeadKey>,
+    keys: &[&str],
+) -> Result<(), AllocError>
+    ensures { (olds news : List (Row HeadKeyValue))
+        → ((key : List ℕ) → lent_keys (found sides.now.olds key) ≡ values_at key olds)
+        → ((key : List ℕ) → lent_keys (found sides.now.news key) ≡ values_at key news)
+        → OnOk result (changes.new.items
+        ≡ changes.old.items ++ keys_changes olds news (lent_texts keys.now)) }
+{
+    for key in keys {
+        let old = sides.old(key).first();
+        let new = sides.new_values(key).first();
+        push_key(alloc, changes, key, old.copied(), new.copied())?;
+    }
     Ok(())
 }
 
-/// The normal text of the set of Pythons.
-fn pythons_of(lock: &Lock) -> Option<&str>
-    ensures { option_copied result ≡ pythons_of lock.now.head }
-{
-    Some(lock.requires_python()?.text())
-}
-
-/// The markers of the environments.
-fn environments_of(alloc: Global, lock: &Lock) -> Result<Vec<&str>, AllocError>
-    ensures { IfOk result (λ list. lent_texts list.items ≡ environments_of lock.now.head) }
-{
-    let mut list = Vec::new(alloc);
-    for marker in lock.environments() {
-        list.push(marker.text())?;
-    }
-    Ok(list)
-}
-
-/// Adds that the sets of Pythons differ, where they do.
-fn push_set(
+/// Adds that a key differs, where it does.
+fn push_key(
     alloc: Global,
     changes: &mut Vec<Change>,
     key: &str,
-    old: Option<&str>,
-    new: Option<&str>,
+    old: Option<&HeadKey>,
+    new: Option<&HeadKey>,
 ) -> Result<(), AllocError>
     ensures { OnOk result (changes.new.items ≡ changes.old.items
-        ++ set_changes key.now (option_copied old.entry) (option_copied new.entry)) }
+        ++ key_change key.now (option_copied old.entry) (option_copied new.entry)) }
 {
-    if are_same_sets(alloc, old, new)? {
+    if are_same(old, new) {
         return Ok(());
     }
-    let from = owned(alloc, old)?;
-    let to = owned(alloc, new)?;
+    let from = owned(alloc, text_of(old))?;
+    let to = owned(alloc, text_of(new))?;
     push_change(alloc, changes, ChangeKind::Head, key, from, to)
 }
 
-fn are_same_sets<'x>(
-    alloc: Global,
-    old: Option<&'x str>,
-    new: Option<&'x str>,
-) -> Result<bool, AllocError>
-    ensures { IfOk result (λ same. same
-        ≡ are_alike (option_copied old.entry ∷ []) (option_copied new.entry ∷ [])) }
+fn are_same(old: Option<&HeadKey>, new: Option<&HeadKey>) -> bool
+    ensures { result ≡ have_same_value (option_copied old.entry) (option_copied new.entry) }
 {
-    let old = one_text(alloc, old)?;
-    let new = one_text(alloc, new)?;
-    Ok(old == new)
-}
-
-/// One text, or that it is absent.
-fn one_text(alloc: Global, text: Option<&str>) -> Result<Key<'_>, AllocError>
-    ensures { IfOk result (λ key. key ≡ option_copied text.entry ∷ []) }
-{
-    let mut key = Key::new(alloc);
-    key.push(bytes_of(text))?;
-    Ok(key)
-}
-
-/// Adds that lists of names differ, where they do.
-fn push_names(
-    alloc: Global,
-    changes: &mut Vec<Change>,
-    key: &str,
-    olds: &[String],
-    news: &[String],
-) -> Result<(), AllocError>
-    ensures { OnOk result (changes.new.items ≡ changes.old.items
-        ++ list_changes key.now (map string_bytes olds.now) (map string_bytes news.now)) }
-{
-    let olds = lent(alloc, olds)?;
-    let news = lent(alloc, news)?;
-    push_list(alloc, changes, key, olds.as_slice(), news.as_slice())
-}
-
-/// Adds that lists of texts differ, where they do.
-fn push_list(
-    alloc: Global,
-    changes: &mut Vec<Change>,
-    key: &str,
-    olds: &[&str],
-    news: &[&str],
-) -> Result<(), AllocError>
-    ensures { OnOk result (changes.new.items ≡ changes.old.items
-        ++ list_changes key.now (lent_texts olds.now) (lent_texts news.now)) }
-{
-    if are_same_texts(alloc, olds, news)? {
-        return Ok(());
+    match (old, new) {
+        (Some(old), Some(new)) => old.code.as_slice() == new.code.as_slice(),
+        (None, None) => true,
+        (Some(_), None) | (None, Some(_)) => false,
     }
-    let from = joined_if_any(alloc, ",", olds)?;
-    let to = joined_if_any(alloc, ",", news)?;
-    push_change(alloc, changes, ChangeKind::Head, key, from, to)
+}
+
+fn text_of(key: Option<&HeadKey>) -> Option<&str>
+    ensures { option_copied result ≡ option_map (λ one. one.text) (option_copied key.entry) }
+{
+    Some(key?.text.as_str())
 }

@@ -5,19 +5,24 @@ ghost use Rattle.std.specs.List.{flat_map};
 ghost use Rattle.std.specs.Option.{option_copied};
 ghost use Rattle.pylock_core.specs.Session.Picks.{lent_named, lent_source};
 ghost use Rattle.pylock_diff.specs.Inner.Lent.{item_row, lent_item};
-ghost use Rattle.pylock_diff.specs.Item.{entry_items, pick_item, pick_items};
+ghost use Rattle.pylock_diff.specs.Inner.Picked.{lent_pick, picked_codes, picked_entries};
+ghost use Rattle.pylock_diff.specs.Inner.Picked.{picked_entry, picked_row};
+ghost use Rattle.pylock_diff.specs.Item.{entry_items};
 ghost use Rattle.pylock_diff.specs.Versions.{text_key, version_key};
 
+use crate::codes::Codes;
+use crate::compared::EntryCodes;
 use crate::versions::text_key;
 use pylock_core::{Entry, NamedSource, Pick, PickedSource, Session, sources};
 use std::alloc::{AllocError, Global};
 use std::marker::Model;
 
-/// An entry, or a pick of it: then its source counts alone.
+/// An entry, or a pick of it: then its source counts alone. Beside it the codes of all its keys.
 #[derive(Clone, Copy)]
 pub(crate) struct Item<'a> {
     pub(crate) package: &'a Entry,
     pub(crate) picked: Option<PickedSource<'a>>,
+    pub(crate) codes: &'a EntryCodes,
 }
 
 impl<'a> Item<'a> {
@@ -75,45 +80,65 @@ fn push_each<'a>(
     Ok(())
 }
 
-/// The entries of a lock, each under its name.
+/// The entries of a lock, each under its name and with its codes.
 pub(crate) fn entry_items<'a>(
     alloc: Global,
     entries: &'a [Entry],
+    codes: &'a [EntryCodes],
 ) -> Result<Vec<(&'a str, Item<'a>)>, AllocError>
-    ensures { IfOk result (λ rows. map item_row rows.items ≡ entry_items entries.now) }
+    ensures { IfOk result (λ rows. map item_row rows.items ≡ entry_items entries.now codes.now) }
 {
     let mut rows = Vec::with_capacity(alloc, entries.len())?;
+    let mut left = codes;
     for package in entries {
+        let [codes, rest @ ..] = left else {
+            return Ok(rows);
+        };
         let picked = None;
-        rows.push((package.name(), Item { package, picked }))?;
+        rows.push((
+            package.name(),
+            Item {
+                package,
+                picked,
+                codes,
+            },
+        ))?;
+        left = rest;
     }
     Ok(rows)
 }
 
-/// The picks of a plan, each under the name of its entry.
-pub(crate) fn pick_items<'a>(
+/// A pick with its entry and its source.
+#[derive(Clone, Copy)]
+pub(crate) struct Picked<'a> {
+    pub(crate) package: &'a Entry,
+    pub(crate) source: PickedSource<'a>,
+}
+
+/// The picks of a plan, in its order.
+pub(crate) fn entries_picked<'a>(
     alloc: Global,
     session: &'a Session,
     picks: &[Pick],
-) -> Result<Vec<(&'a str, Item<'a>)>, AllocError>
-    ensures { IfOk result (λ rows. map item_row rows.items
-        ≡ pick_items session.now.state picks.now) }
+) -> Result<Vec<Picked<'a>>, AllocError>
+    ensures { IfOk result (λ list. map lent_pick list.items
+        ≡ picked_entries session.now.state picks.now) }
 {
-    let mut rows = Vec::with_capacity(alloc, picks.len())?;
+    let mut list = Vec::with_capacity(alloc, picks.len())?;
     for pick in picks {
-        push_pick(&mut rows, session, pick)?;
+        push_picked(&mut list, session, pick)?;
     }
-    Ok(rows)
+    Ok(list)
 }
 
 /// Adds a pick, whose entry has its source.
-fn push_pick<'a>(
-    rows: &mut Vec<(&'a str, Item<'a>)>,
+fn push_picked<'a>(
+    list: &mut Vec<Picked<'a>>,
     session: &'a Session,
     pick: &Pick,
 ) -> Result<(), AllocError>
-    ensures { OnOk result (map item_row rows.new.items
-        ≡ map item_row rows.old.items ++ pick_item session.now.state pick.now) }
+    ensures { OnOk result (map lent_pick list.new.items
+        ≡ map lent_pick list.old.items ++ picked_entry session.now.state pick.now) }
 {
     let Some(package) = session.entry(pick.id) else {
         return Ok(());
@@ -121,9 +146,38 @@ fn push_pick<'a>(
     let Some(source) = pick.source.of(package) else {
         return Ok(());
     };
-    let picked = Some(source);
-    rows.push((package.name(), Item { package, picked }))?;
+    list.push(Picked { package, source })?;
     Ok(())
+}
+
+/// The picks of a plan, each under the name of its entry, with these codes of them.
+pub(crate) fn pick_items<'a>(
+    alloc: Global,
+    picks: &[Picked<'a>],
+    codes: &'a [EntryCodes],
+) -> Result<Vec<(&'a str, Item<'a>)>, AllocError>
+    ensures { IfOk result (λ rows. codes.now ≡ map picked_codes (map lent_pick picks.now)
+        → map item_row rows.items ≡ map picked_row (map lent_pick picks.now)) }
+{
+    let mut rows = Vec::with_capacity(alloc, picks.len())?;
+    let mut left = codes;
+    for pick in picks {
+        let [codes, rest @ ..] = left else {
+            return Ok(rows);
+        };
+        let package = pick.package;
+        let picked = Some(pick.source);
+        rows.push((
+            package.name(),
+            Item {
+                package,
+                picked,
+                codes,
+            },
+        ))?;
+        left = rest;
+    }
+    Ok(rows)
 }
 
 /// An item with what it is compared by, made once.
@@ -203,6 +257,20 @@ impl<'a> Keyed<'a> {
         ensures { option_copied result ≡ self.now.pythons }
     {
         self.item.pythons()
+    }
+
+    /// The keys of its sources of which no other line tells.
+    pub(crate) fn inner(&self) -> &'a Codes
+        ensures { result.now ≡ self.now.inner }
+    {
+        self.item.codes.inner()
+    }
+
+    /// The keys of its table.
+    pub(crate) fn keys(&self) -> &'a Codes
+        ensures { result.now ≡ self.now.keys }
+    {
+        self.item.codes.keys()
     }
 
     /// Its sources, in their order.

@@ -12,22 +12,26 @@
 
 mod change;
 mod changes;
+mod codes;
+mod compared;
 mod conditions;
 mod document;
 mod file_changes;
 mod files;
 mod hashes;
 mod head;
+mod inner;
 mod item;
-mod key;
+mod keys;
 pub mod laws;
 mod names;
-mod rows;
-mod same;
+mod partners;
+mod picks;
 mod sources;
 mod texts;
 mod versions;
 
 pub use change::{Change, ChangeKind};
 pub use changes::{lock_changes, plan_changes};
+pub use compared::{Compared, read_compared};
 pub use document::diff_document;

@@ -1,7 +1,8 @@
 //! What is told of each name.
 
-ghost use Rattle.std.specs.Prelude.{◌≡◌, ◌++◌, IfOk, OnOk, map};
-ghost use Rattle.pylock_diff.specs.Changes.{changes_of_both, item_changes, name_changes};
+ghost use Rattle.std.specs.Prelude.{◌≡◌, ◌++◌, ◌⊎◌, [], IfOk, OnOk, map};
+ghost use Rattle.pylock_diff.specs.Changes.{item_changes, name_changes, rest_changes, row_changes};
+ghost use Rattle.pylock_diff.specs.Changes.{shared_changes};
 ghost use Rattle.pylock_diff.specs.Files.{hash_changes, place_changes};
 ghost use Rattle.pylock_diff.specs.Inner.Lent.{item_row, lent_items};
 
@@ -10,10 +11,11 @@ use crate::conditions::push_condition_change;
 use crate::file_changes::{push_archive_hashes, push_file_hashes};
 use crate::files::{archives_of, files_of};
 use crate::item::{Item, Keyed, with_keys};
-use crate::rows::Sides;
-use crate::same::are_same_items;
+use crate::keys::{push_inner_keys, push_keys};
+use crate::partners::{have_same_keys, without_partners};
 use crate::sources::push_lone_sources;
 use crate::versions::{push_version_change, versions_text};
+use pylock_compare::Sides;
 use std::alloc::{AllocError, Global};
 
 /// Adds what changed of items, each under its name.
@@ -40,7 +42,6 @@ pub(crate) fn push_items<'a>(
 }
 
 /// Adds what changed of a name.
-#[tactic(auto, using(crate::proofs::SeenLemmas::name_unchanged))]
 fn push_name<'a>(
     alloc: Global,
     changes: &mut Vec<Change>,
@@ -51,40 +52,59 @@ fn push_name<'a>(
     ensures { OnOk result (changes.new.items ≡ changes.old.items
         ++ name_changes name.now (lent_items olds.now) (lent_items news.now)) }
 {
-    if are_same_items(olds, news) {
+    if olds.is_empty() || news.is_empty() {
+        return push_lone(alloc, changes, name, olds, news);
+    }
+    if have_same_keys(olds, news) {
         return Ok(());
     }
-    let olds = with_keys(alloc, olds)?;
-    let news = with_keys(alloc, news)?;
-    push_keyed(alloc, changes, name, olds.as_slice(), news.as_slice())
+    push_shared(alloc, changes, name, olds, news)
 }
 
-fn push_keyed<'a>(
+/// Adds that a name came or went, where one has no item of it.
+fn push_lone<'a>(
     alloc: Global,
     changes: &mut Vec<Change>,
     name: &str,
-    olds: &[Keyed<'a>],
-    news: &[Keyed<'a>],
+    olds: &[Item<'a>],
+    news: &[Item<'a>],
 ) -> Result<(), AllocError>
-    ensures { OnOk result (changes.new.items
-        ≡ changes.old.items ++ name_changes name.now olds.now news.now) }
+    ensures { OnOk result ((lent_items olds.now ≡ []) ⊎ (lent_items news.now ≡ [])
+        → changes.new.items ≡ changes.old.items
+        ++ name_changes name.now (lent_items olds.now) (lent_items news.now)) }
 {
-    match (olds, news) {
-        ([], []) => Ok(()),
-        ([], news) => {
-            let to = Some(versions_text(alloc, news)?);
-            push_change(alloc, changes, ChangeKind::Added, name, None, to)
-        }
-        (olds, []) => {
-            let from = Some(versions_text(alloc, olds)?);
-            push_change(alloc, changes, ChangeKind::Removed, name, from, None)
-        }
-        (olds, news) => push_both(alloc, changes, name, olds, news),
+    let from = versions_text(alloc, with_keys(alloc, olds)?.as_slice())?;
+    let to = versions_text(alloc, with_keys(alloc, news)?.as_slice())?;
+    if olds.is_empty() && news.is_empty() {
+        return Ok(());
+    }
+    if olds.is_empty() {
+        push_change(alloc, changes, ChangeKind::Added, name, from, to)
+    } else {
+        push_change(alloc, changes, ChangeKind::Removed, name, from, to)
     }
 }
 
-/// Adds what changed of a name that both have.
-fn push_both<'a>(
+/// Adds what changed of a name that both have: of the items that have no partner.
+fn push_shared<'a>(
+    alloc: Global,
+    changes: &mut Vec<Change>,
+    name: &str,
+    olds: &[Item<'a>],
+    news: &[Item<'a>],
+) -> Result<(), AllocError>
+    ensures { OnOk result (changes.new.items ≡ changes.old.items
+        ++ shared_changes name.now (lent_items olds.now) (lent_items news.now)) }
+{
+    let old_rest = without_partners(alloc, olds, news)?;
+    let new_rest = without_partners(alloc, news, olds)?;
+    let olds = with_keys(alloc, old_rest.as_slice())?;
+    let news = with_keys(alloc, new_rest.as_slice())?;
+    push_rest(alloc, changes, name, olds.as_slice(), news.as_slice())
+}
+
+/// Adds what the rows tell of the items that have no partner, and then the keys of which they don't.
+fn push_rest<'a>(
     alloc: Global,
     changes: &mut Vec<Change>,
     name: &str,
@@ -92,13 +112,33 @@ fn push_both<'a>(
     news: &[Keyed<'a>],
 ) -> Result<(), AllocError>
     ensures { OnOk result (changes.new.items
-        ≡ changes.old.items ++ changes_of_both name.now olds.now news.now) }
+        ≡ changes.old.items ++ rest_changes name.now olds.now news.now) }
+{
+    let mut told = Vec::new(alloc);
+    push_rows(alloc, &mut told, name, olds, news)?;
+    let mut keys = Vec::new(alloc);
+    push_keys(alloc, &mut keys, name, told.as_slice(), olds, news)?;
+    push_all(changes, told)?;
+    push_all(changes, keys)
+}
+
+/// Adds what the rows tell.
+fn push_rows<'a>(
+    alloc: Global,
+    changes: &mut Vec<Change>,
+    name: &str,
+    olds: &[Keyed<'a>],
+    news: &[Keyed<'a>],
+) -> Result<(), AllocError>
+    ensures { OnOk result (changes.new.items
+        ≡ changes.old.items ++ row_changes name.now olds.now news.now) }
 {
     push_version_change(alloc, changes, name, olds, news)?;
     let places = push_hashes(alloc, changes, name, olds, news)?;
     push_lone_sources(alloc, changes, name, olds, news)?;
     push_all(changes, places)?;
-    push_condition_change(alloc, changes, name, olds, news)
+    push_condition_change(alloc, changes, name, olds, news)?;
+    push_inner_keys(alloc, changes, name, olds, news)
 }
 
 /// Adds what changed of hashes, and answers what changed of places.

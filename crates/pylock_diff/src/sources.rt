@@ -1,45 +1,69 @@
 //! The sources of a name that one lock alone has.
 
 ghost use Rattle.std.specs.Prelude.{◌≡◌, ◌++◌, ◌∷◌, ◌||◌, [], IfOk, List, OnOk, None, Some, filter};
-ghost use Rattle.std.specs.Prelude.{map, not, string_bytes};
+ghost use Rattle.std.specs.Prelude.{if◌then◌else◌, map, not, string_bytes};
 ghost use Rattle.std.specs.BTreeSet.{contains};
-ghost use Rattle.std.specs.List.{list_any};
+ghost use Rattle.std.specs.List.{flat_map, list_any};
 ghost use Rattle.std.specs.Option.{option_copied};
 ghost use Rattle.pylock_core.specs.Session.Picks.{lent_source};
 ghost use Rattle.pylock_diff.specs.Change.{change_of};
-ghost use Rattle.pylock_diff.specs.Inner.Others.{HasSources, HasVersions};
+ghost use Rattle.pylock_diff.specs.Inner.Others.{AreOthers, HasSources, HasVersions, HasWholes};
 ghost use Rattle.pylock_diff.specs.Item.{ItemValue};
-ghost use Rattle.pylock_diff.specs.Sources.{called, file_changes, identity, lone_in, lone_sources};
-ghost use Rattle.pylock_diff.specs.Sources.{source_key, source_text};
-ghost use Rattle.pylock_diff.specs.Texts.{Texts, are_alike, texts_cmp};
+ghost use Rattle.pylock_diff.specs.Sources.{called, condition_key, file_changes, has_counterpart};
+ghost use Rattle.pylock_diff.specs.Sources.{identity, lone_in, lone_sources, source_text, whole_key};
+ghost use Rattle.pylock_compare.specs.Texts.{Texts, are_alike, texts_cmp};
 ghost use Rattle.pylock_diff.specs.Versions.{version_key};
 ghost use Rattle.pylock_diff.specs.declared.change.ChangeKind.TheVariants.{File};
 
 use crate::change::{Change, ChangeKind, push_change};
 use crate::conditions::bytes_of;
 use crate::item::Keyed;
-use crate::key::Key;
-use pylock_audit::{file_label, shown_place};
+use pylock_compare::Key;
 use pylock_core::{DistributionFile, PickedSource, directory_word};
+use pylock_places::{file_label, shown_place};
 use std::alloc::{AllocError, Global};
-use std::collections::BTreeSet;
+use std::collections::{BTreeMap, BTreeSet};
 
 // ---- by what they are compared
 
-/// By what a source is compared, with the version, marker and set of Pythons of its entry.
-fn source_key<'x>(
-    alloc: Global,
-    item: &'x Keyed<'x>,
-    source: PickedSource<'x>,
-) -> Result<Key<'x>, AllocError>
-    ensures { IfOk result (λ key. key ≡ source_key item.now (lent_source source.entry)) }
+/// By what an entry's sources are compared besides themselves: its version, marker and set of
+/// Pythons.
+fn condition_key<'x>(alloc: Global, item: &'x Keyed<'x>) -> Result<Key<'x>, AllocError>
+    ensures { IfOk result (λ key. key ≡ condition_key item.now) }
 {
     let mut key = Key::new(alloc);
     key.push(item.key())?;
     key.push(bytes_of(item.marker()))?;
     key.push(bytes_of(item.pythons()))?;
+    Ok(key)
+}
+
+/// What a source is.
+fn identity<'x>(alloc: Global, source: PickedSource<'x>) -> Result<Key<'x>, AllocError>
+    ensures { IfOk result (λ key. key ≡ identity (lent_source source.entry)) }
+{
+    let mut key = Key::new(alloc);
     push_identity(&mut key, source)?;
     Ok(key)
+}
+
+/// The version of an entry, and what its sources are.
+fn whole_key<'x>(alloc: Global, item: &'x Keyed<'x>) -> Result<Key<'x>, AllocError>
+    ensures { IfOk result (λ key. key ≡ whole_key item.now) }
+{
+    let mut key = Key::new(alloc);
+    key.push(item.key())?;
+    push_identities(&mut key, item.sources())?;
+    Ok(key)
+}
+
+fn push_identities<'x>(key: &mut Key<'x>, sources: &[PickedSource<'x>]) -> Result<(), AllocError>
+    ensures { OnOk result (key.new ≡ key.old ++ flat_map identity (map lent_source sources.now)) }
+{
+    for source in sources {
+        push_identity(key, *source)?;
+    }
+    Ok(())
 }
 
 /// Adds what a source is.
@@ -126,36 +150,66 @@ fn versions_of<'x>(alloc: Global, items: &'x [Keyed<'x>]) -> Result<BTreeSet<Key
     Ok(set)
 }
 
-/// The sources of the items.
-fn sources_of<'x>(alloc: Global, items: &'x [Keyed<'x>]) -> Result<BTreeSet<Key<'x>>, AllocError>
-    ensures { IfOk result (λ set. HasSources set items.now) }
+/// The versions of the items, each with what its sources are.
+fn wholes_of<'x>(alloc: Global, items: &'x [Keyed<'x>]) -> Result<BTreeSet<Key<'x>>, AllocError>
+    ensures { IfOk result (λ set. HasWholes set items.now) }
 {
     let mut set: BTreeSet<Key<'x>> = BTreeSet::new(alloc);
     for item in items {
-        put_sources(alloc, &mut set, item, item.sources())?;
+        set.insert(whole_key(alloc, item)?)?;
     }
     Ok(set)
 }
 
-/// Puts these sources of an item in.
+/// What the sources of the items are, by version, marker and set of Pythons.
+fn sources_of<'x>(
+    alloc: Global,
+    items: &'x [Keyed<'x>],
+) -> Result<BTreeMap<Key<'x>, BTreeSet<Key<'x>>>, AllocError>
+    ensures { IfOk result (λ table. HasSources table items.now) }
+{
+    let mut table: BTreeMap<Key<'x>, BTreeSet<Key<'x>>> = BTreeMap::new(alloc);
+    for item in items {
+        let set = table.entry(condition_key(alloc, item)?)?.or_default();
+        put_sources(alloc, set, item.sources())?;
+    }
+    Ok(table)
+}
+
+/// Puts in what these sources are.
 fn put_sources<'x>(
     alloc: Global,
     set: &mut BTreeSet<Key<'x>>,
-    item: &'x Keyed<'x>,
     sources: &[PickedSource<'x>],
 ) -> Result<(), AllocError>
     ensures { OnOk result ((key : Texts) → contains texts_cmp set.new key
         ≡ (contains texts_cmp set.old key
-        || list_any (λ source. are_alike key (source_key item.now source))
-        (map lent_source sources.now))) }
+        || list_any (λ source. are_alike key (identity source)) (map lent_source sources.now))) }
 {
     for source in sources {
-        set.insert(source_key(alloc, item, *source)?)?;
+        set.insert(identity(alloc, *source)?)?;
     }
     Ok(())
 }
 
 // ---- those that it hasn't
+
+/// What the other lock has of a name.
+struct Others<'x> {
+    versions: BTreeSet<Key<'x>>,
+    wholes: BTreeSet<Key<'x>>,
+    sources: BTreeMap<Key<'x>, BTreeSet<Key<'x>>>,
+}
+
+impl<'x> Drop for Others<'x> {
+    fn drop(self) {
+        let Others {
+            versions: _,
+            wholes: _,
+            sources: _,
+        } = self;
+    }
+}
 
 /// The sources of the items that the others haven't, of versions that they have.
 fn lone_sources<'x>(
@@ -167,46 +221,82 @@ fn lone_sources<'x>(
         ≡ lone_sources items.now others.now) }
 {
     let mut list = Vec::new(alloc);
-    let versions = versions_of(alloc, others)?;
-    let sources = sources_of(alloc, others)?;
+    let others = Others {
+        versions: versions_of(alloc, others)?,
+        wholes: wholes_of(alloc, others)?,
+        sources: sources_of(alloc, others)?,
+    };
     for item in items {
-        push_lone_of(alloc, &mut list, &versions, &sources, item)?;
+        push_lone_of(alloc, &mut list, &others, item)?;
     }
     Ok(list)
 }
 
-/// Adds those of an item, where these are the versions and the sources of the others.
+/// Adds those of an item.
 fn push_lone_of<'x>(
     alloc: Global,
     list: &mut Vec<PickedSource<'x>>,
-    versions: &BTreeSet<Key<'x>>,
-    sources: &BTreeSet<Key<'x>>,
+    others: &Others<'x>,
     item: &'x Keyed<'x>,
 ) -> Result<(), AllocError>
-    ensures { OnOk result ((others : List ItemValue) → HasVersions versions.now others
-        → HasSources sources.now others → map lent_source list.new.items
-        ≡ map lent_source list.old.items ++ lone_in others item.now) }
+    ensures { OnOk result ((known : List ItemValue) → AreOthers others.now known
+        → map lent_source list.new.items
+        ≡ map lent_source list.old.items ++ lone_in known item.now) }
 {
-    if !versions.contains(&version_only(alloc, item)?) {
+    if !others.versions.contains(&version_only(alloc, item)?) {
         return Ok(());
     }
-    push_lone(alloc, list, sources, item, item.sources())
+    let key = condition_key(alloc, item)?;
+    match others.sources.get(&key) {
+        Some(set) => push_lone(alloc, list, set, item.sources()),
+        None => push_unless_moved(alloc, list, others, item),
+    }
 }
 
-/// Adds those of these sources of an item that aren't in the set.
+/// Adds those of an item of whose version, marker and set of Pythons the others have none, unless
+/// one of them has the same sources.
+fn push_unless_moved<'x>(
+    alloc: Global,
+    list: &mut Vec<PickedSource<'x>>,
+    others: &Others<'x>,
+    item: &'x Keyed<'x>,
+) -> Result<(), AllocError>
+    ensures { OnOk result ((known : List ItemValue) → AreOthers others.now known
+        → map lent_source list.new.items ≡ map lent_source list.old.items
+        ++ (if has_counterpart known item.now then [] else item.now.sources)) }
+{
+    if others.wholes.contains(&whole_key(alloc, item)?) {
+        return Ok(());
+    }
+    push_sources(list, item.sources())
+}
+
+fn push_sources<'x>(
+    list: &mut Vec<PickedSource<'x>>,
+    sources: &[PickedSource<'x>],
+) -> Result<(), AllocError>
+    ensures { OnOk result (map lent_source list.new.items
+        ≡ map lent_source list.old.items ++ map lent_source sources.now) }
+{
+    for source in sources {
+        list.push(*source)?;
+    }
+    Ok(())
+}
+
+/// Adds those of these sources that aren't in the set.
 fn push_lone<'x>(
     alloc: Global,
     list: &mut Vec<PickedSource<'x>>,
     set: &BTreeSet<Key<'x>>,
-    item: &'x Keyed<'x>,
     sources: &[PickedSource<'x>],
 ) -> Result<(), AllocError>
     ensures { OnOk result (map lent_source list.new.items ≡ map lent_source list.old.items
-        ++ filter (λ source. not (contains texts_cmp set.now (source_key item.now source)))
+        ++ filter (λ source. not (contains texts_cmp set.now (identity source)))
         (map lent_source sources.now)) }
 {
     for source in sources {
-        if !set.contains(&source_key(alloc, item, *source)?) {
+        if !set.contains(&identity(alloc, *source)?) {
             list.push(*source)?;
         }
     }

@@ -3,8 +3,8 @@
 ghost use Rattle.std.specs.Prelude.{◌≡◌, ◌++◌, IfOk, OnOk, map, option_map, string_bytes};
 ghost use Rattle.std.specs.List.{flat_map};
 ghost use Rattle.std.specs.Option.{option_copied};
-ghost use Rattle.pylock_diff.specs.Inner.Lent.{lent_texts};
-ghost use Rattle.pylock_diff.specs.Texts.{joined, joined_if_any, or_dash};
+ghost use Rattle.pylock_compare.specs.Lent.{lent_texts};
+ghost use Rattle.pylock_compare.specs.Texts.{joined, joined_if_any, or_dash};
 
 use std::alloc::{AllocError, Global};
 

@@ -1,15 +1,16 @@
 //! The versions of a name (PEP 440).
 
-ghost use Rattle.std.specs.Prelude.{◌≡◌, ◌++◌, ◌∷◌, IfOk, OnOk, map, string_bytes};
-ghost use Rattle.pylock_diff.specs.Inner.Lent.{lent_texts};
-ghost use Rattle.pylock_diff.specs.Texts.{are_alike, or_dash};
+ghost use Rattle.std.specs.Prelude.{◌≡◌, ◌++◌, ◌∷◌, IfOk, OnOk, map, option_map};
+ghost use Rattle.std.specs.Prelude.{string_bytes};
+ghost use Rattle.pylock_compare.specs.Lent.{lent_texts};
+ghost use Rattle.pylock_compare.specs.Texts.{are_alike, or_dash};
 ghost use Rattle.pylock_diff.specs.Versions.{text_key, version_changes, version_keys};
 ghost use Rattle.pylock_diff.specs.Versions.{versions_text};
 
 use crate::change::{Change, ChangeKind, push_change};
 use crate::item::Keyed;
-use crate::key::Key;
-use crate::texts::{joined, or_dash};
+use crate::texts::{joined_if_any, or_dash};
+use pylock_compare::Key;
 use pyver_core::{Version, VersionError};
 use std::alloc::{AllocError, Global};
 
@@ -35,13 +36,17 @@ fn marked(alloc: Global, mark: u8, bytes: &[u8]) -> Result<Vec<u8>, AllocError>
     Ok(key)
 }
 
-/// The versions joined by `,`.
-pub(crate) fn versions_text(alloc: Global, items: &[Keyed<'_>]) -> Result<String, AllocError>
-    ensures { IfOk result (λ text. string_bytes text ≡ versions_text items.now) }
+/// The versions joined by `,`, where there is an item.
+pub(crate) fn versions_text(
+    alloc: Global,
+    items: &[Keyed<'_>],
+) -> Result<Option<String>, AllocError>
+    ensures { IfOk result (λ text. option_map string_bytes text
+        ≡ versions_text items.now) }
 {
     let mut texts = Vec::with_capacity(alloc, items.len())?;
     push_versions(&mut texts, items)?;
-    joined(alloc, ",", texts.as_slice())
+    joined_if_any(alloc, ",", texts.as_slice())
 }
 
 /// Adds the version of each item, or `-`.
@@ -96,12 +101,5 @@ pub(crate) fn push_version_change(
     }
     let from = versions_text(alloc, olds)?;
     let to = versions_text(alloc, news)?;
-    push_change(
-        alloc,
-        changes,
-        ChangeKind::Version,
-        name,
-        Some(from),
-        Some(to),
-    )
+    push_change(alloc, changes, ChangeKind::Version, name, from, to)
 }

@@ -140,9 +140,9 @@ Greets source source' sink sink' result =
 
 -- two locks are compared, or what they install on a machine
 abbrev pub Compares : Reads → Form → Option Installation → List ℕ → List ℕ → Outcome
-Compares gives form None old new = Replies (locks_report form old new)
+Compares gives form None old new = RepliesTelling (λ told. locks_report form told old new)
 Compares gives form (Some asked) old new = OpensMachine true gives asked.machine
-    (λ read. Replies (plans_report form asked.choices.items old new read))
+    (λ read. RepliesTelling (λ told. plans_report form told asked.choices.items old new read))
 
 -- What the program does with each task, by what reads of files may give. `select`, `plan` and
 -- `explain` read the lock first, and then the environment.

@@ -5,32 +5,41 @@ ghost use Rattle.pylock_core.specs.Session.State.{first};
 ghost use Rattle.pylock_program.specs.Choices.{after_choices};
 ghost use Rattle.pylock_program.specs.Diff.{after_both, changes_report, installed, locks_report};
 ghost use Rattle.pylock_program.specs.Diff.{plans_report, side_report};
-ghost use Rattle.pylock_readers.specs.Input.{input_env_of};
-ghost use Rattle.pylock_run.specs.Report.Print.{Prints, Pushes};
+ghost use Rattle.pylock_program.specs.Inner.Telling.{PushesTelling};
+ghost use Rattle.pylock_program.specs.Paths.{machine_read};
+ghost use Rattle.pylock_program.specs.Refusal.{PrintsTelling};
+ghost use Rattle.pylock_run.specs.Report.Print.{Pushes};
 
 use crate::choices::make_choices;
+use crate::file::{FileBytes, MachineInput};
+use crate::notes::options::option_diagnostic;
+use crate::notes::refusal::{refusal_diagnostic, told_in};
 use crate::program::REFUSED;
-use crate::show::{push_open_error, push_refused_option};
+use crate::show::{push_refusal_told, push_refused_option};
 use crate::text::diff::push_changes;
 use crate::text::json::push_side_json;
 use pylock_command::{Choice, Form};
-use pylock_core::{EnvError, EnvironmentInput, Lock, LockError, Session};
-use pylock_diff::{Change, diff_document, lock_changes, plan_changes};
+use pylock_core::{EnvError, Lock, LockError, Session};
+use pylock_diff::{
+    Change, Compared, diff_document, lock_changes, plan_changes, read_compared,
+};
 use pylock_json::push_document;
+use pylock_messages::{Diagnostic, lock_diagnostic};
 use pylock_run::{OpenError, RunFault, Sink, print, push_side_error};
 use pymark_core::Environment;
 use pywheel_core::TagList;
 use std::alloc::{AllocError, Global};
 
-/// The bytes of two locks.
+/// The files of two locks.
 #[derive(Clone, Copy)]
 pub(crate) struct Sides<'a> {
-    pub(crate) old: &'a [u8],
-    pub(crate) new: &'a [u8],
+    pub(crate) old: &'a FileBytes<'a>,
+    pub(crate) new: &'a FileBytes<'a>,
 }
 
 /// Writes what changed from one lock to the other, and answers the status: 0 where nothing did, 1
-/// where something did, 2 where a lock is refused. It takes memory for both locks, for tables of
+/// where something did, 2 where a lock is refused. A document tells the line on a refusal too, and
+/// where that points. It takes memory for both locks with the codes of all their keys, for tables of
 /// their sources, and for the changes.
 pub(crate) fn write_lock_diff<W: Sink>(
     alloc: Global,
@@ -38,53 +47,72 @@ pub(crate) fn write_lock_diff<W: Sink>(
     sides: Sides<'_>,
     writer: &mut W,
 ) -> Result<u8, RunFault>
-    ensures { Prints (locks_report form sides.entry.old.now sides.entry.new.now)
-        (W.value writer.old) (W.value writer.new) result }
+    ensures { PrintsTelling (λ told. locks_report form told sides.entry.old.now.bytes.items
+        sides.entry.new.now.bytes.items) (W.value writer.old) (W.value writer.new) result }
 {
     let mut out = Vec::new(alloc);
-    let status = push_lock_diff(alloc, &mut out, form, sides)?;
+    let (status, _told) = push_lock_diff(alloc, &mut out, form, sides)?;
     print(&out, status, writer)
 }
 
-/// Pushes what changed from one lock to the other.
+/// Pushes what changed from one lock to the other, and answers the status and what is told of a
+/// refusal.
 fn push_lock_diff(
     alloc: Global,
     out: &mut Vec<u8>,
     form: Form,
     sides: Sides<'_>,
-) -> Result<u8, AllocError>
-    ensures { Pushes out.old.items out.new.items
-        (locks_report form sides.entry.old.now sides.entry.new.now) result }
+) -> Result<(u8, Option<Diagnostic>), AllocError>
+    ensures { PushesTelling out.old.items out.new.items (λ told. locks_report form told
+        sides.entry.old.now.bytes.items sides.entry.new.now.bytes.items) result }
 {
-    let old = match Lock::read(alloc, sides.old) {
-        Ok(lock) => lock,
+    let old = match read_compared(alloc, &sides.old.bytes) {
+        Ok(compared) => compared,
         Err(LockError::Memory) => return Err(AllocError),
-        Err(error) => return push_side(alloc, out, form, "old", &error),
+        Err(error) => return push_side(alloc, out, form, "old", sides.old, error),
     };
-    let new = match Lock::read(alloc, sides.new) {
-        Ok(lock) => lock,
+    let new = match read_compared(alloc, &sides.new.bytes) {
+        Ok(compared) => compared,
         Err(LockError::Memory) => return Err(AllocError),
-        Err(error) => return push_side(alloc, out, form, "new", &error),
+        Err(error) => return push_side(alloc, out, form, "new", sides.new, error),
     };
-    let changes = lock_changes(alloc, &old, &new)?;
+    let status = push_locks(alloc, out, form, &old, &new)?;
+    Ok((status, None))
+}
+
+/// Pushes what changed from one lock that was read to the other.
+fn push_locks(
+    alloc: Global,
+    out: &mut Vec<u8>,
+    form: Form,
+    old: &Compared,
+    new: &Compared,
+) -> Result<u8, AllocError> {
+    let changes = lock_changes(alloc, old, new)?;
     push_shown(alloc, out, form, &changes)
 }
 
-/// Pushes a refused lock, of which `side` tells which it is.
+/// Pushes a refused lock, of which `side` tells which it is, and answers the status and what is told.
 fn push_side(
     alloc: Global,
     out: &mut Vec<u8>,
     form: Form,
     side: &str,
-    error: &LockError,
-) -> Result<u8, AllocError>
-    ensures { Pushes out.old.items out.new.items (side_report form side.now error.now) result }
+    file: &FileBytes<'_>,
+    error: LockError,
+) -> Result<(u8, Option<Diagnostic>), AllocError>
+    ensures { PushesTelling out.old.items out.new.items
+        (λ told. side_report form told side.now error) result }
 {
+    let told = told_in(
+        form,
+        lock_diagnostic(alloc, file.path, &file.bytes, &error),
+    )?;
     match form {
-        Form::Lines => push_side_error(out, side, error)?,
-        Form::Json => push_side_json(alloc, out, side, error)?,
+        Form::Lines => push_side_error(out, side, &error)?,
+        Form::Json => push_side_json(alloc, out, side, &error, told.as_ref())?,
     }
-    Ok(REFUSED)
+    Ok((REFUSED, told))
 }
 
 /// Pushes the changes, and answers whether there are any.
@@ -111,14 +139,15 @@ pub(crate) fn write_plan_diff<W: Sink>(
     form: Form,
     choices: &[Choice<'_>],
     sides: Sides<'_>,
-    environment: EnvironmentInput<'_>,
+    machine: &MachineInput<'_>,
     writer: &mut W,
 ) -> Result<u8, RunFault>
-    ensures { Prints (plans_report form choices.now sides.entry.old.now sides.entry.new.now
-        (input_env_of environment.entry)) (W.value writer.old) (W.value writer.new) result }
+    ensures { PrintsTelling (λ told. plans_report form told choices.now
+        sides.entry.old.now.bytes.items sides.entry.new.now.bytes.items (machine_read machine.now))
+        (W.value writer.old) (W.value writer.new) result }
 {
     let mut out = Vec::new(alloc);
-    let status = push_plan_diff(alloc, &mut out, form, choices, sides, environment)?;
+    let (status, _told) = push_plan_diff(alloc, &mut out, form, choices, sides, machine)?;
     print(&out, status, writer)
 }
 
@@ -129,48 +158,61 @@ fn push_plan_diff(
     form: Form,
     choices: &[Choice<'_>],
     sides: Sides<'_>,
-    environment: EnvironmentInput<'_>,
-) -> Result<u8, AllocError>
-    ensures { Pushes out.old.items out.new.items
-        (plans_report form choices.now sides.entry.old.now sides.entry.new.now
-        (input_env_of environment.entry)) result }
+    machine: &MachineInput<'_>,
+) -> Result<(u8, Option<Diagnostic>), AllocError>
+    ensures { PushesTelling out.old.items out.new.items (λ told. plans_report form told choices.now
+        sides.entry.old.now.bytes.items sides.entry.new.now.bytes.items (machine_read machine.now))
+        result }
 {
-    let old = match Lock::read(alloc, sides.old) {
+    let old = match Lock::read(alloc, &sides.old.bytes) {
         Ok(lock) => lock,
         Err(LockError::Memory) => return Err(AllocError),
-        Err(error) => return push_side(alloc, out, form, "old", &error),
+        Err(error) => return push_side(alloc, out, form, "old", sides.old, error),
     };
-    let new = match Lock::read(alloc, sides.new) {
+    let new = match Lock::read(alloc, &sides.new.bytes) {
         Ok(lock) => lock,
         Err(LockError::Memory) => return Err(AllocError),
-        Err(error) => return push_side(alloc, out, form, "new", &error),
+        Err(error) => return push_side(alloc, out, form, "new", sides.new, error),
     };
-    push_installed(alloc, out, form, choices, (old, new), environment)
+    push_installed(alloc, out, form, choices, (old, new), (sides.old.path, machine))
 }
 
-/// The same of two locks that were read.
+/// The same of two locks that were read, the old one from the file of this path.
 fn push_installed(
     alloc: Global,
     out: &mut Vec<u8>,
     form: Form,
     choices: &[Choice<'_>],
     locks: (Lock, Lock),
-    environment: EnvironmentInput<'_>,
-) -> Result<u8, AllocError>
-    ensures { Pushes out.old.items out.new.items (installed form choices.now
-        (input_env_of environment.entry) locks.0 locks.1) result }
+    named: (&str, &MachineInput<'_>),
+) -> Result<(u8, Option<Diagnostic>), AllocError>
+    ensures { PushesTelling out.old.items out.new.items (λ told. installed form told choices.now
+        (machine_read named.entry.1.now) locks.0 locks.1) result }
 {
-    match environment.read(alloc) {
+    match named.1.input().read(alloc) {
         Ok((environment, tags)) => {
             let (mut old, mut new) = start_both(alloc, locks, environment, tags)?;
-            push_after_choices(alloc, out, form, choices, &mut old, &mut new)
+            push_after_choices(alloc, out, form, choices, (&mut old, &mut new), named.0)
         }
         Err(EnvError::Memory) => Err(AllocError),
-        Err(error) => {
-            push_open_error(alloc, out, form, &OpenError::Environment(error))?;
-            Ok(REFUSED)
-        }
+        Err(error) => push_machine(alloc, out, form, named.1, OpenError::Environment(error)),
     }
+}
+
+/// Pushes a refused environment, and answers the status and what is told.
+fn push_machine(
+    alloc: Global,
+    out: &mut Vec<u8>,
+    form: Form,
+    machine: &MachineInput<'_>,
+    refusal: OpenError,
+) -> Result<(u8, Option<Diagnostic>), AllocError> {
+    let told = told_in(
+        form,
+        refusal_diagnostic(alloc, &refusal, machine.named(), machine.named()),
+    )?;
+    push_refusal_told(alloc, out, form, &refusal, told.as_ref())?;
+    Ok((REFUSED, told))
 }
 
 /// Starts a session on each of two locks, in one environment.
@@ -197,21 +239,30 @@ fn push_after_choices(
     out: &mut Vec<u8>,
     form: Form,
     choices: &[Choice<'_>],
-    old: &mut Session,
-    new: &mut Session,
-) -> Result<u8, AllocError>
-    ensures { Pushes out.old.items out.new.items (after_both form
-        (after_choices choices.now old.old.state)
-        (after_choices choices.now new.old.state)) result }
-{
+    sessions: (&mut Session, &mut Session),
+    path: &str,
+) -> Result<(u8, Option<Diagnostic>), AllocError> {
+    let (old, new) = sessions;
     if let Some(choice) = make_choices(alloc, old, choices)? {
-        push_refused_option(alloc, out, form, choice, None)?;
-        return Ok(1);
+        return push_option(alloc, out, form, choice, path);
     }
     if let Some(choice) = make_choices(alloc, new, choices)? {
-        push_refused_option(alloc, out, form, choice, None)?;
-        return Ok(1);
+        return push_option(alloc, out, form, choice, path);
     }
     let changes = plan_changes(alloc, old, new)?;
-    push_shown(alloc, out, form, &changes)
+    let status = push_shown(alloc, out, form, &changes)?;
+    Ok((status, None))
+}
+
+/// Pushes a refused option, and answers the status and what is told.
+fn push_option(
+    alloc: Global,
+    out: &mut Vec<u8>,
+    form: Form,
+    choice: Choice<'_>,
+    path: &str,
+) -> Result<(u8, Option<Diagnostic>), AllocError> {
+    let told = told_in(form, option_diagnostic(alloc, path, choice))?;
+    push_refused_option(alloc, out, form, choice, told.as_ref())?;
+    Ok((1, told))
 }

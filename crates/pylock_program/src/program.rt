@@ -396,24 +396,13 @@ fn compare_texts<W: Sink, N: Sink>(
     writer: &mut W,
     notes: &mut N,
 ) -> Result<u8, Failure>
-    ensures { Tells (Prints (locks_report form sides.entry.0.now.bytes.items
+    ensures { Tells (PrintsTelling (λ told. locks_report form told sides.entry.0.now.bytes.items
         sides.entry.1.now.bytes.items) (W.value writer.old) (W.value writer.new)) result }
 {
     let (old, new) = sides;
-    let end = write_lock_diff(alloc, form, sides_of(old, new), writer);
+    let end = write_lock_diff(alloc, form, Sides { old, new }, writer);
     tell_sides(alloc, notes, &end, old, new, None);
     program_end(end)
-}
-
-/// The bytes of two files.
-fn sides_of<'a>(old: &'a FileBytes<'_>, new: &'a FileBytes<'_>) -> Sides<'a>
-    ensures old { result.old.now ≡ old.now.bytes.items }
-    ensures new { result.new.now ≡ new.now.bytes.items }
-{
-    Sides {
-        old: &old.bytes,
-        new: &new.bytes,
-    }
 }
 
 /// Answers `diff` on what two locks install.
@@ -428,7 +417,7 @@ fn compare_plans<F: Files, R: Source, W: Sink, N: Sink>(
     notes: &mut N,
 ) -> Result<u8, Failure>
     ensures { OpensMachine true (F.read_gives files.now) installation.now.machine
-        (λ read. Replies (plans_report form installation.now.choices.items
+        (λ read. RepliesTelling (λ told. plans_report form told installation.now.choices.items
         sides.entry.0.now.bytes.items sides.entry.1.now.bytes.items read))
         (R.value reader.old) (R.value reader.new) (W.value writer.old) (W.value writer.new) result }
 {
@@ -438,8 +427,8 @@ fn compare_plans<F: Files, R: Source, W: Sink, N: Sink>(
         alloc,
         form,
         &installation.choices,
-        sides_of(old, new),
-        machine.input(),
+        Sides { old, new },
+        &machine,
         writer,
     );
     tell_sides(alloc, notes, &end, old, new, Some(&machine));

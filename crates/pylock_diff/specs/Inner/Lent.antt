@@ -1,33 +1,14 @@
 -- What stands for values that are lent: texts, rows, items and files of two locks.
-use Rattle.std.specs.Prelude.{◌≡◌, ℕ, List, [], ◌∷◌, map, Option, Some, None}
-use Rattle.std.specs.Prelude.{option_map}
+use Rattle.std.specs.Prelude.{ℕ, List, [], ◌∷◌, map, Option, Some, None, option_map}
 use Rattle.std.specs.Borrow.{Bor}
-use Rattle.std.specs.BTreeMap.{BTreeMap, get_by}
-use Rattle.std.specs.Cmp.Lexicographic.{slice_cmp}
-use Rattle.std.specs.Global.{Global}
-use Rattle.std.specs.Option.{option_map_or}
-use Rattle.std.specs.Ordering.{nat_cmp}
-use Rattle.std.specs.declared.vec.Vec.{Vec}
 use Rattle.pyver_core.specs.Set.Normal.{set_text}
 use Rattle.pylock_readers.specs.Entry.{ArchiveValue, EntryValue, FileValue}
 use Rattle.pylock_core.specs.Session.Picks.{SourceValue, lent_source, sources}
 use Rattle.pylock_core.specs.declared.picked.PickedSource.{PickedSource}
+use Rattle.pylock_diff.specs.Head.{HeadKey}
 use Rattle.pylock_diff.specs.Item.{ItemValue}
-use Rattle.pylock_diff.specs.Rows.{Row}
+use Rattle.pylock_compare.specs.Rows.{Row}
 use Rattle.pylock_diff.specs.declared.item.Item.{Item}
-
--- texts
-abbrev pub lent_texts : List (Bor (List ℕ)) → List (List ℕ)
-lent_texts texts = map (λ text. text.now) texts
-
--- rows, each a value under a text
-abbrev pub lent_rows : {V : Type 0} → List (Bor (List ℕ) × V) → List (Row V)
-lent_rows rows = map (λ row. (row.0.now, row.1)) rows
-
--- the values under a name in a table
-abbrev pub found : {V : Type 0} → BTreeMap (Bor (List ℕ)) (Vec V Global) → List ℕ → List V
-found table name =
-    option_map_or (λ values. values.items) (get_by (λ key. slice_cmp nat_cmp name key.now) table) []
 
 -- a text of an entry, which a pick doesn't look at
 abbrev pub where_entry : Option PickedSource → Option (List ℕ) → Option (List ℕ)
@@ -39,13 +20,15 @@ abbrev pub sources_by : EntryValue → Option PickedSource → List SourceValue
 sources_by entry None = map (λ named. named.1) (sources entry)
 sources_by entry (Some source) = lent_source source ∷ []
 
--- an item: an entry, or a pick of it
+-- an item: an entry, or a pick of it, with its codes
 abbrev pub lent_item : Item → ItemValue
 lent_item item = record {
   version = item.package.now.version;
   marker = where_entry item.picked (option_map (λ marker. marker.text) item.package.now.marker);
   pythons = where_entry item.picked (option_map set_text item.package.now.requires_python);
   sources = sources_by item.package.now item.picked;
+  keys = item.codes.now.keys;
+  inner = item.codes.now.inner;
 }
 
 abbrev pub lent_items : List Item → List ItemValue
@@ -66,9 +49,11 @@ lent_files files = map (λ file. file.now) files
 abbrev pub lent_archives : List (Bor ArchiveValue) → List ArchiveValue
 lent_archives archives = map (λ archive. archive.now) archives
 
+abbrev pub lent_keys : List (Bor HeadKey) → List HeadKey
+lent_keys keys = map (λ key. key.now) keys
+
+abbrev pub key_row : Bor (List ℕ) × Bor HeadKey → Row HeadKey
+key_row row = (row.0.now, row.1.now)
+
 abbrev pub hash_row : Bor (List ℕ) × Bor (List ℕ) → Row (List ℕ)
 hash_row row = (row.0.now, row.1.now)
-
--- the entry has no source but wheels and an sdist
-abbrev pub HasFilesAlone : EntryValue → Type 0
-HasFilesAlone entry = (entry.vcs ≡ None) × (entry.directory ≡ None) × (entry.archive ≡ None)

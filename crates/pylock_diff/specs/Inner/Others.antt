@@ -1,11 +1,14 @@
 -- Sets by which sources are looked for.
-use Rattle.std.specs.Prelude.{◌≡◌, ◌∷◌, List, []}
+use Rattle.std.specs.Prelude.{◌≡◌, ◌&&◌, ◌∷◌, Bool, false, List, []}
+use Rattle.std.specs.BTreeMap.{BTreeMap, get}
 use Rattle.std.specs.BTreeSet.{BTreeSet, contains}
 use Rattle.std.specs.List.{list_any}
+use Rattle.std.specs.Option.{option_map_or}
+use Rattle.pylock_compare.specs.Texts.{Texts, are_alike, texts_cmp}
 use Rattle.pylock_diff.specs.Item.{ItemValue}
-use Rattle.pylock_diff.specs.Sources.{source_key}
-use Rattle.pylock_diff.specs.Texts.{Texts, are_alike, texts_cmp}
+use Rattle.pylock_diff.specs.Sources.{condition_key, identity, whole_key}
 use Rattle.pylock_diff.specs.Versions.{version_key}
+use Rattle.pylock_diff.specs.declared.sources.Others.{Others}
 
 -- the set has the versions of these items
 abbrev pub HasVersions : BTreeSet Texts → List ItemValue → Type 0
@@ -13,9 +16,26 @@ HasVersions set items =
     (key : Texts) → contains texts_cmp set key
     ≡ list_any (λ item. are_alike key (version_key item ∷ [])) items
 
--- the set has the sources of these items
-abbrev pub HasSources : BTreeSet Texts → List ItemValue → Type 0
-HasSources set items =
+-- the set has the versions of these items, each with what its sources are
+abbrev pub HasWholes : BTreeSet Texts → List ItemValue → Type 0
+HasWholes set items =
     (key : Texts) → contains texts_cmp set key
-    ≡ list_any (λ item. list_any (λ source. are_alike key (source_key item source)) item.sources)
-    items
+    ≡ list_any (λ item. are_alike key (whole_key item)) items
+
+-- what stands under a version, a marker and a set of Pythons
+abbrev pub holds_at : BTreeMap Texts (BTreeSet Texts) → Texts → Texts → Bool
+holds_at table condition key =
+    option_map_or (λ set. contains texts_cmp set key) (get texts_cmp table condition) false
+
+-- the table has what the sources of these items are
+abbrev pub HasSources : BTreeMap Texts (BTreeSet Texts) → List ItemValue → Type 0
+HasSources table items =
+    (condition key : Texts) → holds_at table condition key
+    ≡ list_any (λ item. are_alike condition (condition_key item)
+    && list_any (λ source. are_alike key (identity source)) item.sources) items
+
+-- what the other lock has of a name
+pub record AreOthers (others : Others) (items : List ItemValue) : Type 0 where
+  pub versions : HasVersions others.versions items
+  pub wholes : HasWholes others.wholes items
+  pub sources : HasSources others.sources items

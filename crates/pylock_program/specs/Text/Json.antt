@@ -27,9 +27,9 @@ words_json words told = json_text (refused_rows words told)
 abbrev pub lock_json : LockError → Option DiagnosticValue → List ℕ
 lock_json error = words_json (codes "lock" ∷ lock_words error)
 
--- the same of one of two locks, of which nothing is told: which it is stands before the words
-abbrev pub side_json : List ℕ → LockError → List ℕ
-side_json side error = words_json (codes "lock" ∷ side ∷ lock_words error) None
+-- the same of one of two locks: which it is stands before the words
+abbrev pub side_json : List ℕ → LockError → Option DiagnosticValue → List ℕ
+side_json side error = words_json (codes "lock" ∷ side ∷ lock_words error)
 
 abbrev pub environment_json : EnvError → Option DiagnosticValue → List ℕ
 environment_json error = words_json (codes "environment" ∷ environment_words error)

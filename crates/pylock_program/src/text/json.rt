@@ -44,17 +44,18 @@ fn push_lock_json(
     push_lock_words(alloc, out, &["lock"], error, told)
 }
 
-/// Pushes the document of a refused lock that is one of two: `side` tells which it is, and nothing
-/// else is told.
+/// Pushes the document of a refused lock that is one of two: `side` tells which it is.
 pub(crate) fn push_side_json(
     alloc: Global,
     out: &mut Vec<u8>,
     side: &str,
     error: &LockError,
+    told: Option<&Diagnostic>,
 ) -> Result<(), AllocError>
-    ensures { OnOk result (out.new.items ≡ out.old.items ++ side_json side.now error.now) }
+    ensures { OnOk result (out.new.items ≡ out.old.items
+        ++ side_json side.now error.now (option_copied told.entry)) }
 {
-    push_lock_words(alloc, out, &["lock", side], error, None)
+    push_lock_words(alloc, out, &["lock", side], error, told)
 }
 
 /// Pushes the document of a refused lock, whose words stand behind these.

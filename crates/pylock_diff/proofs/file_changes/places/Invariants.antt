@@ -1,7 +1,8 @@
 use Rattle.std.proofs.Common.{◌≡◌, map, string_bytes, take}
-use Rattle.pylock_audit.specs.Url.{shown_place}
+use Rattle.std.specs.List.{flat_map}
+use Rattle.pylock_diff.specs.Files.{shown_places}
 use Rattle.pylock_diff.specs.Inner.Lent.{lent_files}
 use Rattle.pylock_diff.proofs.file_changes.places.Given as goal
 
 abbrev pub invariant-loop-file : goal.invariant-loop-file
-invariant-loop-file l = map string_bytes l.list.items ≡ map (λ file. shown_place file.location) (lent_files (take l.file-index l.files))
+invariant-loop-file l = map string_bytes l.list.items ≡ flat_map (λ file. shown_places file.location) (lent_files (take l.file-index l.files))

@@ -2,8 +2,9 @@ use Rattle.std.proofs.Common.{◌∙◌, Bor, ap, map}
 use Rattle.std.proofs.lemmas.List.{take_all}
 use Rattle.pylock_readers.specs.Entry.{ArchiveValue}
 use Rattle.pylock_diff.specs.Files.{archive_hash_changes}
-use Rattle.pylock_diff.specs.Inner.Lent.{archive_row, lent_archives, lent_texts}
-use Rattle.pylock_diff.proofs.RowLemmas.{told_all, told_more, values_seen}
+use Rattle.pylock_compare.specs.Lent.{lent_texts}
+use Rattle.pylock_diff.specs.Inner.Lent.{archive_row, lent_archives}
+use Rattle.pylock_compare.proofs.RowLemmas.{told_all, told_more, values_seen}
 use Rattle.pylock_diff.proofs.file_changes.push_archive_hashes.Goals as goal
 
 pub loop-place-preserved : goal.loop-place-preserved

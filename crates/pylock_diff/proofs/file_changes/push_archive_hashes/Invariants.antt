@@ -1,7 +1,8 @@
 use Rattle.std.proofs.Common.{◌≡◌, ◌++◌, map, take}
 use Rattle.pylock_diff.specs.Files.{archive_hash_changes}
-use Rattle.pylock_diff.specs.Inner.Lent.{archive_row, lent_texts}
-use Rattle.pylock_diff.proofs.RowLemmas.{each_told}
+use Rattle.pylock_compare.specs.Lent.{lent_texts}
+use Rattle.pylock_diff.specs.Inner.Lent.{archive_row}
+use Rattle.pylock_compare.proofs.RowLemmas.{each_told}
 use Rattle.pylock_diff.proofs.file_changes.push_archive_hashes.Given as goal
 
 abbrev pub invariant-loop-place : goal.invariant-loop-place

@@ -2,8 +2,9 @@ use Rattle.std.proofs.Common.{◌∙◌, Bor, [], ap, map}
 use Rattle.std.proofs.lemmas.List.{take_all}
 use Rattle.pylock_readers.specs.Entry.{FileValue}
 use Rattle.pylock_diff.specs.Files.{file_hash_changes, if_both, place_change}
-use Rattle.pylock_diff.specs.Inner.Lent.{file_row, lent_files, lent_texts}
-use Rattle.pylock_diff.proofs.RowLemmas.{told_all, told_more, values_seen}
+use Rattle.pylock_compare.specs.Lent.{lent_texts}
+use Rattle.pylock_diff.specs.Inner.Lent.{file_row, lent_files}
+use Rattle.pylock_compare.proofs.RowLemmas.{told_all, told_more, values_seen}
 use Rattle.pylock_diff.proofs.file_changes.push_file_hashes.Goals as goal
 
 pub loop-file-preserved : goal.loop-file-preserved

@@ -1,7 +1,8 @@
 use Rattle.std.proofs.Common.{◌≡◌, ◌++◌, [], map, take}
 use Rattle.pylock_diff.specs.Files.{file_hash_changes, if_both, place_change}
-use Rattle.pylock_diff.specs.Inner.Lent.{file_row, lent_texts}
-use Rattle.pylock_diff.proofs.RowLemmas.{each_told}
+use Rattle.pylock_compare.specs.Lent.{lent_texts}
+use Rattle.pylock_diff.specs.Inner.Lent.{file_row}
+use Rattle.pylock_compare.proofs.RowLemmas.{each_told}
 use Rattle.pylock_diff.proofs.file_changes.push_file_hashes.Given as goal
 
 abbrev pub invariant-loop-file : goal.invariant-loop-file

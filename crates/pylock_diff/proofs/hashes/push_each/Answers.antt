@@ -1,8 +1,9 @@
 use Rattle.std.proofs.Common.{◌∙◌, ap, List, ℕ, Bor, map}
 use Rattle.std.proofs.lemmas.List.{take_all}
 use Rattle.pylock_diff.specs.Hashes.{value_changes}
-use Rattle.pylock_diff.specs.Inner.Lent.{lent_texts, hash_row}
-use Rattle.pylock_diff.proofs.RowLemmas.{told_all, told_more, values_seen}
+use Rattle.pylock_compare.specs.Lent.{lent_texts}
+use Rattle.pylock_diff.specs.Inner.Lent.{hash_row}
+use Rattle.pylock_compare.proofs.RowLemmas.{told_all, told_more, values_seen}
 use Rattle.pylock_diff.proofs.hashes.push_each.Goals as goal
 
 pub loop-algorithm-preserved : goal.loop-algorithm-preserved

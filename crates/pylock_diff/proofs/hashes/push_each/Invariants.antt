@@ -1,7 +1,8 @@
 use Rattle.std.proofs.Common.{◌≡◌, ◌++◌, map, take}
 use Rattle.pylock_diff.specs.Hashes.{value_changes}
-use Rattle.pylock_diff.specs.Inner.Lent.{hash_row, lent_texts}
-use Rattle.pylock_diff.proofs.RowLemmas.{each_told}
+use Rattle.pylock_compare.specs.Lent.{lent_texts}
+use Rattle.pylock_diff.specs.Inner.Lent.{hash_row}
+use Rattle.pylock_compare.proofs.RowLemmas.{each_told}
 use Rattle.pylock_diff.proofs.hashes.push_each.Given as goal
 
 abbrev pub invariant-loop-algorithm : goal.invariant-loop-algorithm

@@ -1,8 +1,8 @@
 use Rattle.std.proofs.Common.{◌∙◌, ◌++◌, ap, map}
 use Rattle.pylock_diff.specs.Files.{archive_hash_changes, archives_of, file_hash_changes, files_of}
 use Rattle.pylock_diff.specs.Inner.Lent.{archive_row, file_row}
-use Rattle.pylock_diff.specs.Rows.{under_each}
-use Rattle.pylock_diff.proofs.RowLemmas.{in_turn}
+use Rattle.pylock_compare.specs.Rows.{under_each}
+use Rattle.pylock_compare.proofs.RowLemmas.{in_turn}
 use Rattle.pylock_diff.proofs.names.push_hashes.Goals as goal
 
 pub returns-clause-hashes : goal.returns-clause-hashes

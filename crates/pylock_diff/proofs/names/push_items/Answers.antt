@@ -1,8 +1,9 @@
 use Rattle.std.proofs.Common.{◌∙◌, ap, map}
 use Rattle.std.proofs.lemmas.List.{take_all}
 use Rattle.pylock_diff.specs.Changes.{name_changes}
-use Rattle.pylock_diff.specs.Inner.Lent.{item_row, lent_item, lent_items, lent_texts}
-use Rattle.pylock_diff.proofs.RowLemmas.{told_all, told_more, values_seen}
+use Rattle.pylock_compare.specs.Lent.{lent_texts}
+use Rattle.pylock_diff.specs.Inner.Lent.{item_row, lent_item, lent_items}
+use Rattle.pylock_compare.proofs.RowLemmas.{told_all, told_more, values_seen}
 use Rattle.pylock_diff.proofs.names.push_items.Goals as goal
 
 pub loop-name-preserved : goal.loop-name-preserved

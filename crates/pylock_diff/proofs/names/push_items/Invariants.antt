@@ -1,7 +1,8 @@
 use Rattle.std.proofs.Common.{◌≡◌, ◌++◌, map, take}
 use Rattle.pylock_diff.specs.Changes.{name_changes}
-use Rattle.pylock_diff.specs.Inner.Lent.{item_row, lent_texts}
-use Rattle.pylock_diff.proofs.RowLemmas.{each_told}
+use Rattle.pylock_compare.specs.Lent.{lent_texts}
+use Rattle.pylock_diff.specs.Inner.Lent.{item_row}
+use Rattle.pylock_compare.proofs.RowLemmas.{each_told}
 use Rattle.pylock_diff.proofs.names.push_items.Given as goal
 
 abbrev pub invariant-loop-name : goal.invariant-loop-name

@@ -1,8 +1,8 @@
 use Rattle.std.proofs.Common.{◌∙◌, ◌∷◌, [], false, ap}
 use Rattle.pylock_diff.specs.Item.{ItemValue}
-use Rattle.pylock_diff.specs.Texts.{are_alike}
+use Rattle.pylock_compare.specs.Texts.{are_alike}
 use Rattle.pylock_diff.specs.Versions.{version_key}
-use Rattle.pylock_diff.proofs.KeyLemmas.{any_grown}
+use Rattle.pylock_compare.proofs.KeyLemmas.{any_grown}
 use Rattle.pylock_diff.proofs.sources.versions_of.Goals as goal
 
 pub loop-item-preserved : goal.loop-item-preserved

@@ -1,5 +1,5 @@
 use Rattle.std.proofs.Common.{◌≡◌, map, string_bytes, take}
-use Rattle.pylock_diff.specs.Inner.Lent.{lent_texts}
+use Rattle.pylock_compare.specs.Lent.{lent_texts}
 use Rattle.pylock_diff.proofs.texts.lent.Given as goal
 
 abbrev pub invariant-loop-text : goal.invariant-loop-text

@@ -1,6 +1,6 @@
 use Rattle.std.proofs.Common.{◌≡◌, ◌++◌, string_bytes, take}
 use Rattle.std.specs.List.{flat_map}
-use Rattle.pylock_diff.specs.Inner.Lent.{lent_texts}
+use Rattle.pylock_compare.specs.Lent.{lent_texts}
 use Rattle.pylock_diff.proofs.texts.push_others.Given as goal
 
 abbrev pub invariant-loop-other : goal.invariant-loop-other

@@ -1,6 +1,6 @@
 use Rattle.std.proofs.Common.{◌≡◌, ◌++◌, map, take}
-use Rattle.pylock_diff.specs.Inner.Lent.{lent_texts}
-use Rattle.pylock_diff.specs.Texts.{or_dash}
+use Rattle.pylock_compare.specs.Lent.{lent_texts}
+use Rattle.pylock_compare.specs.Texts.{or_dash}
 use Rattle.pylock_diff.proofs.versions.push_versions.Given as goal
 
 abbrev pub invariant-loop-item : goal.invariant-loop-item

@@ -1,0 +1,4 @@
+pub mod KeyLemmas
+pub mod OrderLemmas
+pub mod PartnerLemmas
+pub mod RowLemmas

@@ -1,0 +1,19 @@
+//! What is compared of two documents: rows under names, lists of texts, and partners, which are
+//! alike in both.
+//!
+//! From `crates/pylock_diff/src/names.rt`:
+//!
+//! ```rust
+//! let sides = Sides::new(alloc, olds, news)?;
+//! for name in &sides.names {
+//! ```
+#![tactic(auto)]
+
+mod key;
+pub mod laws;
+mod partners;
+mod rows;
+
+pub use key::Key;
+pub use partners::are_alone;
+pub use rows::{Sides, in_order};

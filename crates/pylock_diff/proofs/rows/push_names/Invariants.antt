@@ -1,8 +1,0 @@
-use Rattle.std.proofs.Common.{◌≡◌, ◌++◌, take}
-use Rattle.pylock_diff.specs.Inner.Lent.{lent_rows, lent_texts}
-use Rattle.pylock_diff.specs.Rows.{names_of}
-use Rattle.pylock_diff.proofs.rows.push_names.Given as goal
-
-abbrev pub invariant-loop-name : goal.invariant-loop-name
-invariant-loop-name g l =
-    lent_texts l.names.items ≡ lent_texts l.initial.names.items ++ names_of (lent_rows (take l.name-index l.rows))

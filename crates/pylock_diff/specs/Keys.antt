@@ -1,0 +1,90 @@
+-- The keys of the entries of a name of which no other line tells.
+use Rattle.std.specs.Prelude.{ℕ, Bool, true, false, not, ◌&&◌, ◌||◌, ◌==◌, ◌++◌, List, [], ◌∷◌}
+use Rattle.std.specs.Prelude.{codes, map, suc, Some}
+use Rattle.std.specs.List.{flat_map, list_any}
+use Rattle.std.specs.Str.{bytes_eq}
+use Rattle.pylock_compare.specs.Rows.{Row, under_each}
+use Rattle.pytoml_code.specs.Shown.{shown}
+use Rattle.pylock_diff.specs.Change.{ChangeValue, change_of, told_where}
+use Rattle.pylock_diff.specs.Codes.{Rows}
+use Rattle.pylock_diff.specs.Item.{ItemValue}
+use Rattle.pylock_diff.specs.SourceKeys.{is_one_of}
+use Rattle.pylock_diff.specs.declared.change.ChangeKind.{ChangeKind}
+use Rattle.pylock_diff.specs.declared.change.ChangeKind.TheVariants as kind
+
+-- a code with the place of its entry among those of a name
+abbrev pub Placed : Type 0
+Placed = ℕ × List ℕ
+
+-- the rows of entries, the first of which has this place
+abbrev pub placed_rows : (ItemValue → Rows) → ℕ → List ItemValue → List (Row Placed)
+placed_rows rows place [] = []
+placed_rows rows place (item ∷ items) =
+    map (λ row. (row.0, (place, row.1))) (rows item) ++ placed_rows rows (suc place) items
+
+-- the same value in the same entry
+abbrev pub is_same_value : (old new : Placed) → Bool
+is_same_value old new = (old.0 == new.0) && bytes_eq old.1 new.1
+
+-- the same values in the same entries
+abbrev pub are_same_values : (olds news : List Placed) → Bool
+are_same_values [] [] = true
+are_same_values [] (new ∷ news) = false
+are_same_values (old ∷ olds) [] = false
+are_same_values (old ∷ olds) (new ∷ news) =
+    is_same_value old new && are_same_values olds news
+
+-- the values joined by ` | `, or `-`
+abbrev pub values_text : List Placed → List ℕ
+values_text [] = codes "-"
+values_text (value ∷ values) =
+    shown value.1 ++ flat_map (λ other. codes " | " ++ shown other.1) values
+
+abbrev pub key_text : List ℕ → List Placed → List ℕ
+key_text key values = key ++ codes " " ++ values_text values
+
+-- ---- which key which change tells of
+
+-- the sources of an entry, and that of a pick
+abbrev pub is_source_key : List ℕ → Bool
+is_source_key key =
+    is_one_of (codes "vcs" ∷ codes "directory" ∷ codes "archive" ∷ codes "sdist" ∷ codes "wheels"
+    ∷ codes "wheel" ∷ codes "editable" ∷ []) key
+
+abbrev pub tells_of : ChangeKind → List ℕ → Bool
+tells_of kind.Head key = false
+tells_of kind.Added key = false
+tells_of kind.Removed key = false
+tells_of kind.Version key = bytes_eq key (codes "version") || is_source_key key
+tells_of kind.Hash key = is_source_key key
+tells_of kind.File key = is_source_key key
+tells_of kind.Place key = is_source_key key
+tells_of kind.Condition key =
+    bytes_eq key (codes "marker") || bytes_eq key (codes "requires-python")
+tells_of kind.Key key = is_source_key key
+tells_of kind.Fault key = false
+
+abbrev pub is_told : List ChangeValue → List ℕ → Bool
+is_told told key = list_any (λ change. tells_of change.kind key) told
+
+-- ---- the lines
+
+abbrev pub key_changes : List ℕ → List ChangeValue → List ℕ → (olds news : List Placed)
+    → List ChangeValue
+key_changes name told key olds news =
+    told_where (not (is_told told key) && not (are_same_values olds news))
+    (change_of kind.Key name (Some (key_text key olds)) (Some (key_text key news)))
+
+abbrev pub changes_by : (ItemValue → Rows) → List ℕ → List ChangeValue → (olds news : List ItemValue)
+    → List ChangeValue
+changes_by rows name told olds news =
+    under_each (key_changes name told) (placed_rows rows 0 olds) (placed_rows rows 0 news)
+
+-- of the keys of sources of which no row tells
+abbrev pub source_key_changes : List ℕ → (olds news : List ItemValue) → List ChangeValue
+source_key_changes name = changes_by (λ item. item.inner) name []
+
+-- of the keys of which these changes don't tell
+abbrev pub entry_key_changes : List ℕ → List ChangeValue → (olds news : List ItemValue)
+    → List ChangeValue
+entry_key_changes = changes_by (λ item. item.keys)

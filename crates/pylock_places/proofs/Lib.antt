@@ -1,0 +1,5 @@
+pub mod HiddenLemmas
+pub mod MaskLemmas
+pub mod QueryLemmas
+pub mod ShownLemmas
+pub mod UserLemmas

@@ -1,0 +1,5 @@
+pub mod FileName
+pub mod Inner
+pub mod Query
+pub mod Shown
+pub mod Url

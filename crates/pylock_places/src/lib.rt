@@ -1,0 +1,17 @@
+//! How URLs, places and file names of a lock are shown: with `***` for what opens them, the user
+//! and each secret of the query.
+//!
+//! ```rust
+//! let text = shown_place(alloc, file.path(), file.url())?;
+//! ```
+#![tactic(auto)]
+
+mod file_name;
+mod query;
+mod shown;
+mod url;
+
+pub use file_name::{shown_file_name, shown_name};
+pub use query::has_secret;
+pub use shown::{file_label, shown_place};
+pub use url::{around, has_byte, has_credentials, is_https, is_safe_remote, shown_url};

@@ -1,0 +1,170 @@
+//! The query of a URL, and what it gives away (RFC 3986, section 3.4).
+
+ghost use Rattle.std.specs.Prelude.{◌≡◌, ◌++◌, OnOk, map, option_map, string_bytes};
+ghost use Rattle.std.specs.Char.{to_ascii_lowercase};
+ghost use Rattle.std.specs.List.{list_any};
+ghost use Rattle.std.specs.Option.{option_copied};
+ghost use Rattle.std.specs.Str.{bytes_eq};
+ghost use Rattle.pywheel_core.specs.Texts.{pieces_at};
+ghost use Rattle.pylock_places.specs.Query.{around_mark, before_fragment, before_query, has_secret};
+ghost use Rattle.pylock_places.specs.Query.{hidden_behind, hidden_pair, hidden_query};
+ghost use Rattle.pylock_places.specs.Query.{hidden_secrets, is_secret, is_secret_key, secret_key};
+
+use crate::url::{around, has_byte};
+use std::alloc::AllocError;
+
+// ---- where it stands
+
+/// What stands before and behind the `?` of a query.
+fn around_mark(url: &str) -> Option<(&str, &str)>
+    ensures { option_map (λ cut. (cut.0.now, cut.1.now)) result ≡ around_mark url.now }
+{
+    match around(url, b'?') {
+        Some((front, behind)) if !has_byte(front, b'#') => Some((front, behind)),
+        _ => None,
+    }
+}
+
+/// What stands before the `?` of a query, or all where there is none.
+pub(crate) fn before_query(url: &str) -> &str
+    ensures { result.now ≡ before_query url.now }
+{
+    match around_mark(url) {
+        Some((front, _)) => front,
+        None => url,
+    }
+}
+
+/// What stands before the first `#`.
+fn before_fragment(text: &str) -> &str
+    ensures { result.now ≡ before_fragment text.now }
+{
+    match around(text, b'#') {
+        Some((front, _)) => front,
+        None => text,
+    }
+}
+
+// ---- its secrets
+
+/// Whether the text is this word, ASCII letter case ignored.
+fn is_word(text: &str, word: &[u8]) -> bool
+    ensures { result
+        ≡ bytes_eq (map to_ascii_lowercase text.now) (map to_ascii_lowercase word.now) }
+{
+    text.as_bytes().eq_ignore_ascii_case(word)
+}
+
+/// Whether the value of this key opens what a URL names.
+fn is_secret_key(key: &str) -> bool
+    ensures { result ≡ is_secret_key key.now }
+{
+    is_word(key, b"token")
+        || is_word(key, b"access_token")
+        || is_word(key, b"private_token")
+        || is_word(key, b"api_key")
+        || is_word(key, b"apikey")
+        || is_word(key, b"key")
+        || is_word(key, b"password")
+        || is_word(key, b"secret")
+        || is_word(key, b"sig")
+        || is_word(key, b"signature")
+        || is_word(key, b"x-amz-signature")
+}
+
+/// The key of a pair that has a secret.
+fn secret_key(pair: &str) -> Option<&str>
+    ensures { option_copied result ≡ secret_key pair.now }
+{
+    match around(pair, b'=') {
+        Some((key, value)) if is_secret_key(key) && !value.is_empty() => Some(key),
+        _ => None,
+    }
+}
+
+fn is_secret(pair: &str) -> bool
+    ensures { result ≡ is_secret pair.now }
+{
+    secret_key(pair).is_some()
+}
+
+/// Whether the query of the URL has a secret.
+pub fn has_secret(url: &str) -> bool
+    ensures { result ≡ has_secret url.now }
+{
+    match around_mark(url) {
+        Some((_, behind)) => any_secret(before_fragment(behind)),
+        None => false,
+    }
+}
+
+fn any_secret(query: &str) -> bool
+    ensures { result ≡ list_any is_secret (pieces_at 38 query.now) }
+{
+    let mut left = query;
+    while let Some((pair, rest)) = around(left, b'&') {
+        if is_secret(pair) {
+            return true;
+        }
+        left = rest;
+    }
+    is_secret(left)
+}
+
+// ---- how it is shown
+
+/// Adds a pair, with `***` for a secret.
+fn push_pair(text: &mut String, pair: &str) -> Result<(), AllocError>
+    ensures { OnOk result (string_bytes text.new ≡ string_bytes text.old ++ hidden_pair pair.now) }
+{
+    match secret_key(pair) {
+        Some(key) => {
+            text.push_str(key)?;
+            text.push_str("=***")
+        }
+        None => text.push_str(pair),
+    }
+}
+
+fn push_query(text: &mut String, query: &str) -> Result<(), AllocError>
+    ensures { OnOk result (string_bytes text.new
+        ≡ string_bytes text.old ++ hidden_query query.now) }
+{
+    let mut left = query;
+    while let Some((pair, rest)) = around(left, b'&') {
+        push_pair(text, pair)?;
+        text.push_str("&")?;
+        left = rest;
+    }
+    push_pair(text, left)
+}
+
+/// Adds a query, and the fragment behind it as it stands.
+fn push_behind(text: &mut String, behind: &str) -> Result<(), AllocError>
+    ensures { OnOk result (string_bytes text.new
+        ≡ string_bytes text.old ++ hidden_behind behind.now) }
+{
+    match around(behind, b'#') {
+        Some((query, fragment)) => {
+            push_query(text, query)?;
+            text.push_str("#")?;
+            text.push_str(fragment)
+        }
+        None => push_query(text, behind),
+    }
+}
+
+/// Adds the URL, with `***` for each secret of its query.
+pub(crate) fn push_hidden_secrets(text: &mut String, url: &str) -> Result<(), AllocError>
+    ensures { OnOk result (string_bytes text.new
+        ≡ string_bytes text.old ++ hidden_secrets url.now) }
+{
+    match around_mark(url) {
+        Some((front, behind)) => {
+            text.push_str(front)?;
+            text.push_str("?")?;
+            push_behind(text, behind)
+        }
+        None => text.push_str(url),
+    }
+}

@@ -1,0 +1,49 @@
+//! How the place of a source is shown, and what a file is called where it is spoken of.
+
+ghost use Rattle.std.specs.Prelude.{◌≡◌, ◌++◌, IfOk, string_bytes};
+ghost use Rattle.std.specs.Option.{option_copied};
+ghost use Rattle.pylock_places.specs.Shown.{file_label, shown_place};
+
+use crate::file_name::shown_file_name;
+use crate::url::shown_url;
+use pylock_core::DistributionFile;
+use std::alloc::{AllocError, Global};
+
+/// The place of a source: its path, else its URL, with `***` for what opens it: the user, and each
+/// secret of the query. It takes memory for the text, once more while it grows.
+pub fn shown_place(
+    alloc: Global,
+    path: Option<&str>,
+    url: Option<&str>,
+) -> Result<String, AllocError>
+    ensures { IfOk result (λ text. string_bytes text ≡ shown_place (record {
+      url = option_copied url.entry;
+      path = option_copied path.entry;
+    })) }
+{
+    match (path, url) {
+        (Some(path), _) => String::from_str(alloc, path),
+        (None, Some(url)) => shown_url(alloc, url),
+        (None, None) => Ok(String::new(alloc)),
+    }
+}
+
+/// The file name as it is shown, without the user of a URL that it was found in, or the place where
+/// the file has none. It takes memory for the text, once more while it grows.
+pub fn file_label(alloc: Global, file: &DistributionFile) -> Result<String, AllocError>
+    ensures { IfOk result (λ text. string_bytes text ≡ file_label file.now) }
+{
+    match shown_file_name(alloc, file)? {
+        Some(name) => Ok(name),
+        None => shown_place(alloc, file.path(), file.url()),
+    }
+}
+
+/// Two texts, one behind the other.
+pub(crate) fn joined(alloc: Global, front: &str, back: &str) -> Result<String, AllocError>
+    ensures { IfOk result (λ text. string_bytes text ≡ front.now ++ back.now) }
+{
+    let mut text = String::from_str(alloc, front)?;
+    text.push_str(back)?;
+    Ok(text)
+}

@@ -1,0 +1,5 @@
+pub mod Code
+pub mod Proper
+pub mod Scalar
+pub mod Shown
+pub mod Text
