@@ -15,7 +15,7 @@ ghost use Rattle.pyver_core.specs.Version.Grammar.{Spells};
 ghost use Rattle.pyver_core.specs.Name.{normal_name};
 ghost use Rattle.pyver_core.specs.Version.Normal.{normal_text};
 ghost use Rattle.pyver_core.specs.Version.Order.{IsSame, version_cmp};
-ghost use Rattle.pyver_core.specs.Version.OrderKey.{number_key, order_key, short_end};
+ghost use Rattle.pyver_core.specs.Version.OrderKey.{number_key, order_key};
 ghost use Rattle.pyver_core.specs.Version.Reading.{version_of};
 ghost use Rattle.pyver_core.specs.Set.Equality.{set_eq, specifier_eq};
 ghost use Rattle.pyver_core.specs.Set.Grammar.{IsOperand, SetText};
@@ -107,8 +107,8 @@ pub fn keys_stand_in_order()
 /// The key of a number, of any size: below 253 it is the byte above the number; else it is 254, the
 /// key of the quotient by 256, and the remainder.
 pub fn number_keys_have_two_forms()
-    ensures short { (n : ℕ) → n < short_end → number_key n ≡ (n + 1) ∷ [] }
-    ensures long { (n : ℕ) → short_end ≤ n
+    ensures short { (n : ℕ) → n < 253 → number_key n ≡ (n + 1) ∷ [] }
+    ensures long { (n : ℕ) → 253 ≤ n
         → number_key n ≡ 254 ∷ (number_key (n / 256) ++ n % 256 ∷ []) }
 {}
 
