@@ -3,6 +3,7 @@ pub mod Compatible
 pub mod Grammar
 pub mod Names
 pub mod Newer
+pub mod Order
 pub mod Platforms
 pub mod Reading
 pub mod Tags

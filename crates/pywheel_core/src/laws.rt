@@ -14,6 +14,7 @@ ghost use Rattle.pywheel_core.specs.Tag.{rank_of, tag_eq, tag_of, tag_text, tags
 ghost use Rattle.pywheel_core.specs.Target.Compatible.{IsCompatible};
 ghost use Rattle.pywheel_core.specs.Target.Grammar.{IsPlatform, IsPython, TargetText};
 ghost use Rattle.pywheel_core.specs.Target.Newer.{IsAtLeast, IsPart};
+ghost use Rattle.pywheel_core.specs.Target.Order.{IsOwn, StandsBefore};
 ghost use Rattle.pywheel_core.specs.Target.Reading.{target_of};
 ghost use Rattle.pywheel_core.specs.Target.Tags.{target_tags};
 ghost use Rattle.pywheel_core.specs.Target.Value.{TargetValue, is_target};
@@ -162,6 +163,16 @@ pub fn target_tags_are_the_compatible()
 pub fn target_tags_are_distinct()
     ensures { (python platform : List ℕ) (target : TargetValue)
         → target_of python platform ≡ Ok target → IsDistinct tag_eq (target_tags target) }
+{}
+
+/// Of the tags of a target those that are made for its own Python and ABI stand before all others,
+/// so before what is made for an older release and for any (PEP 425, "Use").
+#[tactic(auto, using(crate::proofs::Lemmas::Target::Own::own_before))]
+pub fn own_tags_come_first()
+    ensures { (target : TargetValue) (own other : TagValue)
+        → is_among own (target_tags target) ≡ true → is_among other (target_tags target) ≡ true
+        → IsOwn target.python own → (IsOwn target.python other → ⊥)
+        → StandsBefore own other (target_tags target) }
 {}
 
 /// With a newer glibc, musl or macOS of the same machine, a Python takes what it took, in the same

@@ -4,6 +4,7 @@ pub mod Names
 pub mod Newer
 pub mod Numbers
 pub mod Once
+pub mod Own
 pub mod Parts
 pub mod PlatformText
 pub mod Platforms

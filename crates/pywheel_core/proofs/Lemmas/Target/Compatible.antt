@@ -84,7 +84,7 @@ compatible_of t x known h =
 
 -- ---- into the list
 
-abi_letters : (p : CPython) → own_abi p ≡ no_abi → ⊥
+pub abi_letters : (p : CPython) → own_abi p ≡ no_abi → ⊥
 abi_letters p e = elim (cases_Bool p.is_free_threaded) [
   | inl f ↦ let x = rw f at e in differ 0 _ _ (λ y. omega (arith, y)) x
   | inr f ↦ let x = rw f at e in differ 0 _ _ (λ y. omega (arith, y)) x
