@@ -1,8 +1,8 @@
 //! The entries of a lock, each read from its table as soon as that is complete: whoever reads the
 //! document hands the tables out, so that one stands at a time (PEP 751, `packages`). What is
 //! refused of them is told when the document and the head are known.
-ghost use Rattle.std.specs.Prelude.{◌≡◌, ◌≤◌, IfOk, codes, vec_len};
-ghost use Rattle.toml.specs.Data.{Items, no_items};
+ghost use Rattle.std.specs.Prelude.{◌≡◌, ◌≤◌, IfOk, OnErr, OnOk, codes, vec_len};
+ghost use Rattle.toml.specs.Data.{Items, no_items, push_item, table};
 ghost use Rattle.toml.specs.View.{table_view};
 ghost use Rattle.pytext.specs.Agreement.{Gives};
 ghost use Rattle.pytoml.specs.Members.{with_elements};
@@ -153,12 +153,17 @@ impl Elements for Packages {
         "packages"
     }
 
-    fn take(&mut self, element: Table) -> Result<(), AllocError> {
+    /// A table that isn't taken leaves all as it was, so no entry is lost.
+    fn take(&mut self, element: Table) -> Result<(), AllocError>
+        ensures taken { OnOk result ((taken : Items) → HasRead self.old taken
+            → HasRead self.new (push_item taken (table (table_view element)))) }
+        ensures kept { OnErr result (self.new ≡ self.old) }
+    {
         if self.count > MOST_ENTRIES {
             return Ok(());
         }
-        self.count += 1;
-        if self.count > MOST_ENTRIES || self.refusal.is_some() {
+        if self.count == MOST_ENTRIES || self.refusal.is_some() {
+            self.count += 1;
             return Ok(());
         }
         match read_entry(self.alloc, Value::Table(element), &mut self.interner) {
@@ -168,6 +173,7 @@ impl Elements for Packages {
                 refusal => self.refusal = Some(refusal),
             },
         }
+        self.count += 1;
         Ok(())
     }
 }
