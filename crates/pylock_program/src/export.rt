@@ -122,14 +122,7 @@ fn push_after_choices<N: Sink>(
         return Ok(1);
     }
     let answer = session.answer()?;
-    let status = push_answer_export(
-        alloc,
-        out,
-        plan_format(asked.format),
-        session,
-        &answer,
-        notes,
-    )?;
+    let status = push_answer_export(alloc, out, asked, session, &answer, notes)?;
     tell_notes(alloc, notes, session, &asked.choices);
     Ok(status)
 }
@@ -150,15 +143,16 @@ fn tell_refused_option<N: Sink>(
 fn push_answer_export<N: Sink>(
     alloc: Global,
     out: &mut Vec<u8>,
-    form: Format,
+    asked: &ExportRequest<'_>,
     session: &Session,
     answer: &Answer,
     notes: &mut N,
 ) -> Result<u8, AllocError>
     requires { answer.now ≡ answer_of session.now.state }
     ensures { Pushes out.old.items out.new.items
-        (answer_exported form session.now.state answer.now) result }
+        (answer_exported (plan_format asked.now.format) session.now.state answer.now) result }
 {
+    let form = plan_format(asked.format);
     match answer {
         Answer::Plan(plan) => {
             let made = export_plan(alloc, form, session, plan);
@@ -171,7 +165,7 @@ fn push_answer_export<N: Sink>(
             let mut line = Vec::new(alloc);
             push_answer(&mut line, session, answer)?;
             tell_bytes(notes, &line);
-            tell_fault(alloc, notes, session, *id, *code);
+            tell_fault(alloc, notes, asked.machine, session, (*id, *code));
             Ok(1)
         }
     }

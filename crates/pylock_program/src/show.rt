@@ -195,7 +195,7 @@ fn push_after_choices<N: Sink>(
         Answer::Plan(_) => Ok((0, None)),
         Answer::Fault { id, code } => {
             if matches!(request.view, View::Plan) {
-                tell_fault(alloc, notes, session, id, code);
+                tell_fault(alloc, notes, request.machine, session, (id, code));
             }
             Ok((1, None))
         }
