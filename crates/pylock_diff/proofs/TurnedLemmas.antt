@@ -1,5 +1,5 @@
 -- What came from OLD to NEW went from NEW to OLD.
-use Rattle.std.proofs.Common.{◌≡◌, ◌∙◌, ◌++◌, ◌&&◌, ℕ, Bool, true, false, cond, not, List, [], ◌∷◌, map, Option, None, Some, refl, sym, ap}
+use Rattle.std.proofs.Common.{◌≡◌, ◌∙◌, ◌++◌, ◌&&◌, ℕ, Bool, true, false, cond, not, List, [], ◌∷◌, map, Option, None, Some, option_map, refl, sym, ap}
 use Rattle.std.proofs.lemmas.List.{map-append}
 use Rattle.std.specs.List.{filter, flat_map}
 use Rattle.pylock_readers.specs.Entry.{ArchiveValue, FileValue}
@@ -13,13 +13,13 @@ use Rattle.pylock_diff.specs.Compared.{ComparedValue}
 use Rattle.pylock_diff.specs.Conditions.{condition_changes, conditions, conditions_text}
 use Rattle.pylock_diff.specs.Files.{archive_hash_changes, archives_of, file_hash_changes, files_of, hash_changes, hashed_archives, hashed_files, if_both, paths_of, place_change, place_changes, places_text, urls_of}
 use Rattle.pylock_diff.specs.Hashes.{Hashed, are_same_sets, hash_text, hashed_changes, value_changes}
-use Rattle.pylock_diff.specs.Head.{HeadKey, head_changes, head_rows, is_list_key, key_change, keys_changes, list_keys}
+use Rattle.pylock_diff.specs.Head.{HeadKey, first, have_same_value, head_changes, head_rows, is_list_key, key_change, keys_changes, list_keys}
 use Rattle.pylock_diff.specs.Item.{ItemValue, entry_items}
 use Rattle.pylock_diff.specs.Keys.{Placed, changes_by, entry_key_changes, is_told, are_same_values, key_changes, placed_rows, source_key_changes}
 use Rattle.pylock_diff.specs.Partners.{without_partners}
 use Rattle.pylock_diff.specs.Sources.{file_changes, lone_sources, source_text}
 use Rattle.pylock_diff.specs.Versions.{version_changes, version_keys, versions_text}
-use Rattle.pylock_diff.specs.declared.change.ChangeKind.TheVariants.{Condition, File, Hash, Place, Version}
+use Rattle.pylock_diff.specs.declared.change.ChangeKind.TheVariants.{Condition, File, Hash, Head, Key, Place, Version}
 use Rattle.pylock_diff.proofs.ChangeLemmas.{nothing}
 
 taken : (b : Bool) (c : ChangeValue) (cs ds : List ChangeValue) → cond b (c ∷ cs ++ ds) (cs ++ ds) ≡ cond b (c ∷ cs) cs ++ ds
@@ -127,15 +127,21 @@ shared_silent name olds news =
     joined_silent (row_changes name os ns) (entry_key_changes name (row_changes name os ns) os ns)
     (row_silent name os ns) (keys_silent (λ item. item.keys) name (row_changes name os ns) os ns)
 
-head_key_silent : (key : List ℕ) (old new : Option HeadKey) → Silent (key_change key old new)
-head_key_silent key old new = where_silent _ _ refl
+value_silent : (key : List ℕ) (old new : Option HeadKey) → Silent (key_change key old new)
+value_silent key old new =
+    where_silent (not (have_same_value old new)) (change_of Head key (option_map (λ (k : HeadKey). k.text) old) (option_map (λ (k : HeadKey). k.text) new)) refl
+
+keys_of_head_silent : (olds news : List (Row HeadKey)) (keys : List (List ℕ)) → Silent (keys_changes olds news keys)
+keys_of_head_silent olds news keys =
+    each_silent (λ key. key_change key (first (values_at key olds)) (first (values_at key news)))
+    (λ key. value_silent key (first (values_at key olds)) (first (values_at key news))) keys
 
 head_silent : (old new : List HeadKey) → Silent (head_changes old new)
 head_silent old new =
-    joined_silent (keys_changes (head_rows old) (head_rows new) list_keys)
-    (keys_changes (head_rows old) (head_rows new) (filter (λ key. not (is_list_key key)) (in_order (names_of (head_rows old) ++ names_of (head_rows new)))))
-    (each_silent _ (λ key. head_key_silent key _ _) list_keys)
-    (each_silent _ (λ key. head_key_silent key _ _) (filter (λ key. not (is_list_key key)) (in_order (names_of (head_rows old) ++ names_of (head_rows new)))))
+    let olds = head_rows old in
+    let news = head_rows new in
+    let others = filter (λ key. not (is_list_key key)) (in_order (names_of olds ++ names_of news)) in
+    joined_silent (keys_changes olds news list_keys) (keys_changes olds news others) (keys_of_head_silent olds news list_keys) (keys_of_head_silent olds news others)
 
 -- ---- what tells of it
 
