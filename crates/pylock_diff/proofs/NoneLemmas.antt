@@ -138,6 +138,15 @@ module _ (rows : ItemValue → Rows) (key : List ℕ) where
       (from_both place (put_place place (values_at key (rows item))) (values_at key (placed_rows rows (suc place) items)) (put_from place (values_at key (rows item)))
       (from_less place (suc place) (values_at key (placed_rows rows (suc place) items)) (omega arith) (later (suc place) items)))
 
+  -- where no entry has a value, the first has none
+  pub first_none : (new : ItemValue) (news : List ItemValue) → [] ≡ values_at key (placed_rows rows 0 (new ∷ news)) → values_at key (rows new) ≡ []
+  first_none new news same =
+      none_put (values_at key (rows new)) (front_none (put_place 0 (values_at key (rows new))) (values_at key (placed_rows rows 1 news)) (sym (same ∙ split 0 new news)))
+    where
+      none_put : (xs : List (List ℕ)) → put_place 0 xs ≡ [] → xs ≡ []
+      none_put [] none = refl
+      none_put (x ∷ xs) none = absurd cc
+
   -- the first of two lists of entries have the same values
   pub first_values : (old new : ItemValue) (olds news : List ItemValue)
       → values_at key (placed_rows rows 0 (old ∷ olds)) ≡ values_at key (placed_rows rows 0 (new ∷ news)) → values_at key (rows old) ≡ values_at key (rows new)
@@ -154,6 +163,6 @@ module _ (rows : ItemValue → Rows) (key : List ℕ) where
       fronts [] (y ∷ ys) vs ws one other same = absurd (apart y vs (put_place 0 ys ++ ws) one same)
       fronts (x ∷ xs) [] vs ws one other same = absurd (apart x ws (put_place 0 xs ++ vs) other (sym same))
       fronts (x ∷ xs) (y ∷ ys) vs ws one other same =
-          let heads : (0, x) ≡ (0, y) = cc in
+          let heads : ◌≡◌ {A = Placed} (0, x) (0, y) = cc in
           let tails : put_place 0 xs ++ vs ≡ put_place 0 ys ++ ws = cc in
           λ i. (heads i).1 ∷ fronts xs ys vs ws one other tails i

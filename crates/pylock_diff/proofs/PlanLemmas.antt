@@ -10,13 +10,13 @@ use Rattle.std.specs.List.{filter, flat_map}
 use Rattle.std.specs.Option.{option_cmp, option_map_or}
 use Rattle.std.specs.Ordering.{is_eq, nat_cmp, ordering_then}
 use Rattle.std.specs.Str.{bytes_eq}
-use Rattle.toml.specs.Data.{table}
+use Rattle.toml.specs.Data.{string, table}
 use Rattle.pytoml_code.specs.Code.{code}
 use Rattle.pylock_compare.proofs.KeyLemmas.{alike_equal, alike_itself}
 use Rattle.pylock_compare.proofs.PartnerLemmas.{first_alone, no_lone, none_alone}
 use Rattle.pylock_compare.specs.Counts.{count}
 use Rattle.pylock_compare.specs.Partners.{are_alone, where_true}
-use Rattle.pylock_compare.specs.Rows.{Row, values_at}
+use Rattle.pylock_compare.specs.Rows.{Row, in_order, names_of, values_at}
 use Rattle.pylock_compare.specs.Texts.{Texts, are_alike}
 use Rattle.pylock_readers.specs.Entry.{EntryValue}
 use Rattle.pylock_core.specs.Session.Picks.{SourceValue, OfVcs, OfDirectory, OfArchive, OfWheel, OfSdist, source_in}
@@ -24,6 +24,7 @@ use Rattle.pylock_core.specs.Session.State.{State, entry_at}
 use Rattle.pylock_core.specs.declared.answer.Answer.{Answer}
 use Rattle.pylock_core.specs.declared.answer.Answer.TheVariants.{Plan, Fault}
 use Rattle.pylock_core.specs.declared.answer.Pick.{Pick}
+use Rattle.pylock_core.specs.declared.answer.PickSource.{PickSource}
 use Rattle.pylock_diff.specs.Changes.{answer_changes, item_changes, name_changes, rest_changes, row_changes, shared_changes}
 use Rattle.pylock_diff.specs.Codes.{Rows}
 use Rattle.pylock_diff.specs.Inner.Picked.{picked_entries, picked_entry, picked_row}
@@ -34,7 +35,7 @@ use Rattle.pylock_diff.specs.Picks.{kind_word, pick_fields, source_members, sour
 use Rattle.pylock_diff.specs.SamePlan.{PickTheSame, PickValue, numberless, pick_value, pick_values, source_fields}
 use Rattle.pylock_diff.proofs.ChangeLemmas.{nothing, untold_rest}
 use Rattle.pylock_diff.proofs.CountLemmas.{counts_permute, permuted_count}
-use Rattle.pylock_diff.proofs.NoneLemmas.{back_none, first_values, front_none, holds, same_values, under_none, values_joined}
+use Rattle.pylock_diff.proofs.NoneLemmas.{back_none, first_none, first_values, front_none, holds, same_values, under_none, values_joined}
 use Rattle.pylock_diff.proofs.PickLemmas.{fields_exact, fields_row, row_seen}
 
 abbrev Picked : Type 0
@@ -251,21 +252,131 @@ all_same name os ns none key =
 -- an entry has something at its kind
 something : (q : Picked) (qs : List Picked) → ((key : List ℕ) → [] ≡ values_at key (placed_rows (λ item. item.keys) 0 (map item_of (q ∷ qs)))) → ⊥
 something q qs same =
-    let at = same (kind_word q.1) in
-    let split = values_joined (kind_word q.1) (map (λ row. (row.0, (0, row.1))) (pick_fields q.0 q.1)) (placed_rows (λ item. item.keys) 1 (map item_of qs)) in
-    ?
+    let none : values_at (kind_word q.1) (pick_fields q.0 q.1) ≡ [] = first_none (λ item. item.keys) (kind_word q.1) (item_of q) (map item_of qs) (same (kind_word q.1)) in
+    let some : source_code q.1 ∷ [] ≡ [] = sym (at_own q) ∙ none in
+    absurd cc
 
 -- the first that are left have the same key
-no_lone_picks : (ps qs as bs : List Picked) → alone ps qs ≡ as → alone qs ps ≡ bs
-    → ((key : List ℕ) → values_at key (placed_rows (λ item. item.keys) 0 (map item_of as)) ≡ values_at key (placed_rows (λ item. item.keys) 0 (map item_of bs)))
-    → (as ≡ []) × (bs ≡ [])
+no_lone_picks : (ps qs ls rs : List Picked) → alone ps qs ≡ ls → alone qs ps ≡ rs
+    → ((key : List ℕ) → values_at key (placed_rows (λ item. item.keys) 0 (map item_of ls)) ≡ values_at key (placed_rows (λ item. item.keys) 0 (map item_of rs)))
+    → (ls ≡ []) × (rs ≡ [])
 no_lone_picks ps qs [] [] left right same = (refl, refl)
-no_lone_picks ps qs [] (b ∷ bs) left right same = absurd (something b bs same)
-no_lone_picks ps qs (a ∷ as) [] left right same = absurd (something a as (λ key. sym (same key)))
-no_lone_picks ps qs (a ∷ as) (b ∷ bs) left right same =
-    let fields = same_fields a b (λ key. first_values (λ item. item.keys) key (item_of a) (item_of b) (map item_of as) (map item_of bs) (same key)) in
+no_lone_picks ps qs [] (b ∷ rs) left right same = absurd (something b rs same)
+no_lone_picks ps qs (a ∷ ls) [] left right same = absurd (something a ls (λ key. sym (same key)))
+no_lone_picks ps qs (a ∷ ls) (b ∷ rs) left right same =
+    let fields = same_fields a b (λ key. first_values (λ item. item.keys) key (item_of a) (item_of b) (map item_of ls) (map item_of rs) (same key)) in
     let key : key_of a ≡ key_of b = ap row_texts fields in
-    let one = first_alone key_of ps (map key_of qs) a as left in
-    let two = first_alone key_of qs (map key_of ps) b bs right in
+    let one = first_alone key_of ps (map key_of qs) a ls left in
+    let two = first_alone key_of qs (map key_of ps) b rs right in
     let turned : count (key_of a) (map key_of ps) < count (key_of a) (map key_of qs) = subst (λ k. count k (map key_of ps) < count k (map key_of qs)) (sym key) two in
     absurd (omega arith)
+
+named_counts : (name : List ℕ) (ps qs : List Picked) → name_changes name (map item_of ps) (map item_of qs) ≡ [] → (k : Texts) → count k (map key_of ps) ≡ count k (map key_of qs)
+named_counts name [] [] none k = refl
+named_counts name [] (q ∷ qs) none k = absurd cc
+named_counts name (p ∷ ps) [] none k = absurd cc
+named_counts name (p ∷ ps) (q ∷ qs) none k =
+    let olds = p ∷ ps in
+    let news = q ∷ qs in
+    let rest : rest_changes name (map item_of (alone olds news)) (map item_of (alone news olds)) ≡ [] =
+    sym (λ i. rest_changes name (alone_seen olds news i) (alone_seen news olds i)) ∙ none in
+    let nones = no_lone_picks olds news (alone olds news) (alone news olds) refl refl (all_same name (map item_of (alone olds news)) (map item_of (alone news olds)) rest) in
+    let few = none_alone key_of olds (map key_of news) nones.0 k in
+    let more = none_alone key_of news (map key_of olds) nones.1 k in
+    omega arith
+
+picks_counts : (ps qs : List Picked) → item_changes (map picked_row ps) (map picked_row qs) ≡ [] → (k : Texts) → count k (map whole_key ps) ≡ count k (map whole_key qs)
+picks_counts ps qs none k =
+    ap (count k) (sym (keys_of_rows ps))
+    ∙ whole_counts (map picked_row ps) (map picked_row qs) (λ name k.
+    seen name ps k
+    ∙ named_counts name (named name ps) (named name qs)
+    (sym (λ i. name_changes name (values_named name ps i) (values_named name qs i)) ∙ under_none name_changes (map picked_row ps) (map picked_row qs) (λ name. refl) none name) k
+    ∙ sym (seen name qs k)) k
+    ∙ ap (count k) (keys_of_rows qs)
+  where
+    seen : (name : List ℕ) (ps : List Picked) (k : Texts) → count k (map item_key (values_at name (map picked_row ps))) ≡ count k (map key_of (named name ps))
+    seen name ps k = ap (λ items. count k (map item_key items)) (values_named name ps) ∙ ap (count k) (keys_of_items (named name ps))
+
+-- ---- where the picks are the same
+
+pub name_none : (name : List ℕ) (olds news : List ItemValue) → ((k : Texts) → count k (map item_key olds) ≡ count k (map item_key news)) → name_changes name olds news ≡ []
+name_none name [] [] same = refl
+name_none name [] (new ∷ news) same =
+    let one : 0 ≡ 1 + count (item_key new) (map item_key news) =
+    same (item_key new) ∙ ap (λ b. cond b 1 0 + count (item_key new) (map item_key news)) (alike_itself (item_key new)) in
+    absurd (omega arith)
+name_none name (old ∷ olds) [] same =
+    let one : 0 ≡ 1 + count (item_key old) (map item_key olds) =
+    sym (same (item_key old)) ∙ ap (λ b. cond b 1 0 + count (item_key old) (map item_key olds)) (alike_itself (item_key old)) in
+    absurd (omega arith)
+name_none name (old ∷ olds) (new ∷ news) same =
+    let os = old ∷ olds in
+    let ns = new ∷ news in
+    let left : without_partners os ns ≡ [] = no_lone item_key os (map item_key ns) (λ k. let here = same k in omega arith) in
+    let right : without_partners ns os ≡ [] = no_lone item_key ns (map item_key os) (λ k. let here = same k in omega arith) in
+    (λ i. rest_changes name (left i) (right i)) ∙ untold_rest name
+
+pub items_none : (olds news : List (Row ItemValue)) → ((k : Texts) → count k (map row_key olds) ≡ count k (map row_key news)) → item_changes olds news ≡ []
+items_none olds news same =
+    nothing (λ name. name_changes name (values_at name olds) (values_at name news))
+    (λ name. name_none name (values_at name olds) (values_at name news) (λ k. sym (count_at name k olds) ∙ same (Some name ∷ k) ∙ count_at name k news))
+    (in_order (names_of olds ++ names_of news))
+
+-- ---- picks and their entries
+
+each_seen : {X Y : Type 0} (g : Y → X) (f : Pick → List X) (h : Pick → List Y) → ((p : Pick) → f p ≡ map g (h p)) → (picks : List Pick) → flat_map f picks ≡ map g (flat_map h picks)
+each_seen g f h same [] = refl
+each_seen g f h same (p ∷ picks) = (λ i. same p i ++ each_seen g f h same picks i) ∙ sym (map-append g (h p) (flat_map h picks))
+
+source_seen : {X : Type 0} (g : Picked → X) (entry : EntryValue) (source : Option SourceValue)
+    → option_map_or (λ s. g (entry, s) ∷ []) source [] ≡ map g (option_map_or (λ s. (entry, s) ∷ []) source [])
+source_seen g entry None = refl
+source_seen g entry (Some source) = refl
+
+entry_seen : {X : Type 0} (g : Picked → X) (name : PickSource) (entry : Option EntryValue)
+    → option_map_or (λ e. option_map_or (λ s. g (e, s) ∷ []) (source_in e name) []) entry []
+    ≡ map g (option_map_or (λ e. option_map_or (λ s. (e, s) ∷ []) (source_in e name) []) entry [])
+entry_seen g name None = refl
+entry_seen g name (Some entry) = source_seen g entry (source_in entry name)
+
+items_seen : (state : State) (picks : List Pick) → pick_items state picks ≡ map picked_row (picked_entries state picks)
+items_seen state picks = each_seen picked_row (pick_item state) (picked_entry state) (λ p. entry_seen picked_row p.source (entry_at p.id state.entries)) picks
+
+values_seen : (state : State) (picks : List Pick) → numberless state picks ≡ map value_of (picked_entries state picks)
+values_seen state picks = each_seen value_of (pick_values state) (picked_entry state) (λ p. entry_seen value_of p.source (entry_at p.id state.entries)) picks
+
+-- ---- two plans
+
+plans_told : (old new : State) (olds news : List Pick) → item_changes (pick_items old olds) (pick_items new news) ≡ [] → IsPermutation (numberless old olds) (numberless new news)
+plans_told old new olds news none =
+    let ps = picked_entries old olds in
+    let qs = picked_entries new news in
+    let counts = picks_counts ps qs (sym (λ i. item_changes (items_seen old olds i) (items_seen new news i)) ∙ none) in
+    subst (λ xs. IsPermutation xs (numberless new news)) (sym (values_seen old olds))
+    (subst (λ ys. IsPermutation (map value_of ps) ys) (sym (values_seen new news)) (counts_permute whole_key value_of value_exact ps qs counts))
+
+plans_same : (old new : State) (olds news : List Pick) → IsPermutation (numberless old olds) (numberless new news) → item_changes (pick_items old olds) (pick_items new news) ≡ []
+plans_same old new olds news same =
+    let ps = picked_entries old olds in
+    let qs = picked_entries new news in
+    let values : IsPermutation (map value_of ps) (map value_of qs) =
+    subst (λ xs. IsPermutation xs (map value_of qs)) (values_seen old olds) (subst (λ ys. IsPermutation (numberless old olds) ys) (values_seen new news) same) in
+    let keys = IsPermutation-map key_by (map value_of ps) (map value_of qs) values in
+    (λ i. item_changes (items_seen old olds i) (items_seen new news i))
+    ∙ items_none (map picked_row ps) (map picked_row qs) (λ k.
+    ap (count k) (keys_of_rows ps ∙ keys_seen ps) ∙ permuted_count k (map key_by (map value_of ps)) (map key_by (map value_of qs)) keys ∙ sym (ap (count k) (keys_of_rows qs ∙ keys_seen qs)))
+
+-- ---- two answers
+
+pub answers_told : (old new : State) (before after : Answer) → answer_changes old new before after ≡ [] → PickTheSame old new before after
+answers_told old new (Plan olds) (Plan news) none = plans_told old new olds news none
+answers_told old new (Plan olds) (Fault number code) none = absurd cc
+answers_told old new (Fault number code) after none = absurd cc
+
+pub answers_same : (old new : State) (before after : Answer) → PickTheSame old new before after → answer_changes old new before after ≡ []
+answers_same old new (Plan olds) (Plan news) same = plans_same old new olds news same
+answers_same old new (Plan olds) (Fault number code) same = absurd same
+answers_same old new (Fault number code) after same = absurd same
+
+pub ruleset same_picks = (answers_told, answers_same)
