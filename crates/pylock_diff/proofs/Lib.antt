@@ -1,5 +1,5 @@
 pub mod ChangeLemmas
 pub mod KeyLemmas
-pub mod SameLemmas
+pub mod Same
 pub mod SeenLemmas
 pub mod TurnedLemmas
