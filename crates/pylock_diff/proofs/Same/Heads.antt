@@ -1,12 +1,12 @@
 -- The heads of two locks, key by key.
-use Rattle.std.proofs.Common.{◌≡◌, ◌∙◌, ◌++◌, ◌||◌, ℕ, Bool, true, false, cond, not, codes, List, [], ◌∷◌, inl, inr, map, None, Option, Some, option_map, refl, sym, ap}
+use Rattle.std.proofs.Common.{◌≡◌, ◌∙◌, ◌++◌, ◌||◌, ℕ, Bool, true, false, cond, not, List, [], ◌∷◌, inl, inr, None, Option, Some, option_map, refl, sym, ap}
 use Rattle.std.proofs.Math.Bool.{or-true}
 use Rattle.std.proofs.lemmas.Bool.{cases_Bool}
 use Rattle.std.specs.Cmp.Lexicographic.{bytes_decides}
 use Rattle.std.specs.List.{filter, list_any}
 use Rattle.std.specs.Str.{bytes_eq}
 use Rattle.toml.specs.Data.{Data, Members, get_member, member, no_members}
-use Rattle.pylock_compare.specs.Rows.{Row, in_order, names_of, values_at}
+use Rattle.pylock_compare.specs.Rows.{in_order, names_of, values_at}
 use Rattle.pytoml_code.specs.Code.{code}
 use Rattle.pytoml_code.specs.Proper.{HasProper, IfThere, IsProper}
 use Rattle.pytoml_code.proofs.CodeLemmas.{equal_codes}

@@ -14,8 +14,7 @@ use Rattle.pylock_readers.specs.Lock.Reading.{at_position, entries_in, entries_o
 use Rattle.pylock_readers.specs.declared.error.EntryError.{EntryError}
 use Rattle.pylock_readers.specs.declared.error.LockError.{LockError}
 use Rattle.pytoml_code.specs.Proper.{AreProper, HasProper, IfThere, IsProper}
-use Rattle.pylock_diff.specs.Codes.{member_rows}
-use Rattle.pylock_diff.specs.Compared.{ComparedValue, compared, entry_codes, item_codes, items_at}
+use Rattle.pylock_diff.specs.Compared.{ComparedValue, entry_codes, item_codes, items_at}
 use Rattle.pylock_diff.specs.Item.{ItemValue, entry_item, entry_items}
 use Rattle.pylock_diff.specs.Partners.{item_key}
 use Rattle.pylock_diff.specs.Same.{IsRead, values_of}

@@ -7,7 +7,7 @@ use Rattle.pylock_compare.specs.Partners.{are_alone, where_true}
 use Rattle.pylock_compare.specs.Rows.{values_at}
 use Rattle.pylock_compare.proofs.PartnerLemmas.{first_alone}
 use Rattle.pytoml_code.specs.Proper.{HasProper}
-use Rattle.pylock_diff.specs.Codes.{Rows, member_rows}
+use Rattle.pylock_diff.specs.Codes.{member_rows}
 use Rattle.pylock_diff.specs.Item.{ItemValue}
 use Rattle.pylock_diff.specs.Keys.{placed_rows}
 use Rattle.pylock_diff.specs.Partners.{item_key, row_texts, without_partners}

@@ -1,5 +1,5 @@
 -- A table by its keys and the codes of their values.
-use Rattle.std.proofs.Common.{Ordering, Less, Equal, Greater, ◌≡◌, ◌∙◌, ◌++◌, ℕ, Bool, true, false, cond, List, [], ◌∷◌, inl, inr, map, None, Option, Some, refl, sym, ap}
+use Rattle.std.proofs.Common.{Ordering, Less, Equal, Greater, ◌≡◌, ◌∙◌, ℕ, true, false, List, [], ◌∷◌, inl, inr, Option, Some, refl, sym, ap}
 use Rattle.std.proofs.lemmas.Bool.{cases_Bool, false≢true}
 use Rattle.std.proofs.lemmas.Map.Text.{is_eq-slice_cmp}
 use Rattle.std.specs.Cmp.Lexicographic.{bytes_decides, nat_list_cmp_total, slice_cmp}
@@ -7,7 +7,7 @@ use Rattle.std.specs.FinSet.{nat_cmp-IsAntisymmetric, slice_cmp-IsAntisymmetric}
 use Rattle.std.specs.Ordering.{is_eq, is_lt, match_ordering, nat_cmp, ordering_reverse}
 use Rattle.std.specs.Str.{bytes_eq}
 use Rattle.toml.specs.Data.{Data, Members, get_member, is_before, member, no_members}
-use Rattle.pylock_compare.specs.Rows.{Row, values_at}
+use Rattle.pylock_compare.specs.Rows.{values_at}
 use Rattle.pytoml_code.specs.Code.{code}
 use Rattle.pytoml_code.specs.Proper.{HasProper, IsProper, IfThere}
 use Rattle.pytoml_code.proofs.CodeLemmas.{equal_codes}
