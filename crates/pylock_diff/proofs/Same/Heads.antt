@@ -14,7 +14,7 @@ use Rattle.pylock_diff.specs.Change.{ChangeValue, change_of, told_where}
 use Rattle.pylock_diff.specs.Compared.{head_of, is_head_key}
 use Rattle.pylock_diff.specs.Head.{HeadKey, first, have_same_value, head_changes, head_key, head_rows, is_list_key, key_change, keys_changes, list_keys}
 use Rattle.pylock_diff.specs.declared.change.ChangeKind.TheVariants.{Head}
-use Rattle.pylock_diff.proofs.Same.Lists.{at_other, at_same, back_none, bytes_itself, each_none, front_none, nothing, stand_nowhere}
+use Rattle.pylock_diff.proofs.Same.Lists.{at_other, at_same, back_none, bytes_itself, each_none, front_none, nothing, stand_nowhere, untold}
 use Rattle.pylock_diff.proofs.Same.Tables.{get_other, get_same, proper_at}
 
 -- ---- the value at a key
@@ -51,10 +51,6 @@ head_at key (member l d ds) = elim (cases_Bool (is_head_key l)) [
 
 -- ---- where nothing is told
 
-holds : (b : Bool) (change : ChangeValue) → told_where (not b) change ≡ [] → b ≡ true
-holds true change none = refl
-holds false change none = absurd cc
-
 -- keys with the same value
 same_data : (key : List ℕ) (old new : Option Data) → IfThere IsProper old → IfThere IsProper new → have_same_value (option_map (head_key key) old) (option_map (head_key key) new) ≡ true → old ≡ new
 same_data key None None p q same = refl
@@ -77,10 +73,10 @@ any_kept key p (k ∷ keys) passes some = elim (cases_Bool (bytes_eq key k)) [
 -- each key has the same value in both, be it one of the first five or another, or be it nowhere
 all_same : (olds news : List HeadKey) (key : List ℕ) → head_changes olds news ≡ [] → have_same_value (at_key key olds) (at_key key news) ≡ true
 all_same olds news key none = elim (cases_Bool (is_list_key key)) [
-  | inl is ↦ holds (have_same_value (at_key key olds) (at_key key news)) _
+  | inl is ↦ untold (have_same_value (at_key key olds) (at_key key news)) _
       (each_none (λ key. key_change key (at_key key olds) (at_key key news)) list_keys (front_none (told list_keys) (told others) none) key is)
   | inr other ↦ elim (cases_Bool (list_any (bytes_eq key) (in_order (names_of (head_rows olds) ++ names_of (head_rows news))))) [
-    | inl some ↦ holds (have_same_value (at_key key olds) (at_key key news)) _
+    | inl some ↦ untold (have_same_value (at_key key olds) (at_key key news)) _
         (each_none (λ key. key_change key (at_key key olds) (at_key key news)) others (back_none (told list_keys) (told others) none) key
         (any_kept key (λ key. not (is_list_key key)) (in_order (names_of (head_rows olds) ++ names_of (head_rows news))) (ap not other) some))
     | inr nowhere ↦ (let absent = stand_nowhere (head_rows olds) (head_rows news) key nowhere in λ i. have_same_value (first (absent.0 i)) (first (absent.1 i)))
@@ -111,8 +107,8 @@ same_itself (Some one) = bytes_itself one.code
 pub head_same : (before after : Members) → ((key : List ℕ) → is_head_key key ≡ true → get_member key before ≡ get_member key after)
     → head_changes (head_of before) (head_of after) ≡ []
 head_same before after same =
-    λ i. nothing (λ key. key_change key (at_key key (head_of before)) (at_key key (head_of after))) untold list_keys i
-    ++ nothing (λ key. key_change key (at_key key (head_of before)) (at_key key (head_of after))) untold
+    λ i. nothing (λ key. key_change key (at_key key (head_of before)) (at_key key (head_of after))) none list_keys i
+    ++ nothing (λ key. key_change key (at_key key (head_of before)) (at_key key (head_of after))) none
     (filter (λ key. not (is_list_key key)) (in_order (names_of (head_rows (head_of before)) ++ names_of (head_rows (head_of after))))) i
   where
     equal : (key : List ℕ) → at_key key (head_of before) ≡ at_key key (head_of after)
@@ -121,7 +117,7 @@ head_same before after same =
       | inr other ↦ ap (λ b. cond b (option_map (head_key key) (get_member key before)) None) other ∙ ap (λ b. cond b (option_map (head_key key) (get_member key after)) None) (sym other)
     ] ∙ sym (head_at key after)
 
-    untold : (key : List ℕ) → key_change key (at_key key (head_of before)) (at_key key (head_of after)) ≡ []
-    untold key =
+    none : (key : List ℕ) → key_change key (at_key key (head_of before)) (at_key key (head_of after)) ≡ []
+    none key =
         ap (key_change key (at_key key (head_of before))) (sym (equal key))
         ∙ ap (λ b. told_where (not b) (change_of Head key (option_map (λ (one : HeadKey). one.text) (at_key key (head_of before))) (option_map (λ (one : HeadKey). one.text) (at_key key (head_of before))))) (same_itself (at_key key (head_of before)))

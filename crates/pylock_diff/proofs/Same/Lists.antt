@@ -1,11 +1,12 @@
 -- Lists without an element, and what stands under each name.
-use Rattle.std.proofs.Common.{◌≡◌, ◌∙◌, ◌++◌, ◌||◌, ℕ, Bool, true, false, cond, List, [], ◌∷◌, inl, inr, map, refl, sym, ap}
+use Rattle.std.proofs.Common.{◌≡◌, ◌∙◌, ◌++◌, ◌||◌, ℕ, Bool, true, false, cond, not, List, [], ◌∷◌, inl, inr, map, refl, sym, ap}
 use Rattle.std.proofs.lemmas.Bool.{cases_Bool}
 use Rattle.std.proofs.lemmas.List.Folds.{list_any-append}
 use Rattle.std.specs.Cmp.Lexicographic.{bytes_decides}
 use Rattle.std.specs.List.{filter, flat_map, list_any}
 use Rattle.std.specs.Str.{bytes_eq}
 use Rattle.pylock_compare.specs.Rows.{Row, in_order, names_of, under_each, values_at}
+use Rattle.pylock_diff.specs.Change.{ChangeValue, told_where}
 use Rattle.pylock_compare.proofs.OrderLemmas.{stands_in_order}
 
 -- ---- what an empty list says of its parts
@@ -21,6 +22,10 @@ back_none (x ∷ xs) ys none = absurd cc
 pub not_none : {X : Type 0} (x : X) (xs : List X) → x ∷ xs ≡ [] → ⊥
 not_none x xs e = absurd cc
 
+pub untold : (same : Bool) (change : ChangeValue) → told_where (not same) change ≡ [] → same ≡ true
+untold true change none = refl
+untold false change none = absurd cc
+
 pub each_none : {C : Type 0} (f : List ℕ → List C) (xs : List (List ℕ)) → flat_map f xs ≡ [] → (q : List ℕ) → list_any (bytes_eq q) xs ≡ true → f q ≡ []
 each_none f [] none q is = absurd cc
 each_none f (x ∷ xs) none q is = elim (cases_Bool (bytes_eq q x)) [
@@ -31,6 +36,14 @@ each_none f (x ∷ xs) none q is = elim (cases_Bool (bytes_eq q x)) [
 pub nothing : {X C : Type 0} (f : X → List C) → ((x : X) → f x ≡ []) → (xs : List X) → flat_map f xs ≡ []
 nothing f none [] = refl
 nothing f none (x ∷ xs) = λ i. none x i ++ nothing f none xs i
+
+-- ---- lists that are the same
+
+pub heads : {X : Type 0} (x y : X) (xs ys : List X) → x ∷ xs ≡ y ∷ ys → x ≡ y
+heads x y xs ys same = cc
+
+pub tails : {X : Type 0} (x y : X) (xs ys : List X) → x ∷ xs ≡ y ∷ ys → xs ≡ ys
+tails x y xs ys same = cc
 
 -- ---- what stands under a name
 

@@ -1,25 +1,20 @@
 -- What is told of a name: nothing, exactly where each entry has a partner.
-use Rattle.std.proofs.Common.{◌≡◌, ◌∙◌, ℕ, Bool, true, false, not, List, [], ◌∷◌, map, refl, sym, ap, arith}
+use Rattle.std.proofs.Common.{◌≡◌, ◌∙◌, ℕ, List, [], ◌∷◌, map, refl, sym, ap, arith}
 use Rattle.std.specs.List.{AllByRecursion}
 use Rattle.pylock_compare.specs.Counts.{count}
 use Rattle.pylock_compare.specs.Rows.{values_at}
 use Rattle.pylock_compare.specs.Texts.{Texts}
 use Rattle.pylock_compare.proofs.PartnerLemmas.{no_lone, none_alone}
-use Rattle.pylock_diff.specs.Change.{ChangeValue, told_where}
 use Rattle.pylock_diff.specs.Changes.{name_changes, rest_changes, row_changes, shared_changes}
 use Rattle.pylock_diff.specs.Item.{ItemValue}
 use Rattle.pylock_diff.specs.Keys.{are_same_values, entry_key_changes, key_changes, placed_rows}
 use Rattle.pylock_diff.specs.Partners.{item_key, without_partners}
 use Rattle.pylock_diff.proofs.Same.Counts.{counted_itself}
-use Rattle.pylock_diff.proofs.Same.Lists.{back_none, front_none, under_none}
+use Rattle.pylock_diff.proofs.Same.Lists.{back_none, front_none, under_none, untold}
 use Rattle.pylock_diff.proofs.Same.Places.{same_values}
 use Rattle.pylock_diff.proofs.Same.Rest.{AreSame, IsOfTable, no_rest}
 
 -- ---- where nothing is told
-
-holds : (b : Bool) (change : ChangeValue) → told_where (not b) change ≡ [] → b ≡ true
-holds true change none = refl
-holds false change none = absurd cc
 
 -- the keys of entries of which nothing is told
 rest_same : (name : List ℕ) (olds news : List ItemValue) → rest_changes name olds news ≡ [] → AreSame olds news
@@ -29,7 +24,7 @@ rest_same name olds news none key =
     ap (λ told. entry_key_changes name told olds news) (sym rows) ∙ back_none (row_changes name olds news) (entry_key_changes name (row_changes name olds news) olds news) none in
     let olds_at = values_at key (placed_rows (λ item. item.keys) 0 olds) in
     let news_at = values_at key (placed_rows (λ item. item.keys) 0 news) in
-    same_values olds_at news_at (holds (are_same_values olds_at news_at) _
+    same_values olds_at news_at (untold (are_same_values olds_at news_at) _
     (under_none (key_changes name []) (λ k. refl) (placed_rows (λ item. item.keys) 0 olds) (placed_rows (λ item. item.keys) 0 news) keys key))
 
 both_told : (name : List ℕ) (olds news : List ItemValue) → AllByRecursion IsOfTable olds → AllByRecursion IsOfTable news → shared_changes name olds news ≡ []

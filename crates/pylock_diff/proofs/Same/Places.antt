@@ -8,7 +8,7 @@ use Rattle.pylock_compare.specs.Rows.{values_at}
 use Rattle.pylock_diff.specs.Codes.{Rows}
 use Rattle.pylock_diff.specs.Item.{ItemValue}
 use Rattle.pylock_diff.specs.Keys.{Placed, are_same_values, is_same_value, placed_rows}
-use Rattle.pylock_diff.proofs.Same.Lists.{at_append, at_map, front_none}
+use Rattle.pylock_diff.proofs.Same.Lists.{at_append, at_map, front_none, heads, tails}
 
 -- ---- values that are the same
 
@@ -35,28 +35,22 @@ same_values (old ∷ olds) (new ∷ news) is =
 
 -- ---- the values at one place, and those behind it
 
-head_of : {V : Type 0} (v w : V) (vs ws : List V) → v ∷ vs ≡ w ∷ ws → v ≡ w
-head_of v w vs ws same = cc
-
-tail_of : {V : Type 0} (v w : V) (vs ws : List V) → v ∷ vs ≡ w ∷ ws → vs ≡ ws
-tail_of v w vs ws same = cc
-
 fronts : (p : ℕ) (cs ds : List (List ℕ)) (xs ys : List Placed) → AllByRecursion (λ v. p < v.0) xs → AllByRecursion (λ v. p < v.0) ys
     → map {B = Placed} (λ c. (p, c)) cs ++ xs ≡ map {B = Placed} (λ c. (p, c)) ds ++ ys → cs ≡ ds
 fronts p [] [] xs ys h k same = refl
 fronts p [] (d ∷ ds) [] ys h k same = absurd cc
 fronts p [] (d ∷ ds) (x ∷ xs) ys h k same =
-    let at : x.0 ≡ p = ap (λ v. v.0) (head_of x (p, d) xs (map {B = Placed} (λ c. (p, c)) ds ++ ys) same) in
+    let at : x.0 ≡ p = ap (λ v. v.0) (heads x (p, d) xs (map {B = Placed} (λ c. (p, c)) ds ++ ys) same) in
     let after = h.0 in
     absurd (omega arith)
 fronts p (c ∷ cs) [] xs [] h k same = absurd cc
 fronts p (c ∷ cs) [] xs (y ∷ ys) h k same =
-    let at : p ≡ y.0 = ap (λ v. v.0) (head_of (p, c) y (map {B = Placed} (λ c. (p, c)) cs ++ xs) ys same) in
+    let at : p ≡ y.0 = ap (λ v. v.0) (heads (p, c) y (map {B = Placed} (λ c. (p, c)) cs ++ xs) ys same) in
     let after = k.0 in
     absurd (omega arith)
 fronts p (c ∷ cs) (d ∷ ds) xs ys h k same =
-    let one : c ≡ d = ap (λ v. v.1) (head_of (p, c) (p, d) (map {B = Placed} (λ c. (p, c)) cs ++ xs) (map {B = Placed} (λ c. (p, c)) ds ++ ys) same) in
-    let more = fronts p cs ds xs ys h k (tail_of (p, c) (p, d) (map {B = Placed} (λ c. (p, c)) cs ++ xs) (map {B = Placed} (λ c. (p, c)) ds ++ ys) same) in
+    let one : c ≡ d = ap (λ v. v.1) (heads (p, c) (p, d) (map {B = Placed} (λ c. (p, c)) cs ++ xs) (map {B = Placed} (λ c. (p, c)) ds ++ ys) same) in
+    let more = fronts p cs ds xs ys h k (tails (p, c) (p, d) (map {B = Placed} (λ c. (p, c)) cs ++ xs) (map {B = Placed} (λ c. (p, c)) ds ++ ys) same) in
     λ i. one i ∷ more i
 
 all_joined : (p : ℕ) (xs ys : List Placed) → AllByRecursion (λ v. p < v.0) xs → AllByRecursion (λ v. p < v.0) ys → AllByRecursion (λ v. p < v.0) (xs ++ ys)

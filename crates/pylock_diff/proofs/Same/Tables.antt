@@ -13,7 +13,7 @@ use Rattle.pytoml_code.specs.Proper.{HasProper, IsProper, IfThere}
 use Rattle.pytoml_code.proofs.CodeLemmas.{equal_codes}
 use Rattle.pylock_diff.specs.Codes.{Rows, member_rows}
 use Rattle.pylock_diff.specs.Partners.{row_texts}
-use Rattle.pylock_diff.proofs.Same.Lists.{at_other, at_same, bytes_itself, not_none}
+use Rattle.pylock_diff.proofs.Same.Lists.{at_other, at_same, bytes_itself, heads, not_none, tails}
 
 -- ---- the value at a key
 
@@ -84,9 +84,6 @@ absent key (member l d ds) proper before =
     at_other key l (code d) (member_rows ds) (sym (is_eq-slice_cmp key l) ∙ ap is_eq below)
     ∙ absent key ds proper.2 (before_rest key l ds below proper.0)
 
-tails : {V : Type 0} (v w : V) (vs ws : List V) → v ∷ vs ≡ w ∷ ws → vs ≡ ws
-tails v w vs ws same = cc
-
 -- behind a key that both have, the other keys have the same values too
 rest_same : (key : List ℕ) (c : List ℕ) (xs ys : Rows) → ((q : List ℕ) → values_at q ((key, c) ∷ xs) ≡ values_at q ((key, c) ∷ ys)) → (q : List ℕ) → values_at q xs ≡ values_at q ys
 rest_same key c xs ys same q = elim (cases_Bool (bytes_eq q key)) [
@@ -110,9 +107,6 @@ same_rows (member k d ds) (member l e es) p q same =
           ∙ absent l (member k d ds) p (ap is_lt (nat_list_cmp_total.antisymm l k ∙ ap ordering_reverse above))))
     ] refl
   where
-    heads : {V : Type 0} (v w : V) (vs ws : List V) → v ∷ vs ≡ w ∷ ws → v ≡ w
-    heads v w vs ws same = cc
-
     both : (((key : List ℕ) → values_at key (member_rows ds) ≡ values_at key (member_rows es)) → member_rows ds ≡ member_rows es) → k ≡ l → (k, code d) ∷ member_rows ds ≡ (l, code e) ∷ member_rows es
     both others key =
         let one : code d ≡ code e = heads (code d) (code e) (values_at k (member_rows ds)) (values_at k (member_rows es))
