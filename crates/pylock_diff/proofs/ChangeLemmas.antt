@@ -5,7 +5,7 @@ use Rattle.pylock_core.specs.Session.State.{State}
 use Rattle.pylock_core.specs.declared.answer.Answer.TheVariants.{Plan}
 use Rattle.pylock_core.specs.declared.answer.Pick.{Pick}
 use Rattle.pylock_compare.proofs.PartnerLemmas.{no_lone}
-use Rattle.pylock_compare.specs.Rows.{Row, in_order, names_of, under_each, values_at}
+use Rattle.pylock_compare.specs.Rows.{Row, in_order, names_of, values_at}
 use Rattle.pylock_diff.specs.Change.{ChangeValue, change_of, told_where}
 use Rattle.pylock_diff.specs.Changes.{answer_changes, item_changes, lock_changes, name_changes, rest_changes, shared_changes}
 use Rattle.pylock_diff.specs.Compared.{ComparedValue}
@@ -13,15 +13,7 @@ use Rattle.pylock_diff.specs.Head.{HeadKey, first, have_same_value, head_changes
 use Rattle.pylock_diff.specs.Item.{ItemValue, entry_items, pick_items}
 use Rattle.pylock_diff.specs.Partners.{item_key, without_partners}
 use Rattle.pylock_diff.specs.declared.change.ChangeKind.TheVariants.{Head}
-use Rattle.std.proofs.lemmas.Slice.Eq.{bytes_eq-Decides}
-
-pub nothing : {X C : Type 0} (f : X → List C) → ((x : X) → f x ≡ []) → (xs : List X) → flat_map f xs ≡ []
-nothing f none [] = refl
-nothing f none (x ∷ xs) = λ i. none x i ++ nothing f none xs i
-
-pub under_itself : {V C : Type 0} (told : List ℕ → List V → List V → List C) → ((name : List ℕ) (values : List V) → told name values values ≡ [])
-    → (rows : List (Row V)) → under_each told rows rows ≡ []
-under_itself told none rows = nothing (λ name. told name (values_at name rows) (values_at name rows)) (λ name. none name (values_at name rows)) (in_order (names_of rows ++ names_of rows))
+use Rattle.pylock_diff.proofs.Same.Lists.{bytes_itself, none_under, nothing}
 
 -- ---- names
 
@@ -40,13 +32,13 @@ name_itself name [] = refl
 name_itself name (item ∷ items) = shared_itself name (item ∷ items)
 
 pub items_itself : (rows : List (Row ItemValue)) → item_changes rows rows ≡ []
-items_itself rows = under_itself name_changes name_itself rows
+items_itself rows = none_under name_changes rows rows (λ name. name_itself name (values_at name rows))
 
 -- ---- the head
 
 same_value : (one : Option HeadKey) → have_same_value one one ≡ true
 same_value None = refl
-same_value (Some one) = (bytes_eq-Decides one.code one.code).1 refl
+same_value (Some one) = bytes_itself one.code
 
 value_itself : (key : List ℕ) (one : Option HeadKey) → key_change key one one ≡ []
 value_itself key one =

@@ -1,7 +1,7 @@
 pub mod ChangeLemmas
 pub mod CountLemmas
 pub mod MemberLemmas
-pub mod NoneLemmas
 pub mod PickLemmas
 pub mod PlanLemmas
+pub mod Same
 pub mod TurnedLemmas

@@ -33,9 +33,10 @@ use Rattle.pylock_diff.specs.Keys.{are_same_values, entry_key_changes, key_chang
 use Rattle.pylock_diff.specs.Partners.{item_key, row_texts, without_partners}
 use Rattle.pylock_diff.specs.Picks.{kind_word, pick_fields, source_members, source_row, version_row}
 use Rattle.pylock_diff.specs.SamePlan.{PickTheSame, PickValue, numberless, pick_value, pick_values, source_fields}
-use Rattle.pylock_diff.proofs.ChangeLemmas.{nothing, untold_rest}
 use Rattle.pylock_diff.proofs.CountLemmas.{counts_permute, permuted_count}
-use Rattle.pylock_diff.proofs.NoneLemmas.{back_none, first_none, first_values, front_none, holds, same_values, under_none, values_joined}
+use Rattle.pylock_diff.proofs.Same.Lists.{at_append, back_none, front_none, none_under, under_none, untold}
+use Rattle.pylock_diff.proofs.Same.Names.{name_same}
+use Rattle.pylock_diff.proofs.Same.Places.{first_none, first_same, same_values}
 use Rattle.pylock_diff.proofs.PickLemmas.{fields_exact, fields_row, row_seen}
 
 abbrev Picked : Type 0
@@ -201,7 +202,7 @@ none_at_kind key (Some t) apart = ap (λ b. map (λ (r : Row (List ℕ)). r.1) (
 -- what a pick has at a key that is no version
 at_kind : (s : SourceValue) (p : Picked) → values_at (kind_word s) (pick_fields p.0 p.1) ≡ map (λ (r : Row (List ℕ)). r.1) (cond (bytes_eq (kind_word s) (kind_word p.1)) (source_row p.1) [])
 at_kind s p =
-    values_joined (kind_word s) (version_row p.0.version) (source_row p.1)
+    at_append (kind_word s) (version_row p.0.version) (source_row p.1)
     ∙ ap (λ front. front ++ values_at (kind_word s) (source_row p.1)) (none_at_kind (kind_word s) p.0.version (no_version s))
 
 at_own : (p : Picked) → values_at (kind_word p.1) (pick_fields p.0 p.1) ≡ source_code p.1 ∷ []
@@ -209,7 +210,7 @@ at_own p = at_kind p.1 p ∙ ap (λ b. map (λ (r : Row (List ℕ)). r.1) (cond 
 
 at_version : (p : Picked) → values_at (codes "version") (pick_fields p.0 p.1) ≡ values_at (codes "version") (version_row p.0.version)
 at_version p =
-    values_joined (codes "version") (version_row p.0.version) (source_row p.1)
+    at_append (codes "version") (version_row p.0.version) (source_row p.1)
     ∙ ap (λ b. values_at (codes "version") (version_row p.0.version) ++ map (λ (r : Row (List ℕ)). r.1) (cond b (source_row p.1) [])) (version_not p.1)
     ∙ append-nil (values_at (codes "version") (version_row p.0.version))
 
@@ -243,16 +244,16 @@ same_fields p q same =
 all_same : (name : List ℕ) (os ns : List ItemValue) → rest_changes name os ns ≡ [] → (key : List ℕ)
     → values_at key (placed_rows (λ item. item.keys) 0 os) ≡ values_at key (placed_rows (λ item. item.keys) 0 ns)
 all_same name os ns none key =
-    let untold = front_none (row_changes name os ns) (entry_key_changes name (row_changes name os ns) os ns) none in
+    let nothing = front_none (row_changes name os ns) (entry_key_changes name (row_changes name os ns) os ns) none in
     let rest = back_none (row_changes name os ns) (entry_key_changes name (row_changes name os ns) os ns) none in
-    let unsaid : entry_key_changes name [] os ns ≡ [] = ap (λ told. entry_key_changes name told os ns) (sym untold) ∙ rest in
-    let here = under_none (key_changes name []) (placed_rows (λ item. item.keys) 0 os) (placed_rows (λ item. item.keys) 0 ns) (λ key. refl) unsaid key in
-    same_values _ _ (holds (are_same_values (values_at key (placed_rows (λ item. item.keys) 0 os)) (values_at key (placed_rows (λ item. item.keys) 0 ns))) _ here)
+    let unsaid : entry_key_changes name [] os ns ≡ [] = ap (λ told. entry_key_changes name told os ns) (sym nothing) ∙ rest in
+    let here = under_none (key_changes name []) (λ key. refl) (placed_rows (λ item. item.keys) 0 os) (placed_rows (λ item. item.keys) 0 ns) unsaid key in
+    same_values _ _ (untold (are_same_values (values_at key (placed_rows (λ item. item.keys) 0 os)) (values_at key (placed_rows (λ item. item.keys) 0 ns))) _ here)
 
 -- an entry has something at its kind
 something : (q : Picked) (qs : List Picked) → ((key : List ℕ) → [] ≡ values_at key (placed_rows (λ item. item.keys) 0 (map item_of (q ∷ qs)))) → ⊥
 something q qs same =
-    let none : values_at (kind_word q.1) (pick_fields q.0 q.1) ≡ [] = first_none (λ item. item.keys) (kind_word q.1) (item_of q) (map item_of qs) (same (kind_word q.1)) in
+    let none : values_at (kind_word q.1) (pick_fields q.0 q.1) ≡ [] = first_none (λ item. item.keys) (item_of q) (map item_of qs) (kind_word q.1) (sym (same (kind_word q.1))) in
     let some : source_code q.1 ∷ [] ≡ [] = sym (at_own q) ∙ none in
     absurd cc
 
@@ -264,7 +265,7 @@ no_lone_picks ps qs [] [] left right same = (refl, refl)
 no_lone_picks ps qs [] (b ∷ rs) left right same = absurd (something b rs same)
 no_lone_picks ps qs (a ∷ ls) [] left right same = absurd (something a ls (λ key. sym (same key)))
 no_lone_picks ps qs (a ∷ ls) (b ∷ rs) left right same =
-    let fields = same_fields a b (λ key. first_values (λ item. item.keys) key (item_of a) (item_of b) (map item_of ls) (map item_of rs) (same key)) in
+    let fields = same_fields a b (λ key. first_same (λ item. item.keys) (item_of a) (item_of b) (map item_of ls) (map item_of rs) key (same key)) in
     let key : key_of a ≡ key_of b = ap row_texts fields in
     let one = first_alone key_of ps (map key_of qs) a ls left in
     let two = first_alone key_of qs (map key_of ps) b rs right in
@@ -291,7 +292,7 @@ picks_counts ps qs none k =
     ∙ whole_counts (map picked_row ps) (map picked_row qs) (λ name k.
     seen name ps k
     ∙ named_counts name (named name ps) (named name qs)
-    (sym (λ i. name_changes name (values_named name ps i) (values_named name qs i)) ∙ under_none name_changes (map picked_row ps) (map picked_row qs) (λ name. refl) none name) k
+    (sym (λ i. name_changes name (values_named name ps i) (values_named name qs i)) ∙ under_none name_changes (λ name. refl) (map picked_row ps) (map picked_row qs) none name) k
     ∙ sym (seen name qs k)) k
     ∙ ap (count k) (keys_of_rows qs)
   where
@@ -300,28 +301,10 @@ picks_counts ps qs none k =
 
 -- ---- where the picks are the same
 
-pub name_none : (name : List ℕ) (olds news : List ItemValue) → ((k : Texts) → count k (map item_key olds) ≡ count k (map item_key news)) → name_changes name olds news ≡ []
-name_none name [] [] same = refl
-name_none name [] (new ∷ news) same =
-    let one : 0 ≡ 1 + count (item_key new) (map item_key news) =
-    same (item_key new) ∙ ap (λ b. cond b 1 0 + count (item_key new) (map item_key news)) (alike_itself (item_key new)) in
-    absurd (omega arith)
-name_none name (old ∷ olds) [] same =
-    let one : 0 ≡ 1 + count (item_key old) (map item_key olds) =
-    sym (same (item_key old)) ∙ ap (λ b. cond b 1 0 + count (item_key old) (map item_key olds)) (alike_itself (item_key old)) in
-    absurd (omega arith)
-name_none name (old ∷ olds) (new ∷ news) same =
-    let os = old ∷ olds in
-    let ns = new ∷ news in
-    let left : without_partners os ns ≡ [] = no_lone item_key os (map item_key ns) (λ k. let here = same k in omega arith) in
-    let right : without_partners ns os ≡ [] = no_lone item_key ns (map item_key os) (λ k. let here = same k in omega arith) in
-    (λ i. rest_changes name (left i) (right i)) ∙ untold_rest name
-
 pub items_none : (olds news : List (Row ItemValue)) → ((k : Texts) → count k (map row_key olds) ≡ count k (map row_key news)) → item_changes olds news ≡ []
 items_none olds news same =
-    nothing (λ name. name_changes name (values_at name olds) (values_at name news))
-    (λ name. name_none name (values_at name olds) (values_at name news) (λ k. sym (count_at name k olds) ∙ same (Some name ∷ k) ∙ count_at name k news))
-    (in_order (names_of olds ++ names_of news))
+    none_under name_changes olds news
+    (λ name. name_same name (values_at name olds) (values_at name news) (λ k. sym (count_at name k olds) ∙ same (Some name ∷ k) ∙ count_at name k news))
 
 -- ---- picks and their entries
 

@@ -20,7 +20,7 @@ use Rattle.pylock_diff.specs.Partners.{without_partners}
 use Rattle.pylock_diff.specs.Sources.{file_changes, lone_sources, source_text}
 use Rattle.pylock_diff.specs.Versions.{version_changes, version_keys, versions_text}
 use Rattle.pylock_diff.specs.declared.change.ChangeKind.TheVariants.{Condition, File, Hash, Head, Key, Place, Version}
-use Rattle.pylock_diff.proofs.ChangeLemmas.{nothing}
+use Rattle.pylock_diff.proofs.Same.Lists.{nothing}
 
 taken : (b : Bool) (c : ChangeValue) (cs ds : List ChangeValue) → cond b (c ∷ cs ++ ds) (cs ++ ds) ≡ cond b (c ∷ cs) cs ++ ds
 taken true c cs ds = refl
