@@ -1,5 +1,7 @@
 pub mod ChangeLemmas
-pub mod KeyLemmas
-pub mod SameLemmas
-pub mod SeenLemmas
+pub mod CountLemmas
+pub mod MemberLemmas
+pub mod PickLemmas
+pub mod PlanLemmas
+pub mod Same
 pub mod TurnedLemmas

@@ -3,12 +3,14 @@
 ghost use Rattle.std.specs.Prelude.{◌≡◌, [], List, map};
 ghost use Rattle.toml.specs.Data.{Members};
 ghost use Rattle.pylock_core.specs.Session.State.{State};
+ghost use Rattle.pylock_core.specs.declared.answer.Answer.{Answer};
 ghost use Rattle.pylock_core.specs.declared.answer.Answer.TheVariants.{Plan};
 ghost use Rattle.pylock_core.specs.declared.answer.Pick.{Pick};
 ghost use Rattle.pylock_diff.specs.Change.{coming_and_going, turned};
 ghost use Rattle.pylock_diff.specs.Changes.{answer_changes, lock_changes};
 ghost use Rattle.pylock_diff.specs.Compared.{ComparedValue};
 ghost use Rattle.pylock_diff.specs.Same.{HoldSameLock, IsRead};
+ghost use Rattle.pylock_diff.specs.SamePlan.{PickTheSame};
 
 /// There is no change exactly where both documents hold the same lock.
 pub fn nothing_changes_exactly_where_the_lock_is_the_same()
@@ -31,4 +33,14 @@ pub fn nothing_changes_from_itself()
 pub fn added_and_removed_change_places()
     ensures { (old new : ComparedValue) → coming_and_going (lock_changes new old)
         ≡ map turned (coming_and_going (lock_changes old new)) }
+{}
+
+/// There is no change of two answers exactly where both are plans whose picks, numbers apart, are
+/// the same, each with all its fields.
+#[tactic(auto, using(crate::proofs::PlanLemmas::same_picks))]
+pub fn nothing_changes_exactly_where_the_picks_are_the_same()
+    ensures told { (old new : State) (before after : Answer)
+        → answer_changes old new before after ≡ [] → PickTheSame old new before after }
+    ensures same { (old new : State) (before after : Answer)
+        → PickTheSame old new before after → answer_changes old new before after ≡ [] }
 {}
