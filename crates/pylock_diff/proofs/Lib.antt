@@ -1,5 +1,7 @@
 pub mod ChangeLemmas
+pub mod InnerLemmas
 pub mod KeyLemmas
+pub mod OtherLemmas
 pub mod SameLemmas
 pub mod SeenLemmas
 pub mod TurnedLemmas
