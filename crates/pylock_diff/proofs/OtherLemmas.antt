@@ -1,5 +1,5 @@
 -- What the other lock has of a name, and the sources of an entry that it hasn't.
-use Rattle.std.proofs.Common.{◌≡◌, ◌∙◌, ◌||◌, ◌&&◌, ◌∷◌, Bool, true, false, cond, not, is_some, List, [], Option, Some, None, refl, sym, ap, absurd}
+use Rattle.std.proofs.Common.{◌≡◌, ◌∙◌, ◌||◌, ◌&&◌, ◌∷◌, Bool, true, false, cond, not, is_some, List, [], Option, Some, None, Result, Ok, Err, OnOk, refl, sym, ap}
 use Rattle.std.specs.BTreeMap.{get}
 use Rattle.std.specs.BTreeSet.{BTreeSet, contains}
 use Rattle.std.specs.List.{filter, list_any}
@@ -12,14 +12,19 @@ use Rattle.pylock_diff.specs.Sources.{condition_key, has_condition, has_counterp
 use Rattle.pylock_diff.specs.Versions.{version_key}
 use Rattle.pylock_diff.specs.declared.sources.Others.{Others}
 
+pub on_ok : {X E P Q : Type 0} (result : Result X E) → (P → Q) → OnOk result P → OnOk result Q
+on_ok (Ok x) f holds = f holds
+on_ok (Err e) f holds = holds
+
 -- where none has the first, none has both
 any_both : {X : Type 0} (p q : X → Bool) (xs : List X) → list_any p xs ≡ false → list_any (λ x. p x && q x) xs ≡ false
 any_both p q [] none = refl
-any_both p q (x ∷ xs) none = by (p x) none
+any_both p q (x ∷ xs) none = by (p x) none (any_both p q xs)
   where
-    by : (b : Bool) → (b || list_any p xs) ≡ false → ((b && q x) || list_any (λ y. p y && q y) xs) ≡ false
-    by true none = absurd cc
-    by false none = any_both p q xs none
+    by : (b : Bool) → (b || list_any p xs) ≡ false → (list_any p xs ≡ false → list_any (λ y. p y && q y) xs ≡ false)
+        → ((b && q x) || list_any (λ y. p y && q y) xs) ≡ false
+    by true none others = absurd cc
+    by false none others = others none
 
 all_stay : {X : Type 0} (p : X → Bool) → ((x : X) → p x ≡ false) → (xs : List X) → filter (λ x. not (p x)) xs ≡ xs
 all_stay p none [] = refl
