@@ -1,6 +1,9 @@
 pub mod ChangeLemmas
 pub mod CountLemmas
+pub mod InnerLemmas
+pub mod KeyLemmas
 pub mod MemberLemmas
+pub mod OtherLemmas
 pub mod PickLemmas
 pub mod PlanLemmas
 pub mod Same
