@@ -9,9 +9,11 @@
 mod file_name;
 mod query;
 mod shown;
+mod text;
 mod url;
 
 pub use file_name::{shown_file_name, shown_name};
 pub use query::has_secret;
 pub use shown::{file_label, shown_place};
-pub use url::{around, has_byte, has_credentials, is_https, is_safe_remote, shown_url};
+pub use text::{around, joined};
+pub use url::{has_credentials, is_https, is_safe_remote, shown_url};
