@@ -1,5 +1,5 @@
 //! How URLs, places and file names of a lock are shown: with `***` for what opens them, the user
-//! and each secret of the query.
+//! and each secret of the query. And whether a URL has such, and is of HTTPS.
 //!
 //! ```rust
 //! let text = shown_place(alloc, file.path(), file.url())?;
