@@ -24,8 +24,10 @@ use crate::hash::{Hash, is_bad, is_odd, is_weak};
 use crate::keys::source_key_path;
 use crate::unsafe_text::{is_outside_path, is_unsafe_name, is_unsafe_path};
 use pylock_core::{DistributionFile, NamedSource, PickSource, PickedSource, Vcs};
-use pylock_places::{file_label, has_credentials, has_secret, is_https, is_safe_remote, joined};
-use pylock_places::{shown_name, shown_place, shown_url};
+use pylock_places::{
+    file_label, has_credentials, has_secret, is_https, is_safe_remote, joined, shown_name,
+    shown_place, shown_url,
+};
 use std::alloc::{AllocError, Global};
 
 // ---- what a source has

@@ -1,8 +1,11 @@
 //! How URLs, places and file names of a lock are shown: with `***` for what opens them, the user
 //! and each secret of the query. And whether a URL has such, and is of HTTPS.
 //!
+//! What an archive is called in a finding, from `crates/pylock_audit/src/source.rt`:
+//!
 //! ```rust
-//! let text = shown_place(alloc, file.path(), file.url())?;
+//! let place = shown_place(alloc, archive.path(), archive.url())?;
+//! joined(alloc, "archive ", place.as_str())
 //! ```
 #![tactic(auto)]
 
