@@ -1,5 +1,6 @@
 pub mod ChangeLemmas
 pub mod CountLemmas
+pub mod HiddenLemmas
 pub mod InnerLemmas
 pub mod KeyLemmas
 pub mod MemberLemmas

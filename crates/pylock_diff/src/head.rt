@@ -15,9 +15,10 @@ ghost use Rattle.pylock_diff.specs.Inner.Lent.{key_row, lent_keys};
 ghost use Rattle.pytoml_code.specs.Proper.{HasProper};
 
 use crate::change::{Change, ChangeKind, push_change};
+use crate::hidden::shown_value;
 use crate::texts::owned;
 use pylock_compare::Sides;
-use pytoml_code::{push_code, shown_code};
+use pytoml_code::push_code;
 use std::alloc::{AllocError, Global};
 use std::marker::Model;
 use toml::{Table, Value};
@@ -80,7 +81,7 @@ fn head_key(alloc: Global, key: &str, value: &Value) -> Result<HeadKey, AllocErr
     let text = if is_list_key(key) {
         list_text(alloc, value)?
     } else {
-        shown_code(alloc, code.as_slice())?
+        shown_value(alloc, code.as_slice())?
     };
     let key = String::from_str(alloc, key)?;
     Ok(HeadKey { key, code, text })
