@@ -1,7 +1,9 @@
+pub mod AnswerLemmas
 pub mod ChangeLemmas
 pub mod CountLemmas
 pub mod MemberLemmas
 pub mod PickLemmas
 pub mod PlanLemmas
 pub mod Same
+pub mod SameAnswer
 pub mod TurnedLemmas

@@ -39,7 +39,7 @@ use Rattle.pylock_diff.proofs.Same.Names.{name_same}
 use Rattle.pylock_diff.proofs.Same.Places.{first_none, first_same, same_values}
 use Rattle.pylock_diff.proofs.PickLemmas.{fields_exact, fields_row, row_seen}
 
-abbrev Picked : Type 0
+abbrev pub Picked : Type 0
 Picked = EntryValue × SourceValue
 
 abbrev item_of : Picked → ItemValue
@@ -48,14 +48,14 @@ item_of pick = (picked_row pick).1
 abbrev key_of : Picked → Texts
 key_of pick = item_key (item_of pick)
 
-abbrev value_of : Picked → PickValue
+abbrev pub value_of : Picked → PickValue
 value_of pick = pick_value pick.0 pick.1
 
 -- a row by its name and its key
 abbrev row_key : Row ItemValue → Texts
 row_key row = Some row.0 ∷ item_key row.1
 
-abbrev whole_key : Picked → Texts
+abbrev pub whole_key : Picked → Texts
 whole_key pick = row_key (picked_row pick)
 
 -- ---- keys of picks
@@ -70,7 +70,7 @@ rows_exact (x ∷ xs) (y ∷ ys) same =
     let more : row_texts xs ≡ row_texts ys = cc in
     λ i. (key i, value i) ∷ rows_exact xs ys more i
 
-value_exact : (p q : Picked) → whole_key p ≡ whole_key q → value_of p ≡ value_of q
+pub value_exact : (p q : Picked) → whole_key p ≡ whole_key q → value_of p ≡ value_of q
 value_exact p q same =
     let name : p.0.name ≡ q.0.name = cc in
     let texts : item_key (item_of p) ≡ item_key (item_of q) = cc in
@@ -326,7 +326,7 @@ entry_seen g name (Some entry) = source_seen g entry (source_in entry name)
 items_seen : (state : State) (picks : List Pick) → pick_items state picks ≡ map picked_row (picked_entries state picks)
 items_seen state picks = each_seen picked_row (pick_item state) (picked_entry state) (λ p. entry_seen picked_row p.source (entry_at p.id state.entries)) picks
 
-values_seen : (state : State) (picks : List Pick) → numberless state picks ≡ map value_of (picked_entries state picks)
+pub values_seen : (state : State) (picks : List Pick) → numberless state picks ≡ map value_of (picked_entries state picks)
 values_seen state picks = each_seen value_of (pick_values state) (picked_entry state) (λ p. entry_seen value_of p.source (entry_at p.id state.entries)) picks
 
 -- ---- two plans

@@ -3,6 +3,7 @@
 ghost use Rattle.std.specs.Prelude.{◌≡◌, [], List, map};
 ghost use Rattle.toml.specs.Data.{Members};
 ghost use Rattle.pylock_core.specs.Session.State.{State};
+ghost use Rattle.pylock_core.specs.Session.Steps.{answer};
 ghost use Rattle.pylock_core.specs.declared.answer.Answer.{Answer};
 ghost use Rattle.pylock_core.specs.declared.answer.Answer.TheVariants.{Plan};
 ghost use Rattle.pylock_core.specs.declared.answer.Pick.{Pick};
@@ -10,7 +11,7 @@ ghost use Rattle.pylock_diff.specs.Change.{coming_and_going, turned};
 ghost use Rattle.pylock_diff.specs.Changes.{answer_changes, lock_changes};
 ghost use Rattle.pylock_diff.specs.Compared.{ComparedValue};
 ghost use Rattle.pylock_diff.specs.Same.{HoldSameLock, IsRead};
-ghost use Rattle.pylock_diff.specs.SamePlan.{PickTheSame};
+ghost use Rattle.pylock_diff.specs.SamePlan.{PickTheSame, judging};
 
 /// There is no change exactly where both documents hold the same lock.
 pub fn nothing_changes_exactly_where_the_lock_is_the_same()
@@ -43,4 +44,22 @@ pub fn nothing_changes_exactly_where_the_picks_are_the_same()
         → answer_changes old new before after ≡ [] → PickTheSame old new before after }
     ensures same { (old new : State) (before after : Answer)
         → PickTheSame old new before after → answer_changes old new before after ≡ [] }
+{}
+
+/// Where nothing changes, wherever one lock gives a plan the other gives the same picks, but for
+/// their numbers and their order. The heads are the same, and so are the groups that are asked for
+/// at the start.
+pub fn where_nothing_changes_the_plan_is_the_same()
+    ensures heads { (old new : ComparedValue) (before after : Members) → IsRead old before
+        → IsRead new after → lock_changes old new ≡ [] → old.lock.head ≡ new.lock.head }
+    ensures old_plan { (old new : ComparedValue) (before after : Members) (choices : State)
+        (plan : List Pick) → IsRead old before → IsRead new after → lock_changes old new ≡ []
+        → answer (judging old.lock choices) ≡ Plan plan
+        → PickTheSame (judging old.lock choices) (judging new.lock choices)
+            (answer (judging old.lock choices)) (answer (judging new.lock choices)) }
+    ensures new_plan { (old new : ComparedValue) (before after : Members) (choices : State)
+        (plan : List Pick) → IsRead old before → IsRead new after → lock_changes old new ≡ []
+        → answer (judging new.lock choices) ≡ Plan plan
+        → PickTheSame (judging new.lock choices) (judging old.lock choices)
+            (answer (judging new.lock choices)) (answer (judging old.lock choices)) }
 {}
