@@ -1,27 +1,26 @@
 -- The answers of two states whose entries are the same in another order.
-use Rattle.std.proofs.Common.{◌≡◌, ◌∙◌, ◌++◌, ◌&&◌, ◌||◌, ◌==◌, ℕ, ◌+◌, ◌<◌, ◌≤◌, Bool, true, false, cond, nat_eq, List, [], ◌∷◌, inl, inr, map, None, Option, Some, Result, Ok, Err, IsPermutation, fold, sum_by, refl, sym, ap, subst, arith, append-nil, eq-eqb, ne_eqb}
-use Rattle.std.proofs.lemmas.Bool.{cases_Bool, false≢true}
+use Rattle.std.proofs.Common.{◌≡◌, ◌∙◌, ◌++◌, ◌||◌, ℕ, ◌+◌, ◌<◌, ◌≤◌, Bool, true, false, cond, List, [], ◌∷◌, map, None, Option, Some, Result, Ok, Err, IsPermutation, fold, sum_by, refl, sym, ap, subst, arith, append-nil, eq-eqb, ne_eqb}
+use Rattle.std.proofs.lemmas.Bool.{false≢true}
 use Rattle.std.proofs.lemmas.Grind.{flat_map-append}
 use Rattle.std.proofs.lemmas.List.{map-append}
 use Rattle.std.proofs.lemmas.List.Sorted.{sum_by-IsPermutation}
-use Rattle.std.specs.List.{enumerate_from, filter, flat_map, list_any}
+use Rattle.std.specs.List.{enumerate_from, filter, flat_map}
 use Rattle.std.specs.Option.{option_map_or}
 use Rattle.std.specs.Str.{bytes_eq}
 use Rattle.std.proofs.lemmas.Slice.Eq.{bytes_eq-Decides}
 use Rattle.pymark_core.specs.Environment.{EnvironmentValue}
 use Rattle.pylock_compare.specs.Counts.{count}
-use Rattle.pylock_compare.specs.Texts.{Texts, are_alike}
+use Rattle.pylock_compare.specs.Texts.{Texts}
 use Rattle.pylock_readers.specs.Entry.{EntryValue}
 use Rattle.pylock_readers.specs.Entry.Kinds.{has_conflict}
 use Rattle.pylock_readers.specs.Lock.{LockValue}
 use Rattle.pylock_core.specs.Session.Fates.{stands_active}
-use Rattle.pylock_core.specs.Session.Picks.{SourceValue, source_in}
-use Rattle.pylock_core.specs.Session.State.{Policies, State, entry_at, is_among, policy_of}
+use Rattle.pylock_core.specs.Session.Picks.{source_in}
+use Rattle.pylock_core.specs.Session.State.{State, entry_at, is_among, policy_of}
 use Rattle.pylock_core.specs.Session.Steps.{FirstFault, answer, answer_after, answer_by, by_standing, head_fault, pick_before, picks, picks_after, put_before, slate, source_of, standing}
-use Rattle.pylock_core.specs.declared.answer.Answer.{Answer}
-use Rattle.pylock_core.specs.declared.answer.Answer.TheVariants.{Plan, Fault}
+use Rattle.pylock_core.specs.declared.answer.Answer.TheVariants.{Plan}
 use Rattle.pylock_core.specs.declared.answer.FaultCode.{FaultCode}
-use Rattle.pylock_core.specs.declared.answer.FaultCode.TheVariants.{Ambiguous, NoFile, Sources}
+use Rattle.pylock_core.specs.declared.answer.FaultCode.TheVariants.{Ambiguous, Sources}
 use Rattle.pylock_core.specs.declared.answer.Pick.{Pick}
 use Rattle.pylock_core.specs.declared.answer.PickSource.{PickSource}
 use Rattle.pylock_core.specs.declared.answer.Standing.{Standing}

@@ -1,5 +1,5 @@
 -- Nothing is told of two answers exactly where both are plans that pick the same.
-use Rattle.std.proofs.Common.{◌≡◌, ◌∙◌, ◌++◌, ◌||◌, ℕ, ◌+◌, ◌<◌, ◌≤◌, Bool, true, false, cond, nat_lt, codes, List, [], ◌∷◌, inl, inr, map, None, Option, Some, IsPermutation, refl, sym, ap, subst, arith, append-nil}
+use Rattle.std.proofs.Common.{◌≡◌, ◌∙◌, ◌++◌, ℕ, ◌+◌, ◌<◌, Bool, true, false, cond, codes, List, [], ◌∷◌, inl, inr, map, None, Option, Some, IsPermutation, refl, sym, ap, subst, arith, append-nil}
 use Rattle.std.proofs.lemmas.Bool.{cases_Bool, false≢true}
 use Rattle.std.proofs.lemmas.List.{map-append}
 use Rattle.std.proofs.lemmas.List.Sorted.{IsPermutation-map}
@@ -12,11 +12,11 @@ use Rattle.std.specs.Ordering.{is_eq, nat_cmp, ordering_then}
 use Rattle.std.specs.Str.{bytes_eq}
 use Rattle.toml.specs.Data.{string, table}
 use Rattle.pytoml_code.specs.Code.{code}
-use Rattle.pylock_compare.proofs.KeyLemmas.{alike_equal, alike_itself}
-use Rattle.pylock_compare.proofs.PartnerLemmas.{first_alone, no_lone, none_alone}
+use Rattle.pylock_compare.proofs.KeyLemmas.{alike_equal}
+use Rattle.pylock_compare.proofs.PartnerLemmas.{first_alone, none_alone}
 use Rattle.pylock_compare.specs.Counts.{count}
 use Rattle.pylock_compare.specs.Partners.{are_alone, where_true}
-use Rattle.pylock_compare.specs.Rows.{Row, in_order, names_of, values_at}
+use Rattle.pylock_compare.specs.Rows.{Row, values_at}
 use Rattle.pylock_compare.specs.Texts.{Texts, are_alike}
 use Rattle.pylock_readers.specs.Entry.{EntryValue}
 use Rattle.pylock_core.specs.Session.Picks.{SourceValue, OfVcs, OfDirectory, OfArchive, OfWheel, OfSdist, source_in}
@@ -25,14 +25,14 @@ use Rattle.pylock_core.specs.declared.answer.Answer.{Answer}
 use Rattle.pylock_core.specs.declared.answer.Answer.TheVariants.{Plan, Fault}
 use Rattle.pylock_core.specs.declared.answer.Pick.{Pick}
 use Rattle.pylock_core.specs.declared.answer.PickSource.{PickSource}
-use Rattle.pylock_diff.specs.Changes.{answer_changes, item_changes, name_changes, rest_changes, row_changes, shared_changes}
+use Rattle.pylock_diff.specs.Changes.{answer_changes, item_changes, name_changes, rest_changes, row_changes}
 use Rattle.pylock_diff.specs.Codes.{Rows}
 use Rattle.pylock_diff.specs.Inner.Picked.{picked_entries, picked_entry, picked_row}
-use Rattle.pylock_diff.specs.Item.{ItemValue, pick_item, pick_items, picked_item}
+use Rattle.pylock_diff.specs.Item.{ItemValue, pick_item, pick_items}
 use Rattle.pylock_diff.specs.Keys.{are_same_values, entry_key_changes, key_changes, placed_rows}
 use Rattle.pylock_diff.specs.Partners.{item_key, row_texts, without_partners}
 use Rattle.pylock_diff.specs.Picks.{kind_word, pick_fields, source_members, source_row, version_row}
-use Rattle.pylock_diff.specs.SamePlan.{PickTheSame, PickValue, numberless, pick_value, pick_values, source_fields}
+use Rattle.pylock_diff.specs.SamePlan.{PickTheSame, PickValue, numberless, pick_value, pick_values}
 use Rattle.pylock_diff.proofs.CountLemmas.{counts_permute, permuted_count}
 use Rattle.pylock_diff.proofs.Same.Lists.{at_append, back_none, front_none, none_under, under_none, untold}
 use Rattle.pylock_diff.proofs.Same.Names.{name_same}

@@ -1,5 +1,5 @@
 -- Where two documents hold the same lock, both give the same plan, or neither gives one.
-use Rattle.std.proofs.Common.{◌≡◌, ◌∙◌, ℕ, codes, List, [], ◌∷◌, map, suc, Option, Result, Ok, Err, IsPermutation, refl, sym, ap, subst}
+use Rattle.std.proofs.Common.{◌≡◌, ◌∙◌, ℕ, codes, List, [], ◌∷◌, map, suc, Result, Ok, Err, IsPermutation, refl, sym, ap, subst}
 use Rattle.std.specs.Prelude.{⊤}
 use Rattle.std.proofs.lemmas.List.Sorted.{IsPermutation-map, IsPermutation-sym}
 use Rattle.toml.specs.Data.{Data, Items, Members, get_member, item, no_items}

@@ -2,12 +2,11 @@
 use Rattle.std.proofs.Common.{◌≡◌, ◌∙◌, ◌++◌, ◌&&◌, ℕ, Bool, true, false, cond, not, List, [], ◌∷◌, map, Option, None, Some, option_map, refl, sym, ap}
 use Rattle.std.proofs.lemmas.List.{map-append}
 use Rattle.std.specs.List.{filter, flat_map}
-use Rattle.pylock_readers.specs.Entry.{ArchiveValue, FileValue}
 use Rattle.pylock_compare.proofs.OrderLemmas.{in_order-swap}
 use Rattle.pylock_compare.specs.Rows.{Row, in_order, names_of, under_each, values_at}
 use Rattle.pylock_compare.specs.Texts.{are_alike}
 use Rattle.pylock_diff.specs.Change.{ChangeValue, change_of, comes_or_goes, coming_and_going, told_where, turned}
-use Rattle.pylock_diff.specs.Changes.{item_changes, lock_changes, name_changes, rest_changes, row_changes, shared_changes}
+use Rattle.pylock_diff.specs.Changes.{item_changes, lock_changes, name_changes, row_changes, shared_changes}
 use Rattle.pylock_diff.specs.Codes.{Rows}
 use Rattle.pylock_diff.specs.Compared.{ComparedValue}
 use Rattle.pylock_diff.specs.Conditions.{condition_changes, conditions, conditions_text}
@@ -15,11 +14,11 @@ use Rattle.pylock_diff.specs.Files.{archive_hash_changes, archives_of, file_hash
 use Rattle.pylock_diff.specs.Hashes.{Hashed, are_same_sets, hash_text, hashed_changes, value_changes}
 use Rattle.pylock_diff.specs.Head.{HeadKey, first, have_same_value, head_changes, head_rows, is_list_key, key_change, keys_changes, list_keys}
 use Rattle.pylock_diff.specs.Item.{ItemValue, entry_items}
-use Rattle.pylock_diff.specs.Keys.{Placed, changes_by, entry_key_changes, is_told, are_same_values, key_changes, placed_rows, source_key_changes}
+use Rattle.pylock_diff.specs.Keys.{changes_by, entry_key_changes, is_told, are_same_values, key_changes, placed_rows, source_key_changes}
 use Rattle.pylock_diff.specs.Partners.{without_partners}
 use Rattle.pylock_diff.specs.Sources.{file_changes, lone_sources, source_text}
 use Rattle.pylock_diff.specs.Versions.{version_changes, version_keys, versions_text}
-use Rattle.pylock_diff.specs.declared.change.ChangeKind.TheVariants.{Condition, File, Hash, Head, Key, Place, Version}
+use Rattle.pylock_diff.specs.declared.change.ChangeKind.TheVariants.{Condition, File, Hash, Head, Place, Version}
 use Rattle.pylock_diff.proofs.Same.Lists.{nothing}
 
 taken : (b : Bool) (c : ChangeValue) (cs ds : List ChangeValue) → cond b (c ∷ cs ++ ds) (cs ++ ds) ≡ cond b (c ∷ cs) cs ++ ds
