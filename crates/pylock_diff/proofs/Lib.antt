@@ -6,4 +6,5 @@ pub mod PickLemmas
 pub mod PlanLemmas
 pub mod Same
 pub mod SameAnswer
+pub mod StandLemmas
 pub mod TurnedLemmas

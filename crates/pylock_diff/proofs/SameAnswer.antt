@@ -10,7 +10,8 @@ use Rattle.pylock_readers.specs.Lock.{HeadValue, LockValue}
 use Rattle.pylock_readers.specs.Lock.Head.{created_by_in, head_in, lock_version_in}
 use Rattle.pylock_readers.specs.Lock.Reading.{entries_in, entries_of, lock_in}
 use Rattle.pylock_readers.specs.declared.error.LockError.{LockError}
-use Rattle.pylock_core.specs.Session.State.{State}
+use Rattle.pymark_core.specs.Environment.{EnvironmentValue}
+use Rattle.pylock_core.specs.Session.State.{State, first}
 use Rattle.pylock_core.specs.Session.Steps.{answer}
 use Rattle.pylock_core.specs.declared.answer.Answer.TheVariants.{Plan}
 use Rattle.pylock_core.specs.declared.answer.Pick.{Pick}
@@ -34,8 +35,8 @@ given_none entries is = cc
 entries_are : (place : ℕ) (ds : Items) (entries : List EntryValue) → entries_of place ds ≡ Ok entries → entries ≡ map read (values_of ds)
 entries_are place no_items entries is = given_none entries is
 entries_are place (item d ds) entries is =
-    let first = first_of place d ds entries is in
-    first.whole ∙ (λ i. entry_by (sym first.reads i) ∷ entries_are (suc place) ds first.more first.others i)
+    let one = first_of place d ds entries is in
+    one.whole ∙ (λ i. entry_by (sym one.reads i) ∷ entries_are (suc place) ds one.more one.others i)
 
 lock_entries : (lock : ComparedValue) (document : Members) → IsRead lock document → lock.lock.entries ≡ map read (same.entries_of document)
 lock_entries lock document is =
@@ -98,8 +99,11 @@ answers_held old new before after choices plan one other holds is =
 
 -- ---- where nothing is told
 
-pub head_untold : (old new : ComparedValue) (before after : Members) → IsRead old before → IsRead new after → lock_changes old new ≡ [] → old.lock.head ≡ new.lock.head
-head_untold old new before after one other none = heads_same old new before after one other (told old new before after one other none)
+pub start_of_new : (old new : ComparedValue) (before after : Members) (environment : EnvironmentValue) (choices : State) → IsRead old before → IsRead new after → lock_changes old new ≡ []
+    → judging new.lock (first old.lock environment choices.tags) ≡ first new.lock environment choices.tags
+start_of_new old new before after environment choices one other none =
+    let head = heads_same old new before after one other (told old new before after one other none) in
+    ap (λ (h : HeadValue). judging new.lock (first (record { head = h; entries = old.lock.entries }) environment choices.tags)) head
 
 pub plan_of_old : (old new : ComparedValue) (before after : Members) (choices : State) (plan : List Pick) → IsRead old before → IsRead new after → lock_changes old new ≡ []
     → answer (judging old.lock choices) ≡ Plan plan

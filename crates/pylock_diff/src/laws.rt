@@ -1,8 +1,9 @@
 //! Laws of the definitions alone: each function's contract is a law, and its body is empty.
 
-ghost use Rattle.std.specs.Prelude.{◌≡◌, [], List, map};
+ghost use Rattle.std.specs.Prelude.{◌≡◌, [], List, length, map};
 ghost use Rattle.toml.specs.Data.{Members};
-ghost use Rattle.pylock_core.specs.Session.State.{State};
+ghost use Rattle.pymark_core.specs.Environment.{EnvironmentValue};
+ghost use Rattle.pylock_core.specs.Session.State.{NumbersRise, State, first};
 ghost use Rattle.pylock_core.specs.Session.Steps.{answer};
 ghost use Rattle.pylock_core.specs.declared.answer.Answer.{Answer};
 ghost use Rattle.pylock_core.specs.declared.answer.Answer.TheVariants.{Plan};
@@ -11,7 +12,9 @@ ghost use Rattle.pylock_diff.specs.Change.{coming_and_going, turned};
 ghost use Rattle.pylock_diff.specs.Changes.{answer_changes, lock_changes};
 ghost use Rattle.pylock_diff.specs.Compared.{ComparedValue};
 ghost use Rattle.pylock_diff.specs.Same.{HoldSameLock, IsRead};
-ghost use Rattle.pylock_diff.specs.SamePlan.{PickTheSame, judging};
+ghost use Rattle.pylock_diff.specs.SamePlan.{PickTheSame, judging, numberless};
+
+use pylock_core::laws::picks_stand;
 
 /// There is no change exactly where both documents hold the same lock.
 pub fn nothing_changes_exactly_where_the_lock_is_the_same()
@@ -47,11 +50,13 @@ pub fn nothing_changes_exactly_where_the_picks_are_the_same()
 {}
 
 /// Where nothing changes, wherever one lock gives a plan the other gives the same picks, but for
-/// their numbers and their order. The heads are the same, and so are the groups that are asked for
-/// at the start.
+/// their numbers and their order. At the start both are judged in the same state, but for the lock.
 pub fn where_nothing_changes_the_plan_is_the_same()
-    ensures heads { (old new : ComparedValue) (before after : Members) → IsRead old before
-        → IsRead new after → lock_changes old new ≡ [] → old.lock.head ≡ new.lock.head }
+    ensures start { (old new : ComparedValue) (before after : Members)
+        (environment : EnvironmentValue) (choices : State) → IsRead old before → IsRead new after
+        → lock_changes old new ≡ []
+        → judging new.lock (first old.lock environment choices.tags)
+        ≡ first new.lock environment choices.tags }
     ensures old_plan { (old new : ComparedValue) (before after : Members) (choices : State)
         (plan : List Pick) → IsRead old before → IsRead new after → lock_changes old new ≡ []
         → answer (judging old.lock choices) ≡ Plan plan
@@ -63,3 +68,12 @@ pub fn where_nothing_changes_the_plan_is_the_same()
         → PickTheSame (judging new.lock choices) (judging old.lock choices)
             (answer (judging new.lock choices)) (answer (judging old.lock choices)) }
 {}
+
+/// Each pick of an answer is compared: none lacks its entry or its source.
+#[tactic(auto, using(crate::proofs::StandLemmas::all_values))]
+pub fn no_pick_is_left_out()
+    ensures { (state : State) (plan : List Pick) → NumbersRise state → answer state ≡ Plan plan
+        → length (numberless state plan) ≡ length plan }
+{
+    picks_stand();
+}
