@@ -270,9 +270,11 @@ module _ (choices : State) where
       → (plan ≡ flat_map pick_at (slated choices.environment (enumerate_from 1 olds)))
       × (picks (slated choices.environment (enumerate_from 1 news)) choices.tags choices.policies ≡ Ok (flat_map pick_at (slated choices.environment (enumerate_from 1 news))))
   picks_moved olds news plan moved is =
-      let told = picks_told (slated choices.environment (enumerate_from 1 olds)) plan is in
-      (told.are, picks_given (slated choices.environment (enumerate_from 1 news))
-      (lacks_slated (enumerate_from 1 news) ∙ total_numbered lacks 1 news ∙ sym (total_permuted lacks olds news moved) ∙ sym (total_numbered lacks 1 olds) ∙ sym (lacks_slated (enumerate_from 1 olds)) ∙ told.good))
+      let told = picks_told (slated choices.environment (enumerate_from 1 olds)) plan is in (
+        told.are,
+        picks_given (slated choices.environment (enumerate_from 1 news))
+            (lacks_slated (enumerate_from 1 news) ∙ total_numbered lacks 1 news ∙ sym (total_permuted lacks olds news moved) ∙ sym (total_numbered lacks 1 olds) ∙ sym (lacks_slated (enumerate_from 1 olds)) ∙ told.good),
+      )
 
   -- ---- what is picked of an entry
   abbrev pub chosen_by : EntryValue → Option PickSource → List Picked

@@ -185,7 +185,6 @@ file_exact f g same =
 
 -- ---- kinds
 
-
 of_directory : (n : ℕ) (editable : Bool) → (n ≡ 101 → ⊥) → (n ≡ 100 → ⊥) → n ≡ get_or (cond editable (codes "editable") (codes "directory")) 0 0 → ⊥
 of_directory n true e d is = e is
 of_directory n false e d is = d is

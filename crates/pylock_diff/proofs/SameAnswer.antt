@@ -115,4 +115,3 @@ pub plan_of_new : (old new : ComparedValue) (before after : Members) (choices : 
     → PickTheSame (judging new.lock choices) (judging old.lock choices) (answer (judging new.lock choices)) (answer (judging old.lock choices))
 plan_of_new old new before after choices plan one other none =
     answers_held new old after before choices plan other one (turned before after (told old new before after one other none))
-

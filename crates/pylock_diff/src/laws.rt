@@ -1,4 +1,5 @@
-//! Laws of the definitions alone: each function's contract is a law, and its body is empty.
+//! Laws of the definitions alone: each function's contract is a law, and its body is empty but for
+//! laws of the crates below.
 
 ghost use Rattle.std.specs.Prelude.{◌≡◌, [], List, length, map};
 ghost use Rattle.toml.specs.Data.{Members};
@@ -61,12 +62,12 @@ pub fn where_nothing_changes_the_plan_is_the_same()
         (plan : List Pick) → IsRead old before → IsRead new after → lock_changes old new ≡ []
         → answer (judging old.lock choices) ≡ Plan plan
         → PickTheSame (judging old.lock choices) (judging new.lock choices)
-            (answer (judging old.lock choices)) (answer (judging new.lock choices)) }
+        (answer (judging old.lock choices)) (answer (judging new.lock choices)) }
     ensures new_plan { (old new : ComparedValue) (before after : Members) (choices : State)
         (plan : List Pick) → IsRead old before → IsRead new after → lock_changes old new ≡ []
         → answer (judging new.lock choices) ≡ Plan plan
         → PickTheSame (judging new.lock choices) (judging old.lock choices)
-            (answer (judging new.lock choices)) (answer (judging old.lock choices)) }
+        (answer (judging new.lock choices)) (answer (judging old.lock choices)) }
 {}
 
 /// Each pick of an answer is compared: none lacks its entry or its source.
