@@ -1,6 +1,7 @@
 pub mod AnswerLemmas
 pub mod ChangeLemmas
 pub mod CountLemmas
+pub mod KeyLemmas
 pub mod MemberLemmas
 pub mod PickLemmas
 pub mod PlanLemmas

@@ -1,5 +1,5 @@
 -- Nothing is told of two answers exactly where both are plans that pick the same.
-use Rattle.std.proofs.Common.{◌≡◌, ◌∙◌, ◌++◌, ℕ, ◌+◌, ◌<◌, Bool, true, false, cond, codes, List, [], ◌∷◌, inl, inr, map, None, Option, Some, IsPermutation, refl, sym, ap, subst, arith, append-nil}
+use Rattle.std.proofs.Common.{◌≡◌, ◌∙◌, ◌++◌, ℕ, ◌+◌, ◌<◌, Bool, true, false, cond, codes, List, [], ◌∷◌, inl, inr, length, map, None, Option, Some, IsPermutation, refl, sym, ap, subst, arith, append-nil}
 use Rattle.std.proofs.lemmas.Bool.{cases_Bool, false≢true}
 use Rattle.std.proofs.lemmas.List.{map-append}
 use Rattle.std.proofs.lemmas.List.Sorted.{IsPermutation-map}
@@ -23,6 +23,7 @@ use Rattle.pylock_core.specs.Session.Picks.{SourceValue, OfVcs, OfDirectory, OfA
 use Rattle.pylock_core.specs.Session.State.{State, entry_at}
 use Rattle.pylock_core.specs.declared.answer.Answer.{Answer}
 use Rattle.pylock_core.specs.declared.answer.Answer.TheVariants.{Plan, Fault}
+use Rattle.pylock_core.specs.declared.answer.FaultCode.{FaultCode}
 use Rattle.pylock_core.specs.declared.answer.Pick.{Pick}
 use Rattle.pylock_core.specs.declared.answer.PickSource.{PickSource}
 use Rattle.pylock_diff.specs.Changes.{answer_changes, item_changes, name_changes, rest_changes, row_changes}
@@ -363,3 +364,12 @@ answers_same old new (Plan olds) (Fault number code) same = absurd same
 answers_same old new (Fault number code) after same = absurd same
 
 pub ruleset same_picks = (answers_told, answers_same)
+
+pub old_fault : (old new : State) (number : ℕ) (code : FaultCode) (after : Answer) → length (answer_changes old new (Fault number code) after) ≡ 1
+old_fault old new number code after = omega arith
+
+pub new_fault : (old new : State) (before : Answer) (number : ℕ) (code : FaultCode) → length (answer_changes old new before (Fault number code)) ≡ 1
+new_fault old new (Plan olds) number code = omega arith
+new_fault old new (Fault other why) number code = omega arith
+
+pub ruleset faults_alone = (old_fault, new_fault)

@@ -75,8 +75,8 @@ PickTheSame old new (Plan olds) (Plan news) =
 PickTheSame old new (Plan olds) (Fault number code) = ⊥
 PickTheSame old new (Fault number code) answer = ⊥
 
--- the state in which a lock is judged as another is in this state: in its environment, with its tags
--- and its policies
+-- the state in which a lock is judged as another is in this state: in its environment, with its
+-- tags and its policies
 abbrev pub judging : LockValue → State → State
 judging lock state = record state {
   head = lock.head;
