@@ -1,12 +1,12 @@
 -- What is told where OLD and NEW are the same.
-use Rattle.std.proofs.Common.{◌≡◌, ◌∙◌, ◌++◌, ℕ, ◌≤◌, true, not, List, [], ◌∷◌, map, None, Option, Some, option_map, refl, sym, ap, arith}
-use Rattle.std.specs.List.{filter, flat_map}
+use Rattle.std.proofs.Common.{◌≡◌, ◌++◌, ℕ, true, not, List, [], ◌∷◌, map, None, Option, Some, option_map, refl, ap, arith}
+use Rattle.std.specs.List.{filter}
 use Rattle.pylock_core.specs.Session.State.{State}
 use Rattle.pylock_core.specs.declared.answer.Answer.TheVariants.{Plan}
 use Rattle.pylock_core.specs.declared.answer.Pick.{Pick}
 use Rattle.pylock_compare.proofs.PartnerLemmas.{no_lone}
 use Rattle.pylock_compare.specs.Rows.{Row, in_order, names_of, values_at}
-use Rattle.pylock_diff.specs.Change.{ChangeValue, change_of, told_where}
+use Rattle.pylock_diff.specs.Change.{change_of, told_where}
 use Rattle.pylock_diff.specs.Changes.{answer_changes, item_changes, lock_changes, name_changes, rest_changes, shared_changes}
 use Rattle.pylock_diff.specs.Compared.{ComparedValue}
 use Rattle.pylock_diff.specs.Head.{HeadKey, first, have_same_value, head_changes, head_rows, is_list_key, key_change, list_keys}

@@ -1,3 +1,4 @@
+pub mod AnswerLemmas
 pub mod ChangeLemmas
 pub mod CountLemmas
 pub mod HiddenLemmas
@@ -8,4 +9,6 @@ pub mod OtherLemmas
 pub mod PickLemmas
 pub mod PlanLemmas
 pub mod Same
+pub mod SameAnswer
+pub mod StandLemmas
 pub mod TurnedLemmas

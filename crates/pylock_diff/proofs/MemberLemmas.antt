@@ -1,10 +1,8 @@
 -- Members that are put one after the other: they stand in order, and each is found at its key.
-use Rattle.std.proofs.Common.{Ordering, Less, Equal, Greater, ◌≡◌, ◌∙◌, ℕ, true, false, List, [], ◌∷◌, None, Option, Some, refl, sym, ap, subst}
+use Rattle.std.proofs.Common.{Ordering, Less, Equal, Greater, ◌≡◌, ◌∙◌, ℕ, true, List, refl, ap}
 use Rattle.std.specs.Cmp.Lexicographic.{nat_list_cmp_total, slice_cmp}
-use Rattle.std.specs.FinSet.{nat_cmp-IsAntisymmetric, slice_cmp-IsAntisymmetric}
 use Rattle.std.specs.Ordering.{is_lt, match_ordering, nat_cmp, ordering_reverse}
-use Rattle.toml.specs.Data.{Data, Members, get_member, is_before, member, no_members, same_key, string}
-use Rattle.pytoml.proofs.Others.{with_member-other, with_member-there}
+use Rattle.toml.specs.Data.{Data, Members, is_before, member, no_members}
 use Rattle.pytoml.specs.Members.{with_member}
 use Rattle.pytoml_code.specs.Proper.{HasProper, IsProper}
 

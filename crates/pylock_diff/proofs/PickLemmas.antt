@@ -10,10 +10,10 @@ use Rattle.pytoml.specs.Members.{with_member}
 use Rattle.pytoml_code.proofs.CodeLemmas.{equal_codes}
 use Rattle.pytoml_code.specs.Code.{code}
 use Rattle.pytoml_code.specs.Proper.{HasProper}
-use Rattle.pylock_readers.specs.Entry.{ArchiveValue, DirectoryValue, EntryValue, FileValue, LocationValue, VcsValue, file_name}
+use Rattle.pylock_readers.specs.Entry.{ArchiveValue, DirectoryValue, FileValue, LocationValue, VcsValue, file_name}
 use Rattle.pylock_core.specs.Session.Picks.{SourceValue, OfVcs, OfDirectory, OfArchive, OfWheel, OfSdist}
 use Rattle.pylock_diff.specs.Codes.{Rows}
-use Rattle.pylock_diff.specs.Picks.{archive_members, directory_members, file_members, hash_members, kind_word, pick_fields, put, put_hashes, put_place, source_members, source_row, vcs_members, version_row}
+use Rattle.pylock_diff.specs.Picks.{archive_members, directory_members, file_members, hash_members, kind_word, put, put_hashes, put_place, source_members, source_row, vcs_members, version_row}
 use Rattle.pylock_diff.specs.SamePlan.{HashMap, by_algorithm, file_fields, source_fields, with_hashes}
 use Rattle.pylock_diff.proofs.MemberLemmas.{proper_with}
 
@@ -184,7 +184,6 @@ file_exact f g same =
     }
 
 -- ---- kinds
-
 
 of_directory : (n : ℕ) (editable : Bool) → (n ≡ 101 → ⊥) → (n ≡ 100 → ⊥) → n ≡ get_or (cond editable (codes "editable") (codes "directory")) 0 0 → ⊥
 of_directory n true e d is = e is

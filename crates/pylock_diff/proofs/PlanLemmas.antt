@@ -1,5 +1,5 @@
 -- Nothing is told of two answers exactly where both are plans that pick the same.
-use Rattle.std.proofs.Common.{◌≡◌, ◌∙◌, ◌++◌, ◌||◌, ℕ, ◌+◌, ◌<◌, ◌≤◌, Bool, true, false, cond, nat_lt, codes, List, [], ◌∷◌, inl, inr, map, None, Option, Some, IsPermutation, refl, sym, ap, subst, arith, append-nil}
+use Rattle.std.proofs.Common.{◌≡◌, ◌∙◌, ◌++◌, ℕ, ◌+◌, ◌<◌, Bool, true, false, cond, codes, List, [], ◌∷◌, inl, inr, length, map, None, Option, Some, IsPermutation, refl, sym, ap, subst, arith, append-nil}
 use Rattle.std.proofs.lemmas.Bool.{cases_Bool, false≢true}
 use Rattle.std.proofs.lemmas.List.{map-append}
 use Rattle.std.proofs.lemmas.List.Sorted.{IsPermutation-map}
@@ -12,34 +12,35 @@ use Rattle.std.specs.Ordering.{is_eq, nat_cmp, ordering_then}
 use Rattle.std.specs.Str.{bytes_eq}
 use Rattle.toml.specs.Data.{string, table}
 use Rattle.pytoml_code.specs.Code.{code}
-use Rattle.pylock_compare.proofs.KeyLemmas.{alike_equal, alike_itself}
-use Rattle.pylock_compare.proofs.PartnerLemmas.{first_alone, no_lone, none_alone}
+use Rattle.pylock_compare.proofs.KeyLemmas.{alike_equal}
+use Rattle.pylock_compare.proofs.PartnerLemmas.{first_alone, none_alone}
 use Rattle.pylock_compare.specs.Counts.{count}
 use Rattle.pylock_compare.specs.Partners.{are_alone, where_true}
-use Rattle.pylock_compare.specs.Rows.{Row, in_order, names_of, values_at}
+use Rattle.pylock_compare.specs.Rows.{Row, values_at}
 use Rattle.pylock_compare.specs.Texts.{Texts, are_alike}
 use Rattle.pylock_readers.specs.Entry.{EntryValue}
 use Rattle.pylock_core.specs.Session.Picks.{SourceValue, OfVcs, OfDirectory, OfArchive, OfWheel, OfSdist, source_in}
 use Rattle.pylock_core.specs.Session.State.{State, entry_at}
 use Rattle.pylock_core.specs.declared.answer.Answer.{Answer}
 use Rattle.pylock_core.specs.declared.answer.Answer.TheVariants.{Plan, Fault}
+use Rattle.pylock_core.specs.declared.answer.FaultCode.{FaultCode}
 use Rattle.pylock_core.specs.declared.answer.Pick.{Pick}
 use Rattle.pylock_core.specs.declared.answer.PickSource.{PickSource}
-use Rattle.pylock_diff.specs.Changes.{answer_changes, item_changes, name_changes, rest_changes, row_changes, shared_changes}
+use Rattle.pylock_diff.specs.Changes.{answer_changes, item_changes, name_changes, rest_changes, row_changes}
 use Rattle.pylock_diff.specs.Codes.{Rows}
 use Rattle.pylock_diff.specs.Inner.Picked.{picked_entries, picked_entry, picked_row}
-use Rattle.pylock_diff.specs.Item.{ItemValue, pick_item, pick_items, picked_item}
+use Rattle.pylock_diff.specs.Item.{ItemValue, pick_item, pick_items}
 use Rattle.pylock_diff.specs.Keys.{are_same_values, entry_key_changes, key_changes, placed_rows}
 use Rattle.pylock_diff.specs.Partners.{item_key, row_texts, without_partners}
 use Rattle.pylock_diff.specs.Picks.{kind_word, pick_fields, source_members, source_row, version_row}
-use Rattle.pylock_diff.specs.SamePlan.{PickTheSame, PickValue, numberless, pick_value, pick_values, source_fields}
+use Rattle.pylock_diff.specs.SamePlan.{PickTheSame, PickValue, numberless, pick_value, pick_values}
 use Rattle.pylock_diff.proofs.CountLemmas.{counts_permute, permuted_count}
 use Rattle.pylock_diff.proofs.Same.Lists.{at_append, back_none, front_none, none_under, under_none, untold}
 use Rattle.pylock_diff.proofs.Same.Names.{name_same}
 use Rattle.pylock_diff.proofs.Same.Places.{first_none, first_same, same_values}
 use Rattle.pylock_diff.proofs.PickLemmas.{fields_exact, fields_row, row_seen}
 
-abbrev Picked : Type 0
+abbrev pub Picked : Type 0
 Picked = EntryValue × SourceValue
 
 abbrev item_of : Picked → ItemValue
@@ -48,14 +49,14 @@ item_of pick = (picked_row pick).1
 abbrev key_of : Picked → Texts
 key_of pick = item_key (item_of pick)
 
-abbrev value_of : Picked → PickValue
+abbrev pub value_of : Picked → PickValue
 value_of pick = pick_value pick.0 pick.1
 
 -- a row by its name and its key
 abbrev row_key : Row ItemValue → Texts
 row_key row = Some row.0 ∷ item_key row.1
 
-abbrev whole_key : Picked → Texts
+abbrev pub whole_key : Picked → Texts
 whole_key pick = row_key (picked_row pick)
 
 -- ---- keys of picks
@@ -70,7 +71,7 @@ rows_exact (x ∷ xs) (y ∷ ys) same =
     let more : row_texts xs ≡ row_texts ys = cc in
     λ i. (key i, value i) ∷ rows_exact xs ys more i
 
-value_exact : (p q : Picked) → whole_key p ≡ whole_key q → value_of p ≡ value_of q
+pub value_exact : (p q : Picked) → whole_key p ≡ whole_key q → value_of p ≡ value_of q
 value_exact p q same =
     let name : p.0.name ≡ q.0.name = cc in
     let texts : item_key (item_of p) ≡ item_key (item_of q) = cc in
@@ -326,7 +327,7 @@ entry_seen g name (Some entry) = source_seen g entry (source_in entry name)
 items_seen : (state : State) (picks : List Pick) → pick_items state picks ≡ map picked_row (picked_entries state picks)
 items_seen state picks = each_seen picked_row (pick_item state) (picked_entry state) (λ p. entry_seen picked_row p.source (entry_at p.id state.entries)) picks
 
-values_seen : (state : State) (picks : List Pick) → numberless state picks ≡ map value_of (picked_entries state picks)
+pub values_seen : (state : State) (picks : List Pick) → numberless state picks ≡ map value_of (picked_entries state picks)
 values_seen state picks = each_seen value_of (pick_values state) (picked_entry state) (λ p. entry_seen value_of p.source (entry_at p.id state.entries)) picks
 
 -- ---- two plans
@@ -363,3 +364,12 @@ answers_same old new (Plan olds) (Fault number code) same = absurd same
 answers_same old new (Fault number code) after same = absurd same
 
 pub ruleset same_picks = (answers_told, answers_same)
+
+pub old_fault : (old new : State) (number : ℕ) (code : FaultCode) (after : Answer) → length (answer_changes old new (Fault number code) after) ≡ 1
+old_fault old new number code after = omega arith
+
+pub new_fault : (old new : State) (before : Answer) (number : ℕ) (code : FaultCode) → length (answer_changes old new before (Fault number code)) ≡ 1
+new_fault old new (Plan olds) number code = omega arith
+new_fault old new (Fault other why) number code = omega arith
+
+pub ruleset faults_alone = (old_fault, new_fault)

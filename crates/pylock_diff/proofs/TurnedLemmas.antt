@@ -2,24 +2,26 @@
 use Rattle.std.proofs.Common.{◌≡◌, ◌∙◌, ◌++◌, ◌&&◌, ℕ, Bool, true, false, cond, not, List, [], ◌∷◌, map, Option, None, Some, option_map, refl, sym, ap}
 use Rattle.std.proofs.lemmas.List.{map-append}
 use Rattle.std.specs.List.{filter, flat_map}
-use Rattle.pylock_readers.specs.Entry.{ArchiveValue, FileValue}
+use Rattle.pylock_core.specs.Session.State.{State}
+use Rattle.pylock_core.specs.declared.answer.Answer.{Answer}
+use Rattle.pylock_core.specs.declared.answer.Answer.TheVariants.{Plan, Fault}
 use Rattle.pylock_compare.proofs.OrderLemmas.{in_order-swap}
 use Rattle.pylock_compare.specs.Rows.{Row, in_order, names_of, under_each, values_at}
 use Rattle.pylock_compare.specs.Texts.{are_alike}
 use Rattle.pylock_diff.specs.Change.{ChangeValue, change_of, comes_or_goes, coming_and_going, told_where, turned}
-use Rattle.pylock_diff.specs.Changes.{item_changes, lock_changes, name_changes, rest_changes, row_changes, shared_changes}
+use Rattle.pylock_diff.specs.Changes.{answer_changes, item_changes, lock_changes, name_changes, row_changes, shared_changes}
 use Rattle.pylock_diff.specs.Codes.{Rows}
 use Rattle.pylock_diff.specs.Compared.{ComparedValue}
 use Rattle.pylock_diff.specs.Conditions.{condition_changes, conditions, conditions_text}
 use Rattle.pylock_diff.specs.Files.{archive_hash_changes, archives_of, file_hash_changes, files_of, hash_changes, hashed_archives, hashed_files, if_both, paths_of, place_change, place_changes, places_text, urls_of}
 use Rattle.pylock_diff.specs.Hashes.{Hashed, are_same_sets, hash_text, hashed_changes, value_changes}
 use Rattle.pylock_diff.specs.Head.{HeadKey, first, have_same_value, head_changes, head_rows, is_list_key, key_change, keys_changes, list_keys}
-use Rattle.pylock_diff.specs.Item.{ItemValue, entry_items}
-use Rattle.pylock_diff.specs.Keys.{Placed, changes_by, entry_key_changes, is_told, are_same_values, key_changes, placed_rows, source_key_changes}
+use Rattle.pylock_diff.specs.Item.{ItemValue, entry_items, pick_items}
+use Rattle.pylock_diff.specs.Keys.{changes_by, entry_key_changes, is_told, are_same_values, key_changes, placed_rows, source_key_changes}
 use Rattle.pylock_diff.specs.Partners.{without_partners}
 use Rattle.pylock_diff.specs.Sources.{file_changes, lone_sources, source_text}
 use Rattle.pylock_diff.specs.Versions.{version_changes, version_keys, versions_text}
-use Rattle.pylock_diff.specs.declared.change.ChangeKind.TheVariants.{Condition, File, Hash, Head, Key, Place, Version}
+use Rattle.pylock_diff.specs.declared.change.ChangeKind.TheVariants.{Condition, File, Hash, Head, Place, Version}
 use Rattle.pylock_diff.proofs.Same.Lists.{nothing}
 
 taken : (b : Bool) (c : ChangeValue) (cs ds : List ChangeValue) → cond b (c ∷ cs ++ ds) (cs ++ ds) ≡ cond b (c ∷ cs) cs ++ ds
@@ -170,3 +172,11 @@ lock_turned old new =
     ∙ ap (λ rest. rest ++ coming_and_going (item_changes news olds)) (head_silent new.head old.head)
     ∙ items_turned olds news
     ∙ ap (map turned) (ap (λ rest. rest ++ coming_and_going (item_changes olds news)) (sym (head_silent old.head new.head)) ∙ sym (of_joined (head_changes old.head new.head) (item_changes olds news)))
+
+pub answer_turned : (old new : State) (before after : Answer) → coming_and_going (answer_changes new old after before) ≡ map turned (coming_and_going (answer_changes old new before after))
+answer_turned old new (Plan olds) (Plan news) = items_turned (pick_items old olds) (pick_items new news)
+answer_turned old new (Plan olds) (Fault number code) = refl
+answer_turned old new (Fault number code) (Plan news) = refl
+answer_turned old new (Fault number code) (Fault other why) = refl
+
+pub ruleset all_turned = (lock_turned, answer_turned)
