@@ -1,29 +1,30 @@
 -- Lists by how often each key stands in them.
-use Rattle.std.proofs.Common.{◌≡◌, ◌∙◌, ◌++◌, ◌||◌, ℕ, ◌+◌, Bool, true, false, cond, nat_lt, List, [], ◌∷◌, inl, inr, map, sum_by, fold, IsPermutation, refl, sym, ap, subst, arith}
-use Rattle.std.proofs.lemmas.Bool.{cases_Bool, false≢true}
-use Rattle.std.proofs.lemmas.Bool.Decides.{nat_tests}
-use Rattle.std.proofs.lemmas.List.{map-append}
-use Rattle.std.proofs.lemmas.List.Sorted.{IsPermutation-cons, IsPermutation-middle, IsPermutation-refl, IsPermutation-sym, IsPermutation-trans, sum_by-IsPermutation}
+use Rattle.std.proofs.Common.{◌≡◌, ◌∙◌, ◌++◌, ℕ, ◌+◌, cond, List, [], ◌∷◌, map, sum_by, IsPermutation, refl, sym, ap, arith}
+use Rattle.std.proofs.lemmas.List.Sorted.{sum_by-IsPermutation}
+use Rattle.std.proofs.lemmas.List.Sums.{sum_by-cons}
 use Rattle.std.specs.List.{AllByRecursion}
 use Rattle.pylock_diff.proofs.Same.Counts.{permuted}
-use Rattle.pylock_compare.proofs.KeyLemmas.{alike_equal, alike_itself}
-use Rattle.pylock_compare.proofs.PartnerLemmas.{any_counted}
 use Rattle.pylock_compare.specs.Counts.{count}
 use Rattle.pylock_compare.specs.Texts.{Texts, are_alike}
 
--- as a sum
-counted_from : (key : Texts) (keys : List Texts) (n : ℕ) → n + count key keys ≡ fold (λ a x. a + cond (are_alike key x) 1 0) n keys
-counted_from key [] n = omega arith
-counted_from key (k ∷ keys) n =
-    (let grouped : n + (cond (are_alike key k) 1 0 + count key keys) ≡ (n + cond (are_alike key k) 1 0) + count key keys = omega arith in grouped)
-    ∙ counted_from key keys (n + cond (are_alike key k) 1 0)
+-- the sum of what each counts
+abbrev pub total : {X : Type 0} → (X → ℕ) → List X → ℕ
+total f [] = 0
+total f (x ∷ xs) = f x + total f xs
 
-counted : (key : Texts) (keys : List Texts) → count key keys ≡ sum_by (λ x. cond (are_alike key x) 1 0) keys
-counted key keys = (let zero : count key keys ≡ 0 + count key keys = omega arith in zero) ∙ counted_from key keys 0
+total_sum : {X : Type 0} (f : X → ℕ) (xs : List X) → total f xs ≡ sum_by f xs
+total_sum f [] = refl
+total_sum f (x ∷ xs) = ap (λ more. f x + more) (total_sum f xs) ∙ sym (sum_by-cons f x xs)
+
+pub total_permuted : {X : Type 0} (f : X → ℕ) (xs ys : List X) → IsPermutation xs ys → total f xs ≡ total f ys
+total_permuted f xs ys same = total_sum f xs ∙ sym (sum_by-IsPermutation f xs ys same) ∙ sym (total_sum f ys)
+
+counted : (key : Texts) (keys : List Texts) → count key keys ≡ total (λ x. cond (are_alike key x) 1 0) keys
+counted key [] = refl
+counted key (k ∷ keys) = ap (λ more. cond (are_alike key k) 1 0 + more) (counted key keys)
 
 pub permuted_count : (key : Texts) (xs ys : List Texts) → IsPermutation xs ys → count key xs ≡ count key ys
-permuted_count key xs ys same =
-    counted key xs ∙ sym (sum_by-IsPermutation (λ x. cond (are_alike key x) 1 0) xs ys same) ∙ sym (counted key ys)
+permuted_count key xs ys same = counted key xs ∙ total_permuted (λ x. cond (are_alike key x) 1 0) xs ys same ∙ sym (counted key ys)
 
 pub count_joined : (key : Texts) (xs ys : List Texts) → count key (xs ++ ys) ≡ count key xs + count key ys
 count_joined key [] ys = omega arith

@@ -1,7 +1,7 @@
 -- Lists that are permutations, by how often each key stands under each name.
 use Rattle.std.proofs.Common.{◌≡◌, ◌∙◌, ◌++◌, ℕ, ◌+◌, ◌≤◌, false, cond, List, [], ◌∷◌, inl, inr, map, refl, sym, ap, subst, arith, IsPermutation}
 use Rattle.std.proofs.lemmas.Bool.{cases_Bool, false≢true}
-use Rattle.std.proofs.lemmas.List.{map-append}
+use Rattle.std.proofs.lemmas.List.{map-append, map-id}
 use Rattle.std.proofs.lemmas.List.Sorted.{IsPermutation-cons, IsPermutation-map, IsPermutation-middle, IsPermutation-refl, IsPermutation-sym, IsPermutation-trans, sum_by-IsPermutation}
 use Rattle.std.proofs.lemmas.List.Sums.{sum_by-cons}
 use Rattle.std.specs.List.{AllByRecursion, sum_by}
@@ -78,10 +78,6 @@ module _ {P X : Type 0} (key : P → Texts) (value : P → X) (Good : P → Type
       (put_middle (value p) (map value ps) (map value found.front) (map value found.back)
       (subst (IsPermutation (map value ps)) (map-append value found.front found.back) rest)))
 
-themselves : {X : Type 0} (xs : List X) → map (λ x. x) xs ≡ xs
-themselves [] = refl
-themselves (x ∷ xs) = ap (λ more. x ∷ more) (themselves xs)
-
 -- ---- values, each under a name
 module _ {V : Type 0} (key : V → Texts) where
   weight : List ℕ → Texts → Row V → ℕ
@@ -132,7 +128,7 @@ module _ {X V : Type 0} (row : X → Row V) (key : V → Texts) (Good : X → Ty
   moved_by_names xs ys good too same =
       let moved = permuted (λ x. key (row x).1) (λ x. x) Good exact xs ys good too
       (λ x fine. under_name x fine xs good ∙ same (row x).0 (key (row x).1) ∙ sym (under_name x fine ys too)) in
-      subst (λ l. IsPermutation l ys) (themselves xs) (subst (IsPermutation (map (λ x. x) xs)) (themselves ys) moved)
+      subst (λ l. IsPermutation l ys) (map-id xs) (subst (IsPermutation (map (λ x. x) xs)) (map-id ys) moved)
 
   pub names_by_moves : (xs ys : List X) → IsPermutation xs ys → (name : List ℕ) (k : Texts)
       → count k (map key (values_at name (map row xs))) ≡ count k (map key (values_at name (map row ys)))
