@@ -1,9 +1,8 @@
 -- The answers of two states whose entries are the same in another order.
-use Rattle.std.proofs.Common.{◌≡◌, ◌∙◌, ◌++◌, ◌||◌, ℕ, ◌+◌, ◌<◌, ◌≤◌, Bool, true, false, cond, List, [], ◌∷◌, map, None, Option, Some, Result, Ok, Err, IsPermutation, fold, sum_by, refl, sym, ap, subst, arith, append-nil, eq-eqb, ne_eqb}
+use Rattle.std.proofs.Common.{◌≡◌, ◌∙◌, ◌++◌, ◌||◌, ℕ, ◌+◌, ◌<◌, ◌≤◌, Bool, true, false, cond, List, [], ◌∷◌, map, None, Option, Some, Result, Ok, Err, IsPermutation, refl, sym, ap, subst, arith, append-nil, eq-eqb, ne_eqb}
 use Rattle.std.proofs.lemmas.Bool.{false≢true}
 use Rattle.std.proofs.lemmas.Grind.{flat_map-append}
 use Rattle.std.proofs.lemmas.List.{map-append}
-use Rattle.std.proofs.lemmas.List.Sorted.{sum_by-IsPermutation}
 use Rattle.std.specs.List.{enumerate_from, filter, flat_map}
 use Rattle.std.specs.Option.{option_map_or}
 use Rattle.std.specs.Str.{bytes_eq}
@@ -27,28 +26,13 @@ use Rattle.pylock_core.specs.declared.answer.Standing.{Standing}
 use Rattle.pylock_core.specs.declared.answer.Standing.TheVariants.{Skipped, Faulty, Active}
 use Rattle.pylock_diff.specs.Inner.Picked.{picked_entries, picked_entry}
 use Rattle.pylock_diff.specs.SamePlan.{PickTheSame, judging, numberless}
-use Rattle.pylock_diff.proofs.CountLemmas.{count_joined, counts_permute}
+use Rattle.pylock_diff.proofs.CountLemmas.{count_joined, counts_permute, total, total_permuted}
 use Rattle.pylock_diff.proofs.PlanLemmas.{Picked, value_exact, value_of, values_seen, whole_key}
 
 -- ---- sums over entries
 
 abbrev pub Entries : Type 0
 Entries = List (ℕ × EntryValue)
-
-abbrev total : {X : Type 0} → (X → ℕ) → List X → ℕ
-total f [] = 0
-total f (x ∷ xs) = f x + total f xs
-
-total_from : {X : Type 0} (f : X → ℕ) (xs : List X) (n : ℕ) → n + total f xs ≡ fold (λ a x. a + f x) n xs
-total_from f [] n = omega arith
-total_from f (x ∷ xs) n =
-    (let grouped : n + (f x + total f xs) ≡ (n + f x) + total f xs = omega arith in grouped) ∙ total_from f xs (n + f x)
-
-total_sum : {X : Type 0} (f : X → ℕ) (xs : List X) → total f xs ≡ sum_by f xs
-total_sum f xs = (let zero : total f xs ≡ 0 + total f xs = omega arith in zero) ∙ total_from f xs 0
-
-total_permuted : {X : Type 0} (f : X → ℕ) (xs ys : List X) → IsPermutation xs ys → total f xs ≡ total f ys
-total_permuted f xs ys same = total_sum f xs ∙ sym (sum_by-IsPermutation f xs ys same) ∙ sym (total_sum f ys)
 
 -- over numbered entries
 total_numbered : {X : Type 0} (f : X → ℕ) (n : ℕ) (xs : List X) → total (λ (e : ℕ × X). f e.1) (enumerate_from n xs) ≡ total f xs

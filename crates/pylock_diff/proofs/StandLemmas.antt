@@ -1,12 +1,10 @@
 -- Each pick of an answer stands for an entry and its source.
-use Rattle.std.proofs.Common.{◌≡◌, ◌∙◌, ◌++◌, ℕ, zero, suc, ◌+◌, ◌<◌, ◌≤◌, true, false, cond, List, [], ◌∷◌, All, Contains, IsSome, length, get_or, is_some, map, None, Option, Some, option_map, slice_get, refl, sym, ap, arith, eq-eqb, ne_eqb, length-append}
+use Rattle.std.proofs.Common.{◌≡◌, ◌∙◌, ℕ, zero, suc, ◌+◌, ◌<◌, ◌≤◌, true, cond, List, [], ◌∷◌, All, length, get_or, is_some, map, None, Option, Some, option_map, slice_get, refl, sym, ap, arith, eq-eqb, ne_eqb, length-append}
 use Rattle.std.proofs.lemmas.List.Elements.{All-head, All-tail}
 use Rattle.std.specs.Option.{option_map_or}
 use Rattle.pylock_readers.specs.Entry.{EntryValue}
 use Rattle.pylock_core.specs.Session.Picks.{HasSource, IsPickAmong, SourceValue, source_in}
 use Rattle.pylock_core.specs.Session.State.{NumbersRise, Rises, State, entry_at}
-use Rattle.pylock_core.specs.Session.Steps.{answer}
-use Rattle.pylock_core.specs.declared.answer.Answer.TheVariants.{Plan}
 use Rattle.pylock_core.specs.declared.answer.Pick.{Pick}
 use Rattle.pylock_core.specs.declared.answer.PickSource.{PickSource}
 use Rattle.pylock_core.specs.declared.answer.PickSource.TheVariants as source
