@@ -1,3 +1,4 @@
+pub mod Answered
 pub mod ChangeLemmas
 pub mod KeyLemmas
 pub mod Same

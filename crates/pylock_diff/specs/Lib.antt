@@ -13,6 +13,7 @@ pub mod Keys
 pub mod Partners
 pub mod Picks
 pub mod Same
+pub mod SamePicks
 pub mod Sources
 pub mod SourceKeys
 pub mod Versions
