@@ -1,14 +1,18 @@
 //! Laws of the definitions alone: each function's contract is a law, and its body is empty.
 
-ghost use Rattle.std.specs.Prelude.{◌≡◌, [], List, map};
+ghost use Rattle.std.specs.Prelude.{◌≡◌, true, [], List, map};
+ghost use Rattle.std.specs.List.{AllByRecursion};
 ghost use Rattle.toml.specs.Data.{Members};
-ghost use Rattle.pylock_core.specs.Session.State.{State};
+ghost use Rattle.pymark_core.specs.Environment.{EnvironmentValue};
+ghost use Rattle.pylock_core.specs.Session.State.{State, first};
 ghost use Rattle.pylock_core.specs.declared.answer.Answer.TheVariants.{Plan};
 ghost use Rattle.pylock_core.specs.declared.answer.Pick.{Pick};
+ghost use Rattle.pylock_core.specs.declared.edit.Edit.{Edit};
 ghost use Rattle.pylock_diff.specs.Change.{coming_and_going, turned};
 ghost use Rattle.pylock_diff.specs.Changes.{answer_changes, lock_changes};
 ghost use Rattle.pylock_diff.specs.Compared.{ComparedValue};
 ghost use Rattle.pylock_diff.specs.Same.{HoldSameLock, IsRead};
+ghost use Rattle.pylock_diff.specs.SamePicks.{AreAlike, PickSame, after_edits, leaves_entries};
 
 /// There is no change exactly where both documents hold the same lock.
 pub fn nothing_changes_exactly_where_the_lock_is_the_same()
@@ -16,6 +20,17 @@ pub fn nothing_changes_exactly_where_the_lock_is_the_same()
         → IsRead new after → lock_changes old new ≡ [] → HoldSameLock before after }
     ensures same { (old new : ComparedValue) (before after : Members) → IsRead old before
         → IsRead new after → HoldSameLock before after → lock_changes old new ≡ [] }
+{}
+
+/// Nothing yet.
+pub fn nothing_changes_what_is_installed()
+    ensures states { (one other : State) → AreAlike one other → PickSame one other }
+    ensures locks { (old new : ComparedValue) (before after : Members)
+        (environment : EnvironmentValue) (tags : List _) (edits : List Edit)
+        → IsRead old before → IsRead new after → lock_changes old new ≡ []
+        → AllByRecursion (λ edit. leaves_entries edit ≡ true) edits
+        → PickSame (after_edits edits (first old.lock environment tags))
+          (after_edits edits (first new.lock environment tags)) }
 {}
 
 /// A lock has no change from itself, and neither has a plan.
