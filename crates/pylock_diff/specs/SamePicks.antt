@@ -1,5 +1,5 @@
 -- When two states have the same picks, whatever the numbers and the order of their entries.
-use Rattle.std.specs.Prelude.{◌≡◌, ℕ, Bool, true, false, List, [], ◌∷◌, map, Option, option_map, ⊤}
+use Rattle.std.specs.Prelude.{◌≡◌, Bool, true, false, List, [], ◌∷◌, map, Option, option_map, ⊤}
 use Rattle.std.specs.List.Sorted.{IsPermutation}
 use Rattle.std.specs.Result.{result_unwrap_or}
 use Rattle.pylock_readers.specs.Entry.{EntryValue}
@@ -21,7 +21,7 @@ pub record PickedValue : Type 0 where
   pub source : PickSource
   pub value : Option SourceValue
 
--- a pick's number is that of an entry of the state, so it is there
+-- what a pick of a plan names in its state: its number is that of an entry there
 abbrev pub picked_in : State → Pick → Option PickedValue
 picked_in state pick =
     option_map
@@ -31,21 +31,22 @@ picked_in state pick =
 abbrev pub all_picked : State → List Pick → List (Option PickedValue)
 all_picked state picks = map (picked_in state) picks
 
--- two plans of the same picks in any order, or two faults, which may differ: the first of several
--- depends on the order of the entries
+-- two plans of the same picks in any order; or two faults, which may differ, since the order of the
+-- entries says which of several faults is told
 abbrev pub HaveSamePicks : State → Answer → State → Answer → Type 0
 HaveSamePicks one (Plan picks) other (Plan others) =
     IsPermutation (all_picked one picks) (all_picked other others)
-HaveSamePicks one (Fault id code) other (Fault id' code') = ⊤
+HaveSamePicks one (Fault id code) other (Fault other_id other_code) = ⊤
 HaveSamePicks one (Plan picks) other (Fault id code) = ⊥
-HaveSamePicks one (Fault id code) other (Plan others) = ⊥
+HaveSamePicks one (Fault id code) other (Plan picks) = ⊥
 
 abbrev pub PickSame : State → State → Type 0
 PickSame one other = HaveSamePicks one (answer one) other (answer other)
 
 -- ---- the states that are compared
 
--- the same entries in any order and under any numbers, judged by the same
+-- states of the same entries, in any order and under any numbers that increase, as in each session,
+-- that are judged by the same
 pub record AreAlike (one other : State) : Type 0 where
   pub head : one.head ≡ other.head
   pub entries : IsPermutation (map (λ e. e.1) one.entries) (map (λ e. e.1) other.entries)
@@ -55,7 +56,7 @@ pub record AreAlike (one other : State) : Type 0 where
   pub one_rises : NumbersRise one
   pub other_rises : NumbersRise other
 
--- an edit of what entries are judged by: an extra, a group, a variable, the tags or a policy
+-- an edit of what the entries are judged by: an extra, a group, a variable, the tags or a policy
 abbrev pub leaves_entries : Edit → Bool
 leaves_entries (edit.Environment change) = true
 leaves_entries (edit.Tags tags) = true

@@ -22,15 +22,23 @@ pub fn nothing_changes_exactly_where_the_lock_is_the_same()
         → IsRead new after → HoldSameLock before after → lock_changes old new ≡ [] }
 {}
 
-/// Nothing yet.
+/// Where nothing changes from OLD to NEW, nothing changes of what is installed. Two sessions, one
+/// on each lock, start in the same environment with the same tags and get the same edits of extras,
+/// groups, variables, tags and policies. Where one has a plan, so has the other, and both pick the
+/// same sources of the same entries, whatever their numbers and their order. Where one has a fault,
+/// so has the other, though maybe not the same: the order of the entries says which of several
+/// faults is told.
+///
+/// The same holds of any two states of the same entries, in any order and under any numbers that
+/// increase, whose head, environment, tags and policies are the same.
 pub fn nothing_changes_what_is_installed()
-    ensures states { (one other : State) → AreAlike one other → PickSame one other }
     ensures locks { (old new : ComparedValue) (before after : Members)
         (environment : EnvironmentValue) (tags : List _) (edits : List Edit)
         → IsRead old before → IsRead new after → lock_changes old new ≡ []
         → AllByRecursion (λ edit. leaves_entries edit ≡ true) edits
         → PickSame (after_edits edits (first old.lock environment tags))
-          (after_edits edits (first new.lock environment tags)) }
+        (after_edits edits (first new.lock environment tags)) }
+    ensures states { (one other : State) → AreAlike one other → PickSame one other }
 {}
 
 /// A lock has no change from itself, and neither has a plan.

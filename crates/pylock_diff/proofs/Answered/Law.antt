@@ -1,5 +1,5 @@
 -- Of locks without a change, what is installed is the same.
-use Rattle.std.proofs.Common.{[], ◌≡◌, ◌∙◌, ℕ, ◌+◌, suc, codes, List, ◌∷◌, length, map, Option, Result, Ok, Err, None, refl, sym, ap, subst, arith, IsPermutation}
+use Rattle.std.proofs.Common.{[], ◌≡◌, ◌∙◌, ℕ, ◌+◌, suc, codes, List, ◌∷◌, length, map, Option, Result, Ok, Err, refl, sym, ap, subst, arith, IsPermutation}
 use Rattle.std.specs.Prelude.{⊤, true}
 use Rattle.std.specs.List.{AllByRecursion, enumerate_from}
 use Rattle.std.proofs.lemmas.List.Sorted.{IsPermutation-map}
@@ -12,7 +12,7 @@ use Rattle.pylock_readers.specs.Lock.{HeadValue, LockValue}
 use Rattle.pylock_readers.specs.Lock.Head.{created_by_in, head_in, lock_version_in}
 use Rattle.pylock_readers.specs.Lock.Reading.{entries_in, entries_of, lock_in}
 use Rattle.pylock_readers.specs.declared.error.LockError.{LockError}
-use Rattle.pylock_core.specs.Session.State.{NumbersRise, Rises, State, first}
+use Rattle.pylock_core.specs.Session.State.{Rises, first}
 use Rattle.pylock_core.specs.declared.edit.Edit.{Edit}
 use Rattle.pylock_diff.specs.Changes.{lock_changes}
 use Rattle.pylock_diff.specs.Compared.{ComparedValue, items_at}

@@ -1,5 +1,5 @@
 -- What the steps pick of a state, by what each entry comes to by itself.
-use Rattle.std.proofs.Common.{◌≡◌, ℕ, ◌≤◌, ◌+◌, Bool, true, false, cond, List, [], ◌∷◌, map, Option, Some, None, option_map, Result, Ok, Err, refl, sym, ap, subst, arith, eq-eqb, IsPermutation}
+use Rattle.std.proofs.Common.{◌≡◌, ℕ, ◌≤◌, ◌+◌, Bool, true, false, cond, List, [], ◌∷◌, map, Option, Some, None, option_map, Result, Ok, Err, refl, sym, subst, arith, eq-eqb, IsPermutation}
 use Rattle.std.specs.Prelude.{⊤}
 use Rattle.std.specs.List.{AllByRecursion}
 use Rattle.std.proofs.lemmas.Bool.{ne_eqb}
@@ -8,7 +8,7 @@ use Rattle.pylock_readers.specs.Entry.{EntryValue}
 use Rattle.pylock_readers.specs.Entry.Kinds.{has_conflict}
 use Rattle.pylock_core.specs.Session.Picks.{source_in}
 use Rattle.pylock_core.specs.Session.State.{NumbersRise, Rises, State, entry_at, is_among, policy_of}
-use Rattle.pylock_core.specs.Session.Steps.{FirstFault, answer, answer_after, answer_by, by_standing, head_fault, pick_before, picks, picks_after, put_before, slate, source_of, standing}
+use Rattle.pylock_core.specs.Session.Steps.{FirstFault, answer_after, answer_by, by_standing, head_fault, pick_before, picks, picks_after, put_before, slate, source_of, standing}
 use Rattle.pylock_core.specs.declared.answer.FaultCode.{FaultCode}
 use Rattle.pylock_core.specs.declared.answer.FaultCode.TheVariants.{Ambiguous, Sources}
 use Rattle.pylock_core.specs.declared.answer.Pick.{Pick}
