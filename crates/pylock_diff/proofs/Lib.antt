@@ -1,4 +1,4 @@
-pub mod AnswerLemmas
+pub mod Answered
 pub mod ChangeLemmas
 pub mod CountLemmas
 pub mod HiddenLemmas
@@ -9,6 +9,5 @@ pub mod OtherLemmas
 pub mod PickLemmas
 pub mod PlanLemmas
 pub mod Same
-pub mod SameAnswer
 pub mod StandLemmas
 pub mod TurnedLemmas

@@ -15,6 +15,7 @@ pub mod Partners
 pub mod Picks
 pub mod Same
 pub mod SamePlan
+pub mod SamePicks
 pub mod Sources
 pub mod SourceKeys
 pub mod Versions

@@ -74,12 +74,3 @@ PickTheSame old new (Plan olds) (Plan news) =
     IsPermutation (numberless old olds) (numberless new news)
 PickTheSame old new (Plan olds) (Fault number code) = ⊥
 PickTheSame old new (Fault number code) answer = ⊥
-
--- the state in which a lock is judged as another is in this state: in its environment, with its
--- tags and its policies
-abbrev pub judging : LockValue → State → State
-judging lock state = record state {
-  head = lock.head;
-  entries = enumerate_from 1 lock.entries;
-  last = length lock.entries;
-}
