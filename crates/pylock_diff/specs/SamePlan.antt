@@ -1,13 +1,12 @@
 -- When two plans pick the same: their picks, numbers apart, are the same multiset with all fields.
 -- The order of picks doesn't count.
-use Rattle.std.specs.Prelude.{ℕ, List, [], ◌∷◌, length, Option, IsPermutation}
+use Rattle.std.specs.Prelude.{ℕ, List, [], ◌∷◌, Option, IsPermutation}
 use Rattle.std.specs.Cmp.Lexicographic.{slice_cmp}
 use Rattle.std.specs.FinMap as map_of
-use Rattle.std.specs.List.{enumerate_from, flat_map}
+use Rattle.std.specs.List.{flat_map}
 use Rattle.std.specs.Option.{option_map_or}
 use Rattle.std.specs.Ordering.{nat_cmp}
 use Rattle.pylock_readers.specs.Entry.{EntryValue, FileValue, file_name}
-use Rattle.pylock_readers.specs.Lock.{LockValue}
 use Rattle.pylock_core.specs.Session.Picks.{SourceValue, OfVcs, OfDirectory, OfArchive, OfWheel}
 use Rattle.pylock_core.specs.Session.Picks.{OfSdist, source_in}
 use Rattle.pylock_core.specs.Session.State.{State, entry_at}
