@@ -1,4 +1,5 @@
 pub mod ChangeLemmas
+pub mod KeptLemmas
 pub mod KeyLemmas
 pub mod SameLemmas
 pub mod SeenLemmas
