@@ -22,7 +22,8 @@ use Rattle.pylock_readers.specs.declared.error.EntryError.{EntryError}
 use Rattle.pylock_readers.specs.declared.error.LockError.{LockError}
 use Rattle.pylock_readers.specs.declared.error.LockError.TheVariants.{TooMany}
 use Rattle.pytoml_code.specs.Proper.{AreProper, HasProper, IfThere, IsProper}
-use Rattle.pylock_diff.specs.Compared.{ComparedValue, EntryCodesValue, HeadKey, compared, compared_in, entry_codes, head_key, head_of, is_head_key, item_codes, items_at}
+use Rattle.pylock_diff.specs.Compared.{ComparedValue, EntryCodesValue, compared, compared_in, entry_codes, head_of, is_head_key, item_codes, items_at}
+use Rattle.pylock_diff.specs.Head.{head_key}
 use Rattle.pylock_diff.specs.Inner.Kept.{AreProperTables, AreTables, Ascend, HasCodes, HasProperHead, HasProperTables, IsTable, entries_after, kept_of}
 
 -- ---- the tables as they come
