@@ -1,5 +1,5 @@
 -- What is kept of a lock's tables, and what stands in memory of its document.
-use Rattle.std.proofs.Common.{◌≡◌, ◌∙◌, ◌++◌, ℕ, ◌≤◌, suc, Bool, true, false, codes, nat_lt, List, [], ◌∷◌, length, Option, None, Some, Result, Ok, Err, Ordering, Less, Equal, Greater, if◌then◌else◌, refl, sym, ap, subst, arith, ltb-false, ltb, le-ltb, not, ◌||◌}
+use Rattle.std.proofs.Common.{◌≡◌, ◌∙◌, ◌++◌, ℕ, ◌≤◌, ◌<◌, suc, drop, append-nil, lt-ltb, Bool, true, false, codes, nat_lt, List, [], ◌∷◌, length, Option, None, Some, Result, Ok, Err, Ordering, Less, Equal, Greater, if◌then◌else◌, refl, sym, ap, subst, arith, ltb-false, ltb, le-ltb, not, ◌||◌}
 use Rattle.std.specs.Prelude.{⊤}
 use Rattle.std.specs.Str.{bytes_eq}
 use Rattle.std.specs.Cmp.Lexicographic.{bytes_decides}
@@ -8,11 +8,15 @@ use Rattle.std.specs.Cmp.{tied_itself}
 use Rattle.std.specs.Cmp.Lexicographic.{slice_cmp}
 use Rattle.std.specs.Ordering.{is_eq, is_lt, match_ordering, nat_cmp, ordering_reverse}
 use Rattle.std.proofs.lemmas.Cmp.{nat_list_cmp_total}
+use Rattle.std.proofs.lemmas.List.{at_drop_all}
+use Rattle.toml.specs.View.{items_view}
+use Rattle.toml.specs.declared.value.Value.{Value}
 use Rattle.toml.specs.Data.{Data, Items, Members, array, boolean, datetime, float, get_member, integer, is_before, item, member, no_items, no_members, push_item, string, table}
 use Rattle.pytext.specs.Results.{◌>>=◌}
 use Rattle.pytoml.specs.Members.{with_elements, with_member}
 use Rattle.pytoml.proofs.Others.{same_is, with_elements-other, with_member-there}
 use Rattle.pylock_readers.proofs.ElementLemmas.{count_push}
+use Rattle.pylock_readers.proofs.EntryLemmas.{count_of_items}
 use Rattle.pylock_readers.specs.Entry.{EntryValue}
 use Rattle.pylock_readers.specs.Entry.Reading.{entry_in}
 use Rattle.pylock_readers.specs.Lock.{HeadValue, LockValue}
@@ -307,3 +311,26 @@ whole_is_proper document taken entries lock has head tables is =
         let aside = with_elements-other key (codes "packages") taken document (is_eq-slice_cmp key (codes "packages") ∙ one) in
         let compared : is_head_key key ≡ true = λ i. not (one i || other i) in
         rw aside (proper_at document key head compared)
+
+-- ---- the loops over the document and over its tables
+
+pub head_next : (key : List ℕ) (d : Data) (ds : Members) → is_head_key key ≡ true → head_of (member key d ds) ≡ head_key key d ∷ head_of ds
+head_next key d ds is = rw is
+
+pub head_skipped : (key : List ℕ) (d : Data) (ds : Members) → is_head_key key ≡ false → head_of (member key d ds) ≡ head_of ds
+head_skipped key d ds other = rw other
+
+-- none of too many
+pub kept_none : (vs : List Value) → most_entries < length vs → kept_of (items_view vs) ≡ []
+kept_none vs many = let over : most_entries < item_count (items_view vs) = omega (arith, many, count_of_items vs) in rw (lt-ltb most_entries (item_count (items_view vs)) over)
+
+pub none_proper : (vs : List Value) → most_entries < length vs → AreProperTables (items_view vs)
+none_proper vs many few tables = absurd (omega (arith, many, few, count_of_items vs))
+
+-- all of not too many
+pub kept_all : (vs : List Value) (i : ℕ) (entries : List EntryCodesValue) → length vs ≤ i → length vs ≤ most_entries
+    → entries ++ item_codes (items_view (drop i vs)) ≡ item_codes (items_view vs) → entries ≡ kept_of (items_view vs)
+kept_all vs i entries past few so_far =
+    let fewer : item_count (items_view vs) ≤ most_entries = omega (arith, few, count_of_items vs) in
+    sym (append-nil entries) ∙ sym (at_drop_all (λ left. entries ++ item_codes (items_view left)) vs i past) ∙ so_far
+    ∙ sym (kept_few (items_view vs) fewer)

@@ -1,6 +1,6 @@
 //! Locks that are read to be compared: beside the lock the codes of all keys, known and unknown.
 
-ghost use Rattle.std.specs.Prelude.{◌≡◌, [], IfOk, OnOk, Ok, codes};
+ghost use Rattle.std.specs.Prelude.{◌≡◌, [], IfOk, OnOk, Ok, codes, option_map};
 ghost use Rattle.toml.specs.Data.{Items, Members, get_member, no_items, push_item, table};
 ghost use Rattle.toml.specs.View.{items_view, table_view, view};
 ghost use Rattle.pytext.specs.Agreement.{Gives};
@@ -278,7 +278,14 @@ fn packages_in(document: &Table) -> &[Value]
     ensures { items_view result.now
         ≡ items_at (get_member (codes "packages") (table_view document.now)) }
 {
-    match document.get("packages") {
+    items_at(document.get("packages"))
+}
+
+/// The elements of a value, where it is an array.
+fn items_at(field: Option<&Value>) -> &[Value]
+    ensures { items_view result.now ≡ items_at (option_map (λ v. view v.now) field.entry) }
+{
+    match field {
         Some(Value::Array(values)) => values.as_slice(),
         _ => &[],
     }
