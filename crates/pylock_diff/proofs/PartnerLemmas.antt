@@ -1,11 +1,14 @@
--- Partners among items.
-use Rattle.std.proofs.Common.{◌≡◌, ◌∙◌, ◌++◌, ℕ, ◌+◌, ◌<◌, Bool, true, false, List, [], ◌∷◌, length, get_or, map, take, Result, Ok, Err, IfOk, Vec, Global, refl, sym, ap}
+-- Partners among items, and what is told where each item has one.
+use Rattle.std.proofs.Common.{◌≡◌, ◌∙◌, ◌++◌, ℕ, ◌+◌, ◌<◌, Bool, true, false, List, [], ◌∷◌, length, get_or, map, take, Result, Ok, Err, IfOk, Vec, Global, refl, sym, ap, arith}
 use Rattle.std.proofs.lemmas.List.{take_more}
+use Rattle.pylock_compare.proofs.PartnerLemmas.{no_lone}
+use Rattle.pylock_compare.specs.Counts.{count}
 use Rattle.pylock_compare.specs.Partners.{where_true}
 use Rattle.pylock_compare.specs.Texts.{Texts}
+use Rattle.pylock_diff.specs.Changes.{name_changes, rest_changes}
 use Rattle.pylock_diff.specs.Inner.Lent.{lent_item, lent_items}
 use Rattle.pylock_diff.specs.Item.{ItemValue}
-use Rattle.pylock_diff.specs.Partners.{item_key, row_texts}
+use Rattle.pylock_diff.specs.Partners.{item_key, row_texts, without_partners}
 use Rattle.pylock_diff.specs.declared.item.Item.{Item}
 
 -- the keys of items that are lent
@@ -41,3 +44,17 @@ pub where_lent : {E : Type 0} (r : Result (Vec Item Global) E) (flags found : Li
     → IfOk r (λ list. list.items ≡ where_true flags items) → IfOk r (λ list. lent_items list.items ≡ where_true found (lent_items items))
 where_lent (Ok list) flags found items same is = ap lent_items is ∙ lent_where flags items ∙ ap (λ flags. where_true flags (lent_items items)) same
 where_lent (Err e) flags found items same is = tt
+
+-- ---- where the keys are the same, one by one
+
+each_has_one : (items others : List ItemValue) → map item_key items ≡ map item_key others → without_partners items others ≡ []
+each_has_one items others same =
+    no_lone item_key items (map item_key others)
+    (λ k. let as_often : count k (map item_key items) ≡ count k (map item_key others) = ap (count k) same in omega arith)
+
+pub same_untold : (name : List ℕ) (olds news : List ItemValue) → map item_key olds ≡ map item_key news → name_changes name olds news ≡ []
+same_untold name [] [] same = refl
+same_untold name [] (new ∷ news) same = cc
+same_untold name (old ∷ olds) [] same = cc
+same_untold name (old ∷ olds) (new ∷ news) same =
+    λ i. rest_changes name (each_has_one (old ∷ olds) (new ∷ news) same i) (each_has_one (new ∷ news) (old ∷ olds) (sym same) i)
