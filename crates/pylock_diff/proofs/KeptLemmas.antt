@@ -1,14 +1,13 @@
 -- What is kept of a lock's tables, and what stands in memory of its document.
 use Rattle.std.proofs.Common.{◌≡◌, ◌∙◌, ◌++◌, ℕ, ◌≤◌, ◌<◌, suc, drop, append-nil, lt-ltb, Bool, true, false, codes, nat_lt, List, [], ◌∷◌, length, Option, None, Some, Result, Ok, Err, Ordering, Less, Equal, Greater, if◌then◌else◌, refl, sym, ap, subst, arith, ltb-false, ltb, le-ltb, not, ◌||◌}
-use Rattle.std.specs.Prelude.{⊤}
-use Rattle.std.specs.Str.{bytes_eq}
-use Rattle.std.specs.Cmp.Lexicographic.{bytes_decides}
 use Rattle.std.proofs.lemmas.Map.Text.{is_eq-slice_cmp}
-use Rattle.std.specs.Cmp.{tied_itself}
-use Rattle.std.specs.Cmp.Lexicographic.{slice_cmp}
-use Rattle.std.specs.Ordering.{is_eq, is_lt, match_ordering, nat_cmp, ordering_reverse}
 use Rattle.std.proofs.lemmas.Cmp.{nat_list_cmp_total}
 use Rattle.std.proofs.lemmas.List.{at_drop_all}
+use Rattle.std.specs.Prelude.{⊤}
+use Rattle.std.specs.Str.{bytes_eq}
+use Rattle.std.specs.Cmp.{tied_itself}
+use Rattle.std.specs.Cmp.Lexicographic.{bytes_decides, slice_cmp}
+use Rattle.std.specs.Ordering.{is_eq, is_lt, match_ordering, nat_cmp, ordering_reverse}
 use Rattle.toml.specs.View.{items_view}
 use Rattle.toml.specs.declared.value.Value.{Value}
 use Rattle.toml.specs.Data.{Data, Items, Members, array, boolean, datetime, float, get_member, integer, is_before, item, member, no_items, no_members, push_item, string, table}
@@ -28,7 +27,7 @@ use Rattle.pylock_readers.specs.declared.error.LockError.TheVariants.{TooMany}
 use Rattle.pytoml_code.specs.Proper.{AreProper, HasProper, IfThere, IsProper}
 use Rattle.pylock_diff.specs.Compared.{ComparedValue, EntryCodesValue, compared, compared_in, entry_codes, head_of, is_head_key, item_codes, items_at}
 use Rattle.pylock_diff.specs.Head.{head_key}
-use Rattle.pylock_diff.specs.Inner.Kept.{AreProperTables, AreTables, Ascend, HasCodes, HasProperHead, HasProperTables, IsTable, entries_after, kept_of}
+use Rattle.pylock_diff.specs.Inner.Kept.{AreProperTables, AreTables, HasCodes, HasProperHead, HasProperTables, IsTable, entries_after, kept_of}
 
 -- ---- the tables as they come
 
@@ -75,6 +74,10 @@ kept_enough codes taken d enough has = record {
 
 -- ---- the order of keys
 
+abbrev Ascend : Members → Type 0
+Ascend no_members = ⊤
+Ascend (member key d ds) = (is_before key ds ≡ true) × Ascend ds
+
 turned : (k l : List ℕ) (o : Ordering) → slice_cmp nat_cmp k l ≡ o → slice_cmp nat_cmp l k ≡ ordering_reverse o
 turned k l o is = nat_list_cmp_total.antisymm l k ∙ ap ordering_reverse is
 
@@ -107,7 +110,7 @@ before_with l k d (member m e ms) behind before = by (slice_cmp nat_cmp k m) ref
     by Greater is = rw is before
 
 -- one more key stands in order
-pub ascend_with : (k : List ℕ) (d : Data) (ms : Members) → Ascend ms → Ascend (with_member k d ms)
+ascend_with : (k : List ℕ) (d : Data) (ms : Members) → Ascend ms → Ascend (with_member k d ms)
 ascend_with k d no_members ascend = (refl, tt)
 ascend_with k d (member l e ms) ascend = by (ascend_with k d ms ascend.1) (slice_cmp nat_cmp k l) refl
   where
@@ -117,7 +120,7 @@ ascend_with k d (member l e ms) ascend = by (ascend_with k d ms ascend.1) (slice
     by more Greater is = rw is (before_with l k d ms is ascend.0, more)
 
 -- a table stands in memory where each of its values does
-pub proper_each : (ms : Members) → Ascend ms → ((key : List ℕ) → IfThere IsProper (get_member key ms)) → HasProper ms
+proper_each : (ms : Members) → Ascend ms → ((key : List ℕ) → IfThere IsProper (get_member key ms)) → HasProper ms
 proper_each no_members ascend each = tt
 proper_each (member l d ms) ascend each =
     (ascend.0, rw (tied_itself nat_list_cmp_total l) at (each l), proper_each ms ascend.1 (λ key. by key (slice_cmp nat_cmp key l) refl))

@@ -243,11 +243,7 @@ impl Elements for Kept {
 }
 
 /// Adds the codes of the next table, unless a lock may have no more entries.
-fn keep(
-    alloc: Global,
-    entries: &mut Vec<EntryCodes>,
-    element: &Table,
-) -> Result<(), AllocError>
+fn keep(alloc: Global, entries: &mut Vec<EntryCodes>, element: &Table) -> Result<(), AllocError>
     ensures { (taken : Items) → HasCodes entries.old.items taken → OnOk result
         (HasCodes entries.new.items (push_item taken (table (table_view element.now)))) }
 {

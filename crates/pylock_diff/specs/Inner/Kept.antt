@@ -1,11 +1,11 @@
 -- What is kept of the tables of entries that were taken from a document as they came, and what of
 -- the document stands in memory.
-use Rattle.std.specs.Prelude.{◌≡◌, ℕ, ◌≤◌, codes, nat_lt, true, List, [], ◌∷◌, if◌then◌else◌, ⊤}
+use Rattle.std.specs.Prelude.{◌≡◌, ◌≤◌, codes, nat_lt, true, List, [], ◌∷◌, if◌then◌else◌, ⊤}
 use Rattle.toml.specs.Data.{Data, Items, Members, get_member, is_before, item, member, no_items}
 use Rattle.toml.specs.Data.{no_members, table}
 use Rattle.pylock_readers.specs.Lock.Packages.{HasRead}
 use Rattle.pylock_readers.specs.Lock.Reading.{item_count, most_entries}
-use Rattle.pytoml_code.specs.Proper.{AreProper, IfThere, IsProper}
+use Rattle.pytoml_code.specs.Proper.{AreProper, IsProper}
 use Rattle.pylock_diff.specs.Compared.{EntryCodesValue, is_head_key, item_codes, items_at}
 use Rattle.pylock_diff.specs.declared.compared.Kept.{Kept}
 
@@ -48,11 +48,6 @@ AreProperTables items = item_count items ≤ most_entries → AreTables items �
 abbrev pub HasProperTables : List EntryCodesValue → Members → Type 0
 HasProperTables [] document = AreProperTables (items_at (get_member (codes "packages") document))
 HasProperTables (entry ∷ entries) document = ⊤
-
--- the keys stand in order
-abbrev pub Ascend : Members → Type 0
-Ascend no_members = ⊤
-Ascend (member key d ds) = (is_before key ds ≡ true) × Ascend ds
 
 -- the keys stand in order, and those of the head in memory
 abbrev pub HasProperHead : Members → Type 0
