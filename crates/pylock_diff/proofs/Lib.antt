@@ -3,9 +3,11 @@ pub mod ChangeLemmas
 pub mod CountLemmas
 pub mod HiddenLemmas
 pub mod InnerLemmas
+pub mod KeptLemmas
 pub mod KeyLemmas
 pub mod MemberLemmas
 pub mod OtherLemmas
+pub mod PartnerLemmas
 pub mod PickLemmas
 pub mod PlanLemmas
 pub mod Same

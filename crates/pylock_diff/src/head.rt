@@ -11,8 +11,9 @@ ghost use Rattle.pylock_diff.specs.Compared.{head_of, is_head_key};
 ghost use Rattle.pylock_diff.specs.Head.{HeadKey as HeadKeyValue, head_changes, head_key};
 ghost use Rattle.pylock_diff.specs.Head.{head_rows, is_list_key, key_change, keys_changes};
 ghost use Rattle.pylock_diff.specs.Head.{have_same_value, item_text, list_text};
+ghost use Rattle.pylock_diff.specs.Inner.Kept.{HasProperHead};
 ghost use Rattle.pylock_diff.specs.Inner.Lent.{key_row, lent_keys};
-ghost use Rattle.pytoml_code.specs.Proper.{HasProper};
+ghost use Rattle.pytoml_code.specs.Proper.{IsProper};
 
 use crate::change::{Change, ChangeKind, push_change};
 use crate::hidden::shown_value;
@@ -56,6 +57,7 @@ impl Drop for HeadKey {
 /// The keys of the head of a document, but `packages`, in order.
 pub(crate) fn head_keys(alloc: Global, document: &Table) -> Result<Vec<HeadKey>, AllocError>
     ensures keys { IfOk result (λ keys. keys.items ≡ head_of (table_view document.now)) }
+    ensures proper { OnOk result (HasProperHead (table_view document.now)) }
 {
     let mut keys = Vec::new(alloc);
     for (key, value) in document.iter() {
@@ -74,7 +76,8 @@ fn is_compared(key: &str) -> bool
 }
 
 fn head_key(alloc: Global, key: &str, value: &Value) -> Result<HeadKey, AllocError>
-    ensures { IfOk result (λ one. one ≡ head_key key.now (view value.now)) }
+    ensures key { IfOk result (λ one. one ≡ head_key key.now (view value.now)) }
+    ensures proper { OnOk result (IsProper (view value.now)) }
 {
     let mut code = Vec::new(alloc);
     push_code(&mut code, value)?;
