@@ -1,7 +1,9 @@
 pub mod ChangeLemmas
+pub mod InnerLemmas
 pub mod KeptLemmas
-pub mod PartnerLemmas
 pub mod KeyLemmas
+pub mod OtherLemmas
+pub mod PartnerLemmas
 pub mod SameLemmas
 pub mod SeenLemmas
 pub mod TurnedLemmas

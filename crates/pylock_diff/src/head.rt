@@ -3,13 +3,14 @@
 ghost use Rattle.std.specs.Prelude.{◌≡◌, ◌++◌, ◌∷◌, [], List, ℕ, IfOk, OnOk, filter, map, not};
 ghost use Rattle.std.specs.Prelude.{option_map, string_bytes};
 ghost use Rattle.std.specs.Option.{option_copied};
+ghost use Rattle.toml.specs.Data.{array};
 ghost use Rattle.toml.specs.View.{items_view, table_view, view};
 ghost use Rattle.pylock_compare.specs.Lent.{found, lent_texts};
 ghost use Rattle.pylock_compare.specs.Rows.{Row, values_at};
 ghost use Rattle.pylock_diff.specs.Compared.{head_of, is_head_key};
 ghost use Rattle.pylock_diff.specs.Head.{HeadKey as HeadKeyValue, head_changes, head_key};
 ghost use Rattle.pylock_diff.specs.Head.{head_rows, is_list_key, key_change, keys_changes};
-ghost use Rattle.pylock_diff.specs.Head.{have_same_value, item_text, joined_texts, list_text};
+ghost use Rattle.pylock_diff.specs.Head.{have_same_value, item_text, list_text};
 ghost use Rattle.pylock_diff.specs.Inner.Kept.{HasProperHead};
 ghost use Rattle.pylock_diff.specs.Inner.Lent.{key_row, lent_keys};
 ghost use Rattle.pytoml_code.specs.Proper.{IsProper};
@@ -111,21 +112,18 @@ fn list_text(alloc: Global, value: &Value) -> Result<String, AllocError>
     ensures { IfOk result (λ text. string_bytes text ≡ list_text (view value.now)) }
 {
     match value {
-        Value::String(text) => String::from_str(alloc, text.as_str()),
-        Value::Array(items) if items.is_empty() => String::from_str(alloc, "[]"),
         Value::Array(items) => items_text(alloc, items.as_slice()),
-        _ => String::from_str(alloc, ""),
+        _ => String::from_str(alloc, item_text(value)),
     }
 }
 
 fn items_text(alloc: Global, items: &[Value]) -> Result<String, AllocError>
-    ensures { IfOk result (λ text. string_bytes text ≡ joined_texts (items_view items.now)) }
+    ensures { IfOk result (λ text. string_bytes text ≡ list_text (array (items_view items.now))) }
 {
-    let mut text = String::new(alloc);
     let [first, others @ ..] = items else {
-        return Ok(text);
+        return String::from_str(alloc, "[]");
     };
-    text.push_str(item_text(first))?;
+    let mut text = String::from_str(alloc, item_text(first))?;
     for item in others {
         text.push_str(",")?;
         text.push_str(item_text(item))?;
@@ -158,7 +156,8 @@ pub(crate) fn push_head(
     let sides = Sides::new(alloc, olds.as_slice(), news.as_slice())?;
     push_keys(alloc, changes, &sides, LISTS.as_slice())?;
     let others = other_keys(alloc, sides.names.as_slice())?;
-    push_keys(alloc, changes, &sides, others.as_slice())
+    push_keys(alloc, changes, &sides, others.as_slice())?;
+    Ok(())
 }
 
 /// The keys under their names.
