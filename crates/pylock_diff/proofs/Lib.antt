@@ -4,6 +4,7 @@ pub mod KeptLemmas
 pub mod KeyLemmas
 pub mod OtherLemmas
 pub mod PartnerLemmas
+pub mod PickLemmas
 pub mod SameLemmas
 pub mod SeenLemmas
 pub mod TurnedLemmas
