@@ -5,6 +5,7 @@ pub mod KeyLemmas
 pub mod OtherLemmas
 pub mod PartnerLemmas
 pub mod PickLemmas
+pub mod Same
 pub mod SameLemmas
 pub mod SeenLemmas
 pub mod TurnedLemmas
