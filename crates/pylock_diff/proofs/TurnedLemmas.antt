@@ -1,22 +1,28 @@
 -- What came from OLD to NEW went from NEW to OLD.
-use Rattle.std.proofs.Common.{◌≡◌, ◌∙◌, ◌++◌, ◌&&◌, ℕ, Bool, true, false, cond, not, List, [], ◌∷◌, map, Option, None, Some, codes, refl, sym, ap}
+use Rattle.std.proofs.Common.{◌≡◌, ◌∙◌, ◌++◌, ◌&&◌, ℕ, Bool, true, false, cond, not, List, [], ◌∷◌, map, Option, None, Some, option_map, refl, sym, ap}
 use Rattle.std.proofs.lemmas.List.{map-append}
-use Rattle.std.specs.List.{flat_map}
-use Rattle.pylock_readers.specs.Lock.{HeadValue, LockValue}
+use Rattle.std.specs.List.{filter, flat_map}
+use Rattle.pylock_core.specs.Session.State.{State}
+use Rattle.pylock_core.specs.declared.answer.Answer.{Answer}
+use Rattle.pylock_core.specs.declared.answer.Answer.TheVariants.{Plan, Fault}
+use Rattle.pylock_compare.proofs.OrderLemmas.{in_order-swap}
+use Rattle.pylock_compare.specs.Rows.{Row, in_order, names_of, under_each, values_at}
+use Rattle.pylock_compare.specs.Texts.{are_alike}
 use Rattle.pylock_diff.specs.Change.{ChangeValue, change_of, comes_or_goes, coming_and_going, told_where, turned}
-use Rattle.pylock_diff.specs.Changes.{changes_of_both, item_changes, lock_changes, name_changes}
+use Rattle.pylock_diff.specs.Changes.{answer_changes, item_changes, lock_changes, name_changes, row_changes, shared_changes}
+use Rattle.pylock_diff.specs.Codes.{Rows}
+use Rattle.pylock_diff.specs.Compared.{ComparedValue}
 use Rattle.pylock_diff.specs.Conditions.{condition_changes, conditions, conditions_text}
 use Rattle.pylock_diff.specs.Files.{archive_hash_changes, archives_of, file_hash_changes, files_of, hash_changes, hashed_archives, hashed_files, if_both, paths_of, place_change, place_changes, places_text, urls_of}
 use Rattle.pylock_diff.specs.Hashes.{Hashed, are_same_sets, hash_text, hashed_changes, value_changes}
-use Rattle.pylock_diff.specs.Head.{head_changes, list_changes, set_changes, environments_of, pythons_of}
-use Rattle.pylock_diff.specs.Item.{ItemValue, entry_items}
-use Rattle.pylock_compare.specs.Rows.{Row, in_order, names_of, under_each, values_at}
+use Rattle.pylock_diff.specs.Head.{HeadKey, first, have_same_value, head_changes, head_rows, is_list_key, key_change, keys_changes, list_keys}
+use Rattle.pylock_diff.specs.Item.{ItemValue, entry_items, pick_items}
+use Rattle.pylock_diff.specs.Keys.{changes_by, entry_key_changes, is_told, are_same_values, key_changes, placed_rows, source_key_changes}
+use Rattle.pylock_diff.specs.Partners.{without_partners}
 use Rattle.pylock_diff.specs.Sources.{file_changes, lone_sources, source_text}
-use Rattle.pylock_compare.specs.Texts.{all_there, are_alike, joined_if_any}
 use Rattle.pylock_diff.specs.Versions.{version_changes, version_keys, versions_text}
 use Rattle.pylock_diff.specs.declared.change.ChangeKind.TheVariants.{Condition, File, Hash, Head, Place, Version}
-use Rattle.pylock_diff.proofs.ChangeLemmas.{nothing}
-use Rattle.pylock_compare.proofs.OrderLemmas.{in_order-swap}
+use Rattle.pylock_diff.proofs.Same.Lists.{nothing}
 
 taken : (b : Bool) (c : ChangeValue) (cs ds : List ChangeValue) → cond b (c ∷ cs ++ ds) (cs ++ ds) ≡ cond b (c ∷ cs) cs ++ ds
 taken true c cs ds = refl
@@ -88,48 +94,56 @@ place_silent name olds news =
 
 version_silent : (name : List ℕ) (olds news : List ItemValue) → Silent (version_changes name olds news)
 version_silent name olds news =
-    where_silent (not (are_alike (version_keys olds) (version_keys news))) (change_of Version name (Some (versions_text olds)) (Some (versions_text news))) refl
+    where_silent (not (are_alike (version_keys olds) (version_keys news))) (change_of Version name (versions_text olds) (versions_text news)) refl
 
 condition_silent : (name : List ℕ) (olds news : List ItemValue) → Silent (condition_changes name olds news)
 condition_silent name olds news =
-    where_silent (not (are_alike (conditions olds) (conditions news))) (change_of Condition name (Some (conditions_text olds)) (Some (conditions_text news))) refl
+    where_silent (not (are_alike (conditions olds) (conditions news))) (change_of Condition name (conditions_text olds) (conditions_text news)) refl
 
-of_both_silent : (name : List ℕ) (olds news : List ItemValue) → Silent (changes_of_both name olds news)
-of_both_silent name olds news =
+keys_silent : (rows : ItemValue → Rows) (name : List ℕ) (told : List ChangeValue) (olds news : List ItemValue) → Silent (changes_by rows name told olds news)
+keys_silent rows name told olds news =
+    under_silent (key_changes name told) (λ key os ns. where_silent (not (is_told told key) && not (are_same_values os ns)) _ refl) (placed_rows rows 0 olds) (placed_rows rows 0 news)
+
+row_silent : (name : List ℕ) (olds news : List ItemValue) → Silent (row_changes name olds news)
+row_silent name olds news =
     let v = version_changes name olds news in
     let h = hash_changes name olds news in
     let f = file_changes name olds news in
     let p = place_changes name olds news in
     let o = condition_changes name olds news in
-    joined_silent (v ++ h ++ f ++ p) o
+    let k = source_key_changes name olds news in
+    joined_silent (v ++ h ++ f ++ p ++ o) k
+    (joined_silent (v ++ h ++ f ++ p) o
     (joined_silent (v ++ h ++ f) p
     (joined_silent (v ++ h) f
     (joined_silent v h (version_silent name olds news) (hash_silent name olds news))
     (file_silent name olds news))
     (place_silent name olds news))
-    (condition_silent name olds news)
+    (condition_silent name olds news))
+    (keys_silent (λ item. item.inner) name [] olds news)
 
-list_silent : (key : List ℕ) (olds news : List (List ℕ)) → Silent (list_changes key olds news)
-list_silent key olds news =
-    where_silent (not (are_alike (all_there olds) (all_there news))) (change_of Head key (joined_if_any (codes ",") olds) (joined_if_any (codes ",") news)) refl
+shared_silent : (name : List ℕ) (olds news : List ItemValue) → Silent (shared_changes name olds news)
+shared_silent name olds news =
+    let os = without_partners olds news in
+    let ns = without_partners news olds in
+    joined_silent (row_changes name os ns) (entry_key_changes name (row_changes name os ns) os ns)
+    (row_silent name os ns) (keys_silent (λ item. item.keys) name (row_changes name os ns) os ns)
 
-set_silent : (key : List ℕ) (old new : Option (List ℕ)) → Silent (set_changes key old new)
-set_silent key old new = where_silent (not (are_alike (old ∷ []) (new ∷ []))) (change_of Head key old new) refl
+value_silent : (key : List ℕ) (old new : Option HeadKey) → Silent (key_change key old new)
+value_silent key old new =
+    where_silent (not (have_same_value old new)) (change_of Head key (option_map (λ (k : HeadKey). k.text) old) (option_map (λ (k : HeadKey). k.text) new)) refl
 
-head_silent : (old new : HeadValue) → Silent (head_changes old new)
+keys_of_head_silent : (olds news : List (Row HeadKey)) (keys : List (List ℕ)) → Silent (keys_changes olds news keys)
+keys_of_head_silent olds news keys =
+    each_silent (λ key. key_change key (first (values_at key olds)) (first (values_at key news)))
+    (λ key. value_silent key (first (values_at key olds)) (first (values_at key news))) keys
+
+head_silent : (old new : List HeadKey) → Silent (head_changes old new)
 head_silent old new =
-    let a = set_changes (codes "requires-python") (pythons_of old) (pythons_of new) in
-    let b = list_changes (codes "environments") (environments_of old) (environments_of new) in
-    let c = list_changes (codes "extras") old.extras new.extras in
-    let d = list_changes (codes "dependency-groups") old.groups new.groups in
-    let e = list_changes (codes "default-groups") old.default_groups new.default_groups in
-    joined_silent (a ++ b ++ c ++ d) e
-    (joined_silent (a ++ b ++ c) d
-    (joined_silent (a ++ b) c
-    (joined_silent a b (set_silent (codes "requires-python") (pythons_of old) (pythons_of new)) (list_silent (codes "environments") (environments_of old) (environments_of new)))
-    (list_silent (codes "extras") old.extras new.extras))
-    (list_silent (codes "dependency-groups") old.groups new.groups))
-    (list_silent (codes "default-groups") old.default_groups new.default_groups)
+    let olds = head_rows old in
+    let news = head_rows new in
+    let others = filter (λ key. not (is_list_key key)) (in_order (names_of olds ++ names_of news)) in
+    joined_silent (keys_changes olds news list_keys) (keys_changes olds news others) (keys_of_head_silent olds news list_keys) (keys_of_head_silent olds news others)
 
 -- ---- what tells of it
 
@@ -137,7 +151,7 @@ name_turned : (name : List ℕ) (olds news : List ItemValue) → coming_and_goin
 name_turned name [] [] = refl
 name_turned name [] (new ∷ news) = refl
 name_turned name (old ∷ olds) [] = refl
-name_turned name (old ∷ olds) (new ∷ news) = of_both_silent name (new ∷ news) (old ∷ olds) ∙ ap (map turned) (sym (of_both_silent name (old ∷ olds) (new ∷ news)))
+name_turned name (old ∷ olds) (new ∷ news) = shared_silent name (new ∷ news) (old ∷ olds) ∙ ap (map turned) (sym (shared_silent name (old ∷ olds) (new ∷ news)))
 
 map_each : {X Y Z : Type 0} (g : Y → Z) (f : X → List Y) (xs : List X) → flat_map (λ x. map g (f x)) xs ≡ map g (flat_map f xs)
 map_each g f [] = refl
@@ -150,11 +164,19 @@ items_turned olds news =
     ∙ map_each turned (λ name. coming_and_going (name_changes name (values_at name olds) (values_at name news))) (in_order (names_of olds ++ names_of news))
     ∙ ap (map turned) (sym (of_each (λ name. name_changes name (values_at name olds) (values_at name news)) (in_order (names_of olds ++ names_of news))))
 
-pub lock_turned : (old new : LockValue) → coming_and_going (lock_changes new old) ≡ map turned (coming_and_going (lock_changes old new))
+pub lock_turned : (old new : ComparedValue) → coming_and_going (lock_changes new old) ≡ map turned (coming_and_going (lock_changes old new))
 lock_turned old new =
-    let olds = entry_items old.entries in
-    let news = entry_items new.entries in
+    let olds = entry_items old.lock.entries old.entries in
+    let news = entry_items new.lock.entries new.entries in
     of_joined (head_changes new.head old.head) (item_changes news olds)
     ∙ ap (λ rest. rest ++ coming_and_going (item_changes news olds)) (head_silent new.head old.head)
     ∙ items_turned olds news
     ∙ ap (map turned) (ap (λ rest. rest ++ coming_and_going (item_changes olds news)) (sym (head_silent old.head new.head)) ∙ sym (of_joined (head_changes old.head new.head) (item_changes olds news)))
+
+pub answer_turned : (old new : State) (before after : Answer) → coming_and_going (answer_changes new old after before) ≡ map turned (coming_and_going (answer_changes old new before after))
+answer_turned old new (Plan olds) (Plan news) = items_turned (pick_items old olds) (pick_items new news)
+answer_turned old new (Plan olds) (Fault number code) = refl
+answer_turned old new (Fault number code) (Plan news) = refl
+answer_turned old new (Fault number code) (Fault other why) = refl
+
+pub ruleset all_turned = (lock_turned, answer_turned)

@@ -13,6 +13,7 @@ pub mod Keys
 pub mod Partners
 pub mod Picks
 pub mod Same
+pub mod SamePlan
 pub mod Sources
 pub mod SourceKeys
 pub mod Versions

@@ -1,14 +1,22 @@
-//! Laws of the definitions alone: each function's contract is a law, and its body is empty.
+//! Laws of the definitions alone: each function's contract is a law, and its body is empty but for
+//! laws of the crates below.
 
-ghost use Rattle.std.specs.Prelude.{◌≡◌, [], List, map};
+ghost use Rattle.std.specs.Prelude.{◌≡◌, ℕ, [], List, length, map};
 ghost use Rattle.toml.specs.Data.{Members};
-ghost use Rattle.pylock_core.specs.Session.State.{State};
-ghost use Rattle.pylock_core.specs.declared.answer.Answer.TheVariants.{Plan};
+ghost use Rattle.pymark_core.specs.Environment.{EnvironmentValue};
+ghost use Rattle.pylock_core.specs.Session.State.{NumbersRise, State, first};
+ghost use Rattle.pylock_core.specs.Session.Steps.{answer};
+ghost use Rattle.pylock_core.specs.declared.answer.Answer.{Answer};
+ghost use Rattle.pylock_core.specs.declared.answer.Answer.TheVariants.{Plan, Fault};
+ghost use Rattle.pylock_core.specs.declared.answer.FaultCode.{FaultCode};
 ghost use Rattle.pylock_core.specs.declared.answer.Pick.{Pick};
 ghost use Rattle.pylock_diff.specs.Change.{coming_and_going, turned};
 ghost use Rattle.pylock_diff.specs.Changes.{answer_changes, lock_changes};
 ghost use Rattle.pylock_diff.specs.Compared.{ComparedValue};
 ghost use Rattle.pylock_diff.specs.Same.{HoldSameLock, IsRead};
+ghost use Rattle.pylock_diff.specs.SamePlan.{PickTheSame, judging, numberless};
+
+use pylock_core::laws::picks_stand;
 
 /// There is no change exactly where both documents hold the same lock.
 pub fn nothing_changes_exactly_where_the_lock_is_the_same()
@@ -27,8 +35,59 @@ pub fn nothing_changes_from_itself()
 {}
 
 /// `added` and `removed` change places when OLD and NEW do, and nothing else becomes one of them.
-#[tactic(auto, using(crate::proofs::TurnedLemmas::lock_turned))]
+#[tactic(auto, using(crate::proofs::TurnedLemmas::all_turned))]
 pub fn added_and_removed_change_places()
-    ensures { (old new : ComparedValue) → coming_and_going (lock_changes new old)
+    ensures locks { (old new : ComparedValue) → coming_and_going (lock_changes new old)
         ≡ map turned (coming_and_going (lock_changes old new)) }
+    ensures answers { (old new : State) (before after : Answer)
+        → coming_and_going (answer_changes new old after before)
+        ≡ map turned (coming_and_going (answer_changes old new before after)) }
 {}
+
+/// There is no change of two answers exactly where both are plans whose picks, numbers apart, are
+/// the same, each with all its fields.
+#[tactic(auto, using(crate::proofs::PlanLemmas::same_picks))]
+pub fn nothing_changes_exactly_where_the_picks_are_the_same()
+    ensures told { (old new : State) (before after : Answer)
+        → answer_changes old new before after ≡ [] → PickTheSame old new before after }
+    ensures same { (old new : State) (before after : Answer)
+        → PickTheSame old new before after → answer_changes old new before after ≡ [] }
+{}
+
+/// Where one answer is a fault, there is one change.
+#[tactic(auto, using(crate::proofs::PlanLemmas::faults_alone))]
+pub fn a_fault_is_told_alone()
+    ensures before { (old new : State) (number : ℕ) (code : FaultCode) (after : Answer)
+        → length (answer_changes old new (Fault number code) after) ≡ 1 }
+    ensures after { (old new : State) (before : Answer) (number : ℕ) (code : FaultCode)
+        → length (answer_changes old new before (Fault number code)) ≡ 1 }
+{}
+
+/// Where nothing changes, wherever one lock gives a plan the other gives the same picks, but for
+/// their numbers and their order. At the start both are judged in the same state, but for the lock.
+pub fn where_nothing_changes_the_plan_is_the_same()
+    ensures start { (old new : ComparedValue) (before after : Members)
+        (environment : EnvironmentValue) (choices : State) → IsRead old before → IsRead new after
+        → lock_changes old new ≡ []
+        → judging new.lock (first old.lock environment choices.tags)
+        ≡ first new.lock environment choices.tags }
+    ensures old_plan { (old new : ComparedValue) (before after : Members) (choices : State)
+        (plan : List Pick) → IsRead old before → IsRead new after → lock_changes old new ≡ []
+        → answer (judging old.lock choices) ≡ Plan plan
+        → PickTheSame (judging old.lock choices) (judging new.lock choices)
+        (answer (judging old.lock choices)) (answer (judging new.lock choices)) }
+    ensures new_plan { (old new : ComparedValue) (before after : Members) (choices : State)
+        (plan : List Pick) → IsRead old before → IsRead new after → lock_changes old new ≡ []
+        → answer (judging new.lock choices) ≡ Plan plan
+        → PickTheSame (judging new.lock choices) (judging old.lock choices)
+        (answer (judging new.lock choices)) (answer (judging old.lock choices)) }
+{}
+
+/// Each pick of an answer is compared: none lacks its entry or its source.
+#[tactic(auto, using(crate::proofs::StandLemmas::all_values))]
+pub fn no_pick_is_left_out()
+    ensures { (state : State) (plan : List Pick) → NumbersRise state → answer state ≡ Plan plan
+        → length (numberless state plan) ≡ length plan }
+{
+    picks_stand();
+}

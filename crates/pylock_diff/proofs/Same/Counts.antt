@@ -1,6 +1,7 @@
 -- Lists that are permutations, by how often each key stands under each name.
 use Rattle.std.proofs.Common.{◌≡◌, ◌∙◌, ◌++◌, ℕ, ◌+◌, ◌≤◌, false, cond, List, [], ◌∷◌, inl, inr, map, refl, sym, ap, subst, arith, IsPermutation}
 use Rattle.std.proofs.lemmas.Bool.{cases_Bool, false≢true}
+use Rattle.std.proofs.lemmas.List.{map-append, map-id}
 use Rattle.std.proofs.lemmas.List.Sorted.{IsPermutation-cons, IsPermutation-map, IsPermutation-middle, IsPermutation-refl, IsPermutation-sym, IsPermutation-trans, sum_by-IsPermutation}
 use Rattle.std.proofs.lemmas.List.Sums.{sum_by-cons}
 use Rattle.std.specs.List.{AllByRecursion, sum_by}
@@ -51,25 +52,31 @@ put_middle x xs front back rest =
     IsPermutation-trans (x ∷ xs) (x ∷ (front ++ back)) (front ++ x ∷ back) (IsPermutation-cons x xs (front ++ back) rest)
     (IsPermutation-sym (front ++ x ∷ back) (x ∷ (front ++ back)) (IsPermutation-middle front x back))
 
--- ---- values, each with a key that tells it
-module _ {X : Type 0} (key : X → Texts) (Good : X → Type 0) (exact : (x y : X) → Good x → Good y → key x ≡ key y → x ≡ y) where
+-- ---- values, each told by a key
+module _ {P X : Type 0} (key : P → Texts) (value : P → X) (Good : P → Type 0) (exact : (p q : P) → Good p → Good q → key p ≡ key q → value p ≡ value q) where
   -- lists in which each key stands as often
-  permuted : (xs ys : List X) → AllByRecursion Good xs → AllByRecursion Good ys → ((x : X) → Good x → count (key x) (map key xs) ≡ count (key x) (map key ys)) → IsPermutation xs ys
+  pub permuted : (ps qs : List P) → AllByRecursion Good ps → AllByRecursion Good qs → ((p : P) → Good p → count (key p) (map key ps) ≡ count (key p) (map key qs))
+      → IsPermutation (map value ps) (map value qs)
   permuted [] [] good too same = IsPermutation-refl []
-  permuted [] (y ∷ ys) good too same = (
-      let none = same y too.0 in
-      let some = counted_itself (key y) (map key ys) in
+  permuted [] (q ∷ qs) good too same = (
+      let none = same q too.0 in
+      let some = counted_itself (key q) (map key qs) in
       absurd (omega arith))
-  permuted (x ∷ xs) ys good too same = (
-      let none = same x good.0 in
-      let some = counted_itself (key x) (map key xs) in
-      let found = stands key (key x) ys (omega arith) in
+  permuted (p ∷ ps) qs good too same = (
+      let none = same p good.0 in
+      let some = counted_itself (key p) (map key ps) in
+      let found = stands key (key p) qs (omega arith) in
       let both = all_middle Good found.front found.here found.back (subst (AllByRecursion Good) found.whole too) in
-      let is : found.here ≡ x = exact found.here x both.0 good.0 found.alike in
-      let whole : ys ≡ found.front ++ x ∷ found.back = found.whole ∙ ap (λ y. found.front ++ y ∷ found.back) is in
-      subst (IsPermutation (x ∷ xs)) (sym whole) (put_middle x xs found.front found.back (permuted xs (found.front ++ found.back) good.1 both.1 (λ z fine.
-      let all = same z fine ∙ ap (λ l. count (key z) (map key l)) whole ∙ counted_middle key (key z) found.front x found.back in
-      omega arith))))
+      let is : value found.here ≡ value p = exact found.here p both.0 good.0 found.alike in
+      let whole : map value qs ≡ map value found.front ++ value p ∷ map value found.back =
+      ap (map value) found.whole ∙ map-append value found.front (found.here ∷ found.back) ∙ ap (λ v. map value found.front ++ v ∷ map value found.back) is in
+      let rest = permuted ps (found.front ++ found.back) good.1 both.1 (λ z fine.
+      let all = same z fine ∙ ap (λ l. count (key z) (map key l)) found.whole ∙ counted_middle key (key z) found.front found.here found.back
+      ∙ ap (λ k. cond (are_alike (key z) k) 1 0 + count (key z) (map key (found.front ++ found.back))) found.alike in
+      omega arith) in
+      subst (IsPermutation (value p ∷ map value ps)) (sym whole)
+      (put_middle (value p) (map value ps) (map value found.front) (map value found.back)
+      (subst (IsPermutation (map value ps)) (map-append value found.front found.back) rest)))
 
 -- ---- values, each under a name
 module _ {V : Type 0} (key : V → Texts) where
@@ -119,8 +126,9 @@ module _ {X V : Type 0} (row : X → Row V) (key : V → Texts) (Good : X → Ty
   pub moved_by_names : (xs ys : List X) → AllByRecursion Good xs → AllByRecursion Good ys
       → ((name : List ℕ) (k : Texts) → count k (map key (values_at name (map row xs))) ≡ count k (map key (values_at name (map row ys)))) → IsPermutation xs ys
   moved_by_names xs ys good too same =
-      permuted (λ x. key (row x).1) Good exact xs ys good too
-      (λ x fine. under_name x fine xs good ∙ same (row x).0 (key (row x).1) ∙ sym (under_name x fine ys too))
+      let moved = permuted (λ x. key (row x).1) (λ x. x) Good exact xs ys good too
+      (λ x fine. under_name x fine xs good ∙ same (row x).0 (key (row x).1) ∙ sym (under_name x fine ys too)) in
+      subst (λ l. IsPermutation l ys) (map-id xs) (subst (IsPermutation (map (λ x. x) xs)) (map-id ys) moved)
 
   pub names_by_moves : (xs ys : List X) → IsPermutation xs ys → (name : List ℕ) (k : Texts)
       → count k (map key (values_at name (map row xs))) ≡ count k (map key (values_at name (map row ys)))

@@ -46,9 +46,9 @@ told old new before after one other none =
     record {
       head = head_told before after one.proper other.proper (front_none (head_changes (head_of before) (head_of after)) (item_changes olds news) nothing);
       entries = moved_by_names row_of item_key IsEntry exact (entries_of before) (entries_of after) (are_entries old before one) (are_entries new after other)
-      (λ name k. name_told name (values_at name olds) (values_at name news)
-      (tables_at name (entries_of before) (are_entries old before one)) (tables_at name (entries_of after) (are_entries new after other))
-      (under_none name_changes (λ name. refl) olds news items name) k);
+          (λ name k. name_told name (values_at name olds) (values_at name news)
+          (tables_at name (entries_of before) (are_entries old before one)) (tables_at name (entries_of after) (are_entries new after other))
+          (under_none name_changes (λ name. refl) olds news items name) k);
     }
 
 pub same : (old new : ComparedValue) (before after : Members) → IsRead old before → IsRead new after → HoldSameLock before after → lock_changes old new ≡ []

@@ -94,14 +94,14 @@ given (Ok entries) = entries
 given (Err error) = []
 
 -- the first is an entry, and so are the others
-record IsFirst (place : ℕ) (d : Data) (ds : Items) (entries : List EntryValue) : Type 0 where
-  entry : EntryValue
-  more : List EntryValue
-  reads : entry_in d ≡ Ok entry
-  others : entries_of (suc place) ds ≡ Ok more
-  whole : entries ≡ entry ∷ more
+pub record IsFirst (place : ℕ) (d : Data) (ds : Items) (entries : List EntryValue) : Type 0 where
+  pub entry : EntryValue
+  pub more : List EntryValue
+  pub reads : entry_in d ≡ Ok entry
+  pub others : entries_of (suc place) ds ≡ Ok more
+  pub whole : entries ≡ entry ∷ more
 
-first_of : (place : ℕ) (d : Data) (ds : Items) (entries : List EntryValue) → entries_of place (item d ds) ≡ Ok entries → IsFirst place d ds entries
+pub first_of : (place : ℕ) (d : Data) (ds : Items) (entries : List EntryValue) → entries_of place (item d ds) ≡ Ok entries → IsFirst place d ds entries
 first_of place d ds entries reads =
     let one = bind_ok (at_position place (entry_in d)) (λ e. entries_of (suc place) ds >>= (λ es. Ok (e ∷ es))) entries reads in
     let two = bind_ok (entries_of (suc place) ds) (λ es. Ok (one.0 ∷ es)) entries one.2 in
@@ -153,7 +153,7 @@ by_steps (Ok v) (Err e) head entries lock reads = absurd cc
 by_steps (Ok v) (Ok c) (Err e) entries lock reads = absurd cc
 by_steps (Ok v) (Ok c) (Ok h) (Err e) lock reads = absurd cc
 
-lock_read : (document : Members) (lock : LockValue) → lock_in document ≡ Ok lock → entries_of 1 (items_at (get_member (codes "packages") document)) ≡ Ok lock.entries
+pub lock_read : (document : Members) (lock : LockValue) → lock_in document ≡ Ok lock → entries_of 1 (items_at (get_member (codes "packages") document)) ≡ Ok lock.entries
 unfolding lock_in
 lock_read document lock reads =
     entries_read (get_member (codes "packages") document) lock.entries

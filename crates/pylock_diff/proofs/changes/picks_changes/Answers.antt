@@ -1,7 +1,7 @@
 use Rattle.std.proofs.Common.{◌∙◌, ◌++◌, ap, map}
 use Rattle.pylock_diff.specs.Changes.{item_changes}
 use Rattle.pylock_diff.specs.Inner.Lent.{item_row}
-use Rattle.pylock_diff.proofs.PickLemmas.{items_picked}
+use Rattle.pylock_diff.proofs.PickItemLemmas.{items_picked}
 use Rattle.pylock_diff.proofs.changes.picks_changes.Goals as goal
 
 pub returns : goal.returns
