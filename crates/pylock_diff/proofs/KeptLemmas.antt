@@ -1,5 +1,5 @@
 -- What is kept of a lock's tables, and what stands in memory of its document.
-use Rattle.std.proofs.Common.{◌≡◌, ◌∙◌, ◌++◌, ℕ, ◌≤◌, ◌<◌, suc, drop, append-nil, lt-ltb, Bool, true, false, codes, nat_lt, List, [], ◌∷◌, length, Option, None, Some, Result, Ok, Err, Ordering, Less, Equal, Greater, if◌then◌else◌, refl, sym, ap, subst, arith, ltb-false, ltb, le-ltb, not, ◌||◌}
+use Rattle.std.proofs.Common.{◌≡◌, ◌∙◌, ◌++◌, ℕ, ◌≤◌, ◌<◌, suc, drop, append-nil, lt-ltb, Bool, true, false, codes, nat_lt, List, [], ◌∷◌, length, Option, None, Some, Result, Ok, Err, Ordering, Less, Equal, Greater, if◌then◌else◌, refl, sym, ap, subst, arith, ltb-false, le-ltb, not, ◌||◌}
 use Rattle.std.proofs.lemmas.Map.Text.{is_eq-slice_cmp}
 use Rattle.std.proofs.lemmas.Cmp.{nat_list_cmp_total}
 use Rattle.std.proofs.lemmas.List.{at_drop_all}
@@ -7,7 +7,7 @@ use Rattle.std.specs.Prelude.{⊤}
 use Rattle.std.specs.Str.{bytes_eq}
 use Rattle.std.specs.Cmp.{tied_itself}
 use Rattle.std.specs.Cmp.Lexicographic.{bytes_decides, slice_cmp}
-use Rattle.std.specs.Ordering.{is_eq, is_lt, match_ordering, nat_cmp, ordering_reverse}
+use Rattle.std.specs.Ordering.{is_eq, is_lt, nat_cmp, ordering_reverse}
 use Rattle.toml.specs.View.{items_view}
 use Rattle.toml.specs.declared.value.Value.{Value}
 use Rattle.toml.specs.Data.{Data, Items, Members, array, boolean, datetime, float, get_member, integer, is_before, item, member, no_items, no_members, push_item, string, table}
@@ -25,7 +25,7 @@ use Rattle.pylock_readers.specs.declared.error.EntryError.{EntryError}
 use Rattle.pylock_readers.specs.declared.error.LockError.{LockError}
 use Rattle.pylock_readers.specs.declared.error.LockError.TheVariants.{TooMany}
 use Rattle.pytoml_code.specs.Proper.{AreProper, HasProper, IfThere, IsProper}
-use Rattle.pylock_diff.specs.Compared.{ComparedValue, EntryCodesValue, compared, compared_in, entry_codes, head_of, is_head_key, item_codes, items_at}
+use Rattle.pylock_diff.specs.Compared.{EntryCodesValue, compared_in, entry_codes, head_of, is_head_key, item_codes, items_at}
 use Rattle.pylock_diff.specs.Head.{head_key}
 use Rattle.pylock_diff.specs.Inner.Kept.{AreProperTables, AreTables, HasCodes, HasProperHead, HasProperTables, IsTable, entries_after, kept_of}
 
@@ -47,12 +47,13 @@ fewer : (taken : Items) (d : Data) → item_count (push_item taken d) ≤ most_e
 fewer taken d few = omega (arith, few, count_push taken d)
 
 -- the codes of one more
-pub kept_next : (codes : List EntryCodesValue) (taken : Items) (members : Members) → HasProper members → HasCodes codes taken
-    → HasCodes (codes ++ entry_codes (table members) ∷ []) (push_item taken (table members))
-kept_next codes taken members proper has = record {
+pub kept_next : (before after : List EntryCodesValue) (code : EntryCodesValue) (taken : Items) (members : Members)
+    → after ≡ before ++ code ∷ [] → code ≡ entry_codes (table members) → HasProper members → HasCodes before taken
+    → HasCodes after (push_item taken (table members))
+kept_next before after code taken members grown is proper has = record {
   codes = λ few.
       let less : suc (item_count taken) ≤ most_entries = fewer taken (table members) few in
-      ap (λ front. front ++ entry_codes (table members) ∷ []) (has.codes (omega arith)) ∙ sym (codes_push taken (table members));
+      grown ∙ (λ i. has.codes (omega arith) i ++ is i ∷ []) ∙ sym (codes_push taken (table members));
   proper = λ few.
       let less : suc (item_count taken) ≤ most_entries = fewer taken (table members) few in
       proper_push taken (table members) (has.proper (omega arith)) proper;

@@ -8,6 +8,7 @@ pub mod KeyLemmas
 pub mod MemberLemmas
 pub mod OtherLemmas
 pub mod PartnerLemmas
+pub mod PickItemLemmas
 pub mod PickLemmas
 pub mod PlanLemmas
 pub mod Same

@@ -12,7 +12,8 @@ ghost use Rattle.pylock_diff.specs.Inner.Others.{AreOthers, HasSources, HasVersi
 ghost use Rattle.pylock_diff.specs.Inner.Others.{has_at, holds_at};
 ghost use Rattle.pylock_diff.specs.Item.{ItemValue};
 ghost use Rattle.pylock_diff.specs.Sources.{called, condition_key, file_changes, has_counterpart};
-ghost use Rattle.pylock_diff.specs.Sources.{identity, lone_in, lone_sources, source_text, whole_key};
+ghost use Rattle.pylock_diff.specs.Sources.{identity, lone_in, lone_sources, source_text};
+ghost use Rattle.pylock_diff.specs.Sources.{whole_key};
 ghost use Rattle.pylock_compare.specs.Texts.{Texts, are_alike, texts_cmp};
 ghost use Rattle.pylock_diff.specs.Versions.{version_key};
 ghost use Rattle.pylock_diff.specs.declared.change.ChangeKind.TheVariants.{File};

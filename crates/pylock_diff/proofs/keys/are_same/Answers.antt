@@ -1,4 +1,4 @@
-use Rattle.std.proofs.Common.{◌≡◌, ◌∙◌, ℕ, ◌<◌, suc, zero, Bool, false, List, [], ◌∷◌, Bor, length, drop, refl, sym, arith}
+use Rattle.std.proofs.Common.{◌≡◌, ◌∙◌, ℕ, ◌<◌, suc, zero, false, List, [], ◌∷◌, Bor, length, drop, refl, sym, arith}
 use Rattle.pylock_diff.specs.Inner.Placed.{lent_places}
 use Rattle.pylock_diff.specs.Keys.{are_same_values}
 use Rattle.pylock_diff.proofs.keys.are_same.Goals as goal

@@ -1,4 +1,4 @@
-use Rattle.std.proofs.Common.{◌≡◌, ◌∙◌, ◌<◌, length, sym, ap, arith}
+use Rattle.std.proofs.Common.{◌∙◌, ◌<◌, length, sym, ap, arith}
 use Rattle.std.proofs.lemmas.List.{take_all}
 use Rattle.pylock_diff.proofs.PartnerLemmas.{keys_of, same_more}
 use Rattle.pylock_diff.proofs.partners.have_same_keys.Goals as goal
