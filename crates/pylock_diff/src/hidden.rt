@@ -2,6 +2,7 @@
 
 ghost use Rattle.std.specs.Prelude.{◌≡◌, ◌++◌, IfOk, OnOk, string_bytes};
 ghost use Rattle.pylock_diff.specs.Hidden.{hidden_text, shown_value};
+ghost use Rattle.pylock_places.specs.Url.{shown_url};
 
 use pylock_places::{around, shown_url};
 use pytoml_code::shown_code;
