@@ -1,5 +1,6 @@
 pub mod AnswerLemmas
 pub mod ChangeLemmas
+pub mod ChoiceLemmas
 pub mod CountLemmas
 pub mod KeyLemmas
 pub mod MemberLemmas

@@ -1,6 +1,6 @@
 -- When two plans pick the same: their picks, numbers apart, are the same multiset with all fields.
 -- The order of picks doesn't count.
-use Rattle.std.specs.Prelude.{ℕ, List, [], ◌∷◌, length, Option, IsPermutation}
+use Rattle.std.specs.Prelude.{ℕ, Bool, true, false, List, [], ◌∷◌, length, Option, Result, Ok, Err, IsPermutation}
 use Rattle.std.specs.Cmp.Lexicographic.{slice_cmp}
 use Rattle.std.specs.FinMap as map_of
 use Rattle.std.specs.List.{enumerate_from, flat_map}
@@ -14,6 +14,9 @@ use Rattle.pylock_core.specs.Session.State.{State, entry_at}
 use Rattle.pylock_core.specs.declared.answer.Answer.{Answer}
 use Rattle.pylock_core.specs.declared.answer.Answer.TheVariants.{Plan, Fault}
 use Rattle.pylock_core.specs.declared.answer.Pick.{Pick}
+use Rattle.pylock_core.specs.declared.edit.Edit.{Edit}
+use Rattle.pylock_core.specs.declared.edit.Edit.TheVariants as edit
+use Rattle.pylock_core.specs.declared.edit.EditError.{EditError}
 
 -- hashes by algorithm: of each the value that comes last
 abbrev pub HashMap : Type 0
@@ -83,3 +86,17 @@ judging lock state = record state {
   entries = enumerate_from 1 lock.entries;
   last = length lock.entries;
 }
+
+-- what an edit gave, with this lock in place of another
+abbrev pub judged : LockValue → Result State EditError → Result State EditError
+judged lock (Ok state) = Ok (judging lock state)
+judged lock (Err error) = Err error
+
+-- an edit of what entries are judged by, and of no entry
+abbrev pub is_choice : Edit → Bool
+is_choice (edit.Environment change) = true
+is_choice (edit.Tags tags) = true
+is_choice (edit.Add entry) = false
+is_choice (edit.Put number entry) = false
+is_choice (edit.Del number) = false
+is_choice (edit.Policy name policy) = true

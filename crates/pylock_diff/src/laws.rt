@@ -1,20 +1,22 @@
 //! Laws of the definitions alone: each function's contract is a law, and its body is empty but for
 //! laws of the crates below.
 
-ghost use Rattle.std.specs.Prelude.{◌≡◌, ℕ, [], List, length, map};
+ghost use Rattle.std.specs.Prelude.{◌≡◌, ℕ, [], List, length, map, true};
 ghost use Rattle.toml.specs.Data.{Members};
 ghost use Rattle.pymark_core.specs.Environment.{EnvironmentValue};
-ghost use Rattle.pylock_core.specs.Session.State.{NumbersRise, State, first};
+ghost use Rattle.pylock_readers.specs.Lock.{LockValue};
+ghost use Rattle.pylock_core.specs.Session.State.{NumbersRise, State, apply, first};
 ghost use Rattle.pylock_core.specs.Session.Steps.{answer};
 ghost use Rattle.pylock_core.specs.declared.answer.Answer.{Answer};
 ghost use Rattle.pylock_core.specs.declared.answer.Answer.TheVariants.{Plan, Fault};
 ghost use Rattle.pylock_core.specs.declared.answer.FaultCode.{FaultCode};
 ghost use Rattle.pylock_core.specs.declared.answer.Pick.{Pick};
+ghost use Rattle.pylock_core.specs.declared.edit.Edit.{Edit};
 ghost use Rattle.pylock_diff.specs.Change.{coming_and_going, turned};
 ghost use Rattle.pylock_diff.specs.Changes.{answer_changes, lock_changes};
 ghost use Rattle.pylock_diff.specs.Compared.{ComparedValue};
 ghost use Rattle.pylock_diff.specs.Same.{HoldSameLock, IsRead};
-ghost use Rattle.pylock_diff.specs.SamePlan.{PickTheSame, judging, numberless};
+ghost use Rattle.pylock_diff.specs.SamePlan.{PickTheSame, is_choice, judged, judging, numberless};
 
 use pylock_core::laws::picks_stand;
 
@@ -81,6 +83,15 @@ pub fn where_nothing_changes_the_plan_is_the_same()
         → answer (judging new.lock choices) ≡ Plan plan
         → PickTheSame (judging new.lock choices) (judging old.lock choices)
         (answer (judging new.lock choices)) (answer (judging old.lock choices)) }
+{}
+
+/// An edit of what entries are judged by does the same to both of two locks with one head, or is
+/// refused for both.
+#[tactic(auto, using(crate::proofs::ChoiceLemmas::choice_for_both))]
+pub fn a_choice_is_one_for_both()
+    ensures { (lock : LockValue) (state : State) (edit : Edit) → is_choice edit ≡ true
+        → state.head ≡ lock.head
+        → apply edit (judging lock state) ≡ judged lock (apply edit state) }
 {}
 
 /// Each pick of an answer is compared: none lacks its entry or its source.
