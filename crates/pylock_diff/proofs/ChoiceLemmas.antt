@@ -1,11 +1,10 @@
 -- An edit of what entries are judged by, where one lock stands in place of another.
-use Rattle.std.proofs.Common.{◌≡◌, ◌∙◌, ℕ, Bool, true, false, cond, ◌||◌, List, Result, Ok, Err, refl, sym, ap}
+use Rattle.std.proofs.Common.{◌≡◌, ◌∙◌, Bool, true, false, cond, ◌||◌, Ok, Err, refl, sym}
 use Rattle.std.proofs.lemmas.Bool.{false≢true}
-use Rattle.pymark_core.specs.Change.{changed}
 use Rattle.pymark_core.specs.declared.change.Change.{Change}
 use Rattle.pymark_core.specs.declared.change.Change.TheVariants as change
-use Rattle.pylock_readers.specs.Lock.{HeadValue, LockValue}
-use Rattle.pylock_core.specs.Session.State.{State, apply, if_named, in_environment, is_among}
+use Rattle.pylock_readers.specs.Lock.{LockValue}
+use Rattle.pylock_core.specs.Session.State.{State, apply, is_among}
 use Rattle.pylock_core.specs.declared.edit.Edit.{Edit}
 use Rattle.pylock_core.specs.declared.edit.Edit.TheVariants as edit
 use Rattle.pylock_core.specs.declared.edit.EditError.{EditError}

@@ -1,6 +1,7 @@
 -- When two plans pick the same: their picks, numbers apart, are the same multiset with all fields.
--- The order of picks doesn't count.
-use Rattle.std.specs.Prelude.{ℕ, Bool, true, false, List, [], ◌∷◌, length, Option, Result, Ok, Err, IsPermutation}
+-- The order of picks doesn't count. And what it is to judge one lock as another is judged.
+use Rattle.std.specs.Prelude.{ℕ, Bool, true, false, List, [], ◌∷◌, length, Option}
+use Rattle.std.specs.Prelude.{Result, Ok, Err, IsPermutation}
 use Rattle.std.specs.Cmp.Lexicographic.{slice_cmp}
 use Rattle.std.specs.FinMap as map_of
 use Rattle.std.specs.List.{enumerate_from, flat_map}
@@ -77,6 +78,8 @@ PickTheSame old new (Plan olds) (Plan news) =
     IsPermutation (numberless old olds) (numberless new news)
 PickTheSame old new (Plan olds) (Fault number code) = ⊥
 PickTheSame old new (Fault number code) answer = ⊥
+
+-- ---- a lock judged as another is
 
 -- the state in which a lock is judged as another is in this state: in its environment, with its
 -- tags and its policies
