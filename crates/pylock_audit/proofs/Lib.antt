@@ -1,15 +1,10 @@
 pub mod ClimbLemmas
 pub mod FrontLemmas
-pub mod HiddenLemmas
 pub mod KeyLemmas
-pub mod MaskLemmas
 pub mod NameLemmas
 pub mod PrintableLemmas
-pub mod QueryLemmas
 pub mod ScopeLemmas
-pub mod ShownLemmas
 pub mod StrictLemmas
 pub mod TableLemmas
 pub mod UnsafeLemmas
-pub mod UserLemmas
 pub mod WheelLemmas

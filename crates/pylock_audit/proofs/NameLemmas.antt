@@ -10,7 +10,7 @@ use Rattle.std.specs.Option.{option_map_or}
 use Rattle.std.specs.Str.{bytes_eq}
 use Rattle.pylock_readers.specs.Entry.{FileValue, file_name}
 use Rattle.pylock_audit.specs.Entry.{same_names, with_name, with_names}
-use Rattle.pylock_audit.specs.FileName.{shown_name}
+use Rattle.pylock_places.specs.FileName.{shown_name}
 use Rattle.pylock_audit.specs.Finding.{told_where}
 use Rattle.pylock_audit.specs.Inner.Names.{Holds}
 use Rattle.pylock_audit.specs.Source.{name_where, text_where}

@@ -24,13 +24,13 @@ use Rattle.pylock_readers.specs.Entry.Kinds.{has_conflict, is_any, kinds, kinds_
 use Rattle.pylock_readers.specs.Lock.{HeadValue}
 use Rattle.pylock_core.specs.Session.Picks.{SourceValue, sources}
 use Rattle.pylock_core.specs.declared.answer.PickSource.{PickSource}
-use Rattle.pylock_audit.specs.FileName.{shown_file_name}
+use Rattle.pylock_places.specs.FileName.{shown_file_name}
+use Rattle.pylock_places.specs.Url.{has_credentials, is_https, shown_url}
 use Rattle.pylock_audit.specs.Finding.{FindingValue, findings_each, finding_where, told_where}
 use Rattle.pylock_audit.specs.EntryKeys.{entry_keys_told}
 use Rattle.pylock_audit.specs.Readings.{differs}
 use Rattle.pylock_audit.specs.Source.{name_where, over_sources, text_where}
 use Rattle.pylock_audit.specs.Unsafe.{has_control}
-use Rattle.pylock_audit.specs.Url.{has_credentials, is_https, shown_url}
 use Rattle.pylock_audit.specs.declared.finding.FindingKind.{FindingKind}
 use Rattle.pylock_audit.specs.declared.finding.FindingKind.TheVariants as kind
 

@@ -2,16 +2,13 @@ pub mod Audit
 pub mod Document
 pub mod Entry
 pub mod EntryKeys
-pub mod FileName
 pub mod Finding
 pub mod Hash
 pub mod Inner
 pub mod Keys
-pub mod Query
 pub mod Readings
 pub mod Source
 pub mod Strict
 pub mod Types
 pub mod Unsafe
-pub mod Url
 pub mod Words

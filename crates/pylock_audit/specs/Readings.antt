@@ -1,9 +1,10 @@
--- Comparisons of markers that installers read in two ways, so that they may answer otherwise on some
--- machine. By PEP 508, "Environment Markers", the two texts decide, whatever the variable: they are
--- compared as versions where the left one is a version and the right one an operand of the operator,
--- and as texts otherwise. `packaging` 26 asks the variable first: beside `python_version`,
--- `python_full_version`, `implementation_version` and `platform_release` an operand is compared as a
--- version, with which a value that is none never agrees, and beside any other variable as a text.
+-- Comparisons of markers that installers read in two ways, so that they may answer otherwise on
+-- some machine. By PEP 508, "Environment Markers", the two texts decide, whatever the variable:
+-- they are compared as versions where the left one is a version and the right one an operand of
+-- the operator, and as texts otherwise. `packaging` 26 asks the variable first: beside
+-- `python_version`, `python_full_version`, `implementation_version` and `platform_release` an
+-- operand is compared as a version, with which a value that is none never agrees, and beside any
+-- other variable as a text.
 use Rattle.std.specs.Prelude.{ℕ, Bool, true, false, ◌&&◌, ◌||◌, not, List, Option}
 use Rattle.std.specs.Prelude.{Result, Ok, Err}
 use Rattle.std.specs.Option.{option_map_or}
@@ -44,8 +45,8 @@ is_equality operator.Equal = true
 is_equality operator.NotEqual = true
 is_equality other = false
 
--- by `==` and `!=` a text that is no operand is a text to all; any other operator means one thing of
--- texts and another of versions
+-- by `==` and `!=` a text that is no operand is a text to all; any other operator means one thing
+-- of texts and another of versions
 abbrev pub differs_by : Comparator → ComparisonValue → Bool
 differs_by (By by) c =
     (is_other_variable (operand_variable c.left) || is_other_variable (operand_variable c.right))

@@ -1,6 +1,6 @@
 -- What one source of an entry gives to each kind of finding.
 use Rattle.std.specs.Prelude.{ℕ, Bool, false, ◌==◌, ◌&&◌, ◌||◌, ◌++◌, not, codes, List, [], ◌∷◌}
-use Rattle.std.specs.Prelude.{filter, length, map, Option, Some, None, unwrap_or, if◌then◌else◌}
+use Rattle.std.specs.Prelude.{filter, length, map, Option, Some, None, if◌then◌else◌}
 use Rattle.std.specs.Int.{is_in_range}
 use Rattle.std.specs.List.{flat_map, join_by, list_all}
 use Rattle.std.specs.Option.{option_map_or}
@@ -9,14 +9,14 @@ use Rattle.pylock_readers.specs.Entry.{ArchiveValue, DirectoryValue, FileValue, 
 use Rattle.pylock_core.specs.Session.Picks.{OfArchive, OfDirectory, OfSdist, OfVcs, OfWheel}
 use Rattle.pylock_core.specs.Session.Picks.{SourceValue}
 use Rattle.pylock_core.specs.declared.answer.PickSource.{PickSource}
-use Rattle.pylock_audit.specs.FileName.{shown_file_name, shown_name}
+use Rattle.pylock_places.specs.FileName.{shown_name}
+use Rattle.pylock_places.specs.Query.{has_secret}
+use Rattle.pylock_places.specs.Shown.{file_label, shown_place}
+use Rattle.pylock_places.specs.Url.{has_credentials, is_https, is_safe_remote, shown_url}
 use Rattle.pylock_audit.specs.Finding.{told_where}
 use Rattle.pylock_audit.specs.Hash.{Hash, is_bad, is_odd, is_weak}
 use Rattle.pylock_audit.specs.Keys.{source_path}
-use Rattle.pylock_audit.specs.Query.{has_secret}
 use Rattle.pylock_audit.specs.Unsafe.{has_control, is_outside_path, is_unsafe_name, is_unsafe_path}
-use Rattle.pylock_audit.specs.Url.{has_credentials, is_https, is_safe_remote, shown_place}
-use Rattle.pylock_audit.specs.Url.{shown_url}
 use Rattle.pylock_audit.specs.declared.finding.FindingKind.{FindingKind}
 use Rattle.pylock_audit.specs.declared.finding.FindingKind.TheVariants as kind
 
@@ -61,10 +61,6 @@ is_vcs (OfVcs vcs) = Bool.true
 is_vcs source = false
 
 -- ---- how it is named
-
--- the file name as it is shown, or the place where it has none
-abbrev pub file_label : FileValue → List ℕ
-file_label file = unwrap_or (shown_file_name file) (shown_place file.location)
 
 -- a file that has hashes: its kind, and its file name or place
 abbrev pub label : SourceValue → List ℕ

@@ -5,17 +5,17 @@ ghost use Rattle.std.specs.Prelude.{string_bytes};
 ghost use Rattle.std.specs.Option.{option_copied};
 ghost use Rattle.pylock_readers.specs.Text.{text_pair, text_pairs};
 ghost use Rattle.pylock_core.specs.Session.Picks.{lent_source};
+ghost use Rattle.pylock_places.specs.Url.{shown_url};
 ghost use Rattle.pylock_audit.specs.Source.{controlled, controlled_archive, controlled_directory};
 ghost use Rattle.pylock_audit.specs.Source.{controlled_file, controlled_hashes, controlled_texts};
 ghost use Rattle.pylock_audit.specs.Source.{controlled_vcs, hash_shown, plainly, url_and_path};
 ghost use Rattle.pylock_audit.specs.Unsafe.{has_control};
-ghost use Rattle.pylock_audit.specs.Url.{shown_url};
 
 use crate::hash::Hash;
 use crate::keys::source_key_path;
 use crate::unsafe_text::{has_control, is_printable};
-use crate::url::shown_url;
 use pylock_core::{Archive, Directory, DistributionFile, PickSource, PickedSource, Vcs};
+use pylock_places::shown_url;
 use std::alloc::{AllocError, Global};
 
 /// Adds a text of a key with the path of that, where it has a control character.

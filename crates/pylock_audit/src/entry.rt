@@ -14,13 +14,13 @@ ghost use Rattle.pylock_audit.specs.Unsafe.{has_control};
 
 use crate::files::push_file_names;
 use crate::finding::{Finding, FindingKind, push_each, push_where, told_where};
-use crate::keys::joined;
 use crate::marker::push_compared;
 use crate::scope::Scope;
 use crate::source::over_sources;
 use crate::tables::{IndexFindings, TableFindings};
 use crate::unsafe_text::has_control;
 use pylock_core::{Entry, Head, NamedSource, sources};
+use pylock_places::joined;
 use pyver_core::{Version, VersionError};
 use std::alloc::{AllocError, Global};
 

@@ -18,10 +18,9 @@ ghost use Rattle.pylock_audit.specs.Entry.{wheel_where, with_name, with_names};
 ghost use Rattle.pylock_audit.specs.Inner.Names.{Holds};
 ghost use Rattle.pylock_audit.specs.Source.{name_where};
 
-use crate::file_name::{shown_file_name, shown_name};
 use crate::finding::{Finding, FindingKind, push_each, push_where};
-use crate::url::around;
 use pylock_core::{DistributionFile, Entry, Sdist, WheelFile};
+use pylock_places::{around, shown_file_name, shown_name};
 use pyver_core::{Version, VersionError, is_name, normal_name};
 use pywheel_core::{SdistError, SdistName, WheelName};
 use std::alloc::{AllocError, Global};

@@ -6,6 +6,7 @@ ghost use Rattle.toml.specs.View.{table_view, view};
 ghost use Rattle.pylock_audit.specs.Keys.{is_named, source_path, table_path, unknown_keys};
 
 use pylock_core::PickSource;
+use pylock_places::joined;
 use std::alloc::{AllocError, Global};
 use toml::{Table, Value};
 
@@ -90,15 +91,6 @@ fn is_source_key(name: PickSource, key: &str) -> bool
 }
 
 // ---- paths
-
-/// Two texts, one behind the other.
-pub(crate) fn joined(alloc: Global, front: &str, back: &str) -> Result<String, AllocError>
-    ensures { IfOk result (λ text. string_bytes text ≡ front.now ++ back.now) }
-{
-    let mut text = String::from_str(alloc, front)?;
-    text.push_str(back)?;
-    Ok(text)
-}
 
 /// The path of a key of a source. Wheels are counted from 1.
 pub(crate) fn source_key_path(

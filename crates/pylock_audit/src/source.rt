@@ -7,26 +7,27 @@ ghost use Rattle.std.specs.List.{flat_map, list_all};
 ghost use Rattle.std.specs.Option.{option_copied, option_map_or};
 ghost use Rattle.pylock_readers.specs.Text.{text_pair, text_pairs};
 ghost use Rattle.pylock_core.specs.Session.Picks.{lent_named, lent_source};
+ghost use Rattle.pylock_places.specs.Query.{has_secret};
+ghost use Rattle.pylock_places.specs.Url.{has_credentials, shown_url};
 ghost use Rattle.pylock_audit.specs.Keys.{source_path};
-ghost use Rattle.pylock_audit.specs.Query.{has_secret};
-ghost use Rattle.pylock_audit.specs.Source.{algorithms, details, file_label, file_of};
+ghost use Rattle.pylock_audit.specs.Source.{algorithms, details, file_of};
 ghost use Rattle.pylock_audit.specs.Source.{has_commit_hashes, hashes_of, is_commit_hash};
 ghost use Rattle.pylock_audit.specs.Source.{is_hash_digit, is_open_url, is_told, label};
 ghost use Rattle.pylock_audit.specs.Source.{moving_commit, name_where, over_hashes, over_sources};
 ghost use Rattle.pylock_audit.specs.Source.{path_of, subdirectory_of, tested_hashes, text_where};
 ghost use Rattle.pylock_audit.specs.Source.{url_of, weakly_hashed, without_hash};
 ghost use Rattle.pylock_audit.specs.Unsafe.{is_outside_path, is_unsafe_name, is_unsafe_path};
-ghost use Rattle.pylock_audit.specs.Url.{has_credentials, shown_place, shown_url};
 
 use crate::control::push_controlled;
-use crate::file_name::{shown_file_name, shown_name};
 use crate::finding::FindingKind;
 use crate::hash::{Hash, is_bad, is_odd, is_weak};
-use crate::keys::{joined, source_key_path};
-use crate::query::has_secret;
+use crate::keys::source_key_path;
 use crate::unsafe_text::{is_outside_path, is_unsafe_name, is_unsafe_path};
-use crate::url::{has_credentials, is_https, is_safe_remote, shown_url};
 use pylock_core::{DistributionFile, NamedSource, PickSource, PickedSource, Vcs};
+use pylock_places::{
+    file_label, has_credentials, has_secret, is_https, is_safe_remote, joined, shown_name,
+    shown_place, shown_url,
+};
 use std::alloc::{AllocError, Global};
 
 // ---- what a source has
@@ -86,36 +87,6 @@ fn subdirectory_of<'a>(source: PickedSource<'a>) -> Option<&'a str>
 }
 
 // ---- how it is named
-
-/// The place of a source: its path, else its URL, with `***` for what opens it: the user, and each
-/// secret of the query. It takes memory for the text, once more while it grows.
-pub fn shown_place(
-    alloc: Global,
-    path: Option<&str>,
-    url: Option<&str>,
-) -> Result<String, AllocError>
-    ensures { IfOk result (λ text. string_bytes text ≡ shown_place (record {
-      url = option_copied url.entry;
-      path = option_copied path.entry;
-    })) }
-{
-    match (path, url) {
-        (Some(path), _) => String::from_str(alloc, path),
-        (None, Some(url)) => shown_url(alloc, url),
-        (None, None) => Ok(String::new(alloc)),
-    }
-}
-
-/// The file name as it is shown, without the user of a URL that it was found in, or the place where
-/// the file has none. It takes memory for the text, once more while it grows.
-pub fn file_label(alloc: Global, file: &DistributionFile) -> Result<String, AllocError>
-    ensures { IfOk result (λ text. string_bytes text ≡ file_label file.now) }
-{
-    match shown_file_name(alloc, file)? {
-        Some(name) => Ok(name),
-        None => shown_place(alloc, file.path(), file.url()),
-    }
-}
 
 /// A file that has hashes: its kind, and its file name or place.
 fn label(alloc: Global, source: PickedSource<'_>) -> Result<String, AllocError>

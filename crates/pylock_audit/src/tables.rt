@@ -7,16 +7,16 @@ ghost use Rattle.std.specs.Option.{option_copied};
 ghost use Rattle.toml.specs.Data.{Items, as_str, no_items, push_item, table};
 ghost use Rattle.toml.specs.View.{items_view, table_view, view};
 ghost use Rattle.pylock_readers.specs.Lock.Packages.{HasRead};
+ghost use Rattle.pylock_places.specs.Url.{shown_url};
 ghost use Rattle.pylock_audit.specs.Audit.{members_in};
 ghost use Rattle.pylock_audit.specs.Entry.{index_of, is_other_form, other_form, text_at};
 ghost use Rattle.pylock_audit.specs.Finding.{told_where};
 ghost use Rattle.pylock_audit.specs.Inner.Tables.{HasLooked, of_table, of_tables, told_by};
-ghost use Rattle.pylock_audit.specs.Url.{shown_url};
 
 use crate::entry_keys::entry_keys_told;
 use crate::finding::{Finding, FindingKind, push_each, told_where};
 use crate::keys::field;
-use crate::url::{has_credentials, is_https, shown_url};
+use pylock_places::{has_credentials, is_https, shown_url};
 use pylock_readers::{MOST_ENTRIES, Packages};
 use pytoml::Elements;
 use pyver_core::NormalForm;

@@ -271,7 +271,8 @@ Example, with spaces for the TABs:
 Prints changes K and then K lines, one for each change: CHANGE NAME FROM TO,
 with TAB between two fields. An absent field is -. CHANGE is one of these, and
 what stands in parentheses is told of both locks:
-  head            a key of the lock's head changed; NAME is the key (its texts)
+  head            a key of the lock's head changed; NAME is the key (its texts,
+                  or its value as TOML)
   added, removed  one lock alone has the package (its versions)
   version         other versions (these)
   hash            a file has other hashes under the same name (the file, the
@@ -279,6 +280,11 @@ what stands in parentheses is told of both locks:
   file            one lock alone has the file or source (this)
   place           a file comes from another place (the places)
   condition       other markers or other Pythons (these)
+  key             another key of an entry, or of a file in it, has another value
+                  (the key and its values as TOML)
+Where nothing is printed but changes 0, both hold the same lock: the same head
+but for created-by, and the same entries with all their keys. The order of
+entries and keys doesn't count, nor how TOML writes them.
 
 With --in or a target, and then with the options of plan too, the plans of the
 locks are compared in their place: what a machine would see of the change.

@@ -6,8 +6,8 @@ use Rattle.std.specs.Str.{bytes_eq}
 use Rattle.toml.specs.Data.{Data, Items, array, as_str, item, no_items, string}
 use Rattle.pylock_compare.specs.Rows.{Row, in_order, names_of, values_at}
 use Rattle.pytoml_code.specs.Code.{code}
-use Rattle.pytoml_code.specs.Shown.{shown}
 use Rattle.pylock_diff.specs.Change.{ChangeValue, change_of, told_where}
+use Rattle.pylock_diff.specs.Hidden.{shown_value}
 use Rattle.pylock_diff.specs.declared.change.ChangeKind.TheVariants.{Head}
 
 -- a key of the head: the code of its value, and how it is shown
@@ -50,7 +50,7 @@ abbrev pub head_key : List ℕ → Data → HeadKey
 head_key key d = record {
   key = key;
   code = code d;
-  text = if is_list_key key then list_text d else shown (code d);
+  text = if is_list_key key then list_text d else shown_value (code d);
 }
 
 -- ---- two heads

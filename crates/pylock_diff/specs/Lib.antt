@@ -7,6 +7,7 @@ pub mod Document
 pub mod Files
 pub mod Hashes
 pub mod Head
+pub mod Hidden
 pub mod Inner
 pub mod Item
 pub mod Keys
@@ -14,6 +15,7 @@ pub mod Partners
 pub mod Picks
 pub mod Same
 pub mod SamePlan
+pub mod SamePicks
 pub mod Sources
 pub mod SourceKeys
 pub mod Versions

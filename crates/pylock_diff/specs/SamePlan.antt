@@ -1,14 +1,12 @@
 -- When two plans pick the same: their picks, numbers apart, are the same multiset with all fields.
--- The order of picks doesn't count. And what it is to judge one lock as another is judged.
-use Rattle.std.specs.Prelude.{ℕ, Bool, true, false, List, [], ◌∷◌, length, Option}
-use Rattle.std.specs.Prelude.{Result, Ok, Err, IsPermutation}
+-- The order of picks doesn't count.
+use Rattle.std.specs.Prelude.{ℕ, List, [], ◌∷◌, Option, IsPermutation}
 use Rattle.std.specs.Cmp.Lexicographic.{slice_cmp}
 use Rattle.std.specs.FinMap as map_of
-use Rattle.std.specs.List.{enumerate_from, flat_map}
+use Rattle.std.specs.List.{flat_map}
 use Rattle.std.specs.Option.{option_map_or}
 use Rattle.std.specs.Ordering.{nat_cmp}
 use Rattle.pylock_readers.specs.Entry.{EntryValue, FileValue, file_name}
-use Rattle.pylock_readers.specs.Lock.{LockValue}
 use Rattle.pylock_core.specs.Session.Picks.{SourceValue, OfVcs, OfDirectory, OfArchive, OfWheel}
 use Rattle.pylock_core.specs.Session.Picks.{OfSdist, source_in}
 use Rattle.pylock_core.specs.Session.State.{State, entry_at}
@@ -78,28 +76,3 @@ PickTheSame old new (Plan olds) (Plan news) =
     IsPermutation (numberless old olds) (numberless new news)
 PickTheSame old new (Plan olds) (Fault number code) = ⊥
 PickTheSame old new (Fault number code) answer = ⊥
-
--- ---- a lock judged as another is
-
--- the state in which a lock is judged as another is in this state: in its environment, with its
--- tags and its policies
-abbrev pub judging : LockValue → State → State
-judging lock state = record state {
-  head = lock.head;
-  entries = enumerate_from 1 lock.entries;
-  last = length lock.entries;
-}
-
--- what an edit gave, with this lock in place of another
-abbrev pub judged : LockValue → Result State EditError → Result State EditError
-judged lock (Ok state) = Ok (judging lock state)
-judged lock (Err error) = Err error
-
--- an edit of what entries are judged by, and of no entry
-abbrev pub is_choice : Edit → Bool
-is_choice (edit.Environment change) = true
-is_choice (edit.Tags tags) = true
-is_choice (edit.Add entry) = false
-is_choice (edit.Put number entry) = false
-is_choice (edit.Del number) = false
-is_choice (edit.Policy name policy) = true

@@ -1,14 +1,15 @@
 //! Locks that are read to be compared: beside the lock the codes of all keys, known and unknown.
 
-ghost use Rattle.std.specs.Prelude.{◌≡◌, [], IfOk, OnOk, Ok, codes};
-ghost use Rattle.toml.specs.Data.{Items, Members, get_member, no_items, table};
+ghost use Rattle.std.specs.Prelude.{◌≡◌, [], IfOk, OnOk, Ok, codes, option_map};
+ghost use Rattle.toml.specs.Data.{Items, Members, get_member, no_items, push_item, table};
 ghost use Rattle.toml.specs.View.{items_view, table_view, view};
 ghost use Rattle.pytext.specs.Agreement.{Gives};
 ghost use Rattle.pytoml.specs.Members.{with_elements};
 ghost use Rattle.pylock_readers.specs.Lock.Reading.{document_in};
 ghost use Rattle.pylock_diff.specs.Compared.{compared_in, compared_of, entry_codes, items_at};
-ghost use Rattle.pylock_diff.specs.Inner.Kept.{HasKept, entries_after, kept_of};
-ghost use Rattle.pytoml_code.specs.Proper.{HasProper};
+ghost use Rattle.pylock_diff.specs.Inner.Kept.{AreProperTables, HasCodes, HasKept};
+ghost use Rattle.pylock_diff.specs.Inner.Kept.{HasProperTables, IsTable, entries_after, kept_of};
+ghost use Rattle.pytoml_code.specs.Proper.{HasProper, IsProper};
 
 use crate::codes::Codes;
 use crate::head::{HeadKey, head_keys};
@@ -56,7 +57,8 @@ impl EntryCodes {
 
     /// Those of a value, which is a table in a lock, and otherwise has none.
     fn of_value(alloc: Global, value: &Value) -> Result<EntryCodes, AllocError>
-        ensures { IfOk result (λ codes. codes ≡ entry_codes (view value.now)) }
+        ensures codes { IfOk result (λ codes. codes ≡ entry_codes (view value.now)) }
+        ensures proper { OnOk result (IsTable (view value.now) → IsProper (view value.now)) }
     {
         match value {
             Value::Table(table) => EntryCodes::of(alloc, table),
@@ -235,11 +237,20 @@ impl Elements for Kept {
     }
 
     fn take(&mut self, element: Table) -> Result<(), AllocError> {
-        if self.entries.len() < MOST_ENTRIES {
-            self.entries.push(EntryCodes::of(self.alloc, &element)?)?;
-        }
+        keep(self.alloc, &mut self.entries, &element)?;
         self.packages.take(element)
     }
+}
+
+/// Adds the codes of the next table, unless a lock may have no more entries.
+fn keep(alloc: Global, entries: &mut Vec<EntryCodes>, element: &Table) -> Result<(), AllocError>
+    ensures { (taken : Items) → HasCodes entries.old.items taken → OnOk result
+        (HasCodes entries.new.items (push_item taken (table (table_view element.now)))) }
+{
+    if entries.len() < MOST_ENTRIES {
+        entries.push(EntryCodes::of(alloc, element)?)?;
+    }
+    Ok(())
 }
 
 /// The codes of the tables that came; where none did, those of the tables in the document.
@@ -248,8 +259,9 @@ fn entries_after(
     entries: Vec<EntryCodes>,
     document: &Table,
 ) -> Result<Vec<EntryCodes>, AllocError>
-    ensures { IfOk result (λ after. after.items
+    ensures codes { IfOk result (λ after. after.items
         ≡ entries_after entries.items (table_view document.now)) }
+    ensures proper { OnOk result (HasProperTables entries.items (table_view document.now)) }
 {
     match entries.as_slice() {
         [] => entries_of(alloc, packages_in(document)),
@@ -262,7 +274,14 @@ fn packages_in(document: &Table) -> &[Value]
     ensures { items_view result.now
         ≡ items_at (get_member (codes "packages") (table_view document.now)) }
 {
-    match document.get("packages") {
+    items_at(document.get("packages"))
+}
+
+/// The elements of a value, where it is an array.
+fn items_at(field: Option<&Value>) -> &[Value]
+    ensures { items_view result.now ≡ items_at (option_map (λ v. view v.now) field.entry) }
+{
+    match field {
         Some(Value::Array(values)) => values.as_slice(),
         _ => &[],
     }
@@ -270,7 +289,8 @@ fn packages_in(document: &Table) -> &[Value]
 
 /// Those of each value, unless a lock may not have so many.
 fn entries_of(alloc: Global, values: &[Value]) -> Result<Vec<EntryCodes>, AllocError>
-    ensures { IfOk result (λ entries. entries.items ≡ kept_of (items_view values.now)) }
+    ensures codes { IfOk result (λ entries. entries.items ≡ kept_of (items_view values.now)) }
+    ensures proper { OnOk result (AreProperTables (items_view values.now)) }
 {
     let mut entries = Vec::new(alloc);
     if values.len() > MOST_ENTRIES {

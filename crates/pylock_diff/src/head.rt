@@ -3,20 +3,23 @@
 ghost use Rattle.std.specs.Prelude.{◌≡◌, ◌++◌, ◌∷◌, [], List, ℕ, IfOk, OnOk, filter, map, not};
 ghost use Rattle.std.specs.Prelude.{option_map, string_bytes};
 ghost use Rattle.std.specs.Option.{option_copied};
+ghost use Rattle.toml.specs.Data.{array};
 ghost use Rattle.toml.specs.View.{items_view, table_view, view};
 ghost use Rattle.pylock_compare.specs.Lent.{found, lent_texts};
 ghost use Rattle.pylock_compare.specs.Rows.{Row, values_at};
 ghost use Rattle.pylock_diff.specs.Compared.{head_of, is_head_key};
 ghost use Rattle.pylock_diff.specs.Head.{HeadKey as HeadKeyValue, head_changes, head_key};
 ghost use Rattle.pylock_diff.specs.Head.{head_rows, is_list_key, key_change, keys_changes};
-ghost use Rattle.pylock_diff.specs.Head.{have_same_value, item_text, joined_texts, list_text};
+ghost use Rattle.pylock_diff.specs.Head.{have_same_value, item_text, list_text};
+ghost use Rattle.pylock_diff.specs.Inner.Kept.{HasProperHead};
 ghost use Rattle.pylock_diff.specs.Inner.Lent.{key_row, lent_keys};
-ghost use Rattle.pytoml_code.specs.Proper.{HasProper};
+ghost use Rattle.pytoml_code.specs.Proper.{IsProper};
 
 use crate::change::{Change, ChangeKind, push_change};
+use crate::hidden::shown_value;
 use crate::texts::owned;
 use pylock_compare::Sides;
-use pytoml_code::{push_code, shown_code};
+use pytoml_code::push_code;
 use std::alloc::{AllocError, Global};
 use std::marker::Model;
 use toml::{Table, Value};
@@ -54,6 +57,7 @@ impl Drop for HeadKey {
 /// The keys of the head of a document, but `packages`, in order.
 pub(crate) fn head_keys(alloc: Global, document: &Table) -> Result<Vec<HeadKey>, AllocError>
     ensures keys { IfOk result (λ keys. keys.items ≡ head_of (table_view document.now)) }
+    ensures proper { OnOk result (HasProperHead (table_view document.now)) }
 {
     let mut keys = Vec::new(alloc);
     for (key, value) in document.iter() {
@@ -72,14 +76,15 @@ fn is_compared(key: &str) -> bool
 }
 
 fn head_key(alloc: Global, key: &str, value: &Value) -> Result<HeadKey, AllocError>
-    ensures { IfOk result (λ one. one ≡ head_key key.now (view value.now)) }
+    ensures key { IfOk result (λ one. one ≡ head_key key.now (view value.now)) }
+    ensures proper { OnOk result (IsProper (view value.now)) }
 {
     let mut code = Vec::new(alloc);
     push_code(&mut code, value)?;
     let text = if is_list_key(key) {
         list_text(alloc, value)?
     } else {
-        shown_code(alloc, code.as_slice())?
+        shown_value(alloc, code.as_slice())?
     };
     let key = String::from_str(alloc, key)?;
     Ok(HeadKey { key, code, text })
@@ -108,21 +113,18 @@ fn list_text(alloc: Global, value: &Value) -> Result<String, AllocError>
     ensures { IfOk result (λ text. string_bytes text ≡ list_text (view value.now)) }
 {
     match value {
-        Value::String(text) => String::from_str(alloc, text.as_str()),
-        Value::Array(items) if items.is_empty() => String::from_str(alloc, "[]"),
         Value::Array(items) => items_text(alloc, items.as_slice()),
-        _ => String::from_str(alloc, ""),
+        _ => String::from_str(alloc, item_text(value)),
     }
 }
 
 fn items_text(alloc: Global, items: &[Value]) -> Result<String, AllocError>
-    ensures { IfOk result (λ text. string_bytes text ≡ joined_texts (items_view items.now)) }
+    ensures { IfOk result (λ text. string_bytes text ≡ list_text (array (items_view items.now))) }
 {
-    let mut text = String::new(alloc);
     let [first, others @ ..] = items else {
-        return Ok(text);
+        return String::from_str(alloc, "[]");
     };
-    text.push_str(item_text(first))?;
+    let mut text = String::from_str(alloc, item_text(first))?;
     for item in others {
         text.push_str(",")?;
         text.push_str(item_text(item))?;
@@ -155,7 +157,8 @@ pub(crate) fn push_head(
     let sides = Sides::new(alloc, olds.as_slice(), news.as_slice())?;
     push_keys(alloc, changes, &sides, LISTS.as_slice())?;
     let others = other_keys(alloc, sides.names.as_slice())?;
-    push_keys(alloc, changes, &sides, others.as_slice())
+    push_keys(alloc, changes, &sides, others.as_slice())?;
+    Ok(())
 }
 
 /// The keys under their names.

@@ -1,11 +1,12 @@
 //! Laws of the definitions alone: each function's contract is a law, and its body is empty but for
 //! laws of the crates below.
 
-ghost use Rattle.std.specs.Prelude.{◌≡◌, ℕ, [], List, length, map, true};
+ghost use Rattle.std.specs.Prelude.{◌≡◌, ℕ, true, [], List, length, map};
+ghost use Rattle.std.specs.List.{AllByRecursion};
 ghost use Rattle.toml.specs.Data.{Members};
 ghost use Rattle.pymark_core.specs.Environment.{EnvironmentValue};
-ghost use Rattle.pylock_readers.specs.Lock.{LockValue};
-ghost use Rattle.pylock_core.specs.Session.State.{NumbersRise, State, apply, first};
+ghost use Rattle.pywheel_core.specs.Tag.{TagValue};
+ghost use Rattle.pylock_core.specs.Session.State.{NumbersRise, State, first};
 ghost use Rattle.pylock_core.specs.Session.Steps.{answer};
 ghost use Rattle.pylock_core.specs.declared.answer.Answer.{Answer};
 ghost use Rattle.pylock_core.specs.declared.answer.Answer.TheVariants.{Plan, Fault};
@@ -16,7 +17,8 @@ ghost use Rattle.pylock_diff.specs.Change.{coming_and_going, turned};
 ghost use Rattle.pylock_diff.specs.Changes.{answer_changes, lock_changes};
 ghost use Rattle.pylock_diff.specs.Compared.{ComparedValue};
 ghost use Rattle.pylock_diff.specs.Same.{HoldSameLock, IsRead};
-ghost use Rattle.pylock_diff.specs.SamePlan.{PickTheSame, is_choice, judged, judging, numberless};
+ghost use Rattle.pylock_diff.specs.SamePicks.{AreAlike, PickSame, after_edits, leaves_entries};
+ghost use Rattle.pylock_diff.specs.SamePlan.{PickTheSame, numberless};
 
 use pylock_core::laws::picks_stand;
 
@@ -26,6 +28,25 @@ pub fn nothing_changes_exactly_where_the_lock_is_the_same()
         → IsRead new after → lock_changes old new ≡ [] → HoldSameLock before after }
     ensures same { (old new : ComparedValue) (before after : Members) → IsRead old before
         → IsRead new after → HoldSameLock before after → lock_changes old new ≡ [] }
+{}
+
+/// Where nothing changes from OLD to NEW, nothing changes of what is installed. Two sessions, one
+/// on each lock, start in the same environment with the same tags and get the same edits of extras,
+/// groups, variables, tags and policies. Where one has a plan, so has the other, and both pick the
+/// same sources of the same entries, whatever their numbers and their order. Where one has a fault,
+/// so has the other, though maybe not the same: the order of the entries says which of several
+/// faults is told.
+///
+/// The same holds of any two states of the same entries, in any order and under any numbers that
+/// increase, whose head, environment, tags and policies are the same.
+pub fn nothing_changes_what_is_installed()
+    ensures locks { (old new : ComparedValue) (before after : Members)
+        (environment : EnvironmentValue) (tags : List TagValue) (edits : List Edit)
+        → IsRead old before → IsRead new after → lock_changes old new ≡ []
+        → AllByRecursion (λ edit. leaves_entries edit ≡ true) edits
+        → PickSame (after_edits edits (first old.lock environment tags))
+        (after_edits edits (first new.lock environment tags)) }
+    ensures states { (one other : State) → AreAlike one other → PickSame one other }
 {}
 
 /// A lock has no change from itself, and neither has a plan.
@@ -63,35 +84,6 @@ pub fn a_fault_is_told_alone()
         → length (answer_changes old new (Fault number code) after) ≡ 1 }
     ensures after { (old new : State) (before : Answer) (number : ℕ) (code : FaultCode)
         → length (answer_changes old new before (Fault number code)) ≡ 1 }
-{}
-
-/// Where nothing changes, wherever one lock gives a plan the other gives the same picks, but for
-/// their numbers and their order. At the start both are judged in the same state, but for the lock.
-pub fn where_nothing_changes_the_plan_is_the_same()
-    ensures start { (old new : ComparedValue) (before after : Members)
-        (environment : EnvironmentValue) (choices : State) → IsRead old before → IsRead new after
-        → lock_changes old new ≡ []
-        → judging new.lock (first old.lock environment choices.tags)
-        ≡ first new.lock environment choices.tags }
-    ensures old_plan { (old new : ComparedValue) (before after : Members) (choices : State)
-        (plan : List Pick) → IsRead old before → IsRead new after → lock_changes old new ≡ []
-        → answer (judging old.lock choices) ≡ Plan plan
-        → PickTheSame (judging old.lock choices) (judging new.lock choices)
-        (answer (judging old.lock choices)) (answer (judging new.lock choices)) }
-    ensures new_plan { (old new : ComparedValue) (before after : Members) (choices : State)
-        (plan : List Pick) → IsRead old before → IsRead new after → lock_changes old new ≡ []
-        → answer (judging new.lock choices) ≡ Plan plan
-        → PickTheSame (judging new.lock choices) (judging old.lock choices)
-        (answer (judging new.lock choices)) (answer (judging old.lock choices)) }
-{}
-
-/// An edit of what entries are judged by does the same to both of two locks with one head, or is
-/// refused for both.
-#[tactic(auto, using(crate::proofs::ChoiceLemmas::choice_for_both))]
-pub fn a_choice_is_one_for_both()
-    ensures { (lock : LockValue) (state : State) (edit : Edit) → is_choice edit ≡ true
-        → state.head ≡ lock.head
-        → apply edit (judging lock state) ≡ judged lock (apply edit state) }
 {}
 
 /// Each pick of an answer is compared: none lacks its entry or its source.

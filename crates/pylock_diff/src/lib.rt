@@ -20,6 +20,7 @@ mod file_changes;
 mod files;
 mod hashes;
 mod head;
+mod hidden;
 mod inner;
 mod item;
 mod keys;

@@ -1,13 +1,15 @@
 //! The sources of a name that one lock alone has.
 
 ghost use Rattle.std.specs.Prelude.{◌≡◌, ◌++◌, ◌∷◌, ◌||◌, [], IfOk, List, OnOk, None, Some, filter};
-ghost use Rattle.std.specs.Prelude.{if◌then◌else◌, map, not, string_bytes};
+ghost use Rattle.std.specs.Prelude.{if◌then◌else◌, is_some, map, not, string_bytes};
+ghost use Rattle.std.specs.BTreeMap.{get};
 ghost use Rattle.std.specs.BTreeSet.{contains};
 ghost use Rattle.std.specs.List.{flat_map, list_any};
 ghost use Rattle.std.specs.Option.{option_copied};
 ghost use Rattle.pylock_core.specs.Session.Picks.{lent_source};
 ghost use Rattle.pylock_diff.specs.Change.{change_of};
 ghost use Rattle.pylock_diff.specs.Inner.Others.{AreOthers, HasSources, HasVersions, HasWholes};
+ghost use Rattle.pylock_diff.specs.Inner.Others.{has_at, holds_at};
 ghost use Rattle.pylock_diff.specs.Item.{ItemValue};
 ghost use Rattle.pylock_diff.specs.Sources.{called, condition_key, file_changes, has_counterpart};
 ghost use Rattle.pylock_diff.specs.Sources.{identity, lone_in, lone_sources, source_text, whole_key};
@@ -170,10 +172,27 @@ fn sources_of<'x>(
 {
     let mut table: BTreeMap<Key<'x>, BTreeSet<Key<'x>>> = BTreeMap::new(alloc);
     for item in items {
-        let set = table.entry(condition_key(alloc, item)?)?.or_default();
-        put_sources(alloc, set, item.sources())?;
+        put_item(alloc, &mut table, item)?;
     }
     Ok(table)
+}
+
+/// Puts in what the sources of an item are.
+fn put_item<'x>(
+    alloc: Global,
+    table: &mut BTreeMap<Key<'x>, BTreeSet<Key<'x>>>,
+    item: &'x Keyed<'x>,
+) -> Result<(), AllocError>
+    ensures conditions { OnOk result ((condition : Texts)
+        → is_some (get texts_cmp table.new condition)
+        ≡ (is_some (get texts_cmp table.old condition)
+        || are_alike condition (condition_key item.now))) }
+    ensures sources { OnOk result ((condition key : Texts) → holds_at table.new condition key
+        ≡ (holds_at table.old condition key || has_at item.now condition key)) }
+{
+    let set = table.entry(condition_key(alloc, item)?)?.or_default();
+    put_sources(alloc, set, item.sources())?;
+    Ok(())
 }
 
 /// Puts in what these sources are.

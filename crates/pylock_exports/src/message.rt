@@ -93,7 +93,7 @@ fn form_text(form: Format, field: Field) -> &'static str {
             "begins with none of https://, http://, file:/// and a letter or digit"
         }
         (_, Field::Url) => "begins with neither https:// nor http://",
-        (_, Field::Host) => "no host, `:` and digits or nothing, and `/` behind the `//`",
+        (_, Field::Host) => "wants a host behind `//`, and then `/`, or a port and `/`",
         (_, Field::Path | Field::Subdirectory) => "isn't a path",
         (_, Field::Hash) => "isn't as long as its algorithm wants it",
         (_, Field::Type) => "none of git, hg, svn, bzr",

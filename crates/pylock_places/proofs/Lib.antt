@@ -2,4 +2,5 @@ pub mod HiddenLemmas
 pub mod MaskLemmas
 pub mod QueryLemmas
 pub mod ShownLemmas
+pub mod TextLemmas
 pub mod UserLemmas

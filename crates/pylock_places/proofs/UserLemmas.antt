@@ -1,8 +1,7 @@
 -- Who a URL names, one byte after another, and by its first `@`.
-use Rattle.std.proofs.Common.{◌≡◌, ◌∙◌, ℕ, ◌+◌, Bool, true, false, ◌==◌, ◌||◌, List, [], ◌∷◌, ◌++◌, length, Option, Some, None, option_map, is_some, unwrap_or, refl, ap, sym, inl, inr, arith}
+use Rattle.std.proofs.Common.{◌≡◌, ◌∙◌, ℕ, Bool, true, false, ◌==◌, ◌||◌, List, [], ◌∷◌, ◌++◌, Option, Some, None, option_map, is_some, unwrap_or, refl, ap, sym, inl, inr}
 use Rattle.std.proofs.Math.Bool.{or-false, or_assoc}
 use Rattle.std.proofs.lemmas.Bool.{cases_Bool, or_parts}
-use Rattle.std.proofs.lemmas.List.{length-append}
 use Rattle.std.specs.List.{list_any}
 use Rattle.std.specs.Option.{option_map_or}
 use Rattle.pytext.specs.Options.{either}
@@ -139,7 +138,3 @@ ended s x y cut ends =
 
 pub no_user : (s : List ℕ) → cut_at 64 s ≡ None → behind_user s ≡ s
 no_user s cut = behind_by s ∙ ap (λ o. unwrap_or o s) (rest_none s (no_cut_says 64 s cut))
-
--- what stands behind a cut is shorter
-pub cut_shorter : (c : ℕ) (s x y : List ℕ) → cut_at c s ≡ Some (x, y) → length s ≡ length x + (1 + length y)
-cut_shorter c s x y cut = ap length (cut_says c s x y cut).0 ∙ (length-append x (c ∷ y) ∙ omega arith)

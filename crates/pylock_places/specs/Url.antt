@@ -30,7 +30,7 @@ behind_scheme [] = None
 behind_scheme (b ∷ rest) =
     if b == 58 then either (behind_slashes rest) (behind_scheme rest) else behind_scheme rest
 
--- a file that is copied from another machine as `ssh` names it: `git@host:path`
+-- a file on another machine, as `ssh` names it: `git@host:path`
 abbrev pub is_remote_path : List ℕ → Bool
 is_remote_path text =
     option_map_or (λ cut. list_any (λ b. b == 64) cut.0 && not (list_any (λ b. b == 47) cut.0))
@@ -44,7 +44,7 @@ is_safe_remote url =
     || (not (is_some (behind_scheme url)) && is_remote_path url)
 
 abbrev pub is_https : List ℕ → Bool
-is_https url = begins (codes "https://") url || begins (codes "file:") url
+is_https url = begins (codes "https://") url
 
 -- ---- who asks
 

@@ -8,9 +8,9 @@ ghost use Rattle.pylock_readers.specs.Entry.FileName.{last_of_path, text_unless_
 ghost use Rattle.pylock_places.specs.FileName.{behind_at, is_named_by_url, masked_front};
 ghost use Rattle.pylock_places.specs.FileName.{may_name_user, shown_file_name, shown_name};
 
-use crate::shown::joined;
-use crate::url::{around, has_credentials};
-use pylock_core::DistributionFile;
+use crate::text::{around, joined};
+use crate::url::has_credentials;
+use pylock_readers::DistributionFile;
 use std::alloc::{AllocError, Global};
 
 /// The file name of a file, as it is shown.

@@ -1,17 +1,22 @@
 //! How URLs, places and file names of a lock are shown: with `***` for what opens them, the user
-//! and each secret of the query.
+//! and each secret of the query. And whether a URL has such, and is of HTTPS.
+//!
+//! What an archive is called in a finding, from `crates/pylock_audit/src/source.rt`:
 //!
 //! ```rust
-//! let text = shown_place(alloc, file.path(), file.url())?;
+//! let place = shown_place(alloc, archive.path(), archive.url())?;
+//! joined(alloc, "archive ", place.as_str())
 //! ```
 #![tactic(auto)]
 
 mod file_name;
 mod query;
 mod shown;
+mod text;
 mod url;
 
 pub use file_name::{shown_file_name, shown_name};
 pub use query::has_secret;
 pub use shown::{file_label, shown_place};
-pub use url::{around, has_byte, has_credentials, is_https, is_safe_remote, shown_url};
+pub use text::{around, joined};
+pub use url::{has_credentials, is_https, is_safe_remote, shown_url};

@@ -10,7 +10,7 @@ ghost use Rattle.pylock_places.specs.Query.{around_mark, before_fragment, before
 ghost use Rattle.pylock_places.specs.Query.{hidden_behind, hidden_pair, hidden_query};
 ghost use Rattle.pylock_places.specs.Query.{hidden_secrets, is_secret, is_secret_key, secret_key};
 
-use crate::url::{around, has_byte};
+use crate::text::{around, has_byte};
 use std::alloc::AllocError;
 
 // ---- where it stands

@@ -1,12 +1,12 @@
 //! How the place of a source is shown, and what a file is called where it is spoken of.
 
-ghost use Rattle.std.specs.Prelude.{◌≡◌, ◌++◌, IfOk, string_bytes};
+ghost use Rattle.std.specs.Prelude.{◌≡◌, IfOk, string_bytes};
 ghost use Rattle.std.specs.Option.{option_copied};
 ghost use Rattle.pylock_places.specs.Shown.{file_label, shown_place};
 
 use crate::file_name::shown_file_name;
 use crate::url::shown_url;
-use pylock_core::DistributionFile;
+use pylock_readers::DistributionFile;
 use std::alloc::{AllocError, Global};
 
 /// The place of a source: its path, else its URL, with `***` for what opens it: the user, and each
@@ -37,13 +37,4 @@ pub fn file_label(alloc: Global, file: &DistributionFile) -> Result<String, Allo
         Some(name) => Ok(name),
         None => shown_place(alloc, file.path(), file.url()),
     }
-}
-
-/// Two texts, one behind the other.
-pub(crate) fn joined(alloc: Global, front: &str, back: &str) -> Result<String, AllocError>
-    ensures { IfOk result (λ text. string_bytes text ≡ front.now ++ back.now) }
-{
-    let mut text = String::from_str(alloc, front)?;
-    text.push_str(back)?;
-    Ok(text)
 }

@@ -1,17 +1,17 @@
 //! What a URL names besides its place, and how it is shown.
 
-ghost use Rattle.std.specs.Prelude.{◌≡◌, ◌==◌, ◌<◌, IfOk, false, is_none, option_map, string_bytes};
+ghost use Rattle.std.specs.Prelude.{◌≡◌, IfOk, false, string_bytes};
 ghost use Rattle.std.specs.List.{list_any};
 ghost use Rattle.std.specs.Option.{option_copied};
-ghost use Rattle.pywheel_core.specs.Texts.{cut_at};
 ghost use Rattle.pylock_places.specs.Inner.User.{password_after, user_in};
 ghost use Rattle.pylock_places.specs.Query.{hidden_secrets};
 ghost use Rattle.pylock_places.specs.Url.{begins, behind_scheme, behind_slashes, behind_user};
-ghost use Rattle.pylock_places.specs.Url.{ends_authority, has_credentials, is_https, is_remote_path};
-ghost use Rattle.pylock_places.specs.Url.{is_mixed, is_safe_remote, masked, names_alone, shown_url};
+ghost use Rattle.pylock_places.specs.Url.{ends_authority, has_credentials, is_https};
+ghost use Rattle.pylock_places.specs.Url.{is_mixed, is_remote_path, is_safe_remote, masked};
+ghost use Rattle.pylock_places.specs.Url.{names_alone, shown_url};
 
 use crate::query::{before_query, has_secret, push_hidden_secrets};
-use crate::shown::joined;
+use crate::text::{around, has_byte, joined};
 use std::alloc::{AllocError, Global};
 
 /// Whether the text begins with the word, ASCII letter case ignored.
@@ -24,11 +24,11 @@ fn begins(word: &[u8], text: &str) -> bool
     }
 }
 
-/// Whether nobody on the way may change what the URL names.
+/// Whether the URL is of HTTPS, so that nobody on the way may change what it names.
 pub fn is_https(url: &str) -> bool
     ensures { result ≡ is_https url.now }
 {
-    begins(b"https://", url) || begins(b"file:", url)
+    begins(b"https://", url)
 }
 
 /// The same of what a version control system encrypts besides.
@@ -49,21 +49,6 @@ fn is_remote_path(text: &str) -> bool
         Some((machine, _)) => has_byte(machine, b'@') && !has_byte(machine, b'/'),
         None => false,
     }
-}
-
-/// Whether the text has this byte.
-pub fn has_byte(text: &str, wanted: u8) -> bool
-    ensures { result ≡ list_any (λ b. b == wanted) text.now }
-{
-    text.bytes().any(|b| b == wanted)
-}
-
-/// What stands before and behind the first such byte.
-pub fn around(text: &str, mark: u8) -> Option<(&str, &str)>
-    requires { mark < 128 }
-    ensures { option_map (λ cut. (cut.0.now, cut.1.now)) result ≡ cut_at mark text.now }
-{
-    text.split_once(mark as char)
 }
 
 /// What stands behind the first `://`.

@@ -5,9 +5,10 @@ ghost use Rattle.pylock_core.specs.Session.State.{first};
 ghost use Rattle.pylock_program.specs.Choices.{after_choices};
 ghost use Rattle.pylock_program.specs.Diff.{after_both, changes_report, installed, locks_report};
 ghost use Rattle.pylock_program.specs.Diff.{plans_report, side_report};
+ghost use Rattle.pylock_diff.specs.Changes.{lock_changes};
 ghost use Rattle.pylock_program.specs.Inner.Telling.{PushesTelling};
 ghost use Rattle.pylock_program.specs.Paths.{machine_read};
-ghost use Rattle.pylock_program.specs.Refusal.{PrintsTelling};
+ghost use Rattle.pylock_program.specs.Refusal.{PrintsTelling, option_shown, refused_file_report};
 ghost use Rattle.pylock_run.specs.Report.Print.{Pushes};
 
 use crate::choices::make_choices;
@@ -20,9 +21,7 @@ use crate::text::diff::push_changes;
 use crate::text::json::push_side_json;
 use pylock_command::{Choice, Form};
 use pylock_core::{EnvError, Lock, LockError, Session};
-use pylock_diff::{
-    Change, Compared, diff_document, lock_changes, plan_changes, read_compared,
-};
+use pylock_diff::{Change, Compared, diff_document, lock_changes, plan_changes, read_compared};
 use pylock_json::push_document;
 use pylock_messages::{Diagnostic, lock_diagnostic};
 use pylock_run::{OpenError, RunFault, Sink, print, push_side_error};
@@ -87,7 +86,10 @@ fn push_locks(
     form: Form,
     old: &Compared,
     new: &Compared,
-) -> Result<u8, AllocError> {
+) -> Result<u8, AllocError>
+    ensures { Pushes out.old.items out.new.items
+        (changes_report form (lock_changes old.now new.now)) result }
+{
     let changes = lock_changes(alloc, old, new)?;
     push_shown(alloc, out, form, &changes)
 }
@@ -104,10 +106,7 @@ fn push_side(
     ensures { PushesTelling out.old.items out.new.items
         (λ told. side_report form told side.now error) result }
 {
-    let told = told_in(
-        form,
-        lock_diagnostic(alloc, file.path, &file.bytes, &error),
-    )?;
+    let told = told_in(form, lock_diagnostic(alloc, file.path, &file.bytes, &error))?;
     match form {
         Form::Lines => push_side_error(out, side, &error)?,
         Form::Json => push_side_json(alloc, out, side, &error, told.as_ref())?,
@@ -174,7 +173,14 @@ fn push_plan_diff(
         Err(LockError::Memory) => return Err(AllocError),
         Err(error) => return push_side(alloc, out, form, "new", sides.new, error),
     };
-    push_installed(alloc, out, form, choices, (old, new), (sides.old.path, machine))
+    push_installed(
+        alloc,
+        out,
+        form,
+        choices,
+        (old, new),
+        (sides.old.path, machine),
+    )
 }
 
 /// The same of two locks that were read, the old one from the file of this path.
@@ -206,7 +212,10 @@ fn push_machine(
     form: Form,
     machine: &MachineInput<'_>,
     refusal: OpenError,
-) -> Result<(u8, Option<Diagnostic>), AllocError> {
+) -> Result<(u8, Option<Diagnostic>), AllocError>
+    ensures { PushesTelling out.old.items out.new.items
+        (λ told. refused_file_report form told refusal) result }
+{
     let told = told_in(
         form,
         refusal_diagnostic(alloc, &refusal, machine.named(), machine.named()),
@@ -241,7 +250,11 @@ fn push_after_choices(
     choices: &[Choice<'_>],
     sessions: (&mut Session, &mut Session),
     path: &str,
-) -> Result<(u8, Option<Diagnostic>), AllocError> {
+) -> Result<(u8, Option<Diagnostic>), AllocError>
+    ensures { PushesTelling out.old.items out.new.items (λ told. after_both form told
+        (after_choices choices.now sessions.entry.0.old.state)
+        (after_choices choices.now sessions.entry.1.old.state)) result }
+{
     let (old, new) = sessions;
     if let Some(choice) = make_choices(alloc, old, choices)? {
         return push_option(alloc, out, form, choice, path);
@@ -261,7 +274,10 @@ fn push_option(
     form: Form,
     choice: Choice<'_>,
     path: &str,
-) -> Result<(u8, Option<Diagnostic>), AllocError> {
+) -> Result<(u8, Option<Diagnostic>), AllocError>
+    ensures { PushesTelling out.old.items out.new.items (λ told.
+        record { text = option_shown form told choice; status = 1 }) result }
+{
     let told = told_in(form, option_diagnostic(alloc, path, choice))?;
     push_refused_option(alloc, out, form, choice, told.as_ref())?;
     Ok((1, told))

@@ -1,5 +1,6 @@
 -- Which findings are worked out: all, or those alone that a strict reading refuses. What is found
--- besides may be much longer than the lock: a file's name stands in the finding of each of its hashes.
+-- besides may be much longer than the lock: a file's name stands in the finding of each of its
+-- hashes.
 use Rattle.std.specs.Prelude.{Bool, true, List, [], if◌then◌else◌, ◌++◌, codes}
 use Rattle.pylock_readers.specs.Entry.{EntryValue}
 use Rattle.pylock_core.specs.Session.Picks.{SourceValue}

@@ -89,7 +89,7 @@ exact d e one other same =
 
 -- ---- the entries
 
-abbrev given : Result (List EntryValue) LockError → List EntryValue
+abbrev pub given : Result (List EntryValue) LockError → List EntryValue
 given (Ok entries) = entries
 given (Err error) = []
 

@@ -1,5 +1,5 @@
 -- Sets by which sources are looked for.
-use Rattle.std.specs.Prelude.{◌≡◌, ◌&&◌, ◌∷◌, Bool, false, List, []}
+use Rattle.std.specs.Prelude.{◌≡◌, ◌&&◌, ◌∷◌, Bool, false, is_some, List, []}
 use Rattle.std.specs.BTreeMap.{BTreeMap, get}
 use Rattle.std.specs.BTreeSet.{BTreeSet, contains}
 use Rattle.std.specs.List.{list_any}
@@ -27,12 +27,19 @@ abbrev pub holds_at : BTreeMap Texts (BTreeSet Texts) → Texts → Texts → Bo
 holds_at table condition key =
     option_map_or (λ set. contains texts_cmp set key) (get texts_cmp table condition) false
 
--- the table has what the sources of these items are
-abbrev pub HasSources : BTreeMap Texts (BTreeSet Texts) → List ItemValue → Type 0
-HasSources table items =
-    (condition key : Texts) → holds_at table condition key
-    ≡ list_any (λ item. are_alike condition (condition_key item)
-    && list_any (λ source. are_alike key (identity source)) item.sources) items
+-- what the sources of an item are, under its version, marker and set of Pythons
+abbrev pub has_at : ItemValue → (condition key : Texts) → Bool
+has_at item condition key =
+    are_alike condition (condition_key item)
+    && list_any (λ source. are_alike key (identity source)) item.sources
+
+-- the table has what the sources of these items are; an item without one has its place there too
+pub record HasSources (table : BTreeMap Texts (BTreeSet Texts)) (items : List ItemValue)
+    : Type 0 where
+  pub conditions : (condition : Texts) → is_some (get texts_cmp table condition)
+      ≡ list_any (λ item. are_alike condition (condition_key item)) items
+  pub sources : (condition key : Texts) → holds_at table condition key
+      ≡ list_any (λ item. has_at item condition key) items
 
 -- what the other lock has of a name
 pub record AreOthers (others : Others) (items : List ItemValue) : Type 0 where

@@ -97,11 +97,7 @@ fn unset_in_any(
     Ok(None)
 }
 
-fn unset_in(
-    alloc: Global,
-    session: &Session,
-    marker: &Marker,
-) -> Result<Option<Var>, AllocError> {
+fn unset_in(alloc: Global, session: &Session, marker: &Marker) -> Result<Option<Var>, AllocError> {
     match marker.evaluate(alloc, session.environment()) {
         Err(EvalFault::Memory) => Err(AllocError),
         Err(EvalFault::Unset(variable)) => Ok(Some(variable)),

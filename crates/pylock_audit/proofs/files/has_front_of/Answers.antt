@@ -2,7 +2,7 @@ use Rattle.std.proofs.Common.{◌≡◌, ◌∙◌, ◌++◌, None, ap, arith, c
 use Rattle.std.specs.List.{list_any}
 use Rattle.pywheel_core.specs.Texts.{cut_at}
 use Rattle.pylock_audit.proofs.FrontLemmas.{next_front, no_front}
-use Rattle.pylock_audit.proofs.UserLemmas.{cut_shorter}
+use Rattle.pylock_places.proofs.TextLemmas.{cut_shorter}
 use Rattle.pylock_audit.specs.Entry.{is_name_of}
 use Rattle.pylock_audit.proofs.files.has_front_of.Goals as goal
 

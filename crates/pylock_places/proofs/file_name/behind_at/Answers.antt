@@ -1,7 +1,7 @@
 use Rattle.std.proofs.Common.{◌≡◌, ◌∙◌, None, arith, option_copied, rules, sym}
 use Rattle.pywheel_core.specs.Texts.{cut_at}
 use Rattle.pylock_places.proofs.ShownLemmas.{next_at, no_at}
-use Rattle.pylock_places.proofs.UserLemmas.{cut_shorter}
+use Rattle.pylock_places.proofs.TextLemmas.{cut_shorter}
 use Rattle.pylock_places.proofs.file_name.behind_at.Goals as goal
 
 pub loop-back-smaller : goal.loop-back-smaller

@@ -1,7 +1,7 @@
 use Rattle.std.proofs.Common.{◌≡◌, ◌∙◌, None, arith, false, refl, rules, sym, true}
 use Rattle.pywheel_core.specs.Texts.{cut_at}
 use Rattle.pylock_places.proofs.QueryLemmas.{any_last, any_more}
-use Rattle.pylock_places.proofs.UserLemmas.{cut_shorter}
+use Rattle.pylock_places.proofs.TextLemmas.{cut_shorter}
 use Rattle.pylock_places.specs.Query.{is_secret}
 use Rattle.pylock_places.proofs.query.any_secret.Goals as goal
 

@@ -1,7 +1,7 @@
 use Rattle.std.proofs.Common.{◌≡◌, ◌++◌, None, OnOk, arith, rules, string_bytes, subst, sym}
 use Rattle.pywheel_core.specs.Texts.{cut_at}
 use Rattle.pylock_places.proofs.QueryLemmas.{shown_last, shown_more}
-use Rattle.pylock_places.proofs.UserLemmas.{cut_shorter}
+use Rattle.pylock_places.proofs.TextLemmas.{cut_shorter}
 use Rattle.pylock_places.specs.Query.{hidden_query}
 use Rattle.pylock_places.proofs.query.push_query.Goals as goal
 

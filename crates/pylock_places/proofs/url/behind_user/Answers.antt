@@ -1,5 +1,6 @@
 use Rattle.std.proofs.Common.{◌∙◌, arith, rules, sym}
-use Rattle.pylock_places.proofs.UserLemmas.{cut_shorter, ended, no_user, past_user}
+use Rattle.pylock_places.proofs.TextLemmas.{cut_shorter}
+use Rattle.pylock_places.proofs.UserLemmas.{ended, no_user, past_user}
 use Rattle.pylock_places.proofs.url.behind_user.Goals as goal
 
 pub returns-then-has_end : goal.returns-then-has_end

@@ -1,7 +1,7 @@
 use Rattle.std.proofs.Common.{◌≡◌, None, arith, rules, string_bytes, sym}
 use Rattle.pywheel_core.specs.Texts.{cut_at}
 use Rattle.pylock_places.proofs.MaskLemmas.{at_colon, at_end, at_scheme}
-use Rattle.pylock_places.proofs.UserLemmas.{cut_shorter}
+use Rattle.pylock_places.proofs.TextLemmas.{cut_shorter}
 use Rattle.pylock_places.specs.Url.{behind_slashes}
 use Rattle.pylock_places.proofs.url.masked.Goals as goal
 
