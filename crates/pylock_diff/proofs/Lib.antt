@@ -1,6 +1,5 @@
 pub mod Answered
 pub mod ChangeLemmas
-pub mod ChoiceLemmas
 pub mod CountLemmas
 pub mod HiddenLemmas
 pub mod InnerLemmas

@@ -13,9 +13,6 @@ use Rattle.pylock_core.specs.Session.State.{State, entry_at}
 use Rattle.pylock_core.specs.declared.answer.Answer.{Answer}
 use Rattle.pylock_core.specs.declared.answer.Answer.TheVariants.{Plan, Fault}
 use Rattle.pylock_core.specs.declared.answer.Pick.{Pick}
-use Rattle.pylock_core.specs.declared.edit.Edit.{Edit}
-use Rattle.pylock_core.specs.declared.edit.Edit.TheVariants as edit
-use Rattle.pylock_core.specs.declared.edit.EditError.{EditError}
 
 -- hashes by algorithm: of each the value that comes last
 abbrev pub HashMap : Type 0
