@@ -1,5 +1,5 @@
 -- Nothing is told of the plans of two states that have the same picks.
-use Rattle.std.proofs.Common.{◌≡◌, ◌∙◌, ◌++◌, ℕ, ◌+◌, List, [], ◌∷◌, map, None, Option, Some, option_map, IsPermutation, refl, sym, ap, subst}
+use Rattle.std.proofs.Common.{◌≡◌, ◌∙◌, ◌++◌, ◌+◌, List, [], ◌∷◌, map, None, Option, Some, option_map, IsPermutation, refl, sym, ap, subst}
 use Rattle.std.proofs.lemmas.List.{map-append}
 use Rattle.std.specs.List.{flat_map}
 use Rattle.std.specs.Option.{option_map_or}
@@ -14,8 +14,8 @@ use Rattle.pylock_core.specs.declared.answer.Answer.TheVariants.{Plan, Fault}
 use Rattle.pylock_core.specs.declared.answer.Pick.{Pick}
 use Rattle.pylock_core.specs.declared.answer.PickSource.{PickSource}
 use Rattle.pylock_diff.specs.Changes.{answer_changes}
-use Rattle.pylock_diff.specs.Inner.Picked.{picked_entries, picked_entry}
-use Rattle.pylock_diff.specs.SamePicks.{HaveSamePicks, PickSame, PickedValue, all_picked, picked_in}
+use Rattle.pylock_diff.specs.Inner.Picked.{picked_entries}
+use Rattle.pylock_diff.specs.SamePicks.{HaveSamePicks, PickSame, PickedValue, all_picked}
 use Rattle.pylock_diff.specs.SamePlan.{numberless}
 use Rattle.pylock_diff.proofs.CountLemmas.{count_joined, counts_permute, total, total_permuted}
 use Rattle.pylock_diff.proofs.PlanLemmas.{Picked, answers_same, value_exact, value_of, values_seen, whole_key}

@@ -47,7 +47,7 @@ module _ (known : List ItemValue) (item : ItemValue) where
       (λ i. cond (versioned i && not (not (none i) && has_counterpart known item)) lone [])
       ∙ by (has_counterpart known item)
       (all_stay (has_source known item) (λ source. any_both (λ other. are_alike (condition_key item) (condition_key other))
-        (λ other. list_any (λ s. are_alike (identity source) (identity s)) other.sources) known none) item.sources)
+      (λ other. list_any (λ s. are_alike (identity source) (identity s)) other.sources) known none) item.sources)
     where
       by : (b : Bool) → lone ≡ item.sources → cond (not b) lone [] ≡ cond b [] item.sources
       by true all = refl
