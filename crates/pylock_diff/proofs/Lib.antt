@@ -5,6 +5,7 @@ pub mod HiddenLemmas
 pub mod InnerLemmas
 pub mod KeptLemmas
 pub mod KeyLemmas
+pub mod MachineLemmas
 pub mod MemberLemmas
 pub mod OtherLemmas
 pub mod PartnerLemmas

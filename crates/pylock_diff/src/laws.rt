@@ -86,6 +86,14 @@ pub fn a_fault_is_told_alone()
         → length (answer_changes old new before (Fault number code)) ≡ 1 }
 {}
 
+/// Where two states have the same picks, as those of two locks have between which nothing changes,
+/// nothing changes of their answers, wherever one gives a plan.
+#[tactic(auto, using(crate::proofs::MachineLemmas::plan_untold))]
+pub fn the_same_picks_change_nothing()
+    ensures { (one other : State) (plan : List Pick) → PickSame one other → answer one ≡ Plan plan
+        → answer_changes one other (answer one) (answer other) ≡ [] }
+{}
+
 /// Each pick of an answer is compared: none lacks its entry or its source.
 #[tactic(auto, using(crate::proofs::StandLemmas::all_values))]
 pub fn no_pick_is_left_out()
