@@ -9,7 +9,7 @@ use Rattle.pylock_core.specs.declared.answer.Pick.{Pick}
 use Rattle.pylock_readers.specs.Entry.{EntryValue}
 use Rattle.pylock_diff.specs.Compared.{EntryCodesValue}
 use Rattle.pylock_diff.specs.Inner.Picked.{lent_pick, picked_codes, picked_entries, picked_entry, picked_row}
-use Rattle.pylock_diff.specs.Item.{ItemValue, pick_item, pick_items, picked_item}
+use Rattle.pylock_diff.specs.Item.{ItemValue, pick_items, picked_item}
 use Rattle.pylock_diff.specs.declared.item.Picked.{Picked}
 
 by_source : (entry : EntryValue) (found : Option SourceValue)

@@ -1,5 +1,5 @@
 -- The codes of the keys of a table.
-use Rattle.std.specs.Prelude.{ℕ, List, [], ◌∷◌, map, string_bytes}
+use Rattle.std.specs.Prelude.{ℕ, List, [], ◌∷◌, string_bytes}
 use Rattle.std.specs.Global.{Global}
 use Rattle.std.specs.declared.string.String.{String}
 use Rattle.std.specs.declared.vec.Vec.{Vec}

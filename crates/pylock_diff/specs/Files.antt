@@ -1,7 +1,7 @@
 -- The files of a name: wheels and sdists by their file names, and archives by their places. A file
 -- whose bytes changed under its name is what an auditor looks for, so it is told whatever else
 -- changed.
-use Rattle.std.specs.Prelude.{ℕ, not, ◌&&◌, ◌++◌, List, [], ◌∷◌, codes, map, Option}
+use Rattle.std.specs.Prelude.{ℕ, not, ◌&&◌, ◌++◌, List, [], ◌∷◌, codes, Option}
 use Rattle.std.specs.Prelude.{Some, None, is_some, if◌then◌else◌}
 use Rattle.std.specs.List.{flat_map}
 use Rattle.std.specs.Option.{option_map_or}

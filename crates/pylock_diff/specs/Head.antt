@@ -1,9 +1,9 @@
 -- The head of a lock (PEP 751), key by key.
-use Rattle.std.specs.Prelude.{ℕ, Bool, true, false, ◌++◌, not, List, [], ◌∷◌, codes, filter, map, Option}
-use Rattle.std.specs.Prelude.{Some, None, option_map, if◌then◌else◌}
+use Rattle.std.specs.Prelude.{ℕ, Bool, true, false, ◌++◌, not, List, [], ◌∷◌, codes, filter, map}
+use Rattle.std.specs.Prelude.{Option, Some, None, option_map, if◌then◌else◌}
 use Rattle.std.specs.List.{flat_map, list_any}
 use Rattle.std.specs.Str.{bytes_eq}
-use Rattle.toml.specs.Data.{Data, Items, array, as_str, item, no_items, string}
+use Rattle.toml.specs.Data.{Data, Items, array, item, no_items, string}
 use Rattle.pylock_compare.specs.Rows.{Row, in_order, names_of, values_at}
 use Rattle.pytoml_code.specs.Code.{code}
 use Rattle.pylock_diff.specs.Change.{ChangeValue, change_of, told_where}

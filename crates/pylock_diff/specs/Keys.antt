@@ -75,8 +75,8 @@ key_changes name told key olds news =
     told_where (not (is_told told key) && not (are_same_values olds news))
     (change_of kind.Key name (Some (key_text key olds)) (Some (key_text key news)))
 
-abbrev pub changes_by : (ItemValue → Rows) → List ℕ → List ChangeValue → (olds news : List ItemValue)
-    → List ChangeValue
+abbrev pub changes_by : (ItemValue → Rows) → List ℕ → List ChangeValue
+    → (olds news : List ItemValue) → List ChangeValue
 changes_by rows name told olds news =
     under_each (key_changes name told) (placed_rows rows 0 olds) (placed_rows rows 0 news)
 

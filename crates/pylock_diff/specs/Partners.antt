@@ -1,5 +1,5 @@
--- Partners: entries of a name that are alike in both locks in all keys, known and unknown. They drop
--- out first, one to one; the rows speak of the rest.
+-- Partners: entries of a name that are alike in both locks in all keys, known and unknown. They
+-- drop out first, one to one; the rows speak of the rest.
 use Rattle.std.specs.Prelude.{List, [], ◌∷◌, map, Some}
 use Rattle.std.specs.List.{flat_map}
 use Rattle.pylock_compare.specs.Partners.{are_alone, where_true}

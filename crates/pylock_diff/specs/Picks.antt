@@ -1,7 +1,7 @@
 -- The fields of a pick, as keys with codes.
 use Rattle.std.specs.Prelude.{ℕ, ◌++◌, List, [], ◌∷◌, codes, Option}
 use Rattle.std.specs.Option.{option_map_or}
-use Rattle.toml.specs.Data.{Data, Members, member, no_members, string, table}
+use Rattle.toml.specs.Data.{Members, no_members, string, table}
 use Rattle.pytoml.specs.Members.{with_member}
 use Rattle.pylock_readers.specs.Entry.{ArchiveValue, DirectoryValue, EntryValue, FileValue}
 use Rattle.pylock_readers.specs.Entry.{LocationValue, VcsValue, file_name}

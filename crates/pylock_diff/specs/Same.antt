@@ -1,6 +1,7 @@
 -- When two documents hold the same lock: the same head, but for who made it, and the same entries,
 -- each with all its keys, known and unknown, as values of TOML. The order of entries doesn't count,
--- nor that of keys, which stand in order in a table, nor how TOML writes them; lists count in order.
+-- nor that of keys, which stand in order in a table, nor how TOML writes them; lists count in
+-- order.
 use Rattle.std.specs.Prelude.{◌≡◌, ℕ, true, List, [], ◌∷◌, codes, Ok}
 use Rattle.std.specs.List.Sorted.{IsPermutation}
 use Rattle.toml.specs.Data.{Data, Items, Members, get_member, item, no_items}

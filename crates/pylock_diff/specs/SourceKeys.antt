@@ -1,7 +1,7 @@
 -- The keys of an entry's sources of which no row of a name tells: `size`, `upload-time` and those
--- that PEP 751 doesn't name; and where a checkout or an archive has a path, its URL, since its place
--- is the path.
-use Rattle.std.specs.Prelude.{ℕ, Bool, true, not, ◌++◌, ◌&&◌, ◌||◌, List, [], ◌∷◌, codes, filter}
+-- that PEP 751 doesn't name; and where a checkout or an archive has a path, its URL, since its
+-- place is the path.
+use Rattle.std.specs.Prelude.{ℕ, Bool, not, ◌++◌, ◌&&◌, ◌||◌, List, [], ◌∷◌, codes, filter}
 use Rattle.std.specs.Prelude.{is_some, Option, Some}
 use Rattle.std.specs.List.{list_any}
 use Rattle.std.specs.Str.{bytes_eq}

@@ -1,5 +1,5 @@
 -- The versions of a name (PEP 440).
-use Rattle.std.specs.Prelude.{ℕ, not, List, ◌∷◌, codes, map, Option, Some, option_map}
+use Rattle.std.specs.Prelude.{ℕ, not, List, ◌∷◌, codes, map, Option, option_map}
 use Rattle.std.specs.Prelude.{Result, Ok, Err}
 use Rattle.pyver_core.specs.Parsed.{parsed_version}
 use Rattle.pyver_core.specs.Version.OrderKey.{order_key}
@@ -25,8 +25,8 @@ version_key item = option_map text_key item.version
 abbrev pub version_keys : List ItemValue → Texts
 version_keys items = map version_key items
 
--- the versions in order of entries, joined by `,`, `-` for an entry without one; nothing where there
--- is no entry
+-- the versions in order of entries, joined by `,`, `-` for an entry without one; nothing where
+-- there is no entry
 abbrev pub versions_text : List ItemValue → Option (List ℕ)
 versions_text items = joined_if_any (codes ",") (map (λ item. or_dash item.version) items)
 

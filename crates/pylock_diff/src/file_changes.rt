@@ -344,7 +344,10 @@ fn push_places(
     url: Option<&str>,
 ) -> Result<(), AllocError>
     ensures { OnOk result (map string_bytes list.new.items ≡ map string_bytes list.old.items
-        ++ shown_places (record { url = option_copied url.entry; path = option_copied path.entry })) }
+        ++ shown_places (record {
+          url = option_copied url.entry;
+          path = option_copied path.entry;
+        })) }
 {
     if path.is_some() {
         list.push(shown_place(alloc, path, None)?)?;

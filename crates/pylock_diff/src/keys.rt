@@ -35,8 +35,8 @@ pub(crate) fn push_inner_keys(
     push_each(alloc, changes, name, &[], olds.as_slice(), news.as_slice())
 }
 
-/// Adds a line for each key of the entries that differs, entry by entry, unless one of these changes
-/// tells of it.
+/// Adds a line for each key of the entries that differs, entry by entry, unless one of these
+/// changes tells of it.
 pub(crate) fn push_keys(
     alloc: Global,
     changes: &mut Vec<Change>,

@@ -103,7 +103,8 @@ fn push_shared<'a>(
     push_rest(alloc, changes, name, olds.as_slice(), news.as_slice())
 }
 
-/// Adds what the rows tell of the items that have no partner, and then the keys of which they don't.
+/// Adds what the rows tell of the items that have no partner, and then the keys of which they
+/// don't.
 fn push_rest<'a>(
     alloc: Global,
     changes: &mut Vec<Change>,

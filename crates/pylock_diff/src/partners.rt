@@ -11,8 +11,8 @@ use crate::item::Item;
 use pylock_compare::{Key, are_alone};
 use std::alloc::{AllocError, Global};
 
-/// Whether the items have the same keys, one by one, as nearly each has of two locks that follow one
-/// another: then each has a partner. It takes no memory.
+/// Whether the items have the same keys, one by one, as nearly each has of two locks that follow
+/// one another: then each has a partner. It takes no memory.
 pub(crate) fn have_same_keys(olds: &[Item<'_>], news: &[Item<'_>]) -> bool
     ensures { IsTrue result
         → map item_key (lent_items olds.now) ≡ map item_key (lent_items news.now) }

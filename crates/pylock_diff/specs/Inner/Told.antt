@@ -2,7 +2,8 @@
 use Rattle.std.specs.Prelude.{ℕ, Bool, not, ◌&&◌, ◌||◌, codes, is_some, List}
 use Rattle.std.specs.Str.{bytes_eq}
 use Rattle.toml.specs.Data.{Members, get_member}
-use Rattle.pylock_diff.specs.SourceKeys.{archive_keys, directory_keys, file_keys, is_one_of, vcs_keys}
+use Rattle.pylock_diff.specs.SourceKeys.{archive_keys, directory_keys, file_keys, is_one_of}
+use Rattle.pylock_diff.specs.SourceKeys.{vcs_keys}
 use Rattle.pylock_diff.specs.declared.inner.SourceTable.{SourceTable}
 use Rattle.pylock_diff.specs.declared.inner.SourceTable.TheVariants as kinds
 
