@@ -5,7 +5,7 @@
 //! What the program prints of two locks, from `crates/pylock_program/src/diff.rt`:
 //!
 //! ```rust
-//! let changes = lock_changes(alloc, &old, &new)?;
+//! let changes = lock_changes(alloc, old, new)?;
 //! push_shown(alloc, out, form, &changes)
 //! ```
 #![tactic(auto)]

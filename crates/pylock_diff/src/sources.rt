@@ -23,7 +23,7 @@ use crate::conditions::bytes_of;
 use crate::item::Keyed;
 use pylock_compare::Key;
 use pylock_core::{DistributionFile, PickedSource, directory_word};
-use pylock_places::{file_label, shown_place};
+use pylock_places::{file_label, joined, shown_place};
 use std::alloc::{AllocError, Global};
 use std::collections::{BTreeMap, BTreeSet};
 
@@ -384,26 +384,17 @@ fn source_text(alloc: Global, source: PickedSource<'_>) -> Result<String, AllocE
     match source {
         PickedSource::Vcs(vcs) => {
             let place = shown_place(alloc, vcs.path(), vcs.url())?;
-            behind(alloc, "vcs ", place.as_str())
+            joined(alloc, "vcs ", place.as_str())
         }
         PickedSource::Directory(directory) => {
-            let word = behind(alloc, directory_word(directory), " ")?;
-            behind(alloc, word.as_str(), directory.path())
+            let word = joined(alloc, directory_word(directory), " ")?;
+            joined(alloc, word.as_str(), directory.path())
         }
         PickedSource::Archive(archive) => {
             let place = shown_place(alloc, archive.path(), archive.url())?;
-            behind(alloc, "archive ", place.as_str())
+            joined(alloc, "archive ", place.as_str())
         }
-        PickedSource::Wheel(file) => behind(alloc, "wheel ", file_label(alloc, file)?.as_str()),
-        PickedSource::Sdist(file) => behind(alloc, "sdist ", file_label(alloc, file)?.as_str()),
+        PickedSource::Wheel(file) => joined(alloc, "wheel ", file_label(alloc, file)?.as_str()),
+        PickedSource::Sdist(file) => joined(alloc, "sdist ", file_label(alloc, file)?.as_str()),
     }
-}
-
-/// Two texts, one behind the other.
-fn behind(alloc: Global, front: &str, back: &str) -> Result<String, AllocError>
-    ensures { IfOk result (λ text. string_bytes text ≡ front.now ++ back.now) }
-{
-    let mut text = String::from_str(alloc, front)?;
-    text.push_str(back)?;
-    Ok(text)
 }

@@ -2,7 +2,7 @@
 //! another. So values are compared, ordered and kept as bytes, in about the room of their text, and
 //! shown when they have to be.
 //!
-//! From `crates/pylock_diff/src/kept.rt`:
+//! From `crates/pylock_diff/src/codes.rt`:
 //!
 //! ```rust
 //! let mut code = Vec::new(alloc);
