@@ -7,7 +7,7 @@ ghost use Rattle.pylock_program.specs.Diff.{after_both, changes_report, installe
 ghost use Rattle.pylock_program.specs.Diff.{plans_report, side_report};
 ghost use Rattle.pylock_diff.specs.Changes.{lock_changes};
 ghost use Rattle.pylock_program.specs.Inner.Telling.{PushesTelling};
-ghost use Rattle.pylock_program.specs.Paths.{machine_read};
+ghost use Rattle.pylock_program.specs.Inner.Machine.{machine_read};
 ghost use Rattle.pylock_program.specs.Refusal.{PrintsTelling, option_shown, refused_file_report};
 ghost use Rattle.pylock_run.specs.Report.Print.{Pushes};
 
@@ -252,8 +252,8 @@ fn push_after_choices(
     path: &str,
 ) -> Result<(u8, Option<Diagnostic>), AllocError>
     ensures { PushesTelling out.old.items out.new.items (λ told. after_both form told
-        (after_choices choices.now sessions.entry.0.old.state)
-        (after_choices choices.now sessions.entry.1.old.state)) result }
+        (after_choices choices.now sessions.entry.0.now.state)
+        (after_choices choices.now sessions.entry.1.now.state)) result }
 {
     let (old, new) = sessions;
     if let Some(choice) = make_choices(alloc, old, choices)? {
@@ -276,7 +276,7 @@ fn push_option(
     path: &str,
 ) -> Result<(u8, Option<Diagnostic>), AllocError>
     ensures { PushesTelling out.old.items out.new.items (λ told.
-        record { text = option_shown form told choice; status = 1 }) result }
+        record { text = option_shown form told choice.entry; status = 1 }) result }
 {
     let told = told_in(form, option_diagnostic(alloc, path, choice))?;
     push_refused_option(alloc, out, form, choice, told.as_ref())?;
