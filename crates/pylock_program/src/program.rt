@@ -16,6 +16,7 @@ ghost use Rattle.pylock_program.specs.Strict.{found_by};
 ghost use Rattle.pylock_command.specs.declared.form.Form.TheVariants as form;
 ghost use Rattle.pylock_readers.specs.Input.{input_env_of};
 ghost use Rattle.pylock_run.specs.Report.{state_in};
+ghost use Rattle.pylock_program.specs.Refusal.{PrintsTelling};
 ghost use Rattle.pylock_run.specs.Report.Print.{Prints};
 ghost use Rattle.pylock_run.specs.Report.Run.{IsRunShown};
 ghost use Rattle.pylock_run.specs.declared.report.opening.OpenError.{OpenError as OpenRefusal};
