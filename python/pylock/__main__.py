@@ -10,6 +10,7 @@ import argparse
 import json
 import os
 import sys
+from itertools import groupby
 from typing import Any, List, Optional, Sequence, Tuple
 
 from . import _library as _native
@@ -74,13 +75,24 @@ def _edits(words: Any, lock: bytes) -> List[Tuple[str, str, Tuple[str, ...]]]:
     return edits
 
 
+def _make(session: _native.KeptSession, edits: List[Tuple[str, str, Tuple[str, ...]]]) -> None:
+    """Makes the edits, those of names that follow each other at once."""
+    for kind, run in groupby(edits, lambda option: option[2][0]):
+        several = list(run)
+        if not _native.session_edit_names(session, kind, [text for _, text, _ in several]):
+            for option in several:
+                _edit(session, *option)
+
+
 def _edit(session: _native.KeptSession, word: str, text: str, edit: Tuple[str, ...]) -> None:
     try:
         if not edit[0]:
             raise _Refused(word, text, "no =")
         if edit[0] == "policy" and text == ":all:":
-            for entry in json.loads(_native.session_explain(session, True)[0])["entries"]:
-                _native.session_edit(session, "policy", entry["name"], edit[2])
+            # the entries of a name may be many: one edit is of all of them
+            entries = json.loads(_native.session_explain(session, True)[0])["entries"]
+            for name in dict.fromkeys([entry["name"] for entry in entries]):
+                _native.session_edit(session, "policy", name, edit[2])
         else:
             _native.session_edit(session, *edit)
     except InvalidEdit as error:
@@ -143,14 +155,13 @@ def _report(words: Any) -> int:
         session = started
     else:
         session = _native.session_start(lock, environment)
-    for word, text, edit in _edits(words, lock):
-        try:
-            _edit(session, word, text, edit)
-        except _Refused as refusal:
-            word, text, why = refusal.args
-            _print(_refused(["refused", word, _field(text)], False) if not words.json else _refused([word, text], True))
-            _tell("--%s: `%s`: %s" % (word, text, why))
-            return 1
+    try:
+        _make(session, _edits(words, lock))
+    except _Refused as refusal:
+        word, text, why = refusal.args
+        _print(_refused(["refused", word, _field(text)], False) if not words.json else _refused([word, text], True))
+        _tell("--%s: `%s`: %s" % (word, text, why))
+        return 1
     call = _native.session_answer if words.command == "plan" else _native.session_explain
     text, is_plan = call(session, words.json)
     _print(text)

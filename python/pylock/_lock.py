@@ -4,6 +4,8 @@ from __future__ import annotations
 
 import json
 import threading
+from itertools import groupby
+from operator import itemgetter
 from typing import (
     TYPE_CHECKING, Any, Dict, Iterable, List, Mapping, NamedTuple, NoReturn, Optional, Tuple, TypedDict, Union,
 )
@@ -193,17 +195,27 @@ def _explanation(text: str) -> Explanation:
     )
 
 
+class _ThisThread(threading.local):
+    """An object of each thread: the number of a thread that ended may be another one's."""
+
+    def __init__(self) -> None:
+        self.token = object()
+
+
+_this_thread = _ThisThread()
+
+
 class _OfThread:
     """What stays on the thread that made it, and is neither copied nor pickled."""
 
     __slots__ = ("_thread",)
 
     def _check_thread(self) -> None:
-        if threading.get_ident() != self._thread:
+        if _this_thread.token is not self._thread:
             raise WrongThread("a %s is used on the thread that made it alone" % type(self).__name__)
 
     def _keep_thread(self) -> None:
-        self._thread = threading.get_ident()
+        self._thread = _this_thread.token
 
     def __reduce_ex__(self, argument: Any = None) -> NoReturn:
         raise TypeError("a %s can't be copied or pickled" % type(self).__name__)
@@ -246,6 +258,15 @@ class Session(_OfThread):
     def _edit(self, edit: str, *texts: str, number: Optional[int] = None) -> int:
         self._check_thread()
         return _native.session_edit(self._kept, edit, *texts, number=number)
+
+    def _make(self, edits: Iterable[Tuple[str, ...]]) -> None:
+        """Makes edits of texts, one after another; those that follow each other and are one for several names at once."""
+        self._check_thread()
+        for edit, run in groupby(edits, itemgetter(0)):
+            several = list(run)
+            if not _native.session_edit_names(self._kept, edit, [texts[1] for texts in several]):
+                for texts in several:
+                    self._edit(*texts)
 
     def set(self, variable: str, value: str) -> int:
         """Gives a variable of markers a text."""
@@ -492,7 +513,8 @@ class Lock(_OfThread):
         edits += [("add_group", name) for name in options.get("groups", ())]
         edits += [("drop_group", name) for name in options.get("without_groups", ())]
         for name, policy in options.get("policies", ()):
-            names = [package.name for package in self.packages] if name == ":all:" else [name]
+            # the entries of a name may be many: one edit is of all of them
+            names = dict.fromkeys([package.name for package in self.packages]) if name == ":all:" else (name,)
             edits += [("policy", each, policy) for each in names]
         edits += [("set", name, value) for name, value in (options.get("variables") or {}).items()]
         return edits
@@ -505,8 +527,7 @@ class Lock(_OfThread):
         if edits:
             # what is edited isn't kept for the next question
             self._session = None
-            for edit in edits:
-                session._edit(*edit)
+            session._make(edits)
         return session
 
     def plan(self, environment: AnyEnvironment, **options: Unpack[Options]) -> List[Pick]:

@@ -16,11 +16,12 @@ those of `packaging` up to 26.0.
 from __future__ import annotations
 
 import abc
+from itertools import accumulate, islice
 from operator import attrgetter
-from typing import Any, Callable, Iterable, Iterator, List, Optional, Tuple, TypeVar, Union, overload
+from typing import Any, Callable, Collection, Dict, Iterable, Iterator, List, Optional, Tuple, TypeVar, Union, overload
 
 from . import _native
-from ._errors import InvalidSpecifier
+from ._errors import InvalidSpecifier, InvalidVersion
 from .version import Version
 
 __all__ = ["BaseSpecifier", "InvalidSpecifier", "Specifier", "SpecifierSet"]
@@ -28,6 +29,8 @@ __all__ = ["BaseSpecifier", "InvalidSpecifier", "Specifier", "SpecifierSet"]
 UnparsedVersion = Union[Version, str]
 UnparsedVersionVar = TypeVar("UnparsedVersionVar", bound=UnparsedVersion)
 _Item = TypeVar("_Item")
+# an epoch and a release without zeros at its end
+_Release = Tuple[int, Tuple[int, ...]]
 
 
 def _given(item: UnparsedVersion) -> str:
@@ -405,8 +408,15 @@ class SpecifierSet(_Judge):
         items = self._items()
         if not items:
             return False
-        tried = self._exact.operands if self._exact is not None else _witnesses(items)
-        return not any(self.contains(version) for version in tried)
+        if self._exact is not None:
+            operands = set(self._exact.operands)
+            return len(operands) > 1 or not self.contains(operands.pop())
+        witnesses = _Witnesses(items)
+        # one of the first few is mostly enough
+        if any(map(self.contains, islice(witnesses, 100))):
+            return False
+        wants_final = self._forced is False
+        return all([wants_final and _native.phase(version) for version in witnesses.admitted_by_all()])
 
     def __str__(self) -> str:
         string = _native.set_string(self._text)
@@ -468,36 +478,126 @@ def _specifier(one: Union[Specifier, str]) -> Specifier:
 # ---- whether any version is admitted ----
 
 
-def _witnesses(items: Iterable[Specifier]) -> Iterator[str]:
+class _Witnesses:
     """Versions of which one is in each stretch of the order of versions that the specifiers, none by `===`, bound, and
     a final release wherever the stretch has one.
 
     The bounds lie at an operand, around its local versions, its post-releases and all that begins with its release. So
-    the versions next to these are enough.
+    the versions next to these are enough, and those next to the operand of one specifier for the stretches of that one.
     """
-    operands = [Version(item.version[:-2] if item.version.endswith(".*") else item.version) for item in items]
-    # deeper than all operands: nothing that is named lies between a release and this one behind it
-    depth = max(len(operand.release) for operand in operands) + 1
-    # a local version that is nobody's
-    local = "+" + "x" * (1 + max(len(operand.local or "") for operand in operands))
-    yield "0.dev0"
-    yield "0"
-    for operand in operands:
+
+    def __init__(self, items: Iterable[Specifier]) -> None:
+        self._items = list(items)
+        self._operands = [
+            Version(item.version[:-2] if item.version.endswith(".*") else item.version) for item in self._items
+        ]
+        self._local = "+" + _nobodys({operand.local for operand in self._operands})
+        self._behind = self._texts_behind()
+
+    def _texts_behind(self) -> Dict[_Release, Tuple[str, ...]]:
+        """For each release that is named, texts right behind all that it begins with zeros alone: nothing that is named
+        lies between, for they are deeper than the next release where there is a bound."""
+        bounds = sorted({key for operand in self._operands for key in _bounding(operand)})
+        behind = {}
+        for (epoch, release), (_, following) in zip(bounds, [*bounds[1:], (0, ())]):
+            depth = max(len(release), len(following))
+            texts = map(str, (*release, *[0] * (depth - len(release)), 1))
+            behind[epoch, release] = self._variants("%d!%s" % (epoch, ".".join(texts)))
+        return behind
+
+    def _variants(self, stem: str) -> Tuple[str, ...]:
+        """The version, a local one of it, and its first development release."""
+        if ".dev" in stem:
+            return stem, stem + self._local
+        return stem, stem + self._local, stem + ".dev0"
+
+    def _of(self, operand: Version) -> Iterator[str]:
+        """Those next to an operand, and the first of all versions."""
+        yield "0.dev0"
+        yield "0"
         yield str(operand)
-        for stem in _stems(operand, depth):
-            for text in (stem, stem + local, stem + ".dev0"):
-                yield text
+        for stem in _stems(operand):
+            yield from self._variants(stem)
+        yield from self._behind[operand.epoch, _without_zeros(operand.release)]
+
+    def __iter__(self) -> Iterator[str]:
+        for operand in self._operands:
+            yield from self._of(operand)
+
+    def admitted_by_all(self) -> List[Version]:
+        """Those that each specifier admits. Between two versions next to its operand a specifier changes from one answer
+        to the other once at most, so it is asked of few."""
+        made: Dict[str, Version] = {}
+        for text in dict.fromkeys(self):
+            try:
+                made[text] = Version(text)
+            except InvalidVersion:
+                # a number behind the last that there is
+                continue
+        order = sorted(set(made.values()))
+        at = {version: place for place, version in enumerate(order)}
+        places = {text: at[version] for text, version in made.items()}
+        # how many specifiers refuse the version of a place, less those that refuse the one before
+        more = [0] * len(order)
+        for item, operand in zip(self._items, self._operands):
+            admits = item._passes_by_order
+            begin, admitted = 0, True
+            for place in sorted({places[text] for text in self._of(operand) if text in places}):
+                if admits(order[place]) != admitted:
+                    admitted = not admitted
+                    begin = _first(begin, place, lambda tried: admits(order[tried]) == admitted)
+                    more[begin] += -1 if admitted else 1
+                begin = place + 1
+        return [version for version, refusing in zip(order, accumulate(more)) if not refusing]
 
 
-def _stems(operand: Version, depth: int) -> Iterator[str]:
+def _first(begin: int, end: int, holds: Callable[[int], bool]) -> int:
+    """The first of these numbers of which it holds, as it does of all behind that one and of the last."""
+    while begin < end:
+        middle = (begin + end) // 2
+        if holds(middle):
+            end = middle
+        else:
+            begin = middle + 1
+    return end
+
+
+def _without_zeros(release: Tuple[int, ...]) -> Tuple[int, ...]:
+    """The release without the zeros at its end, which don't count."""
+    end = len(release)
+    while end and not release[end - 1]:
+        end -= 1
+    return release[:end]
+
+
+def _followers(release: Tuple[int, ...]) -> Iterator[Tuple[int, ...]]:
+    """The releases behind all that begins with this one, or with this one but for its last number."""
+    for length in {len(release), max(len(release) - 1, 1)}:
+        yield (*release[: length - 1], release[length - 1] + 1)
+
+
+def _bounding(operand: Version) -> Iterator[_Release]:
+    """The releases at which an operand may be a bound."""
+    for release in (operand.release, *_followers(operand.release)):
+        yield operand.epoch, _without_zeros(release)
+
+
+def _nobodys(locals_: Collection[Optional[str]]) -> str:
+    """A local version that is none of these."""
+    number = 0
+    while "x%d" % number in locals_:
+        number += 1
+    return "x%d" % number
+
+
+def _stems(operand: Version) -> Iterator[str]:
     """The public texts next to a version, without or with another development release."""
     epoch, release = "%d!" % operand.epoch, operand.release
     base = epoch + ".".join(map(str, release))
     yield base
     yield base + ".post0"
-    yield base + ".0" * (depth - len(release)) + ".1"
-    for length in {len(release), max(len(release) - 1, 1)}:
-        yield epoch + ".".join(map(str, (*release[: length - 1], release[length - 1] + 1)))
+    for follower in _followers(release):
+        yield epoch + ".".join(map(str, follower))
     if operand.pre is not None:
         letter, number = operand.pre
         yield "%s%s%d" % (base, letter, number + 1)

@@ -1,5 +1,5 @@
 -- The changes and the commands of C. Their texts are judged as texts first, from the left.
-use Rattle.std.specs.Prelude.{ℕ, List, [], ◌∷◌, Result, Ok}
+use Rattle.std.specs.Prelude.{ℕ, List, [], ◌∷◌, map, Result, Ok}
 use Rattle.std.specs.List.{slice_split}
 use Rattle.std.specs.Result.{result_map_both}
 use Rattle.pytext.specs.Results.{◌>>=◌}
@@ -21,6 +21,19 @@ use Rattle.pylock_run.specs.declared.line.commands.Command.TheVariants as comman
 use Rattle.pylock_run.specs.declared.line.refusal.LineRefusal.{LineRefusal}
 use Rattle.pylock_run.specs.declared.line.refusal.LineRefusal.TheVariants as line
 use Rattle.pylock_c.specs.Text.{text_argument}
+
+-- ---- lists
+
+-- the texts of a list, with an LF between two; none where there is no text
+abbrev pub listed_texts : List ℕ → List (List ℕ)
+listed_texts [] = []
+listed_texts (b ∷ bs) = slice_split is_lf (b ∷ bs)
+
+-- the normal forms of a list of names, which are any texts
+abbrev pub names_argument : List ℕ → Result (List (List ℕ)) LineRefusal
+names_argument bytes = do
+  text ← text_argument bytes
+  Ok (map normal_name (listed_texts text))
 
 -- ---- changes of an environment
 
@@ -49,15 +62,10 @@ named_change change name = do
 abbrev pub change_command : Result Change LineRefusal → Result Command LineRefusal
 change_command read = edit_command (change_edit read)
 
--- the texts of tags, with an LF between two; none where there is no text
-abbrev pub tag_texts : List ℕ → List (List ℕ)
-tag_texts [] = []
-tag_texts (b ∷ bs) = slice_split is_lf (b ∷ bs)
-
 abbrev pub tags_command : List ℕ → Result Command LineRefusal
 tags_command bytes = do
   text ← text_argument bytes
-  tags ← tags_argument (tag_texts text)
+  tags ← tags_argument (listed_texts text)
   Ok (command.Edit (edit.Tags tags))
 
 -- the tags of a target

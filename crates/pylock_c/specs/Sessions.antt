@@ -4,11 +4,14 @@ use Rattle.std.specs.Prelude.{Option, Some, Result, Ok, Err}
 use Rattle.std.specs.Result.{result_map_both}
 use Rattle.pytext.specs.Results.{◌>>=◌}
 use Rattle.pylock_command.specs.declared.form.Form.{Form}
-use Rattle.pylock_core.specs.Session.Judgement.{SessionValue, all_numbers, index_of, touched}
-use Rattle.pylock_core.specs.Session.Judgement.{verdicts_of}
+use Rattle.pylock_core.specs.Session.Judgement.{Marked, SessionValue, all_numbers, index_of}
+use Rattle.pylock_core.specs.Session.Judgement.{readers, touched, verdicts_of}
+use Rattle.pylock_core.specs.Session.Names.{after_names, names_key}
 use Rattle.pylock_core.specs.Session.State.{State}
 use Rattle.pylock_core.specs.Session.Steps.{answer}
+use Rattle.pylock_core.specs.declared.edit.NameChange.{NameChange}
 use Rattle.pylock_program.specs.Show.{view_shown}
+use Rattle.pylock_run.specs.Line.Refusal.{edit_refusal}
 use Rattle.pylock_run.specs.Report.{after_command, is_plan}
 use Rattle.pylock_run.specs.Text.Field.{fields_text}
 use Rattle.pylock_command.specs.declared.task.View.{View}
@@ -51,12 +54,31 @@ session_after session (command.Edit edit) = do
   state ← after_command session.state (command.Edit edit)
   Ok (session_at state (touched edit session.state), length (touched edit session.state))
 
+-- the session after the changes for these names, which are one edit, and how many judgements that
+-- made
+abbrev pub session_after_names : NameChange → SessionValue → List (List ℕ)
+    → Result (SessionValue × ℕ) LineRefusal
+session_after_names change session names = do
+  state ← result_map_both (λ state. state) edit_refusal (after_names change names session.state)
+  Ok (
+    session_at state (readers (Marked (names_key change)) session.state),
+    length (readers (Marked (names_key change)) session.state),
+  )
+
 -- what a slot keeps after a command that was read; a slot with no session is refused first
 abbrev pub obeyed_in : Result Command LineRefusal → Option Object
     → Result (Option Object × ℕ) Refusal
 obeyed_in read object = do
   session ← session_in object
   after ← refuse_as line_refusal (read >>= session_after session)
+  Ok (Some (kind.Session after.0), after.1)
+
+-- the same after the changes for names that were read
+abbrev pub edited_in : NameChange → Result (List (List ℕ)) LineRefusal → Option Object
+    → Result (Option Object × ℕ) Refusal
+edited_in change read object = do
+  session ← session_in object
+  after ← refuse_as line_refusal (read >>= session_after_names change session)
   Ok (Some (kind.Session after.0), after.1)
 
 -- an edit of what a slot keeps: the object after it and its judgements, or the refusal, which

@@ -3,6 +3,7 @@
 ghost use Rattle.std.specs.Prelude.{◌≡◌, IfOk, Result, map};
 ghost use Rattle.std.specs.List.{slice_split};
 ghost use Rattle.pytext.specs.Agreement.{Gives};
+ghost use Rattle.pyver_core.specs.Name.{normal_name};
 ghost use Rattle.pymark_core.specs.declared.change.Change.{Change as ChangeValue};
 ghost use Rattle.pymark_core.specs.declared.change.Change.TheVariants as change;
 ghost use Rattle.pylock_core.specs.declared.edit.Edit.TheVariants as edit;
@@ -10,8 +11,8 @@ ghost use Rattle.pylock_run.specs.Line.{is_lf};
 ghost use Rattle.pylock_run.specs.declared.line.refusal.LineRefusal.{LineRefusal as RefusalValue};
 ghost use Rattle.pylock_run.specs.declared.line.refusal.LineRefusal.TheVariants.{Memory};
 ghost use Rattle.pylock_c.specs.Edits.{change_command, entry_command, named_change, policy_command};
-ghost use Rattle.pylock_c.specs.Edits.{set_change, tag_texts, tags_command, target_argument};
-ghost use Rattle.pylock_c.specs.Edits.{target_command, unset_change};
+ghost use Rattle.pylock_c.specs.Edits.{listed_texts, names_argument, set_change, tags_command};
+ghost use Rattle.pylock_c.specs.Edits.{target_argument, target_command, unset_change};
 ghost use Rattle.pywheel_core.specs.Target.Reading.{target_of};
 
 use crate::text::text;
@@ -62,6 +63,25 @@ pub(crate) fn drop_group_change(alloc: Global, name: &[u8]) -> Result<Change, Li
     Ok(Change::DropGroup(NormalName::new(alloc, text(name)?)?))
 }
 
+/// The normal forms of the names of a list.
+pub(crate) fn names_argument(alloc: Global, bytes: &[u8]) -> Result<Vec<NormalName>, LineRefusal>
+    ensures { Gives Memory (λ names. names.items) result (names_argument bytes.now) }
+{
+    let texts = listed_texts(alloc, text(bytes)?)?;
+    Ok(normal_names(alloc, &texts)?)
+}
+
+fn normal_names(alloc: Global, texts: &[&str]) -> Result<Vec<NormalName>, AllocError>
+    ensures { IfOk result (λ names. names.items
+        ≡ map normal_name (map (λ text. text.now) texts.now)) }
+{
+    let mut names = Vec::with_capacity(alloc, texts.len())?;
+    for text in texts {
+        names.push(NormalName::new(alloc, text)?)?;
+    }
+    Ok(names)
+}
+
 /// The command that changes the environment.
 pub(crate) fn change_command(change: Result<Change, LineRefusal>) -> Result<Command, LineRefusal>
     ensures { (definition : Result ChangeValue RefusalValue)
@@ -71,9 +91,9 @@ pub(crate) fn change_command(change: Result<Change, LineRefusal>) -> Result<Comm
     Ok(Command::Edit(Edit::Environment(change?)))
 }
 
-/// The texts of tags, with an LF between two.
-fn tag_texts(alloc: Global, text: &str) -> Result<Vec<&str>, AllocError>
-    ensures { IfOk result (λ texts. map (λ text. text.now) texts.items ≡ tag_texts text.now) }
+/// The texts of a list, with an LF between two.
+fn listed_texts(alloc: Global, text: &str) -> Result<Vec<&str>, AllocError>
+    ensures { IfOk result (λ texts. map (λ text. text.now) texts.items ≡ listed_texts text.now) }
 {
     if text.is_empty() {
         return Ok(Vec::new(alloc));
@@ -91,7 +111,7 @@ fn lines(alloc: Global, text: &str) -> Result<Vec<&str>, AllocError>
 pub(crate) fn tags_command(alloc: Global, bytes: &[u8]) -> Result<Command, LineRefusal>
     ensures { Gives Memory (λ command. command) result (tags_command bytes.now) }
 {
-    let texts = tag_texts(alloc, text(bytes)?)?;
+    let texts = listed_texts(alloc, text(bytes)?)?;
     Ok(Command::Edit(Edit::Tags(TagList::parse(alloc, &texts)?)))
 }
 

@@ -3,10 +3,11 @@
 ghost use Rattle.std.specs.Prelude.{◌≡◌, IfOk, OnErr};
 ghost use Rattle.pytext.specs.Agreement.{Gives};
 ghost use Rattle.pylock_run.specs.declared.line.refusal.LineRefusal.TheVariants as line;
-ghost use Rattle.pylock_c.specs.Sessions.{session_after};
+ghost use Rattle.pylock_c.specs.Sessions.{session_after, session_after_names};
 
-use pylock_core::Session;
+use pylock_core::{NameChange, Session};
 use pylock_run::{Command, LineRefusal};
+use pyver_core::NormalName;
 use std::alloc::{AllocError, Global};
 use std::marker::Model;
 
@@ -60,5 +61,18 @@ impl KeptSession {
             Command::Show => Ok(0),
             Command::Edit(edit) => Ok(self.session.edit(edit)?),
         }
+    }
+
+    /// Makes the changes for these names as one edit, and answers how many judgements that made.
+    pub(crate) fn edit_names(
+        &mut self,
+        change: NameChange,
+        names: Vec<NormalName>,
+    ) -> Result<u64, LineRefusal>
+        ensures ok { Gives line.Memory (λ judgements. (self.new, judgements)) result
+            (session_after_names change self.old names.items) }
+        ensures err { OnErr result (self.new ≡ self.old) }
+    {
+        Ok(self.session.edit_names(change, names)?)
     }
 }

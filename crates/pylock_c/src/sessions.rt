@@ -1,9 +1,10 @@
 //! Sessions: a lock in an environment (PEP 751), edited and answered again.
 
-ghost use Rattle.std.specs.Prelude.{◌≡◌, ℕ, None, Ok, Option, Result, Some};
+ghost use Rattle.std.specs.Prelude.{◌≡◌, ℕ, List, None, Ok, Option, Result, Some};
 ghost use Rattle.pytext.specs.Agreement.{Gives};
 ghost use Rattle.pymark_core.specs.declared.change.Change.TheVariants as change;
 ghost use Rattle.pylock_core.specs.declared.edit.Edit.TheVariants as edit;
+ghost use Rattle.pylock_core.specs.declared.edit.NameChange.TheVariants as name_change;
 ghost use Rattle.pylock_run.specs.Line.{command_of};
 ghost use Rattle.pylock_run.specs.Report.{open_state};
 ghost use Rattle.pylock_run.specs.declared.line.commands.Command.{Command as CommandValue};
@@ -13,10 +14,10 @@ ghost use Rattle.pylock_run.specs.declared.line.refusal.LineRefusal.TheVariants 
 ghost use Rattle.pylock_run.specs.declared.report.opening.OpenError.TheVariants as unopened;
 ghost use Rattle.pylock_c.specs.Answer.{Tells};
 ghost use Rattle.pylock_c.specs.Edits.{change_command, entry_command, named_change};
-ghost use Rattle.pylock_c.specs.Edits.{policy_command, set_change, tags_command};
+ghost use Rattle.pylock_c.specs.Edits.{names_argument, policy_command, set_change, tags_command};
 ghost use Rattle.pylock_c.specs.Edits.{target_command, unset_change};
 ghost use Rattle.pylock_c.specs.Opening.{Opens};
-ghost use Rattle.pylock_c.specs.Sessions.{Counts, obeyed_in, started};
+ghost use Rattle.pylock_c.specs.Sessions.{Counts, edited_in, obeyed_in, started};
 ghost use Rattle.pylock_c.specs.Slot.{object};
 ghost use Rattle.pylock_c.specs.declared.object.Object.{Object as Kind};
 ghost use Rattle.pylock_c.specs.declared.refusal.Refusal.{Refusal as Refused};
@@ -26,16 +27,17 @@ mod standing;
 use crate::answer::OK;
 use crate::edits::{
     add_command, add_extra_change, add_group_change, change_command, drop_extra_change,
-    drop_group_change, policy_command, put_command, set_change, tags_command, target_command,
-    unset_change,
+    drop_group_change, names_argument, policy_command, put_command, set_change, tags_command,
+    target_command, unset_change,
 };
 use crate::kept_session::KeptSession;
 use crate::object::Object;
 use crate::opening::open_into;
 use crate::refusal::Refusal;
 use crate::slot::Slot;
-use pylock_core::Edit;
+use pylock_core::{Edit, NameChange};
 use pylock_run::{Command, LineRefusal, OpenError, open, read_line};
+use pyver_core::NormalName;
 use std::alloc::Global;
 
 /// The session on a lock and an environment.
@@ -108,6 +110,44 @@ fn obey_slot(
         return Refusal::Empty.number();
     };
     let outcome = obey_in(&mut object, command);
+    slot.put(alloc, Some(object));
+    tell_judged(outcome, judged)
+}
+
+/// Makes the changes for the names in the session that is kept. Where none is, the names aren't
+/// looked at.
+fn edit_names_in(
+    object: &mut Object,
+    change: NameChange,
+    names: Result<Vec<NormalName>, LineRefusal>,
+) -> Result<u64, Refusal>
+    ensures { (definition : Result (List (List ℕ)) RefusalValue)
+        → Gives line.Memory (λ names. names.items) names definition
+        → Counts (edited_in change definition (Some object.old)) (Some object.old)
+        (Some object.new) result }
+{
+    match object {
+        Object::Session(session) => Ok(session.edit_names(change, names?)?),
+        _ => Err(Refusal::Empty),
+    }
+}
+
+/// Makes the changes for the names in the session of a slot, as one edit, and answers the code.
+fn edit_names_slot(
+    alloc: Global,
+    slot: &mut Slot,
+    change: NameChange,
+    names: &[u8],
+    judged: &mut u64,
+) -> i32
+    ensures { Tells (edited_in change (names_argument names.now) (object slot.old))
+        (object slot.old, judged.old) (object slot.new, judged.new) result }
+{
+    let names = names_argument(alloc, names);
+    let Some(mut object) = slot.take(alloc) else {
+        return Refusal::Empty.number();
+    };
+    let outcome = edit_names_in(&mut object, change, names);
     slot.put(alloc, Some(object));
     tell_judged(outcome, judged)
 }
@@ -202,6 +242,62 @@ pub extern "C" fn pylock_session_drop_group(
 {
     let change = drop_group_change(alloc, name);
     obey_slot(alloc, slot, change_command(change), judged)
+}
+
+/// Asks for extras.
+#[unsafe(no_mangle)]
+pub extern "C" fn pylock_session_add_extras(
+    alloc: Global,
+    slot: &mut Slot,
+    names: &[u8],
+    judged: &mut u64,
+) -> i32
+    ensures { Tells (edited_in name_change.AddExtra (names_argument names.now) (object slot.old))
+        (object slot.old, judged.old) (object slot.new, judged.new) result }
+{
+    edit_names_slot(alloc, slot, NameChange::AddExtra, names, judged)
+}
+
+/// Asks for extras no more.
+#[unsafe(no_mangle)]
+pub extern "C" fn pylock_session_drop_extras(
+    alloc: Global,
+    slot: &mut Slot,
+    names: &[u8],
+    judged: &mut u64,
+) -> i32
+    ensures { Tells (edited_in name_change.DropExtra (names_argument names.now) (object slot.old))
+        (object slot.old, judged.old) (object slot.new, judged.new) result }
+{
+    edit_names_slot(alloc, slot, NameChange::DropExtra, names, judged)
+}
+
+/// Asks for dependency groups.
+#[unsafe(no_mangle)]
+pub extern "C" fn pylock_session_add_groups(
+    alloc: Global,
+    slot: &mut Slot,
+    names: &[u8],
+    judged: &mut u64,
+) -> i32
+    ensures { Tells (edited_in name_change.AddGroup (names_argument names.now) (object slot.old))
+        (object slot.old, judged.old) (object slot.new, judged.new) result }
+{
+    edit_names_slot(alloc, slot, NameChange::AddGroup, names, judged)
+}
+
+/// Asks for dependency groups no more.
+#[unsafe(no_mangle)]
+pub extern "C" fn pylock_session_drop_groups(
+    alloc: Global,
+    slot: &mut Slot,
+    names: &[u8],
+    judged: &mut u64,
+) -> i32
+    ensures { Tells (edited_in name_change.DropGroup (names_argument names.now) (object slot.old))
+        (object slot.old, judged.old) (object slot.new, judged.new) result }
+{
+    edit_names_slot(alloc, slot, NameChange::DropGroup, names, judged)
 }
 
 /// Puts these tags in place of those that were there.

@@ -2,5 +2,6 @@
 pub mod Answering
 pub mod Editing
 pub mod Judging
+pub mod KeptEnvironment
 pub mod Parts
 pub mod Tables

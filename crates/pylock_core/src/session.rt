@@ -3,6 +3,7 @@
 pub(crate) mod answering;
 pub(crate) mod editing;
 pub(crate) mod judging;
+pub(crate) mod kept_environment;
 pub(crate) mod parts;
 pub(crate) mod start_and_edit;
 pub(crate) mod tables;
@@ -200,7 +201,7 @@ impl Session {
     pub fn environment(&self) -> &Environment
         ensures { result.now ≡ self.now.state.environment }
     {
-        &self.parts.environment
+        self.parts.environment.current()
     }
 
     /// The tags that wheels are judged by, the best first. It takes no memory.

@@ -6,6 +6,7 @@ ghost use Rattle.pylock_core.specs.Inner.Parts.{IsSession, state_of};
 ghost use Rattle.pylock_core.specs.Session.State.{asked_environment};
 
 use crate::session::judging::verdict::HeadVerdict;
+use crate::session::kept_environment::KeptEnvironment;
 use crate::session::start_and_edit::Judged;
 use crate::session::tables::conditions::Conditions;
 use crate::session::tables::index::{KeyLists, head_index};
@@ -33,7 +34,7 @@ pub(crate) struct Parts {
     pub(crate) conditions: Conditions,
     pub(crate) head: Head,
     pub(crate) head_verdict: HeadVerdict,
-    pub(crate) environment: Environment,
+    pub(crate) environment: KeptEnvironment,
     pub(crate) tags: TagList,
     /// The entry of number k stands at place k - 1. They are let go last: the allocator merges
     /// their many small pieces only when a large one is given back behind them.
@@ -102,7 +103,7 @@ impl Parts {
             conditions,
             head,
             head_verdict,
-            environment,
+            environment: KeptEnvironment::new(environment),
             tags,
             entries,
         })

@@ -3,7 +3,9 @@
 ghost use Rattle.std.specs.Prelude.{◌≡◌, ◌++◌, Ok, Err, IfErr, IfOk, OnErr, OnOk, ◌||◌, true};
 ghost use Rattle.std.specs.Prelude.{false, unwrap_or};
 ghost use Rattle.pymark_core.specs.Change.{changed};
+ghost use Rattle.pymark_core.specs.Environment.{EnvironmentValue};
 ghost use Rattle.pylock_core.specs.Inner.Editing.{DifferAt, Leaves};
+ghost use Rattle.pylock_core.specs.Inner.KeptEnvironment.{LeadsFrom};
 ghost use Rattle.pylock_core.specs.Inner.Parts.{IsSession, shown, state_of};
 ghost use Rattle.pylock_core.specs.Session.Judgement.{Marked, readers};
 ghost use Rattle.pylock_core.specs.Session.Names.{after_names, name_change, names_key};
@@ -15,14 +17,15 @@ ghost use Rattle.pylock_core.specs.declared.edit.EditError.TheVariants.{UnknownE
 use crate::edit::{EditError, NameChange};
 use crate::session::judging::judgement::judge_key;
 use crate::session::judging::verdict::HeadVerdict;
+use crate::session::kept_environment::EditedEnvironment;
 use crate::session::parts::Parts;
 use crate::session::start_and_edit::Judged;
 use crate::session::tables::rows::put_standings;
 use pylock_readers::Head;
 use pymark_core::laws::marker_reads;
-use pymark_core::{Change, Environment, Key};
+use pymark_core::{Change, Key};
 use pyver_core::NormalName;
-use std::alloc::AllocError;
+use std::alloc::{AllocError, Global};
 
 /// Refuses a change of an extra or a group that the lock doesn't name.
 fn check_named(parts: &Parts, change: &Change) -> Result<(), EditError>
@@ -75,33 +78,44 @@ fn put_head(kept: &mut HeadVerdict, fresh: Option<HeadVerdict>)
     }
 }
 
-/// Puts the environment, which differs at the key alone, in place of the one that was there. What
-/// reads the key is judged again. Where there is no memory for it, all stays.
+/// Begins an edit of the environment at the key.
+fn begin_edit(parts: &mut Parts, key: Key) -> Result<EditedEnvironment, AllocError>
+    ensures same { IfOk result (λ edited. edited.environment ≡ parts.old.environment) }
+    ensures leads { IfOk result (λ edited. LeadsFrom parts.old.environment edited) }
+    ensures kept { parts.new ≡ parts.old }
+{
+    let alloc = parts.alloc;
+    parts.environment.begin(alloc, key)
+}
+
+/// Puts the edited environment, which differs at the key alone, in place of the one that was there.
+/// What reads the key is judged again. Where there is no memory for it, all stays.
 fn change_environment(
     parts: &mut Parts,
-    environment: Environment,
+    edited: EditedEnvironment,
     key: Key,
     judged: &mut Judged,
 ) -> Result<(), AllocError>
     requires session { IsSession parts.old }
-    requires differ { DifferAt key parts.old.environment environment }
+    requires differ { DifferAt key parts.old.environment edited.environment }
+    requires leads { LeadsFrom parts.old.environment edited }
     ensures session { IsSession parts.new }
     ensures ok { OnOk result (state_of parts.new
-        ≡ in_environment environment (state_of parts.old)) }
+        ≡ in_environment edited.environment (state_of parts.old)) }
     ensures judged { OnOk result (judged.new
         ≡ judged.old ++ readers (Marked key) (state_of parts.old)) }
     ensures err { OnErr result (shown parts.new ≡ shown parts.old) }
 {
     marker_reads();
-    let (verdict, fresh) = judge_key(parts, &environment, key, judged)?;
+    let (verdict, fresh) = judge_key(parts, &edited.environment, key, judged)?;
     put_head(&mut parts.head_verdict, verdict);
     put_standings(&mut parts.rows, fresh);
-    parts.environment = environment;
+    parts.environment.put(edited);
     Ok(())
 }
 
-/// Changes the environment, where the lock lets it be changed so: on a copy first, which shares
-/// all that doesn't change and takes the place of the other.
+/// Changes the environment, where the lock lets it be changed so: on another first, which takes the
+/// place of this one.
 pub(crate) fn edit_environment(
     parts: &mut Parts,
     change: Change,
@@ -114,55 +128,62 @@ pub(crate) fn edit_environment(
 {
     check_named(parts, &change)?;
     let key = change.key();
-    let mut next = parts.environment.copy()?;
-    next.apply(change)?;
-    change_environment(parts, next, key, judged)?;
+    let alloc = parts.alloc;
+    let mut edited = begin_edit(parts, key)?;
+    edited.apply(alloc, change)?;
+    change_environment(parts, edited, key, judged)?;
     Ok(())
 }
 
-/// Changes a copy of the environment for one more name, where the lock has it.
+/// Changes the edited environment for one more name, where the lock has it.
 fn change_name(
+    alloc: Global,
     head: &Head,
-    environment: &mut Environment,
+    edited: &mut EditedEnvironment,
     change: NameChange,
     name: NormalName,
 ) -> Result<(), EditError>
     ensures ok { OnOk result ((state : State) → state.head ≡ head.now
-        → state.environment ≡ environment.old
+        → state.environment ≡ edited.old.environment
         → apply (edit.Environment (name_change change name)) state
-        ≡ Ok (in_environment environment.new state)) }
+        ≡ Ok (in_environment edited.new.environment state)) }
     ensures refused { IfErr result (λ error. (error ≡ Memory → ⊥) → (state : State)
         → state.head ≡ head.now
         → apply (edit.Environment (name_change change name)) state ≡ Err error) }
     ensures differ { OnOk result
-        (DifferAt (names_key change) environment.old environment.new) }
+        (DifferAt (names_key change) edited.old.environment edited.new.environment) }
+    ensures leads { OnOk result ((before : EnvironmentValue) → LeadsFrom before edited.old
+        → LeadsFrom before edited.new) }
 {
     match change {
         NameChange::AddExtra | NameChange::DropExtra => check_extra(head, &name)?,
         NameChange::AddGroup | NameChange::DropGroup => check_group(head, &name)?,
     }
-    environment.apply(change.of(name))?;
+    edited.apply(alloc, change.of(name))?;
     Ok(())
 }
 
-/// The environment after the changes for these names, which shares all that doesn't change.
-fn changed_names(
+/// Changes the edited environment, which is as that of the session yet, for these names.
+fn change_names(
     parts: &Parts,
+    edited: &mut EditedEnvironment,
     change: NameChange,
     names: Vec<NormalName>,
-) -> Result<Environment, EditError>
-    ensures ok { IfOk result (λ next. after_names change names.items (state_of parts.now)
-        ≡ Ok (in_environment next (state_of parts.now))) }
+) -> Result<(), EditError>
+    requires same { edited.old.environment ≡ parts.now.environment }
+    requires leads { LeadsFrom parts.now.environment edited.old }
+    ensures ok { OnOk result (after_names change names.items (state_of parts.now)
+        ≡ Ok (in_environment edited.new.environment (state_of parts.now))) }
     ensures refused { IfErr result (λ error. (error ≡ Memory → ⊥)
         → after_names change names.items (state_of parts.now) ≡ Err error) }
-    ensures differ { IfOk result (λ next.
-        DifferAt (names_key change) parts.now.environment next) }
+    ensures differ { OnOk result
+        (DifferAt (names_key change) parts.now.environment edited.new.environment) }
+    ensures leads { OnOk result (LeadsFrom parts.now.environment edited.new) }
 {
-    let mut next = parts.environment.copy()?;
     for name in names {
-        change_name(&parts.head, &mut next, change, name)?;
+        change_name(parts.alloc, &parts.head, edited, change, name)?;
     }
-    Ok(next)
+    Ok(())
 }
 
 /// Changes the environment for all of these names, where the lock has each of them. What reads
@@ -183,7 +204,8 @@ pub(crate) fn edit_names(
         → after_names change names.items (state_of parts.old) ≡ Err error) }
     ensures kept { OnErr result (shown parts.new ≡ shown parts.old) }
 {
-    let next = changed_names(parts, change, names)?;
-    change_environment(parts, next, change.key(), judged)?;
+    let mut edited = begin_edit(parts, change.key())?;
+    change_names(parts, &mut edited, change, names)?;
+    change_environment(parts, edited, change.key(), judged)?;
     Ok(())
 }

@@ -93,7 +93,7 @@ impl Verdict {
     {
         judged.push(number)?;
         Ok(Verdict {
-            standing: standing(parts.alloc, entry, &parts.environment)?,
+            standing: standing(parts.alloc, entry, parts.environment.current())?,
             best: best_wheel(entry, &parts.tags, policy),
         })
     }

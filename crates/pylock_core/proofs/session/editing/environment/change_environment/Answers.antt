@@ -1,4 +1,4 @@
-use Rattle.std.proofs.Common.{◌∙◌, unwrap_or, ap, ◌≡◌, Bool, true, false, List, Some, None, cond, refl}
+use Rattle.std.proofs.Common.{◌∙◌, unwrap_or, ap, sym, subst, ◌≡◌, Bool, true, false, List, Some, None, cond, refl}
 use Rattle.pylock_core.specs.Inner.Tables.Rows.{with_standings}
 use Rattle.pylock_core.specs.Inner.Tables.Names.{policy_at}
 use Rattle.pylock_core.specs.Session.Judgement.{Marked, entry_reads, AgreeAtKey, IndexKey, OfTags, head_reads}
@@ -38,7 +38,7 @@ head_suffices reading parts environment key s differ = by (head_reads (Marked ke
         (agree_apart (λ k. head_reads k parts.head) key parts.environment environment parts.tags differ is)
 
 pub put_standings-requires : goal.put_standings-requires
-put_standings-requires c = standings_within c.args.parts.now (entry_reads (Marked c.args.key)) c.args.environment c.in_ok-verdict.fresh.items c.requires.session c.in_ok-verdict.ensures.standings
+put_standings-requires c = standings_within c.args.parts.now (entry_reads (Marked c.args.key)) c.args.edited.environment c.in_ok-verdict.fresh.items c.requires.session c.in_ok-verdict.ensures.standings
 
 pub returns-clause-session : goal.returns-clause-session
 returns-clause-session c =
@@ -47,18 +47,19 @@ returns-clause-session c =
     let test = entry_reads (Marked c.args.key) in
     let policies = p.names.policies.items in
     let rows = c.put_standings.new.rows.items in
-    let is = with_standings_anew p test c.args.environment rows s (c.put_standings.ensures ∙ ap (λ fresh. with_standings fresh p.rows.items) c.in_ok-verdict.ensures.standings) in
-    record {
+    let e = c.args.edited.environment in
+    let is = with_standings_anew p test e rows s (c.put_standings.ensures ∙ ap (λ fresh. with_standings fresh p.rows.items) c.in_ok-verdict.ensures.standings) in
+    subst (λ (f : EnvironmentValue). IsSession (record p { head_verdict = c.put_head.new.kept; rows = c.put_standings.new.rows; environment = f })) (sym c.put.ensures) (record {
       few = s.few;
-      named = anew_named p test c.args.environment p.tags (policy_at policies) rows s is;
-      judged = anew_judged p test c.args.environment p.tags policies (policy_at policies) rows s
-          (environment_suffices c.marker_reads.ensures p c.args.environment c.args.key c.requires.differ) is;
+      named = anew_named p test e p.tags (policy_at policies) rows s is;
+      judged = anew_judged p test e p.tags policies (policy_at policies) rows s
+          (environment_suffices c.marker_reads.ensures p e c.args.key c.requires.differ) is;
       head = c.put_head.ensures ∙ ap (λ v. unwrap_or v p.head_verdict) c.in_ok-verdict.ensures.head
-          ∙ head_suffices c.marker_reads.ensures p c.args.environment c.args.key s c.requires.differ;
+          ∙ head_suffices c.marker_reads.ensures p e c.args.key s c.requires.differ;
       names = s.names;
       members = s.members;
       index = s.index;
       living = s.living;
       sets = s.sets;
-      conditions = anew_numbered p test c.args.environment p.tags (policy_at policies) rows s is;
-    }
+      conditions = anew_numbered p test e p.tags (policy_at policies) rows s is;
+    })

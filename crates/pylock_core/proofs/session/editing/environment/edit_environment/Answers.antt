@@ -49,6 +49,7 @@ changed_differs (change.DropGroup name) e other apart = groups_apart e (set_of.r
 
 pub change_environment-requires-clause-differ : goal.change_environment-requires-clause-differ
 change_environment-requires-clause-differ c = λ other apart.
-    let old = c.args.parts.now.environment in
-    let made : c.apply.new.self ≡ changed c.args.change old = c.in_ok-apply.ensures.ok ∙ ap (changed c.args.change) c.in_ok-next.ensures in
+    let old = c.begin_edit.new.parts.environment in
+    let same : c.in_ok-edited.edited.environment ≡ old = c.in_ok-edited.ensures.same ∙ ap (λ p. p.environment) (sym c.in_ok-edited.ensures.kept) in
+    let made : c.apply.new.self.environment ≡ changed c.args.change old = c.in_ok-apply.ensures.ok ∙ ap (changed c.args.change) same in
     subst (AgreeAt other old) (sym made) (changed_differs c.args.change old other (λ same. apart (same ∙ sym c.key-key.ensures)))
