@@ -32,11 +32,13 @@ TOP = os.path.dirname(HERE)
 TIME = (1980, 1, 1, 0, 0, 0)
 NATIVE = "_native.abi3.so"
 WORDS = ["-std=c11", "-O2", "-Wall", "-Wextra", "-Werror", "-fPIC", "-fvisibility=hidden"]
-# calls of Python's functions without a step between, of which there are many short ones
-DIRECT = {"linux": ["-fno-plt"]}
+# On Linux: calls of Python's functions without a step between, of which there are many short ones; a guard behind the arrays of
+# a function, for which glibc since 2.4 and musl have `__stack_chk_fail`; and no calls that check sizes, which musl doesn't have.
+OF_SYSTEM = {"linux": ["-fno-plt", "-fstack-protector-strong", "-U_FORTIFY_SOURCE"]}
+# there all that is called is found when the module is loaded, and can't be written over from then on
 LINKING = {
     "darwin": ["-bundle", "-undefined", "dynamic_lookup", "-Wl,-exported_symbol,_PyInit__native"],
-    "linux": ["-shared", "-s", "-Wl,--exclude-libs,ALL"],
+    "linux": ["-shared", "-s", "-Wl,--exclude-libs,ALL", "-Wl,-z,relro,-z,now"],
 }
 
 
@@ -100,10 +102,10 @@ def api():
 
 
 def compiler():
-    words = shlex.split(os.environ.get("CC") or "cc")
-    if shutil.which(words[0]) is None:
-        fail("there is no C compiler %s, which compiles the module (CC names one)" % words[0])
-    return words
+    named = shlex.split(os.environ.get("CC") or "cc")
+    if shutil.which(named[0]) is None:
+        fail("there is no C compiler %s, which compiles the module (CC names one)" % named[0])
+    return named
 
 
 def python_headers():
@@ -120,17 +122,22 @@ def sources():
     return sorted(os.path.join(folder, name) for name in os.listdir(folder) if name.endswith(".c"))
 
 
+def words(system):
+    """The words of the compiler but for folders, files and the API."""
+    return WORDS + OF_SYSTEM.get(system, [])
+
+
 def compile_native(path):
     """Compiles and links the part that is written in C."""
     if sysconfig.get_config_var("Py_GIL_DISABLED"):
         fail("there is no build for a free-threaded Python, as this one is")
-    words = compiler() + WORDS + DIRECT.get(sys.platform, []) + shlex.split(os.environ.get("CFLAGS", ""))
-    words.append("-DPy_LIMITED_API=0x03%02x0000" % int(api()[len("cp3") :]))
-    words.append("-I" + os.path.dirname(header()))
+    line = compiler() + words(sys.platform) + shlex.split(os.environ.get("CFLAGS", ""))
+    line.append("-DPy_LIMITED_API=0x03%02x0000" % int(api()[len("cp3") :]))
+    line.append("-I" + os.path.dirname(header()))
     for folder in python_headers():
-        words += ["-isystem", folder]
-    words += sources() + LINKING.get(sys.platform, LINKING["linux"]) + [archive(), "-o", path]
-    if subprocess.call(words) != 0:
+        line += ["-isystem", folder]
+    line += sources() + LINKING.get(sys.platform, LINKING["linux"]) + [archive(), "-o", path]
+    if subprocess.call(line) != 0:
         fail("the module was not compiled")
 
 

@@ -54,7 +54,7 @@ static PyObject *set_new(PyTypeObject *type, PyObject *arguments, PyObject *name
 
 static void set_dealloc(PyObject *self)
 {
-    if (NATIVE_IS_MODERN) PyObject_GC_UnTrack(self);
+    PyObject_GC_UnTrack(self);
     pylock_set_free(&((Set *)self)->slot);
     free_object(self);
 }
@@ -136,9 +136,7 @@ static PyType_Slot set_slots[] = {
     {Py_tp_doc, (void *)PyDoc_STR("A specifier set.")},
     {Py_tp_new, set_new},
     {Py_tp_dealloc, set_dealloc},
-#if NATIVE_IS_MODERN
     {Py_tp_traverse, visit_type},
-#endif
     {Py_tp_str, set_str},
     {Py_tp_methods, set_methods},
     {0, NULL},
@@ -147,7 +145,7 @@ static PyType_Slot set_slots[] = {
 static PyType_Spec set_spec = {
     .name = "pylock._native.Set",
     .basicsize = sizeof(Set),
-    .flags = Py_TPFLAGS_DEFAULT | NATIVE_COLLECTED | NATIVE_FIXED,
+    .flags = Py_TPFLAGS_DEFAULT | Py_TPFLAGS_HAVE_GC | NATIVE_FIXED,
     .slots = set_slots,
 };
 
@@ -155,7 +153,7 @@ static PyType_Spec set_spec = {
 
 static void environment_dealloc(PyObject *self)
 {
-    if (NATIVE_IS_MODERN) PyObject_GC_UnTrack(self);
+    PyObject_GC_UnTrack(self);
     pylock_environment_free(&((Environment *)self)->slot);
     free_object(self);
 }
@@ -184,27 +182,31 @@ static PyObject *environment_read(PyObject *module, PyObject *json)
     return (PyObject *)kept;
 }
 
+/* Gives the environment one variable: false with an exception. */
+static bool set_variable(Environment *kept, PyObject *name, PyObject *value)
+{
+    Text name_text, text;
+    if (!text_of(name, &name_text)) return false;
+    bool is_text = text_of(value, &text);
+    int32_t code = PYLOCK_OK;
+    if (is_text) {
+        code = pylock_environment_set(&kept->slot, name_text.bytes, name_text.length, text.bytes, text.length);
+        text_done(&text);
+    }
+    text_done(&name_text);
+    if (!is_text || code == PYLOCK_OK || code == PYLOCK_EDIT_VARIABLE) return is_text;
+    raise_refusal(kept->state, code, value, "variable");
+    return false;
+}
+
 /* Gives the environment each variable of a dict. Names that are no variables are left out, as in an environment file. */
 static bool set_variables(Environment *kept, PyObject *variables)
 {
-    PyObject *name, *value;
-    Py_ssize_t place = 0;
-    while (PyDict_Next(variables, &place, &name, &value)) {
-        Text name_text, text;
-        if (!text_of(name, &name_text)) return false;
-        bool is_text = text_of(value, &text);
-        int32_t code = PYLOCK_OK;
-        if (is_text) {
-            code = pylock_environment_set(&kept->slot, name_text.bytes, name_text.length, text.bytes, text.length);
-            text_done(&text);
-        }
-        text_done(&name_text);
-        if (!is_text) return false;
-        if (code == PYLOCK_OK || code == PYLOCK_EDIT_VARIABLE) continue;
-        raise_refusal(kept->state, code, value, "variable");
-        return false;
-    }
-    return true;
+    Walk walk = walk_over(variables);
+    bool is_good = true;
+    while (is_good && walk_on(&walk)) is_good = set_variable(kept, walk.key, walk.member);
+    end_walk(&walk);
+    return is_good && !PyErr_Occurred();
 }
 
 static PyObject *environment_of(PyObject *module, PyObject *variables)
@@ -253,9 +255,7 @@ static PyType_Slot environment_slots[] = {
     {Py_tp_doc, (void *)PyDoc_STR("What markers are judged in.")},
     {Py_tp_new, no_new},
     {Py_tp_dealloc, environment_dealloc},
-#if NATIVE_IS_MODERN
     {Py_tp_traverse, visit_type},
-#endif
     {Py_tp_methods, environment_methods},
     {0, NULL},
 };
@@ -263,7 +263,7 @@ static PyType_Slot environment_slots[] = {
 static PyType_Spec environment_spec = {
     .name = "pylock._native.Environment",
     .basicsize = sizeof(Environment),
-    .flags = Py_TPFLAGS_DEFAULT | NATIVE_COLLECTED | NATIVE_FIXED,
+    .flags = Py_TPFLAGS_DEFAULT | Py_TPFLAGS_HAVE_GC | NATIVE_FIXED,
     .slots = environment_slots,
 };
 
@@ -308,7 +308,7 @@ static PyObject *marker_new(PyTypeObject *type, PyObject *arguments, PyObject *n
 
 static void marker_dealloc(PyObject *self)
 {
-    if (NATIVE_IS_MODERN) PyObject_GC_UnTrack(self);
+    PyObject_GC_UnTrack(self);
     pylock_marker_free(&((Marker *)self)->slot);
     free_object(self);
 }
@@ -384,9 +384,7 @@ static PyType_Slot marker_slots[] = {
     {Py_tp_doc, (void *)PyDoc_STR("A marker.")},
     {Py_tp_new, marker_new},
     {Py_tp_dealloc, marker_dealloc},
-#if NATIVE_IS_MODERN
     {Py_tp_traverse, visit_type},
-#endif
     {Py_tp_methods, marker_methods},
     {0, NULL},
 };
@@ -394,7 +392,7 @@ static PyType_Slot marker_slots[] = {
 static PyType_Spec marker_spec = {
     .name = "pylock._native.Marker",
     .basicsize = sizeof(Marker),
-    .flags = Py_TPFLAGS_DEFAULT | NATIVE_COLLECTED | NATIVE_FIXED,
+    .flags = Py_TPFLAGS_DEFAULT | Py_TPFLAGS_HAVE_GC | NATIVE_FIXED,
     .slots = marker_slots,
 };
 

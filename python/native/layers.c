@@ -34,14 +34,14 @@ static bool are_same(PyObject *left, PyObject *right)
     return left == right || (left != NULL && right != NULL && PyUnicode_Compare(left, right) == 0);
 }
 
-static void let_go(Layers *layers)
+static void give_up(Layers *layers)
 {
     pylock_environment_free(&layers->slot);
     for (int place = 0; place < VARIABLES; place++) Py_CLEAR(layers->held[place]);
 }
 
 /* Gives the slot one variable, or takes it away. */
-static int32_t hold(Layers *layers, int place, PyObject *text)
+static int32_t give(Layers *layers, int place, PyObject *text)
 {
     Text view;
     const uint8_t *word = (const uint8_t *)words[place];
@@ -54,9 +54,8 @@ static int32_t hold(Layers *layers, int place, PyObject *text)
         text_done(&view);
     }
     if (code != PYLOCK_OK) return code;
-    Py_XINCREF(text);
     PyObject *before = layers->held[place];
-    layers->held[place] = text;
+    layers->held[place] = hold(text);
     Py_XDECREF(before);
     return code;
 }
@@ -68,10 +67,10 @@ static bool hold_all(Layers *layers, PyObject *const *wanted)
     PyObject *text = NULL;
     for (int place = 0; place < VARIABLES && code == PYLOCK_OK; place++) {
         text = wanted[place];
-        if (!are_same(text, layers->held[place])) code = hold(layers, place, text);
+        if (!are_same(text, layers->held[place])) code = give(layers, place, text);
     }
     if (code == PYLOCK_OK) return true;
-    let_go(layers);
+    give_up(layers);
     if (!PyErr_Occurred()) raise_refusal(layers->state, code, text == NULL ? Py_None : text, "variable");
     return false;
 }
@@ -111,11 +110,11 @@ pylock_environment *layers_with(State *state, PyObject *object, PyObject *mappin
         *has_extra = true;
     }
     /* what is refused may let the collector run, and so others change the mapping */
-    Py_INCREF(*extra);
-    for (int place = 0; place < VARIABLES; place++) Py_XINCREF(wanted[place]);
+    hold(*extra);
+    for (int place = 0; place < VARIABLES; place++) hold(wanted[place]);
     bool is_good = hold_all(layers, wanted);
-    for (int place = 0; place < VARIABLES; place++) Py_XDECREF(wanted[place]);
-    if (!is_good) Py_DECREF(*extra);
+    for (int place = 0; place < VARIABLES; place++) let_go(wanted[place]);
+    if (!is_good) let_go(*extra);
     return is_good ? &layers->slot : NULL;
 }
 
@@ -123,24 +122,26 @@ pylock_environment *layers_with(State *state, PyObject *object, PyObject *mappin
 
 static PyObject *layers_new(PyTypeObject *type, PyObject *arguments, PyObject *named)
 {
-    PyObject *variables, *extra = NULL;
+    PyObject *taken[MOST_TAKEN], *extra = NULL;
     State *state = state_of_type(type);
-    static char *names[] = {"variables", NULL};
-    if (state == NULL || !PyArg_ParseTupleAndKeywords(arguments, named, "O:Layers", names, &variables)) return NULL;
+    static char *words_of_call[] = {"variables", NULL};
+    if (state == NULL || !take_arguments(arguments, named, "O:Layers", words_of_call, taken)) return NULL;
     Layers *layers = (Layers *)new_object(state, type);
-    if (layers == NULL) return NULL;
-    int laid = lay_over(state, variables, layers->under, &extra);
-    for (int place = 0; place < VARIABLES; place++) Py_XINCREF(layers->under[place]);
-    if (laid == 0) PyErr_SetString(PyExc_TypeError, "expected a dict of variables");
-    if (laid <= 0) Py_CLEAR(layers);
+    if (layers != NULL) {
+        int laid = lay_over(state, taken[0], layers->under, &extra);
+        for (int place = 0; place < VARIABLES; place++) hold(layers->under[place]);
+        if (laid == 0) PyErr_SetString(PyExc_TypeError, "expected a dict of variables");
+        if (laid <= 0) Py_CLEAR(layers);
+    }
+    let_arguments_go(taken);
     return (PyObject *)layers;
 }
 
 static void layers_dealloc(PyObject *self)
 {
     Layers *layers = (Layers *)self;
-    if (NATIVE_IS_MODERN) PyObject_GC_UnTrack(self);
-    let_go(layers);
+    PyObject_GC_UnTrack(self);
+    give_up(layers);
     for (int place = 0; place < VARIABLES; place++) Py_CLEAR(layers->under[place]);
     free_object(self);
 }
@@ -149,16 +150,14 @@ static PyType_Slot layers_slots[] = {
     {Py_tp_doc, (void *)PyDoc_STR("Variables that mappings are laid over.")},
     {Py_tp_new, layers_new},
     {Py_tp_dealloc, layers_dealloc},
-#if NATIVE_IS_MODERN
     {Py_tp_traverse, visit_type},
-#endif
     {0, NULL},
 };
 
 static PyType_Spec layers_spec = {
     .name = "pylock._native.Layers",
     .basicsize = sizeof(Layers),
-    .flags = Py_TPFLAGS_DEFAULT | NATIVE_COLLECTED | NATIVE_FIXED,
+    .flags = Py_TPFLAGS_DEFAULT | Py_TPFLAGS_HAVE_GC | NATIVE_FIXED,
     .slots = layers_slots,
 };
 

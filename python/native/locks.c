@@ -116,7 +116,7 @@ static void sweep(Owner *owner)
 
 static void owner_dealloc(PyObject *self)
 {
-    if (NATIVE_IS_MODERN) PyObject_GC_UnTrack(self);
+    PyObject_GC_UnTrack(self);
     sweep((Owner *)self);
     free_object(self);
 }
@@ -138,9 +138,7 @@ static PyType_Slot owner_slots[] = {
     {Py_tp_doc, (void *)PyDoc_STR("A thread that has sessions.")},
     {Py_tp_new, no_new},
     {Py_tp_dealloc, owner_dealloc},
-#if NATIVE_IS_MODERN
     {Py_tp_traverse, visit_type},
-#endif
     {Py_tp_getset, owner_getters},
     {0, NULL},
 };
@@ -148,7 +146,7 @@ static PyType_Slot owner_slots[] = {
 static PyType_Spec owner_spec = {
     .name = "pylock._native.Owner",
     .basicsize = sizeof(Owner),
-    .flags = Py_TPFLAGS_DEFAULT | NATIVE_COLLECTED | NATIVE_FIXED,
+    .flags = Py_TPFLAGS_DEFAULT | Py_TPFLAGS_HAVE_GC | NATIVE_FIXED,
     .slots = owner_slots,
 };
 
@@ -173,19 +171,16 @@ static Owner *this_owner(State *state)
     return owner;
 }
 
-#if NATIVE_IS_MODERN
 static int session_traverse(PyObject *self, visitproc visit, void *arg)
 {
-    Py_VISIT(Py_TYPE(self));
     Py_VISIT((PyObject *)((Session *)self)->owner);
-    return 0;
+    return visit_type_in(self, visit, arg, session_traverse);
 }
-#endif
 
 static void session_dealloc(PyObject *self)
 {
     Session *session = (Session *)self;
-    if (NATIVE_IS_MODERN) PyObject_GC_UnTrack(self);
+    PyObject_GC_UnTrack(self);
     if (session->place != NULL && session->owner->thread != PyThread_get_thread_ident()) {
         session->place->next = session->owner->graves;
         session->owner->graves = session->place;
@@ -215,10 +210,19 @@ static Session *new_session(State *state)
     return session;
 }
 
+/* Whether this thread has the owner: a thread that begins later may have the number of one that ended. */
+static bool has_owner(const Owner *owner)
+{
+    PyObject *threads = owner->thread == PyThread_get_thread_ident() ? PyThreadState_GetDict() : NULL;
+    PyObject *key = (PyObject *)owner->state->owner;
+    /* the module may have been taken apart */
+    return threads != NULL && key != NULL && PyDict_GetItemWithError(threads, key) == (PyObject *)owner;
+}
+
 static bool is_on_its_thread(Session *session)
 {
-    if (session->owner->thread == PyThread_get_thread_ident()) return true;
-    PyErr_SetString(PyExc_RuntimeError, "pylock: a session is used on its own thread alone");
+    if (has_owner(session->owner)) return true;
+    if (!PyErr_Occurred()) PyErr_SetString(PyExc_RuntimeError, "pylock: a session is used on its own thread alone");
     return false;
 }
 
@@ -290,6 +294,10 @@ static const Edit edits[] = {
     {"drop_extra", 1, false, pylock_session_drop_extra, NULL},
     {"add_group", 1, false, pylock_session_add_group, NULL},
     {"drop_group", 1, false, pylock_session_drop_group, NULL},
+    {"add_extras", 1, false, pylock_session_add_extras, NULL},
+    {"drop_extras", 1, false, pylock_session_drop_extras, NULL},
+    {"add_groups", 1, false, pylock_session_add_groups, NULL},
+    {"drop_groups", 1, false, pylock_session_drop_groups, NULL},
     {"tags", 1, false, pylock_session_tags, NULL},
     {"add", 1, false, pylock_session_add, NULL},
     {"line", 1, false, pylock_session_line, NULL},
@@ -432,9 +440,7 @@ static PyType_Slot session_slots[] = {
     {Py_tp_doc, (void *)PyDoc_STR("A lock in an environment.")},
     {Py_tp_new, no_new},
     {Py_tp_dealloc, session_dealloc},
-#if NATIVE_IS_MODERN
     {Py_tp_traverse, session_traverse},
-#endif
     {Py_tp_methods, session_methods},
     {Py_tp_getset, session_getters},
     {0, NULL},
@@ -443,7 +449,7 @@ static PyType_Slot session_slots[] = {
 static PyType_Spec session_spec = {
     .name = "pylock._native.Session",
     .basicsize = sizeof(Session),
-    .flags = Py_TPFLAGS_DEFAULT | NATIVE_COLLECTED | NATIVE_FIXED,
+    .flags = Py_TPFLAGS_DEFAULT | Py_TPFLAGS_HAVE_GC | NATIVE_FIXED,
     .slots = session_slots,
 };
 

@@ -176,7 +176,7 @@ static PyObject *build_of(const Text *field)
     while (digits < field->length && field->bytes[digits] >= '0' && field->bytes[digits] <= '9') digits++;
     PyObject *text = str_of(field->bytes, digits);
     PyObject *number = text == NULL ? NULL : PyObject_CallFunctionObjArgs((PyObject *)&PyLong_Type, text, NULL);
-    PyObject *rest = number == NULL ? NULL : str_of(field->bytes + digits, field->length - digits);
+    PyObject *rest = number == NULL ? NULL : text_of_field(field->bytes + digits, field->length - digits);
     PyObject *build = rest == NULL ? NULL : PyTuple_Pack(2, number, rest);
     Py_XDECREF(text);
     Py_XDECREF(number);
@@ -200,7 +200,7 @@ static PyObject *tags_of(State *state, Text *field)
 static PyObject *version_of_field(State *state, const Text *field)
 {
     PyObject *text = str_of(field->bytes, field->length);
-    PyObject *version = text == NULL ? NULL : version_of_normal(state, state->version_class, text);
+    PyObject *version = text == NULL ? NULL : version_of_normal(state, text);
     Py_XDECREF(text);
     return version;
 }

@@ -24,7 +24,7 @@ State *single_state(void)
     return state == &several ? NULL : state;
 }
 
-static void leave_state(State *state)
+void leave_state(State *state)
 {
     if (--state->users > 0) return;
     __atomic_store_n(&single, &several, __ATOMIC_SEQ_CST);
@@ -46,8 +46,7 @@ bool add_type(PyObject *module, const char *name, PyTypeObject *type)
 
 int visit_type(PyObject *self, visitproc visit, void *arg)
 {
-    Py_VISIT(Py_TYPE(self));
-    return 0;
+    return visit_type_in(self, visit, arg, visit_type);
 }
 
 PyObject *no_new(PyTypeObject *type, PyObject *arguments, PyObject *named)
@@ -63,7 +62,10 @@ PyObject *new_object(State *state, PyTypeObject *type)
         PyErr_SetString(PyExc_RuntimeError, "pylock: the module was taken apart");
         return NULL;
     }
+    /* the collector may run before the object has its type, and the layer may have said meanwhile that another is used */
+    hold((PyObject *)type);
     PyObject *self = PyType_GenericAlloc(type, 0);
+    let_go((PyObject *)type);
     if (self == NULL) return NULL;
     ((Object *)self)->state = state;
     state->users++;
@@ -72,13 +74,8 @@ PyObject *new_object(State *state, PyTypeObject *type)
 
 void free_memory(PyObject *self)
 {
-#if NATIVE_IS_MODERN
     /* what all of the module's types have, and classes that are made from them */
     PyObject_GC_Del(self);
-#else
-    freefunc free_it = (freefunc)PyType_GetSlot(Py_TYPE(self), Py_tp_free);
-    free_it(self);
-#endif
 }
 
 void free_object(PyObject *self)
@@ -130,8 +127,10 @@ static PyObject *use_tag(PyObject *module, PyObject *type)
     State *state = state_of(module);
     if (!is_class_of(type, state->tag)) return NULL;
     put((PyObject **)&state->tag_class, type);
-    /* those that are kept are of another class */
-    if (state->tags != NULL) PyDict_Clear(state->tags);
+    /* those that are kept are of another class; what ends with them may take the module apart */
+    PyObject *tags = hold(state->tags);
+    if (tags != NULL) PyDict_Clear(tags);
+    let_go(tags);
     Py_RETURN_NONE;
 }
 

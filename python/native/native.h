@@ -26,13 +26,10 @@
 #define NATIVE_IS_MODERN 0
 #endif
 
-/* Objects of the module are found by the collector where its rules are those of 3.9 and later: an instance counts as a
- * reference to its type. They hold texts alone, so before that nothing is lost where they aren't. */
+/* Types that no one else changes. The older API has none. */
 #if NATIVE_IS_MODERN
-#define NATIVE_COLLECTED Py_TPFLAGS_HAVE_GC
 #define NATIVE_FIXED Py_TPFLAGS_IMMUTABLETYPE
 #else
-#define NATIVE_COLLECTED 0
 #define NATIVE_FIXED 0
 #endif
 
@@ -69,6 +66,44 @@ PyObject *call_of_names(NamedCall call, PyObject *self, PyObject *tuple, PyObjec
 /* The type of a specification, as the module holds it: of the module where the API has such types. */
 PyTypeObject *type_of_spec(PyObject *module, PyType_Spec *spec);
 
+/* ---- values that are held ----
+ *
+ * A borrowed value may go when something else runs: a method, a finalizer, or the collector, which may run where an object
+ * is made. One that is used behind a call that may do so is held from before the call until it was used. */
+
+static inline PyObject *hold(PyObject *object)
+{
+    Py_XINCREF(object);
+    return object;
+}
+
+static inline void let_go(PyObject *object)
+{
+    Py_XDECREF(object);
+}
+
+enum { MOST_TAKEN = 3 };
+
+/* The arguments of a call, of so many objects at most, by a format and the words for them as PyArg_ParseTupleAndKeywords has
+ * these. Each is held, or NULL where it isn't given: Python 3.8 hands over the caller's own dict of named ones, which may be
+ * changed at any time. False with an exception, and then none is. */
+bool take_arguments(PyObject *arguments, PyObject *named, const char *format, char **words, PyObject **taken);
+void let_arguments_go(PyObject **taken);
+
+/* A walk over an exact dict, which may be changed meanwhile by what a member or a signal runs: the member that it stands at is
+ * held. */
+typedef struct {
+    PyObject *dict, *key, *member;
+    Py_ssize_t place, size, left;
+} Walk;
+
+Walk walk_over(PyObject *dict);
+/* Goes on to the next member: false at the end, and with an exception where the dict's own iterator would raise it. */
+bool walk_on(Walk *walk);
+void end_walk(Walk *walk);
+/* A copy of a dict, which nobody else has and which so holds what is borrowed of it. */
+PyObject *own_dict(PyObject *dict);
+
 /* ---- the state of the module ---- */
 
 enum { MOST_SPARE_TAGS = 64 };
@@ -87,11 +122,16 @@ typedef struct {
     /* the memory of tags that were let go of, as long as their type is there */
     PyObject *spare_tags[MOST_SPARE_TAGS];
     int spare_count;
+    /* how many specifiers end within one another's end, and those that wait for the end of these */
+    int ending;
+    PyObject *waiting;
     /* the numbers of what a mapping may have for markers, by their names */
     PyObject *places;
 } State;
 
 State *state_of(PyObject *module);
+/* An object or a call uses the state no more, which is counted in `users`: the last one frees it. */
+void leave_state(State *state);
 /* The state, where the process has had but one; else NULL. */
 State *single_state(void);
 /* Whether the object is a module of this file, and so has such a state. */
@@ -173,6 +213,8 @@ PyObject *str_of(const uint8_t *bytes, size_t length);
 PyObject *str_with_halves(const uint8_t *bytes, size_t length);
 /* A kept text as a str. It is empty then. */
 PyObject *str_of_kept(pylock_text *kept);
+/* A field of a record, which isn't absent, as a str. */
+PyObject *text_of_field(const uint8_t *field, size_t length);
 /* The fields of a record: a tuple of str, and None where a field is absent. */
 PyObject *fields_of(const uint8_t *record, size_t length);
 
@@ -202,6 +244,8 @@ typedef struct {
 
 bool is_of(PyObject *object, PyTypeObject *type);
 bool add_type(PyObject *module, const char *name, PyTypeObject *type);
+/* The type of an object, in the walk of the collector that is `own` to the module's type. */
+int visit_type_in(PyObject *self, visitproc visit, void *arg, traverseproc own);
 /* The collector's walk over an object that holds its type alone; and the maker of a type of which Python makes no object. */
 int visit_type(PyObject *self, visitproc visit, void *arg);
 PyObject *no_new(PyTypeObject *type, PyObject *arguments, PyObject *named);
@@ -213,8 +257,8 @@ void free_object(PyObject *self);
 void free_memory(PyObject *self);
 
 PyObject *version_of_text(State *state, PyTypeObject *type, PyObject *text);
-/* The same of a text that the library gave as a version's normal form. */
-PyObject *version_of_normal(State *state, PyTypeObject *type, PyObject *text);
+/* The same of a text that the library gave as a version's normal form; of the class of the Python layer. */
+PyObject *version_of_normal(State *state, PyObject *text);
 PyObject *version_normal(PyObject *self);
 /* The normal form of a version or of its text, without zeros at the end of its release where these are to go; a text that is
  * no version as it is. */

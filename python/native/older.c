@@ -8,6 +8,13 @@ PyTypeObject *type_of_spec(PyObject *module, PyType_Spec *spec)
     return (PyTypeObject *)PyType_FromModuleAndSpec(module, spec, NULL);
 }
 
+int visit_type_in(PyObject *self, visitproc visit, void *arg, traverseproc own)
+{
+    (void)own;
+    Py_VISIT(Py_TYPE(self));
+    return 0;
+}
+
 State *state_of_type(PyTypeObject *type)
 {
     State *only = single_state();
@@ -34,6 +41,26 @@ PyTypeObject *type_of_spec(PyObject *module, PyType_Spec *spec)
     PyObject *type = PyType_FromSpec(spec);
     if (type != NULL && PyObject_SetAttrString(type, MODULE_NAME, module) < 0) Py_CLEAR(type);
     return (PyTypeObject *)type;
+}
+
+/* Whether the Python that runs is 3.8: asked once, as some make the text of their release anew each time. */
+static bool is_first(void)
+{
+    static int told = -1;
+    int is_it = __atomic_load_n(&told, __ATOMIC_RELAXED);
+    if (is_it < 0) {
+        is_it = strncmp(Py_GetVersion(), "3.8.", 4) == 0;
+        __atomic_store_n(&told, is_it, __ATOMIC_RELAXED);
+    }
+    return is_it != 0;
+}
+
+/* An instance counts as a reference to its type. In 3.8 the walk over an object of a class in Python visits the class by
+ * itself, and from 3.9 on it leaves that to the walk of the type that the class is made from. */
+int visit_type_in(PyObject *self, visitproc visit, void *arg, traverseproc own)
+{
+    if (!is_first() || PyType_GetSlot(Py_TYPE(self), Py_tp_traverse) == (void *)own) Py_VISIT(Py_TYPE(self));
+    return 0;
 }
 
 State *state_of_type(PyTypeObject *type)
@@ -73,21 +100,33 @@ PyObject *call_of_tuple(ArrayCall call, PyObject *self, PyObject *tuple)
     return array_of_tuple(tuple, arguments, &count) ? call(self, arguments, count) : NULL;
 }
 
+static PyObject *names_of(PyObject *named)
+{
+    PyObject *list = PyDict_Keys(named);
+    PyObject *names = list == NULL ? NULL : PyList_AsTuple(list);
+    Py_XDECREF(list);
+    if (names == NULL || PyTuple_Size(names) <= MOST_ARGUMENTS) return names;
+    Py_DECREF(names);
+    return too_many();
+}
+
 PyObject *call_of_names(NamedCall call, PyObject *self, PyObject *tuple, PyObject *named)
 {
     PyObject *arguments[2 * MOST_ARGUMENTS];
     Py_ssize_t count;
     if (!array_of_tuple(tuple, arguments, &count)) return NULL;
     if (named == NULL || PyDict_Size(named) == 0) return call(self, arguments, count, NULL);
-    if (PyDict_Size(named) > MOST_ARGUMENTS) return too_many();
-    PyObject *list = PyDict_Keys(named);
-    PyObject *names = list == NULL ? NULL : PyList_AsTuple(list);
-    Py_XDECREF(list);
-    if (names == NULL) return NULL;
-    for (Py_ssize_t index = 0; index < PyTuple_Size(names); index++)
-        arguments[count + index] = PyDict_GetItem(named, PyTuple_GetItem(names, index));
-    PyObject *result = call(self, arguments, count, names);
-    Py_DECREF(names);
+    /* the dict may be the caller's own */
+    PyObject *own = own_dict(named);
+    PyObject *names = own == NULL ? NULL : names_of(own);
+    PyObject *result = NULL;
+    if (names != NULL) {
+        for (Py_ssize_t index = 0; index < PyTuple_Size(names); index++)
+            arguments[count + index] = PyDict_GetItem(own, PyTuple_GetItem(names, index));
+        result = call(self, arguments, count, names);
+    }
+    Py_XDECREF(names);
+    Py_XDECREF(own);
     return result;
 }
 

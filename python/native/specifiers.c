@@ -12,7 +12,11 @@ typedef struct {
     PyObject *given;
     /* the operator and the operand without white space, and how long the operator is: NULL until it was asked for */
     PyObject *text;
-    size_t sign;
+    union {
+        size_t sign;
+        /* of one that waits for its end: the next that does */
+        PyObject *next;
+    };
     /* both as a pair: NULL until they were asked for */
     PyObject *pair;
     /* what equal ones have in common: NULL until it was asked for */
@@ -152,41 +156,60 @@ static bool read_specifier(Specifier *specifier, PyObject *text)
     return true;
 }
 
+/* The operator and the operand of a text that is one specifier, and how long the operator is. */
+static PyObject *text_of_given(PyObject *given, size_t *sign)
+{
+    Text view;
+    if (!text_of(given, &view)) return NULL;
+    Piece piece = cut_piece(stripped(view));
+    *sign = piece.sign.length;
+    PyObject *text = text_of_piece(&piece, given, &view);
+    text_done(&view);
+    return text;
+}
+
 /* Whether the specifier has its text; else an exception says why not. */
 static bool has_text(Specifier *specifier)
 {
-    Text view;
-    if (specifier->text != NULL) return true;
-    if (specifier->given == NULL) {
-        PyErr_SetString(PyExc_ValueError, "pylock: the specifier has no text yet");
-        return false;
+    while (specifier->text == NULL) {
+        size_t sign;
+        PyObject *given = hold(specifier->given);
+        if (given == NULL) {
+            PyErr_SetString(PyExc_ValueError, "pylock: the specifier has no text yet");
+            return false;
+        }
+        PyObject *text = text_of_given(given, &sign);
+        /* what else ran meanwhile may have read another, or have found it too */
+        bool is_its = specifier->given == given && specifier->text == NULL;
+        let_go(given);
+        if (text == NULL) return false;
+        if (is_its) {
+            specifier->text = text;
+            specifier->sign = sign;
+        } else
+            Py_DECREF(text);
     }
-    if (!text_of(specifier->given, &view)) return false;
-    Piece piece = cut_piece(stripped(view));
-    specifier->sign = piece.sign.length;
-    specifier->text = text_of_piece(&piece, specifier->given, &view);
-    text_done(&view);
-    return specifier->text != NULL;
+    return true;
 }
 
 static int specifier_init(PyObject *self, PyObject *arguments, PyObject *named)
 {
     static char *words[] = {"spec", "prereleases", NULL};
-    PyObject *text = NULL, *forced = Py_None, *empty = NULL;
+    PyObject *taken[MOST_TAKEN] = {NULL};
     Specifier *specifier = (Specifier *)self;
     if (named == NULL && PyTuple_Size(arguments) == 1)
-        text = PyTuple_GetItem(arguments, 0);
-    else if (!PyArg_ParseTupleAndKeywords(arguments, named, "|OO:Specifier", words, &text, &forced))
+        taken[0] = hold(PyTuple_GetItem(arguments, 0));
+    else if (!take_arguments(arguments, named, "|OO:Specifier", words, taken))
         return -1;
-    if (text == NULL && (text = empty = PyUnicode_FromString("")) == NULL) return -1;
-    bool is_good = read_specifier(specifier, text);
-    Py_XDECREF(empty);
-    if (!is_good) return -1;
-    PyObject *before = specifier->forced;
-    Py_INCREF(forced);
-    specifier->forced = forced;
-    Py_XDECREF(before);
-    return 0;
+    if (taken[0] == NULL) taken[0] = PyUnicode_FromString("");
+    bool is_good = taken[0] != NULL && read_specifier(specifier, taken[0]);
+    if (is_good) {
+        PyObject *before = specifier->forced;
+        specifier->forced = hold(taken[1] == NULL ? Py_None : taken[1]);
+        Py_XDECREF(before);
+    }
+    let_arguments_go(taken);
+    return is_good ? 0 : -1;
 }
 
 static PyObject *specifier_new(PyTypeObject *type, PyObject *arguments, PyObject *named)
@@ -210,16 +233,14 @@ static PyObject *specifier_of_piece(State *state, const Piece *piece, PyObject *
     return (PyObject *)specifier;
 }
 
-#if NATIVE_IS_MODERN
 static int specifier_traverse(PyObject *self, visitproc visit, void *arg)
 {
     Specifier *specifier = (Specifier *)self;
-    Py_VISIT(Py_TYPE(self));
     Py_VISIT(specifier->forced);
     Py_VISIT(specifier->canonical);
     Py_VISIT(specifier->names);
     Py_VISIT(specifier->exact);
-    return 0;
+    return visit_type_in(self, visit, arg, specifier_traverse);
 }
 
 static int specifier_clear(PyObject *self)
@@ -230,14 +251,38 @@ static int specifier_clear(PyObject *self)
     Py_CLEAR(specifier->exact);
     return 0;
 }
-#endif
 
-static void specifier_dealloc(PyObject *self)
+/* Of specifiers that hold one another in a row each ends within the end of the one before: so many at most, the next waits,
+ * as Python's own containers do. */
+enum { MOST_ENDING = 50 };
+
+static void end_specifier(State *state, PyObject *self)
 {
-    if (NATIVE_IS_MODERN) PyObject_GC_UnTrack(self);
+    state->ending++;
     forget((Specifier *)self);
     Py_CLEAR(((Specifier *)self)->forced);
     free_object(self);
+    state->ending--;
+}
+
+static void specifier_dealloc(PyObject *self)
+{
+    State *state = ((Specifier *)self)->state;
+    PyObject_GC_UnTrack(self);
+    if (state->ending == MOST_ENDING) {
+        /* the state stays, as it is used by each that waits */
+        ((Specifier *)self)->next = state->waiting;
+        state->waiting = self;
+        return;
+    }
+    state->users++;
+    end_specifier(state, self);
+    while (state->ending == 0 && state->waiting != NULL) {
+        PyObject *next = state->waiting;
+        state->waiting = ((Specifier *)next)->next;
+        end_specifier(state, next);
+    }
+    leave_state(state);
 }
 
 /* ---- what is asked of a specifier ---- */
@@ -272,30 +317,25 @@ static PyObject *get_pair(PyObject *self, void *closure)
 {
     Specifier *specifier = (Specifier *)self;
     (void)closure;
-    if (specifier->pair == NULL) {
-        PyObject *text = specifier_text(self);
-        PyObject *pair = text == NULL ? NULL : made_pair(text, specifier->sign);
-        Py_XDECREF(text);
-        if (pair == NULL) return NULL;
-        Py_XDECREF(specifier->pair);
-        specifier->pair = pair;
-    }
-    Py_INCREF(specifier->pair);
-    return specifier->pair;
+    if (specifier->pair != NULL) return hold(specifier->pair);
+    PyObject *text = specifier_text(self);
+    PyObject *pair = text == NULL ? NULL : made_pair(text, specifier->sign);
+    /* what else ran meanwhile may have read another text, or have found it too */
+    if (pair != NULL && specifier->text == text && specifier->pair == NULL) specifier->pair = hold(pair);
+    let_go(text);
+    return pair;
 }
 
-/* The operator and the operand in normal form; of `===` the operand as it is, as all of it counts. */
-static PyObject *made_canonical(Specifier *specifier)
+/* The operator and the operand of a pair in normal form; of `===` the operand as it is, as all of it counts. */
+static PyObject *made_canonical(State *state, PyObject *pair)
 {
-    PyObject *pair = get_pair((PyObject *)specifier, NULL);
-    if (pair == NULL || specifier->sign == 3) return pair;
     PyObject *operator = PyTuple_GetItem(pair, 0);
+    if (PyUnicode_GetLength(operator) == 3) return hold(pair);
     /* of `~=` each number of the release counts */
     bool strip = PyUnicode_CompareWithASCIIString(operator, "~=") != 0;
-    PyObject *operand = canonical_version(specifier->state, PyTuple_GetItem(pair, 1), strip);
+    PyObject *operand = canonical_version(state, PyTuple_GetItem(pair, 1), strip);
     PyObject *canonical = operand == NULL ? NULL : PyTuple_Pack(2, operator, operand);
     Py_XDECREF(operand);
-    Py_DECREF(pair);
     return canonical;
 }
 
@@ -303,15 +343,13 @@ static PyObject *specifier_canonical(PyObject *self, PyObject *nothing)
 {
     Specifier *specifier = (Specifier *)self;
     (void)nothing;
-    if (specifier->canonical == NULL) {
-        PyObject *canonical = made_canonical(specifier);
-        if (canonical == NULL) return NULL;
-        /* what else ran meanwhile may have found it too */
-        Py_XDECREF(specifier->canonical);
-        specifier->canonical = canonical;
-    }
-    Py_INCREF(specifier->canonical);
-    return specifier->canonical;
+    if (specifier->canonical != NULL) return hold(specifier->canonical);
+    PyObject *pair = get_pair(self, NULL);
+    PyObject *canonical = pair == NULL ? NULL : made_canonical(specifier->state, pair);
+    /* as in the pair */
+    if (canonical != NULL && specifier->pair == pair && specifier->canonical == NULL) specifier->canonical = hold(canonical);
+    let_go(pair);
+    return canonical;
 }
 
 static Py_hash_t specifier_hash(PyObject *self)
@@ -329,31 +367,39 @@ static PyObject *get_is_exact(PyObject *self, void *closure)
     return has_text((Specifier *)self) ? PyBool_FromLong(((Specifier *)self)->sign == 3) : NULL;
 }
 
+/* Reads the text into the slot, unless the specifier has another text or a slot by now: false with an exception. */
+static bool read_slot(Specifier *specifier, PyObject *text)
+{
+    Text view;
+    if (!text_of(text, &view)) return false;
+    bool is_its = specifier->text == text && !specifier->slot.full;
+    int32_t code = is_its ? pylock_set_parse(&specifier->slot, view.bytes, view.length) : PYLOCK_OK;
+    text_done(&view);
+    if (code != PYLOCK_OK) raise_refusal(specifier->state, code, text, "specifier");
+    return code == PYLOCK_OK;
+}
+
 /* Whether the specifier's text stands in its slot; else an exception says why not. */
 static bool fill_slot(Specifier *specifier)
 {
-    Text view;
-    PyObject *text = specifier_text((PyObject *)specifier);
-    if (text == NULL || !text_of(text, &view)) {
-        Py_XDECREF(text);
-        return false;
+    while (!specifier->slot.full) {
+        PyObject *text = specifier_text((PyObject *)specifier);
+        bool is_good = text != NULL && read_slot(specifier, text);
+        let_go(text);
+        if (!is_good) return false;
     }
-    /* what else ran meanwhile may have filled it */
-    int32_t code = specifier->slot.full ? PYLOCK_OK : pylock_set_parse(&specifier->slot, view.bytes, view.length);
-    text_done(&view);
-    if (code != PYLOCK_OK) raise_refusal(specifier->state, code, text, "specifier");
-    Py_DECREF(text);
-    return code == PYLOCK_OK;
+    return true;
 }
 
 /* The code of the library's answer, or -1 with an exception. `text` is then that of the version. */
 static int32_t ask_specifier(Specifier *specifier, PyObject *version, bool *admits, PyObject **text)
 {
     Text view;
-    if (!specifier->slot.full && !fill_slot(specifier)) return -1;
     *text = given_text(specifier->state, version);
     if (*text == NULL || !text_of(*text, &view)) return -1;
-    int32_t code = pylock_set_admits(&specifier->slot, view.bytes, view.length, admits);
+    /* from here on nothing runs but the library */
+    bool is_full = fill_slot(specifier);
+    int32_t code = is_full ? pylock_set_admits(&specifier->slot, view.bytes, view.length, admits) : -1;
     text_done(&view);
     return code;
 }
@@ -405,10 +451,8 @@ static PyType_Slot specifier_slots[] = {
     {Py_tp_new, specifier_new},
     {Py_tp_init, specifier_init},
     {Py_tp_dealloc, specifier_dealloc},
-#if NATIVE_IS_MODERN
     {Py_tp_traverse, specifier_traverse},
     {Py_tp_clear, specifier_clear},
-#endif
     {Py_tp_hash, specifier_hash},
     {Py_tp_str, specifier_text},
     {Py_tp_methods, specifier_methods},
@@ -420,7 +464,7 @@ static PyType_Slot specifier_slots[] = {
 static PyType_Spec specifier_spec = {
     .name = "pylock._native.Specifier",
     .basicsize = sizeof(Specifier),
-    .flags = Py_TPFLAGS_DEFAULT | Py_TPFLAGS_BASETYPE | NATIVE_COLLECTED,
+    .flags = Py_TPFLAGS_DEFAULT | Py_TPFLAGS_BASETYPE | Py_TPFLAGS_HAVE_GC,
     .slots = specifier_slots,
 };
 

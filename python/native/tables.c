@@ -184,46 +184,6 @@ static bool end_member(Writer *writer, char sign)
 
 /* ---- arrays and tables ---- */
 
-/* A walk over an exact dict, which may be changed meanwhile by what a member or a signal runs. */
-typedef struct {
-    PyObject *dict, *key, *member;
-    Py_ssize_t place, size, left;
-} Walk;
-
-static Walk walk_over(PyObject *dict)
-{
-    Py_ssize_t size = PyDict_Size(dict);
-    return (Walk){.dict = dict, .size = size, .left = size};
-}
-
-static void let_go(Walk *walk)
-{
-    Py_CLEAR(walk->key);
-    Py_CLEAR(walk->member);
-}
-
-/* Goes on to the next member, and holds it: false at the end, and with an exception where the dict's own iterator would
- * raise it. */
-static bool walk_on(Walk *walk)
-{
-    PyObject *key, *member;
-    let_go(walk);
-    if (PyDict_Size(walk->dict) != walk->size) {
-        PyErr_SetString(PyExc_RuntimeError, "dictionary changed size during iteration");
-        return false;
-    }
-    if (!PyDict_Next(walk->dict, &walk->place, &key, &member)) return false;
-    if (walk->left-- == 0) {
-        PyErr_SetString(PyExc_RuntimeError, "dictionary keys changed during iteration");
-        return false;
-    }
-    Py_INCREF(key);
-    Py_INCREF(member);
-    walk->key = key;
-    walk->member = member;
-    return true;
-}
-
 /* The members of a dict, each with the sign behind it. */
 static bool put_dict(Writer *writer, PyObject *dict, char sign)
 {
@@ -231,7 +191,7 @@ static bool put_dict(Writer *writer, PyObject *dict, char sign)
     bool is_good = true;
     while (is_good && walk_on(&walk))
         is_good = put_key(writer, walk.key) && put_value(writer, walk.member) && end_member(writer, sign);
-    let_go(&walk);
+    end_walk(&walk);
     return is_good && !PyErr_Occurred();
 }
 
@@ -241,9 +201,9 @@ static bool put_listed(Writer *writer, PyObject *list)
     bool is_list = PyList_Check(list);
     for (Py_ssize_t place = 0; place < (is_list ? PyList_Size(list) : PyTuple_Size(list)); place++) {
         PyObject *member = is_list ? PyList_GetItem(list, place) : PyTuple_GetItem(list, place);
-        Py_INCREF(member);
+        hold(member);
         bool is_good = put_value(writer, member) && end_member(writer, ',');
-        Py_DECREF(member);
+        let_go(member);
         if (!is_good) return false;
     }
     return true;
@@ -372,11 +332,20 @@ TAKES_TUPLE(toml)
 
 /* ---- objects of tables ---- */
 
+/* Whether it is a class that was made at run time, and stands on such classes and on `object` alone. Of others the objects
+ * may have attributes that aren't given as those are, as a type and a module have. */
+static bool is_plain_class(PyObject *kind)
+{
+    if (!PyType_Check(kind)) return false;
+    PyTypeObject *type = (PyTypeObject *)kind;
+    while (type != NULL && (PyType_GetFlags(type) & Py_TPFLAGS_HEAPTYPE) != 0) type = PyType_GetSlot(type, Py_tp_base);
+    return type == &PyBaseObject_Type && kind != (PyObject *)type;
+}
+
 /* An object of a class that is made in Python, without its __init__. */
 static PyObject *new_of(PyObject *kind)
 {
-    bool is_of_python = PyType_Check(kind) && (PyType_GetFlags((PyTypeObject *)kind) & Py_TPFLAGS_HEAPTYPE) != 0;
-    newfunc make = is_of_python ? (newfunc)PyType_GetSlot((PyTypeObject *)kind, Py_tp_new) : NULL;
+    newfunc make = is_plain_class(kind) ? (newfunc)PyType_GetSlot((PyTypeObject *)kind, Py_tp_new) : NULL;
     if (make == NULL) {
         PyErr_SetString(PyExc_TypeError, "expected a class that is made in Python");
         return NULL;
@@ -384,7 +353,11 @@ static PyObject *new_of(PyObject *kind)
     PyObject *nothing = PyTuple_New(0);
     PyObject *made = nothing == NULL ? NULL : make((PyTypeObject *)kind, nothing, NULL);
     Py_XDECREF(nothing);
-    return made;
+    /* a __new__ in Python may give anything */
+    if (made == NULL || Py_TYPE(made) == (PyTypeObject *)kind) return made;
+    PyErr_Format(PyExc_TypeError, "expected an object of %R, not of %R", kind, (PyObject *)Py_TYPE(made));
+    Py_DECREF(made);
+    return NULL;
 }
 
 /* Gives the object an attribute: of a name, or of a pair of a name and of what reads a value that isn't None. */
@@ -411,11 +384,11 @@ static bool give_all(PyObject *made, PyObject *attributes, PyObject *dict)
             is_good = !PyErr_Occurred();
             continue;
         }
-        Py_INCREF(attribute);
+        hold(attribute);
         is_good = give(made, attribute, walk.member);
-        Py_DECREF(attribute);
+        let_go(attribute);
     }
-    let_go(&walk);
+    end_walk(&walk);
     return is_good && !PyErr_Occurred();
 }
 

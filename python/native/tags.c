@@ -1,7 +1,8 @@
 /* Tags of wheels: three texts in lower case. */
 #include "native.h"
 
-enum { PIECES = 3, MOST_TAGS = 4096 };
+/* Of tags that come again so many are kept, of texts that are no longer than this. */
+enum { PIECES = 3, MOST_TAGS = 4096, LONGEST_KEPT = 200 };
 
 typedef struct {
     PyObject_HEAD
@@ -95,9 +96,7 @@ static Tag *empty_tag(State *state, PyTypeObject *type)
     tag->state = state;
     state->users++;
     tag->text = tag->pieces = NULL;
-#if NATIVE_IS_MODERN
     PyObject_GC_Track(tag);
-#endif
     return tag;
 }
 
@@ -143,16 +142,14 @@ static PyObject *small_text(PyObject *tuple)
     for (int index = 0; index < PIECES; index++) {
         Text text;
         PyObject *object = PyTuple_GetItem(tuple, index);
-        if (!PyUnicode_CheckExact(object) || !text_of(object, &text)) break;
+        if (!PyUnicode_CheckExact(object) || !text_of(object, &text)) return NULL;
         if (index > 0) near[written++] = '-';
         bool is_one = text.length < RESULT_ROOM - written && copy_small(near + written, text.bytes, text.length);
         written += text.length;
         text_done(&text);
         if (!is_one) return NULL;
-        if (index + 1 == PIECES) return PyUnicode_DecodeLatin1((const char *)near, (Py_ssize_t)written, NULL);
     }
-    PyErr_Clear();
-    return NULL;
+    return PyUnicode_DecodeLatin1((const char *)near, (Py_ssize_t)written, NULL);
 }
 
 /* The bytes of three texts with dashes between, as a str. */
@@ -185,25 +182,23 @@ static PyObject *joined_pieces(PyObject *pieces)
 static PyObject *tag_new(PyTypeObject *type, PyObject *arguments, PyObject *named)
 {
     static char *words[] = {"interpreter", "abi", "platform", NULL};
-    PyObject *given[PIECES];
+    PyObject *taken[MOST_TAKEN];
     State *state = state_of_type(type);
     if (state == NULL) return NULL;
     bool are_three = named == NULL && PyTuple_CheckExact(arguments) && PyTuple_Size(arguments) == PIECES;
     PyObject *text = are_three ? small_text(arguments) : NULL;
-    if (text != NULL) {
-        /* the tuple of the call becomes that of the pieces */
-        Py_INCREF(arguments);
-        return made_tag(state, type, text, arguments);
-    }
-    if (!PyArg_ParseTupleAndKeywords(arguments, named, "OOO:Tag", words, &given[0], &given[1], &given[2])) return NULL;
-    PyObject *pieces = lower_pieces(given);
+    /* the tuple of the call becomes that of the pieces */
+    if (text != NULL) return made_tag(state, type, text, hold(arguments));
+    if (PyErr_Occurred() || !take_arguments(arguments, named, "OOO:Tag", words, taken)) return NULL;
+    PyObject *pieces = lower_pieces(taken);
+    let_arguments_go(taken);
     return pieces == NULL ? NULL : made_tag(state, type, joined_pieces(pieces), pieces);
 }
 
 static void tag_dealloc(PyObject *self)
 {
     Tag *tag = (Tag *)self;
-    if (NATIVE_IS_MODERN) PyObject_GC_UnTrack(self);
+    PyObject_GC_UnTrack(self);
     Py_CLEAR(tag->pieces);
     Py_CLEAR(tag->text);
     leave_tag(self);
@@ -234,11 +229,12 @@ static PyObject *tag_pieces(Tag *tag)
 {
     if (tag->pieces == NULL) {
         PyObject *pieces = cut_pieces(tag->text);
+        if (pieces == NULL) return NULL;
         /* a finalizer that ran meanwhile may have asked for them too */
         if (tag->pieces == NULL)
             tag->pieces = pieces;
         else
-            Py_XDECREF(pieces);
+            Py_DECREF(pieces);
     }
     return tag->pieces;
 }
@@ -329,9 +325,7 @@ static PyType_Slot tag_slots[] = {
     {Py_tp_doc, (void *)PyDoc_STR(TAG_TEXT)},
     {Py_tp_new, tag_new},
     {Py_tp_dealloc, tag_dealloc},
-#if NATIVE_IS_MODERN
     {Py_tp_traverse, visit_type},
-#endif
     {Py_tp_hash, tag_hash},
     {Py_tp_richcompare, tag_compare},
     {Py_tp_str, tag_str},
@@ -345,7 +339,7 @@ static PyType_Slot tag_slots[] = {
 static PyType_Spec tag_spec = {
     .name = "pylock._tag.Tag",
     .basicsize = sizeof(Tag),
-    .flags = Py_TPFLAGS_DEFAULT | Py_TPFLAGS_BASETYPE | NATIVE_COLLECTED,
+    .flags = Py_TPFLAGS_DEFAULT | Py_TPFLAGS_BASETYPE | Py_TPFLAGS_HAVE_GC,
     .slots = tag_slots,
 };
 
@@ -359,19 +353,30 @@ static PyObject *cut_tag(State *state, PyObject *text)
     if (!text_of(text, &view)) return NULL;
     bool is_small = view.length <= RESULT_ROOM && copy_small(near, view.bytes, view.length);
     text_done(&view);
-    return made_tag(state, state->tag_class, is_small ? exact_text(text) : lower(text), NULL);
+    PyObject *small = is_small ? exact_text(text) : lower(text);
+    return made_tag(state, state->tag_class, small, NULL);
+}
+
+/* The tag of a text as one of those that are kept, or a new one, which is kept from then on. Each is held. */
+static PyObject *kept_tag(State *state, PyObject *tags, PyObject *text)
+{
+    PyObject *tag = hold(PyDict_GetItemWithError(tags, text));
+    /* whoever got a tag may have given it another class */
+    if (tag != NULL && Py_TYPE(tag) == state->tag_class) return tag;
+    let_go(tag);
+    if (tag == NULL && PyErr_Occurred()) return NULL;
+    tag = cut_tag(state, text);
+    if (tag != NULL && PyDict_Size(tags) >= MOST_TAGS) PyDict_Clear(tags);
+    if (tag != NULL && PyDict_SetItem(tags, text, tag) < 0) Py_CLEAR(tag);
+    return tag;
 }
 
 static PyObject *tag_of_text(State *state, PyObject *text)
 {
-    if (state->tags == NULL) return cut_tag(state, text);
-    PyObject *tag = PyDict_GetItemWithError(state->tags, text);
-    Py_XINCREF(tag);
-    if (tag == NULL && !PyErr_Occurred()) {
-        tag = cut_tag(state, text);
-        if (tag != NULL && PyDict_Size(state->tags) >= MOST_TAGS) PyDict_Clear(state->tags);
-        if (tag != NULL && PyDict_SetItem(state->tags, text, tag) < 0) Py_CLEAR(tag);
-    }
+    if (state->tags == NULL || PyUnicode_GetLength(text) > LONGEST_KEPT) return cut_tag(state, text);
+    PyObject *tags = hold(state->tags);
+    PyObject *tag = kept_tag(state, tags, text);
+    let_go(tags);
     return tag;
 }
 

@@ -149,13 +149,14 @@ static PyObject *field_with_escapes(const uint8_t *field, size_t length)
     return result;
 }
 
+PyObject *text_of_field(const uint8_t *field, size_t length)
+{
+    return memchr(field, '\\', length) == NULL ? str_of(field, length) : field_with_escapes(field, length);
+}
+
 static PyObject *field_of(const uint8_t *field, size_t length)
 {
-    if (length == 1 && field[0] == '-') {
-        Py_INCREF(Py_None);
-        return Py_None;
-    }
-    return memchr(field, '\\', length) == NULL ? str_of(field, length) : field_with_escapes(field, length);
+    return length == 1 && field[0] == '-' ? hold(Py_None) : text_of_field(field, length);
 }
 
 PyObject *fields_of(const uint8_t *record, size_t length)
@@ -200,7 +201,10 @@ static bool raise_common(PyObject *maker, int32_t code)
 void raise_refusal(State *state, int32_t code, PyObject *text, const char *kind)
 {
     if (raise_common(state->refuse, code)) return;
-    raise_made(PyObject_CallFunction(state->refuse, "iOs", (int)code, text, kind));
+    /* what it runs may give the module another one */
+    PyObject *maker = hold(state->refuse);
+    raise_made(PyObject_CallFunction(maker, "iOs", (int)code, text, kind));
+    let_go(maker);
 }
 
 void raise_input(State *state, int32_t code, pylock_text *words, PyObject *lock, PyObject *environment, bool json)
@@ -211,8 +215,9 @@ void raise_input(State *state, int32_t code, pylock_text *words, PyObject *lock,
     }
     PyObject *text = str_of_kept(words);
     if (text == NULL) return;
-    PyObject *flag = json ? Py_True : Py_False;
-    raise_made(PyObject_CallFunction(state->refuse_input, "iOOOO", (int)code, text, lock, environment, flag));
+    PyObject *flag = json ? Py_True : Py_False, *maker = hold(state->refuse_input);
+    raise_made(PyObject_CallFunction(maker, "iOOOO", (int)code, text, lock, environment, flag));
+    let_go(maker);
     Py_DECREF(text);
 }
 
@@ -224,6 +229,67 @@ bool check_count(const char *name, Py_ssize_t count, Py_ssize_t wanted)
     PyErr_Format(PyExc_TypeError, "%s() takes %zd arguments, not %zd", name, wanted, count);
     return false;
 }
+
+PyObject *own_dict(PyObject *dict)
+{
+    PyObject *own = PyDict_New();
+    Walk walk = walk_over(dict);
+    while (own != NULL && walk_on(&walk))
+        if (PyDict_SetItem(own, walk.key, walk.member) < 0) Py_CLEAR(own);
+    end_walk(&walk);
+    if (PyErr_Occurred()) Py_CLEAR(own);
+    return own;
+}
+
+bool take_arguments(PyObject *arguments, PyObject *named, const char *format, char **words, PyObject **taken)
+{
+    PyObject *own = named == NULL ? NULL : own_dict(named);
+    if (named != NULL && own == NULL) return false;
+    for (int index = 0; index < MOST_TAKEN; index++) taken[index] = NULL;
+    bool is_good = PyArg_ParseTupleAndKeywords(arguments, own, format, words, &taken[0], &taken[1], &taken[2]) != 0;
+    for (int index = 0; index < MOST_TAKEN; index++) taken[index] = is_good ? hold(taken[index]) : NULL;
+    Py_XDECREF(own);
+    return is_good;
+}
+
+void let_arguments_go(PyObject **taken)
+{
+    for (int index = 0; index < MOST_TAKEN; index++) Py_CLEAR(taken[index]);
+}
+
+/* ---- dicts ---- */
+
+Walk walk_over(PyObject *dict)
+{
+    Py_ssize_t size = PyDict_Size(dict);
+    return (Walk){.dict = dict, .size = size, .left = size};
+}
+
+bool walk_on(Walk *walk)
+{
+    PyObject *key, *member;
+    end_walk(walk);
+    if (PyDict_Size(walk->dict) != walk->size) {
+        PyErr_SetString(PyExc_RuntimeError, "dictionary changed size during iteration");
+        return false;
+    }
+    if (!PyDict_Next(walk->dict, &walk->place, &key, &member)) return false;
+    if (walk->left-- == 0) {
+        PyErr_SetString(PyExc_RuntimeError, "dictionary keys changed during iteration");
+        return false;
+    }
+    walk->key = hold(key);
+    walk->member = hold(member);
+    return true;
+}
+
+void end_walk(Walk *walk)
+{
+    Py_CLEAR(walk->key);
+    Py_CLEAR(walk->member);
+}
+
+/* ---- one argument ---- */
 
 PyObject *one_and_flag(const Signature *signature, PyObject *const *arguments, Py_ssize_t count, PyObject *names, bool *flag)
 {

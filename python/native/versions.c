@@ -151,11 +151,11 @@ PyObject *version_of_text(State *state, PyTypeObject *type, PyObject *text)
     return (PyObject *)version;
 }
 
-PyObject *version_of_normal(State *state, PyTypeObject *type, PyObject *text)
+PyObject *version_of_normal(State *state, PyObject *text)
 {
     Text view;
     if (!text_of(text, &view)) return NULL;
-    Version *version = empty_version(state, type);
+    Version *version = empty_version(state, state->version_class);
     if (version != NULL && (version->text = exact_text(text)) == NULL) Py_CLEAR(version);
     if (version != NULL) put_is_prerelease(version, is_early_normal(&view));
     text_done(&view);
@@ -175,13 +175,20 @@ static bool has_key(Version *version)
     return code == PYLOCK_OK;
 }
 
-/* The text of a call: a borrowed reference. */
+/* The text of a call, which is held: NULL with an exception. */
 static inline PyObject *given_version(PyObject *arguments, PyObject *named)
 {
     static char *words[] = {"version", NULL};
-    PyObject *text;
-    if (named == NULL && PyTuple_Size(arguments) == 1) return PyTuple_GetItem(arguments, 0);
-    return PyArg_ParseTupleAndKeywords(arguments, named, "O:Version", words, &text) ? text : NULL;
+    PyObject *taken[MOST_TAKEN];
+    if (named == NULL && PyTuple_Size(arguments) == 1) return hold(PyTuple_GetItem(arguments, 0));
+    return take_arguments(arguments, named, "O:Version", words, taken) ? taken[0] : NULL;
+}
+
+/* A version that has a text is the one of this text, which its maker has read already. */
+static bool is_of_text(Version *version, PyObject *text)
+{
+    if (text == version->text || (PyUnicode_Check(text) && PyUnicode_Compare(text, version->text) == 0)) return true;
+    return no_change();
 }
 
 /* A class that is made from this one may have an __init__ of its own, and call that of its base with the text. */
@@ -190,10 +197,9 @@ static int version_init(PyObject *self, PyObject *arguments, PyObject *named)
     Version *version = (Version *)self;
     PyObject *text = given_version(arguments, named);
     if (text == NULL) return -1;
-    if (version->text == NULL) return read_version(version, text) ? 0 : -1;
-    /* the maker has read it already */
-    if (text == version->text || (PyUnicode_Check(text) && PyUnicode_Compare(text, version->text) == 0)) return 0;
-    return no_change() ? 0 : -1;
+    bool is_good = version->text == NULL ? read_version(version, text) : is_of_text(version, text);
+    let_go(text);
+    return is_good ? 0 : -1;
 }
 
 static PyObject *version_new(PyTypeObject *type, PyObject *arguments, PyObject *named)
@@ -202,24 +208,23 @@ static PyObject *version_new(PyTypeObject *type, PyObject *arguments, PyObject *
     if (state == NULL) return NULL;
     if (PyType_GetSlot(type, Py_tp_init) != (void *)version_init) return (PyObject *)empty_version(state, type);
     PyObject *text = given_version(arguments, named);
-    return text == NULL ? NULL : version_of_text(state, type, text);
+    PyObject *version = text == NULL ? NULL : version_of_text(state, type, text);
+    let_go(text);
+    return version;
 }
 
-#if NATIVE_IS_MODERN
 static int version_traverse(PyObject *self, visitproc visit, void *arg)
 {
     Version *version = (Version *)self;
-    Py_VISIT(Py_TYPE(self));
     Py_VISIT(version->fields);
     Py_VISIT(version->parts);
-    return 0;
+    return visit_type_in(self, visit, arg, version_traverse);
 }
-#endif
 
 static void version_dealloc(PyObject *self)
 {
     Version *version = (Version *)self;
-    if (NATIVE_IS_MODERN) PyObject_GC_UnTrack(self);
+    PyObject_GC_UnTrack(self);
     Py_CLEAR(version->text);
     Py_CLEAR(version->normal);
     Py_CLEAR(version->fields);
@@ -631,9 +636,7 @@ static PyType_Slot version_slots[] = {
     {Py_tp_new, version_new},
     {Py_tp_init, version_init},
     {Py_tp_dealloc, version_dealloc},
-#if NATIVE_IS_MODERN
     {Py_tp_traverse, version_traverse},
-#endif
     {Py_tp_hash, version_hash},
     {Py_tp_richcompare, version_compare},
     {Py_tp_str, version_normal},
@@ -646,7 +649,7 @@ static PyType_Slot version_slots[] = {
 static PyType_Spec version_spec = {
     .name = "pylock._native.Version",
     .basicsize = sizeof(Version),
-    .flags = Py_TPFLAGS_DEFAULT | Py_TPFLAGS_BASETYPE | NATIVE_COLLECTED,
+    .flags = Py_TPFLAGS_DEFAULT | Py_TPFLAGS_BASETYPE | Py_TPFLAGS_HAVE_GC,
     .slots = version_slots,
 };
 

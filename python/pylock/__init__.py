@@ -65,4 +65,4 @@ __all__ = [
     "requirements", "sorted_versions", "specifiers", "tags", "utils", "version", "version_key",
 ]
 
-__version__ = "1.2.0"
+__version__ = "1.3.0"

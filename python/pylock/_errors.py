@@ -8,6 +8,18 @@ if TYPE_CHECKING:
     from ._lock import Finding
 
 Place = Union[int, str, None]
+# Unicode's classes of the characters that steer a terminal, or aren't seen and change what is seen
+STEERING = ("Cc", "Cf", "Zl", "Zp")
+
+
+def shown(text: str) -> str:
+    """The text as the program shows it to a person: `\\u{HEX}` stands for each character that steers a terminal."""
+    if text.isprintable():
+        return text
+    # imported here: hardly a message needs it
+    from unicodedata import category
+
+    return "".join("\\u{%x}" % ord(letter) if category(letter) in STEERING else letter for letter in text)
 
 
 class Refusal(ValueError):
@@ -135,7 +147,7 @@ class StrictRefusal(InvalidLock):
         where = "the head of the lock" if first.id == 0 else "entry %d (`%s`)" % (first.id, first.name)
         detail = "" if first.detail is None else ": " + first.detail
         more = "" if len(findings) == 1 else ", and %d more" % (len(findings) - 1)
-        self.message = "refused strictly: %s: %s%s%s" % (where, first.finding, detail, more)
+        self.message = shown("refused strictly: %s: %s%s%s" % (where, first.finding, detail, more))
         super().__init__(self.message, word=first.finding, place=first.id, words=("findings", str(len(findings))))
         self.args = (findings,)
         self.findings = tuple(findings)
@@ -167,9 +179,9 @@ class PlanFault(Refusal):
 
     def __init__(self, id: int, name: Optional[str], code: str, detail: Optional[str]) -> None:
         where = "the head of the lock" if id == 0 else "entry %d (`%s`)" % (id, name)
-        super().__init__("%s: %s%s" % (where, code, "" if detail is None else ": " + detail), word=code, place=id)
+        self.message = shown("%s: %s%s" % (where, code, "" if detail is None else ": " + detail))
+        super().__init__(self.message, word=code, place=id)
         self.args = (id, name, code, detail)
-        self.message = "%s: %s%s" % (where, code, "" if detail is None else ": " + detail)
         self.id = id
         self.name = name
         self.code = code

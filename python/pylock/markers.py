@@ -37,6 +37,9 @@ __all__ = [
 ]
 
 _WHITE = " \t\n\v\f\r"
+# how many environments of mappings are kept, and how many letters the texts of each may have
+_MOST_KEPT = 64
+_MOST_LETTERS = 4096
 # a token of a marker that is one; the first group has the text of a quotation
 _TOKEN = re.compile(r"[ \t\n\v\f\r]*(?:[\"']|[()]|[=!<>~]+|[A-Za-z0-9_]+)")
 
@@ -103,11 +106,10 @@ def _running() -> Dict[str, str]:
     return running_variables()
 
 
-@functools.lru_cache(maxsize=64)
 def _environment(
     laid_over: FrozenSet[Tuple[str, str]], running: bool, extras: FrozenSet[str], groups: FrozenSet[str]
 ) -> _native.Environment:
-    """The variables, over those of the running Python where it is asked, kept for the next time."""
+    """The variables, over those of the running Python where it is asked."""
     variables = dict(_running()) if running else {}
     variables.update(laid_over)
     kept = _native.environment_of(variables)
@@ -118,34 +120,64 @@ def _environment(
     return kept
 
 
+def _exact(text: Any) -> Any:
+    """The text itself: by one of a class that is made from `str`, which says what it is equal to, nothing is kept."""
+    return str.__str__(text) if isinstance(text, str) else text
+
+
 @functools.lru_cache(maxsize=1)
 def _layers() -> _native.Layers:
     """The variables of the running Python, for mappings of variables to be laid over."""
     return _native.Layers(_running())
 
 
+# the variables that are laid over, whether over those of the running Python, extras and groups
+_Asked = Tuple[FrozenSet[Tuple[str, str]], bool, FrozenSet[str], FrozenSet[str]]
+
 _NONE: FrozenSet[Any] = frozenset()
+_environments: Dict[_Asked, _native.Environment] = {}
 _EMPTY: Mapping[str, Any] = {}
 
 
 def _mapped(mapping: Optional[Mapping[str, Any]], running: bool) -> _native.Environment:
     """The environment of a mapping, whose sets `extras` and `dependency_groups` are asked for."""
     if mapping is None:
-        return _environment(_NONE, running, _NONE, _NONE)
+        return _kept((_NONE, running, _NONE, _NONE))
     if not isinstance(mapping, Mapping):
         raise TypeError("expected an Environment or a mapping, not %s" % type(mapping).__name__)
     variables = []
     sets: Dict[str, FrozenSet[str]] = {}
     for name, value in mapping.items():
+        if type(name) is not str:
+            name = _exact(name)
         if name in ("extras", "dependency_groups"):
-            sets[name] = frozenset((value,) if isinstance(value, str) else value)
+            sets[name] = _names(value)
         elif name != "extra":
-            if not isinstance(value, str):
-                raise TypeError("%s: expected a str, not %s" % (name, type(value).__name__))
+            if type(value) is not str:
+                if not isinstance(value, str):
+                    raise TypeError("%s: expected a str, not %s" % (name, type(value).__name__))
+                value = _exact(value)
             variables.append((name, value))
-    return _environment(
-        frozenset(variables), running, sets.get("extras", _NONE), sets.get("dependency_groups", _NONE)
-    )
+    return _kept((frozenset(variables), running, sets.get("extras", _NONE), sets.get("dependency_groups", _NONE)))
+
+
+def _names(value: Any) -> FrozenSet[str]:
+    """The names of a set of a mapping, or the one name."""
+    names = (value,) if isinstance(value, str) else tuple(value)
+    return frozenset(names if all([type(name) is str for name in names]) else map(_exact, names))
+
+
+def _kept(key: _Asked) -> _native.Environment:
+    """The environment, kept for the next time where its texts aren't long."""
+    kept = _environments.get(key)
+    if kept is None:
+        kept = _environment(*key)
+        texts = [*[text for pair in key[0] for text in pair], *key[2], *key[3]]
+        if sum(map(len, texts)) <= _MOST_LETTERS:
+            if len(_environments) >= _MOST_KEPT:
+                _environments.clear()
+            _environments[key] = kept
+    return kept
 
 
 # ---- the text of a marker that is one, in pieces ----
@@ -326,7 +358,8 @@ class Marker:
         The operand `extra` is the text of `extra`, else of the mapping's `extra`, else empty in the metadata of a
         distribution (`context`), and unset elsewhere; it is compared as a name. The mapping's `extras` and
         `dependency_groups` are sets of names, which are empty in a lock file where it has none, and unset elsewhere.
-        The variables of the running Python are read once, and mappings that come again are kept for some time.
+        The variables of the running Python are read once, and mappings that come again are kept for some time, but for those
+        with long texts.
 
         Raises UndefinedEnvironmentName where a variable or a set isn't set, UndefinedComparison where `~=` or `===`
         compares what isn't a version or `extra` stands beside another operator than `==`, `!=`, `in` and `not in`, and

@@ -179,17 +179,9 @@ class PackageArchive:
         )
 
 
-def _file_name(file: Union[PackageSdist, PackageWheel]) -> str:
-    """The file name as the library finds it."""
-    name = file.name or _lock_shape.file_name(vars(file))
-    if not name:
-        raise PylockValidationError("there is no file name: neither a name, nor one at the end of path or url")
-    return name
-
-
 @dataclass(frozen=True, init=False)
-class PackageSdist:
-    """A source distribution."""
+class _File:
+    """What a source distribution and a wheel have."""
 
     name: Optional[str] = None
     upload_time: Optional[datetime] = None
@@ -217,36 +209,20 @@ class PackageSdist:
         >>> PackageSdist(url="https://h/a%2Bb-1.tar.gz?x#y", hashes={"sha256": "00"}).filename
         'a+b-1.tar.gz'
         """
-        return _file_name(self)
+        name = self.name or _lock_shape.file_name(vars(self))
+        if not name:
+            raise PylockValidationError("there is no file name: neither a name, nor one at the end of path or url")
+        return name
 
 
 @dataclass(frozen=True, init=False)
-class PackageWheel:
+class PackageSdist(_File):  # type: ignore[misc]
+    """A source distribution."""
+
+
+@dataclass(frozen=True, init=False)
+class PackageWheel(_File):  # type: ignore[misc]
     """A wheel."""
-
-    name: Optional[str] = None
-    upload_time: Optional[datetime] = None
-    url: Optional[str] = None
-    path: Optional[str] = None
-    size: Optional[int] = None
-    hashes: Mapping[str, str]  # type: ignore[misc]
-
-    def __init__(
-        self,
-        *,
-        name: Optional[str] = None,
-        upload_time: Optional[datetime] = None,
-        url: Optional[str] = None,
-        path: Optional[str] = None,
-        size: Optional[int] = None,
-        hashes: Mapping[str, str],
-    ) -> None:
-        vars(self).update(name=name, upload_time=upload_time, url=url, path=path, size=size, hashes=hashes)
-
-    @property
-    def filename(self) -> str:
-        """The file name: `name`, else what ends the path, else what ends the URL, its escapes read."""
-        return _file_name(self)
 
 
 @dataclass(frozen=True, init=False)
@@ -642,8 +618,7 @@ def _select_error(fault: PlanFault) -> PylockSelectError:
 def _selected(lock: Pylock, environment: bytes, extras: List[str], groups: List[str]) -> Iterator[Tuple[int, str, int]]:
     """The place of each selected entry, the kind of its source, and of a wheel its place."""
     with _lock.Session(_asked_lock(lock, extras, groups), environment) as session:
-        for extra in extras:
-            session.add_extra(extra)
+        session._make([("add_extra", extra) for extra in extras])
         text, is_plan = _answer(session._kept, False)
         if not is_plan:
             try:

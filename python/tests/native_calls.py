@@ -31,11 +31,12 @@ PARTS = ("_given", "_key", "epoch", "release", "pre", "post", "dev", "local", "p
          "is_postrelease", "is_devrelease", "major", "minor", "micro")
 EDITS = (
     ("set", None, "os_name", "x"), ("unset", None, "os_name"), ("add_extra", None, "z"), ("drop_extra", None, "z"),
-    ("add_group", None, "dev"), ("drop_group", None, "main"), ("tags", None, "py3-none-any\npy2-none-any"),
+    ("add_group", None, "dev"), ("drop_group", None, "main"), ("add_extras", None, "z\nx-y"), ("drop_extras", None, "z"),
+    ("add_groups", None, "dev"), ("drop_groups", None, "main\ndev"), ("tags", None, "py3-none-any\npy2-none-any"),
     ("add", None, '{name = "d", archive = {path = "d.zip"}}'), ("line", None, "set os_name nt"), ("policy", None, "a", "wheel"),
     ("target", None, "3.12", "linux"), ("put", 2, '{name = "b", directory = {path = "b"}}'), ("del", 2),
     # refused, below zero
-    ("set", None, "os.name", "x"), ("add_extra", None, "w"), ("add", None, "{"), ("del", 9), ("del", 2**40), ("tags", None, "-"),
+    ("set", None, "os.name", "x"), ("add_extra", None, "w"), ("add_extras", None, "z\nw"), ("add", None, "{"), ("del", 9), ("del", 2**40), ("tags", None, "-"),
 )
 
 
@@ -122,6 +123,7 @@ def of_names():
         ("parse_wheel", "a-1-1234567890123456789-cp310.cp311.py3-abi3-any.whl", "a-1\ud800-py3-none-any.whl", pylock.InvalidWheelFilename),
         ("sdist", "A_b-1.0.tar.gz", "a.tar.gz", pylock.InvalidSdistFilename),
         ("parse_sdist_filename", "A_b-1.0.zip", "a-x.zip", pylock.InvalidSdistFilename),
+        ("parse_wheel", "a-1-5\\\t-py3-none-any.whl", "a-1-\\5-py3-none-any.whl", pylock.InvalidWheelFilename),
     ):
         yield Row("%s(%.12s)" % (name, text), getattr(_native, name), lambda text=text: (fresh(text),))
         yield Row("%s(%.12s), refused" % (name, bad.replace("\ud800", "half")), getattr(_native, name), fixed(bad), error)
@@ -198,6 +200,7 @@ def of_tags():
     yield Row("parse_tag, new", _native.parse_tag, lambda: with_new_tags("P3.é\ud800-none-any"))
     yield Row("parse_tag of none", _native.parse_tag, fixed("py3-none"))
     yield Row("Tag", _native.Tag, fixed("CP310", "abi3", "É"))
+    yield Row("Tag of small texts", _native.Tag, lambda: (fresh("cp310"), fresh("abi3"), fresh("any")))
     yield Row("Tag of what has a lower", _native.Tag, fixed(Small(), "x", "y"))
     for odd, error in ((5, AttributeError), (b"x", TypeError)):
         yield Row("Tag of %r" % odd, _native.Tag, fixed("x", odd, "y"), error)

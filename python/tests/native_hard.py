@@ -1,6 +1,7 @@
 """The compiled part tried hard: wrong arguments, long and odd texts, classes that are made from its own, the collector, threads,
 signals, forks, interpreters beside the first, modules that end before their objects, and the end of the interpreter."""
 
+import codecs
 import gc
 import importlib.util
 import os
@@ -21,8 +22,6 @@ import pylock
 from pylock import _native
 
 REFUSED = (TypeError, AttributeError, ValueError, OverflowError, ZeroDivisionError)
-# of a type: its objects are known to the collector (not in the older build)
-HAVE_GC = 1 << 14
 TEXTS = ("", "\0", "1\0", "1.0\0", "\ud800", "a\udfff", "é", "\U0001f600", "1." * 400, "-", "a-b-c", "\n", "\t\\")
 
 
@@ -290,7 +289,6 @@ class Classes(unittest.TestCase):
         gc.collect()
         self.assertIsNone(gone())
 
-    @unittest.skipUnless(_native.Specifier.__flags__ & HAVE_GC, "in the older build the collector doesn't look into specifiers")
     def test_specifiers_in_cycles(self):
         class FreeSpecifier(_native.Specifier):
             pass
@@ -302,6 +300,68 @@ class Classes(unittest.TestCase):
             del one
             gc.collect()
             self.assertIsNone(gone(), name)
+
+    def test_specifiers_in_a_row(self):
+        """Each of a million holds the next."""
+        gc.disable()
+        for kind, name, count in ((_native.Specifier, "_forced", 1_000_000), (_native.Specifier, "_exact", 10_000), (pylock.Specifier, "_forced", 10_000)):
+            one = None
+            for _ in range(count):
+                holder = kind.__new__(kind)
+                setattr(holder, name, one)
+                one = holder
+            one = holder = None
+        gc.enable()
+        self.assertEqual(str(_native.Specifier("<2")), "<2")
+
+    def test_class_of_a_kept_tag(self):
+        """Whoever gives a tag another class has that tag alone of it."""
+
+        class Other(_native.Tag):
+            __slots__ = ()
+
+        for text in ("py3-none-other", "py2.py3-none-other"):
+            for one in _native.parse_tag(text):
+                one.__class__ = Other
+            self.assertEqual({type(one) for one in _native.parse_tag(text)}, {_native.Tag})
+            self.assertEqual({type(one) for one in _native.parse_wheel("a-1-%s.whl" % text)[3]}, {_native.Tag})
+            self.assertEqual({type(one) for one in pylock.parse_tag(text)}, {pylock.Tag})
+
+    def test_pieces_that_fail(self):
+        """Where the pieces of a tag are asked for while they are found, and then can't be, only that is told."""
+        (tag,) = _native.parse_tag("q\ud800-none-any")
+        before = codecs.lookup_error("surrogatepass")
+
+        def handler(error):
+            codecs.register_error("surrogatepass", before)
+            self.assertEqual(tag.interpreter, "q\ud800")
+            raise ZeroDivisionError
+
+        codecs.register_error("surrogatepass", handler)
+        try:
+            self.assertRaises(ZeroDivisionError, lambda: tag.interpreter)
+        finally:
+            codecs.register_error("surrogatepass", before)
+        self.assertEqual(tag.interpreter, "q\ud800")
+
+    def test_made_of_another_class(self):
+        """Attributes are given to an object of the class that was asked for alone."""
+
+        class Meta(type):
+            pass
+
+        for given in (int, _native.Tag("a", "b", "c"), 5, None, threading, Meta("Given", (), {})):
+            class Odd:
+                def __new__(cls, given=given):
+                    return given
+
+            with self.assertRaises(TypeError, msg=given):
+                _native.made(Odd, {"pylock_name": "pylock_name"}, {"pylock_name": 1})
+            self.assertFalse(hasattr(given, "pylock_name"))
+        Of = type("Of", (Meta,), {"__new__": lambda cls: type.__new__(cls, "Of", (), {})})
+        for kind in (Of, type("OfModule", (type(threading),), {}), Meta, type):
+            with self.assertRaises(TypeError):
+                _native.made(kind, {"a": "a"}, {"a": 1})
 
     def test_specifier_again(self):
         """A specifier that is read again while what it had is given up."""
@@ -345,6 +405,25 @@ class Classes(unittest.TestCase):
 
 
 class Modules(unittest.TestCase):
+    def test_given_up(self):
+        """A module of which nothing stays is collected with its types, of each of which there was an object."""
+        text = """
+import gc, weakref, native_hard
+gone = []
+for _ in range(5):
+    module = native_hard.new_module()
+    module.kept = [module.Version("1.0.0-RC1"), module.Tag("a", "b", "c"), module.Set(">=1"), module.Marker("os_name == 'nt'"),
+                   module.environment_of({"os_name": "nt"}), *module.parse_wheel("a-1-py3-none-any.whl"), module.Layers({"os_name": "nt"}),
+                   *module.specifiers(">=2"), type("Sub", (module.Version,), {})("1"), type("Sub", (module.Specifier,), {"__slots__": ()})("<1")]
+    module.kept[-1]._forced = module.kept[0].release, module
+    gone += map(weakref.ref, {module, *map(type, module.kept[:4])} | {type(module.kept[-1]), module.Specifier, module.Layers})
+    del module
+    gc.collect()
+assert len(gone) == 40 and not any(one() for one in gone), [one() for one in gone]
+"""
+        ended = subprocess.run([sys.executable, "-c", text], stdout=subprocess.PIPE, stderr=subprocess.STDOUT, env=alone(), timeout=100)
+        self.assertEqual((ended.returncode, ended.stdout), (0, b""))
+
     def test_collected(self):
         """A module and what it made are given up together; of objects that stay, their module stays."""
         for _ in range(5):
@@ -412,8 +491,7 @@ print(sorted(set(heard)))
 """ % (MODULE, os.path.dirname(os.path.abspath(__file__)))
         ended = subprocess.run([sys.executable, "-c", text], stdout=subprocess.PIPE, stderr=subprocess.STDOUT, env=alone(), timeout=100)
         self.assertEqual(ended.returncode, 0, ended.stdout[-2000:])
-        if _native.Version.__flags__ & HAVE_GC:
-            self.assertIn(b"late", ended.stdout)
+        self.assertIn(b"late", ended.stdout)
 
 
 def alone():

@@ -1,5 +1,10 @@
-"""Runs the tests, and counts them in the last line as the other tests of the repository do."""
+"""Runs the tests, and counts them in the last line as the other tests of the repository do.
 
+Where NATIVE_COLLECTS is set, the collector runs at each allocation that the compiled part causes, which is built for that
+(tools/native)."""
+
+import gc
+import importlib
 import os
 import sys
 import time
@@ -12,6 +17,21 @@ class Counted(unittest.TextTestResult):
     """`testsRun` has the skipped tests on some Pythons alone, so what passes is counted here."""
 
     passed = 0
+    # the function that says that the collector is to run, or None
+    collect = None
+
+    def startTest(self, test):
+        super().startTest(test)
+        if Counted.collect is not None:
+            # it looks at what the test makes alone
+            gc.collect()
+            gc.freeze()
+            Counted.collect(True)
+
+    def stopTest(self, test):
+        if Counted.collect is not None:
+            Counted.collect(False)
+        super().stopTest(test)
 
     def addSuccess(self, test):
         super().addSuccess(test)
@@ -28,6 +48,8 @@ def main():
     loader = unittest.TestLoader()
     names = sys.argv[1:]
     tests = loader.loadTestsFromNames(names) if names else loader.discover(HERE, top_level_dir=HERE)
+    if os.environ.get("NATIVE_COLLECTS"):
+        Counted.collect = importlib.import_module("_meanwhile").collect_always
     result = unittest.TextTestRunner(stream=sys.stdout, verbosity=2, resultclass=Counted).run(tests)
     # each row of a test that fails is in these lists: a test counts once
     whole = {getattr(test, "test_case", test) for test, _ in result.failures + result.errors}

@@ -67,6 +67,16 @@ class Locks(unittest.TestCase):
         self.assertEqual((fault.id, fault.name, fault.code, fault.detail), (0, None, "no-environment", None))
         self.assertEqual(str(fault), "the head of the lock: no-environment")
 
+    def test_shown(self):
+        # what is shown steers no terminal, and the parts stay as they are
+        fault = pylock.PlanFault(1, "a", "no-file", "wheels 1 \u202ex\u2028")
+        self.assertEqual(str(fault), "entry 1 (`a`): no-file: wheels 1 \\u{202e}x\\u{2028}")
+        self.assertEqual(fault.detail, "wheels 1 \u202ex\u2028")
+        finding = pylock.Finding(1, "a\u200f", "no-hash", "sdist \x1b[31m\t\x85\u00e9\u3000")
+        refusal = pylock.StrictRefusal([finding])
+        self.assertEqual(str(refusal), "refused strictly: entry 1 (`a\\u{200f}`): no-hash: sdist \\u{1b}[31m\\u{9}\\u{85}\u00e9\u3000")
+        self.assertEqual(refusal.findings, (finding,))
+
     def test_explain(self):
         told = pylock.Lock.read(LOCK).explain(linux(), extras=["x-y"])
         self.assertEqual(told.head, pylock.Verdict(0, None, None, "ok", None))

@@ -235,6 +235,26 @@ class Layers(unittest.TestCase):
                 kept = Environment({name: value for name, value in dict(running, **mapping).items() if name in running})
                 self.assertEqual(told(marker, mapping), told(marker, kept, extra=mapping.get("extra", "")), mapping)
 
+    def test_of_texts_that_equal_others(self):
+        """A mapping's texts count by their letters: one that says that it equals another changes no later answer."""
+
+        class Alike(str):
+            def __eq__(self, other):
+                return True
+
+            def __hash__(self):
+                return hash("nt")
+
+        marker = Marker("os_name == 'nt' or 'x' in extras")
+        for right, wrong in (("nt", "posix"), ("posix", "nt")):
+            for extras in ((), ["y"], [Alike("y")]):
+                for make in (dict, _Mapping):
+                    for context in ("lock_file", "metadata"):
+                        for text in (Alike(wrong), right, Alike(right), wrong):
+                            for name in ("os_name", Alike("os_name")):
+                                mapping = make([(name, text), ("extras", extras)]) if make is dict else make({"os_name": text, "extras": extras})
+                                self.assertIs(marker.evaluate(mapping, context), str.__eq__(text, "nt"), (text, extras))
+
     def test_refused(self):
         for arguments in ((), (5,), ({"os_name": 5},), ({"x": "y"},)):
             with self.assertRaises(TypeError):
@@ -314,6 +334,11 @@ class Tags(unittest.TestCase):
             self.assertTrue(all(one == other and not one != other for one in ways for other in ways) and len(set(ways)) == 1)
         (found,) = parse_wheel_filename("a-1-cp312-abi3-win32.whl")[3]
         self.assertEqual((found, hash(found)), (Tag("cp312", "abi3", "win32"), hash(Tag("cp312", "abi3", "win32"))))
+
+    def test_builds(self):
+        """The text of a build stands as it is, whatever has an escape in the library's lines."""
+        for build in ("\\", "\t", "\r", "\n", "\\t", "\\\\", "a\\b", "\0", "\\n\t", "_", "x"):
+            self.assertEqual(parse_wheel_filename("a-1-1%s-3-e-y.whl" % build)[2], (1, build))
 
     def test_classes(self):
         """A tag is the compiled type itself, which others may be made from; it can't be changed."""

@@ -271,6 +271,29 @@ class Threads(unittest.TestCase):
         self.assertEqual(self.elsewhere(lambda: made.append(pylock.Session(LOCK, linux()))), [])
         made.clear()
 
+    def test_of_a_thread_that_ended(self):
+        """Threads that begin later have the number of one that ended, and not what it had."""
+        made, raised = [], []
+
+        def make():
+            made.append((threading.get_ident(), pylock.Session(LOCK, linux()), pylock.Lock.read(LOCK)))
+
+        def use():
+            for number, session, lock in made:
+                if number == threading.get_ident():
+                    for call in (session.answer, session._kept.judged, lambda lock=lock: lock.plan(linux()), lambda lock=lock: lock.extras):
+                        try:
+                            raised.append(call())
+                        except RuntimeError as error:
+                            raised.append(type(error).__name__)
+
+        for _ in range(20):
+            self.assertEqual(self.elsewhere(make), [])
+            self.assertEqual(self.elsewhere(use), [])
+        self.assertEqual(set(map(repr, raised)) - {"'WrongThread'", "'RuntimeError'"}, set())
+        if sys.platform == "linux":
+            self.assertNotEqual(raised, [])
+
     def test_shared(self):
         versions = pylock.SpecifierSet(">=1.0,!=1.5.*,<3")
         one = pylock.Version("1.4+x")

@@ -56,6 +56,20 @@ class Memory(unittest.TestCase):
     def test_environments(self):
         self.level(lambda number: pylock.Environment({"os_name": str(number)}, ["py3-none-any"]), 20_000)
 
+    def test_long_texts(self):
+        """What is kept for the next time is bound by its size too."""
+        size = 1_000_000
+        marker, before = pylock.Marker("os_name == 'nt' or 'x' in extras"), resident()
+        for number in range(40):
+            long = "%dx" % number + "y" * size
+            pylock.parse_tag("py3-none-" + long)
+            pylock.parse_wheel_filename("a-1-py3-none-%s.whl" % long)
+            marker.evaluate({"os_name": long, "extras": ()})
+            marker.evaluate({"os_name": "posix", "more": long, "extras": ["x"]})
+            marker.evaluate({"os_name": "posix", long: "more", "extras": [long]})
+        gc.collect()
+        self.assertLess(resident() - before, 30 * size)
+
     def test_sessions(self):
         environment = linux()
 

@@ -1,10 +1,12 @@
-"""The doctests, the example program, the public names, the installed module, and the command line."""
+"""The doctests, the example program, the public names, sets that no version is in, the installed module, the command line."""
 
+import ast
 import doctest
 import importlib
 import inspect
 import os
 import pkgutil
+import random
 import re
 import subprocess
 import sys
@@ -14,6 +16,7 @@ import unittest
 from support import HERE, MODULE, PYTHON, TOP, bytes_of, reference, release, text_of
 
 import pylock
+from pylock import SpecifierSet, _native, specifiers
 
 
 class Doctests(unittest.TestCase):
@@ -65,6 +68,59 @@ class Names(unittest.TestCase):
             "extras", "all_extras", "groups", "without_groups", "all_groups", "default_groups", "policies", "variables",
             "strict",
         })
+
+
+class Unsatisfiable(unittest.TestCase):
+    """Whether a version is in a set: of many specifiers, and beside each version that is tried alone."""
+
+    MOST = 2**128 - 1
+
+    def specifier(self, draw):
+        release = ".".join(str(draw.choice([0, 0, 1, 1, 2])) for _ in range(draw.randint(1, 4)))
+        kind = draw.choice(["==%s", "!=%s", "<=%s", ">=%s", "<%s", ">%s", "~=%s.0", "==%s.*", "!=%s.*", "!=1!%s", "==%s+x0"])
+        ends = ["", "", "a1", "rc0.dev1", ".post0", ".post1.dev0", ".dev0"] if kind[2:] == "%s" or kind[1:] == "%s" else [""]
+        return kind % release + draw.choice(ends)
+
+    def test_each_tried(self):
+        draw = random.Random(7)
+        for _ in range(300):
+            text = ",".join(self.specifier(draw) for _ in range(draw.randint(1, 6)))
+            versions = SpecifierSet(text)
+            witnesses = specifiers._Witnesses(versions._items())
+            with self.subTest(text):
+                tried = {pylock.Version(each) for each in witnesses if versions.contains(each)}
+                self.assertEqual(set(witnesses.admitted_by_all()), tried)
+                self.assertEqual(versions.is_unsatisfiable(), not tried)
+
+    def test_many(self):
+        holes = ["!=1.%d.*" % number for number in range(3000)]
+        for left, wanted in ((holes, True), (holes[:2000] + holes[2001:], False)):
+            self.assertEqual(SpecifierSet(",".join([">=1.0", "<1.3000", *left])).is_unsatisfiable(), wanted)
+
+    def test_last_number(self):
+        for text, wanted in ((">=%d", False), (">%d.post%d", False), ("==1.%d.*", False), ("<1,>=%d", True), (">1.dev%d,<1", True)):
+            with self.subTest(text):
+                self.assertEqual(SpecifierSet(text.replace("%d", str(self.MOST))).is_unsatisfiable(), wanted)
+
+
+class Compiled(unittest.TestCase):
+    def test_told(self):
+        """What type checkers are told of the compiled part is there, and nothing else but what Python itself asks for."""
+        told = {}
+        for node in ast.parse(text_of("python", "pylock", "_native.pyi")).body:
+            if isinstance(node, ast.ClassDef):
+                told[node.name] = {part.name if isinstance(part, ast.FunctionDef) else part.target.id for part in node.body}
+            elif isinstance(node, (ast.FunctionDef, ast.AnnAssign)):
+                told[node.name if isinstance(node, ast.FunctionDef) else node.target.id] = set()
+        # a session has it
+        del told["Owner"]
+        self.assertEqual(set(told), {name for name in dir(_native) if not name.startswith("__")})
+        for name, parts in told.items():
+            value = getattr(_native, name)
+            self.assertEqual([part for part in parts if not hasattr(value, part)], [], name)
+            if isinstance(value, type):
+                self.assertEqual({part for part in vars(value) if not part.startswith(("__", "_pylock"))},
+                                 {part for part in parts if not part.startswith("__")}, name)
 
 
 class Program(unittest.TestCase):
