@@ -7,12 +7,16 @@ import os
 import re
 import subprocess
 import sys
+import unicodedata
 import urllib.parse
 
 TOP = os.path.dirname(os.path.dirname(os.path.realpath(__file__)))
 SECONDS = 60  # of one run
-# Each character that is written `\u{HEX}` wherever a text is safe to show; a line's end is none within a line.
-CONTROL = re.compile("[\0-\x1f\x7f-\x9f\u202a-\u202e\u2066-\u2069]")
+# Each character that is written `\u{HEX}` wherever a text is safe to show, as far as this Python knows Unicode; a line's end is none
+# within a line.
+CONTROL = re.compile("[%s]" % "".join(
+    re.escape(one) for one in map(chr, range(sys.maxunicode + 1)) if unicodedata.category(one) in ("Cc", "Cf", "Zl", "Zp")
+))
 
 Ran = collections.namedtuple("Ran", "status output error")
 
@@ -93,6 +97,12 @@ def document(text):
     except ValueError:
         return {}
     return found if isinstance(found, dict) else {}
+
+
+def document_text(value):
+    """The text of a document: members in order, no white space, and each control character as its code units of UTF-16."""
+    text = json.dumps(value, sort_keys=True, separators=(",", ":"), ensure_ascii=False)
+    return CONTROL.sub(lambda found: json.dumps(found[0])[1:-1], text) + "\n"
 
 
 def told_to_a_person(error):

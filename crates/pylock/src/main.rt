@@ -8,14 +8,15 @@
 //! It is thin. `main` asks [`command`] for the task that the words are, and [`perform`] does it, on
 //! what only a host has: the files, standard input and the two outputs, each behind a trait of
 //! `pylock_run`. Nothing is proved of what a file or a terminal gives or takes; what the program
-//! does with it is the contract of `perform`, in `pylock_program`. Read that crate next, and
+//! does with it is the contract of `perform`, in `pylock_program`, and that no text steers a
+//! terminal is that of [`ToTerminal`](pylock_run::ToTerminal). Read that crate next, and
 //! `pylock_run` for the lines of `select`.
 #![tactic(auto)]
 
 use pylock_command::{CommandError, Task, command};
 use pylock_program::{Failure, perform, terminal_note, words_failure};
-use pylock_run::{FileFault, Files, FromRead, ToWrite, open_fault, read_file};
-use std::io::IsTerminal;
+use pylock_run::{FileFault, Files, FromRead, Output, ToWrite, open_fault, read_file, write_all};
+use std::io::{IsTerminal, Write};
 use std::process::ExitCode;
 use std::{env, fs};
 
@@ -44,6 +45,12 @@ fn is_directory(file: &fs::File) -> bool {
     }
 }
 
+/// The sink to an output of the host. A terminal is given no character that steers it.
+fn output<W: Write + IsTerminal>(rt: &HostRuntime, writer: W) -> Output<ToWrite<W>> {
+    let is_terminal = writer.is_terminal();
+    Output::new(rt.alloc(), ToWrite::new(writer), is_terminal)
+}
+
 /// Says what the task waits for, where standard input is a terminal.
 fn note(rt: &HostRuntime, task: &Task<'_>) {
     if let Some(note) = terminal_note(task) {
@@ -57,14 +64,13 @@ fn note(rt: &HostRuntime, task: &Task<'_>) {
 fn perform_here(rt: &HostRuntime, task: Task<'_>) -> Result<u8, Failure> {
     note(rt, &task);
     let mut reader = FromRead::new(rt.stdin());
-    let mut writer = ToWrite::new(rt.stdout());
     perform(
         rt.alloc(),
         task,
         &HostFiles { rt },
         &mut reader,
-        &mut writer,
-        &mut ToWrite::new(rt.stderr()),
+        &mut output(rt, rt.stdout()),
+        &mut output(rt, rt.stderr()),
     )
 }
 
@@ -85,6 +91,18 @@ fn fail(rt: &HostRuntime, failure: Failure) -> ExitCode {
     ExitCode::from(failure.status())
 }
 
+/// Prints what clap says: help and the version to standard output, or why it refuses the words, and
+/// answers the status.
+fn print_error(rt: &HostRuntime, error: &clap::Error) -> Result<u8, Failure> {
+    let text = error.to_string(rt.alloc()).map_err(|_| Failure::Memory)?;
+    if error.use_stderr() {
+        let _ = write_all(&mut output(rt, rt.stderr()), text.as_bytes());
+    } else {
+        write_all(&mut output(rt, rt.stdout()), text.as_bytes()).map_err(|_| Failure::Write)?;
+    }
+    Ok(error.exit_code() as u8)
+}
+
 fn main(rt: HostRuntime) -> ExitCode {
     let arguments = match arguments(&rt) {
         Ok(arguments) => arguments,
@@ -94,15 +112,13 @@ fn main(rt: HostRuntime) -> ExitCode {
     let Ok(words) = words.collect::<Vec<&str>>(rt.alloc()) else {
         return fail(&rt, Failure::Memory);
     };
-    match command(rt.alloc(), &words) {
-        Ok(task) => match perform_here(&rt, task) {
-            Ok(status) => ExitCode::from(status),
-            Err(failure) => fail(&rt, failure),
-        },
-        Err(CommandError::Refused(error)) => match (error.print(&rt), error.exit_code()) {
-            (Err(_), 0) => fail(&rt, Failure::Write),
-            (_, status) => ExitCode::from(status as u8),
-        },
-        Err(CommandError::Memory) => fail(&rt, Failure::Memory),
+    let end = match command(rt.alloc(), &words) {
+        Ok(task) => perform_here(&rt, task),
+        Err(CommandError::Refused(error)) => print_error(&rt, &error),
+        Err(CommandError::Memory) => Err(Failure::Memory),
+    };
+    match end {
+        Ok(status) => ExitCode::from(status),
+        Err(failure) => fail(&rt, failure),
     }
 }

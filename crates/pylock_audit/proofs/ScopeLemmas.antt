@@ -1,17 +1,16 @@
 -- The findings that a strict reading refuses are the same, whether all were asked for or these alone.
-use Rattle.std.proofs.Common.{◌≡◌, ◌∙◌, ◌++◌, ℕ, List, [], ◌∷◌, Option, None, Some, Bool, true, false, suc, refl, ap, sym, codes, filter}
+use Rattle.std.proofs.Common.{◌≡◌, ◌∙◌, ◌++◌, ℕ, List, [], ◌∷◌, Option, None, Some, Bool, true, false, suc, refl, ap, sym, filter}
 use Rattle.std.proofs.lemmas.List.Elements.{filter-append}
 use Rattle.pylock_readers.specs.Entry.{EntryValue}
 use Rattle.pylock_readers.specs.Lock.{HeadValue, LockValue}
 use Rattle.pylock_core.specs.Session.Picks.{SourceValue, sources}
 use Rattle.pylock_core.specs.declared.answer.PickSource.{PickSource}
-use Rattle.pylock_audit.specs.Entry.{IndexValue, of_file_names, of_kinds, of_marker}
+use Rattle.pylock_audit.specs.Entry.{IndexValue, controlled_version, of_file_names, of_kinds, of_marker}
 use Rattle.pylock_audit.specs.Finding.{FindingValue, LockFindingValue, findings_at, findings_each}
 use Rattle.pylock_audit.specs.Inner.Scope.{of_controls_in, of_hashes_in, of_sources_in, over_in}
 use Rattle.pylock_audit.specs.Inner.Tables.{TableValue, entry_findings_by, lock_findings_by, of_entries_by, of_names_by}
-use Rattle.pylock_audit.specs.Source.{over_sources, text_where}
+use Rattle.pylock_audit.specs.Source.{over_sources}
 use Rattle.pylock_audit.specs.Strict.{is_refused, strict_findings}
-use Rattle.pylock_audit.specs.Unsafe.{has_control}
 use Rattle.pylock_audit.specs.declared.finding.FindingKind.{FindingKind}
 use Rattle.pylock_audit.specs.declared.finding.FindingKind.TheVariants as kind
 use Rattle.pylock_audit.specs.declared.scope.Scope.{Scope}
@@ -77,7 +76,7 @@ of_sources_same index list =
 
 of_controls_same : (entry : EntryValue) (list : Sources) → Same (λ asked. of_controls_in asked entry list)
 of_controls_same entry list =
-    let version = findings_each kind.ControlCharacter (text_where has_control (λ version. codes "version " ++ version) entry.version) in
+    let version = findings_each kind.ControlCharacter (controlled_version entry) in
     and_kind (λ asked. version) kind.ControlCharacter list refl
 
 of_entry_same : (head : HeadValue) (table : TableValue) (entry : EntryValue) → Same (λ asked. entry_findings_by asked head table entry)

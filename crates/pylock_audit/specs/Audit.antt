@@ -10,6 +10,7 @@ use Rattle.pylock_readers.specs.Entry.{EntryValue}
 use Rattle.pylock_readers.specs.Lock.{HeadValue, LockValue}
 use Rattle.pylock_readers.specs.Lock.Reading.{document_in, lock_of}
 use Rattle.pylock_readers.specs.declared.error.LockError.{LockError}
+use Rattle.pylock_shown.specs.Hidden.{hidden}
 use Rattle.pylock_audit.specs.Entry.{entry_findings, is_other_form, text_at}
 use Rattle.pylock_audit.specs.Finding.{FindingValue, LockFindingValue, finding_where}
 use Rattle.pylock_audit.specs.Finding.{findings_at, findings_each}
@@ -23,12 +24,12 @@ use Rattle.pylock_audit.specs.declared.keys.LockTable.TheVariants as tables
 
 abbrev pub other_lock_version : Members → List (List ℕ)
 other_lock_version document =
-    text_where (λ version. not (bytes_eq version (codes "1.0"))) (λ version. version)
+    text_where (λ version. not (bytes_eq version (codes "1.0"))) hidden
     (text_at (codes "lock-version") document)
 
--- the texts of a list that aren't in normal form
+-- a text of a list that isn't in normal form, and all of them
 abbrev pub other_form_of : Data → List (List ℕ)
-other_form_of d = text_where is_other_form (λ name. name) (as_str d)
+other_form_of d = text_where is_other_form hidden (as_str d)
 
 abbrev pub other_forms : Items → List (List ℕ)
 other_forms no_items = []

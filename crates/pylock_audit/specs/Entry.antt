@@ -25,8 +25,9 @@ use Rattle.pylock_readers.specs.Lock.{HeadValue}
 use Rattle.pylock_core.specs.Session.Picks.{SourceValue, sources}
 use Rattle.pylock_core.specs.declared.answer.PickSource.{PickSource}
 use Rattle.pylock_places.specs.FileName.{shown_file_name}
-use Rattle.pylock_places.specs.Url.{has_credentials, is_https, shown_url}
-use Rattle.pylock_audit.specs.Finding.{FindingValue, findings_each, finding_where, told_where}
+use Rattle.pylock_places.specs.Url.{has_credentials, is_https}
+use Rattle.pylock_shown.specs.Hidden.{hidden}
+use Rattle.pylock_audit.specs.Finding.{FindingValue, findings_each, finding_where, shown_where}
 use Rattle.pylock_audit.specs.EntryKeys.{entry_keys_told}
 use Rattle.pylock_audit.specs.Readings.{differs}
 use Rattle.pylock_audit.specs.Source.{name_where, over_sources, text_where}
@@ -46,11 +47,11 @@ is_other_form name = not (bytes_eq (normal_name name) name)
 
 -- the name as written, where it is so
 abbrev pub other_form : Members → List (List ℕ)
-other_form members = text_where is_other_form (λ name. name) (text_at (codes "name") members)
+other_form members = text_where is_other_form hidden (text_at (codes "name") members)
 
 abbrev pub refused_version : EntryValue → List (List ℕ)
 refused_version entry =
-    text_where (λ version. is_err (parsed_version version)) (λ version. version) entry.version
+    text_where (λ version. is_err (parsed_version version)) hidden entry.version
 
 -- ---- the index
 
@@ -61,15 +62,15 @@ pub record IndexValue : Type 0 where
 
 abbrev pub index_of : Members → IndexValue
 index_of members = record {
-  not_https = text_where (λ url. not (is_https url)) shown_url (text_at (codes "index") members);
-  credentials = text_where has_credentials shown_url (text_at (codes "index") members);
+  not_https = text_where (λ url. not (is_https url)) hidden (text_at (codes "index") members);
+  credentials = text_where has_credentials hidden (text_at (codes "index") members);
 }
 
 -- ---- markers
 
 -- the text of a marker, one of whose comparisons is so
 abbrev pub compares : (ComparisonValue → Bool) → MarkerValue → List (List ℕ)
-compares test marker = told_where (list_any test (comparisons marker.tree)) marker.text
+compares test marker = shown_where (list_any test (comparisons marker.tree)) marker.text
 
 -- a name is asked for that is none of these
 abbrev pub is_undeclared : List (List ℕ) → Option (List ℕ) → Bool
@@ -251,11 +252,15 @@ of_sources index list =
     ++ findings_each kind.Credentials index.credentials ++ over kind.Credentials list
     ++ over kind.SecretInUrl list ++ over kind.MovingCommit list
 
+-- the version where it has a control character, by its path
+abbrev pub controlled_version : EntryValue → List (List ℕ)
+controlled_version entry =
+    text_where has_control (λ version. codes "version " ++ hidden version) entry.version
+
 -- the version first, and then each source
 abbrev pub of_controls : EntryValue → List (PickSource × SourceValue) → List FindingValue
 of_controls entry list =
-    findings_each kind.ControlCharacter
-    (text_where has_control (λ version. codes "version " ++ version) entry.version)
+    findings_each kind.ControlCharacter (controlled_version entry)
     ++ over kind.ControlCharacter list
 
 abbrev pub entry_findings : HeadValue → Members → EntryValue → List FindingValue

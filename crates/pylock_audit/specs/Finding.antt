@@ -1,5 +1,6 @@
 -- What a careful reader of a lock would want to be told: a kind of finding, and what it names.
 use Rattle.std.specs.Prelude.{ℕ, Bool, List, [], ◌∷◌, map, Option, Some, if◌then◌else◌}
+use Rattle.pylock_shown.specs.Hidden.{hidden}
 use Rattle.pylock_audit.specs.declared.finding.FindingKind.{FindingKind}
 
 pub record FindingValue : Type 0 where
@@ -12,6 +13,10 @@ finding_of kind detail = record { kind = kind; detail = detail }
 -- a text where it counts
 abbrev pub told_where : Bool → List ℕ → List (List ℕ)
 told_where counts text = if counts then text ∷ [] else []
+
+-- a text of the lock as it is shown, where it counts
+abbrev pub shown_where : Bool → List ℕ → List (List ℕ)
+shown_where counts text = told_where counts (hidden text)
 
 -- one finding where it stands, and one for each of these
 abbrev pub finding_where : Bool → FindingKind → Option (List ℕ) → List FindingValue

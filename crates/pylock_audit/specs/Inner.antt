@@ -1,4 +1,3 @@
 pub mod Names
-pub mod Printable
 pub mod Scope
 pub mod Tables

@@ -7,6 +7,7 @@ use Rattle.toml.specs.Data.{Members, member}
 use Rattle.toml.specs.Data.{no_members}
 use Rattle.pylock_core.specs.declared.answer.PickSource.{PickSource}
 use Rattle.pylock_core.specs.declared.answer.PickSource.TheVariants as source
+use Rattle.pylock_shown.specs.Hidden.{hidden}
 use Rattle.pylock_audit.specs.declared.keys.LockTable.{LockTable}
 use Rattle.pylock_audit.specs.declared.keys.LockTable.TheVariants as tables
 
@@ -61,8 +62,8 @@ abbrev pub table_keys : Members → List (List ℕ)
 table_keys no_members = []
 table_keys (member key d rest) = key ∷ table_keys rest
 
--- those of them that aren't named, each by its path
+-- those of them that aren't named, each by its path as it is shown
 abbrev pub unknown_keys : LockTable → Members → List (List ℕ)
 unknown_keys lock_table members =
-    map (λ key. table_path lock_table ++ key)
+    map (λ key. table_path lock_table ++ hidden key)
     (filter (λ key. not (is_named lock_table key)) (table_keys members))

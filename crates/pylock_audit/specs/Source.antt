@@ -12,7 +12,8 @@ use Rattle.pylock_core.specs.declared.answer.PickSource.{PickSource}
 use Rattle.pylock_places.specs.FileName.{shown_name}
 use Rattle.pylock_places.specs.Query.{has_secret}
 use Rattle.pylock_places.specs.Shown.{file_label, shown_place}
-use Rattle.pylock_places.specs.Url.{has_credentials, is_https, is_safe_remote, shown_url}
+use Rattle.pylock_places.specs.Url.{has_credentials, is_https, is_safe_remote}
+use Rattle.pylock_shown.specs.Hidden.{hidden}
 use Rattle.pylock_audit.specs.Finding.{told_where}
 use Rattle.pylock_audit.specs.Hash.{Hash, is_bad, is_odd, is_weak}
 use Rattle.pylock_audit.specs.Keys.{source_path}
@@ -76,8 +77,9 @@ abbrev pub without_hash : SourceValue → List Hash → List (List ℕ)
 without_hash s [] = label s ∷ []
 without_hash s hashes = []
 
+-- the algorithms as they are shown, joined by `,`
 abbrev pub algorithms : List Hash → List ℕ
-algorithms hashes = join_by (λ hash. hash.0) (codes ",") hashes
+algorithms hashes = join_by (λ hash. hidden hash.0) (codes ",") hashes
 
 abbrev pub weakly_hashed : SourceValue → List Hash → List (List ℕ)
 weakly_hashed s [] = []
@@ -94,7 +96,7 @@ is_told kind hash = false
 -- the hashes that a kind tells of, each by its algorithm
 abbrev pub tested_hashes : FindingKind → SourceValue → List Hash → List (List ℕ)
 tested_hashes kind s hashes =
-    map (λ hash. label s ++ codes " " ++ hash.0) (filter (is_told kind) hashes)
+    map (λ hash. label s ++ codes " " ++ hidden hash.0) (filter (is_told kind) hashes)
 
 abbrev pub over_hashes : (List Hash → List (List ℕ)) → SourceValue → List (List ℕ)
 over_hashes details s = option_map_or details (hashes_of s) []
@@ -127,52 +129,57 @@ has_commit_hashes kind = bytes_eq kind (codes "git") || bytes_eq kind (codes "hg
 abbrev pub moving_commit : SourceValue → List (List ℕ)
 moving_commit (OfVcs vcs) =
     if has_commit_hashes vcs.kind && not (is_commit_hash vcs.commit_id)
-    then vcs.commit_id ∷ [] else []
+    then hidden vcs.commit_id ∷ [] else []
 moving_commit source = []
 
 -- ---- control characters
 
 -- a text of a key, with its path, where it has one
-abbrev pub controlled : PickSource → List ℕ → (List ℕ → List ℕ) → Option (List ℕ) → List (List ℕ)
-controlled name key shown text =
-    text_where has_control (λ text. source_path name ++ key ++ codes " " ++ shown text) text
+abbrev pub controlled : PickSource → List ℕ → Option (List ℕ) → List (List ℕ)
+controlled name key text =
+    text_where has_control (λ text. source_path name ++ key ++ codes " " ++ hidden text) text
 
-abbrev pub plainly : PickSource → List ℕ → Option (List ℕ) → List (List ℕ)
-plainly name key text = controlled name key (λ text. text) text
+-- a hash is `ALGORITHM=VALUE`
+abbrev pub hash_text : Hash → List ℕ
+hash_text hash = hash.0 ++ codes "=" ++ hash.1
 
--- a hash is shown as `ALGORITHM=VALUE`
+-- it is shown without what opens a URL in either of its texts, or in what they make together
 abbrev pub hash_shown : Hash → List ℕ
-hash_shown hash = hash.0 ++ codes "=" ++ hash.1
+hash_shown hash = hidden (hash_text (hidden hash.0, hidden hash.1))
+
+abbrev pub controlled_hash : PickSource → Hash → List (List ℕ)
+controlled_hash name hash =
+    told_where (has_control (hash_text hash))
+    (source_path name ++ codes "hashes" ++ codes " " ++ hash_shown hash)
 
 abbrev pub controlled_hashes : PickSource → List Hash → List (List ℕ)
-controlled_hashes name hashes =
-    flat_map (λ hash. plainly name (codes "hashes") (Some (hash_shown hash))) hashes
+controlled_hashes name hashes = flat_map (controlled_hash name) hashes
 
 abbrev pub url_and_path : PickSource → Option (List ℕ) → Option (List ℕ) → List (List ℕ)
 url_and_path name url path =
-    controlled name (codes "url") shown_url url ++ plainly name (codes "path") path
+    controlled name (codes "url") url ++ controlled name (codes "path") path
 
 abbrev pub controlled_vcs : PickSource → VcsValue → List (List ℕ)
 controlled_vcs name vcs =
-    plainly name (codes "type") (Some vcs.kind)
-    ++ plainly name (codes "commit-id") (Some vcs.commit_id)
+    controlled name (codes "type") (Some vcs.kind)
+    ++ controlled name (codes "commit-id") (Some vcs.commit_id)
     ++ url_and_path name vcs.location.url vcs.location.path
-    ++ plainly name (codes "subdirectory") vcs.subdirectory
+    ++ controlled name (codes "subdirectory") vcs.subdirectory
 
 abbrev pub controlled_directory : PickSource → DirectoryValue → List (List ℕ)
 controlled_directory name directory =
-    plainly name (codes "path") (Some directory.path)
-    ++ plainly name (codes "subdirectory") directory.subdirectory
+    controlled name (codes "path") (Some directory.path)
+    ++ controlled name (codes "subdirectory") directory.subdirectory
 
 abbrev pub controlled_archive : PickSource → ArchiveValue → List (List ℕ)
 controlled_archive name archive =
     url_and_path name archive.location.url archive.location.path
     ++ controlled_hashes name archive.hashes
-    ++ plainly name (codes "subdirectory") archive.subdirectory
+    ++ controlled name (codes "subdirectory") archive.subdirectory
 
 abbrev pub controlled_file : PickSource → FileValue → List (List ℕ)
 controlled_file name file =
-    plainly name (codes "name") file.name
+    controlled name (codes "name") file.name
     ++ url_and_path name file.location.url file.location.path
     ++ controlled_hashes name file.hashes
 
@@ -192,10 +199,10 @@ details kind.WeakHash s = over_hashes (weakly_hashed s.1) s.1
 details kind.OddHash s = over_hashes (tested_hashes kind.OddHash s.1) s.1
 details kind.BadHash s = over_hashes (tested_hashes kind.BadHash s.1) s.1
 details kind.UnsafeFileName s = option_map_or (name_where is_unsafe_name) (file_of s.1) []
-details kind.OutsidePath s = text_where is_outside_path (λ path. path) (path_of s.1)
-details kind.UnsafeSubdirectory s = text_where is_unsafe_path (λ path. path) (subdirectory_of s.1)
-details kind.NotHttps s = text_where (is_open_url s.1) shown_url (url_of s.1)
-details kind.Credentials s = text_where has_credentials shown_url (url_of s.1)
+details kind.OutsidePath s = text_where is_outside_path hidden (path_of s.1)
+details kind.UnsafeSubdirectory s = text_where is_unsafe_path hidden (subdirectory_of s.1)
+details kind.NotHttps s = text_where (is_open_url s.1) hidden (url_of s.1)
+details kind.Credentials s = text_where has_credentials hidden (url_of s.1)
 details kind.SecretInUrl s =
     text_where has_secret (λ url. source_path s.0 ++ codes "url") (url_of s.1)
 details kind.MovingCommit s = moving_commit s.1

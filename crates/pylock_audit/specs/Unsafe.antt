@@ -4,8 +4,8 @@ use Rattle.std.specs.Prelude.{ℕ, Bool, true, false, ◌==◌, ◌&&◌, ◌||�
 use Rattle.std.specs.Prelude.{◌∷◌, drop, take, Option, Some, None, slice_get, if◌then◌else◌}
 use Rattle.std.specs.List.{list_any, slice_split}
 use Rattle.std.specs.Str.{bytes_eq, chars}
-use Rattle.pylock_messages.specs.Visible.{is_control}
 use Rattle.pylock_readers.specs.Entry.FileName.{ends_segment}
+use Rattle.pylock_shown.specs.Visible.{is_control}
 
 abbrev pub has_control : List ℕ → Bool
 has_control text = list_any is_control (chars text)

@@ -1,25 +1,24 @@
 //! The texts of a source that have a control character.
 
-ghost use Rattle.std.specs.Prelude.{◌≡◌, ◌++◌, IfOk, IsTrue, OnOk, Some, codes, false, map};
-ghost use Rattle.std.specs.Prelude.{string_bytes};
+ghost use Rattle.std.specs.Prelude.{◌≡◌, ◌++◌, IfOk, IsTrue, OnOk, false, map, string_bytes};
 ghost use Rattle.std.specs.Option.{option_copied};
 ghost use Rattle.pylock_readers.specs.Text.{text_pair, text_pairs};
 ghost use Rattle.pylock_core.specs.Session.Picks.{lent_source};
-ghost use Rattle.pylock_places.specs.Url.{shown_url};
 ghost use Rattle.pylock_audit.specs.Source.{controlled, controlled_archive, controlled_directory};
-ghost use Rattle.pylock_audit.specs.Source.{controlled_file, controlled_hashes, controlled_texts};
-ghost use Rattle.pylock_audit.specs.Source.{controlled_vcs, hash_shown, plainly, url_and_path};
+ghost use Rattle.pylock_audit.specs.Source.{controlled_file, controlled_hash, controlled_hashes};
+ghost use Rattle.pylock_audit.specs.Source.{controlled_texts, controlled_vcs, hash_shown};
+ghost use Rattle.pylock_audit.specs.Source.{hash_text, url_and_path};
 ghost use Rattle.pylock_audit.specs.Unsafe.{has_control};
 
 use crate::hash::Hash;
 use crate::keys::source_key_path;
-use crate::unsafe_text::{has_control, is_printable};
+use crate::unsafe_text::has_control;
 use pylock_core::{Archive, Directory, DistributionFile, PickSource, PickedSource, Vcs};
-use pylock_places::shown_url;
+use pylock_shown::{hidden, is_printable};
 use std::alloc::{AllocError, Global};
 
-/// Adds a text of a key with the path of that, where it has a control character.
-fn push_plainly(
+/// Adds a text of a key as it is shown, with the path of the key, where it has a control character.
+fn push_text(
     alloc: Global,
     list: &mut Vec<String>,
     name: PickSource,
@@ -27,32 +26,13 @@ fn push_plainly(
     text: Option<&str>,
 ) -> Result<(), AllocError>
     ensures { OnOk result (map string_bytes list.new.items ≡ map string_bytes list.old.items
-        ++ plainly name key.now (option_copied text.entry)) }
+        ++ controlled name key.now (option_copied text.entry)) }
 {
     match text {
         Some(text) if has_control(text) => {
             let path = source_key_path(alloc, name, key)?;
+            let text = hidden(alloc, text)?;
             Ok(list.push(format!(in alloc; "{path} {text}")?)?)
-        }
-        _ => Ok(()),
-    }
-}
-
-/// The same of a URL, as it is shown.
-fn push_url(
-    alloc: Global,
-    list: &mut Vec<String>,
-    name: PickSource,
-    url: Option<&str>,
-) -> Result<(), AllocError>
-    ensures { OnOk result (map string_bytes list.new.items ≡ map string_bytes list.old.items
-        ++ controlled name (codes "url") shown_url (option_copied url.entry)) }
-{
-    match url {
-        Some(url) if has_control(url) => {
-            let path = source_key_path(alloc, name, "url")?;
-            let url = shown_url(alloc, url)?;
-            Ok(list.push(format!(in alloc; "{path} {url}")?)?)
         }
         _ => Ok(()),
     }
@@ -68,8 +48,8 @@ fn push_url_and_path(
     ensures { OnOk result (map string_bytes list.new.items ≡ map string_bytes list.old.items
         ++ url_and_path name (option_copied url.entry) (option_copied path.entry)) }
 {
-    push_url(alloc, list, name, url)?;
-    push_plainly(alloc, list, name, "path", path)
+    push_text(alloc, list, name, "url", url)?;
+    push_text(alloc, list, name, "path", path)
 }
 
 fn push_hashes(
@@ -87,8 +67,8 @@ fn push_hashes(
     Ok(())
 }
 
-/// Adds a hash, where it has a control character. Of nearly each it is seen at once that it has
-/// none.
+/// Adds a hash as it is shown, where it has a control character. Of nearly each it is seen at once
+/// that it has none.
 fn push_hash(
     alloc: Global,
     list: &mut Vec<String>,
@@ -96,28 +76,45 @@ fn push_hash(
     hash: &Hash,
 ) -> Result<(), AllocError>
     ensures { OnOk result (map string_bytes list.new.items ≡ map string_bytes list.old.items
-        ++ plainly name (codes "hashes") (Some (hash_shown (text_pair hash.now)))) }
+        ++ controlled_hash name (text_pair hash.now)) }
 {
-    if is_printable_hash(hash) {
-        return Ok(());
+    if !is_printable_hash(hash) && has_control_in_hash(alloc, hash)? {
+        let path = source_key_path(alloc, name, "hashes")?;
+        let text = hash_shown(alloc, hash)?;
+        list.push(format!(in alloc; "{path} {text}")?)?;
     }
-    let text = hash_shown(alloc, hash)?;
-    push_plainly(alloc, list, name, "hashes", Some(text.as_str()))
+    Ok(())
 }
 
 fn is_printable_hash(hash: &Hash) -> bool
-    ensures { IsTrue result → has_control (hash_shown (text_pair hash.now)) ≡ false }
+    ensures { IsTrue result → has_control (hash_text (text_pair hash.now)) ≡ false }
 {
     is_printable(hash.0.as_bytes()) && is_printable(hash.1.as_bytes())
 }
 
-/// A hash as it is shown: `ALGORITHM=VALUE`.
+fn has_control_in_hash(alloc: Global, hash: &Hash) -> Result<bool, AllocError>
+    ensures { IfOk result (λ has. has ≡ has_control (hash_text (text_pair hash.now))) }
+{
+    let text = hash_text(alloc, hash.0.as_str(), hash.1.as_str())?;
+    Ok(has_control(text.as_str()))
+}
+
+/// A hash in one text: `ALGORITHM=VALUE`.
+fn hash_text(alloc: Global, algorithm: &str, value: &str) -> Result<String, AllocError>
+    ensures { IfOk result (λ text. string_bytes text ≡ hash_text (algorithm.now, value.now)) }
+{
+    let text = format!(in alloc; "{algorithm}={value}")?;
+    Ok(text)
+}
+
+/// A hash as it is shown.
 fn hash_shown(alloc: Global, hash: &Hash) -> Result<String, AllocError>
     ensures { IfOk result (λ text. string_bytes text ≡ hash_shown (text_pair hash.now)) }
 {
-    let (algorithm, value) = (hash.0.as_str(), hash.1.as_str());
-    let text = format!(in alloc; "{algorithm}={value}")?;
-    Ok(text)
+    let algorithm = hidden(alloc, hash.0.as_str())?;
+    let value = hidden(alloc, hash.1.as_str())?;
+    let text = hash_text(alloc, algorithm.as_str(), value.as_str())?;
+    hidden(alloc, text.as_str())
 }
 
 fn push_vcs(
@@ -129,10 +126,10 @@ fn push_vcs(
     ensures { OnOk result (map string_bytes list.new.items
         ≡ map string_bytes list.old.items ++ controlled_vcs name vcs.now) }
 {
-    push_plainly(alloc, list, name, "type", Some(vcs.kind()))?;
-    push_plainly(alloc, list, name, "commit-id", Some(vcs.commit_id()))?;
+    push_text(alloc, list, name, "type", Some(vcs.kind()))?;
+    push_text(alloc, list, name, "commit-id", Some(vcs.commit_id()))?;
     push_url_and_path(alloc, list, name, vcs.url(), vcs.path())?;
-    push_plainly(alloc, list, name, "subdirectory", vcs.subdirectory())
+    push_text(alloc, list, name, "subdirectory", vcs.subdirectory())
 }
 
 fn push_directory(
@@ -144,8 +141,8 @@ fn push_directory(
     ensures { OnOk result (map string_bytes list.new.items
         ≡ map string_bytes list.old.items ++ controlled_directory name directory.now) }
 {
-    push_plainly(alloc, list, name, "path", Some(directory.path()))?;
-    push_plainly(alloc, list, name, "subdirectory", directory.subdirectory())
+    push_text(alloc, list, name, "path", Some(directory.path()))?;
+    push_text(alloc, list, name, "subdirectory", directory.subdirectory())
 }
 
 fn push_archive(
@@ -159,7 +156,7 @@ fn push_archive(
 {
     push_url_and_path(alloc, list, name, archive.url(), archive.path())?;
     push_hashes(alloc, list, name, archive.hashes())?;
-    push_plainly(alloc, list, name, "subdirectory", archive.subdirectory())
+    push_text(alloc, list, name, "subdirectory", archive.subdirectory())
 }
 
 fn push_file(
@@ -171,7 +168,7 @@ fn push_file(
     ensures { OnOk result (map string_bytes list.new.items
         ≡ map string_bytes list.old.items ++ controlled_file name file.now) }
 {
-    push_plainly(alloc, list, name, "name", file.name())?;
+    push_text(alloc, list, name, "name", file.name())?;
     push_url_and_path(alloc, list, name, file.url(), file.path())?;
     push_hashes(alloc, list, name, file.hashes())
 }

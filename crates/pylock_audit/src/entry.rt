@@ -1,19 +1,18 @@
 //! What an entry of a lock gives to each kind of finding.
 
-ghost use Rattle.std.specs.Prelude.{◌≡◌, ◌++◌, IfOk, OnOk, codes, map, string_bytes};
+ghost use Rattle.std.specs.Prelude.{◌≡◌, ◌++◌, IfOk, OnOk, map, string_bytes};
 ghost use Rattle.std.specs.Result.{is_err};
 ghost use Rattle.pyver_core.specs.Parsed.{parsed_version};
 ghost use Rattle.pylock_core.specs.Session.Picks.{lent_named};
-ghost use Rattle.pylock_audit.specs.Entry.{of_kinds, of_marker, refused_version};
+ghost use Rattle.pylock_audit.specs.Entry.{controlled_version, of_kinds, of_marker};
+ghost use Rattle.pylock_audit.specs.Entry.{refused_version};
 ghost use Rattle.pylock_audit.specs.Finding.{findings_each};
 ghost use Rattle.pylock_audit.specs.Inner.Scope.{of_controls_in, of_hashes_in, of_sources_in};
 ghost use Rattle.pylock_audit.specs.Inner.Scope.{over_in};
 ghost use Rattle.pylock_audit.specs.Inner.Tables.{entry_findings_by, of_names_by};
-ghost use Rattle.pylock_audit.specs.Source.{text_where};
-ghost use Rattle.pylock_audit.specs.Unsafe.{has_control};
 
 use crate::files::push_file_names;
-use crate::finding::{Finding, FindingKind, push_each, push_where, told_where};
+use crate::finding::{Finding, FindingKind, push_each, push_where, shown_where};
 use crate::marker::push_compared;
 use crate::scope::Scope;
 use crate::source::over_sources;
@@ -21,6 +20,7 @@ use crate::tables::{IndexFindings, TableFindings};
 use crate::unsafe_text::has_control;
 use pylock_core::{Entry, Head, NamedSource, sources};
 use pylock_places::joined;
+use pylock_shown::hidden;
 use pyver_core::{Version, VersionError};
 use std::alloc::{AllocError, Global};
 
@@ -71,7 +71,7 @@ fn refused_version(alloc: Global, entry: &Entry) -> Result<Vec<String>, AllocErr
     let Some(version) = entry.version() else {
         return Ok(Vec::new(alloc));
     };
-    told_where(alloc, is_refused(alloc, version)?, version)
+    shown_where(alloc, is_refused(alloc, version)?, version)
 }
 
 fn is_refused(alloc: Global, version: &str) -> Result<bool, AllocError>
@@ -196,14 +196,15 @@ fn push_controls(
     )
 }
 
+/// The version with its path, where it has a control character.
 fn controlled_version(alloc: Global, entry: &Entry) -> Result<Vec<String>, AllocError>
-    ensures { IfOk result (λ list. map string_bytes list.items ≡ text_where has_control
-        (λ version. codes "version " ++ version) entry.now.version) }
+    ensures { IfOk result (λ list. map string_bytes list.items ≡ controlled_version entry.now) }
 {
     let mut list = Vec::new(alloc);
     match entry.version() {
         Some(version) if has_control(version) => {
-            list.push(joined(alloc, "version ", version)?)?;
+            let version = hidden(alloc, version)?;
+            list.push(joined(alloc, "version ", version.as_str())?)?;
         }
         _ => {}
     }

@@ -2,9 +2,11 @@
 
 ghost use Rattle.std.specs.Prelude.{◌≡◌, ◌++◌, IfOk, OnOk, map, option_map, string_bytes};
 ghost use Rattle.std.specs.Option.{option_copied};
-ghost use Rattle.pylock_audit.specs.Finding.{findings_at, findings_each, finding_where, told_where};
+ghost use Rattle.pylock_audit.specs.Finding.{findings_at, findings_each, finding_where};
+ghost use Rattle.pylock_audit.specs.Finding.{shown_where};
 ghost use Rattle.pylock_audit.specs.Words.{finding_word};
 
+use pylock_shown::hidden;
 use pytext::Text;
 use std::alloc::{AllocError, Global};
 use std::marker::Model;
@@ -138,7 +140,8 @@ impl Finding {
         self.kind
     }
 
-    /// What it names, if it names something.
+    /// What it names, if it names something. Each text of the lock in it is shown without what opens
+    /// a URL (`pylock_shown`).
     pub fn detail(&self) -> Option<&str>
         ensures { option_copied result ≡ self.now.detail }
     {
@@ -248,13 +251,17 @@ impl LockFinding {
     }
 }
 
-/// A copy of a text, where it counts.
-pub(crate) fn told_where(alloc: Global, counts: bool, text: &str) -> Result<Vec<String>, AllocError>
-    ensures { IfOk result (λ list. map string_bytes list.items ≡ told_where counts text.now) }
+/// A text of the lock as it is shown, where it counts.
+pub(crate) fn shown_where(
+    alloc: Global,
+    counts: bool,
+    text: &str,
+) -> Result<Vec<String>, AllocError>
+    ensures { IfOk result (λ list. map string_bytes list.items ≡ shown_where counts text.now) }
 {
     let mut list = Vec::new(alloc);
     if counts {
-        list.push(String::from_str(alloc, text)?)?;
+        list.push(hidden(alloc, text)?)?;
     }
     Ok(list)
 }

@@ -21,7 +21,7 @@ ghost use Rattle.pylock_audit.specs.Inner.Tables.{tables_after, tables_in, with_
 
 use crate::entry::entry_findings;
 use crate::finding::{
-    Finding, FindingKind, LockFinding, push_each, push_findings_at, push_where, told_where,
+    Finding, FindingKind, LockFinding, push_each, push_findings_at, push_where, shown_where,
 };
 use crate::keys::{LockTable, field, push_unknown};
 use crate::scope::Scope;
@@ -29,6 +29,7 @@ use crate::tables::{Looked, TableFindings, is_other_form, table_findings, text_a
 use crate::types::push_wrong_types;
 use pylock_core::{Entry, Head, Lock, LockError};
 use pylock_readers::{MOST_ENTRIES, read_document_without};
+use pylock_shown::hidden;
 use std::alloc::{AllocError, Global};
 use toml::{Table, Value};
 
@@ -205,7 +206,7 @@ fn other_lock_version(alloc: Global, document: &Table) -> Result<Vec<String>, Al
         ≡ other_lock_version (table_view document.now)) }
 {
     match text_at(document, "lock-version") {
-        Some(version) => told_where(alloc, version != "1.0", version),
+        Some(version) => shown_where(alloc, version != "1.0", version),
         None => Ok(Vec::new(alloc)),
     }
 }
@@ -243,7 +244,7 @@ fn push_other_form(alloc: Global, list: &mut Vec<String>, value: &Value) -> Resu
         return Ok(());
     };
     if is_other_form(alloc, name)? {
-        list.push(String::from_str(alloc, name)?)?;
+        list.push(hidden(alloc, name)?)?;
     }
     Ok(())
 }

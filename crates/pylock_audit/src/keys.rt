@@ -7,6 +7,7 @@ ghost use Rattle.pylock_audit.specs.Keys.{is_named, source_path, table_path, unk
 
 use pylock_core::PickSource;
 use pylock_places::joined;
+use pylock_shown::hidden;
 use std::alloc::{AllocError, Global};
 use toml::{Table, Value};
 
@@ -133,7 +134,7 @@ pub(crate) fn field<'a>(table: &'a Table, key: &str) -> Option<&'a Value>
     table.get(key)
 }
 
-/// Adds the keys of a table that aren't named, each by its path.
+/// Adds the keys of a table that aren't named, each by its path as it is shown.
 #[tactic(auto, using(crate::proofs::KeyLemmas::keys_shown))]
 pub(crate) fn push_unknown(
     alloc: Global,
@@ -146,7 +147,8 @@ pub(crate) fn push_unknown(
 {
     for key in members.keys() {
         if !is_named(table, key.as_str()) {
-            paths.push(key_path(alloc, table, key.as_str())?)?;
+            let shown = hidden(alloc, key.as_str())?;
+            paths.push(key_path(alloc, table, shown.as_str())?)?;
         }
     }
     Ok(())

@@ -8,7 +8,7 @@ ghost use Rattle.pylock_audit.specs.Entry.{asks_undeclared, is_undeclared, marke
 ghost use Rattle.pylock_audit.specs.Readings.{differs, differs_by, is_equality, is_operand};
 ghost use Rattle.pylock_audit.specs.Readings.{is_other_variable};
 
-use crate::finding::{Finding, FindingKind, push_each, told_where};
+use crate::finding::{Finding, FindingKind, push_each, shown_where};
 use pylock_core::Head;
 use pymark_core::{Comparator, Comparison, Marker, Var};
 use pyver_core::{Operator, Specifier, SpecifierError, normal_name};
@@ -26,13 +26,13 @@ pub(crate) fn push_compared(
 {
     let listed = marker.comparisons(alloc)?;
     let compared = listed.as_slice();
-    let texts = told_where(alloc, any_extra(compared), marker.text())?;
+    let texts = shown_where(alloc, any_extra(compared), marker.text())?;
     push_each(findings, FindingKind::MarkerExtra, texts)?;
     let differs = any_differs(alloc, compared)?;
-    let texts = told_where(alloc, differs, marker.text())?;
+    let texts = shown_where(alloc, differs, marker.text())?;
     push_each(findings, FindingKind::ReadingsDiffer, texts)?;
     let asked = any_undeclared(alloc, head, compared)?;
-    let texts = told_where(alloc, asked, marker.text())?;
+    let texts = shown_where(alloc, asked, marker.text())?;
     push_each(findings, FindingKind::UndeclaredName, texts)
 }
 

@@ -8,7 +8,8 @@ ghost use Rattle.std.specs.Option.{option_copied, option_map_or};
 ghost use Rattle.pylock_readers.specs.Text.{text_pair, text_pairs};
 ghost use Rattle.pylock_core.specs.Session.Picks.{lent_named, lent_source};
 ghost use Rattle.pylock_places.specs.Query.{has_secret};
-ghost use Rattle.pylock_places.specs.Url.{has_credentials, shown_url};
+ghost use Rattle.pylock_places.specs.Url.{has_credentials};
+ghost use Rattle.pylock_shown.specs.Hidden.{hidden};
 ghost use Rattle.pylock_audit.specs.Keys.{source_path};
 ghost use Rattle.pylock_audit.specs.Source.{algorithms, details, file_of};
 ghost use Rattle.pylock_audit.specs.Source.{has_commit_hashes, hashes_of, is_commit_hash};
@@ -26,8 +27,9 @@ use crate::unsafe_text::{is_outside_path, is_unsafe_name, is_unsafe_path};
 use pylock_core::{DistributionFile, NamedSource, PickSource, PickedSource, Vcs};
 use pylock_places::{
     file_label, has_credentials, has_secret, is_https, is_safe_remote, joined, shown_name,
-    shown_place, shown_url,
+    shown_place,
 };
+use pylock_shown::{hidden, push_hidden};
 use std::alloc::{AllocError, Global};
 
 // ---- what a source has
@@ -105,7 +107,7 @@ fn label(alloc: Global, source: PickedSource<'_>) -> Result<String, AllocError>
 
 // ---- hashes
 
-/// Adds the label of a file, a space and a text.
+/// Adds the label of a file, a space and a text that is shown.
 fn push_labelled(
     alloc: Global,
     list: &mut Vec<String>,
@@ -153,25 +155,25 @@ fn push_weakly_hashed(
     Ok(())
 }
 
-/// The algorithms, joined by `,`.
+/// The algorithms as they are shown, joined by `,`.
 fn algorithms(alloc: Global, hashes: &[Hash]) -> Result<String, AllocError>
     ensures { IfOk result (λ text. string_bytes text ≡ algorithms (text_pairs hashes.now)) }
 {
     let Some((first, rest)) = hashes.split_first() else {
         return Ok(String::new(alloc));
     };
-    let mut text = String::from_str(alloc, first.0.as_str())?;
+    let mut text = hidden(alloc, first.0.as_str())?;
     push_more(&mut text, rest)?;
     Ok(text)
 }
 
 fn push_more(text: &mut String, hashes: &[Hash]) -> Result<(), AllocError>
     ensures { OnOk result (string_bytes text.new ≡ string_bytes text.old
-        ++ flat_map (λ hash. codes "," ++ hash.0) (text_pairs hashes.now)) }
+        ++ flat_map (λ hash. codes "," ++ hidden hash.0) (text_pairs hashes.now)) }
 {
     for hash in hashes {
         text.push_str(",")?;
-        text.push_str(hash.0.as_str())?;
+        push_hidden(text, hash.0.as_str())?;
     }
     Ok(())
 }
@@ -192,7 +194,8 @@ fn push_tested_hashes(
     };
     for hash in hashes {
         if is_told(kind, hash) {
-            push_labelled(alloc, list, source, hash.0.as_str())?;
+            let algorithm = hidden(alloc, hash.0.as_str())?;
+            push_labelled(alloc, list, source, algorithm.as_str())?;
         }
     }
     Ok(())
@@ -236,10 +239,10 @@ fn push_unsafe_path(
     source: PickedSource<'_>,
 ) -> Result<(), AllocError>
     ensures { OnOk result (map string_bytes list.new.items ≡ map string_bytes list.old.items
-        ++ text_where is_unsafe_path (λ path. path) (subdirectory_of (lent_source source.entry))) }
+        ++ text_where is_unsafe_path hidden (subdirectory_of (lent_source source.entry))) }
 {
     match subdirectory_of(source) {
-        Some(path) if is_unsafe_path(path) => Ok(list.push(String::from_str(alloc, path)?)?),
+        Some(path) if is_unsafe_path(path) => Ok(list.push(hidden(alloc, path)?)?),
         _ => Ok(()),
     }
 }
@@ -251,10 +254,10 @@ fn push_outside_path(
     source: PickedSource<'_>,
 ) -> Result<(), AllocError>
     ensures { OnOk result (map string_bytes list.new.items ≡ map string_bytes list.old.items
-        ++ text_where is_outside_path (λ path. path) (path_of (lent_source source.entry))) }
+        ++ text_where is_outside_path hidden (path_of (lent_source source.entry))) }
 {
     match path_of(source) {
-        Some(path) if is_outside_path(path) => Ok(list.push(String::from_str(alloc, path)?)?),
+        Some(path) if is_outside_path(path) => Ok(list.push(hidden(alloc, path)?)?),
         _ => Ok(()),
     }
 }
@@ -276,11 +279,11 @@ fn push_open_url(
     source: PickedSource<'_>,
 ) -> Result<(), AllocError>
     ensures { OnOk result (map string_bytes list.new.items ≡ map string_bytes list.old.items
-        ++ text_where (is_open_url (lent_source source.entry)) shown_url
+        ++ text_where (is_open_url (lent_source source.entry)) hidden
         (url_of (lent_source source.entry))) }
 {
     match url_of(source) {
-        Some(url) if is_open_url(source, url) => Ok(list.push(shown_url(alloc, url)?)?),
+        Some(url) if is_open_url(source, url) => Ok(list.push(hidden(alloc, url)?)?),
         _ => Ok(()),
     }
 }
@@ -292,10 +295,10 @@ fn push_credentials(
     source: PickedSource<'_>,
 ) -> Result<(), AllocError>
     ensures { OnOk result (map string_bytes list.new.items ≡ map string_bytes list.old.items
-        ++ text_where has_credentials shown_url (url_of (lent_source source.entry))) }
+        ++ text_where has_credentials hidden (url_of (lent_source source.entry))) }
 {
     match url_of(source) {
-        Some(url) if has_credentials(url) => Ok(list.push(shown_url(alloc, url)?)?),
+        Some(url) if has_credentials(url) => Ok(list.push(hidden(alloc, url)?)?),
         _ => Ok(()),
     }
 }
@@ -342,7 +345,7 @@ fn push_moving_commit(
 {
     match source {
         PickedSource::Vcs(vcs) if is_moving(vcs) => {
-            Ok(list.push(String::from_str(alloc, vcs.commit_id())?)?)
+            Ok(list.push(hidden(alloc, vcs.commit_id())?)?)
         }
         _ => Ok(()),
     }

@@ -7,16 +7,14 @@ ghost use Rattle.std.specs.Option.{option_copied};
 ghost use Rattle.toml.specs.Data.{Items, as_str, no_items, push_item, table};
 ghost use Rattle.toml.specs.View.{items_view, table_view, view};
 ghost use Rattle.pylock_readers.specs.Lock.Packages.{HasRead};
-ghost use Rattle.pylock_places.specs.Url.{shown_url};
 ghost use Rattle.pylock_audit.specs.Audit.{members_in};
 ghost use Rattle.pylock_audit.specs.Entry.{index_of, is_other_form, other_form, text_at};
-ghost use Rattle.pylock_audit.specs.Finding.{told_where};
 ghost use Rattle.pylock_audit.specs.Inner.Tables.{HasLooked, of_table, of_tables, told_by};
 
 use crate::entry_keys::entry_keys_told;
-use crate::finding::{Finding, FindingKind, push_each, told_where};
+use crate::finding::{Finding, FindingKind, push_each, shown_where};
 use crate::keys::field;
-use pylock_places::{has_credentials, is_https, shown_url};
+use pylock_places::{has_credentials, is_https};
 use pylock_readers::{MOST_ENTRIES, Packages};
 use pytoml::Elements;
 use pyver_core::NormalForm;
@@ -164,18 +162,6 @@ impl IndexFindings {
     }
 }
 
-/// A URL as it is shown, where it counts.
-fn shown_where(alloc: Global, counts: bool, url: &str) -> Result<Vec<String>, AllocError>
-    ensures { IfOk result (λ list. map string_bytes list.items
-        ≡ told_where counts (shown_url url.now)) }
-{
-    let mut list = Vec::new(alloc);
-    if counts {
-        list.push(shown_url(alloc, url)?)?;
-    }
-    Ok(list)
-}
-
 /// What each of these values gives. Where each key is named and each name is in normal form, it
 /// takes memory for the list alone.
 pub(crate) fn table_findings(
@@ -204,7 +190,7 @@ fn other_form(alloc: Global, table: &Table) -> Result<Vec<String>, AllocError>
         ≡ other_form (table_view table.now)) }
 {
     match text_at(table, "name") {
-        Some(name) => told_where(alloc, is_other_form(alloc, name)?, name),
+        Some(name) => shown_where(alloc, is_other_form(alloc, name)?, name),
         None => Ok(Vec::new(alloc)),
     }
 }

@@ -1,20 +1,19 @@
 //! Texts that do harm where they are used as they stand.
 
 ghost use Rattle.std.specs.Prelude.{◌≡◌};
-ghost use Rattle.std.specs.List.{list_all, list_any, slice_split};
+ghost use Rattle.std.specs.List.{list_any, slice_split};
 ghost use Rattle.std.specs.Str.{chars};
-ghost use Rattle.pylock_audit.specs.Inner.Printable.{is_printable};
 ghost use Rattle.pylock_audit.specs.Unsafe.{begins_with_parent, begins_with_root, has_control};
 ghost use Rattle.pylock_readers.specs.Entry.FileName.{ends_segment};
 ghost use Rattle.pylock_audit.specs.Unsafe.{climbs_out, cuts_path, has_drive, has_later_parent};
 ghost use Rattle.pylock_audit.specs.Unsafe.{is_folder_above, is_outside_path, is_same_folder};
 ghost use Rattle.pylock_audit.specs.Unsafe.{is_unsafe_name, is_unsafe_path};
 
-use pylock_messages::is_control;
+use pylock_shown::{is_control, is_printable};
 
 /// Whether the text has a control character. Of nearly each text it is seen at once that it has
 /// none.
-#[tactic(auto, using(crate::proofs::PrintableLemmas::printable_has_none))]
+#[tactic(auto, using(pylock_shown::proofs::PrintableLemmas::printable_has_none))]
 pub(crate) fn has_control(text: &str) -> bool
     ensures { result ≡ has_control text.now }
 {
@@ -26,20 +25,6 @@ fn any_control(text: &str) -> bool
     ensures { result ≡ has_control text.now }
 {
     text.chars().any(|c| is_control(c))
-}
-
-/// Whether each byte is a printable character of ASCII. The least and the greatest byte are kept,
-/// so that many bytes are looked at at once.
-pub(crate) fn is_printable(bytes: &[u8]) -> bool
-    ensures { result ≡ list_all is_printable bytes.now }
-{
-    let mut least = u8::MAX;
-    let mut most = 0;
-    for byte in bytes {
-        least = least.min(*byte);
-        most = most.max(*byte);
-    }
-    least > 31 && most < 127
 }
 
 fn ends_segment(b: u8) -> bool

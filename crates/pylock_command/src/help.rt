@@ -15,6 +15,10 @@ for the environment in a file, which has the marker variables and the wheel
 tags of a Python. Each command has --help; without a command pylock prints its
 name and major version.
 
+A terminal is given \\u{HEX} for each character of Unicode's classes Cc, Cf, Zl
+and Zp but TAB and LF: these steer it or aren't seen. A file or a pipe gets all
+as it is.
+
 Status: 0, an answer; 1, a fault, a finding, a change or a refused text; 2, a
 lock, the environment or the command line is refused; 3, standard error says
 why it ended early.";
@@ -30,7 +34,8 @@ Prints plan K and then K lines, one for each package to install. A line has
 nine fields with TAB between them: the entry's number, name, version, kind of
 source, file name, path or URL, hashes, VCS commit and subdirectory. An absent
 field is -. The lines are for programs: a field may hold any character of the
-lock but TAB and LF, which are written \\t and \\n.
+lock but TAB and LF, which are written \\t and \\n. A terminal gets \\u{HEX} for
+one that steers it. A URL stands there with the password that it may have.
 
 Where the lock can't be installed so, it prints fault ID, TAB and CODE instead.
 ID is the number of the entry at fault, or 0 for the head of the lock. The help
@@ -105,7 +110,8 @@ Example, with spaces for the TABs:
 Judges the head of the lock and each entry for itself, so all faults are seen
 at once. The first line is head, ok or a code, and DETAIL. Then each entry has
 a line: ID NAME VERSION VERDICT DETAIL. TAB stands between two fields, and an
-absent field is -. The options are those of plan, and mean the same.
+absent field is -. What may be a secret in a URL is shown as ***. The options
+are those of plan, and mean the same.
 
 VERDICT is one of these, and DETAIL is what stands in parentheses:
   skipped           its marker is false (the marker)
@@ -180,7 +186,8 @@ Prints files K and then K lines, one for each source of each entry. A line has
 the nine fields of a line of plan: the entry's number, name, version, kind of
 source, file name, path or URL, hashes, VCS commit and subdirectory. An absent
 field is -. The lines are for programs: a field may hold any character of the
-lock but TAB and LF, which are written \\t and \\n.
+lock but TAB and LF, which are written \\t and \\n. A terminal gets \\u{HEX} for
+one that steers it. A URL stands there with the password that it may have.
 
 --format prints what another tool takes, and nothing else. FORM is one of:
   sha256sum  for sha256sum -c FILE
@@ -252,8 +259,8 @@ FINDING is one of these:
   moving-commit       a commit of git or hg isn't a full hash
   control-character   a text has a control character
 
-DETAIL shows what stands in front of such an @, and the value of such a secret,
-as ***, and control characters as \\u{..}.
+DETAIL shows as *** what stands between a slash and the last @ before the next
+one, and each value of a query; control characters as \\u{..}.
 
 Status: 0, nothing was found; 1, something was; 2, the lock or the command line
 is refused; 3, a file can't be read, the output failed or memory ran out.";
@@ -282,9 +289,11 @@ what stands in parentheses is told of both locks:
   condition       other markers or other Pythons (these)
   key             another key of an entry, or of a file in it, has another value
                   (the key and its values as TOML)
+
 Where nothing is printed but changes 0, both hold the same lock: the same head
 but for created-by, and the same entries with all their keys. The order of
-entries and keys doesn't count, nor how TOML writes them.
+entries and keys doesn't count, nor how TOML writes them. FROM and TO hide what
+audit hides, so they may be alike.
 
 With --in or a target, and then with the options of plan too, the plans of the
 locks are compared in their place: what a machine would see of the change.

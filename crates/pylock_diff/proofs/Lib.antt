@@ -1,7 +1,6 @@
 pub mod Answered
 pub mod ChangeLemmas
 pub mod CountLemmas
-pub mod HiddenLemmas
 pub mod InnerLemmas
 pub mod KeptLemmas
 pub mod KeyLemmas

@@ -1,7 +1,8 @@
--- A change of a lock: its kind, the name that it is of, and what was and is there. A field may be
--- absent.
+-- A change of a lock: its kind, the name that it is of, and what was and is there, each as a person
+-- is shown it. A field may be absent.
 use Rattle.std.specs.Prelude.{ℕ, Bool, true, false, List, [], ◌∷◌, codes, filter, Option, Some}
 use Rattle.std.specs.Prelude.{if◌then◌else◌}
+use Rattle.pylock_shown.specs.Hidden.{hidden}
 use Rattle.pylock_diff.specs.declared.change.ChangeKind.{ChangeKind}
 use Rattle.pylock_diff.specs.declared.change.ChangeKind.TheVariants as kind
 
@@ -25,7 +26,8 @@ change_word kind.Fault = codes "fault"
 
 -- a change of what stands under a name
 abbrev pub change_of : ChangeKind → List ℕ → (from to : Option (List ℕ)) → ChangeValue
-change_of kind name from to = record { kind = kind; name = Some name; from = from; to = to }
+change_of kind name from to =
+    record { kind = kind; name = Some (hidden name); from = from; to = to }
 
 -- a change where it stands
 abbrev pub told_where : Bool → ChangeValue → List ChangeValue

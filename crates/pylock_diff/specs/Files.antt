@@ -9,8 +9,7 @@ use Rattle.pylock_readers.specs.Entry.{ArchiveValue, FileValue, LocationValue, f
 use Rattle.pylock_readers.specs.Entry.{place_of}
 use Rattle.pylock_core.specs.Session.Picks.{SourceValue, OfVcs, OfDirectory, OfArchive, OfWheel}
 use Rattle.pylock_core.specs.Session.Picks.{OfSdist}
-use Rattle.pylock_places.specs.Shown.{file_label}
-use Rattle.pylock_places.specs.Shown.{shown_place}
+use Rattle.pylock_places.specs.Shown.{file_label, shown_place}
 use Rattle.pylock_diff.specs.Change.{ChangeValue, change_of, told_where}
 use Rattle.pylock_diff.specs.Hashes.{Hashed, are_same_sets, hashed_changes}
 use Rattle.pylock_diff.specs.Item.{ItemValue}
@@ -48,7 +47,7 @@ archives_of items = flat_map (λ item. flat_map archive_in item.sources) items
 
 -- ---- hashes
 
--- how files of one name are shown, credentials hidden as in `audit`: as the first of them
+-- how files of one name are shown: as the first of them
 abbrev pub files_label : List FileValue → List ℕ
 files_label [] = []
 files_label (file ∷ files) = file_label file
@@ -115,7 +114,7 @@ shown_places location =
     (if is_some location.path then shown_place (by_path location) ∷ [] else [])
     ++ (if is_some location.url then shown_place (by_url location) ∷ [] else [])
 
--- the places of files of one name, credentials hidden as in `audit`
+-- the places of files of one name, as they are shown
 abbrev pub places_text : List FileValue → List ℕ
 places_text files =
     joined (codes ",") (in_order (flat_map (λ file. shown_places file.location) files))

@@ -1,8 +1,9 @@
 -- Hashes under one name: how they are compared, and how they are shown.
-use Rattle.std.specs.Prelude.{ℕ, Bool, not, ◌++◌, List, [], ◌∷◌, codes, Some}
+use Rattle.std.specs.Prelude.{ℕ, Bool, not, ◌++◌, List, [], ◌∷◌, codes, map, Some}
 use Rattle.pylock_diff.specs.Change.{ChangeValue, change_of, told_where}
 use Rattle.pylock_compare.specs.Rows.{Row, in_order, under_each}
 use Rattle.pylock_compare.specs.Texts.{all_there, are_alike, joined}
+use Rattle.pylock_shown.specs.Hidden.{hidden}
 use Rattle.pylock_diff.specs.declared.change.ChangeKind.TheVariants.{Hash}
 
 -- what has hashes: how it is shown, and its hashes, the pairs of algorithm and value of each file
@@ -11,15 +12,15 @@ pub record Hashed : Type 0 where
   pub label : List ℕ
   pub hashes : List (Row (List ℕ))
 
--- values joined by `,`, or `-`
+-- values as they are shown, joined by `,`, or `-`
 abbrev pub hash_values : List (List ℕ) → List ℕ
 hash_values [] = codes "-"
-hash_values (value ∷ values) = joined (codes ",") (value ∷ values)
+hash_values (value ∷ values) = joined (codes ",") (map hidden (value ∷ values))
 
--- file name, algorithm and values
+-- file name, algorithm and values, each as it is shown
 abbrev pub hash_text : List ℕ → List ℕ → List (List ℕ) → List ℕ
 hash_text label algorithm values =
-    label ++ codes " " ++ algorithm ++ codes " " ++ hash_values values
+    label ++ codes " " ++ hidden algorithm ++ codes " " ++ hash_values values
 
 -- the same texts stand in both
 abbrev pub are_same_sets : (olds news : List (List ℕ)) → Bool

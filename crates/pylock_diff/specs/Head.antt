@@ -6,8 +6,9 @@ use Rattle.std.specs.Str.{bytes_eq}
 use Rattle.toml.specs.Data.{Data, Items, array, item, no_items, string}
 use Rattle.pylock_compare.specs.Rows.{Row, in_order, names_of, values_at}
 use Rattle.pytoml_code.specs.Code.{code}
+use Rattle.pytoml_code.specs.Shown.{shown}
+use Rattle.pylock_shown.specs.Hidden.{hidden}
 use Rattle.pylock_diff.specs.Change.{ChangeValue, change_of, told_where}
-use Rattle.pylock_diff.specs.Hidden.{shown_value}
 use Rattle.pylock_diff.specs.declared.change.ChangeKind.TheVariants.{Head}
 
 -- a key of the head: the code of its value, and how it is shown
@@ -25,9 +26,9 @@ list_keys =
 abbrev pub is_list_key : List ℕ → Bool
 is_list_key key = list_any (bytes_eq key) list_keys
 
--- a text, and nothing of another value, which no lock has there
+-- a text as it is shown, and nothing of another value, which no lock has there
 abbrev pub item_text : Data → List ℕ
-item_text (string text) = text
+item_text (string text) = hidden text
 item_text d = []
 
 -- texts, each behind a comma
@@ -50,7 +51,7 @@ abbrev pub head_key : List ℕ → Data → HeadKey
 head_key key d = record {
   key = key;
   code = code d;
-  text = if is_list_key key then list_text d else shown_value (code d);
+  text = if is_list_key key then list_text d else shown (code d);
 }
 
 -- ---- two heads

@@ -6,9 +6,10 @@ use Rattle.std.specs.Str.{bytes_eq}
 use Rattle.pylock_compare.specs.Rows.{Row, under_each}
 use Rattle.pylock_diff.specs.Change.{ChangeValue, change_of, told_where}
 use Rattle.pylock_diff.specs.Codes.{Rows}
-use Rattle.pylock_diff.specs.Hidden.{shown_value}
 use Rattle.pylock_diff.specs.Item.{ItemValue}
 use Rattle.pylock_diff.specs.SourceKeys.{is_one_of}
+use Rattle.pylock_shown.specs.Hidden.{hidden}
+use Rattle.pytoml_code.specs.Shown.{shown}
 use Rattle.pylock_diff.specs.declared.change.ChangeKind.{ChangeKind}
 use Rattle.pylock_diff.specs.declared.change.ChangeKind.TheVariants as kind
 
@@ -34,14 +35,14 @@ are_same_values (old ∷ olds) [] = false
 are_same_values (old ∷ olds) (new ∷ news) =
     is_same_value old new && are_same_values olds news
 
--- the values joined by ` | `, or `-`
+-- the values as they are shown, joined by ` | `, or `-`
 abbrev pub values_text : List Placed → List ℕ
 values_text [] = codes "-"
 values_text (value ∷ values) =
-    shown_value value.1 ++ flat_map (λ other. codes " | " ++ shown_value other.1) values
+    shown value.1 ++ flat_map (λ other. codes " | " ++ shown other.1) values
 
 abbrev pub key_text : List ℕ → List Placed → List ℕ
-key_text key values = key ++ codes " " ++ values_text values
+key_text key values = hidden key ++ codes " " ++ values_text values
 
 -- ---- which key which change tells of
 

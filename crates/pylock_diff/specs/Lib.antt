@@ -7,7 +7,6 @@ pub mod Document
 pub mod Files
 pub mod Hashes
 pub mod Head
-pub mod Hidden
 pub mod Inner
 pub mod Item
 pub mod Keys

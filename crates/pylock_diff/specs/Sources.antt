@@ -6,8 +6,8 @@ use Rattle.pylock_readers.specs.Entry.{FileValue, file_name, place_of}
 use Rattle.pylock_core.specs.Session.Picks.{SourceValue, OfVcs, OfDirectory, OfArchive, OfWheel}
 use Rattle.pylock_core.specs.Session.Picks.{OfSdist}
 use Rattle.pylock_core.specs.Words.{directory_word}
-use Rattle.pylock_places.specs.Shown.{file_label}
-use Rattle.pylock_places.specs.Shown.{shown_place}
+use Rattle.pylock_places.specs.Shown.{file_label, shown_place}
+use Rattle.pylock_shown.specs.Hidden.{hidden}
 use Rattle.pylock_diff.specs.Change.{ChangeValue, change_of}
 use Rattle.pylock_diff.specs.Item.{ItemValue}
 use Rattle.pylock_compare.specs.Texts.{Texts, are_alike}
@@ -32,10 +32,11 @@ identity (OfArchive archive) =
 identity (OfWheel file) = Some (codes "wheel") ∷ Some (called file) ∷ None ∷ None ∷ None ∷ []
 identity (OfSdist file) = Some (codes "sdist") ∷ Some (called file) ∷ None ∷ None ∷ None ∷ []
 
--- what it is: its kind, and its file name or place, credentials hidden as in `audit`
+-- what it is: its kind, and its file name or place, as they are shown
 abbrev pub source_text : SourceValue → List ℕ
 source_text (OfVcs vcs) = codes "vcs " ++ shown_place vcs.location
-source_text (OfDirectory directory) = directory_word directory ++ codes " " ++ directory.path
+source_text (OfDirectory directory) =
+    directory_word directory ++ codes " " ++ hidden directory.path
 source_text (OfArchive archive) = codes "archive " ++ shown_place archive.location
 source_text (OfWheel file) = codes "wheel " ++ file_label file
 source_text (OfSdist file) = codes "sdist " ++ file_label file

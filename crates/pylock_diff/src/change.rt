@@ -4,6 +4,7 @@ ghost use Rattle.std.specs.Prelude.{◌≡◌, ◌++◌, ◌∷◌, [], IfOk, On
 ghost use Rattle.std.specs.Option.{option_copied};
 ghost use Rattle.pylock_diff.specs.Change.{change_of, change_word};
 
+use pylock_shown::hidden;
 use std::alloc::{AllocError, Global};
 use std::marker::Model;
 
@@ -52,7 +53,8 @@ impl ChangeKind {
     }
 }
 
-/// A change: its kind, and texts that may be absent.
+/// A change: its kind, and texts that may be absent, each as a person is shown it: `***` stands for
+/// what in a text of a lock may open a URL.
 pub struct Change {
     kind: ChangeKind,
     name: Option<String>,
@@ -132,7 +134,7 @@ impl Change {
     }
 }
 
-/// Adds a change of what stands under a name.
+/// Adds a change of what stands under a name, which is shown by `hidden`.
 pub(crate) fn push_change(
     alloc: Global,
     changes: &mut Vec<Change>,
@@ -144,7 +146,7 @@ pub(crate) fn push_change(
     ensures { OnOk result (changes.new.items ≡ changes.old.items ++ change_of kind name.now
         (option_map string_bytes from) (option_map string_bytes to) ∷ []) }
 {
-    let name = Some(String::from_str(alloc, name)?);
+    let name = Some(hidden(alloc, name)?);
     changes.push(Change {
         kind,
         name,

@@ -8,8 +8,9 @@ ghost use Rattle.pylock_compare.specs.Rows.{under_each};
 ghost use Rattle.pylock_compare.specs.Texts.{all_there, are_alike};
 
 use crate::change::{Change, ChangeKind, push_change};
-use crate::texts::joined;
+use crate::texts::joined_hidden;
 use pylock_compare::{Key, Sides, in_order};
+use pylock_shown::push_hidden;
 use std::alloc::{AllocError, Global};
 use std::marker::Model;
 
@@ -120,7 +121,7 @@ pub(crate) fn are_same_texts<'x>(
     Ok(old == new)
 }
 
-/// Label, algorithm and values.
+/// Label, algorithm and values, each as it is shown.
 fn hash_text(
     alloc: Global,
     label: &str,
@@ -132,18 +133,18 @@ fn hash_text(
 {
     let mut text = String::from_str(alloc, label)?;
     text.push_str(" ")?;
-    text.push_str(algorithm)?;
+    push_hidden(&mut text, algorithm)?;
     text.push_str(" ")?;
     text.push_str(hash_values(alloc, values)?.as_str())?;
     Ok(text)
 }
 
-/// The values joined by `,`, or `-`.
+/// The values as they are shown, joined by `,`, or `-`.
 fn hash_values(alloc: Global, values: &[&str]) -> Result<String, AllocError>
     ensures { IfOk result (λ text. string_bytes text ≡ hash_values (lent_texts values.now)) }
 {
     if values.is_empty() {
         return String::from_str(alloc, "-");
     }
-    joined(alloc, ",", values)
+    joined_hidden(alloc, ",", values)
 }

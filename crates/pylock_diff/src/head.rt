@@ -16,10 +16,10 @@ ghost use Rattle.pylock_diff.specs.Inner.Lent.{key_row, lent_keys};
 ghost use Rattle.pytoml_code.specs.Proper.{IsProper};
 
 use crate::change::{Change, ChangeKind, push_change};
-use crate::hidden::shown_value;
 use crate::texts::owned;
 use pylock_compare::Sides;
-use pytoml_code::push_code;
+use pylock_shown::push_hidden;
+use pytoml_code::{push_code, shown_code};
 use std::alloc::{AllocError, Global};
 use std::marker::Model;
 use toml::{Table, Value};
@@ -84,7 +84,7 @@ fn head_key(alloc: Global, key: &str, value: &Value) -> Result<HeadKey, AllocErr
     let text = if is_list_key(key) {
         list_text(alloc, value)?
     } else {
-        shown_value(alloc, code.as_slice())?
+        shown_code(alloc, code.as_slice())?
     };
     let key = String::from_str(alloc, key)?;
     Ok(HeadKey { key, code, text })
@@ -108,13 +108,13 @@ fn is_list_key(key: &str) -> bool
     )
 }
 
-/// A text as it is, a list of texts joined by `,`, and `[]` where it is empty.
+/// A text as it is shown, a list of texts joined by `,`, and `[]` where it is empty.
 fn list_text(alloc: Global, value: &Value) -> Result<String, AllocError>
     ensures { IfOk result (λ text. string_bytes text ≡ list_text (view value.now)) }
 {
     match value {
         Value::Array(items) => items_text(alloc, items.as_slice()),
-        _ => String::from_str(alloc, item_text(value)),
+        _ => item_text(alloc, value),
     }
 }
 
@@ -124,21 +124,30 @@ fn items_text(alloc: Global, items: &[Value]) -> Result<String, AllocError>
     let [first, others @ ..] = items else {
         return String::from_str(alloc, "[]");
     };
-    let mut text = String::from_str(alloc, item_text(first))?;
+    let mut text = item_text(alloc, first)?;
     for item in others {
         text.push_str(",")?;
-        text.push_str(item_text(item))?;
+        push_item_text(&mut text, item)?;
     }
     Ok(text)
 }
 
-/// A text, and nothing of another value.
-fn item_text(item: &Value) -> &str
-    ensures { result.now ≡ item_text (view item.now) }
+/// A text as it is shown, and nothing of another value.
+fn item_text(alloc: Global, item: &Value) -> Result<String, AllocError>
+    ensures { IfOk result (λ text. string_bytes text ≡ item_text (view item.now)) }
+{
+    let mut text = String::new(alloc);
+    push_item_text(&mut text, item)?;
+    Ok(text)
+}
+
+fn push_item_text(text: &mut String, item: &Value) -> Result<(), AllocError>
+    ensures { OnOk result (string_bytes text.new
+        ≡ string_bytes text.old ++ item_text (view item.now)) }
 {
     match item {
-        Value::String(text) => text.as_str(),
-        _ => "",
+        Value::String(one) => push_hidden(text, one.as_str()),
+        _ => Ok(()),
     }
 }
 

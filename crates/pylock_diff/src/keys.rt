@@ -11,9 +11,10 @@ ghost use Rattle.pylock_diff.specs.Keys.{is_told, key_changes, key_text, placed_
 ghost use Rattle.pylock_diff.specs.Keys.{source_key_changes, tells_of, values_text};
 
 use crate::change::{Change, ChangeKind, push_change};
-use crate::hidden::shown_value;
 use crate::item::Keyed;
 use pylock_compare::Sides;
+use pylock_shown::hidden;
+use pytoml_code::shown_code;
 use std::alloc::{AllocError, Global};
 
 /// A code, and the place of its entry among those of a name.
@@ -165,11 +166,11 @@ fn is_same(old: Placed<'_>, new: Placed<'_>) -> bool
     old.0 == new.0 && old.1 == new.1
 }
 
-/// The key and its values joined by ` | `, or `-`.
+/// The key and its values joined by ` | `, or `-`, each as it is shown.
 fn key_text(alloc: Global, key: &str, values: &[Placed<'_>]) -> Result<String, AllocError>
     ensures { IfOk result (λ text. string_bytes text ≡ key_text key.now (lent_places values.now)) }
 {
-    let mut text = String::from_str(alloc, key)?;
+    let mut text = hidden(alloc, key)?;
     text.push_str(" ")?;
     text.push_str(values_text(alloc, values)?.as_str())?;
     Ok(text)
@@ -181,7 +182,7 @@ fn values_text(alloc: Global, values: &[Placed<'_>]) -> Result<String, AllocErro
     let [first, others @ ..] = values else {
         return String::from_str(alloc, "-");
     };
-    let mut text = shown_value(alloc, first.1)?;
+    let mut text = shown_code(alloc, first.1)?;
     push_others(alloc, &mut text, others)?;
     Ok(text)
 }
@@ -193,7 +194,7 @@ fn push_others(alloc: Global, text: &mut String, others: &[Placed<'_>]) -> Resul
 {
     for other in others {
         text.push_str(" | ")?;
-        text.push_str(shown_value(alloc, other.1)?.as_str())?;
+        text.push_str(shown_code(alloc, other.1)?.as_str())?;
     }
     Ok(())
 }

@@ -20,7 +20,6 @@ mod file_changes;
 mod files;
 mod hashes;
 mod head;
-mod hidden;
 mod inner;
 mod item;
 mod keys;

@@ -24,6 +24,7 @@ use crate::item::Keyed;
 use pylock_compare::Key;
 use pylock_core::{DistributionFile, PickedSource, directory_word};
 use pylock_places::{file_label, joined, shown_place};
+use pylock_shown::hidden;
 use std::alloc::{AllocError, Global};
 use std::collections::{BTreeMap, BTreeSet};
 
@@ -377,7 +378,7 @@ fn push_come(
     Ok(())
 }
 
-/// What a source is: its kind, and its file name or place.
+/// What a source is: its kind, and its file name or place, as they are shown.
 fn source_text(alloc: Global, source: PickedSource<'_>) -> Result<String, AllocError>
     ensures { IfOk result (λ text. string_bytes text ≡ source_text (lent_source source.entry)) }
 {
@@ -388,7 +389,11 @@ fn source_text(alloc: Global, source: PickedSource<'_>) -> Result<String, AllocE
         }
         PickedSource::Directory(directory) => {
             let word = joined(alloc, directory_word(directory), " ")?;
-            joined(alloc, word.as_str(), directory.path())
+            joined(
+                alloc,
+                word.as_str(),
+                hidden(alloc, directory.path())?.as_str(),
+            )
         }
         PickedSource::Archive(archive) => {
             let place = shown_place(alloc, archive.path(), archive.url())?;

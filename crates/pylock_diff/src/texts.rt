@@ -5,7 +5,9 @@ ghost use Rattle.std.specs.List.{flat_map};
 ghost use Rattle.std.specs.Option.{option_copied};
 ghost use Rattle.pylock_compare.specs.Lent.{lent_texts};
 ghost use Rattle.pylock_compare.specs.Texts.{joined, joined_if_any, or_dash};
+ghost use Rattle.pylock_shown.specs.Hidden.{hidden};
 
+use pylock_shown::hidden;
 use std::alloc::{AllocError, Global};
 
 /// A text, or `-` where it is absent.
@@ -43,6 +45,31 @@ fn push_others(text: &mut String, separator: &str, others: &[&str]) -> Result<()
     Ok(())
 }
 
+/// The texts as they are shown, with the separator between them.
+pub(crate) fn joined_hidden(
+    alloc: Global,
+    separator: &str,
+    texts: &[&str],
+) -> Result<String, AllocError>
+    ensures { IfOk result (λ text. string_bytes text
+        ≡ joined separator.now (map hidden (lent_texts texts.now))) }
+{
+    let shown = hidden_texts(alloc, texts)?;
+    let shown = lent(alloc, shown.as_slice())?;
+    joined(alloc, separator, shown.as_slice())
+}
+
+fn hidden_texts(alloc: Global, texts: &[&str]) -> Result<Vec<String>, AllocError>
+    ensures { IfOk result (λ list. map string_bytes list.items
+        ≡ map hidden (lent_texts texts.now)) }
+{
+    let mut list = Vec::with_capacity(alloc, texts.len())?;
+    for text in texts {
+        list.push(hidden(alloc, text)?)?;
+    }
+    Ok(list)
+}
+
 /// The same, and nothing of no text.
 pub(crate) fn joined_if_any(
     alloc: Global,
@@ -50,12 +77,12 @@ pub(crate) fn joined_if_any(
     texts: &[&str],
 ) -> Result<Option<String>, AllocError>
     ensures { IfOk result (λ text. option_map string_bytes text
-        ≡ joined_if_any separator.now (lent_texts texts.now)) }
+        ≡ joined_if_any separator.now (map hidden (lent_texts texts.now))) }
 {
     if texts.is_empty() {
         return Ok(None);
     }
-    Ok(Some(joined(alloc, separator, texts)?))
+    Ok(Some(joined_hidden(alloc, separator, texts)?))
 }
 
 /// The texts, lent.

@@ -36,7 +36,7 @@ fn marked(alloc: Global, mark: u8, bytes: &[u8]) -> Result<Vec<u8>, AllocError>
     Ok(key)
 }
 
-/// The versions joined by `,`, where there is an item.
+/// The versions as they are shown, joined by `,`, where there is an item.
 pub(crate) fn versions_text(
     alloc: Global,
     items: &[Keyed<'_>],

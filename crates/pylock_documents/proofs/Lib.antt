@@ -1,2 +1,5 @@
 pub mod JsonLemmas
 pub mod RefusalLemmas
+pub mod SafeLemmas
+pub mod SpellLemmas
+pub mod ReadLemmas

@@ -1,4 +1,6 @@
 pub mod Documents
+pub mod Safe
 pub mod Source
 pub mod Texts
 pub mod Reasons
+pub mod Written

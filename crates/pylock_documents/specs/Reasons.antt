@@ -1,4 +1,5 @@
--- Why an entry has what becomes of it, and why the head has its fault.
+-- Why an entry has what becomes of it, and why the head has its fault. Each text of the lock is
+-- shown as `hidden` shows it, without what opens a URL.
 use Rattle.std.specs.Prelude.{ℕ, Bool, true, false, ◌++◌, List, [], ◌∷◌, length, codes, decimal}
 use Rattle.std.specs.Prelude.{Option, Some, None, is_some, option_map, option_and_then, slice_get}
 use Rattle.std.specs.Prelude.{unwrap_or, Result, Ok, Err, if◌then◌else◌}
@@ -14,7 +15,7 @@ use Rattle.pymark_core.specs.declared.fault.EvalFault.{EvalFault}
 use Rattle.pymark_core.specs.declared.fault.EvalFault.TheVariants.{Unset}
 use Rattle.pywheel_core.specs.Tag.{TagValue, tag_eq, tag_text}
 use Rattle.pywheel_core.specs.Wheel.Value.{WheelValue}
-use Rattle.pylock_readers.specs.Entry.{EntryValue, FileValue, file_name, place_of, wheel_names}
+use Rattle.pylock_readers.specs.Entry.{EntryValue, FileValue, place_of, wheel_names}
 use Rattle.pylock_readers.specs.Lock.{HeadValue}
 use Rattle.pylock_core.specs.Session.State.{State}
 use Rattle.pylock_core.specs.declared.answer.FaultCode.{FaultCode}
@@ -26,6 +27,9 @@ use Rattle.pylock_core.specs.declared.fate.Fate.{Fate}
 use Rattle.pylock_core.specs.declared.fate.Fate.TheVariants as fate
 use Rattle.pylock_readers.specs.Entry.Kinds.{kinds_text}
 use Rattle.pylock_core.specs.Words.{policy_word}
+use Rattle.pylock_places.specs.FileName.{shown_file_name}
+use Rattle.pylock_places.specs.Shown.{file_label}
+use Rattle.pylock_shown.specs.Hidden.{hidden}
 
 -- ---- why: of markers and Python checks
 
@@ -36,13 +40,18 @@ missing_variable value = []
 
 -- the text of a marker, after the variable whose value it misses
 abbrev pub marker_detail : EnvironmentValue → MarkerValue → List ℕ
-marker_detail environment m = missing_variable (marker_value environment m.tree) ++ m.text
+marker_detail environment m =
+    missing_variable (marker_value environment m.tree) ++ hidden m.text
 
--- the normal text of the set of a Python check, or the marker; `no-environment` has neither
+-- the normal text of the set of a Python check: behind `===` it may have any character
+abbrev pub set_detail : List Specifier → List ℕ
+set_detail set = hidden (set_text set)
+
+-- the set of a Python check, or the marker; `no-environment` has neither
 abbrev pub condition_detail : EnvironmentValue → Option (List Specifier) → Option MarkerValue
     → FaultCode → Option (List ℕ)
-condition_detail environment set marker fault.PythonUnknown = option_map set_text set
-condition_detail environment set marker fault.PythonNotMet = option_map set_text set
+condition_detail environment set marker fault.PythonUnknown = option_map set_detail set
+condition_detail environment set marker fault.PythonNotMet = option_map set_detail set
 condition_detail environment set marker code = option_map (marker_detail environment) marker
 
 -- the first of the markers that isn't false: the one that decides, if one does
@@ -82,7 +91,7 @@ best_tag own (t ∷ tags) = if has_tag own t then Some t else best_tag own tags
 -- a wheel: its file name and its best tag
 abbrev pub wheel_detail : List TagValue → FileValue → Option WheelValue → List ℕ
 wheel_detail tags file name =
-    unwrap_or (file_name file) []
+    unwrap_or (shown_file_name file) []
     ++ option_map_or (λ t. codes " " ++ tag_text t)
     (option_and_then (λ w. best_tag w.tags tags) name) []
 
@@ -93,18 +102,26 @@ wheel_at tags entry index =
     (option_and_then (λ name. name) (slice_get (wheel_names entry) index)))
     (slice_get entry.wheels index)
 
--- the place of a source that is no wheel; of an sdist its file name, where it has one
+-- the place of a source that is no file
 abbrev pub place_in : EntryValue → PickSource → Option (List ℕ)
 place_in entry source.Vcs = option_map (λ vcs. place_of vcs.location) entry.vcs
 place_in entry source.Directory = option_map (λ directory. directory.path) entry.directory
 place_in entry source.Archive = option_map (λ archive. place_of archive.location) entry.archive
 place_in entry (source.Wheel index) = None
-place_in entry source.Sdist =
-    option_map (λ file. unwrap_or (file_name file) (place_of file.location)) entry.sdist
+place_in entry source.Sdist = None
 
+-- where a source lies: of a wheel its file name and its best tag, of an sdist its file name, or its
+-- place where it has none
 abbrev pub source_detail : List TagValue → EntryValue → PickSource → Option (List ℕ)
 source_detail tags entry (source.Wheel index) = wheel_at tags entry index
-source_detail tags entry other = place_in entry other
+source_detail tags entry source.Sdist = option_map file_label entry.sdist
+source_detail tags entry other = option_map hidden (place_in entry other)
+
+-- ---- what an entry is called
+
+-- its version, as it is shown
+abbrev pub shown_version : EntryValue → Option (List ℕ)
+shown_version entry = option_map hidden entry.version
 
 -- ---- why: of each fate
 

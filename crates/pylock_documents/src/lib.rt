@@ -21,13 +21,16 @@ pub mod laws;
 mod plan;
 mod reasons;
 mod refused;
+mod safe;
 mod source;
 mod texts;
+mod written;
 
 pub use explain::explain_document;
 pub use files::files_document;
 pub use head::head_document;
 pub use plan::{fault_detail, plan_document};
-pub use reasons::{detail, head_detail};
+pub use reasons::{detail, head_detail, shown_version};
 pub use refused::{refused_document, refused_line_document};
 pub use texts::{requirement_document, sdist_document, specifiers_text, wheel_document};
+pub use written::{document, push_document};

@@ -1,17 +1,23 @@
-//! Why an entry has what becomes of it, and why the head has its fault.
+//! Why an entry has what becomes of it, and why the head has its fault. Each text of the lock is
+//! shown without what opens a URL.
 
 ghost use Rattle.std.specs.Prelude.{◌≡◌, IfOk, option_and_then, option_map, slice_get};
-ghost use Rattle.std.specs.Prelude.{string_bytes, unwrap_or};
+ghost use Rattle.std.specs.Prelude.{string_bytes};
 ghost use Rattle.std.specs.Option.{option_copied};
-ghost use Rattle.pylock_readers.specs.Entry.{file_name, place_of, wheel_names};
+ghost use Rattle.pylock_readers.specs.Entry.{wheel_names};
 ghost use Rattle.pylock_documents.specs.Reasons.{best_tag, condition_detail, deciding_marker};
 ghost use Rattle.pylock_documents.specs.Reasons.{detail, files_word, has_tag, head_detail};
 ghost use Rattle.pylock_documents.specs.Reasons.{marker_detail, place_in, sdist_word};
-ghost use Rattle.pylock_documents.specs.Reasons.{source_detail, wheel_at, wheel_detail};
+ghost use Rattle.pylock_documents.specs.Reasons.{shown_version, source_detail, wheel_at};
+ghost use Rattle.pylock_documents.specs.Reasons.{wheel_detail};
+ghost use Rattle.pylock_places.specs.Shown.{file_label};
+ghost use Rattle.pylock_shown.specs.Hidden.{hidden};
 
 use pylock_core::{
-    Entry, Fate, FaultCode, Head, PickSource, Policy, Sdist, Session, WheelFile, policy_word,
+    Entry, Fate, FaultCode, Head, PickSource, Policy, Session, WheelFile, policy_word,
 };
+use pylock_places::{file_label, shown_file_name};
+use pylock_shown::{hidden, push_hidden};
 use pymark_core::{Environment, EvalFault, Marker};
 use pyver_core::SpecifierSet;
 use pywheel_core::{Tag, TagList, WheelName};
@@ -91,7 +97,7 @@ fn condition_detail(
 {
     match code {
         FaultCode::PythonUnknown | FaultCode::PythonNotMet => {
-            owned_text(alloc, set.map(|set| set.text()))
+            shown_text(alloc, set.map(|set| set.text()))
         }
         _ => marker_of(alloc, environment, marker),
     }
@@ -129,7 +135,7 @@ fn marker_detail(
         }
         _ => {}
     }
-    text.push_str(marker.text())?;
+    push_hidden(&mut text, marker.text())?;
     Ok(text)
 }
 
@@ -152,7 +158,7 @@ fn sdist_word(entry: &Entry) -> &'static str
     }
 }
 
-/// Where a source lies: its place, or its file.
+/// Where a source lies: its file, or its place.
 fn source_detail(
     alloc: Global,
     tags: &TagList,
@@ -164,20 +170,30 @@ fn source_detail(
 {
     match source {
         PickSource::Wheel(index) => wheel_at(alloc, tags, entry, index),
-        _ => owned_text(alloc, place_in(entry, source)),
+        PickSource::Sdist => sdist_label(alloc, entry),
+        _ => shown_text(alloc, place_in(entry, source)),
     }
 }
 
-fn owned_text(alloc: Global, text: Option<&str>) -> Result<Option<String>, AllocError>
-    ensures { IfOk result (λ owned. option_map string_bytes owned ≡ option_copied text.entry) }
+/// A text as it is shown, where it is there.
+fn shown_text(alloc: Global, text: Option<&str>) -> Result<Option<String>, AllocError>
+    ensures { IfOk result (λ shown. option_map string_bytes shown
+        ≡ option_map hidden (option_copied text.entry)) }
 {
     match text {
-        Some(text) => Ok(Some(String::from_str(alloc, text)?)),
+        Some(text) => Ok(Some(hidden(alloc, text)?)),
         None => Ok(None),
     }
 }
 
-/// The place of a source that is no wheel; of an sdist its file name, where it has one.
+/// The version of an entry, as it is shown. It takes memory for the text, once more while it grows.
+pub fn shown_version(alloc: Global, entry: &Entry) -> Result<Option<String>, AllocError>
+    ensures { IfOk result (λ text. option_map string_bytes text ≡ shown_version entry.now) }
+{
+    shown_text(alloc, entry.version())
+}
+
+/// The place of a source that is no file.
 fn place_in(entry: &Entry, source: PickSource) -> Option<&str>
     ensures { option_copied result ≡ place_in entry.now source }
 {
@@ -185,18 +201,18 @@ fn place_in(entry: &Entry, source: PickSource) -> Option<&str>
         PickSource::Vcs => entry.vcs()?.place(),
         PickSource::Directory => entry.directory()?.path(),
         PickSource::Archive => entry.archive()?.place(),
-        PickSource::Wheel(_) => return None,
-        PickSource::Sdist => sdist_file(entry.sdist()?),
+        PickSource::Wheel(_) | PickSource::Sdist => return None,
     })
 }
 
-/// The file name of the sdist, or its place where it has none.
-fn sdist_file(sdist: &Sdist) -> &str
-    ensures { result.now ≡ unwrap_or (file_name sdist.now) (place_of sdist.now.location) }
+/// The file name of the sdist as it is shown, or its place where it has none.
+fn sdist_label(alloc: Global, entry: &Entry) -> Result<Option<String>, AllocError>
+    ensures { IfOk result (λ text. option_map string_bytes text
+        ≡ option_map file_label entry.now.sdist) }
 {
-    match sdist.file_name() {
-        Some(name) => name,
-        None => sdist.place(),
+    match entry.sdist() {
+        Some(sdist) => Ok(Some(file_label(alloc, sdist)?)),
+        None => Ok(None),
     }
 }
 
@@ -233,7 +249,10 @@ fn wheel_detail(
     ensures { IfOk result (λ text. string_bytes text
         ≡ wheel_detail tags.now file.now (option_copied name.entry)) }
 {
-    let mut text = String::from_str(alloc, file.file_name().unwrap_or(""))?;
+    let mut text = match shown_file_name(alloc, file)? {
+        Some(name) => name,
+        None => String::new(alloc),
+    };
     if let Some(tag) = best_of(name, tags) {
         write!(text, " {tag}")?;
     }

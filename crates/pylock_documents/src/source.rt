@@ -32,7 +32,7 @@ pub(crate) fn source_object(
 }
 
 /// An object with the number, the name and the version of an entry.
-pub(crate) fn entry_object(alloc: Global, number: u64, entry: &Entry) -> Result<Object, AllocError>
+fn entry_object(alloc: Global, number: u64, entry: &Entry) -> Result<Object, AllocError>
     ensures { IfOk result (λ object. members_view object
         ≡ members_of (entry_rows number entry.now)) }
 {

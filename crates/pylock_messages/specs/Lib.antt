@@ -1,2 +1,1 @@
 pub mod Diagnostic
-pub mod Visible

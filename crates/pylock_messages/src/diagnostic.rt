@@ -3,7 +3,7 @@
 ghost use Rattle.std.specs.Prelude.{◌≡◌, string_bytes};
 ghost use Rattle.std.specs.Option.{option_copied};
 
-use crate::visible::visible_text;
+use pylock_shown::visible_text;
 use std::alloc::{AllocError, Global};
 use std::marker::Model;
 
@@ -54,7 +54,8 @@ impl Drop for Diagnostic {
 
 impl Diagnostic {
     /// What a line for a person says, and nothing of where it points. Control characters of the
-    /// line are written as [`crate::push_visible`] writes them. It takes memory for the line.
+    /// line are written as [`pylock_shown::push_visible`] writes them. It takes memory for the
+    /// line.
     pub fn of_message(alloc: Global, message: &str) -> Result<Diagnostic, AllocError> {
         Ok(Diagnostic {
             message: visible_text(alloc, message)?,

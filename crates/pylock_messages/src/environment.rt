@@ -7,6 +7,7 @@ use crate::syntax::{not_text, wrong_json};
 use crate::value_form::ValueForm;
 use crate::wrong_part::{Part, PartFault, WrongPart, wrong_part};
 use pylock_readers::{EnvError, read_environment, read_target};
+use pylock_shown::Shown;
 use pymark_core::Var;
 use serde_json::Value;
 use std::alloc::{AllocError, Global};
@@ -82,20 +83,26 @@ pub fn target_diagnostic(
     refusal: &EnvError,
 ) -> Result<Option<Diagnostic>, AllocError> {
     let line = match refusal {
-        EnvError::Python => format!(in alloc; "--python: `{python}`: {PYTHONS}")?,
+        EnvError::Python => python_line(alloc, Shown(python))?,
         EnvError::Platform => platform_line(alloc, platform)?,
         _ => return Ok(None),
     };
     Ok(Some(Diagnostic::of_message(alloc, line.as_str())?))
 }
 
+/// What is told of a word that is no Python.
+fn python_line(alloc: Global, python: Shown<'_>) -> Result<String, AllocError> {
+    format!(in alloc; "--python: `{python}`: {PYTHONS}")
+}
+
 /// What is told of a word that is no platform.
 fn platform_line(alloc: Global, platform: &str) -> Result<String, AllocError> {
+    let shown = Shown(platform);
     match meant_platform(alloc, platform)? {
         Some(name) => {
-            format!(in alloc; "--platform: `{platform}` (did you mean `{name}`?): {PLATFORMS}")
+            format!(in alloc; "--platform: `{shown}` (did you mean `{name}`?): {PLATFORMS}")
         }
-        None => format!(in alloc; "--platform: `{platform}`: {PLATFORMS}"),
+        None => format!(in alloc; "--platform: `{shown}`: {PLATFORMS}"),
     }
 }
 

@@ -1,5 +1,5 @@
 //! Where a refused lock or environment is wrong: the line that tells a person, and what it points
-//! at; and texts that are safe to show at a terminal.
+//! at.
 //!
 //! The line on a refused lock, or `none`, from `crates/cases/src/messages.rt`:
 //!
@@ -15,12 +15,12 @@ mod entry;
 mod environment;
 mod lock;
 mod one_line;
+mod one_line_json;
 mod platform;
 mod shown_value;
 mod sources;
 mod syntax;
 mod value_form;
-mod visible;
 mod wrong_part;
 
 pub use diagnostic::Diagnostic;
@@ -28,4 +28,3 @@ pub use environment::{
     environment_diagnostic, environment_message, target_diagnostic, target_message,
 };
 pub use lock::{lock_diagnostic, lock_message};
-pub use visible::{is_control, push_character, push_control, push_visible};

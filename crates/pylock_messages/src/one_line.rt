@@ -1,11 +1,13 @@
 //! TOML values on one line.
 
+use crate::shown_value::shown_front;
 use std::fmt;
 use std::fmt::{Formatter, Write};
 use toml::{Table, Value};
 use toml_writer::{write_key, write_string};
 
-/// A value as TOML that has no line ends.
+/// A value as TOML that has no line ends, in which each key and each text is as it is shown to a
+/// person.
 #[derive(Clone, Copy)]
 pub(crate) struct OneLine<'a>(pub(crate) &'a Value);
 
@@ -18,7 +20,7 @@ impl fmt::Display for OneLine<'_> {
 #[cycle(write)]
 fn write_value<W: Write>(f: &mut Formatter<W>, value: &Value) -> fmt::Result {
     match value {
-        Value::String(text) => write_text(f, text.as_str()),
+        Value::String(text) => write_shown_text(f, text.as_str()),
         Value::Array(values) => write_values(f, values),
         Value::Table(table) => write_table(f, table),
         _ => write!(f, "{value}"),
@@ -45,12 +47,25 @@ fn write_table<W: Write>(f: &mut Formatter<W>, table: &Table) -> fmt::Result {
     let mut is_first = true;
     for (key, value) in table.iter() {
         f.write_str(if is_first { "{ " } else { ", " })?;
-        write_key(f, key.as_str())?;
+        write_shown_key(f, key.as_str())?;
         f.write_str(" = ")?;
         write_value(f, value)?;
         is_first = false;
     }
     f.write_str(" }")
+}
+
+/// Writes a key as it is shown. By itself, since its text would else take room in each call of
+/// those that call one another.
+#[inline(never)]
+fn write_shown_key<W: Write>(f: &mut Formatter<W>, key: &str) -> fmt::Result {
+    write_key(f, shown_front(key).as_str())
+}
+
+/// Writes a text as it is shown, by itself too.
+#[inline(never)]
+fn write_shown_text<W: Write>(f: &mut Formatter<W>, text: &str) -> fmt::Result {
+    write_text(f, shown_front(text).as_str())
 }
 
 /// Writes a text. One with LF in it is escaped, since TOML's other forms would break the line.

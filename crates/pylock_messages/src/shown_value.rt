@@ -1,6 +1,8 @@
 //! Values as they are shown to a person.
 
 use crate::one_line::OneLine;
+use crate::one_line_json::OneLineJson;
+use pylock_shown::Shown;
 use std::fmt;
 use std::fmt::{Formatter, InlineText, Write};
 
@@ -11,7 +13,7 @@ const MOST_CHARACTERS: usize = 60;
 const MOST_BYTES: usize = 247;
 
 /// What stands where something else is to stand: a text between backquotes, and another value as
-/// TOML or JSON on one line; of a long one its prefix.
+/// TOML or JSON on one line; of a long one its prefix. Each text is hidden before it is cut.
 #[derive(Clone, Copy)]
 pub(crate) enum ShownValue<'a> {
     Nothing,
@@ -48,17 +50,21 @@ impl fmt::Display for ShownValue<'_> {
             ShownValue::Toml(value) => {
                 write_prefix(f, InlineText::<MOST_BYTES>::of(OneLine(value)).as_str())
             }
-            ShownValue::Json(value) => write_prefix(
-                f,
-                InlineText::<MOST_BYTES>::of(*value).as_str(),
-            ),
+            ShownValue::Json(value) => {
+                write_prefix(f, InlineText::<MOST_BYTES>::of(OneLineJson(value)).as_str())
+            }
         }
     }
 }
 
+/// The text as it is shown to a person; of a long one as much as a value shows of it.
+pub(crate) fn shown_front(text: &str) -> InlineText<MOST_BYTES> {
+    InlineText::of(Shown(text))
+}
+
 fn write_quoted<W: Write>(f: &mut Formatter<W>, text: &str) -> fmt::Result {
     f.write_str("`")?;
-    write_prefix(f, text)?;
+    write_prefix(f, shown_front(text).as_str())?;
     f.write_str("`")
 }
 

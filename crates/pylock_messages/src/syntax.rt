@@ -1,6 +1,7 @@
 //! Where a text is no UTF-8, no TOML or no JSON.
 
 use crate::diagnostic::Diagnostic;
+use pylock_shown::Shown;
 use std::alloc::{AllocError, Global};
 
 /// The byte order mark that a text may begin with, in UTF-8.
@@ -56,7 +57,7 @@ pub(crate) fn wrong_json(
     wrong_place(alloc, name, line, column, words.as_str())
 }
 
-/// What a parser says of this line and column.
+/// What a parser says of this line and column, which may quote the text.
 fn wrong_place(
     alloc: Global,
     name: &str,
@@ -64,6 +65,7 @@ fn wrong_place(
     column: usize,
     words: &str,
 ) -> Result<Option<Diagnostic>, AllocError> {
+    let words = Shown(words);
     let message = format!(in alloc; "{name}:{line}:{column}: {words}")?;
     let mut diagnostic = Diagnostic::of_file(alloc, name, message.as_str())?;
     diagnostic.line = Some(line as u64);

@@ -3,6 +3,7 @@
 use crate::diagnostic::Diagnostic;
 use crate::shown_value::ShownValue;
 use crate::value_form::ValueForm;
+use pylock_shown::{Shown, hidden};
 use std::alloc::{AllocError, Global};
 use std::fmt;
 use std::fmt::{Formatter, Write};
@@ -116,7 +117,7 @@ fn part_diagnostic(
     match (wrong.entry, wrong.part) {
         (Some(entry), _) => {
             diagnostic.entry = Some(entry.position as u64);
-            diagnostic.name = owned_text(alloc, entry.name)?;
+            diagnostic.name = shown_name(alloc, entry.name)?;
         }
         (None, Part::Entry(position)) => diagnostic.entry = Some(position as u64),
         _ => {}
@@ -124,9 +125,9 @@ fn part_diagnostic(
     Ok(diagnostic)
 }
 
-fn owned_text(alloc: Global, text: Option<&str>) -> Result<Option<String>, AllocError> {
-    match text {
-        Some(text) => Ok(Some(String::from_str(alloc, text)?)),
+fn shown_name(alloc: Global, name: Option<&str>) -> Result<Option<String>, AllocError> {
+    match name {
+        Some(name) => Ok(Some(hidden(alloc, name)?)),
         None => Ok(None),
     }
 }
@@ -159,7 +160,10 @@ impl fmt::Display for EntryLabel<'_> {
     fn fmt<W: Write>(&self, f: &mut Formatter<W>) -> fmt::Result {
         let position = self.position;
         match self.name {
-            Some(name) => write!(f, "entry {position} (`{name}`)"),
+            Some(name) => {
+                let name = Shown(name);
+                write!(f, "entry {position} (`{name}`)")
+            }
             None => write!(f, "entry {position}"),
         }
     }

@@ -1,5 +1,3 @@
-pub mod HiddenLemmas
-pub mod MaskLemmas
 pub mod QueryLemmas
 pub mod ShownLemmas
 pub mod TextLemmas

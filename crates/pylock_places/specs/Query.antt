@@ -1,10 +1,10 @@
 -- The query of a URL, and what it gives away (RFC 3986, sections 3.4 and 3.5). Keys and values are
 -- taken as they stand: an escape is no letter.
-use Rattle.std.specs.Prelude.{ℕ, Bool, false, ◌==◌, ◌&&◌, ◌++◌, codes, List, [], ◌∷◌, map}
+use Rattle.std.specs.Prelude.{ℕ, Bool, false, ◌==◌, ◌&&◌, codes, List, [], ◌∷◌, map}
 use Rattle.std.specs.Prelude.{Option, Some, None, is_some, if◌then◌else◌, length, nat_lt}
 use Rattle.std.specs.Prelude.{option_and_then}
 use Rattle.std.specs.Char.{to_ascii_lowercase}
-use Rattle.std.specs.List.{join_with_byte, list_any}
+use Rattle.std.specs.List.{list_any}
 use Rattle.std.specs.Option.{option_map_or}
 use Rattle.std.specs.Str.{bytes_eq}
 use Rattle.pywheel_core.specs.Texts.{cut_at, pieces_at}
@@ -16,9 +16,6 @@ abbrev pub around_mark : List ℕ → Option (List ℕ × List ℕ)
 around_mark url =
     option_and_then (λ cut. if list_any (λ b. b == 35) cut.0 then None else Some cut)
     (cut_at 63 url)
-
-abbrev pub before_query : List ℕ → List ℕ
-before_query url = option_map_or (λ cut. cut.0) (around_mark url) url
 
 -- what stands before the first `#`
 abbrev pub before_fragment : List ℕ → List ℕ
@@ -52,23 +49,3 @@ abbrev pub has_secret : List ℕ → Bool
 has_secret url =
     option_map_or (λ cut. list_any is_secret (pieces_at 38 (before_fragment cut.1)))
     (around_mark url) false
-
--- ---- how it is shown
-
--- a pair, with `***` for a secret
-abbrev pub hidden_pair : List ℕ → List ℕ
-hidden_pair pair = option_map_or (λ key. key ++ codes "=***") (secret_key pair) pair
-
-abbrev pub hidden_query : List ℕ → List ℕ
-hidden_query query = join_with_byte 38 (map hidden_pair (pieces_at 38 query))
-
--- a query, and the fragment behind it as it stands
-abbrev pub hidden_behind : List ℕ → List ℕ
-hidden_behind text =
-    option_map_or (λ cut. hidden_query cut.0 ++ codes "#" ++ cut.1) (cut_at 35 text)
-    (hidden_query text)
-
--- the URL, with `***` for each secret
-abbrev pub hidden_secrets : List ℕ → List ℕ
-hidden_secrets url =
-    option_map_or (λ cut. cut.0 ++ codes "?" ++ hidden_behind cut.1) (around_mark url) url

@@ -3,12 +3,12 @@ use Rattle.std.specs.Prelude.{ℕ, List, [], unwrap_or}
 use Rattle.std.specs.Option.{option_map_or}
 use Rattle.pylock_readers.specs.Entry.{FileValue, LocationValue}
 use Rattle.pylock_places.specs.FileName.{shown_file_name}
-use Rattle.pylock_places.specs.Url.{shown_url}
+use Rattle.pylock_shown.specs.Hidden.{hidden}
 
 -- the place of a source: its path, else its URL
 abbrev pub shown_place : LocationValue → List ℕ
 shown_place location =
-    option_map_or (λ path. path) location.path (option_map_or shown_url location.url [])
+    option_map_or hidden location.path (option_map_or hidden location.url [])
 
 -- the file name as it is shown, or the place where it has none
 abbrev pub file_label : FileValue → List ℕ

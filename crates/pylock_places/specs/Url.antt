@@ -1,6 +1,5 @@
--- What a URL names besides its place: its scheme, and who asks (RFC 3986, sections 3.1 and 3.2.1);
--- and how it is shown.
-use Rattle.std.specs.Prelude.{ℕ, Bool, false, ◌==◌, ◌&&◌, ◌||◌, ◌++◌, not, codes}
+-- What a URL names besides its place: its scheme, and who asks (RFC 3986, sections 3.1 and 3.2.1).
+use Rattle.std.specs.Prelude.{ℕ, Bool, false, ◌==◌, ◌&&◌, ◌||◌, not, codes}
 use Rattle.std.specs.Prelude.{List, [], ◌∷◌, length, map, take, Option, Some, None}
 use Rattle.std.specs.Prelude.{if◌then◌else◌, is_some, option_and_then, option_map}
 use Rattle.std.specs.Char.{to_ascii_lowercase}
@@ -9,7 +8,6 @@ use Rattle.std.specs.Option.{option_map_or}
 use Rattle.std.specs.Str.{bytes_eq}
 use Rattle.pytext.specs.Options.{either}
 use Rattle.pywheel_core.specs.Texts.{cut_at}
-use Rattle.pylock_places.specs.Query.{before_query, has_secret, hidden_secrets}
 
 -- ---- the scheme
 
@@ -68,31 +66,3 @@ abbrev pub has_credentials : List ℕ → Bool
 has_credentials url =
     option_map_or (λ cut. not (names_alone url) || list_any (λ b. b == 58) cut.0)
     (option_and_then around_user (behind_scheme url)) false
-
--- ---- how it is shown
-
--- what stands behind the user, or all where there is none
-abbrev pub behind_user : List ℕ → List ℕ
-behind_user text = option_map_or (λ cut. cut.1) (around_user text) text
-
--- the URL, with `***` for its user
-abbrev pub masked : List ℕ → List ℕ
-masked [] = []
-masked (b ∷ rest) =
-    if b == 58
-    then option_map_or (λ behind. codes "://***@" ++ behind_user behind) (behind_slashes rest)
-    (b ∷ masked rest)
-    else b ∷ masked rest
-
-abbrev pub hidden_user : List ℕ → List ℕ
-hidden_user url = if has_credentials url then masked url else url
-
--- the user stands in the query or behind it, and a secret does too: either may be part of the other
-abbrev pub is_mixed : List ℕ → Bool
-is_mixed url =
-    has_credentials url && has_secret url && not (is_some (behind_scheme (before_query url)))
-
--- the URL, with `***` for its user and for each secret of its query; where these mix, for the query
-abbrev pub shown_url : List ℕ → List ℕ
-shown_url url =
-    if is_mixed url then before_query url ++ codes "?***" else hidden_secrets (hidden_user url)

@@ -1,16 +1,13 @@
-//! How the file name of an sdist or a wheel is shown. The rule looks at where the name comes from
-//! and not at what it says: behind the last `@`, also where the URL has a path with an `@`. What is
-//! compared and tested is the file name as the steps see it.
+//! How the file name of an sdist or a wheel is shown. What is compared and tested is the file name
+//! as the steps see it.
 
 ghost use Rattle.std.specs.Prelude.{◌≡◌, IfOk, is_some, option_and_then, option_map, string_bytes};
 ghost use Rattle.std.specs.Option.{option_copied};
 ghost use Rattle.pylock_readers.specs.Entry.FileName.{last_of_path, text_unless_empty};
-ghost use Rattle.pylock_places.specs.FileName.{behind_at, is_named_by_url, masked_front};
-ghost use Rattle.pylock_places.specs.FileName.{may_name_user, shown_file_name, shown_name};
+ghost use Rattle.pylock_places.specs.FileName.{is_named_by_url, shown_file_name, shown_name};
 
-use crate::text::{around, joined};
-use crate::url::has_credentials;
 use pylock_readers::DistributionFile;
+use pylock_shown::{hidden, without_user};
 use std::alloc::{AllocError, Global};
 
 /// The file name of a file, as it is shown.
@@ -23,25 +20,17 @@ pub fn shown_file_name(alloc: Global, file: &DistributionFile) -> Result<Option<
     }
 }
 
-/// A file name of the file, as it is shown: where it was found in a URL with credentials, `***`
-/// stands for what is before its last `@`.
+/// A file name of the file, as it is shown: with `***` for what opens a URL. Where the name is the
+/// end of a URL, `***` stands for what is before its last `@` too. It takes memory for the text,
+/// twice.
 pub fn shown_name(alloc: Global, file: &DistributionFile, name: &str) -> Result<String, AllocError>
     ensures { IfOk result (λ text. string_bytes text ≡ shown_name file.now name.now) }
 {
-    if may_name_user(file) {
-        masked_front(alloc, name)
+    let shown = hidden(alloc, name)?;
+    if is_named_by_url(file) {
+        without_user(alloc, shown.as_str())
     } else {
-        String::from_str(alloc, name)
-    }
-}
-
-/// Whether the file name was found in a URL that has credentials.
-fn may_name_user(file: &DistributionFile) -> bool
-    ensures { result ≡ may_name_user file.now }
-{
-    match file.url() {
-        Some(url) => has_credentials(url) && is_named_by_url(file),
-        None => false,
+        Ok(shown)
     }
 }
 
@@ -83,27 +72,4 @@ fn has_last(path: &str) -> bool
         Some(last) => !matches!(*last, b'/' | b'\\'),
         None => false,
     }
-}
-
-/// The text, with `***` for what stands before its last `@`.
-fn masked_front(alloc: Global, text: &str) -> Result<String, AllocError>
-    ensures { IfOk result (λ shown. string_bytes shown ≡ masked_front text.now) }
-{
-    match behind_at(text) {
-        Some(behind) => joined(alloc, "***@", behind),
-        None => String::from_str(alloc, text),
-    }
-}
-
-/// What stands behind the last `@`, where one stands.
-fn behind_at(text: &str) -> Option<&str>
-    ensures { option_copied result ≡ behind_at text.now }
-{
-    let mut found = None;
-    let mut left = text;
-    while let Some((_, back)) = around(left, b'@') {
-        found = Some(back);
-        left = back;
-    }
-    found
 }

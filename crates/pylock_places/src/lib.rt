@@ -1,5 +1,5 @@
-//! How URLs, places and file names of a lock are shown: with `***` for what opens them, the user
-//! and each secret of the query. And whether a URL has such, and is of HTTPS.
+//! How places and file names of a lock are shown: with `***` for what opens them, the user and each
+//! value of the query. And whether a URL has such, and is of HTTPS.
 //!
 //! What an archive is called in a finding, from `crates/pylock_audit/src/source.rt`:
 //!
@@ -19,4 +19,4 @@ pub use file_name::{shown_file_name, shown_name};
 pub use query::has_secret;
 pub use shown::{file_label, shown_place};
 pub use text::{around, joined};
-pub use url::{has_credentials, is_https, is_safe_remote, shown_url};
+pub use url::{has_credentials, is_https, is_safe_remote};

@@ -1,17 +1,15 @@
 //! The query of a URL, and what it gives away (RFC 3986, section 3.4).
 
-ghost use Rattle.std.specs.Prelude.{◌≡◌, ◌++◌, OnOk, map, option_map, string_bytes};
+ghost use Rattle.std.specs.Prelude.{◌≡◌, map, option_map};
 ghost use Rattle.std.specs.Char.{to_ascii_lowercase};
 ghost use Rattle.std.specs.List.{list_any};
 ghost use Rattle.std.specs.Option.{option_copied};
 ghost use Rattle.std.specs.Str.{bytes_eq};
 ghost use Rattle.pywheel_core.specs.Texts.{pieces_at};
-ghost use Rattle.pylock_places.specs.Query.{around_mark, before_fragment, before_query, has_secret};
-ghost use Rattle.pylock_places.specs.Query.{hidden_behind, hidden_pair, hidden_query};
-ghost use Rattle.pylock_places.specs.Query.{hidden_secrets, is_secret, is_secret_key, secret_key};
+ghost use Rattle.pylock_places.specs.Query.{around_mark, before_fragment, has_secret, is_secret};
+ghost use Rattle.pylock_places.specs.Query.{is_secret_key, secret_key};
 
 use crate::text::{around, has_byte};
-use std::alloc::AllocError;
 
 // ---- where it stands
 
@@ -22,16 +20,6 @@ fn around_mark(url: &str) -> Option<(&str, &str)>
     match around(url, b'?') {
         Some((front, behind)) if !has_byte(front, b'#') => Some((front, behind)),
         _ => None,
-    }
-}
-
-/// What stands before the `?` of a query, or all where there is none.
-pub(crate) fn before_query(url: &str) -> &str
-    ensures { result.now ≡ before_query url.now }
-{
-    match around_mark(url) {
-        Some((front, _)) => front,
-        None => url,
     }
 }
 
@@ -109,62 +97,4 @@ fn any_secret(query: &str) -> bool
         left = rest;
     }
     is_secret(left)
-}
-
-// ---- how it is shown
-
-/// Adds a pair, with `***` for a secret.
-fn push_pair(text: &mut String, pair: &str) -> Result<(), AllocError>
-    ensures { OnOk result (string_bytes text.new ≡ string_bytes text.old ++ hidden_pair pair.now) }
-{
-    match secret_key(pair) {
-        Some(key) => {
-            text.push_str(key)?;
-            text.push_str("=***")
-        }
-        None => text.push_str(pair),
-    }
-}
-
-fn push_query(text: &mut String, query: &str) -> Result<(), AllocError>
-    ensures { OnOk result (string_bytes text.new
-        ≡ string_bytes text.old ++ hidden_query query.now) }
-{
-    let mut left = query;
-    while let Some((pair, rest)) = around(left, b'&') {
-        push_pair(text, pair)?;
-        text.push_str("&")?;
-        left = rest;
-    }
-    push_pair(text, left)
-}
-
-/// Adds a query, and the fragment behind it as it stands.
-fn push_behind(text: &mut String, behind: &str) -> Result<(), AllocError>
-    ensures { OnOk result (string_bytes text.new
-        ≡ string_bytes text.old ++ hidden_behind behind.now) }
-{
-    match around(behind, b'#') {
-        Some((query, fragment)) => {
-            push_query(text, query)?;
-            text.push_str("#")?;
-            text.push_str(fragment)
-        }
-        None => push_query(text, behind),
-    }
-}
-
-/// Adds the URL, with `***` for each secret of its query.
-pub(crate) fn push_hidden_secrets(text: &mut String, url: &str) -> Result<(), AllocError>
-    ensures { OnOk result (string_bytes text.new
-        ≡ string_bytes text.old ++ hidden_secrets url.now) }
-{
-    match around_mark(url) {
-        Some((front, behind)) => {
-            text.push_str(front)?;
-            text.push_str("?")?;
-            push_behind(text, behind)
-        }
-        None => text.push_str(url),
-    }
 }

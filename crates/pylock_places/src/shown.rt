@@ -5,12 +5,12 @@ ghost use Rattle.std.specs.Option.{option_copied};
 ghost use Rattle.pylock_places.specs.Shown.{file_label, shown_place};
 
 use crate::file_name::shown_file_name;
-use crate::url::shown_url;
 use pylock_readers::DistributionFile;
+use pylock_shown::hidden;
 use std::alloc::{AllocError, Global};
 
-/// The place of a source: its path, else its URL, with `***` for what opens it: the user, and each
-/// secret of the query. It takes memory for the text, once more while it grows.
+/// The place of a source as it is shown: its path, else its URL, with `***` for what opens it: the
+/// user, and each value of the query. It takes memory for the text, once more while it grows.
 pub fn shown_place(
     alloc: Global,
     path: Option<&str>,
@@ -22,14 +22,14 @@ pub fn shown_place(
     })) }
 {
     match (path, url) {
-        (Some(path), _) => String::from_str(alloc, path),
-        (None, Some(url)) => shown_url(alloc, url),
+        (Some(path), _) => hidden(alloc, path),
+        (None, Some(url)) => hidden(alloc, url),
         (None, None) => Ok(String::new(alloc)),
     }
 }
 
-/// The file name as it is shown, without the user of a URL that it was found in, or the place where
-/// the file has none. It takes memory for the text, once more while it grows.
+/// The file name as it is shown, or the place where the file has none. It takes memory for the
+/// text, twice.
 pub fn file_label(alloc: Global, file: &DistributionFile) -> Result<String, AllocError>
     ensures { IfOk result (λ text. string_bytes text ≡ file_label file.now) }
 {

@@ -1,18 +1,12 @@
-//! What a URL names besides its place, and how it is shown.
+//! What a URL names besides its place.
 
-ghost use Rattle.std.specs.Prelude.{◌≡◌, IfOk, false, string_bytes};
-ghost use Rattle.std.specs.List.{list_any};
+ghost use Rattle.std.specs.Prelude.{◌≡◌, false};
 ghost use Rattle.std.specs.Option.{option_copied};
 ghost use Rattle.pylock_places.specs.Inner.User.{password_after, user_in};
-ghost use Rattle.pylock_places.specs.Query.{hidden_secrets};
-ghost use Rattle.pylock_places.specs.Url.{begins, behind_scheme, behind_slashes, behind_user};
-ghost use Rattle.pylock_places.specs.Url.{ends_authority, has_credentials, is_https};
-ghost use Rattle.pylock_places.specs.Url.{is_mixed, is_remote_path, is_safe_remote, masked};
-ghost use Rattle.pylock_places.specs.Url.{names_alone, shown_url};
+ghost use Rattle.pylock_places.specs.Url.{begins, behind_scheme, ends_authority, has_credentials};
+ghost use Rattle.pylock_places.specs.Url.{is_https, is_remote_path, is_safe_remote, names_alone};
 
-use crate::query::{before_query, has_secret, push_hidden_secrets};
-use crate::text::{around, has_byte, joined};
-use std::alloc::{AllocError, Global};
+use crate::text::{around, has_byte};
 
 /// Whether the text begins with the word, ASCII letter case ignored.
 fn begins(word: &[u8], text: &str) -> bool
@@ -127,85 +121,4 @@ fn has_password(behind: &[u8]) -> bool
         left = rest;
     }
     password
-}
-
-/// The URL as it is shown: with `***` for its user where that tells something, and for each secret
-/// of its query; where these mix, for the query. So hiding its secrets again changes nothing.
-#[tactic(auto, using(crate::proofs::HiddenLemmas::shown_again))]
-pub fn shown_url(alloc: Global, url: &str) -> Result<String, AllocError>
-    ensures shown { IfOk result (λ text. string_bytes text ≡ shown_url url.now) }
-    ensures hidden { IfOk result (λ text. hidden_secrets (string_bytes text) ≡ string_bytes text) }
-{
-    let text = hidden_url(alloc, url)?;
-    Ok(text)
-}
-
-fn hidden_url(alloc: Global, url: &str) -> Result<String, AllocError>
-    ensures { IfOk result (λ text. string_bytes text ≡ shown_url url.now) }
-{
-    if is_mixed(url) {
-        return joined(alloc, before_query(url), "?***");
-    }
-    let mut text = String::new(alloc);
-    if has_credentials(url) {
-        push_hidden_secrets(&mut text, masked(alloc, url)?.as_str())?;
-    } else {
-        push_hidden_secrets(&mut text, url)?;
-    }
-    Ok(text)
-}
-
-/// Whether a user stands in the query or behind it, and a secret does too.
-fn is_mixed(url: &str) -> bool
-    ensures { result ≡ is_mixed url.now }
-{
-    has_credentials(url) && has_secret(url) && behind_scheme(before_query(url).as_bytes()).is_none()
-}
-
-/// The URL, with `***` for its user.
-fn masked(alloc: Global, url: &str) -> Result<String, AllocError>
-    ensures { IfOk result (λ text. string_bytes text ≡ masked url.now) }
-{
-    let mut text = String::new(alloc);
-    let mut left = url;
-    while let Some((front, back)) = around(left, b':') {
-        text.push_str(front)?;
-        if let Some(behind) = behind_slashes(back) {
-            text.push_str("://***@")?;
-            text.push_str(behind_user(behind))?;
-            return Ok(text);
-        }
-        text.push_str(":")?;
-        left = back;
-    }
-    text.push_str(left)?;
-    Ok(text)
-}
-
-/// What stands behind the `//` that a text begins with.
-fn behind_slashes(text: &str) -> Option<&str>
-    ensures { option_copied result ≡ behind_slashes text.now }
-{
-    text.strip_prefix("//")
-}
-
-/// Whether the name of the machine ends within the text.
-fn has_end(text: &str) -> bool
-    ensures { result ≡ list_any ends_authority text.now }
-{
-    text.bytes().any(|b| ends_authority(b))
-}
-
-/// What stands behind the user, or all where there is none.
-fn behind_user(text: &str) -> &str
-    ensures { result.now ≡ behind_user text.now }
-{
-    let mut left = text;
-    while let Some((front, back)) = around(left, b'@') {
-        if has_end(front) {
-            return left;
-        }
-        left = back;
-    }
-    left
 }

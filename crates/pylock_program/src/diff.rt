@@ -22,7 +22,7 @@ use crate::text::json::push_side_json;
 use pylock_command::{Choice, Form};
 use pylock_core::{EnvError, Lock, LockError, Session};
 use pylock_diff::{Change, Compared, diff_document, lock_changes, plan_changes, read_compared};
-use pylock_json::push_document;
+use pylock_documents::push_document;
 use pylock_messages::{Diagnostic, lock_diagnostic};
 use pylock_run::{OpenError, RunFault, Sink, print, push_side_error};
 use pymark_core::Environment;

@@ -6,8 +6,9 @@ pub(crate) mod file;
 pub(crate) mod options;
 pub(crate) mod refusal;
 
-use pylock_messages::{Diagnostic, push_visible};
+use pylock_messages::Diagnostic;
 use pylock_run::{RunFault, Sink, write_all};
+use pylock_shown::push_visible;
 use std::alloc::{AllocError, Global};
 
 /// Writes `pylock: ` and the text, in which each control character stands as its number. Where

@@ -4,8 +4,7 @@ ghost use Rattle.pylock_program.specs.Show.{as_documents};
 
 use crate::text::json::{push_line_refusal_json, push_refusal_json};
 use pylock_core::{Answer, Session};
-use pylock_documents::plan_document;
-use pylock_json::push_document;
+use pylock_documents::{plan_document, push_document};
 use pylock_run::{LineRefusal, OpenError, Printing};
 use std::alloc::{AllocError, Global};
 

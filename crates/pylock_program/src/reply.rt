@@ -32,8 +32,7 @@ use pylock_command::Form;
 use pylock_core::{
     Entry, EnvError, EnvironmentInput, FaultCode, Lock, LockError, environment_text,
 };
-use pylock_documents::files_document;
-use pylock_json::push_document;
+use pylock_documents::{files_document, push_document};
 use pylock_messages::Diagnostic;
 use pylock_run::{OpenError, RunFault, Sink, print};
 use pymark_core::{Environment, EvalFault, Marker, MarkerError};

@@ -16,7 +16,7 @@ use crate::text::audit::push_findings;
 use pylock_audit::{Findings, LockFinding, StrictError, findings_document, read_strict};
 use pylock_command::Form;
 use pylock_core::{EnvironmentInput, Session};
-use pylock_json::push_document;
+use pylock_documents::push_document;
 use pylock_messages::Diagnostic;
 use pylock_run::{OpenError, open_in, open_on};
 use std::alloc::{AllocError, Global};

@@ -5,7 +5,8 @@ ghost use Rattle.std.specs.Option.{option_copied};
 ghost use Rattle.serde_json.specs.View.{view as data_of};
 ghost use Rattle.pylock_json.specs.Json.{maybe, numbered, object_of, texts_of, there};
 
-use pylock_json::{Json, List, Object, document, push_document};
+use pylock_documents::{document, push_document};
+use pylock_json::{Json, List, Object};
 use std::alloc::{AllocError, Global};
 use std::test::Fail;
 
@@ -89,5 +90,26 @@ fn a_key_that_is_put_again_has_the_later_value(rt: HostRuntime) -> Result<(), Fa
     object.put(alloc, "b", Json::number(2))?;
     let text = object.into_json().to_text(alloc)?;
     assert_eq!(rt; text.as_str(), "{\"a\":\"x\",\"b\":2}");
+    Ok(())
+}
+
+#[test]
+fn control_characters_are_escaped(rt: HostRuntime) -> Result<(), Fail> {
+    let alloc = rt.alloc();
+    let mut object = Object::new(alloc);
+    object.put_text(
+        alloc,
+        "\u{7f}",
+        "é\u{80}\u{61c}\u{200f}\u{2028}\u{202e}\u{feff}😀\u{e0001}\t",
+    )?;
+    let text = document(alloc, object)?;
+    let mut wanted = String::new(alloc);
+    for part in [
+        "{\"pylock\":1,\"\\u007f\":\"é\\u0080\\u061c\\u200f\\u2028\\u202e\\ufeff😀",
+        "\\udb40\\udc01\\t\"}\n",
+    ] {
+        wanted.push_str(part)?;
+    }
+    assert_eq!(rt; text.as_str(), wanted.as_str());
     Ok(())
 }

@@ -15,3 +15,5 @@ mod pieces;
 mod program;
 #[cfg(test)]
 mod stream;
+#[cfg(test)]
+mod terminal;

@@ -9,3 +9,5 @@ pub mod RunLemmas
 pub mod ReportLemmas
 pub mod PieceLemmas
 pub mod CountLemmas
+pub mod TerminalLemmas
+pub mod SteeringLemmas

@@ -115,3 +115,21 @@ pub prefix_after_all : (old mid new : SinkValue) (text out : List ℕ) → Pours
 prefix_after_all old mid new text out before after =
     prefix_same old new (text ++ []) text (append-nil text)
     (prefix_after old mid new text out [] before (prefix_same mid new out (out ++ []) (sym (append-nil out)) after))
+
+-- of the rest a part was written
+pub Pours-on : (old mid new : SinkValue) (text rest part last : List ℕ) → Pours old mid text rest → rest ≡ part ++ last → Writes mid new part → Pours old new text last
+Pours-on old mid new text rest part last before same after = record {
+  written = before.written ++ part;
+  whole = before.whole ∙ ap (λ r. before.written ++ r) same ∙ sym (append_assoc before.written part last);
+  writes = Writes-trans old mid new before.written part before.writes after;
+}
+
+-- what a call wrote is the text
+pub Writes-same : (old new : SinkValue) (part text : List ℕ) → part ≡ text → Appends old.held new.held part → new.failures ≡ old.failures → Writes old new text
+Writes-same old new part text same held counted = record { held = subst (Appends old.held new.held) same held; counted = counted }
+
+-- a front was written, and then a prefix of what stands behind it
+pub prefix_behind : (old mid new : SinkValue) (front part back : List ℕ) → Writes old mid front → part ≡ back → TakesPrefix mid new part
+    → TakesPrefix old new (front ++ back)
+prefix_behind old mid new front part back before same after =
+    prefix_after_all old mid new (front ++ back) part (record { written = front; whole = ap (λ b. front ++ b) (sym same); writes = before }) after

@@ -7,3 +7,4 @@ pub mod FileLine
 pub mod Hashes
 pub mod Pieces
 pub mod OrdinaryBytes
+pub mod AroundControl

@@ -1,5 +1,7 @@
 -- Where the program's bytes come from and where they go, as contracts see it.
 pub mod Memory
+pub mod Output
+pub mod Terminal
 pub mod Whole
 use Rattle.std.specs.Prelude.{◌≡◌, ℕ, ◌+◌, ◌==◌, if◌then◌else◌, List, ◌++◌, Option}
 use Rattle.std.specs.Io.KnownBytes.{Appends}

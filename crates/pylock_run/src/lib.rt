@@ -36,6 +36,8 @@ pub use report::print::print;
 pub use report::printing::{Lines, Printing};
 pub use report::run::{run, run_opened};
 pub use stream::memory::{Pieces, Room};
+pub use stream::output::Output;
+pub use stream::terminal::ToTerminal;
 pub use stream::whole::{FileFault, read_whole};
 pub use stream::wrapper::{FromRead, ToWrite};
 pub use stream::writer::write_all;

@@ -7,6 +7,8 @@ ghost use Rattle.std.specs.Io.KnownBytes.{ReadConsumes, WriteAppends};
 ghost use Rattle.pylock_run.specs.Stream.{SourceValue, SinkValue, one_more};
 
 pub mod memory;
+pub mod output;
+pub mod terminal;
 pub mod whole;
 pub mod wrapper;
 pub mod writer;

@@ -1,3 +1,5 @@
 pub mod CodeLemmas
+pub mod NumberLemmas
 pub mod ScalarLemmas
+pub mod ShownLemmas
 pub mod WordLemmas

@@ -1,6 +1,7 @@
 -- Numbers, dates and times as a code has them (TOML, "Float", "Offset Date-Time" to "Local Time").
 use Rattle.std.specs.Prelude.{ℕ, ℤ, pos, negsuc, ◌-◌, ◌/◌, ◌%◌, ◌++◌, codes, length, replicate}
-use Rattle.std.specs.Prelude.{is_nan, false, List, [], ◌∷◌, Option, Some, None, Float, if◌then◌else◌}
+use Rattle.std.specs.Prelude.{is_nan, false, List, [], ◌∷◌, Option, Some, None, Float}
+use Rattle.std.specs.Prelude.{if◌then◌else◌}
 use Rattle.std.specs.Float.{binary64}
 use Rattle.std.specs.Float.Ieee.{to_bits}
 use Rattle.std.specs.Fmt.{decimal, digits}

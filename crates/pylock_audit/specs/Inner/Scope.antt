@@ -1,15 +1,13 @@
 -- Which findings are worked out: all, or those alone that a strict reading refuses. What is found
 -- besides may be much longer than the lock: a file's name stands in the finding of each of its
 -- hashes.
-use Rattle.std.specs.Prelude.{Bool, true, List, [], if◌then◌else◌, ◌++◌, codes}
+use Rattle.std.specs.Prelude.{Bool, true, List, [], if◌then◌else◌, ◌++◌}
 use Rattle.pylock_readers.specs.Entry.{EntryValue}
 use Rattle.pylock_core.specs.Session.Picks.{SourceValue}
 use Rattle.pylock_core.specs.declared.answer.PickSource.{PickSource}
-use Rattle.pylock_audit.specs.Entry.{IndexValue, over}
+use Rattle.pylock_audit.specs.Entry.{IndexValue, controlled_version, over}
 use Rattle.pylock_audit.specs.Finding.{FindingValue, findings_each}
-use Rattle.pylock_audit.specs.Source.{text_where}
 use Rattle.pylock_audit.specs.Strict.{is_refused}
-use Rattle.pylock_audit.specs.Unsafe.{has_control}
 use Rattle.pylock_audit.specs.declared.finding.FindingKind.{FindingKind}
 use Rattle.pylock_audit.specs.declared.finding.FindingKind.TheVariants as kind
 use Rattle.pylock_audit.specs.declared.scope.Scope.{Scope}
@@ -40,6 +38,5 @@ of_sources_in asked index list =
 abbrev pub of_controls_in : Scope → EntryValue → List (PickSource × SourceValue)
     → List FindingValue
 of_controls_in asked entry list =
-    findings_each kind.ControlCharacter
-    (text_where has_control (λ version. codes "version " ++ version) entry.version)
+    findings_each kind.ControlCharacter (controlled_version entry)
     ++ over_in asked kind.ControlCharacter list

@@ -4,8 +4,8 @@ use Rattle.std.specs.Borrow.{Bor}
 use Rattle.std.specs.List.{flat_map}
 use Rattle.pylock_compare.specs.Rows.{Row}
 use Rattle.pylock_diff.specs.Codes.{Rows}
-use Rattle.pylock_diff.specs.Hidden.{shown_value}
 use Rattle.pylock_diff.specs.Keys.{Placed}
+use Rattle.pytoml_code.specs.Shown.{shown}
 
 abbrev pub lent_place : ℕ × Bor (List ℕ) → Placed
 lent_place placed = (placed.0, placed.1.now)
@@ -22,4 +22,4 @@ placed_at place rows = map (λ row. (row.0, (place, row.1))) rows
 
 -- values, each behind ` | `
 abbrev pub more_values : List Placed → List ℕ
-more_values values = flat_map (λ placed. codes " | " ++ shown_value placed.1) values
+more_values values = flat_map (λ placed. codes " | " ++ shown placed.1) values

@@ -12,14 +12,14 @@ use Rattle.pylock_core.specs.declared.answer.FaultCode.{FaultCode}
 use Rattle.pylock_core.specs.declared.fate.Fate.{Fate}
 use Rattle.pylock_run.specs.Text.Field.{field, line_of}
 use Rattle.pylock_program.specs.Text.Safe.{safe_field}
-use Rattle.pylock_documents.specs.Reasons.{detail, head_detail}
+use Rattle.pylock_documents.specs.Reasons.{detail, head_detail, shown_version}
 use Rattle.pylock_core.specs.Words.{fault_word, verdict_word}
 
 -- number, name, version, verdict, detail
 abbrev pub verdict_line : ℕ → EntryValue → List ℕ → Option (List ℕ) → List ℕ
 verdict_line number entry verdict detail =
     line_of (decimal number)
-    (field (Some entry.name) ∷ safe_field entry.version ∷ verdict ∷ safe_field detail ∷ [])
+    (field (Some entry.name) ∷ safe_field (shown_version entry) ∷ verdict ∷ safe_field detail ∷ [])
 
 abbrev pub entry_line : State → ℕ → Fate → EntryValue → List ℕ
 entry_line state number fate entry =

@@ -4,7 +4,8 @@ use Rattle.std.specs.Option.{option_map_or}
 use Rattle.pylock_command.specs.Choices.{option_words}
 use Rattle.pylock_command.specs.declared.choice.Choice.{Choice}
 use Rattle.pylock_documents.specs.Documents.{refused_line_rows, refused_rows}
-use Rattle.pylock_json.specs.Json.{Row, document_text, members_of, object_of, there}
+use Rattle.pylock_documents.specs.Written.{document_text}
+use Rattle.pylock_json.specs.Json.{Row, members_of, object_of, there}
 use Rattle.pylock_messages.specs.Diagnostic.{DiagnosticValue}
 use Rattle.pylock_readers.specs.declared.error.EnvError.{EnvError}
 use Rattle.pylock_readers.specs.declared.error.LockError.{LockError}

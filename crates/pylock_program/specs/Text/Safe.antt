@@ -3,7 +3,7 @@ use Rattle.std.specs.Prelude.{ℕ, ◌==◌, List, Option, Some, None, if◌then
 use Rattle.std.specs.Char.{encode_utf8}
 use Rattle.std.specs.List.{flat_map}
 use Rattle.std.specs.Str.{bytes_eq, chars}
-use Rattle.pylock_messages.specs.Visible.{control_text, is_control}
+use Rattle.pylock_shown.specs.Visible.{control_text, is_control}
 
 -- how a character stands in such a field: a control character as its number, the backslash doubled
 abbrev pub safe_character : ℕ → List ℕ

@@ -15,8 +15,10 @@ ghost use Rattle.pylock_run.specs.Text.Field.{field};
 use crate::text::json::{push_fault_json, push_refused};
 use pylock_command::Form;
 use pylock_core::{FaultCode, fault_word};
-use pylock_documents::{requirement_document, sdist_document, specifiers_text, wheel_document};
-use pylock_json::{Object, push_document};
+use pylock_documents::{
+    push_document, requirement_document, sdist_document, specifiers_text, wheel_document,
+};
+use pylock_json::Object;
 use pylock_run::{push_field, push_last_word, push_next_field};
 use pymark_core::{Requirement, RequirementError};
 use pyver_core::{SpecifierError, SpecifierSet, Version, VersionError, is_name, normal_name};

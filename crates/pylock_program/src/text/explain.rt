@@ -10,7 +10,7 @@ ghost use Rattle.pylock_program.specs.Text.Safe.{safe_field};
 
 use crate::text::safe::push_next_safe;
 use pylock_core::{Entry, Fate, Session, fault_word, verdict_word};
-use pylock_documents::{detail, head_detail};
+use pylock_documents::{detail, head_detail, shown_version};
 use pylock_run::{push_decimal, push_next_field, push_word};
 use std::alloc::{AllocError, Global};
 
@@ -83,10 +83,11 @@ fn push_entry(
 {
     let detail = detail(alloc, session, entry, fate)?;
     let verdict = verdict_word(entry, fate);
-    push_verdict(out, number, entry, verdict, detail.as_deref())
+    push_verdict(alloc, out, number, entry, verdict, detail.as_deref())
 }
 
 fn push_verdict(
+    alloc: Global,
     out: &mut Vec<u8>,
     number: u32,
     entry: &Entry,
@@ -96,9 +97,10 @@ fn push_verdict(
     ensures { OnOk result (out.new.items ≡ out.old.items
         ++ verdict_line number entry.now verdict.now (option_copied detail.entry)) }
 {
+    let version = shown_version(alloc, entry)?;
     push_decimal(out, u64::from(number))?;
     push_next_field(out, Some(entry.name()))?;
-    push_next_safe(out, entry.version())?;
+    push_next_safe(out, version.as_deref())?;
     push_reason(out, verdict, detail)
 }
 

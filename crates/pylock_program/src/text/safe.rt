@@ -4,7 +4,7 @@ ghost use Rattle.std.specs.Prelude.{◌≡◌, ◌++◌, ◌∷◌, OnOk};
 ghost use Rattle.std.specs.Option.{option_copied};
 ghost use Rattle.pylock_program.specs.Text.Safe.{safe_text, safe_character, safe_field};
 
-use pylock_messages::{is_control, push_character, push_control};
+use pylock_shown::{is_control, push_character, push_control};
 use std::alloc::AllocError;
 
 /// Pushes a TAB and a field that is safe to show.

@@ -1,5 +1,6 @@
 use Rattle.std.proofs.Common.{◌≡◌, ◌++◌, filter, map, not, string_bytes}
 use Rattle.toml.specs.View.{table_view}
+use Rattle.pylock_shown.specs.Hidden.{hidden}
 use Rattle.pylock_audit.specs.Keys.{is_named, table_path, unknown_keys}
 use Rattle.pylock_audit.proofs.keys.push_unknown.Given as goal
 
@@ -7,5 +8,5 @@ use Rattle.pylock_audit.proofs.keys.push_unknown.Given as goal
 abbrev pub invariant-loop-key : goal.invariant-loop-key
 invariant-loop-key l =
     map string_bytes l.paths.items
-    ++ map (λ key. table_path l.table ++ key) (filter (λ key. not (is_named l.table key)) (map string_bytes l.key-iterator))
+    ++ map (λ key. table_path l.table ++ hidden key) (filter (λ key. not (is_named l.table key)) (map string_bytes l.key-iterator))
     ≡ map string_bytes l.initial.paths.items ++ unknown_keys l.table (table_view l.members)

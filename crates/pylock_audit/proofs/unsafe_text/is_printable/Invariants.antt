@@ -1,7 +1,0 @@
-use Rattle.std.proofs.Common.{◌≡◌, ◌&&◌, nat_lt, take}
-use Rattle.std.specs.List.{list_all}
-use Rattle.pylock_audit.specs.Inner.Printable.{is_printable}
-use Rattle.pylock_audit.proofs.unsafe_text.is_printable.Given as goal
-
-abbrev pub invariant-loop-byte : goal.invariant-loop-byte
-invariant-loop-byte l = (nat_lt 31 l.least && nat_lt l.most 127) ≡ list_all is_printable (take l.byte-index l.bytes)

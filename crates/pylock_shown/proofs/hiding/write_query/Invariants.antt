@@ -1,0 +1,13 @@
+use denote.Text.{Utf8}
+use denote.Shadow.{shadow}
+use Rattle.std.proofs.Common.{length}
+use Rattle.pylock_shown.proofs.WrittenLemmas.{WrittenSoFar}
+use Rattle.pylock_shown.specs.Hidden.{hidden_query}
+use Rattle.pylock_shown.proofs.hiding.write_query.Given as goal
+
+abbrev pub invariant-loop-part : goal.invariant-loop-part
+invariant-loop-part g l =
+    shadow (Utf8 l.left) × WrittenSoFar g.W.Write.write_str_gives hidden_query l.initial.f l.f l.left l.query
+
+abbrev pub decreases-loop-part : goal.decreases-loop-part
+decreases-loop-part g l = length l.left

@@ -1,0 +1,29 @@
+use Rattle.std.proofs.Common.{◌≡◌, None, arith, rules, sym}
+use Rattle.pywheel_core.specs.Texts.{cut_at}
+use Rattle.pylock_shown.proofs.CutLemmas.{cut_shorter}
+use Rattle.pylock_shown.proofs.WrittenLemmas.{begun, written_last, written_more}
+use Rattle.pylock_shown.specs.Hidden.{hidden_piece}
+use Rattle.pylock_shown.specs.Inner.Parts.{query_part}
+use Rattle.pylock_shown.proofs.hiding.write_query_part.Goals as goal
+
+pub loop-piece-init : goal.loop-piece-init
+loop-piece-init g c = (search rules, begun g.W.Write.write_str_gives query_part c.args.f.now c.args.part.now)
+
+pub loop-piece-smaller : goal.loop-piece-smaller
+loop-piece-smaller g c =
+    let shorter = cut_shorter 59 c.loop-piece.left.now c.in-Some.piece.now c.in-Some.rest.now (sym c.in-Some.ensures) in
+    omega (arith, shorter)
+
+pub loop-piece-preserved : goal.loop-piece-preserved
+loop-piece-preserved g c = (
+  search rules,
+  written_more g.W.Write.write_str_gives 59 hidden_piece c.args.f.now c.loop-piece.f c.write_query_piece.new.f c.write_str.new.self
+      c.loop-piece.left.now c.in-Some.piece.now c.in-Some.rest.now c.args.part.now (sym c.in-Some.ensures) c.loop-piece.invariant.1
+      (λ plain. c.write_query_piece.ensures plain (search rules)) (λ plain. c.write_str.ensures.writes plain (search rules)),
+)
+
+pub returns : goal.returns
+returns g c =
+    let last : cut_at 59 c.loop-piece.left.now ≡ None = search rules in
+    written_last g.W.Write.write_str_gives 59 hidden_piece c.args.f.now c.loop-piece.f c.write_query_piece-2.new.f c.loop-piece.left.now c.args.part.now
+    c.write_query_piece-2.result last c.loop-piece.invariant.1 c.write_query_piece-2.ensures

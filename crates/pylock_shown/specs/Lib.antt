@@ -1,0 +1,4 @@
+pub mod Hidden
+pub mod Inner
+pub mod Parted
+pub mod Visible

@@ -1,0 +1,2 @@
+-- What contracts inside the crate alone cite.
+pub mod Reading
