@@ -352,6 +352,19 @@ int32_t pylock_session_add_group(pylock_session *session,
 int32_t pylock_session_drop_group(pylock_session *session,
                                   const uint8_t *name, size_t length, uint64_t *judged);
 
+/* The same of several names as one edit: one text, with an LF between two and none at
+ * the end; the empty text is no names. What reads extras, or groups, is judged once. The
+ * edit is that of the names one after another, and the first of them that is refused is
+ * the refusal. PYLOCK_EDIT_EXTRA, PYLOCK_EDIT_GROUP. */
+int32_t pylock_session_add_extras(pylock_session *session,
+                                  const uint8_t *names, size_t length, uint64_t *judged);
+int32_t pylock_session_drop_extras(pylock_session *session,
+                                   const uint8_t *names, size_t length, uint64_t *judged);
+int32_t pylock_session_add_groups(pylock_session *session,
+                                  const uint8_t *names, size_t length, uint64_t *judged);
+int32_t pylock_session_drop_groups(pylock_session *session,
+                                   const uint8_t *names, size_t length, uint64_t *judged);
+
 /* Puts these tags in place of those that were there: one text, the best first, with
  * an LF between two and none at the end; the empty text is no tags. PYLOCK_EDIT_TAG. */
 int32_t pylock_session_tags(pylock_session *session,
