@@ -145,7 +145,8 @@ Example, with spaces for the TABs:
 
 Prints the answer, as plan does. Then it reads edits as lines from standard
 input and answers each: by the answer as it is then, or by refused N, TAB and a
-word, where line N is refused and changes nothing. The last answer counts.
+word, where line N is refused and changes nothing. The last answer counts. As
+in plan, a URL stands there with the password that it may have.
 
 The edits:
   show                print the answer again
@@ -260,7 +261,7 @@ FINDING is one of these:
   control-character   a text has a control character
 
 DETAIL shows as *** what stands between a slash and the last @ before the next
-one, and each value of a query; control characters as \\u{..}.
+/, and each value of a query; control characters as \\u{..}.
 
 Status: 0, nothing was found; 1, something was; 2, the lock or the command line
 is refused; 3, a file can't be read, the output failed or memory ran out.";

@@ -10,8 +10,8 @@ use Rattle.pylock_core.specs.Session.Picks.{SourceValue}
 use Rattle.pylock_exports.specs.FileNames.{ends, last_part}
 use Rattle.pylock_exports.specs.Listed.{ListedValue, file_name_of_source, path_alone, sha256_of}
 use Rattle.pylock_exports.specs.Listed.{url_of}
-use Rattle.pylock_exports.specs.Parts.{Check, end_check, file_name_check, hash_check, path_check, require}
-use Rattle.pylock_exports.specs.Parts.{there, web_url_check}
+use Rattle.pylock_exports.specs.Parts.{Check, end_check, file_name_check, hash_check, path_check}
+use Rattle.pylock_exports.specs.Parts.{require, there, web_url_check}
 use Rattle.pylock_exports.specs.Refusals.{at_number, other_value}
 use Rattle.pylock_exports.specs.Requirements.{path_text}
 use Rattle.pylock_exports.specs.declared.class.Class.TheVariants as class

@@ -1,5 +1,5 @@
--- What pip and a reader of RFC 3986 find in a line of a requirements file, wherever they look for it:
--- nothing that the lock doesn't say.
+-- What pip and a reader of RFC 3986 find in a line of a requirements file, wherever they look for
+-- it: nothing that the lock doesn't say.
 use Rattle.std.specs.Prelude.{◌≡◌, ◌⊎◌, ℕ, Bool, false, ◌==◌, ◌||◌, ◌++◌, codes, List, [], ◌∷◌}
 use Rattle.std.specs.List.{All, before_first, list_any}
 use Rattle.pylock_readers.specs.Entry.FileName.{is_slash}
@@ -9,7 +9,8 @@ use Rattle.pylock_exports.specs.Line.{IsHost, IsSubdirectory}
 abbrev pub Lacks : ℕ → List ℕ → Type 0
 Lacks c text = list_any (λ b. b == c) text ≡ false
 
--- the line reads as a name, `@` and a URL (PEP 508, "direct references"), and options behind a space
+-- the line reads as a name, `@` and a URL (PEP 508, "direct references"), and options behind a
+-- space
 pub record IsReference (line name url options : List ℕ) : Type 0 where
   pub whole : line ++ codes " " ≡ name ++ codes " @ " ++ url ++ codes " " ++ options
   pub one_name : Lacks 32 name

@@ -13,8 +13,8 @@ use Rattle.pylock_readers.specs.Entry.{file_name}
 use Rattle.pylock_readers.specs.Entry.FileName.{is_slash}
 use Rattle.pylock_core.specs.Session.Picks.{SourceValue, OfVcs, OfDirectory, OfArchive, OfWheel}
 use Rattle.pylock_core.specs.Session.Picks.{OfSdist}
-use Rattle.pylock_exports.specs.FileNames.{ends, ends_as_file, is_wheel_end, last_step, project_check}
-use Rattle.pylock_exports.specs.FileNames.{sdist_project, wheel_project}
+use Rattle.pylock_exports.specs.FileNames.{ends, ends_as_file, is_wheel_end, last_step}
+use Rattle.pylock_exports.specs.FileNames.{project_check, sdist_project, wheel_project}
 use Rattle.pylock_exports.specs.Listed.{ListedValue, hash_of, is_unhashed, last_of}
 use Rattle.pylock_exports.specs.Parts.{Check, any_url_check, checkout_url_check, commit_check}
 use Rattle.pylock_exports.specs.Parts.{directory_path_check, end_check, hash_check}

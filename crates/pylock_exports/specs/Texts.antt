@@ -1,6 +1,6 @@
 -- The text of each form: its lines, each with its end, or the first refusal in their order.
-use Rattle.std.specs.Prelude.{ℕ, Bool, not, codes, ◌++◌, List, Result, Ok, filter, length, map, take}
-use Rattle.std.specs.Prelude.{string_bytes}
+use Rattle.std.specs.Prelude.{ℕ, Bool, not, codes, ◌++◌, List, Result, Ok, filter, length, map}
+use Rattle.std.specs.Prelude.{string_bytes, take}
 use Rattle.std.specs.List.{flat_map}
 use Rattle.pytext.specs.Results.{◌>>=◌}
 use Rattle.pylock_core.specs.Session.Picks.{SourceValue}

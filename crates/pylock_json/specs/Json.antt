@@ -1,10 +1,10 @@
 -- Documents in JSON (RFC 8259), whose members are put one after another.
-use Rattle.std.specs.Prelude.{◌≡◌, ℕ, ◌++◌, List, [], ◌∷◌, codes, Bool, false, map}
+use Rattle.std.specs.Prelude.{◌≡◌, ℕ, List, [], ◌∷◌, Bool, false, map}
 use Rattle.std.specs.Prelude.{Option, IfSome, Some, option_map}
 use Rattle.std.specs.Option.{option_map_or}
 use Rattle.serde_json.specs.Data.{Data, array, boolean, number, object, string, unsigned}
 use Rattle.serde_json.specs.Data.{Items, no_items, item, Members, no_members, put}
-use Rattle.serde_json.specs.Written.{compact_text, has_float}
+use Rattle.serde_json.specs.Written.{has_float}
 
 -- a key, and its value where there is one
 abbrev pub Row : Type 0
@@ -57,9 +57,3 @@ truth value = Some (boolean value)
 -- A row has no float.
 abbrev pub HasNone : Row → Type 0
 HasNone row = IfSome row.1 (λ d. has_float d ≡ false)
-
--- A document: the text of an object without white space, and LF. Its member `pylock` is the number
--- of its form.
-abbrev pub document_text : Members → List ℕ
-document_text members =
-    compact_text (object (put (codes "pylock") (number (unsigned 1)) members)) ++ codes "\n"

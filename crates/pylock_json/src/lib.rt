@@ -14,9 +14,7 @@ mod json;
 pub mod laws;
 mod list;
 mod object;
-mod written;
 
 pub use json::Json;
 pub use list::List;
 pub use object::Object;
-pub use written::{document, push_document};

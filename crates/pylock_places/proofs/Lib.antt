@@ -1,4 +1,3 @@
 pub mod QueryLemmas
-pub mod ShownLemmas
 pub mod TextLemmas
 pub mod UserLemmas

@@ -15,7 +15,7 @@ mod shown;
 mod text;
 mod url;
 
-pub use file_name::{shown_file_name, shown_name};
+pub use file_name::shown_file_name;
 pub use query::has_secret;
 pub use shown::{file_label, shown_place};
 pub use text::{around, joined};

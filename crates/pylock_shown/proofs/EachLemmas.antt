@@ -45,7 +45,7 @@ module _ (c : ℕ) (P : List ℕ → Type 0)
 -- ---- one kind of cut
 
 module _ (c : ℕ) (shown : List ℕ → List ℕ) where
-  each_first : (x y : List ℕ) → Lacks c x → each_shown c shown (x ++ (c ∷ y)) ≡ shown x ++ (c ∷ each_shown c shown y)
+  pub each_first : (x y : List ℕ) → Lacks c x → each_shown c shown (x ++ (c ∷ y)) ≡ shown x ++ (c ∷ each_shown c shown y)
   each_first x y lacks = shown_cut c shown (x ++ (c ∷ y)) x y (cut_joined c x y lacks)
 
   pub each_one : (x : List ℕ) → Lacks c x → each_shown c shown x ≡ shown x
@@ -101,6 +101,29 @@ module _ (c : ℕ) (shown : List ℕ → List ℕ) where
       let parts = lacks_parts d a (c ∷ b) no in
       let rest = (lacks_parts d (c ∷ []) b parts.1).1 in
       each_first a b lacks ∙ (λ i. stays a parts.0 i ++ (c ∷ so rest i)))
+      x
+
+  -- what is shown lacks a byte too
+  pub each_keeps : (d : ℕ) → (c == d) ≡ false → ((p : List ℕ) → Lacks d p → Lacks d (shown p)) → (x : List ℕ) → Lacks d x → Lacks d (each_shown c shown x)
+  each_keeps d other keeps x = by_cuts c (λ x. Lacks d x → Lacks d (each_shown c shown x))
+      (λ x lacks. λ no. subst (Lacks d) (sym (each_one x lacks)) (keeps x no))
+      (λ a b lacks so. λ no.
+      let parts = lacks_parts d a (c ∷ b) no in
+      let rest = (lacks_parts d (c ∷ []) b parts.1).1 in
+      subst (Lacks d) (sym (each_first a b lacks))
+      (lacks_both d (shown a) (c ∷ each_shown c shown b) (keeps a parts.0) (lacks_more d c (each_shown c shown b) other (so rest))))
+      x
+
+  -- pieces that stay once they are shown
+  pub each_again : ((p : List ℕ) → shown (shown p) ≡ shown p) → ((p : List ℕ) → Lacks c p → Lacks c (shown p))
+      → (x : List ℕ) → each_shown c shown (each_shown c shown x) ≡ each_shown c shown x
+  each_again again keeps x = by_cuts c (λ x. each_shown c shown (each_shown c shown x) ≡ each_shown c shown x)
+      (λ x lacks. ap (each_shown c shown) (each_one x lacks) ∙ each_one (shown x) (keeps x lacks) ∙ again x ∙ sym (each_one x lacks))
+      (λ a b lacks so.
+      ap (each_shown c shown) (each_first a b lacks)
+      ∙ each_first (shown a) (each_shown c shown b) (keeps a lacks)
+      ∙ (λ i. again a i ++ (c ∷ so i))
+      ∙ sym (each_first a b lacks))
       x
 
 -- ---- a cut within the pieces of another

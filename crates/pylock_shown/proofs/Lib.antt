@@ -1,5 +1,7 @@
+pub mod AgainLaws
 pub mod CutLemmas
 pub mod EachLemmas
+pub mod MarkLemmas
 pub mod PieceLemmas
 pub mod PlaceLaws
 pub mod PrintableLemmas

@@ -9,9 +9,9 @@ use Rattle.pywheel_core.proofs.Lemmas.Texts.Cuts.{cut_joined, cut_lacking, cut_s
 use Rattle.pywheel_core.proofs.Lemmas.Texts.Cuts as cuts
 use Rattle.pywheel_core.specs.Texts.{cut_at}
 use Rattle.pylock_shown.proofs.EachLemmas.{each_at, each_one, each_tail, inner_at, lacks_both, lacks_more}
-use Rattle.pylock_shown.proofs.PlaceLaws.{lacks_one, scheme_stays}
-use Rattle.pylock_shown.proofs.SlashLemmas.{slash_first}
-use Rattle.pylock_shown.specs.Hidden.{hidden, hidden_behind_mark, hidden_behind_slash, hidden_piece, hidden_place, hidden_query, is_slash, without_user}
+use Rattle.pylock_shown.proofs.MarkLemmas.{queries_alike}
+use Rattle.pylock_shown.proofs.PlaceLaws.{lacks_one}
+use Rattle.pylock_shown.specs.Hidden.{hidden, hidden_behind_mark, hidden_fragment, hidden_key, hidden_piece, hidden_query}
 use Rattle.pylock_shown.specs.Inner.Parts.{query_part}
 use Rattle.pylock_shown.specs.Parted.{Lacks, begins_piece, ends_piece, is_mark}
 
@@ -32,10 +32,10 @@ mark_is_no_hash mark is = elim (cases_Bool (mark == 35)) [
 
 -- ---- what stands behind a `?`
 
-no_fragment : (x : List ℕ) → cuts.Lacks 35 x → hidden_behind_mark x ≡ hidden_query x
+pub no_fragment : (x : List ℕ) → cuts.Lacks 35 x → hidden_behind_mark x ≡ hidden_query x
 no_fragment x lacks = rw (cut_lacking 35 x lacks) refl
 
-fragment : (x f : List ℕ) → cuts.Lacks 35 x → hidden_behind_mark (x ++ (35 ∷ f)) ≡ hidden_query x ++ codes "#" ++ hidden_place f
+pub fragment : (x f : List ℕ) → cuts.Lacks 35 x → hidden_behind_mark (x ++ (35 ∷ f)) ≡ hidden_query x ++ codes "#" ++ hidden_fragment f
 fragment x f lacks = rw (cut_joined 35 x f lacks) refl
 
 -- two queries that are shown alike, before the end of a piece
@@ -57,7 +57,7 @@ module _ (x y : List ℕ) (no_x : cuts.Lacks 35 x) (no_y : cuts.Lacks 35 y) (sam
         ap (λ r. hidden_behind_mark (x ++ (mark ∷ r))) says.0
         ∙ ap hidden_behind_mark (sym (append_assoc x (mark ∷ a) (35 ∷ f)))
         ∙ fragment (x ++ (mark ∷ a)) f (lacks_both 35 x (mark ∷ a) no_x no_a)
-        ∙ ap (λ t. t ++ codes "#" ++ hidden_place f) (more_alike mark a is)
+        ∙ ap (λ t. t ++ codes "#" ++ hidden_fragment f) (more_alike mark a is)
         ∙ sym (fragment (y ++ (mark ∷ a)) f (lacks_both 35 y (mark ∷ a) no_y no_a))
         ∙ ap hidden_behind_mark (append_assoc y (mark ∷ a) (35 ∷ f))
         ∙ ap (λ r. hidden_behind_mark (y ++ (mark ∷ r))) (sym says.0)
@@ -71,33 +71,12 @@ module _ (x y : List ℕ) (no_x : cuts.Lacks 35 x) (no_y : cuts.Lacks 35 y) (sam
     | inr other ↦
         let hash : (b == 35) ≡ true = rw other at ends in
         subst (λ b. hidden_behind_mark (x ++ (b ∷ rest)) ≡ hidden_behind_mark (y ++ (b ∷ rest))) (sym ((Decides-eqb b 35).0 hash))
-        (fragment x rest no_x ∙ ap (λ t. t ++ codes "#" ++ hidden_place rest) same ∙ sym (fragment y rest no_y))
+        (fragment x rest no_x ∙ ap (λ t. t ++ codes "#" ++ hidden_fragment rest) same ∙ sym (fragment y rest no_y))
   ]
-
--- ---- in the whole text
-
-behind_place : (place z : List ℕ) → cuts.Lacks 63 place → hidden_behind_slash (place ++ (63 ∷ z)) ≡ hidden_place place ++ codes "?" ++ hidden_behind_mark z
-behind_place place z lacks = rw (cut_joined 63 place z lacks) refl
-
-in_text : (scheme place y z : List ℕ) (slash : ℕ) → is_slash slash ≡ true → Lacks (codes "/\\") scheme → Lacks (codes "?") place
-    → hidden_behind_mark y ≡ hidden_behind_mark z
-    → hidden (scheme ++ (slash ∷ (place ++ (63 ∷ y)))) ≡ hidden (scheme ++ (slash ∷ (place ++ (63 ∷ z))))
-in_text scheme place y z slash is no_scheme no_place same =
-    let no_mark = lacks_one 63 (codes "?") place refl no_place in
-    scheme_stays scheme (slash ∷ (place ++ (63 ∷ y))) no_scheme
-    ∙ ap (λ t. scheme ++ t) (
-    slash_first slash (place ++ (63 ∷ y)) is ∙ ap (λ t. slash ∷ t) (behind_place place y no_mark)
-    ∙ ap (λ t. slash ∷ (hidden_place place ++ codes "?" ++ t)) same
-    ∙ ap (λ t. slash ∷ t) (sym (behind_place place z no_mark)) ∙ sym (slash_first slash (place ++ (63 ∷ z)) is))
-    ∙ sym (scheme_stays scheme (slash ∷ (place ++ (63 ∷ z))) no_scheme)
-
--- the parts of a text, from the right
-pub four : (a b c d e : List ℕ) → (((a ++ b) ++ c) ++ d) ++ e ≡ a ++ (b ++ (c ++ (d ++ e)))
-four a b c d e = append_assoc ((a ++ b) ++ c) d e ∙ append_assoc (a ++ b) c (d ++ e) ∙ append_assoc a b (c ++ (d ++ e))
 
 -- ---- a value
 
-keyed : (q s : List ℕ) → cuts.Lacks 61 q → hidden_piece (q ++ (61 ∷ s)) ≡ without_user q ++ codes "=***"
+pub keyed : (q s : List ℕ) → cuts.Lacks 61 q → hidden_piece (q ++ (61 ∷ s)) ≡ hidden_key q ++ codes "=***"
 keyed q s lacks = rw (cut_joined 61 q s lacks) refl
 
 piece_alike : (s t q : List ℕ) → hidden_piece (q ++ (61 ∷ s)) ≡ hidden_piece (q ++ (61 ∷ t))
@@ -109,7 +88,7 @@ piece_alike s t q = elim (option_cases (cut_at 61 q)) [
       earlier a b s says.0 says.1 ∙ sym (earlier a b t says.0 says.1)
 ]
   where
-    earlier : (a b s : List ℕ) → q ≡ a ++ (61 ∷ b) → cuts.Lacks 61 a → hidden_piece (q ++ (61 ∷ s)) ≡ without_user a ++ codes "=***"
+    earlier : (a b s : List ℕ) → q ≡ a ++ (61 ∷ b) → cuts.Lacks 61 a → hidden_piece (q ++ (61 ∷ s)) ≡ hidden_key a ++ codes "=***"
     earlier a b s is lacks =
         ap (λ q. hidden_piece (q ++ (61 ∷ s))) is ∙ ap hidden_piece (append_assoc a (61 ∷ b) (61 ∷ s)) ∙ keyed a (b ++ (61 ∷ s)) lacks
 
@@ -123,16 +102,14 @@ value_alike first second query no_first no_second =
     no : (c : ℕ) (s : List ℕ) → (61 == c) ≡ false → list_any (λ d. c == d) (codes "&;#") ≡ true → Lacks (codes "&;#") s → cuts.Lacks c (61 ∷ s)
     no c s other has lacks = lacks_more c 61 s other (lacks_one c (codes "&;#") s has lacks)
 
-pub value_is_hidden : (scheme place query first second rest : List ℕ) (slash : ℕ) → is_slash slash ≡ true
-    → Lacks (codes "/\\") scheme → Lacks (codes "?") place → Lacks (codes "#") query
+pub value_is_hidden : (place query first second rest : List ℕ) → Lacks (codes "?") place → Lacks (codes "#") query
     → Lacks (codes "&;#") first → Lacks (codes "&;#") second → ends_piece rest ≡ true
-    → hidden (scheme ++ (slash ∷ (place ++ (63 ∷ (query ++ (61 ∷ (first ++ rest)))))))
-    ≡ hidden (scheme ++ (slash ∷ (place ++ (63 ∷ (query ++ (61 ∷ (second ++ rest)))))))
-value_is_hidden scheme place query first second rest slash is no_scheme no_place no_query no_first no_second ends =
+    → hidden (place ++ (63 ∷ (query ++ (61 ∷ (first ++ rest))))) ≡ hidden (place ++ (63 ∷ (query ++ (61 ∷ (second ++ rest)))))
+value_is_hidden place query first second rest no_place no_query no_first no_second ends =
     let hash = lacks_one 35 (codes "#") query refl no_query in
     let no_one = lacks_both 35 query (61 ∷ first) hash (lacks_more 35 61 first refl (lacks_one 35 (codes "&;#") first refl no_first)) in
     let no_two = lacks_both 35 query (61 ∷ second) hash (lacks_more 35 61 second refl (lacks_one 35 (codes "&;#") second refl no_second)) in
-    in_text scheme place (query ++ (61 ∷ (first ++ rest))) (query ++ (61 ∷ (second ++ rest))) slash is no_scheme no_place
+    queries_alike place (query ++ (61 ∷ (first ++ rest))) (query ++ (61 ∷ (second ++ rest))) (lacks_one 63 (codes "?") place refl no_place)
     (ap hidden_behind_mark (sym (append_assoc query (61 ∷ first) rest))
     ∙ before_end (query ++ (61 ∷ first)) (query ++ (61 ∷ second)) no_one no_two (value_alike first second query no_first no_second) rest ends
     ∙ ap hidden_behind_mark (append_assoc query (61 ∷ second) rest))
@@ -164,16 +141,14 @@ pieces_alike (b ∷ q) first second begins no_first no_second =
     behind front mark s is mark_is =
         ap (λ t. hidden_query (t ++ s)) is ∙ ap hidden_query (append_assoc front (mark ∷ []) s) ∙ query_at mark front s mark_is
 
-pub piece_is_hidden : (scheme place query first second rest : List ℕ) (slash : ℕ) → is_slash slash ≡ true
-    → Lacks (codes "/\\") scheme → Lacks (codes "?") place → Lacks (codes "#") query → begins_piece query ≡ true
+pub piece_is_hidden : (place query first second rest : List ℕ) → Lacks (codes "?") place → Lacks (codes "#") query → begins_piece query ≡ true
     → Lacks (codes "&;#=") first → Lacks (codes "&;#=") second → ends_piece rest ≡ true
-    → hidden (scheme ++ (slash ∷ (place ++ (63 ∷ (query ++ (first ++ rest))))))
-    ≡ hidden (scheme ++ (slash ∷ (place ++ (63 ∷ (query ++ (second ++ rest))))))
-piece_is_hidden scheme place query first second rest slash is no_scheme no_place no_query begins no_first no_second ends =
+    → hidden (place ++ (63 ∷ (query ++ (first ++ rest)))) ≡ hidden (place ++ (63 ∷ (query ++ (second ++ rest))))
+piece_is_hidden place query first second rest no_place no_query begins no_first no_second ends =
     let hash = lacks_one 35 (codes "#") query refl no_query in
     let no_one = lacks_both 35 query first hash (lacks_one 35 (codes "&;#=") first refl no_first) in
     let no_two = lacks_both 35 query second hash (lacks_one 35 (codes "&;#=") second refl no_second) in
-    in_text scheme place (query ++ (first ++ rest)) (query ++ (second ++ rest)) slash is no_scheme no_place
+    queries_alike place (query ++ (first ++ rest)) (query ++ (second ++ rest)) (lacks_one 63 (codes "?") place refl no_place)
     (ap hidden_behind_mark (sym (append_assoc query first rest))
     ∙ before_end (query ++ first) (query ++ second) no_one no_two (pieces_alike query first second begins no_first no_second) rest ends
     ∙ ap hidden_behind_mark (append_assoc query second rest))

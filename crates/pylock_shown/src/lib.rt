@@ -4,11 +4,9 @@
 //! How a file name is shown, from `crates/pylock_places/src/file_name.rt`:
 //!
 //! ```rust
-//! let shown = hidden(alloc, name)?;
-//! if is_named_by_url(file) {
-//!     without_user(alloc, shown.as_str())
-//! } else {
-//!     Ok(shown)
+//! match found_name(alloc, name.as_deref(), path.as_deref(), url.as_deref())? {
+//!     Some(found) => Ok(Some(hidden_name(alloc, found.as_str())?)),
+//!     None => Ok(None),
 //! }
 //! ```
 #![tactic(auto)]
@@ -18,7 +16,7 @@ pub mod laws;
 mod text;
 mod visible;
 
-pub use hiding::{Shown, hidden, push_hidden, without_user};
+pub use hiding::{Shown, hidden, hidden_name, push_hidden};
 pub use visible::{
     is_control, is_printable, push_character, push_control, push_visible, visible_text,
 };

@@ -1,9 +1,10 @@
 //! Texts that are cut at a byte.
 
-ghost use Rattle.std.specs.Prelude.{◌≡◌, ◌<◌, not, option_map};
-ghost use Rattle.std.specs.List.{prefix_len};
+ghost use Rattle.std.specs.Prelude.{◌≡◌, ◌==◌, ◌||◌, ◌<◌, not, option_map};
+ghost use Rattle.std.specs.List.{list_any, prefix_len};
 ghost use Rattle.pywheel_core.specs.Texts.{cut_at, cut_at_last};
 ghost use Rattle.pylock_shown.specs.Hidden.{is_slash};
+ghost use Rattle.pylock_shown.specs.Inner.Parts.{front_len};
 
 /// What stands before and behind the first such byte, which is one of ASCII.
 pub(crate) fn around(text: &str, mark: u8) -> Option<(&str, &str)>
@@ -27,11 +28,38 @@ fn is_slash(b: u8) -> bool
 }
 
 /// How many bytes stand before the first slash: all where there is none.
-pub(crate) fn slashless_len(text: &str) -> usize
+fn slashless_len(text: &str) -> usize
     ensures { result ≡ prefix_len (λ b. not (is_slash b)) text.now }
 {
     text.as_bytes()
         .iter()
         .take_while(|b| !is_slash(**b))
         .count()
+}
+
+/// How many bytes stand up to the first slash, with it: all where there is none.
+#[tactic(auto, using(crate::proofs::SlashLemmas::front_is))]
+pub(crate) fn front_len(text: &str) -> usize
+    ensures { result ≡ front_len text.now }
+{
+    let before = slashless_len(text);
+    if before < text.len() {
+        before + 1
+    } else {
+        before
+    }
+}
+
+/// Whether the text has a slash or an `@`.
+pub(crate) fn has_slash_or_at(text: &str) -> bool
+    ensures { result ≡ list_any (λ b. is_slash b || b == 64) text.now }
+{
+    text.bytes().any(|b| is_slash(b) || b == b'@')
+}
+
+/// Whether the text has a `?`.
+pub(crate) fn has_mark(text: &str) -> bool
+    ensures { result ≡ list_any (λ b. b == 63) text.now }
+{
+    text.bytes().any(|b| b == b'?')
 }

@@ -1,7 +1,7 @@
 -- What is hidden of the code of a value is the code of the hidden value.
 use Rattle.std.proofs.Common.{◌≡◌, ◌∙◌, ◌++◌, ℕ, ◌+◌, ◌*◌, ◌-◌, ◌/◌, ◌%◌, ◌==◌, ◌<◌, ◌≤◌, ◌^◌, Bool, true, false, cond, codes, List, [], ◌∷◌, length, replicate, Option, Some, None, option_map, ℤ, pos, negsuc, Float, T, FitsSigned, suc, zero, rules, refl, sym, subst, ap, inl, inr, arith, append_assoc, append-nil}
 use Rattle.std.proofs.lemmas.Bool.{cases_Bool, false≢true}
-use Rattle.std.proofs.lemmas.Bool.Decides.{nat_tests}
+use Rattle.std.proofs.lemmas.Bool.Decides.{Decides-eqb, nat_tests}
 use Rattle.std.proofs.lemmas.Fmt.{digits_is_IsNumeral}
 use Rattle.std.proofs.lemmas.Str.{utf8_lossy-IsUtf8}
 use Rattle.std.specs.Str.{IsUtf8}
@@ -22,7 +22,14 @@ use Rattle.toml_datetime.specs.declared.datetime.Offset.TheVariants.{Z, Custom}
 use Rattle.toml_datetime.specs.declared.datetime.Datetime.{Datetime}
 use Rattle.toml_datetime.specs.Valid.{magnitude}
 use Rattle.toml_parser.specs.Lexical.{is_bare}
-use Rattle.pylock_shown.specs.Hidden.{cut_at_slash, hidden, hidden_behind_slash, is_slash}
+use Rattle.pytext.proofs.OptionsLemmas.{option_cases}
+use Rattle.pywheel_core.proofs.Lemmas.Texts.Cuts.{cut_says, no_cut_says}
+use Rattle.pywheel_core.specs.Texts.{cut_at}
+use Rattle.pylock_shown.proofs.MarkLemmas.{before_query, without_query}
+use Rattle.pylock_shown.proofs.PlaceLaws.{plain_stays}
+use Rattle.pylock_shown.proofs.SlashLemmas.{front_stays, slash_first}
+use Rattle.pylock_shown.specs.Hidden.{hidden, hidden_behind_mark, hidden_front, hidden_place, is_slash}
+use Rattle.pylock_shown.specs.Parted as parted
 use Rattle.pytoml_code.specs.Code.{code, items_code, members_code}
 use Rattle.pytoml_code.specs.HiddenValue.{HasTexts, HaveTexts, MembersHaveTexts, hidden_items, hidden_members, hidden_value}
 use Rattle.pytoml_code.specs.Proper.{AreProper, HasProper, IfThere, IsDate, IsDatetime, IsOffset, IsProper, IsSmall, IsTime}
@@ -110,11 +117,6 @@ lacks_bare (b ∷ bs) all = elim (cases_Bool (is_bare b)) [
 
 -- ---- keys
 
--- what stands for a text without a slash, and for one with a slash, behind which this is done
-abbrev Stays : (List ℕ → List ℕ) → Option (List ℕ × ℕ × List ℕ) → Type 0
-Stays f None = Unit {0}
-Stays f (Some cut) = list_all is_bare (cut.0 ++ cut.1 ∷ f cut.2) ≡ false
-
 -- a slash is no byte of a bare key
 slash_bare : (b : ℕ) → is_slash b ≡ true → is_bare b ≡ false
 slash_bare b is = elim (cases_Bool (b == 47)) [
@@ -131,37 +133,54 @@ false_rest b more lacks = elim (cases_Bool (is_bare b)) [
   | inr other ↦ rw other refl
 ]
 
-one_more : (f : List ℕ → List ℕ) (b : ℕ) (cut : Option (List ℕ × ℕ × List ℕ)) → Stays f cut → Stays f (option_map (λ c. (b ∷ c.0, c.1, c.2)) cut)
-one_more f b None h = tt
-one_more f b (Some cut) h = false_rest b (cut.0 ++ cut.1 ∷ f cut.2) h
-
-slash_stays : (f : List ℕ → List ℕ) (text : List ℕ) → Stays f (cut_at_slash text)
-slash_stays f [] = tt
-slash_stays f (b ∷ rest) = elim (cases_Bool (is_slash b)) [
-  | inl is ↦ subst (λ t. Stays f (cond t (Some ([], b, rest)) (option_map (λ c. (b ∷ c.0, c.1, c.2)) (cut_at_slash rest)))) (sym is) (false_front b (f rest) (slash_bare b is))
-  | inr other ↦ subst (λ t. Stays f (cond t (Some ([], b, rest)) (option_map (λ c. (b ∷ c.0, c.1, c.2)) (cut_at_slash rest)))) (sym other) (one_more f b (cut_at_slash rest) (slash_stays f rest))
-]
-
 not_bare : (text : List ℕ) → list_all is_bare text ≡ false → is_bare_key text ≡ false
 not_bare [] none = refl
 not_bare (b ∷ text) none = none
 
-key_by : (key : List ℕ) (cut : Option (List ℕ × ℕ × List ℕ)) → Stays hidden_behind_slash cut → is_bare_key key ≡ false
-    → is_bare_key (option_map_or (λ c. c.0 ++ c.1 ∷ hidden_behind_slash c.2) cut key) ≡ false
-key_by key None stays lacks = lacks
-key_by key (Some cut) stays lacks = not_bare (cut.0 ++ cut.1 ∷ hidden_behind_slash cut.2) stays
+-- what isn't of a bare key stays before a query
+front_not_bare : (text : List ℕ) → list_all is_bare text ≡ false → list_all is_bare (hidden_front text) ≡ false
+front_not_bare [] none = none
+front_not_bare (b ∷ rest) none = elim (cases_Bool (is_slash b)) [
+  | inl slash ↦
+      subst (λ t. list_all is_bare t ≡ false) (sym (slash_first b rest slash)) (false_front b (hidden_place rest) (slash_bare b slash))
+  | inr other ↦
+      subst (λ t. list_all is_bare t ≡ false) (sym (front_stays b rest other)) (elim (cases_Bool (is_bare b)) [
+        | inl is ↦ false_rest b (hidden_front rest) (front_not_bare rest (rw is at none))
+        | inr lacks ↦ false_front b (hidden_front rest) lacks
+      ])
+]
+
+front_key : (key : List ℕ) → is_bare_key key ≡ false → is_bare_key (hidden_front key) ≡ false
+front_key [] lacks = refl
+front_key (b ∷ key) lacks = not_bare (hidden_front (b ∷ key)) (front_not_bare (b ∷ key) lacks)
+
+mark_not_bare : (x y : List ℕ) → list_all is_bare (x ++ (63 ∷ y)) ≡ false
+mark_not_bare [] y = refl
+mark_not_bare (b ∷ x) y = false_rest b (x ++ (63 ∷ y)) (mark_not_bare x y)
 
 key_not_bare : (key : List ℕ) → is_bare_key key ≡ false → is_bare_key (hidden key) ≡ false
-key_not_bare key lacks = key_by key (cut_at_slash key) (slash_stays hidden_behind_slash key) lacks
+key_not_bare key lacks = elim (option_cases (cut_at 63 key)) [
+  | inl none ↦
+      subst (λ t. is_bare_key t ≡ false) (sym (without_query hidden_front key (no_cut_says 63 key none))) (front_key key lacks)
+  | inr some ↦
+      let a = some.0.0 in let b = some.0.1 in
+      let says = cut_says 63 key a b some.1 in
+      let front = hidden_front a in let query = hidden_behind_mark b in
+      let is = ap hidden says.0 ∙ before_query hidden_front a b says.1 ∙ append_assoc front (codes "?") query in
+      subst (λ t. is_bare_key t ≡ false) (sym is) (not_bare (front ++ (63 ∷ query)) (mark_not_bare front query))
+]
 
--- a bare key has no slash, so it is shown as it is
-bare_uncut : (key : List ℕ) → list_all is_bare key ≡ true → cut_at_slash key ≡ None
-bare_uncut [] all = refl
-bare_uncut (b ∷ key) all = elim (cases_Bool (is_bare b)) [
-  | inl is ↦ elim (cases_Bool (is_slash b)) [
-    | inl slash ↦ absurd (false≢true (sym (slash_bare b slash) ∙ is))
-    | inr other ↦ rw other (ap (option_map (λ c. (b ∷ c.0, c.1, c.2))) (bare_uncut key (rw is at all)))
-  ]
+-- a bare key has neither `@` nor `?`, so it is shown as it is
+bare_other : (b c : ℕ) → is_bare b ≡ true → is_bare c ≡ false → (b == c) ≡ false
+bare_other b c is lacks = elim (cases_Bool (b == c)) [
+  | inl same ↦ absurd (false≢true (sym lacks ∙ ap is_bare (sym ((Decides-eqb b c).0 same)) ∙ is))
+  | inr differs ↦ differs
+]
+
+bare_lacks : (key : List ℕ) → list_all is_bare key ≡ true → parted.Lacks (codes "@?") key
+bare_lacks [] all = refl
+bare_lacks (b ∷ key) all = elim (cases_Bool (is_bare b)) [
+  | inl is ↦ rw (bare_other b 64 is refl, bare_other b 63 is refl) (bare_lacks key (rw is at all))
   | inr other ↦ absurd (false≢true (rw other at all))
 ]
 
@@ -170,7 +189,7 @@ all_bare [] bare = refl
 all_bare (b ∷ key) bare = bare
 
 bare_hidden : (key : List ℕ) → is_bare_key key ≡ true → hidden key ≡ key
-bare_hidden key bare = ap (λ cut. option_map_or (λ c. c.0 ++ c.1 ∷ hidden_behind_slash c.2) cut key) (bare_uncut key (all_bare key bare))
+bare_hidden key bare = plain_stays key (bare_lacks key (all_bare key bare))
 
 key_hidden : (key s : List ℕ) → IsUtf8 key → hidden_code (key_code key ++ s) ≡ key_code (hidden key) ++ hidden_code s
 key_hidden key s utf8 = elim (cases_Bool (is_bare_key key)) [

@@ -5,6 +5,7 @@ ghost use Rattle.toml.specs.Data.{boolean, float, integer};
 ghost use Rattle.toml.specs.View.{array_view, table_view, view};
 ghost use Rattle.pytoml_code.specs.Code.{before_item, before_member, code, items_code};
 ghost use Rattle.pytoml_code.specs.Code.{members_code, table_end};
+ghost use Rattle.pytoml_code.specs.HiddenValue.{HasTexts, HaveTexts, MembersHaveTexts};
 ghost use Rattle.pytoml_code.specs.Text.{key_code};
 ghost use Rattle.pytoml_code.specs.Proper.{AreProper, HasProper, IsProper};
 
@@ -19,6 +20,7 @@ use toml::{Table, Value};
 pub fn push_code(out: &mut Vec<u8>, value: &Value) -> Result<(), AllocError>
     ensures code { OnOk result (out.new.items ≡ out.old.items ++ code (view value.now)) }
     ensures proper { OnOk result (IsProper (view value.now)) }
+    ensures texts { OnOk result (HasTexts (view value.now)) }
 {
     push_value(value, out)
 }
@@ -27,6 +29,7 @@ pub fn push_code(out: &mut Vec<u8>, value: &Value) -> Result<(), AllocError>
 fn push_value(value: &Value, out: &mut Vec<u8>) -> Result<(), AllocError>
     ensures code { OnOk result (out.new.items ≡ out.old.items ++ code (view value.now)) }
     ensures proper { OnOk result (IsProper (view value.now)) }
+    ensures texts { OnOk result (HasTexts (view value.now)) }
 {
     match value {
         Value::String(text) => push_quoted(out, text.as_str()),
@@ -80,6 +83,7 @@ fn push_items(items: &Array, out: &mut Vec<u8>) -> Result<(), AllocError>
     ensures code { OnOk result (out.new.items
         ≡ out.old.items ++ items_code true (array_view items.now)) }
     ensures proper { OnOk result (AreProper (array_view items.now)) }
+    ensures texts { OnOk result (HaveTexts (array_view items.now)) }
 {
     let mut is_first = true;
     'items: for item in items {
@@ -106,6 +110,7 @@ fn push_members(table: &Table, out: &mut Vec<u8>) -> Result<(), AllocError>
     ensures code { OnOk result (out.new.items
         ≡ out.old.items ++ members_code true (table_view table.now)) }
     ensures proper { OnOk result (HasProper (table_view table.now)) }
+    ensures texts { OnOk result (MembersHaveTexts (table_view table.now)) }
 {
     let mut is_first = true;
     'members: for (key, member) in table.iter() {

@@ -5,9 +5,9 @@ use Rattle.pylock_shown.proofs.WrittenLemmas.{WrittenSoFar}
 use Rattle.pylock_shown.specs.Hidden.{hidden_place}
 use Rattle.pylock_shown.proofs.hiding.write_place.Given as goal
 
-abbrev pub invariant-loop-part : goal.invariant-loop-part
-invariant-loop-part g l =
+abbrev pub invariant-loop-piece : goal.invariant-loop-piece
+invariant-loop-piece g l =
     shadow (Utf8 l.left) × WrittenSoFar g.W.Write.write_str_gives hidden_place l.initial.f l.f l.left l.text
 
-abbrev pub decreases-loop-part : goal.decreases-loop-part
-decreases-loop-part g l = length l.left
+abbrev pub decreases-loop-piece : goal.decreases-loop-piece
+decreases-loop-piece g l = length l.left

@@ -1,6 +1,7 @@
-use Rattle.std.proofs.Common.{◌≡◌, ◌∙◌, ◌++◌, ◌∷◌, false, codes, string_bytes, sym, ap, arith}
+use Rattle.std.proofs.Common.{◌≡◌, ◌∙◌, ◌++◌, ◌∷◌, false, codes, string_bytes, subst, sym, ap, arith}
 use Rattle.std.proofs.lemmas.Grind.{common_steps}
 use Rattle.std.specs.List.Sorted.{IsStrictlySortedBy}
+use Rattle.std.specs.Str.{IsUtf8}
 use Rattle.toml.specs.View.{members_view, view}
 use Rattle.toml.proofs.Views.{is_before-sorted}
 use Rattle.pytoml_code.specs.Code.{before_member, code, members_code}
@@ -16,6 +17,7 @@ push_members-members-preserved t c =
     let rest = c.next.new.self in
     let iter : c.members.key-iterator ≡ (k, v) ∷ rest = grind (arith, common_steps) in
     let sorted = rw iter at c.members.invariant.sorted in
+    let utf8 : IsUtf8 (string_bytes k) = subst IsUtf8 c.as_str.ensures.value c.as_str.utf8 in
     let out = c.members.out.items in
     let before = 2 ∷ before_member c.members.is_first in
     let key = key_code (string_bytes k) in
@@ -29,4 +31,5 @@ push_members-members-preserved t c =
       sorted = sorted.1;
       codes = along ∙ rw iter at c.members.invariant.codes;
       proper = λ h. c.members.invariant.proper (rw iter (is_before-sorted k rest sorted.0, c.in_ok-push_value.ensures.proper, h));
+      texts = λ h. c.members.invariant.texts (rw iter (utf8, c.in_ok-push_value.ensures.texts, h));
     }
