@@ -1,5 +1,6 @@
 pub mod ClimbLemmas
 pub mod FrontLemmas
+pub mod HashLemmas
 pub mod KeyLemmas
 pub mod NameLemmas
 pub mod PrintableLemmas

@@ -10,7 +10,7 @@ use Rattle.std.specs.Option.{option_map_or}
 use Rattle.std.specs.Str.{bytes_eq}
 use Rattle.pylock_readers.specs.Entry.{FileValue, file_name}
 use Rattle.pylock_audit.specs.Entry.{same_names, with_name, with_names}
-use Rattle.pylock_places.specs.FileName.{shown_name}
+use Rattle.pylock_places.specs.Shown.{file_label}
 use Rattle.pylock_audit.specs.Finding.{told_where}
 use Rattle.pylock_audit.specs.Inner.Names.{Holds}
 use Rattle.pylock_audit.specs.Source.{name_where, text_where}
@@ -54,6 +54,6 @@ same_where set names None holds = refl
 same_where set names (Some file) holds = named (file_name file)
   where
     named : (name : Option (List ℕ))
-        → text_where (contains_text set) (shown_name file) name ≡ text_where (λ name. list_any (bytes_eq name) names) (shown_name file) name
+        → text_where (contains_text set) (λ name. file_label file) name ≡ text_where (λ name. list_any (bytes_eq name) names) (λ name. file_label file) name
     named None = refl
-    named (Some name) = ap (λ has. told_where has (shown_name file name)) (holds name)
+    named (Some name) = ap (λ has. told_where has (file_label file)) (holds name)

@@ -9,7 +9,6 @@ use Rattle.pylock_readers.specs.Entry.{ArchiveValue, DirectoryValue, FileValue, 
 use Rattle.pylock_core.specs.Session.Picks.{OfArchive, OfDirectory, OfSdist, OfVcs, OfWheel}
 use Rattle.pylock_core.specs.Session.Picks.{SourceValue}
 use Rattle.pylock_core.specs.declared.answer.PickSource.{PickSource}
-use Rattle.pylock_places.specs.FileName.{shown_name}
 use Rattle.pylock_places.specs.Query.{has_secret}
 use Rattle.pylock_places.specs.Shown.{file_label, shown_place}
 use Rattle.pylock_places.specs.Url.{has_credentials, is_https, is_safe_remote}
@@ -108,9 +107,9 @@ abbrev pub text_where : (List ℕ → Bool) → (List ℕ → List ℕ) → Opti
 text_where test shown None = []
 text_where test shown (Some text) = told_where (test text) (shown text)
 
--- the file name of a file, where it has one that a test finds, as it is shown
+-- what a file is called, where it has a file name that a test finds
 abbrev pub name_where : (List ℕ → Bool) → FileValue → List (List ℕ)
-name_where test file = text_where test (shown_name file) (file_name file)
+name_where test file = text_where test (λ name. file_label file) (file_name file)
 
 -- a URL that anybody on the way may change
 abbrev pub is_open_url : SourceValue → List ℕ → Bool

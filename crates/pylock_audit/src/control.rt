@@ -10,29 +10,31 @@ ghost use Rattle.pylock_audit.specs.Source.{controlled_texts, controlled_vcs, ha
 ghost use Rattle.pylock_audit.specs.Source.{hash_text, url_and_path};
 ghost use Rattle.pylock_audit.specs.Unsafe.{has_control};
 
+use crate::finding::push_plain;
 use crate::hash::Hash;
 use crate::keys::source_key_path;
 use crate::unsafe_text::has_control;
 use pylock_core::{Archive, Directory, DistributionFile, PickSource, PickedSource, Vcs};
+use pylock_shared::LabelledText;
 use pylock_shown::{hidden, is_printable};
 use std::alloc::{AllocError, Global};
 
 /// Adds a text of a key as it is shown, with the path of the key, where it has a control character.
 fn push_text(
     alloc: Global,
-    list: &mut Vec<String>,
+    list: &mut Vec<LabelledText>,
     name: PickSource,
     key: &str,
     text: Option<&str>,
 ) -> Result<(), AllocError>
-    ensures { OnOk result (map string_bytes list.new.items ≡ map string_bytes list.old.items
+    ensures { OnOk result (list.new.items ≡ list.old.items
         ++ controlled name key.now (option_copied text.entry)) }
 {
     match text {
         Some(text) if has_control(text) => {
             let path = source_key_path(alloc, name, key)?;
             let text = hidden(alloc, text)?;
-            Ok(list.push(format!(in alloc; "{path} {text}")?)?)
+            push_plain(list, format!(in alloc; "{path} {text}")?)
         }
         _ => Ok(()),
     }
@@ -40,12 +42,12 @@ fn push_text(
 
 fn push_url_and_path(
     alloc: Global,
-    list: &mut Vec<String>,
+    list: &mut Vec<LabelledText>,
     name: PickSource,
     url: Option<&str>,
     path: Option<&str>,
 ) -> Result<(), AllocError>
-    ensures { OnOk result (map string_bytes list.new.items ≡ map string_bytes list.old.items
+    ensures { OnOk result (list.new.items ≡ list.old.items
         ++ url_and_path name (option_copied url.entry) (option_copied path.entry)) }
 {
     push_text(alloc, list, name, "url", url)?;
@@ -54,11 +56,11 @@ fn push_url_and_path(
 
 fn push_hashes(
     alloc: Global,
-    list: &mut Vec<String>,
+    list: &mut Vec<LabelledText>,
     name: PickSource,
     hashes: &[Hash],
 ) -> Result<(), AllocError>
-    ensures { OnOk result (map string_bytes list.new.items ≡ map string_bytes list.old.items
+    ensures { OnOk result (list.new.items ≡ list.old.items
         ++ controlled_hashes name (text_pairs hashes.now)) }
 {
     for hash in hashes {
@@ -71,17 +73,17 @@ fn push_hashes(
 /// that it has none.
 fn push_hash(
     alloc: Global,
-    list: &mut Vec<String>,
+    list: &mut Vec<LabelledText>,
     name: PickSource,
     hash: &Hash,
 ) -> Result<(), AllocError>
-    ensures { OnOk result (map string_bytes list.new.items ≡ map string_bytes list.old.items
+    ensures { OnOk result (list.new.items ≡ list.old.items
         ++ controlled_hash name (text_pair hash.now)) }
 {
     if !is_printable_hash(hash) && has_control_in_hash(alloc, hash)? {
         let path = source_key_path(alloc, name, "hashes")?;
         let text = hash_shown(alloc, hash)?;
-        list.push(format!(in alloc; "{path} {text}")?)?;
+        push_plain(list, format!(in alloc; "{path} {text}")?)?;
     }
     Ok(())
 }
@@ -119,12 +121,12 @@ fn hash_shown(alloc: Global, hash: &Hash) -> Result<String, AllocError>
 
 fn push_vcs(
     alloc: Global,
-    list: &mut Vec<String>,
+    list: &mut Vec<LabelledText>,
     name: PickSource,
     vcs: &Vcs,
 ) -> Result<(), AllocError>
-    ensures { OnOk result (map string_bytes list.new.items
-        ≡ map string_bytes list.old.items ++ controlled_vcs name vcs.now) }
+    ensures { OnOk result (list.new.items
+        ≡ list.old.items ++ controlled_vcs name vcs.now) }
 {
     push_text(alloc, list, name, "type", Some(vcs.kind()))?;
     push_text(alloc, list, name, "commit-id", Some(vcs.commit_id()))?;
@@ -134,12 +136,12 @@ fn push_vcs(
 
 fn push_directory(
     alloc: Global,
-    list: &mut Vec<String>,
+    list: &mut Vec<LabelledText>,
     name: PickSource,
     directory: &Directory,
 ) -> Result<(), AllocError>
-    ensures { OnOk result (map string_bytes list.new.items
-        ≡ map string_bytes list.old.items ++ controlled_directory name directory.now) }
+    ensures { OnOk result (list.new.items
+        ≡ list.old.items ++ controlled_directory name directory.now) }
 {
     push_text(alloc, list, name, "path", Some(directory.path()))?;
     push_text(alloc, list, name, "subdirectory", directory.subdirectory())
@@ -147,12 +149,12 @@ fn push_directory(
 
 fn push_archive(
     alloc: Global,
-    list: &mut Vec<String>,
+    list: &mut Vec<LabelledText>,
     name: PickSource,
     archive: &Archive,
 ) -> Result<(), AllocError>
-    ensures { OnOk result (map string_bytes list.new.items
-        ≡ map string_bytes list.old.items ++ controlled_archive name archive.now) }
+    ensures { OnOk result (list.new.items
+        ≡ list.old.items ++ controlled_archive name archive.now) }
 {
     push_url_and_path(alloc, list, name, archive.url(), archive.path())?;
     push_hashes(alloc, list, name, archive.hashes())?;
@@ -161,12 +163,12 @@ fn push_archive(
 
 fn push_file(
     alloc: Global,
-    list: &mut Vec<String>,
+    list: &mut Vec<LabelledText>,
     name: PickSource,
     file: &DistributionFile,
 ) -> Result<(), AllocError>
-    ensures { OnOk result (map string_bytes list.new.items
-        ≡ map string_bytes list.old.items ++ controlled_file name file.now) }
+    ensures { OnOk result (list.new.items
+        ≡ list.old.items ++ controlled_file name file.now) }
 {
     push_text(alloc, list, name, "name", file.name())?;
     push_url_and_path(alloc, list, name, file.url(), file.path())?;
@@ -176,12 +178,12 @@ fn push_file(
 /// Adds the texts of a source that have a control character, each with the path of its key.
 pub(crate) fn push_controlled(
     alloc: Global,
-    list: &mut Vec<String>,
+    list: &mut Vec<LabelledText>,
     name: PickSource,
     source: PickedSource<'_>,
 ) -> Result<(), AllocError>
-    ensures { OnOk result (map string_bytes list.new.items
-        ≡ map string_bytes list.old.items ++ controlled_texts name (lent_source source.entry)) }
+    ensures { OnOk result (list.new.items
+        ≡ list.old.items ++ controlled_texts name (lent_source source.entry)) }
 {
     match source {
         PickedSource::Vcs(vcs) => push_vcs(alloc, list, name, vcs),

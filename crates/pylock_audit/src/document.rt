@@ -7,6 +7,7 @@ ghost use Rattle.pylock_audit.specs.Document.{findings_rows, finding_rows};
 
 use crate::finding::LockFinding;
 use pylock_json::{Json, List, Object};
+use pylock_shared::whole_text;
 use std::alloc::{AllocError, Global};
 
 /// The document of findings, in their order. It takes memory for the object.
@@ -37,6 +38,7 @@ fn finding_json(alloc: Global, found: &LockFinding) -> Result<Json, AllocError>
     object.put_number(alloc, "id", found.number() as u64)?;
     object.put_maybe(alloc, "name", found.name())?;
     object.put_text(alloc, "finding", found.finding().kind().word())?;
-    object.put_maybe(alloc, "detail", found.finding().detail())?;
+    let detail = whole_text(alloc, found.finding().detail())?;
+    object.put_maybe(alloc, "detail", detail.as_deref())?;
     Ok(object.into_json())
 }

@@ -12,7 +12,9 @@ ghost use Rattle.pylock_audit.specs.Inner.Scope.{over_in};
 ghost use Rattle.pylock_audit.specs.Inner.Tables.{entry_findings_by, of_names_by};
 
 use crate::files::push_file_names;
-use crate::finding::{Finding, FindingKind, push_each, push_where, shown_where};
+use crate::finding::{
+    Finding, FindingKind, push_each, push_each_labelled, push_where, shown_where,
+};
 use crate::marker::push_compared;
 use crate::scope::Scope;
 use crate::source::over_sources;
@@ -124,7 +126,7 @@ fn push_over(
         ≡ findings.old.items ++ over_in asked kind (map lent_named sources.now)) }
 {
     if asked.wants(kind) {
-        push_each(findings, kind, over_sources(alloc, kind, sources)?)?;
+        push_each_labelled(findings, kind, over_sources(alloc, kind, sources)?)?;
     }
     Ok(())
 }

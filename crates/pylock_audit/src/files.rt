@@ -20,7 +20,7 @@ ghost use Rattle.pylock_audit.specs.Source.{name_where};
 
 use crate::finding::{Finding, FindingKind, push_each, push_where};
 use pylock_core::{DistributionFile, Entry, Sdist, WheelFile};
-use pylock_places::{around, shown_file_name, shown_name};
+use pylock_places::{around, file_label, shown_file_name};
 use pyver_core::{Version, VersionError, is_name, normal_name};
 use pywheel_core::{SdistError, SdistName, WheelName};
 use std::alloc::{AllocError, Global};
@@ -180,7 +180,7 @@ fn is_other_name(alloc: Global, name: &str, wheel: &WheelName) -> Result<bool, A
     Ok(normal_name(alloc, wheel.name())?.as_str() != name)
 }
 
-/// Adds the file name of a file as it is shown, where it has one.
+/// Adds what a file is called, where it has a file name.
 fn push_file_name(
     alloc: Global,
     list: &mut Vec<String>,
@@ -189,10 +189,10 @@ fn push_file_name(
     ensures { OnOk result (map string_bytes list.new.items
         ≡ map string_bytes list.old.items ++ name_where (λ name. true) file.now) }
 {
-    if let Some(name) = shown_file_name(alloc, file)? {
-        list.push(name)?;
+    match file.file_name() {
+        Some(_) => Ok(list.push(file_label(alloc, file)?)?),
+        None => Ok(()),
     }
-    Ok(())
 }
 
 /// Adds the file name of the sdist, where that is of another package than this one.
@@ -214,7 +214,7 @@ fn push_other_sdist(
         return Ok(());
     };
     if is_other_sdist(alloc, name, sdist, own)? {
-        list.push(shown_name(alloc, file, own)?)?;
+        list.push(file_label(alloc, file)?)?;
     }
     Ok(())
 }
@@ -413,7 +413,7 @@ fn push_same_sdist(
         return Ok(());
     };
     match file.file_name() {
-        Some(name) if earlier.contains(name) => Ok(list.push(shown_name(alloc, file, name)?)?),
+        Some(name) if earlier.contains(name) => Ok(list.push(file_label(alloc, file)?)?),
         _ => Ok(()),
     }
 }
@@ -453,7 +453,7 @@ fn push_same_name(
         return Ok(());
     };
     if earlier.contains(name) {
-        list.push(shown_name(alloc, file, name)?)?;
+        list.push(file_label(alloc, file)?)?;
     }
     earlier.insert(String::from_str(alloc, name)?)?;
     Ok(())

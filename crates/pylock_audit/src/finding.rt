@@ -1,16 +1,15 @@
 //! What is found, and where.
 
-ghost use Rattle.std.specs.Prelude.{◌≡◌, ◌++◌, IfOk, OnOk, map, option_map, string_bytes};
+ghost use Rattle.std.specs.Prelude.{◌≡◌, ◌++◌, ◌∷◌, [], IfOk, OnOk, map, option_map, string_bytes};
 ghost use Rattle.std.specs.Option.{option_copied};
 ghost use Rattle.pylock_audit.specs.Finding.{findings_at, findings_each, finding_where};
 ghost use Rattle.pylock_audit.specs.Finding.{shown_where};
 ghost use Rattle.pylock_audit.specs.Words.{finding_word};
 
+use pylock_shared::{LabelledText, SharedText, plain_text};
 use pylock_shown::hidden;
-use pytext::Text;
 use std::alloc::{AllocError, Global};
 use std::marker::Model;
-use std::sync::Arc;
 
 /// The kind of a finding, in the order in which those of one entry are told.
 #[derive(Clone, Copy, Debug, PartialEq, Eq)]
@@ -111,19 +110,19 @@ impl FindingKind {
     }
 }
 
-/// What is found: its kind, and what it names.
+/// What is found: its kind, and what it names. Findings of the hashes of a file share what that is
+/// called.
 pub struct Finding {
     kind: FindingKind,
-    detail: Option<String>,
+    detail: Option<LabelledText>,
 }
 
 impl Model for Finding {
-    ghost use Rattle.std.specs.Prelude.{option_map, string_bytes};
     ghost use Rattle.pylock_audit.specs.Finding.{FindingValue, finding_of};
 
     ghost Value = { FindingValue };
 
-    ghost view = { λ f. finding_of f.kind (option_map string_bytes f.detail) };
+    ghost view = { λ f. finding_of f.kind f.detail };
 }
 
 impl Drop for Finding {
@@ -142,64 +141,17 @@ impl Finding {
 
     /// What it names, if it names something. Each text of the lock in it is shown without what opens
     /// a URL (`pylock_shown`).
-    pub fn detail(&self) -> Option<&str>
+    pub fn detail(&self) -> Option<&LabelledText>
         ensures { option_copied result ≡ self.now.detail }
     {
-        self.detail.as_deref()
+        self.detail.as_ref()
     }
 }
 
-/// The name of an entry, which its findings share.
-struct SharedName {
-    text: Arc<Text>,
-}
-
-impl Model for SharedName {
-    ghost use Rattle.std.specs.Prelude.{List, ℕ};
-
-    ghost Value = { List ℕ };
-
-    ghost view = { λ s. s.text.value };
-}
-
-impl Drop for SharedName {
-    fn drop(self) {
-        let SharedName { text: _ } = self;
-    }
-}
-
-impl SharedName {
-    /// A copy of this name.
-    fn new(alloc: Global, name: &str) -> Result<SharedName, AllocError>
-        ensures { IfOk result (λ shared. shared ≡ name.now) }
-    {
-        let text = Arc::new(alloc, Text::copy_of(alloc, name)?)?;
-        Ok(SharedName { text })
-    }
-
-    /// The name.
-    fn as_str(&self) -> &str
-        ensures { result.now ≡ self.now }
-    {
-        self.text.as_str()
-    }
-}
-
-/// It takes no memory; it is refused only where 2^63 copies stand.
-impl Clone for SharedName {
-    ghost is_clone = { λ shared copy. copy ≡ shared };
-
-    fn clone(&self) -> Result<SharedName, AllocError> {
-        Ok(SharedName {
-            text: self.text.clone()?,
-        })
-    }
-}
-
-/// A finding, and where it is.
+/// A finding, and where it is. The findings of an entry share its name.
 pub struct LockFinding {
     number: usize,
-    name: Option<SharedName>,
+    name: Option<SharedText>,
     finding: Finding,
 }
 
@@ -266,6 +218,14 @@ pub(crate) fn shown_where(
     Ok(list)
 }
 
+/// Adds a detail without a label.
+pub(crate) fn push_plain(list: &mut Vec<LabelledText>, text: String) -> Result<(), AllocError>
+    ensures { OnOk result (list.new.items ≡ list.old.items ++ string_bytes text ∷ []) }
+{
+    list.push(LabelledText::plain(text))?;
+    Ok(())
+}
+
 /// Adds a finding, where it stands.
 pub(crate) fn push_where(
     findings: &mut Vec<Finding>,
@@ -277,6 +237,7 @@ pub(crate) fn push_where(
         ++ finding_where stands kind (option_map string_bytes detail)) }
 {
     if stands {
+        let detail = plain_text(detail);
         findings.push(Finding { kind, detail })?;
     }
     Ok(())
@@ -290,6 +251,24 @@ pub(crate) fn push_each(
 ) -> Result<(), AllocError>
     ensures { OnOk result (findings.new.items ≡ findings.old.items
         ++ findings_each kind (map string_bytes details.items)) }
+{
+    for detail in details {
+        findings.push(Finding {
+            kind,
+            detail: Some(LabelledText::plain(detail)),
+        })?;
+    }
+    Ok(())
+}
+
+/// The same of details that may share their labels.
+pub(crate) fn push_each_labelled(
+    findings: &mut Vec<Finding>,
+    kind: FindingKind,
+    details: Vec<LabelledText>,
+) -> Result<(), AllocError>
+    ensures { OnOk result (findings.new.items
+        ≡ findings.old.items ++ findings_each kind details.items) }
 {
     for detail in details {
         findings.push(Finding {
@@ -316,7 +295,7 @@ pub(crate) fn push_findings_at(
             push_shared(
                 found,
                 number,
-                Some(&SharedName::new(alloc, name)?),
+                Some(&SharedText::copy_of(alloc, name)?),
                 findings,
             )
         }
@@ -328,7 +307,7 @@ pub(crate) fn push_findings_at(
 fn push_shared(
     found: &mut Vec<LockFinding>,
     number: usize,
-    name: Option<&SharedName>,
+    name: Option<&SharedText>,
     findings: Vec<Finding>,
 ) -> Result<(), AllocError>
     ensures { OnOk result (found.new.items ≡ found.old.items

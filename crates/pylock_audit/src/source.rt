@@ -1,9 +1,9 @@
 //! What one source of an entry gives to each kind of finding. Findings of one source at a time are
 //! one list over the sources, by the kind of finding.
 
-ghost use Rattle.std.specs.Prelude.{◌≡◌, ◌++◌, ◌∷◌, ◌&&◌, [], IfOk, OnOk, codes, map, not};
+ghost use Rattle.std.specs.Prelude.{◌≡◌, ◌++◌, ◌∷◌, ◌&&◌, [], IfOk, OnOk, codes, filter, map, not};
 ghost use Rattle.std.specs.Prelude.{option_map, string_bytes};
-ghost use Rattle.std.specs.List.{flat_map, list_all};
+ghost use Rattle.std.specs.List.{flat_map, list_all, list_any};
 ghost use Rattle.std.specs.Option.{option_copied, option_map_or};
 ghost use Rattle.pylock_readers.specs.Text.{text_pair, text_pairs};
 ghost use Rattle.pylock_core.specs.Session.Picks.{lent_named, lent_source};
@@ -20,15 +20,15 @@ ghost use Rattle.pylock_audit.specs.Source.{url_of, weakly_hashed, without_hash}
 ghost use Rattle.pylock_audit.specs.Unsafe.{is_outside_path, is_unsafe_name, is_unsafe_path};
 
 use crate::control::push_controlled;
-use crate::finding::FindingKind;
+use crate::finding::{FindingKind, push_plain};
 use crate::hash::{Hash, is_bad, is_odd, is_weak};
 use crate::keys::source_key_path;
 use crate::unsafe_text::{is_outside_path, is_unsafe_name, is_unsafe_path};
 use pylock_core::{DistributionFile, NamedSource, PickSource, PickedSource, Vcs};
 use pylock_places::{
-    file_label, has_credentials, has_secret, is_https, is_safe_remote, joined, shown_name,
-    shown_place,
+    file_label, has_credentials, has_secret, is_https, is_safe_remote, joined, shown_place,
 };
+use pylock_shared::{LabelledText, SharedText};
 use pylock_shown::{hidden, push_hidden};
 use std::alloc::{AllocError, Global};
 
@@ -107,32 +107,39 @@ fn label(alloc: Global, source: PickedSource<'_>) -> Result<String, AllocError>
 
 // ---- hashes
 
+/// The label, which findings share.
+fn shared_label(alloc: Global, source: PickedSource<'_>) -> Result<SharedText, AllocError>
+    ensures { IfOk result (λ text. text ≡ label (lent_source source.entry)) }
+{
+    SharedText::new(alloc, label(alloc, source)?)
+}
+
 /// Adds the label of a file, a space and a text that is shown.
 fn push_labelled(
     alloc: Global,
-    list: &mut Vec<String>,
-    source: PickedSource<'_>,
+    list: &mut Vec<LabelledText>,
+    label: &SharedText,
     text: &str,
 ) -> Result<(), AllocError>
-    ensures { OnOk result (map string_bytes list.new.items ≡ map string_bytes list.old.items
-        ++ (label (lent_source source.entry) ++ codes " " ++ text.now) ∷ []) }
+    ensures { OnOk result (list.new.items
+        ≡ list.old.items ++ (label.now ++ codes " " ++ text.now) ∷ []) }
 {
-    let label = label(alloc, source)?;
-    list.push(format!(in alloc; "{label} {text}")?)?;
+    let rest = format!(in alloc; " {text}")?;
+    list.push(LabelledText::new(label, rest)?)?;
     Ok(())
 }
 
 /// Adds a file that has no hash.
 fn push_without_hash(
     alloc: Global,
-    list: &mut Vec<String>,
+    list: &mut Vec<LabelledText>,
     source: PickedSource<'_>,
 ) -> Result<(), AllocError>
-    ensures { OnOk result (map string_bytes list.new.items ≡ map string_bytes list.old.items
+    ensures { OnOk result (list.new.items ≡ list.old.items
         ++ over_hashes (without_hash (lent_source source.entry)) (lent_source source.entry)) }
 {
     if let Some([]) = hashes_of(source) {
-        list.push(label(alloc, source)?)?;
+        push_plain(list, label(alloc, source)?)?;
     }
     Ok(())
 }
@@ -140,17 +147,18 @@ fn push_without_hash(
 /// Adds a file that has no hash of a strong algorithm, with its algorithms.
 fn push_weakly_hashed(
     alloc: Global,
-    list: &mut Vec<String>,
+    list: &mut Vec<LabelledText>,
     source: PickedSource<'_>,
 ) -> Result<(), AllocError>
-    ensures { OnOk result (map string_bytes list.new.items ≡ map string_bytes list.old.items
+    ensures { OnOk result (list.new.items ≡ list.old.items
         ++ over_hashes (weakly_hashed (lent_source source.entry)) (lent_source source.entry)) }
 {
     let Some(hashes) = hashes_of(source) else {
         return Ok(());
     };
     if !hashes.is_empty() && is_weak(hashes) {
-        push_labelled(alloc, list, source, algorithms(alloc, hashes)?.as_str())?;
+        let label = shared_label(alloc, source)?;
+        push_labelled(alloc, list, &label, algorithms(alloc, hashes)?.as_str())?;
     }
     Ok(())
 }
@@ -181,21 +189,52 @@ fn push_more(text: &mut String, hashes: &[Hash]) -> Result<(), AllocError>
 /// Adds the hashes that this kind of finding tells of.
 fn push_tested_hashes(
     alloc: Global,
-    list: &mut Vec<String>,
+    list: &mut Vec<LabelledText>,
     kind: FindingKind,
     source: PickedSource<'_>,
 ) -> Result<(), AllocError>
-    ensures { OnOk result (map string_bytes list.new.items ≡ map string_bytes list.old.items
+    ensures { OnOk result (list.new.items ≡ list.old.items
         ++ over_hashes (tested_hashes kind (lent_source source.entry))
         (lent_source source.entry)) }
 {
     let Some(hashes) = hashes_of(source) else {
         return Ok(());
     };
+    if !any_told(kind, hashes) {
+        return Ok(());
+    }
+    let label = shared_label(alloc, source)?;
+    push_told_hashes(alloc, list, kind, &label, hashes)
+}
+
+/// Whether this kind of finding tells of one of the hashes.
+fn any_told(kind: FindingKind, hashes: &[Hash]) -> bool
+    ensures { result ≡ list_any (is_told kind) (text_pairs hashes.now) }
+{
+    for hash in hashes {
+        if is_told(kind, hash) {
+            return true;
+        }
+    }
+    false
+}
+
+/// Adds those of which it tells, of a file that is called so.
+fn push_told_hashes(
+    alloc: Global,
+    list: &mut Vec<LabelledText>,
+    kind: FindingKind,
+    label: &SharedText,
+    hashes: &[Hash],
+) -> Result<(), AllocError>
+    ensures { OnOk result (list.new.items ≡ list.old.items
+        ++ map (λ hash. label.now ++ codes " " ++ hidden hash.0)
+        (filter (is_told kind) (text_pairs hashes.now))) }
+{
     for hash in hashes {
         if is_told(kind, hash) {
             let algorithm = hidden(alloc, hash.0.as_str())?;
-            push_labelled(alloc, list, source, algorithm.as_str())?;
+            push_labelled(alloc, list, label, algorithm.as_str())?;
         }
     }
     Ok(())
@@ -217,17 +256,17 @@ fn is_told(kind: FindingKind, hash: &Hash) -> bool
 /// Adds a file name that names no file of its folder.
 fn push_unsafe_name(
     alloc: Global,
-    list: &mut Vec<String>,
+    list: &mut Vec<LabelledText>,
     source: PickedSource<'_>,
 ) -> Result<(), AllocError>
-    ensures { OnOk result (map string_bytes list.new.items ≡ map string_bytes list.old.items
+    ensures { OnOk result (list.new.items ≡ list.old.items
         ++ option_map_or (name_where is_unsafe_name) (file_of (lent_source source.entry)) []) }
 {
     let Some(file) = file_of(source) else {
         return Ok(());
     };
     match file.file_name() {
-        Some(name) if is_unsafe_name(name) => Ok(list.push(shown_name(alloc, file, name)?)?),
+        Some(name) if is_unsafe_name(name) => push_plain(list, file_label(alloc, file)?),
         _ => Ok(()),
     }
 }
@@ -235,14 +274,14 @@ fn push_unsafe_name(
 /// Adds a subdirectory that leaves its folder.
 fn push_unsafe_path(
     alloc: Global,
-    list: &mut Vec<String>,
+    list: &mut Vec<LabelledText>,
     source: PickedSource<'_>,
 ) -> Result<(), AllocError>
-    ensures { OnOk result (map string_bytes list.new.items ≡ map string_bytes list.old.items
+    ensures { OnOk result (list.new.items ≡ list.old.items
         ++ text_where is_unsafe_path hidden (subdirectory_of (lent_source source.entry))) }
 {
     match subdirectory_of(source) {
-        Some(path) if is_unsafe_path(path) => Ok(list.push(hidden(alloc, path)?)?),
+        Some(path) if is_unsafe_path(path) => push_plain(list, hidden(alloc, path)?),
         _ => Ok(()),
     }
 }
@@ -250,14 +289,14 @@ fn push_unsafe_path(
 /// Adds a path that leaves the folder of the lock.
 fn push_outside_path(
     alloc: Global,
-    list: &mut Vec<String>,
+    list: &mut Vec<LabelledText>,
     source: PickedSource<'_>,
 ) -> Result<(), AllocError>
-    ensures { OnOk result (map string_bytes list.new.items ≡ map string_bytes list.old.items
+    ensures { OnOk result (list.new.items ≡ list.old.items
         ++ text_where is_outside_path hidden (path_of (lent_source source.entry))) }
 {
     match path_of(source) {
-        Some(path) if is_outside_path(path) => Ok(list.push(hidden(alloc, path)?)?),
+        Some(path) if is_outside_path(path) => push_plain(list, hidden(alloc, path)?),
         _ => Ok(()),
     }
 }
@@ -275,15 +314,15 @@ fn is_open_url(source: PickedSource<'_>, url: &str) -> bool
 /// Adds a URL that anybody on the way may change.
 fn push_open_url(
     alloc: Global,
-    list: &mut Vec<String>,
+    list: &mut Vec<LabelledText>,
     source: PickedSource<'_>,
 ) -> Result<(), AllocError>
-    ensures { OnOk result (map string_bytes list.new.items ≡ map string_bytes list.old.items
+    ensures { OnOk result (list.new.items ≡ list.old.items
         ++ text_where (is_open_url (lent_source source.entry)) hidden
         (url_of (lent_source source.entry))) }
 {
     match url_of(source) {
-        Some(url) if is_open_url(source, url) => Ok(list.push(hidden(alloc, url)?)?),
+        Some(url) if is_open_url(source, url) => push_plain(list, hidden(alloc, url)?),
         _ => Ok(()),
     }
 }
@@ -291,14 +330,14 @@ fn push_open_url(
 /// Adds a URL that names a user or a password, as it is shown.
 fn push_credentials(
     alloc: Global,
-    list: &mut Vec<String>,
+    list: &mut Vec<LabelledText>,
     source: PickedSource<'_>,
 ) -> Result<(), AllocError>
-    ensures { OnOk result (map string_bytes list.new.items ≡ map string_bytes list.old.items
+    ensures { OnOk result (list.new.items ≡ list.old.items
         ++ text_where has_credentials hidden (url_of (lent_source source.entry))) }
 {
     match url_of(source) {
-        Some(url) if has_credentials(url) => Ok(list.push(hidden(alloc, url)?)?),
+        Some(url) if has_credentials(url) => push_plain(list, hidden(alloc, url)?),
         _ => Ok(()),
     }
 }
@@ -306,16 +345,16 @@ fn push_credentials(
 /// Adds the path of a URL whose query has a secret.
 fn push_secret(
     alloc: Global,
-    list: &mut Vec<String>,
+    list: &mut Vec<LabelledText>,
     name: PickSource,
     source: PickedSource<'_>,
 ) -> Result<(), AllocError>
-    ensures { OnOk result (map string_bytes list.new.items ≡ map string_bytes list.old.items
+    ensures { OnOk result (list.new.items ≡ list.old.items
         ++ text_where has_secret (λ url. source_path name ++ codes "url")
         (url_of (lent_source source.entry))) }
 {
     match url_of(source) {
-        Some(url) if has_secret(url) => Ok(list.push(source_key_path(alloc, name, "url")?)?),
+        Some(url) if has_secret(url) => push_plain(list, source_key_path(alloc, name, "url")?),
         _ => Ok(()),
     }
 }
@@ -337,15 +376,15 @@ fn has_hex_digits(text: &str) -> bool
 /// Adds a commit that isn't one for all time.
 fn push_moving_commit(
     alloc: Global,
-    list: &mut Vec<String>,
+    list: &mut Vec<LabelledText>,
     source: PickedSource<'_>,
 ) -> Result<(), AllocError>
-    ensures { OnOk result (map string_bytes list.new.items
-        ≡ map string_bytes list.old.items ++ moving_commit (lent_source source.entry)) }
+    ensures { OnOk result (list.new.items
+        ≡ list.old.items ++ moving_commit (lent_source source.entry)) }
 {
     match source {
         PickedSource::Vcs(vcs) if is_moving(vcs) => {
-            Ok(list.push(hidden(alloc, vcs.commit_id())?)?)
+            push_plain(list, hidden(alloc, vcs.commit_id())?)
         }
         _ => Ok(()),
     }
@@ -363,12 +402,12 @@ fn is_moving(vcs: &Vcs) -> bool
 /// Adds what a source gives to a kind of finding that looks at each source by itself.
 fn push_details(
     alloc: Global,
-    list: &mut Vec<String>,
+    list: &mut Vec<LabelledText>,
     kind: FindingKind,
     named: NamedSource<'_>,
 ) -> Result<(), AllocError>
-    ensures { OnOk result (map string_bytes list.new.items
-        ≡ map string_bytes list.old.items ++ details kind (lent_named named.entry)) }
+    ensures { OnOk result (list.new.items
+        ≡ list.old.items ++ details kind (lent_named named.entry)) }
 {
     let NamedSource { name, source } = named;
     match kind {
@@ -394,8 +433,8 @@ pub(crate) fn over_sources(
     alloc: Global,
     kind: FindingKind,
     sources: &[NamedSource<'_>],
-) -> Result<Vec<String>, AllocError>
-    ensures { IfOk result (λ list. map string_bytes list.items
+) -> Result<Vec<LabelledText>, AllocError>
+    ensures { IfOk result (λ list. list.items
         ≡ over_sources kind (map lent_named sources.now)) }
 {
     let mut list = Vec::new(alloc);

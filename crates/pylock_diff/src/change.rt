@@ -3,7 +3,9 @@
 ghost use Rattle.std.specs.Prelude.{◌≡◌, ◌++◌, ◌∷◌, [], IfOk, OnOk, Some, option_map, string_bytes};
 ghost use Rattle.std.specs.Option.{option_copied};
 ghost use Rattle.pylock_diff.specs.Change.{change_of, change_word};
+ghost use Rattle.pylock_shown.specs.Hidden.{hidden};
 
+use pylock_shared::{LabelledText, SharedText, plain_text};
 use pylock_shown::hidden;
 use std::alloc::{AllocError, Global};
 use std::marker::Model;
@@ -54,25 +56,25 @@ impl ChangeKind {
 }
 
 /// A change: its kind, and texts that may be absent, each as a person is shown it: `***` stands for
-/// what in a text of a lock may open a URL.
+/// what in a text of a lock may open a URL. The changes of a name share it, and those of the hashes
+/// of a file share what the file is called.
 pub struct Change {
     kind: ChangeKind,
-    name: Option<String>,
-    from: Option<String>,
-    to: Option<String>,
+    name: Option<SharedText>,
+    from: Option<LabelledText>,
+    to: Option<LabelledText>,
 }
 
 impl Model for Change {
-    ghost use Rattle.std.specs.Prelude.{option_map, string_bytes};
     ghost use Rattle.pylock_diff.specs.Change.{ChangeValue};
 
     ghost Value = { ChangeValue };
 
     ghost view = { λ c. record {
       kind = c.kind;
-      name = option_map string_bytes c.name;
-      from = option_map string_bytes c.from;
-      to = option_map string_bytes c.to;
+      name = c.name;
+      from = c.from;
+      to = c.to;
     } };
 }
 
@@ -99,21 +101,24 @@ impl Change {
     pub fn name(&self) -> Option<&str>
         ensures { option_copied result ≡ self.now.name }
     {
-        self.name.as_deref()
+        match &self.name {
+            Some(name) => Some(name.as_str()),
+            None => None,
+        }
     }
 
     /// What OLD has.
-    pub fn from(&self) -> Option<&str>
+    pub fn from(&self) -> Option<&LabelledText>
         ensures { option_copied result ≡ self.now.from }
     {
-        self.from.as_deref()
+        self.from.as_ref()
     }
 
     /// What NEW has.
-    pub fn to(&self) -> Option<&str>
+    pub fn to(&self) -> Option<&LabelledText>
         ensures { option_copied result ≡ self.now.to }
     {
-        self.to.as_deref()
+        self.to.as_ref()
     }
 
     /// A change of no name.
@@ -128,25 +133,78 @@ impl Change {
         Change {
             kind,
             name: None,
-            from,
-            to,
+            from: plain_text(from),
+            to: plain_text(to),
         }
     }
 }
 
-/// Adds a change of what stands under a name, which is shown by `hidden`.
+/// A name of which changes tell, with how it is shown, which they share. Contracts see the name.
+pub(crate) struct ChangedName<'a> {
+    name: &'a str,
+    shown: SharedText,
+}
+
+impl<'a> Model for ChangedName<'a> {
+    ghost use Rattle.std.specs.Prelude.{◌≡◌, List, ℕ};
+    ghost use Rattle.pylock_shown.specs.Hidden.{hidden};
+
+    ghost Value = { List ℕ };
+
+    ghost view = { λ n. n.name.now };
+
+    ghost invariant = { λ n. n.shown ≡ hidden n.name.now };
+}
+
+impl<'a> Drop for ChangedName<'a> {
+    fn drop(self) {
+        let ChangedName { name: _, shown: _ } = self;
+    }
+}
+
+impl<'a> ChangedName<'a> {
+    /// This name. It takes memory for how it is shown.
+    pub(crate) fn new(alloc: Global, name: &'a str) -> Result<ChangedName<'a>, AllocError>
+        ensures { IfOk result (λ changed. changed ≡ name.now) }
+    {
+        let shown = SharedText::new(alloc, hidden(alloc, name)?)?;
+        Ok(ChangedName { name, shown })
+    }
+
+    /// How it is shown.
+    fn shown(&self) -> Result<SharedText, AllocError>
+        ensures { IfOk result (λ shown. shown ≡ hidden self.now) }
+    {
+        self.shown.clone()
+    }
+}
+
+/// Adds a change of what stands under a name.
 pub(crate) fn push_change(
-    alloc: Global,
     changes: &mut Vec<Change>,
     kind: ChangeKind,
-    name: &str,
+    name: &ChangedName<'_>,
     from: Option<String>,
     to: Option<String>,
 ) -> Result<(), AllocError>
     ensures { OnOk result (changes.new.items ≡ changes.old.items ++ change_of kind name.now
         (option_map string_bytes from) (option_map string_bytes to) ∷ []) }
 {
-    let name = Some(hidden(alloc, name)?);
+    push_labelled(changes, kind, name, plain_text(from), plain_text(to))
+}
+
+/// The same of texts that may share their labels.
+pub(crate) fn push_labelled(
+    changes: &mut Vec<Change>,
+    kind: ChangeKind,
+    name: &ChangedName<'_>,
+    from: Option<LabelledText>,
+    to: Option<LabelledText>,
+) -> Result<(), AllocError>
+    ensures { OnOk result (changes.new.items
+        ≡ changes.old.items ++ change_of kind name.now from to ∷ []) }
+{
+    let name = Some(name.shown()?);
     changes.push(Change {
         kind,
         name,

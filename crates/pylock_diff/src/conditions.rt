@@ -6,7 +6,7 @@ ghost use Rattle.pylock_diff.specs.Conditions.{condition_changes, conditions, co
 ghost use Rattle.pylock_compare.specs.Lent.{lent_texts};
 ghost use Rattle.pylock_compare.specs.Texts.{are_alike, or_dash};
 
-use crate::change::{Change, ChangeKind, push_change};
+use crate::change::{Change, ChangeKind, ChangedName, push_change};
 use crate::item::Keyed;
 use crate::texts::{joined_if_any, or_dash};
 use pylock_compare::Key;
@@ -97,7 +97,7 @@ fn are_same_conditions<'x>(
 pub(crate) fn push_condition_change(
     alloc: Global,
     changes: &mut Vec<Change>,
-    name: &str,
+    name: &ChangedName<'_>,
     olds: &[Keyed<'_>],
     news: &[Keyed<'_>],
 ) -> Result<(), AllocError>
@@ -109,5 +109,5 @@ pub(crate) fn push_condition_change(
     }
     let from = conditions_text(alloc, olds)?;
     let to = conditions_text(alloc, news)?;
-    push_change(alloc, changes, ChangeKind::Condition, name, from, to)
+    push_change(changes, ChangeKind::Condition, name, from, to)
 }

@@ -7,6 +7,7 @@ ghost use Rattle.pylock_diff.specs.Document.{change_rows, changes_rows};
 
 use crate::change::Change;
 use pylock_json::{Json, List, Object};
+use pylock_shared::whole_text;
 use std::alloc::{AllocError, Global};
 
 /// The document of changes, in their order. It takes memory for the object.
@@ -37,7 +38,9 @@ fn change_json(alloc: Global, change: &Change) -> Result<Json, AllocError>
     let mut object = Object::new(alloc);
     object.put_text(alloc, "change", change.kind().word())?;
     object.put_maybe(alloc, "name", change.name())?;
-    object.put_maybe(alloc, "from", change.from())?;
-    object.put_maybe(alloc, "to", change.to())?;
+    let from = whole_text(alloc, change.from())?;
+    object.put_maybe(alloc, "from", from.as_deref())?;
+    let to = whole_text(alloc, change.to())?;
+    object.put_maybe(alloc, "to", to.as_deref())?;
     Ok(object.into_json())
 }

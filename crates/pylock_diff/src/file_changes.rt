@@ -8,18 +8,19 @@ ghost use Rattle.pylock_diff.specs.Files.{archive_hash_changes, archives_label, 
 ghost use Rattle.pylock_diff.specs.Files.{files_label, hashed_archives, hashed_files, if_both};
 ghost use Rattle.pylock_diff.specs.Files.{if_there, paths_of, place_change, places_text, urls_of};
 ghost use Rattle.pylock_diff.specs.Files.{shown_places};
-ghost use Rattle.pylock_diff.specs.Hashes.{are_same_sets};
+ghost use Rattle.pylock_diff.specs.Hashes.{are_same_sets, hashed_changes};
 ghost use Rattle.pylock_diff.specs.Inner.Lent.{archive_row, file_row, hash_row};
 ghost use Rattle.pylock_compare.specs.Lent.{lent_texts};
 ghost use Rattle.pylock_diff.specs.Inner.Lent.{lent_archives, lent_files};
 ghost use Rattle.pylock_compare.specs.Rows.{under_each};
 
-use crate::change::{Change, ChangeKind, push_change};
+use crate::change::{Change, ChangeKind, ChangedName, push_change};
 use crate::hashes::{Hashed, are_same_texts, push_hashed};
 use crate::texts::{joined, lent};
 use pylock_compare::{Sides, in_order};
 use pylock_core::{Archive, DistributionFile};
 use pylock_places::{file_label, shown_place};
+use pylock_shared::SharedText;
 use std::alloc::{AllocError, Global};
 
 // ---- over all of a name
@@ -29,7 +30,7 @@ use std::alloc::{AllocError, Global};
 pub(crate) fn push_file_hashes<'a>(
     alloc: Global,
     changes: &mut Vec<Change>,
-    name: &str,
+    name: &ChangedName<'_>,
     olds: &[(&'a str, &'a DistributionFile)],
     news: &[(&'a str, &'a DistributionFile)],
 ) -> Result<Vec<Change>, AllocError>
@@ -65,7 +66,7 @@ pub(crate) fn push_file_hashes<'a>(
 pub(crate) fn push_archive_hashes<'a>(
     alloc: Global,
     changes: &mut Vec<Change>,
-    name: &str,
+    name: &ChangedName<'_>,
     olds: &[(&'a str, &'a Archive)],
     news: &[(&'a str, &'a Archive)],
 ) -> Result<(), AllocError>
@@ -92,7 +93,7 @@ pub(crate) fn push_archive_hashes<'a>(
 fn push_shared_file(
     alloc: Global,
     changes: &mut Vec<Change>,
-    name: &str,
+    name: &ChangedName<'_>,
     olds: &[&DistributionFile],
     news: &[&DistributionFile],
 ) -> Result<(), AllocError>
@@ -102,6 +103,20 @@ fn push_shared_file(
     if olds.is_empty() || news.is_empty() {
         return Ok(());
     }
+    push_both_files(alloc, changes, name, olds, news)
+}
+
+/// The same of what stands in both.
+fn push_both_files(
+    alloc: Global,
+    changes: &mut Vec<Change>,
+    name: &ChangedName<'_>,
+    olds: &[&DistributionFile],
+    news: &[&DistributionFile],
+) -> Result<(), AllocError>
+    ensures { OnOk result (changes.new.items ≡ changes.old.items ++ hashed_changes name.now
+        (hashed_files (lent_files olds.now)) (hashed_files (lent_files news.now))) }
+{
     let old = hashed_files(alloc, olds)?;
     let new = hashed_files(alloc, news)?;
     push_hashed(alloc, changes, name, &old, &new)
@@ -111,7 +126,7 @@ fn push_shared_file(
 fn hashed_files<'a>(alloc: Global, files: &[&'a DistributionFile]) -> Result<Hashed<'a>, AllocError>
     ensures { IfOk result (λ hashed. hashed ≡ hashed_files (lent_files files.now)) }
 {
-    let label = files_label(alloc, files)?;
+    let label = SharedText::new(alloc, files_label(alloc, files)?)?;
     let mut hashes = Vec::new(alloc);
     push_files_hashes(&mut hashes, files)?;
     Ok(Hashed { label, hashes })
@@ -157,7 +172,7 @@ fn push_pairs<'a>(
 fn push_shared_archive(
     alloc: Global,
     changes: &mut Vec<Change>,
-    name: &str,
+    name: &ChangedName<'_>,
     olds: &[&Archive],
     news: &[&Archive],
 ) -> Result<(), AllocError>
@@ -167,6 +182,20 @@ fn push_shared_archive(
     if olds.is_empty() || news.is_empty() {
         return Ok(());
     }
+    push_both_archives(alloc, changes, name, olds, news)
+}
+
+/// The same of what stands in both.
+fn push_both_archives(
+    alloc: Global,
+    changes: &mut Vec<Change>,
+    name: &ChangedName<'_>,
+    olds: &[&Archive],
+    news: &[&Archive],
+) -> Result<(), AllocError>
+    ensures { OnOk result (changes.new.items ≡ changes.old.items ++ hashed_changes name.now
+        (hashed_archives (lent_archives olds.now)) (hashed_archives (lent_archives news.now))) }
+{
     let old = hashed_archives(alloc, olds)?;
     let new = hashed_archives(alloc, news)?;
     push_hashed(alloc, changes, name, &old, &new)
@@ -176,7 +205,7 @@ fn push_shared_archive(
 fn hashed_archives<'a>(alloc: Global, archives: &[&'a Archive]) -> Result<Hashed<'a>, AllocError>
     ensures { IfOk result (λ hashed. hashed ≡ hashed_archives (lent_archives archives.now)) }
 {
-    let label = archives_label(alloc, archives)?;
+    let label = SharedText::new(alloc, archives_label(alloc, archives)?)?;
     let mut hashes = Vec::new(alloc);
     push_archives_hashes(&mut hashes, archives)?;
     Ok(Hashed { label, hashes })
@@ -211,7 +240,7 @@ fn push_archives_hashes<'a>(
 fn push_place(
     alloc: Global,
     changes: &mut Vec<Change>,
-    name: &str,
+    name: &ChangedName<'_>,
     olds: &[&DistributionFile],
     news: &[&DistributionFile],
 ) -> Result<(), AllocError>
@@ -227,7 +256,7 @@ fn push_place(
 fn push_place_change(
     alloc: Global,
     changes: &mut Vec<Change>,
-    name: &str,
+    name: &ChangedName<'_>,
     olds: &[&DistributionFile],
     news: &[&DistributionFile],
 ) -> Result<(), AllocError>
@@ -239,14 +268,7 @@ fn push_place_change(
     }
     let from = places_text(alloc, olds)?;
     let to = places_text(alloc, news)?;
-    push_change(
-        alloc,
-        changes,
-        ChangeKind::Place,
-        name,
-        Some(from),
-        Some(to),
-    )
+    push_change(changes, ChangeKind::Place, name, Some(from), Some(to))
 }
 
 fn have_same_urls(

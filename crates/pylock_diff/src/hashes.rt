@@ -7,28 +7,29 @@ ghost use Rattle.pylock_diff.specs.Inner.Lent.{hash_row};
 ghost use Rattle.pylock_compare.specs.Rows.{under_each};
 ghost use Rattle.pylock_compare.specs.Texts.{all_there, are_alike};
 
-use crate::change::{Change, ChangeKind, push_change};
+use crate::change::{Change, ChangeKind, ChangedName, push_labelled};
 use crate::texts::joined_hidden;
 use pylock_compare::{Key, Sides, in_order};
+use pylock_shared::{LabelledText, SharedText};
 use pylock_shown::push_hidden;
 use std::alloc::{AllocError, Global};
 use std::marker::Model;
 
-/// What has hashes: how it is shown, and the pairs of algorithm and value of each file of a name.
+/// What has hashes: how it is shown, which its changes share, and the pairs of algorithm and value of each file of a name.
 pub(crate) struct Hashed<'a> {
-    pub(crate) label: String,
+    pub(crate) label: SharedText,
     pub(crate) hashes: Vec<(&'a str, &'a str)>,
 }
 
 impl<'a> Model for Hashed<'a> {
-    ghost use Rattle.std.specs.Prelude.{map, string_bytes};
+    ghost use Rattle.std.specs.Prelude.{map};
     ghost use Rattle.pylock_diff.specs.Hashes.{Hashed as HashedValue};
     ghost use Rattle.pylock_diff.specs.Inner.Lent.{hash_row};
 
     ghost Value = { HashedValue };
 
     ghost view = { λ h. record {
-      label = string_bytes h.label;
+      label = h.label;
       hashes = map hash_row h.hashes.items;
     } };
 }
@@ -46,14 +47,14 @@ impl<'a> Drop for Hashed<'a> {
 pub(crate) fn push_hashed(
     alloc: Global,
     changes: &mut Vec<Change>,
-    name: &str,
+    name: &ChangedName<'_>,
     old: &Hashed<'_>,
     new: &Hashed<'_>,
 ) -> Result<(), AllocError>
     ensures { OnOk result (changes.new.items
         ≡ changes.old.items ++ hashed_changes name.now old.now new.now) }
 {
-    let labels = (old.label.as_str(), new.label.as_str());
+    let labels = (&old.label, &new.label);
     push_each(
         alloc,
         changes,
@@ -67,8 +68,8 @@ pub(crate) fn push_hashed(
 fn push_each<'a>(
     alloc: Global,
     changes: &mut Vec<Change>,
-    name: &str,
-    labels: (&str, &str),
+    name: &ChangedName<'_>,
+    labels: (&SharedText, &SharedText),
     olds: &[(&'a str, &'a str)],
     news: &[(&'a str, &'a str)],
 ) -> Result<(), AllocError>
@@ -88,8 +89,8 @@ fn push_each<'a>(
 fn push_values(
     alloc: Global,
     changes: &mut Vec<Change>,
-    name: &str,
-    labels: (&str, &str),
+    name: &ChangedName<'_>,
+    labels: (&SharedText, &SharedText),
     algorithm: &str,
     values: (&[&str], &[&str]),
 ) -> Result<(), AllocError>
@@ -104,7 +105,7 @@ fn push_values(
     }
     let from = hash_text(alloc, labels.0, algorithm, olds.as_slice())?;
     let to = hash_text(alloc, labels.1, algorithm, news.as_slice())?;
-    push_change(alloc, changes, ChangeKind::Hash, name, Some(from), Some(to))
+    push_labelled(changes, ChangeKind::Hash, name, Some(from), Some(to))
 }
 
 /// Whether the texts are alike.
@@ -124,19 +125,18 @@ pub(crate) fn are_same_texts<'x>(
 /// Label, algorithm and values, each as it is shown.
 fn hash_text(
     alloc: Global,
-    label: &str,
+    label: &SharedText,
     algorithm: &str,
     values: &[&str],
-) -> Result<String, AllocError>
-    ensures { IfOk result (λ text. string_bytes text
+) -> Result<LabelledText, AllocError>
+    ensures { IfOk result (λ text. text
         ≡ hash_text label.now algorithm.now (lent_texts values.now)) }
 {
-    let mut text = String::from_str(alloc, label)?;
-    text.push_str(" ")?;
-    push_hidden(&mut text, algorithm)?;
-    text.push_str(" ")?;
-    text.push_str(hash_values(alloc, values)?.as_str())?;
-    Ok(text)
+    let mut rest = String::from_str(alloc, " ")?;
+    push_hidden(&mut rest, algorithm)?;
+    rest.push_str(" ")?;
+    rest.push_str(hash_values(alloc, values)?.as_str())?;
+    LabelledText::new(label, rest)
 }
 
 /// The values as they are shown, joined by `,`, or `-`.

@@ -15,7 +15,7 @@ ghost use Rattle.pylock_diff.specs.Inner.Kept.{HasProperHead};
 ghost use Rattle.pylock_diff.specs.Inner.Lent.{key_row, lent_keys};
 ghost use Rattle.pytoml_code.specs.Proper.{IsProper};
 
-use crate::change::{Change, ChangeKind, push_change};
+use crate::change::{Change, ChangeKind, ChangedName, push_change};
 use crate::texts::owned;
 use pylock_compare::Sides;
 use pylock_shown::push_hidden;
@@ -234,7 +234,8 @@ fn push_key(
     }
     let from = owned(alloc, text_of(old))?;
     let to = owned(alloc, text_of(new))?;
-    push_change(alloc, changes, ChangeKind::Head, key, from, to)
+    let key = ChangedName::new(alloc, key)?;
+    push_change(changes, ChangeKind::Head, &key, from, to)
 }
 
 fn are_same(old: Option<&HeadKey>, new: Option<&HeadKey>) -> bool

@@ -10,7 +10,7 @@ ghost use Rattle.pylock_diff.specs.Keys.{is_source_key};
 ghost use Rattle.pylock_diff.specs.Keys.{is_told, key_changes, key_text, placed_rows};
 ghost use Rattle.pylock_diff.specs.Keys.{source_key_changes, tells_of, values_text};
 
-use crate::change::{Change, ChangeKind, push_change};
+use crate::change::{Change, ChangeKind, ChangedName, push_change};
 use crate::item::Keyed;
 use pylock_compare::Sides;
 use pylock_shown::hidden;
@@ -24,7 +24,7 @@ type Placed<'a> = (usize, &'a [u8]);
 pub(crate) fn push_inner_keys(
     alloc: Global,
     changes: &mut Vec<Change>,
-    name: &str,
+    name: &ChangedName<'_>,
     olds: &[Keyed<'_>],
     news: &[Keyed<'_>],
 ) -> Result<(), AllocError>
@@ -41,7 +41,7 @@ pub(crate) fn push_inner_keys(
 pub(crate) fn push_keys(
     alloc: Global,
     changes: &mut Vec<Change>,
-    name: &str,
+    name: &ChangedName<'_>,
     told: &[Change],
     olds: &[Keyed<'_>],
     news: &[Keyed<'_>],
@@ -99,7 +99,7 @@ fn push_rows<'a>(
 fn push_each<'a>(
     alloc: Global,
     changes: &mut Vec<Change>,
-    name: &str,
+    name: &ChangedName<'_>,
     told: &[Change],
     olds: &[(&'a str, Placed<'a>)],
     news: &[(&'a str, Placed<'a>)],
@@ -126,7 +126,7 @@ fn push_each<'a>(
 fn push_key(
     alloc: Global,
     changes: &mut Vec<Change>,
-    named: (&str, &[Change]),
+    named: (&ChangedName<'_>, &[Change]),
     key: &str,
     olds: &[Placed<'_>],
     news: &[Placed<'_>],
@@ -141,7 +141,7 @@ fn push_key(
     }
     let from = key_text(alloc, key, olds)?;
     let to = key_text(alloc, key, news)?;
-    push_change(alloc, changes, ChangeKind::Key, name, Some(from), Some(to))
+    push_change(changes, ChangeKind::Key, name, Some(from), Some(to))
 }
 
 fn are_same(olds: &[Placed<'_>], news: &[Placed<'_>]) -> bool

@@ -6,7 +6,7 @@
 //!
 //! ```rust
 //! let changes = lock_changes(alloc, old, new)?;
-//! push_shown(alloc, out, form, &changes)
+//! write_shown(alloc, form, &changes, writer)
 //! ```
 #![tactic(auto)]
 

@@ -6,7 +6,7 @@ ghost use Rattle.pylock_diff.specs.Changes.{shared_changes};
 ghost use Rattle.pylock_diff.specs.Files.{hash_changes, place_changes};
 ghost use Rattle.pylock_diff.specs.Inner.Lent.{item_row, lent_items};
 
-use crate::change::{Change, ChangeKind, push_change};
+use crate::change::{Change, ChangeKind, ChangedName, push_change};
 use crate::conditions::push_condition_change;
 use crate::file_changes::{push_archive_hashes, push_file_hashes};
 use crate::files::{archives_of, files_of};
@@ -58,7 +58,7 @@ fn push_name<'a>(
     if have_same_keys(olds, news) {
         return Ok(());
     }
-    push_shared(alloc, changes, name, olds, news)
+    push_shared(alloc, changes, &ChangedName::new(alloc, name)?, olds, news)
 }
 
 /// Adds that a name came or went, where one has no item of it.
@@ -78,10 +78,11 @@ fn push_lone<'a>(
     if olds.is_empty() && news.is_empty() {
         return Ok(());
     }
+    let name = ChangedName::new(alloc, name)?;
     if olds.is_empty() {
-        push_change(alloc, changes, ChangeKind::Added, name, from, to)
+        push_change(changes, ChangeKind::Added, &name, from, to)
     } else {
-        push_change(alloc, changes, ChangeKind::Removed, name, from, to)
+        push_change(changes, ChangeKind::Removed, &name, from, to)
     }
 }
 
@@ -89,7 +90,7 @@ fn push_lone<'a>(
 fn push_shared<'a>(
     alloc: Global,
     changes: &mut Vec<Change>,
-    name: &str,
+    name: &ChangedName<'_>,
     olds: &[Item<'a>],
     news: &[Item<'a>],
 ) -> Result<(), AllocError>
@@ -108,7 +109,7 @@ fn push_shared<'a>(
 fn push_rest<'a>(
     alloc: Global,
     changes: &mut Vec<Change>,
-    name: &str,
+    name: &ChangedName<'_>,
     olds: &[Keyed<'a>],
     news: &[Keyed<'a>],
 ) -> Result<(), AllocError>
@@ -127,7 +128,7 @@ fn push_rest<'a>(
 fn push_rows<'a>(
     alloc: Global,
     changes: &mut Vec<Change>,
-    name: &str,
+    name: &ChangedName<'_>,
     olds: &[Keyed<'a>],
     news: &[Keyed<'a>],
 ) -> Result<(), AllocError>
@@ -146,7 +147,7 @@ fn push_rows<'a>(
 fn push_hashes<'a>(
     alloc: Global,
     changes: &mut Vec<Change>,
-    name: &str,
+    name: &ChangedName<'_>,
     olds: &[Keyed<'a>],
     news: &[Keyed<'a>],
 ) -> Result<Vec<Change>, AllocError>

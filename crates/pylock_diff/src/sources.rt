@@ -18,7 +18,7 @@ ghost use Rattle.pylock_compare.specs.Texts.{Texts, are_alike, texts_cmp};
 ghost use Rattle.pylock_diff.specs.Versions.{version_key};
 ghost use Rattle.pylock_diff.specs.declared.change.ChangeKind.TheVariants.{File};
 
-use crate::change::{Change, ChangeKind, push_change};
+use crate::change::{Change, ChangeKind, ChangedName, push_change};
 use crate::conditions::bytes_of;
 use crate::item::Keyed;
 use pylock_compare::Key;
@@ -330,7 +330,7 @@ fn push_lone<'x>(
 pub(crate) fn push_lone_sources(
     alloc: Global,
     changes: &mut Vec<Change>,
-    name: &str,
+    name: &ChangedName<'_>,
     olds: &[Keyed<'_>],
     news: &[Keyed<'_>],
 ) -> Result<(), AllocError>
@@ -347,7 +347,7 @@ pub(crate) fn push_lone_sources(
 fn push_gone(
     alloc: Global,
     changes: &mut Vec<Change>,
-    name: &str,
+    name: &ChangedName<'_>,
     sources: &[PickedSource<'_>],
 ) -> Result<(), AllocError>
     ensures { OnOk result (changes.new.items ≡ changes.old.items
@@ -356,7 +356,7 @@ fn push_gone(
 {
     for source in sources {
         let from = Some(source_text(alloc, *source)?);
-        push_change(alloc, changes, ChangeKind::File, name, from, None)?;
+        push_change(changes, ChangeKind::File, name, from, None)?;
     }
     Ok(())
 }
@@ -364,7 +364,7 @@ fn push_gone(
 fn push_come(
     alloc: Global,
     changes: &mut Vec<Change>,
-    name: &str,
+    name: &ChangedName<'_>,
     sources: &[PickedSource<'_>],
 ) -> Result<(), AllocError>
     ensures { OnOk result (changes.new.items ≡ changes.old.items
@@ -373,7 +373,7 @@ fn push_come(
 {
     for source in sources {
         let to = Some(source_text(alloc, *source)?);
-        push_change(alloc, changes, ChangeKind::File, name, None, to)?;
+        push_change(changes, ChangeKind::File, name, None, to)?;
     }
     Ok(())
 }

@@ -7,7 +7,7 @@ ghost use Rattle.pylock_compare.specs.Texts.{are_alike, or_dash};
 ghost use Rattle.pylock_diff.specs.Versions.{text_key, version_changes, version_keys};
 ghost use Rattle.pylock_diff.specs.Versions.{versions_text};
 
-use crate::change::{Change, ChangeKind, push_change};
+use crate::change::{Change, ChangeKind, ChangedName, push_change};
 use crate::item::Keyed;
 use crate::texts::{joined_if_any, or_dash};
 use pylock_compare::Key;
@@ -89,7 +89,7 @@ fn are_same_versions<'x>(
 pub(crate) fn push_version_change(
     alloc: Global,
     changes: &mut Vec<Change>,
-    name: &str,
+    name: &ChangedName<'_>,
     olds: &[Keyed<'_>],
     news: &[Keyed<'_>],
 ) -> Result<(), AllocError>
@@ -101,5 +101,5 @@ pub(crate) fn push_version_change(
     }
     let from = versions_text(alloc, olds)?;
     let to = versions_text(alloc, news)?;
-    push_change(alloc, changes, ChangeKind::Version, name, from, to)
+    push_change(changes, ChangeKind::Version, name, from, to)
 }

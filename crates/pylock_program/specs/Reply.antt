@@ -278,10 +278,13 @@ abbrev pub findings_shown : Form → List LockFindingValue → List ℕ
 findings_shown Lines found = findings_text found
 findings_shown Json found = json_text (findings_rows found)
 
+abbrev pub findings_status : List LockFindingValue → ℕ
+findings_status [] = 0
+findings_status (one ∷ others) = 1
+
 abbrev pub findings_report : Form → List LockFindingValue → Report
-findings_report form [] = answered (findings_shown form [])
-findings_report form (one ∷ others) =
-    record { text = findings_shown form (one ∷ others); status = 1 }
+findings_report form found =
+    record { text = findings_shown form found; status = findings_status found }
 
 abbrev pub audit_answer : Form → List ℕ → Result Report OpenError
 audit_answer form bytes = do

@@ -1,23 +1,27 @@
 //! What changed from one lock to another, or from one plan to the other.
 
-ghost use Rattle.std.specs.Prelude.{◌≡◌, ◌++◌, IfOk, OnOk, codes};
+ghost use Rattle.std.specs.Prelude.{◌≡◌, IfOk};
 ghost use Rattle.pylock_core.specs.Session.State.{first};
 ghost use Rattle.pylock_program.specs.Choices.{after_choices};
-ghost use Rattle.pylock_program.specs.Diff.{after_both, changes_report, installed, locks_report};
-ghost use Rattle.pylock_program.specs.Diff.{plans_report, side_report};
-ghost use Rattle.pylock_diff.specs.Changes.{lock_changes};
+ghost use Rattle.pylock_program.specs.Diff.{after_both, changes_report, changes_status, installed};
+ghost use Rattle.pylock_program.specs.Diff.{locks_report, plans_report, side_report};
+ghost use Rattle.pylock_core.specs.Session.Steps.{answer};
+ghost use Rattle.pylock_diff.specs.Changes.{answer_changes, lock_changes};
+ghost use Rattle.pylock_diff.specs.Document.{changes_rows};
 ghost use Rattle.pylock_program.specs.Inner.Telling.{PushesTelling};
 ghost use Rattle.pylock_program.specs.Inner.Machine.{machine_read};
 ghost use Rattle.pylock_program.specs.Refusal.{PrintsTelling, option_shown, refused_file_report};
-ghost use Rattle.pylock_run.specs.Report.Print.{Pushes};
+ghost use Rattle.pylock_program.specs.Text.Json.{json_text};
+ghost use Rattle.pylock_run.specs.Report.Print.{Prints};
 
 use crate::choices::make_choices;
 use crate::file::{FileBytes, MachineInput};
 use crate::notes::options::option_diagnostic;
-use crate::notes::refusal::{refusal_diagnostic, told_in};
+use crate::notes::refusal::told_in;
 use crate::program::REFUSED;
-use crate::show::{push_refusal_told, push_refused_option};
-use crate::text::diff::push_changes;
+use crate::reply::push_refused_file;
+use crate::show::push_refused_option;
+use crate::text::diff::write_changes;
 use crate::text::json::push_side_json;
 use pylock_command::{Choice, Form};
 use pylock_core::{EnvError, Lock, LockError, Session};
@@ -38,8 +42,9 @@ pub(crate) struct Sides<'a> {
 
 /// Writes what changed from one lock to the other, and answers the status: 0 where nothing did, 1
 /// where something did, 2 where a lock is refused. A document tells the line on a refusal too, and
-/// where that points. It takes memory for both locks with the codes of all their keys, for tables of
-/// their sources, and for the changes.
+/// where that points. It takes memory for both locks with the codes of all their keys, for tables
+/// of their sources, and for the changes, which share names and what a file is called; and where
+/// they are a document for that. A line is written as it is made.
 pub(crate) fn write_lock_diff<W: Sink>(
     alloc: Global,
     form: Form,
@@ -49,52 +54,53 @@ pub(crate) fn write_lock_diff<W: Sink>(
     ensures { PrintsTelling (λ told. locks_report form told sides.entry.old.now.bytes.items
         sides.entry.new.now.bytes.items) (W.value writer.old) (W.value writer.new) result }
 {
-    let mut out = Vec::new(alloc);
-    let (status, _told) = push_lock_diff(alloc, &mut out, form, sides)?;
-    print(&out, status, writer)
-}
-
-/// Pushes what changed from one lock to the other, and answers the status and what is told of a
-/// refusal.
-fn push_lock_diff(
-    alloc: Global,
-    out: &mut Vec<u8>,
-    form: Form,
-    sides: Sides<'_>,
-) -> Result<(u8, Option<Diagnostic>), AllocError>
-    ensures { PushesTelling out.old.items out.new.items (λ told. locks_report form told
-        sides.entry.old.now.bytes.items sides.entry.new.now.bytes.items) result }
-{
     let old = match read_compared(alloc, &sides.old.bytes) {
         Ok(compared) => compared,
-        Err(LockError::Memory) => return Err(AllocError),
-        Err(error) => return push_side(alloc, out, form, "old", sides.old, error),
+        Err(LockError::Memory) => return Err(RunFault::Memory),
+        Err(error) => return write_side(alloc, form, "old", sides.old, error, writer),
     };
     let new = match read_compared(alloc, &sides.new.bytes) {
         Ok(compared) => compared,
-        Err(LockError::Memory) => return Err(AllocError),
-        Err(error) => return push_side(alloc, out, form, "new", sides.new, error),
+        Err(LockError::Memory) => return Err(RunFault::Memory),
+        Err(error) => return write_side(alloc, form, "new", sides.new, error, writer),
     };
-    let status = push_locks(alloc, out, form, &old, &new)?;
-    Ok((status, None))
+    write_locks(alloc, form, &old, &new, writer)
 }
 
-/// Pushes what changed from one lock that was read to the other.
-fn push_locks(
+/// Writes what changed from one lock that was read to the other.
+fn write_locks<W: Sink>(
     alloc: Global,
-    out: &mut Vec<u8>,
     form: Form,
     old: &Compared,
     new: &Compared,
-) -> Result<u8, AllocError>
-    ensures { Pushes out.old.items out.new.items
-        (changes_report form (lock_changes old.now new.now)) result }
+    writer: &mut W,
+) -> Result<u8, RunFault>
+    ensures { Prints (changes_report form (lock_changes old.now new.now))
+        (W.value writer.old) (W.value writer.new) result }
 {
     let changes = lock_changes(alloc, old, new)?;
-    push_shown(alloc, out, form, &changes)
+    write_shown(alloc, form, &changes, writer)
 }
 
-/// Pushes a refused lock, of which `side` tells which it is, and answers the status and what is told.
+/// Writes a refused lock, of which `side` tells which it is.
+fn write_side<W: Sink>(
+    alloc: Global,
+    form: Form,
+    side: &str,
+    file: &FileBytes<'_>,
+    error: LockError,
+    writer: &mut W,
+) -> Result<u8, RunFault>
+    ensures { PrintsTelling (λ told. side_report form told side.now error)
+        (W.value writer.old) (W.value writer.new) result }
+{
+    let mut out = Vec::new(alloc);
+    let (status, _told) = push_side(alloc, &mut out, form, side, file, error)?;
+    print(&out, status, writer)
+}
+
+/// Pushes a refused lock, of which `side` tells which it is, and answers the status and what is
+/// told.
 fn push_side(
     alloc: Global,
     out: &mut Vec<u8>,
@@ -114,20 +120,43 @@ fn push_side(
     Ok((REFUSED, told))
 }
 
-/// Pushes the changes, and answers whether there are any.
-fn push_shown(
+/// Writes the changes, and answers whether there are any.
+fn write_shown<W: Sink>(
     alloc: Global,
-    out: &mut Vec<u8>,
     form: Form,
     changes: &[Change],
-) -> Result<u8, AllocError>
-    ensures { Pushes out.old.items out.new.items (changes_report form changes.now) result }
+    writer: &mut W,
+) -> Result<u8, RunFault>
+    ensures { Prints (changes_report form changes.now)
+        (W.value writer.old) (W.value writer.new) result }
 {
+    let status = changes_status(changes);
     match form {
-        Form::Lines => push_changes(out, changes)?,
-        Form::Json => push_document(alloc, out, diff_document(alloc, changes)?)?,
+        Form::Lines => write_changes(alloc, changes, status, writer),
+        Form::Json => write_document(alloc, changes, status, writer),
     }
-    Ok(if changes.is_empty() { 0 } else { 1 })
+}
+
+/// Whether there are any.
+fn changes_status(changes: &[Change]) -> u8
+    ensures { result ≡ changes_status changes.now }
+{
+    if changes.is_empty() { 0 } else { 1 }
+}
+
+/// Writes the document of changes, and answers the status.
+fn write_document<W: Sink>(
+    alloc: Global,
+    changes: &[Change],
+    status: u8,
+    writer: &mut W,
+) -> Result<u8, RunFault>
+    ensures { Prints (record { text = json_text (changes_rows changes.now); status = status })
+        (W.value writer.old) (W.value writer.new) result }
+{
+    let mut out = Vec::new(alloc);
+    push_document(alloc, &mut out, diff_document(alloc, changes)?)?;
+    print(&out, status, writer)
 }
 
 /// Writes what changed from what one lock installs in an environment to what the other does, each
@@ -145,83 +174,68 @@ pub(crate) fn write_plan_diff<W: Sink>(
         sides.entry.old.now.bytes.items sides.entry.new.now.bytes.items (machine_read machine.now))
         (W.value writer.old) (W.value writer.new) result }
 {
-    let mut out = Vec::new(alloc);
-    let (status, _told) = push_plan_diff(alloc, &mut out, form, choices, sides, machine)?;
-    print(&out, status, writer)
-}
-
-/// Pushes what changed from the one plan to the other.
-fn push_plan_diff(
-    alloc: Global,
-    out: &mut Vec<u8>,
-    form: Form,
-    choices: &[Choice<'_>],
-    sides: Sides<'_>,
-    machine: &MachineInput<'_>,
-) -> Result<(u8, Option<Diagnostic>), AllocError>
-    ensures { PushesTelling out.old.items out.new.items (λ told. plans_report form told choices.now
-        sides.entry.old.now.bytes.items sides.entry.new.now.bytes.items (machine_read machine.now))
-        result }
-{
     let old = match Lock::read(alloc, &sides.old.bytes) {
         Ok(lock) => lock,
-        Err(LockError::Memory) => return Err(AllocError),
-        Err(error) => return push_side(alloc, out, form, "old", sides.old, error),
+        Err(LockError::Memory) => return Err(RunFault::Memory),
+        Err(error) => return write_side(alloc, form, "old", sides.old, error, writer),
     };
     let new = match Lock::read(alloc, &sides.new.bytes) {
         Ok(lock) => lock,
-        Err(LockError::Memory) => return Err(AllocError),
-        Err(error) => return push_side(alloc, out, form, "new", sides.new, error),
+        Err(LockError::Memory) => return Err(RunFault::Memory),
+        Err(error) => return write_side(alloc, form, "new", sides.new, error, writer),
     };
-    push_installed(
+    write_installed(
         alloc,
-        out,
         form,
         choices,
         (old, new),
         (sides.old.path, machine),
+        writer,
     )
 }
 
 /// The same of two locks that were read, the old one from the file of this path.
-fn push_installed(
+fn write_installed<W: Sink>(
     alloc: Global,
-    out: &mut Vec<u8>,
     form: Form,
     choices: &[Choice<'_>],
     locks: (Lock, Lock),
     named: (&str, &MachineInput<'_>),
-) -> Result<(u8, Option<Diagnostic>), AllocError>
-    ensures { PushesTelling out.old.items out.new.items (λ told. installed form told choices.now
-        (machine_read named.entry.1.now) locks.0 locks.1) result }
+    writer: &mut W,
+) -> Result<u8, RunFault>
+    ensures { PrintsTelling (λ told. installed form told choices.now
+        (machine_read named.entry.1.now) locks.0 locks.1)
+        (W.value writer.old) (W.value writer.new) result }
 {
     match named.1.input().read(alloc) {
         Ok((environment, tags)) => {
-            let (mut old, mut new) = start_both(alloc, locks, environment, tags)?;
-            push_after_choices(alloc, out, form, choices, (&mut old, &mut new), named.0)
+            let (mut old, mut new) = match start_both(alloc, locks, environment, tags) {
+                Ok(both) => both,
+                Err(AllocError) => return Err(RunFault::Memory),
+            };
+            write_after_choices(alloc, form, choices, (&mut old, &mut new), named.0, writer)
         }
-        Err(EnvError::Memory) => Err(AllocError),
-        Err(error) => push_machine(alloc, out, form, named.1, OpenError::Environment(error)),
+        Err(EnvError::Memory) => Err(RunFault::Memory),
+        Err(error) => {
+            write_machine(alloc, form, named.1, &OpenError::Environment(error), writer)
+        }
     }
 }
 
-/// Pushes a refused environment, and answers the status and what is told.
-fn push_machine(
+/// Writes a refused environment.
+fn write_machine<W: Sink>(
     alloc: Global,
-    out: &mut Vec<u8>,
     form: Form,
     machine: &MachineInput<'_>,
-    refusal: OpenError,
-) -> Result<(u8, Option<Diagnostic>), AllocError>
-    ensures { PushesTelling out.old.items out.new.items
-        (λ told. refused_file_report form told refusal) result }
+    refusal: &OpenError,
+    writer: &mut W,
+) -> Result<u8, RunFault>
+    ensures { PrintsTelling (λ told. refused_file_report form told refusal.now)
+        (W.value writer.old) (W.value writer.new) result }
 {
-    let told = told_in(
-        form,
-        refusal_diagnostic(alloc, &refusal, machine.named(), machine.named()),
-    )?;
-    push_refusal_told(alloc, out, form, &refusal, told.as_ref())?;
-    Ok((REFUSED, told))
+    let mut out = Vec::new(alloc);
+    let (status, _told) = push_refused_file(alloc, &mut out, form, refusal, machine.named())?;
+    print(&out, status, writer)
 }
 
 /// Starts a session on each of two locks, in one environment.
@@ -241,30 +255,66 @@ fn start_both(
     Ok((old, new))
 }
 
-/// Pushes what changed from one session to the other after the options, or the first option that is
+/// Writes what changed from one session to the other after the options, or the first option that is
 /// refused.
-fn push_after_choices(
+fn write_after_choices<W: Sink>(
     alloc: Global,
-    out: &mut Vec<u8>,
     form: Form,
     choices: &[Choice<'_>],
     sessions: (&mut Session, &mut Session),
     path: &str,
-) -> Result<(u8, Option<Diagnostic>), AllocError>
-    ensures { PushesTelling out.old.items out.new.items (λ told. after_both form told
+    writer: &mut W,
+) -> Result<u8, RunFault>
+    ensures { PrintsTelling (λ told. after_both form told
         (after_choices choices.now sessions.entry.0.now.state)
-        (after_choices choices.now sessions.entry.1.now.state)) result }
+        (after_choices choices.now sessions.entry.1.now.state))
+        (W.value writer.old) (W.value writer.new) result }
 {
     let (old, new) = sessions;
-    if let Some(choice) = make_choices(alloc, old, choices)? {
-        return push_option(alloc, out, form, choice, path);
+    match make_choices(alloc, old, choices) {
+        Ok(None) => {}
+        Ok(Some(choice)) => return write_option(alloc, form, choice, path, writer),
+        Err(AllocError) => return Err(RunFault::Memory),
     }
-    if let Some(choice) = make_choices(alloc, new, choices)? {
-        return push_option(alloc, out, form, choice, path);
+    match make_choices(alloc, new, choices) {
+        Ok(None) => {}
+        Ok(Some(choice)) => return write_option(alloc, form, choice, path, writer),
+        Err(AllocError) => return Err(RunFault::Memory),
     }
+    write_plans(alloc, form, old, new, writer)
+}
+
+/// Writes what changed from the answer of one session to that of the other.
+fn write_plans<W: Sink>(
+    alloc: Global,
+    form: Form,
+    old: &Session,
+    new: &Session,
+    writer: &mut W,
+) -> Result<u8, RunFault>
+    ensures { Prints (changes_report form (answer_changes old.now.state new.now.state
+        (answer old.now.state) (answer new.now.state)))
+        (W.value writer.old) (W.value writer.new) result }
+{
     let changes = plan_changes(alloc, old, new)?;
-    let status = push_shown(alloc, out, form, &changes)?;
-    Ok((status, None))
+    write_shown(alloc, form, &changes, writer)
+}
+
+/// Writes a refused option.
+fn write_option<W: Sink>(
+    alloc: Global,
+    form: Form,
+    choice: Choice<'_>,
+    path: &str,
+    writer: &mut W,
+) -> Result<u8, RunFault>
+    ensures { PrintsTelling (λ told.
+        record { text = option_shown form told choice.entry; status = 1 })
+        (W.value writer.old) (W.value writer.new) result }
+{
+    let mut out = Vec::new(alloc);
+    let (status, _told) = push_option(alloc, &mut out, form, choice, path)?;
+    print(&out, status, writer)
 }
 
 /// Pushes a refused option, and answers the status and what is told.

@@ -16,6 +16,7 @@ mod diff;
 mod export;
 mod file;
 pub mod laws;
+mod lines;
 mod notes;
 mod printing;
 mod program;

@@ -31,7 +31,7 @@ use crate::file::{FileBytes, MachineInput, read_bytes, read_machine};
 use crate::notes::refusal::{tell_refusal, tell_sides, tell_unopened};
 use crate::printing::Documents;
 use crate::reply::queries::Query;
-use crate::reply::{query, query_file};
+use crate::reply::{audit_file, query, query_file};
 use crate::show::{Inputs, show_request};
 use crate::strict::{Unopened, open_by, push_found};
 use pylock_audit::Findings;
@@ -492,8 +492,7 @@ fn audit_lock<F: Files, R: Source, W: Sink, N: Sink>(
         (R.value reader.old) (R.value reader.new) (W.value writer.old) (W.value writer.new) result }
 {
     let lock = read_bytes(alloc, files, reader, lock, true, notes)?;
-    let asked = Query::Audit(&lock.bytes, form);
-    program_end(query_file(alloc, asked, lock.named(), writer, notes))
+    program_end(audit_file(alloc, form, &lock, writer, notes))
 }
 
 /// Answers `marker` in the environment of a machine.

@@ -4,9 +4,11 @@ ghost use Rattle.std.specs.Prelude.{◌≡◌, ◌++◌, IfOk, OnOk};
 ghost use Rattle.pylock_readers.specs.Input.{input_env_of};
 ghost use Rattle.pylock_program.specs.Inner.Answer.{PushesAnswer};
 ghost use Rattle.pylock_program.specs.Inner.Telling.{PushesTelling};
-ghost use Rattle.pylock_program.specs.Refusal.{PrintsTelling};
-ghost use Rattle.pylock_program.specs.Reply.{audit_answer, files_answer, files_shown};
-ghost use Rattle.pylock_program.specs.Reply.{findings_report, marker_answer, marker_answer_in};
+ghost use Rattle.pylock_command.specs.declared.form.Form.TheVariants.{Json};
+ghost use Rattle.pylock_program.specs.Refusal.{PrintsTelling, refused_file_report};
+ghost use Rattle.pylock_program.specs.Reply.{answer_report, audit_answer, files_answer, files_shown};
+ghost use Rattle.pylock_program.specs.Reply.{findings_report, findings_shown, findings_status};
+ghost use Rattle.pylock_program.specs.Reply.{marker_answer, marker_answer_in};
 ghost use Rattle.pylock_program.specs.Reply.{query_answer, reply, reply_of, reply_told};
 ghost use Rattle.pylock_program.specs.Reply.{target_answer};
 ghost use Rattle.pylock_program.specs.Reply.{value_answer};
@@ -15,7 +17,7 @@ ghost use Rattle.pylock_run.specs.Report.Print.{Prints, Pushes};
 pub mod queries;
 mod texts;
 
-use crate::file::NamedInput;
+use crate::file::{FileBytes, NamedInput};
 use crate::notes::refusal::{refusal_diagnostic, told_in};
 use crate::notes::tell_beside;
 use crate::program::REFUSED;
@@ -26,6 +28,7 @@ use crate::reply::texts::{
 };
 use crate::show::{push_open_error, push_refusal_told};
 use crate::strict::push_found;
+use crate::text::audit::write_findings;
 use crate::text::files::push_files;
 use pylock_audit::{LockFinding, read_audited};
 use pylock_command::Form;
@@ -100,6 +103,105 @@ pub(crate) fn query_file<W: Sink, N: Sink>(
     end
 }
 
+/// Writes the reply on the findings of a lock, as [`query_file`] does. A line is written as it is
+/// made: it takes memory for the findings, which share what a file is called, and not for the lines.
+pub(crate) fn audit_file<W: Sink, N: Sink>(
+    alloc: Global,
+    form: Form,
+    lock: &FileBytes<'_>,
+    writer: &mut W,
+    notes: &mut N,
+) -> Result<u8, RunFault>
+    ensures { PrintsTelling (λ told. answer_report form told
+        (audit_answer form lock.now.bytes.items))
+        (W.value writer.old) (W.value writer.new) result }
+{
+    match read_audited(alloc, &lock.bytes) {
+        Ok((read, found)) => {
+            let end = write_found(alloc, form, found.as_slice(), writer);
+            mem::forget((read, found));
+            end
+        }
+        Err(LockError::Memory) => Err(RunFault::Memory),
+        Err(error) => {
+            write_refused_file(
+                alloc,
+                form,
+                &OpenError::Lock(error),
+                lock.named(),
+                writer,
+                notes,
+            )
+        }
+    }
+}
+
+/// Writes findings, and answers whether there are any.
+fn write_found<W: Sink>(
+    alloc: Global,
+    form: Form,
+    found: &[LockFinding],
+    writer: &mut W,
+) -> Result<u8, RunFault>
+    ensures { Prints (findings_report form found.now)
+        (W.value writer.old) (W.value writer.new) result }
+{
+    let status = findings_status(found);
+    match form {
+        Form::Lines => write_findings(alloc, found, status, writer),
+        Form::Json => write_findings_document(alloc, found, status, writer),
+    }
+}
+
+fn write_findings_document<W: Sink>(
+    alloc: Global,
+    found: &[LockFinding],
+    status: u8,
+    writer: &mut W,
+) -> Result<u8, RunFault>
+    ensures { Prints (record { text = findings_shown Json found.now; status = status })
+        (W.value writer.old) (W.value writer.new) result }
+{
+    let mut out = Vec::new(alloc);
+    push_found(alloc, &mut out, Form::Json, found)?;
+    print(&out, status, writer)
+}
+
+/// Writes the refusal of a file, and to `notes` a line for a person.
+fn write_refused_file<W: Sink, N: Sink>(
+    alloc: Global,
+    form: Form,
+    refusal: &OpenError,
+    asked_of: NamedInput<'_>,
+    writer: &mut W,
+    notes: &mut N,
+) -> Result<u8, RunFault>
+    ensures { PrintsTelling (λ told. refused_file_report form told refusal.now)
+        (W.value writer.old) (W.value writer.new) result }
+{
+    let mut out = Vec::new(alloc);
+    let (status, told) = push_refused_file(alloc, &mut out, form, refusal, asked_of)?;
+    let end = print(&out, status, writer);
+    tell_beside(alloc, notes, &end, told.as_ref());
+    end
+}
+
+/// Pushes the refusal of a file, and answers the status and what is told.
+pub(crate) fn push_refused_file(
+    alloc: Global,
+    out: &mut Vec<u8>,
+    form: Form,
+    refusal: &OpenError,
+    asked_of: NamedInput<'_>,
+) -> Result<(u8, Option<Diagnostic>), AllocError>
+    ensures { PushesTelling out.old.items out.new.items
+        (λ told. refused_file_report form told refusal.now) result }
+{
+    let told = told_in(form, refusal_diagnostic(alloc, refusal, asked_of, asked_of))?;
+    push_refusal_told(alloc, out, form, refusal, told.as_ref())?;
+    Ok((REFUSED, told))
+}
+
 /// Pushes that reply, and answers the status and what is told of a refusal.
 #[tactic(auto, using(crate::proofs::ReplyLemmas::pushed_answer))]
 fn push_reply_told(
@@ -114,15 +216,7 @@ fn push_reply_told(
     match push_answer(alloc, out, query, true) {
         Ok(status) => Ok((status, None)),
         Err(OpenError::Memory) => Err(AllocError),
-        Err(refusal) => {
-            let form = query.form();
-            let told = told_in(
-                form,
-                refusal_diagnostic(alloc, &refusal, asked_of, asked_of),
-            )?;
-            push_refusal_told(alloc, out, form, &refusal, told.as_ref())?;
-            Ok((REFUSED, told))
-        }
+        Err(refusal) => push_refused_file(alloc, out, query.form(), &refusal, asked_of),
     }
 }
 
@@ -244,7 +338,14 @@ fn push_findings_in(
     ensures { Pushes out.old.items out.new.items (findings_report form found.now) result }
 {
     push_found(alloc, out, form, found)?;
-    Ok(if found.is_empty() { 0 } else { 1 })
+    Ok(findings_status(found))
+}
+
+/// Whether there are any.
+fn findings_status(found: &[LockFinding]) -> u8
+    ensures { result ≡ findings_status found.now }
+{
+    if found.is_empty() { 0 } else { 1 }
 }
 
 /// The marker's text is judged before the environment.

@@ -1,31 +1,49 @@
 //! What changed from one lock to another, a line for each change.
 
-ghost use Rattle.std.specs.Prelude.{◌≡◌, ◌++◌, OnOk};
-ghost use Rattle.std.specs.List.{flat_map};
+ghost use Rattle.std.specs.Prelude.{◌≡◌, ◌++◌, OnOk, codes, decimal, length};
 ghost use Rattle.pylock_program.specs.Text.Diff.{change_line, changes_text};
+ghost use Rattle.pylock_run.specs.Report.Print.{Prints};
 
-use crate::text::safe::push_next_safe;
+use crate::lines::{Line, print_lines};
+use crate::text::safe::{push_next_labelled, push_next_safe};
 use pylock_diff::Change;
-use pylock_run::push_decimal;
-use std::alloc::AllocError;
+use pylock_run::{RunFault, Sink, push_decimal};
+use std::alloc::{AllocError, Global};
 
-/// Pushes `changes K` and a line for each change.
-pub(crate) fn push_changes(out: &mut Vec<u8>, changes: &[Change]) -> Result<(), AllocError>
-    ensures { OnOk result (out.new.items ≡ out.old.items ++ changes_text changes.now) }
+/// Writes `changes K` and a line for each change, and answers the status.
+pub(crate) fn write_changes<W: Sink>(
+    alloc: Global,
+    changes: &[Change],
+    status: u8,
+    writer: &mut W,
+) -> Result<u8, RunFault>
+    ensures { Prints (record { text = changes_text changes.now; status = status })
+        (W.value writer.old) (W.value writer.new) result }
+{
+    let mut out = Vec::new(alloc);
+    push_head(&mut out, changes)?;
+    print_lines(out, changes, status, writer)
+}
+
+/// Pushes the line `changes K`.
+fn push_head(out: &mut Vec<u8>, changes: &[Change]) -> Result<(), AllocError>
+    ensures { OnOk result (out.new.items ≡ out.old.items
+        ++ codes "changes " ++ decimal (length changes.now) ++ codes "\n") }
 {
     out.extend_from_slice(b"changes ")?;
     push_decimal(out, changes.len() as u64)?;
     out.push(b'\n')?;
-    push_lines(out, changes)
+    Ok(())
 }
 
-fn push_lines(out: &mut Vec<u8>, changes: &[Change]) -> Result<(), AllocError>
-    ensures { OnOk result (out.new.items ≡ out.old.items ++ flat_map change_line changes.now) }
-{
-    for change in changes {
-        push_change(out, change)?;
+impl Line for Change {
+    ghost use Rattle.pylock_program.specs.Text.Diff.{change_line};
+
+    ghost line = { change_line };
+
+    fn push(&self, out: &mut Vec<u8>) -> Result<(), AllocError> {
+        push_change(out, self)
     }
-    Ok(())
 }
 
 fn push_change(out: &mut Vec<u8>, change: &Change) -> Result<(), AllocError>
@@ -33,8 +51,8 @@ fn push_change(out: &mut Vec<u8>, change: &Change) -> Result<(), AllocError>
 {
     out.extend_from_slice(change.kind().word().as_bytes())?;
     push_next_safe(out, change.name())?;
-    push_next_safe(out, change.from())?;
-    push_next_safe(out, change.to())?;
+    push_next_labelled(out, change.from())?;
+    push_next_labelled(out, change.to())?;
     out.push(b'\n')?;
     Ok(())
 }
