@@ -152,6 +152,126 @@ static void versions(void)
     HOLDS(needed == 77 && out[0] == '#');
 }
 
+/* whether the version has this kind: p a pre-release, q a post-release, d a development release, n
+   the normal form, and a dot for what it isn't */
+static bool kind_is(const char *version, const char *letters)
+{
+    uint8_t key[64], read[64];
+    size_t length = 0, needed = 0;
+    pylock_version_kind kind = {0};
+    IS(pylock_version_key(TEXT(version), key, sizeof key, &length), PYLOCK_OK);
+    IS(pylock_version_read(TEXT(version), read, sizeof read, &needed, &kind), PYLOCK_OK);
+    return needed == length && memcmp(key, read, length) == 0 &&
+           kind.is_prerelease == (letters[0] == 'p') &&
+           kind.is_postrelease == (letters[1] == 'q') &&
+           kind.is_devrelease == (letters[2] == 'd') && kind.is_normal == (letters[3] == 'n');
+}
+
+static void version_kinds(void)
+{
+    uint8_t out[64];
+    size_t needed = 77;
+    pylock_version_kind kind = {.is_postrelease = true};
+    HOLDS(kind_is("1.0", "...n") && kind_is("01.0", "....") && kind_is(" 1.0", "...."));
+    HOLDS(kind_is("1.0a1", "p..n") && kind_is("1.0alpha1", "p...") && kind_is("1.0RC1", "p..."));
+    HOLDS(kind_is("1.0.dev3", "p.dn") && kind_is("1.0.post1", ".q.n") && kind_is("1.0-1", ".q.."));
+    HOLDS(kind_is("1.0a2.post3.dev4", "pqdn") && kind_is("1!1.0+ubuntu.1", "...n"));
+    HOLDS(kind_is("1.0+Ubuntu-1", "...."));
+    memset(out, '#', sizeof out);
+    IS(pylock_version_read(TEXT("1.0a"), out, 0, &needed, &kind), PYLOCK_ROOM);
+    HOLDS(needed > 0 && needed < 77 && out[0] == '#' && kind.is_prerelease && !kind.is_postrelease);
+    needed = 77;
+    IS(pylock_version_read(TEXT("1.x"), out, sizeof out, &needed, &kind), PYLOCK_VERSION_SYNTAX);
+    IS(pylock_version_read(TEXT("999999999999999999999999999999999999999999"), out, sizeof out,
+                           &needed, &kind),
+       PYLOCK_VERSION_NUMBER);
+    IS(pylock_version_read(TEXT("\xff"), out, sizeof out, &needed, &kind), PYLOCK_NOT_UTF8);
+    HOLDS(needed == 77 && out[0] == '#' && kind.is_prerelease);
+}
+
+static bool normal_is(const char *version, bool strip, const char *normal)
+{
+    uint8_t out[64];
+    size_t needed = 0;
+    IS(pylock_version_normal(TEXT(version), strip, out, sizeof out, &needed), PYLOCK_OK);
+    return same(out, needed, normal);
+}
+
+static void normal_versions(void)
+{
+    uint8_t out[8];
+    size_t needed = 77;
+    HOLDS(normal_is("1.4.0.0.0", true, "1.4") && normal_is("1.4.0.0.0", false, "1.4.0.0.0"));
+    HOLDS(normal_is("V1.0-Alpha_1", true, "1a1") && normal_is("V1.0-Alpha_1", false, "1.0a1"));
+    HOLDS(normal_is("0.0", true, "0") && normal_is("0", true, "0") && normal_is("10", true, "10"));
+    HOLDS(normal_is("1!1.0.1.0.post3.dev4+A.0", true, "1!1.0.1.post3.dev4+a.0"));
+    memset(out, '#', sizeof out);
+    IS(pylock_version_normal(TEXT("1.0.0"), true, out, 0, &needed), PYLOCK_ROOM);
+    HOLDS(needed == 1 && out[0] == '#');
+    IS(pylock_version_normal(TEXT("1.0.0"), true, out, 1, &needed), PYLOCK_OK);
+    HOLDS(needed == 1 && out[0] == '1' && out[1] == '#');
+    IS(pylock_version_normal(TEXT("1.x"), true, out, sizeof out, &needed), PYLOCK_VERSION_SYNTAX);
+    IS(pylock_version_normal(TEXT("\xff"), false, out, sizeof out, &needed), PYLOCK_NOT_UTF8);
+    HOLDS(needed == 1);
+}
+
+static void version_splits(void)
+{
+    uint64_t release[6] = {7, 7, 7, 7, 7, 7};
+    size_t needed = 77;
+    pylock_version_parts parts = {0};
+    IS(pylock_version_split(TEXT("1!2.0rc3.post4.dev5+abc.1"), &parts, release, 6, &needed),
+       PYLOCK_OK);
+    HOLDS(needed == 4 && release[0] == 2 && !release[1] && !release[2] && !release[3] &&
+          release[4] == 7);
+    HOLDS(parts.base == strlen("1!2.0") && parts.public_end == strlen("1!2.0rc3.post4.dev5"));
+    HOLDS(parts.epoch_low == 1 && parts.pre == 'r' && parts.pre_low == 3 && parts.has_post &&
+          parts.post_low == 4 && parts.has_dev && parts.dev_low == 5);
+    IS(pylock_version_split(TEXT("V1.02.3"), &parts, release, 5, &needed), PYLOCK_ROOM);
+    HOLDS(needed == 6 && release[0] == 2 && parts.base == strlen("1.2.3") &&
+          parts.public_end == parts.base && !parts.pre && !parts.has_post && !parts.has_dev &&
+          !parts.epoch_low && !parts.pre_low && !parts.post_low && !parts.dev_low);
+    /* 2^64 and 2^128 - 1 */
+    IS(pylock_version_split(TEXT("18446744073709551616.340282366920938463463374607431768211455a"),
+                            &parts, release, 6, &needed),
+       PYLOCK_OK);
+    HOLDS(needed == 4 && !release[0] && release[1] == 1 && release[2] == UINT64_MAX &&
+          release[3] == UINT64_MAX && parts.pre == 'a' && !parts.pre_low && !parts.pre_high);
+    IS(pylock_version_split(TEXT("1b18446744073709551617"), &parts, release, 6, &needed),
+       PYLOCK_OK);
+    HOLDS(parts.pre == 'b' && parts.pre_low == 1 && parts.pre_high == 1);
+    needed = 77;
+    IS(pylock_version_split(TEXT("1.x"), &parts, release, 6, &needed), PYLOCK_VERSION_SYNTAX);
+    IS(pylock_version_split(TEXT("340282366920938463463374607431768211456"), &parts, release, 6,
+                            &needed),
+       PYLOCK_VERSION_NUMBER);
+    IS(pylock_version_split(TEXT("\xff"), &parts, release, 6, &needed), PYLOCK_NOT_UTF8);
+    HOLDS(needed == 77 && parts.pre == 'b');
+}
+
+static void set_spans(void)
+{
+    static const char set[] = " , ~= 1.0,\t=== a-b ,!=2.*\n,,<3";
+    static const char *const words[] = {"~=", "1.0", "===", "a-b", "!=", "2.*", "<", "3"};
+    size_t spans[16], needed = 77;
+    IS(pylock_set_spans(TEXT(set), spans, 16, &needed), PYLOCK_OK);
+    HOLDS(needed == 16);
+    for (size_t at = 0; at < 8; at++)
+        HOLDS(same((const uint8_t *)set + spans[2 * at], spans[2 * at + 1] - spans[2 * at],
+                   words[at]));
+    spans[0] = 99;
+    IS(pylock_set_spans(TEXT(set), spans, 15, &needed), PYLOCK_ROOM);
+    HOLDS(needed == 16 && spans[0] == 99);
+    IS(pylock_set_spans(TEXT(""), spans, 0, &needed), PYLOCK_OK);
+    HOLDS(needed == 0);
+    needed = 77;
+    IS(pylock_set_spans(TEXT("1.0"), spans, 16, &needed), PYLOCK_SET_SYNTAX);
+    IS(pylock_set_spans(TEXT(">=999999999999999999999999999999999999999999"), spans, 16, &needed),
+       PYLOCK_SET_NUMBER);
+    IS(pylock_set_spans(TEXT("\xff"), spans, 16, &needed), PYLOCK_NOT_UTF8);
+    HOLDS(needed == 77 && spans[0] == 99);
+}
+
 /* the bytes of a kept text */
 static bool has(pylock_text *text, const char *wanted)
 {
@@ -237,6 +357,42 @@ static void wheels(void)
     IS(pylock_wheel(TEXT("a-1-py3-none-.whl"), &record), PYLOCK_WHEEL_TAGS);
     IS(pylock_wheel(TEXT("a\xff"), &record), PYLOCK_NOT_UTF8);
     HOLDS(has(&record, "a\t1.0+x.2\t-\tcp312-abi3-win32"));
+    pylock_text_free(&record);
+}
+
+static void wheel_parts(void)
+{
+    pylock_text record = {0};
+    IS(pylock_wheel_parts(TEXT("Foo_bar-1.0.0-012b-py2.PY3-none-any.whl"), &record), PYLOCK_OK);
+    HOLDS(has(&record, "foo-bar\t1.0.0\t12\tb\tpy2-none-any\tpy3-none-any"));
+    IS(pylock_wheel_parts(TEXT("a-1-7-py3-none-any.whl"), &record), PYLOCK_OK);
+    HOLDS(has(&record, "a\t1\t7\t\tpy3-none-any"));
+    IS(pylock_wheel_parts(TEXT("a-1.0+X_2-cp312-abi3-win32.whl"), &record), PYLOCK_OK);
+    HOLDS(has(&record, "a\t1.0+x.2\t-\t-\tcp312-abi3-win32"));
+    IS(pylock_wheel_parts(TEXT("a-1-py3-none.whl"), &record), PYLOCK_WHEEL_PARTS);
+    IS(pylock_wheel_parts(TEXT("a\xff"), &record), PYLOCK_NOT_UTF8);
+    HOLDS(has(&record, "a\t1.0+x.2\t-\t-\tcp312-abi3-win32"));
+    pylock_text_free(&record);
+}
+
+static void tags(void)
+{
+    pylock_text record = {0};
+    IS(pylock_tags(TEXT("py2.py3-none-any"), &record), PYLOCK_OK);
+    HOLDS(has(&record, "py2-none-any\tpy3-none-any"));
+    IS(pylock_tags(TEXT("cp33.cp34-abi3.none-linux_x86_64.any"), &record), PYLOCK_OK);
+    HOLDS(has(&record, "cp33-abi3-linux_x86_64\tcp33-abi3-any\tcp33-none-linux_x86_64"
+                       "\tcp33-none-any\tcp34-abi3-linux_x86_64\tcp34-abi3-any\tcp34-none-linux_x86_64"
+                       "\tcp34-none-any"));
+    IS(pylock_tags(TEXT("--"), &record), PYLOCK_OK);
+    HOLDS(has(&record, "--"));
+    IS(pylock_tags(TEXT("CP3\t-\\-a"), &record), PYLOCK_OK);
+    HOLDS(has(&record, "CP3\\t-\\\\-a"));
+    IS(pylock_tags(TEXT("a-b"), &record), PYLOCK_TAG_PARTS);
+    IS(pylock_tags(TEXT("a-b-c-d"), &record), PYLOCK_TAG_PARTS);
+    IS(pylock_tags(TEXT(""), &record), PYLOCK_TAG_PARTS);
+    IS(pylock_tags(TEXT("a-b-\xff"), &record), PYLOCK_NOT_UTF8);
+    HOLDS(has(&record, "CP3\\t-\\\\-a"));
     pylock_text_free(&record);
 }
 
@@ -361,6 +517,47 @@ static const char LOCK[] = "lock-version = \"1.0\"\ncreated-by = \"me\"\nextras 
                            "directory = {path = \"b\"}\n";
 static const char POSIX[] = "{\"environment\": {\"os_name\": \"posix\", \"python_full_version\": "
                             "\"3.12.1\"}, \"tags\": []}";
+
+static const char PICKED[] =
+    "lock-version = \"1.0\"\ncreated-by = \"me\"\n"
+    "packages = [\n"
+    "{name = \"a\", version = \"1\", wheels = [\n"
+    "{url = \"https://x/a-1-cp313-cp313-win32.whl\", hashes = {sha256 = \"aa\"}},\n"
+    "{url = \"https://x/a-1-py3-none-any.whl\", path = \"w/a-1-py3-none-any.whl\", "
+    "hashes = {md5 = \"bb\", sha256 = \"cc\"}}]},\n"
+    "{name = \"b\", vcs = {type = \"git\", url = \"https://x/b\", commit-id = \"dd\", "
+    "subdirectory = \"s\"}},\n"
+    "{name = \"c\", directory = {path = \"c\", editable = true}},\n"
+    "{name = \"d\", archive = {path = \"d.zip\", hashes = {sha256 = \"ee\"}}},\n"
+    "{name = \"e\", version = \"2\", sdist = {name = \"e-2.zip\", url = \"https://x/y\", "
+    "hashes = {sha256 = \"ff\"}}}]\n";
+
+static void picks(void)
+{
+    pylock_session session = {0};
+    pylock_text text = {0};
+    uint64_t judged = 77;
+    bool is_plan = false;
+    IS(pylock_session_start(&session, TEXT(PICKED),
+                            TEXT("{\"environment\": {\"os_name\": \"posix\", "
+                                 "\"python_full_version\": \"3.12.1\"}, "
+                                 "\"tags\": [\"py3-none-any\"]}"),
+                            &text),
+       PYLOCK_OK);
+    IS(pylock_session_picks(&session, &text, &is_plan), PYLOCK_OK);
+    HOLDS(is_plan &&
+          has(&text, "1\twheel\t2\ta\t1\ta-1-py3-none-any.whl\thttps://x/a-1-py3-none-any.whl"
+                     "\tw/a-1-py3-none-any.whl\t-\t-\t-\tmd5\tbb\tsha256\tcc\n"
+                     "2\tvcs\t-\tb\t-\t-\thttps://x/b\t-\tgit\tdd\ts\n"
+                     "3\teditable\t-\tc\t-\t-\t-\tc\t-\t-\t-\n"
+                     "4\tarchive\t-\td\t-\t-\t-\td.zip\t-\t-\t-\tsha256\tee\n"
+                     "5\tsdist\t-\te\t2\te-2.zip\thttps://x/y\t-\t-\t-\t-\tsha256\tff\n"));
+    IS(pylock_session_policy(&session, TEXT("e"), TEXT("wheel"), &judged), PYLOCK_OK);
+    IS(pylock_session_picks(&session, &text, &is_plan), PYLOCK_OK);
+    HOLDS(!is_plan && has(&text, "5\te\tno-file\twheels 0 sdist wheel\n"));
+    pylock_text_free(&text);
+    pylock_session_free(&session);
+}
 
 static void answers(void)
 {
@@ -547,6 +744,7 @@ static void empty_sessions(void)
     IS(pylock_session_line(&session, TEXT("show"), &judged), PYLOCK_EMPTY);
     IS(pylock_session_answer(&session, false, &text, &is_plan), PYLOCK_EMPTY);
     IS(pylock_session_explain(&session, true, &text, &is_plan), PYLOCK_EMPTY);
+    IS(pylock_session_picks(&session, &text, &is_plan), PYLOCK_EMPTY);
     IS(pylock_session_judged(&session, &text), PYLOCK_EMPTY);
     HOLDS(judged == 77 && is_plan && !text.full);
     pylock_session_free(&session);
@@ -1009,14 +1207,21 @@ static void calls(void)
     names();
     version_keys();
     versions();
+    version_kinds();
+    normal_versions();
+    version_splits();
+    set_spans();
     texts();
     requirements();
     wheels();
+    wheel_parts();
+    tags();
     sdists();
     sets();
     markers();
     extras();
     answers();
+    picks();
     reads();
     sessions();
 }

@@ -1,21 +1,31 @@
 -- What a call leaves in a buffer, and what it answers of a slot.
 use Rattle.std.proofs.Common.{◌≡◌, ℕ, ℤ, pos, List, length, refl, sym, subst, if◌then◌else◌}
 use Rattle.std.specs.Prelude.{Option, None, Result, Ok, Err}
-use Rattle.pylock_c.specs.Answer.{Tells, Writes, is_short, written as buffer_after}
+use Rattle.pylock_c.specs.Answer.{Tells, Writes, WritesWith, is_short, written as buffer_after}
 use Rattle.pylock_c.specs.Refusal.{number}
 use Rattle.pylock_c.specs.declared.object.Object.{Object}
 use Rattle.pylock_c.specs.declared.refusal.Refusal.{Refusal}
 use Rattle.pylock_c.specs.declared.refusal.Refusal.TheVariants.{Empty, Memory}
 
-pub writes_ok : {definition : Result (List ℕ) Refusal} {bytes old new : List ℕ} {needed : ℕ} {code : ℤ}
-    → definition ≡ Ok bytes → code ≡ (if is_short old bytes then pos 4 else pos 0)
-    → new ≡ buffer_after old (Ok bytes) → Writes definition old new needed (length bytes) code
-writes_ok {bytes = bytes} gives code buffer = (Ok bytes, gives, code, buffer, refl)
+pub writes_ok : {X : Type 0} {definition : Result (List X) Refusal} {items old new : List X} {needed : ℕ} {code : ℤ}
+    → definition ≡ Ok items → code ≡ (if is_short old items then pos 4 else pos 0)
+    → new ≡ buffer_after old (Ok items) → Writes definition old new needed (length items) code
+writes_ok {items = items} gives code buffer = (Ok items, gives, code, buffer, refl)
 
-pub writes_err : {definition : Result (List ℕ) Refusal} {old : List ℕ} {needed : ℕ} {code : ℤ} {refusal : Refusal}
+pub writes_err : {X : Type 0} {definition : Result (List X) Refusal} {old : List X} {needed : ℕ} {code : ℤ} {refusal : Refusal}
     → ((refusal ≡ Memory → ⊥) → definition ≡ Err refusal) → code ≡ number refusal
     → Writes definition old old needed needed code
 writes_err {refusal = refusal} gives code = (Err refusal, gives, code, refl, refl)
+
+pub with_ok : {X V : Type 0} {definition : Result (List X × V) Refusal} {items old new : List X} {needed : ℕ} {value after : V} {code : ℤ}
+    → definition ≡ Ok (items, after) → code ≡ (if is_short old items then pos 4 else pos 0)
+    → new ≡ buffer_after old (Ok items) → WritesWith definition old new needed (length items) value after code
+with_ok {items = items} {after = after} gives code buffer = (Ok (items, after), gives, code, buffer, refl, refl)
+
+pub with_err : {X V : Type 0} {definition : Result (List X × V) Refusal} {old : List X} {needed : ℕ} {value : V} {code : ℤ} {refusal : Refusal}
+    → ((refusal ≡ Memory → ⊥) → definition ≡ Err refusal) → code ≡ number refusal
+    → WritesWith definition old old needed needed value value code
+with_err {refusal = refusal} gives code = (Err refusal, gives, code, refl, refl, refl)
 
 pub edited_ok : {definition : Result (Option Object) Refusal} {old new : Option Object}
     → definition ≡ Ok new → Tells definition old new (pos 0)
@@ -53,5 +63,7 @@ told_as {X = X} {definition = definition} {old = old} {new = new} {code' = code'
     (subst (λ (z : ℤ). Tells definition old new z) (sym same) tells)
 
 pub ruleset written = (writes_ok, writes_err)
+
+pub ruleset written_with = (with_ok, with_err)
 
 pub ruleset told = (edited_ok, edited_err)

@@ -4,7 +4,7 @@ use Rattle.std.specs.List.{join_by}
 use Rattle.std.specs.Prelude.{◌==◌}
 use Rattle.std.proofs.lemmas.Bool.{false≢true}
 use Rattle.pylock_readers.proofs.Joined.{joined_texts}
-use Rattle.pylock_c.specs.Record.{joined}
+use Rattle.pylock_values.specs.Record.{joined}
 
 -- items that there are, by their texts
 pub some_joined : {X : Type 0} (f : X → List ℕ) (sep : List ℕ) (xs : List X) → (length xs == 0) ≡ false

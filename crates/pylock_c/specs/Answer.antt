@@ -1,6 +1,7 @@
 -- What a call answers and leaves behind.
 use Rattle.std.specs.Prelude.{◌≡◌, ℕ, ℤ, pos, ◌++◌, List, length, drop, nat_lt, Bool, if◌then◌else◌}
 use Rattle.std.specs.Prelude.{Option, Result, Ok, Err}
+use Rattle.std.specs.Result.{result_map_both}
 use Rattle.pytext.specs.Agreement.{Gives}
 use Rattle.pylock_c.specs.Refusal.{number}
 use Rattle.pylock_c.specs.declared.object.Object.{Object}
@@ -33,27 +34,44 @@ Edits definition old new (Err refusal) =
 
 -- ---- an outcome in a buffer
 
--- whether the buffer is too small for the bytes
-abbrev pub is_short : List ℕ → List ℕ → Bool
-is_short buffer bytes = nat_lt (length buffer) (length bytes)
+-- whether the buffer is too small for the items
+abbrev pub is_short : {X : Type 0} → List X → List X → Bool
+is_short buffer items = nat_lt (length buffer) (length items)
 
-abbrev pub written_code : List ℕ → Result (List ℕ) Refusal → ℤ
-written_code buffer (Ok bytes) = if is_short buffer bytes then pos 4 else pos 0
+abbrev pub written_code : {X : Type 0} → List X → Result (List X) Refusal → ℤ
+written_code buffer (Ok items) = if is_short buffer items then pos 4 else pos 0
 written_code buffer (Err refusal) = number refusal
 
--- the buffer after the call: the bytes and what stood behind them, or what it had
-abbrev pub written : List ℕ → Result (List ℕ) Refusal → List ℕ
-written buffer (Ok bytes) =
-    if is_short buffer bytes then buffer else bytes ++ drop (length bytes) buffer
+-- the buffer after the call: the items and what stood behind them, or what it had
+abbrev pub written : {X : Type 0} → List X → Result (List X) Refusal → List X
+written buffer (Ok items) =
+    if is_short buffer items then buffer else items ++ drop (length items) buffer
 written buffer (Err refusal) = buffer
 
--- how many bytes the result has
-abbrev pub needed_or : ℕ → Result (List ℕ) Refusal → ℕ
-needed_or old (Ok bytes) = length bytes
+-- how many items the result has
+abbrev pub needed_or : {X : Type 0} → ℕ → Result (List X) Refusal → ℕ
+needed_or old (Ok items) = length items
 needed_or old (Err refusal) = old
 
-abbrev pub Writes : Result (List ℕ) Refusal → List ℕ → List ℕ → ℕ → ℕ → ℤ → Type 0
-Writes definition old new needed needed' code = (outcome : Result (List ℕ) Refusal)
-    × Gives Memory (λ bytes. bytes) outcome definition
+abbrev pub Writes : {X : Type 0} → Result (List X) Refusal → List X → List X → ℕ → ℕ → ℤ → Type 0
+Writes {X = X} definition old new needed needed' code = (outcome : Result (List X) Refusal)
+    × Gives Memory (λ items. items) outcome definition
     × (code ≡ written_code old outcome) × (new ≡ written old outcome)
     × (needed' ≡ needed_or needed outcome)
+
+-- the items of a result, and the value beside them
+abbrev pub items_of : {X V : Type 0} → Result (List X × V) Refusal → Result (List X) Refusal
+items_of outcome = result_map_both (λ told. told.0) (λ refusal. refusal) outcome
+
+abbrev pub beside : {X V : Type 0} → Result (List X × V) Refusal → Result V Refusal
+beside outcome = result_map_both (λ told. told.1) (λ refusal. refusal) outcome
+
+-- the same with a value at a place beside it, which is set also where the items have no room
+abbrev pub WritesWith : {X V : Type 0} → Result (List X × V) Refusal → List X → List X → ℕ → ℕ
+    → V → V → ℤ → Type 0
+WritesWith {X = X} {V = V} definition old new needed needed' value value' code =
+    (outcome : Result (List X × V) Refusal)
+    × Gives Memory (λ told. told) outcome definition
+    × (code ≡ written_code old (items_of outcome)) × (new ≡ written old (items_of outcome))
+    × (needed' ≡ needed_or needed (items_of outcome))
+    × (value' ≡ value_or value (beside outcome))

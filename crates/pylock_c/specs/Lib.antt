@@ -5,10 +5,10 @@ pub mod Environments
 pub mod Kept
 pub mod Markers
 pub mod Opening
-pub mod Record
 pub mod Refusal
 pub mod Requirements
 pub mod Sdists
+pub mod Tags
 pub mod Targets
 pub mod Sessions
 pub mod Sets

@@ -77,6 +77,7 @@ number refusal.Environment = pos 71
 number refusal.Findings = pos 72
 number refusal.TargetPython = pos 73
 number refusal.TargetPlatform = pos 74
+number refusal.TagParts = pos 75
 number (refusal.Edit refused) = edit_number refused
 
 abbrev pub version_refusal : VersionError → Refusal

@@ -4,7 +4,7 @@ use Rattle.pytext.specs.Results.{◌>>=◌}
 use Rattle.pyver_core.specs.Set.Normal.{specifier_text}
 use Rattle.pymark_core.specs.Requirement.Reading.{requirement_of}
 use Rattle.pymark_core.specs.Requirement.Value.{RequirementValue}
-use Rattle.pylock_c.specs.Record.{joined, record_of}
+use Rattle.pylock_values.specs.Record.{joined, record_of}
 use Rattle.pylock_c.specs.Refusal.{refuse_as, requirement_refusal}
 use Rattle.pylock_c.specs.Text.{text_of}
 use Rattle.pylock_c.specs.declared.refusal.Refusal.{Refusal}

@@ -9,11 +9,15 @@ use Rattle.pylock_core.specs.Session.Judgement.{readers, touched, verdicts_of}
 use Rattle.pylock_core.specs.Session.Names.{after_names, names_key}
 use Rattle.pylock_core.specs.Session.State.{State}
 use Rattle.pylock_core.specs.Session.Steps.{answer}
+use Rattle.pylock_core.specs.declared.answer.Answer.{Answer}
+use Rattle.pylock_core.specs.declared.answer.Answer.TheVariants as answers
 use Rattle.pylock_core.specs.declared.edit.NameChange.{NameChange}
+use Rattle.pylock_documents.specs.Documents.{fault_detail}
 use Rattle.pylock_program.specs.Show.{view_shown}
 use Rattle.pylock_run.specs.Line.Refusal.{edit_refusal}
 use Rattle.pylock_run.specs.Report.{after_command, is_plan}
 use Rattle.pylock_run.specs.Text.Field.{fields_text}
+use Rattle.pylock_values.specs.Picks.{fault_line, picks_text}
 use Rattle.pylock_command.specs.declared.task.View.{View}
 use Rattle.pylock_run.specs.declared.line.commands.Command.{Command}
 use Rattle.pylock_run.specs.declared.line.commands.Command.TheVariants as command
@@ -96,6 +100,21 @@ abbrev pub shown_in : View → Form → Option Object → Result (Option Object 
 shown_in view form object = do
   session ← session_in object
   Ok (Some (kind.Text (view_shown view form session.state)), is_plan (answer session.state))
+
+-- a line for each pick of an answer, or the line of its fault
+abbrev pub answer_lines : State → Answer → List ℕ
+answer_lines state (answers.Plan picks) = picks_text state picks
+answer_lines state (answers.Fault number code) =
+    fault_line state number code (fault_detail state number code)
+
+-- these lines, and whether the answer is a plan
+abbrev pub picks_in : Option Object → Result (Option Object × Bool) Refusal
+picks_in object = do
+  session ← session_in object
+  Ok (
+    Some (kind.Text (answer_lines session.state (answer session.state))),
+    is_plan (answer session.state),
+  )
 
 -- a record of numbers
 abbrev pub numbers_text : List ℕ → List ℕ

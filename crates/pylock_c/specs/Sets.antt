@@ -7,6 +7,7 @@ use Rattle.pyver_core.specs.Set.Admission.{admits_all}
 use Rattle.pyver_core.specs.Set.Normal.{set_text}
 use Rattle.pyver_core.specs.Version.Parts.{Parts}
 use Rattle.pyver_core.specs.declared.set.specifier.Specifier.{Specifier}
+use Rattle.pylock_values.specs.Spans.{spans_of as set_spans}
 use Rattle.pylock_c.specs.Refusal.{refuse_as, set_refusal, version_refusal}
 use Rattle.pylock_c.specs.Text.{text_of}
 use Rattle.pylock_c.specs.declared.object.Object.{Object}
@@ -23,6 +24,12 @@ abbrev pub set_of : List ℕ → Result (List Specifier) Refusal
 set_of bytes = do
   text ← text_of bytes
   refuse_as set_refusal (parsed_set text)
+
+-- where the specifiers of a set stand in its text
+abbrev pub spans_of : List ℕ → Result (List ℕ) Refusal
+spans_of bytes = do
+  text ← text_of bytes
+  refuse_as set_refusal (set_spans text)
 
 -- whether a set admits a version; the set's text is judged first
 abbrev pub admits_of : List ℕ → List ℕ → Result Bool Refusal

@@ -1,8 +1,8 @@
 //! Outcomes as C sees them.
 
-ghost use Rattle.std.specs.Prelude.{◌≡◌, ◌++◌, ◌≤◌, ℕ, List, Option, Result, Some, drop, length};
+ghost use Rattle.std.specs.Prelude.{◌≡◌, ℕ, List, Ok, Option, Result, Some, length};
 ghost use Rattle.pytext.specs.Agreement.{Gives};
-ghost use Rattle.pylock_c.specs.Answer.{Edits, Tells, Writes};
+ghost use Rattle.pylock_c.specs.Answer.{Edits, Tells, Writes, WritesWith, written, written_code};
 ghost use Rattle.pylock_c.specs.Slot.{object};
 ghost use Rattle.pylock_c.specs.declared.object.Object.{Object as Kind};
 ghost use Rattle.pylock_c.specs.declared.refusal.Refusal.{Refusal as Refused};
@@ -112,39 +112,63 @@ pub(crate) fn write(outcome: Result<&[u8], Refusal>, buffer: &mut [u8], needed: 
         → Writes definition buffer.old buffer.new needed.old needed.new result }
 {
     match outcome {
-        Ok(bytes) => {
-            *needed = bytes.len();
-            if buffer.len() < bytes.len() {
-                return ROOM;
-            }
-            fill(buffer, bytes);
-            OK
+        Ok(bytes) => put(bytes, buffer, needed),
+        Err(refusal) => refusal.number(),
+    }
+}
+
+/// Writes items that the call made.
+#[tactic(auto, using(crate::proofs::AnswerLemmas::written))]
+pub(crate) fn write_made<T: Copy>(
+    outcome: Result<Vec<T>, Refusal>,
+    buffer: &mut [T],
+    needed: &mut usize,
+) -> i32
+    ensures { (definition : Result (List T) Refused)
+        → Gives Memory (λ items. items.items) outcome definition
+        → Writes definition buffer.old buffer.new needed.old needed.new result }
+{
+    match outcome {
+        Ok(items) => put(&items, buffer, needed),
+        Err(refusal) => refusal.number(),
+    }
+}
+
+/// Writes items that the call made, and leaves the value at its place, also where the items have no
+/// room.
+#[tactic(auto, using(crate::proofs::AnswerLemmas::written_with))]
+pub(crate) fn write_with<T: Copy, V: Drop>(
+    outcome: Result<(Vec<T>, V), Refusal>,
+    buffer: &mut [T],
+    needed: &mut usize,
+    place: &mut V,
+) -> i32
+    ensures { (definition : Result (List T × V) Refused)
+        → Gives Memory (λ told. (told.0.items, told.1)) outcome definition
+        → WritesWith definition buffer.old buffer.new needed.old needed.new place.old place.new
+        result }
+{
+    match outcome {
+        Ok((items, value)) => {
+            *place = value;
+            put(&items, buffer, needed)
         }
         Err(refusal) => refusal.number(),
     }
 }
 
-/// Writes bytes that the call made.
-pub(crate) fn write_made(
-    outcome: Result<Vec<u8>, Refusal>,
-    buffer: &mut [u8],
-    needed: &mut usize,
-) -> i32
-    ensures { (definition : Result (List ℕ) Refused)
-        → Gives Memory (λ bytes. bytes.items) outcome definition
-        → Writes definition buffer.old buffer.new needed.old needed.new result }
+/// Puts the items at the front of the buffer where they have room, leaves their number in `needed`,
+/// and answers the code.
+fn put<T: Copy>(items: &[T], buffer: &mut [T], needed: &mut usize) -> i32
+    ensures code { result ≡ written_code buffer.old (Ok items.now) }
+    ensures buffer { buffer.new ≡ written buffer.old (Ok items.now) }
+    ensures needed { needed.new ≡ length items.now }
 {
-    match outcome {
-        Ok(bytes) => write(Ok(&bytes), buffer, needed),
-        Err(refusal) => write(Err(refusal), buffer, needed),
+    *needed = items.len();
+    if buffer.len() < items.len() {
+        return ROOM;
     }
-}
-
-/// Puts the bytes at the front of the buffer.
-fn fill(buffer: &mut [u8], bytes: &[u8])
-    requires { length bytes.now ≤ length buffer.old }
-    ensures { buffer.new ≡ bytes.now ++ drop (length bytes.now) buffer.old }
-{
-    let (front, _rest) = buffer.split_at_mut(bytes.len());
-    front.copy_from_slice(bytes);
+    let (front, _rest) = buffer.split_at_mut(items.len());
+    front.copy_from_slice(items);
+    OK
 }

@@ -33,6 +33,7 @@ mod sessions;
 mod sets;
 mod slot;
 mod strict;
+mod tags;
 mod targets;
 mod text;
 mod threads;

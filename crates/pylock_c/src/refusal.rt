@@ -87,6 +87,8 @@ pub enum Refusal {
     TargetPython,
     /// The platform of a target is none.
     TargetPlatform,
+    /// The text hasn't the three parts of tags.
+    TagParts,
     /// An edit is refused.
     Edit(LineRefusal),
 }
@@ -132,6 +134,7 @@ impl Refusal {
             Refusal::Findings => 72,
             Refusal::TargetPython => 73,
             Refusal::TargetPlatform => 74,
+            Refusal::TagParts => 75,
             Refusal::Edit(refusal) => edit_number(refusal),
         }
     }

@@ -5,7 +5,7 @@ ghost use Rattle.pytext.specs.Agreement.{Gives};
 ghost use Rattle.pyver_core.specs.Set.Normal.{specifier_text};
 ghost use Rattle.pylock_run.specs.Text.Field.{field};
 ghost use Rattle.pylock_c.specs.Answer.{Tells};
-ghost use Rattle.pylock_c.specs.Record.{joined};
+ghost use Rattle.pylock_values.specs.Record.{joined};
 ghost use Rattle.pylock_c.specs.Requirements.{requirement_record};
 ghost use Rattle.pylock_c.specs.Slot.{object};
 ghost use Rattle.pylock_c.specs.Text.{kept_text};

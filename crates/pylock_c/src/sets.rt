@@ -4,7 +4,7 @@ ghost use Rattle.std.specs.Prelude.{◌≡◌, None, Some};
 ghost use Rattle.pytext.specs.Agreement.{Gives};
 ghost use Rattle.pylock_c.specs.Answer.{Tells, Writes};
 ghost use Rattle.pylock_c.specs.Sets.{admits_in, admits_of, is_name_of, name_of, parsed, set_in};
-ghost use Rattle.pylock_c.specs.Sets.{set_of, set_text_in, version_of};
+ghost use Rattle.pylock_c.specs.Sets.{set_of, set_text_in, spans_of, version_of};
 ghost use Rattle.pylock_c.specs.Slot.{kept_object, object};
 ghost use Rattle.pylock_c.specs.declared.refusal.Refusal.TheVariants.{Memory};
 
@@ -13,6 +13,7 @@ use crate::object::Object;
 use crate::refusal::Refusal;
 use crate::slot::Slot;
 use crate::text::text;
+use pylock_values::set_spans;
 use pyver_core::{SpecifierSet, Version, is_name, normal_name};
 use std::alloc::Global;
 
@@ -26,6 +27,25 @@ fn set(alloc: Global, bytes: &[u8]) -> Result<SpecifierSet, Refusal>
     ensures { Gives Memory (λ set. set) result (set_of bytes.now) }
 {
     Ok(SpecifierSet::parse(alloc, text(bytes)?)?)
+}
+
+fn spans(alloc: Global, bytes: &[u8]) -> Result<Vec<usize>, Refusal>
+    ensures { Gives Memory (λ spans. spans.items) result (spans_of bytes.now) }
+{
+    Ok(set_spans(alloc, text(bytes)?)?)
+}
+
+/// Where the specifiers of a set stand in its text.
+#[unsafe(no_mangle)]
+pub extern "C" fn pylock_set_spans(
+    alloc: Global,
+    text: &[u8],
+    out: &mut [usize],
+    needed: &mut usize,
+) -> i32
+    ensures { Writes (spans_of text.now) out.old out.new needed.old needed.new result }
+{
+    write_made(spans(alloc, text), out, needed)
 }
 
 fn admits(alloc: Global, specifiers: &[u8], bytes: &[u8]) -> Result<bool, Refusal>

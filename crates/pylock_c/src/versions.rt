@@ -1,23 +1,25 @@
-//! The order key of a version, and the record of its parts (PEP 440).
+//! The order key and the kind of a version, its normal form, the numbers of its parts, and the
+//! record of these (PEP 440).
 
-ghost use Rattle.std.specs.Prelude.{◌≡◌, ◌≢◌, ◌++◌, ◌∷◌, [], IfOk, None, Ok, OnOk, Some};
-ghost use Rattle.std.specs.Prelude.{codes, drop, map, option_map, string_bytes, take};
+ghost use Rattle.std.specs.Prelude.{◌≡◌, ◌≢◌, ◌++◌, ◌∷◌, [], IfOk, OnOk, Some, codes, drop, map};
+ghost use Rattle.std.specs.Prelude.{option_map, string_bytes, take};
 ghost use Rattle.pytext.specs.Agreement.{Gives};
-ghost use Rattle.pyver_core.specs.Version.FromParts.{version_from_parts};
 ghost use Rattle.pyver_core.specs.Version.Normal.{decimal_text, pre_text, release_text};
 ghost use Rattle.pyver_core.specs.Version.Normal.{segment_text};
-ghost use Rattle.pyver_core.specs.Version.Parts.{public_part};
 ghost use Rattle.pylock_run.specs.Text.Field.{field, fields_text};
-ghost use Rattle.pylock_c.specs.Answer.{Writes};
-ghost use Rattle.pylock_c.specs.Record.{joined, record_of};
-ghost use Rattle.pylock_c.specs.Versions.{key_of, parts_of, version_record};
+ghost use Rattle.pylock_values.specs.Record.{joined, record_of};
+ghost use Rattle.pylock_c.specs.Answer.{Writes, WritesWith};
+ghost use Rattle.pylock_c.specs.Versions.{key_of, normal_of, parts_of, read_of, split_of};
+ghost use Rattle.pylock_c.specs.Versions.{version_record};
 ghost use Rattle.pylock_c.specs.declared.refusal.Refusal.TheVariants.{Memory};
 
-use crate::answer::write_made;
+use crate::answer::{write_made, write_with};
 use crate::refusal::Refusal;
 use crate::sets::version;
+use crate::text::text;
 use pylock_run::{push_field, push_next_field};
-use pyver_core::{LocalPart, PartsError, PreKind, Version, VersionParts};
+use pylock_values::{VersionKind, VersionNumbers, base_of, kind_of, normal_form, words_of};
+use pyver_core::{LocalPart, PreKind, Version};
 use std::alloc::{AllocError, Global};
 use std::fmt::Write;
 
@@ -38,6 +40,75 @@ pub extern "C" fn pylock_version_key(
     ensures { Writes (key_of text.now) out.old out.new needed.old needed.new result }
 {
     write_made(key(alloc, text), out, needed)
+}
+
+fn read(alloc: Global, bytes: &[u8]) -> Result<(Vec<u8>, VersionKind), Refusal>
+    ensures { Gives Memory (λ read. (read.0.items, read.1)) result (read_of bytes.now) }
+{
+    let version = version(alloc, bytes)?;
+    let text = text(bytes)?;
+    let key = version.order_key(alloc)?;
+    Ok((key, kind_of(&version, text)))
+}
+
+/// The order key of a version, and its kind.
+#[unsafe(no_mangle)]
+pub extern "C" fn pylock_version_read(
+    alloc: Global,
+    text: &[u8],
+    out: &mut [u8],
+    needed: &mut usize,
+    kind: &mut VersionKind,
+) -> i32
+    ensures { WritesWith (read_of text.now) out.old out.new needed.old needed.new kind.old kind.new
+        result }
+{
+    write_with(read(alloc, text), out, needed, kind)
+}
+
+fn normal(alloc: Global, bytes: &[u8], short: bool) -> Result<Vec<u8>, Refusal>
+    ensures { Gives Memory (λ normal. normal.items) result (normal_of short bytes.now) }
+{
+    let version = version(alloc, bytes)?;
+    Ok(normal_form(alloc, &version, short)?)
+}
+
+/// The normal form of a version, or without the zeros at the end of its release.
+#[unsafe(no_mangle)]
+pub extern "C" fn pylock_version_normal(
+    alloc: Global,
+    text: &[u8],
+    strip: bool,
+    out: &mut [u8],
+    needed: &mut usize,
+) -> i32
+    ensures { Writes (normal_of strip text.now) out.old out.new needed.old needed.new result }
+{
+    write_made(normal(alloc, text, strip), out, needed)
+}
+
+fn split(alloc: Global, bytes: &[u8]) -> Result<(Vec<u64>, VersionNumbers), Refusal>
+    ensures { Gives Memory (λ split. (split.0.items, split.1)) result (split_of bytes.now) }
+{
+    let version = version(alloc, bytes)?;
+    let release = words_of(alloc, version.release())?;
+    let numbers = VersionNumbers::of(alloc, &version)?;
+    Ok((release, numbers))
+}
+
+/// The parts of a version as numbers.
+#[unsafe(no_mangle)]
+pub extern "C" fn pylock_version_split(
+    alloc: Global,
+    text: &[u8],
+    parts: &mut VersionNumbers,
+    release: &mut [u64],
+    needed: &mut usize,
+) -> i32
+    ensures { WritesWith (split_of text.now) release.old release.new needed.old needed.new
+        parts.old parts.new result }
+{
+    write_with(split(alloc, text), release, needed, parts)
 }
 
 fn version_record(alloc: Global, bytes: &[u8]) -> Result<Vec<u8>, Refusal>
@@ -69,9 +140,8 @@ fn push_versions(alloc: Global, out: &mut Vec<u8>, version: &Version) -> Result<
         ≡ out.old.items ++ record_of (take 3 (parts_of version.now))) }
 {
     push_field(out, Some(version.text()))?;
-    push_next_field(out, Some(public_part(alloc, version)?.text()))?;
-    let base = base(alloc, version.epoch(), version.release())?;
-    push_next_field(out, Some(base.text()))
+    push_next_field(out, Some(version.public_part(alloc)?.text()))?;
+    push_next_field(out, Some(version.base_release(alloc)?.text()))
 }
 
 /// Pushes the others behind them.
@@ -85,55 +155,6 @@ fn push_rest(alloc: Global, out: &mut Vec<u8>, version: &Version) -> Result<(), 
     push_number(alloc, out, version.post())?;
     push_number(alloc, out, version.dev())?;
     push_local(alloc, out, version.local())
-}
-
-fn public_part(alloc: Global, version: &Version) -> Result<Version, AllocError>
-    ensures { IfOk result (λ public. public ≡ public_part version.now) }
-{
-    let parts = VersionParts {
-        epoch: version.epoch(),
-        release: Vec::from_slice(alloc, version.release())?,
-        pre: version.pre(),
-        post: version.post(),
-        dev: version.dev(),
-        local: Vec::new(alloc),
-    };
-    made_of(alloc, parts)
-}
-
-/// The version of an epoch and a release alone.
-fn base(alloc: Global, epoch: u128, release: &[u128]) -> Result<Version, AllocError>
-    requires { release.now ≢ [] }
-    ensures { IfOk result (λ base. base ≡ record {
-      epoch = epoch;
-      release = release.now;
-      pre = None;
-      post = None;
-      dev = None;
-      local = [];
-    }) }
-{
-    let parts = VersionParts {
-        epoch,
-        release: Vec::from_slice(alloc, release)?,
-        pre: None,
-        post: None,
-        dev: None,
-        local: Vec::new(alloc),
-    };
-    made_of(alloc, parts)
-}
-
-/// The version of these parts, of which there is one: only want of memory refuses them.
-fn made_of(alloc: Global, parts: VersionParts) -> Result<Version, AllocError>
-    requires { version_from_parts parts ≡ Ok parts }
-    ensures { IfOk result (λ version. version ≡ parts) }
-{
-    match Version::from_parts(alloc, parts) {
-        Ok(version) => Ok(version),
-        Err(PartsError::Memory) => Err(AllocError),
-        Err(PartsError::EmptyRelease | PartsError::LocalSegment) => unreachable!(),
-    }
 }
 
 /// Pushes a TAB and the field of a number.
@@ -161,7 +182,7 @@ fn push_release(alloc: Global, out: &mut Vec<u8>, release: &[u128]) -> Result<()
     ensures { OnOk result (out.new.items
         ≡ out.old.items ++ 9 ∷ field (Some (release_text release.now))) }
 {
-    let alone = base(alloc, 0, release)?;
+    let alone = base_of(alloc, 0, release)?;
     push_next_field(out, Some(alone.text()))
 }
 

@@ -1,16 +1,17 @@
-//! The record of what the name of a wheel says (PEP 427).
+//! The records of what the name of a wheel says (PEP 427).
 
 ghost use Rattle.pytext.specs.Agreement.{Gives};
 ghost use Rattle.pylock_c.specs.Answer.{Tells};
 ghost use Rattle.pylock_c.specs.Slot.{object};
 ghost use Rattle.pylock_c.specs.Text.{kept_text};
-ghost use Rattle.pylock_c.specs.Wheels.{wheel_record};
+ghost use Rattle.pylock_c.specs.Wheels.{wheel_parts_of, wheel_record};
 ghost use Rattle.pylock_c.specs.declared.refusal.Refusal.TheVariants.{Memory};
 
 use crate::refusal::Refusal;
 use crate::slot::Slot;
 use crate::text::{keep_text, text};
 use pylock_run::{push_field, push_next_field};
+use pylock_values::wheel_parts_record;
 use pywheel_core::{WheelName, tags_text};
 use std::alloc::Global;
 
@@ -33,4 +34,20 @@ pub extern "C" fn pylock_wheel(alloc: Global, text: &[u8], slot: &mut Slot) -> i
     ensures { Tells (kept_text (wheel_record text.now)) (object slot.old) (object slot.new) result }
 {
     keep_text(alloc, wheel_record(alloc, text), slot)
+}
+
+fn wheel_parts(alloc: Global, bytes: &[u8]) -> Result<Vec<u8>, Refusal>
+    ensures { Gives Memory (λ made. made.items) result (wheel_parts_of bytes.now) }
+{
+    let wheel = WheelName::parse(alloc, text(bytes)?)?;
+    Ok(wheel_parts_record(alloc, &wheel)?)
+}
+
+/// The same, part by part.
+#[unsafe(no_mangle)]
+pub extern "C" fn pylock_wheel_parts(alloc: Global, text: &[u8], slot: &mut Slot) -> i32
+    ensures { Tells (kept_text (wheel_parts_of text.now)) (object slot.old) (object slot.new)
+        result }
+{
+    keep_text(alloc, wheel_parts(alloc, text), slot)
 }

@@ -1,12 +1,15 @@
 //! What is told of a session as it stands.
 
-ghost use Rattle.std.specs.Prelude.{◌≡◌, ◌++◌, OnOk, Some, decimal, map};
+ghost use Rattle.std.specs.Prelude.{◌≡◌, ◌++◌, IfOk, OnOk, Some, decimal, map};
 ghost use Rattle.pytext.specs.Agreement.{Gives};
+ghost use Rattle.pylock_core.specs.Session.Steps.{answer as answer_of};
+ghost use Rattle.pylock_run.specs.Report.{is_plan};
 ghost use Rattle.pylock_run.specs.Text.Field.{fields_text};
 ghost use Rattle.pylock_command.specs.declared.task.View.TheVariants.{Explain, Plan};
 ghost use Rattle.pylock_c.specs.Answer.{Tells};
 ghost use Rattle.pylock_c.specs.Answers.{form_of};
-ghost use Rattle.pylock_c.specs.Sessions.{judged_in, numbers_text, session_in, shown_in};
+ghost use Rattle.pylock_c.specs.Sessions.{answer_lines, judged_in, numbers_text, picks_in};
+ghost use Rattle.pylock_c.specs.Sessions.{session_in, shown_in};
 ghost use Rattle.pylock_c.specs.Slot.{kept_object, object};
 ghost use Rattle.pylock_c.specs.declared.refusal.Refusal.TheVariants.{Memory};
 
@@ -16,9 +19,11 @@ use crate::object::{Bytes, Object};
 use crate::refusal::Refusal;
 use crate::slot::Slot;
 use pylock_command::Form;
-use pylock_core::Session;
+use pylock_core::{Answer, Session};
+use pylock_documents::fault_detail;
 use pylock_program::{View, push_view};
 use pylock_run::push_decimal;
+use pylock_values::{push_fault, push_picks};
 use std::alloc::{AllocError, Global};
 
 fn session_in(kept: &Option<Box<Object>>) -> Result<&Session, Refusal>
@@ -95,6 +100,55 @@ pub extern "C" fn pylock_session_explain(
         (object out.old, is_plan.old) (object out.new, is_plan.new) result }
 {
     show_session(alloc, View::Explain, form_of(json), session, out, is_plan)
+}
+
+/// Pushes a line for each pick of the answer, or the line of its fault, and answers whether it is a
+/// plan.
+fn push_answer(alloc: Global, out: &mut Vec<u8>, session: &Session) -> Result<bool, AllocError>
+    ensures plan { IfOk result (λ plan. plan ≡ is_plan (answer_of session.now.state)) }
+    ensures text { OnOk result (out.new.items ≡ out.old.items
+        ++ answer_lines session.now.state (answer_of session.now.state)) }
+{
+    match session.answer()? {
+        Answer::Plan(plan) => {
+            push_picks(out, session, plan.picks())?;
+            Ok(true)
+        }
+        Answer::Fault { id, code } => {
+            let detail = fault_detail(alloc, session, id, code)?;
+            push_fault(out, session, id, code, detail.as_deref())?;
+            Ok(false)
+        }
+    }
+}
+
+/// The lines of a session's answer, and whether it is a plan.
+fn picks_in(alloc: Global, kept: &Option<Box<Object>>) -> Result<(Object, bool), Refusal>
+    ensures { Gives Memory (λ told. (Some told.0, told.1)) result
+        (picks_in (kept_object kept.now)) }
+{
+    let session = session_in(kept)?;
+    let mut text = Vec::new(alloc);
+    let is_plan = push_answer(alloc, &mut text, session)?;
+    Ok((Object::Text(Bytes::new(text)), is_plan))
+}
+
+/// The picks of a session's answer as it stands, or its fault, for a program.
+#[unsafe(no_mangle)]
+pub extern "C" fn pylock_session_picks(
+    alloc: Global,
+    session: &mut Slot,
+    out: &mut Slot,
+    is_plan: &mut bool,
+) -> i32
+    ensures kept { object session.new ≡ object session.old }
+    ensures told { Tells (picks_in (object session.old))
+        (object out.old, is_plan.old) (object out.new, is_plan.new) result }
+{
+    let kept = session.take(alloc);
+    let told = picks_in(alloc, &kept);
+    session.put(alloc, kept);
+    keep_with(alloc, told, out, is_plan)
 }
 
 fn judged_in(alloc: Global, kept: &Option<Box<Object>>) -> Result<Object, Refusal>

@@ -2,7 +2,7 @@
 use Rattle.std.proofs.Common.{◌≡◌, ◌++◌, ◌∷◌, ◌∙◌, ap, sym, subst, false, length, map, OnOk, Some, codes, string_bytes}
 use Rattle.std.specs.Prelude.{◌==◌}
 use Rattle.pylock_run.specs.Text.Field.{field}
-use Rattle.pylock_c.specs.Record.{joined}
+use Rattle.pylock_values.specs.Record.{joined}
 use Rattle.pylock_c.proofs.RecordLemmas.{some_joined}
 use Rattle.pylock_c.proofs.requirements.push_extras.Goals as goal
 

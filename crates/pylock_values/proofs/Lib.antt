@@ -1,0 +1,4 @@
+pub mod PartsLemmas
+pub mod PicksLemmas
+pub mod SpansLemmas
+pub mod TagsLemmas

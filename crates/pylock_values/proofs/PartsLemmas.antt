@@ -1,0 +1,83 @@
+-- What the normal form of a version begins with, and a normal form with a shorter release.
+use Rattle.std.proofs.Common.{◌≡◌, ◌++◌, [], ◌∷◌, ℕ, zero, suc, List, drop, take, refl, sym, ap, ◌∙◌, append_assoc}
+use Rattle.std.proofs.Math.Seq.{drop-append_seam, take-append_seam}
+use Rattle.std.proofs.lemmas.List.{append-nil}
+use Rattle.pyver_core.specs.Version.Hashing.{prepend_unless_trailing, without_trailing_zeros}
+use Rattle.pyver_core.specs.Version.Normal.{dev_text, epoch_text, local_text, normal_text, post_text, pre_text, release_text}
+use Rattle.pyver_core.specs.Version.Order.{IsSame}
+use Rattle.pyver_core.specs.Version.OrderKey.{order_key}
+use Rattle.pyver_core.specs.Version.Parts.{Parts, base_release, public_part}
+use Rattle.pyver_core.proofs.Lemmas.Version.OrderKey.{keys_equal}
+use Rattle.pylock_values.specs.Parts.{base_length, base_with, public_length, short_release, without_zeros}
+
+-- ---- the base release
+
+-- what stands behind the release in the normal form
+abbrev behind : Parts → List ℕ
+behind v = pre_text v.pre ++ (post_text v.post ++ (dev_text v.dev ++ local_text v.local))
+
+base_text : (v : Parts) → normal_text (base_release v) ≡ epoch_text v.epoch ++ release_text v.release
+base_text v = ap (λ (t : List ℕ). epoch_text v.epoch ++ t) (append-nil (release_text v.release))
+
+whole_text : (v : Parts) → normal_text v ≡ normal_text (base_release v) ++ behind v
+whole_text v =
+    sym (append_assoc (epoch_text v.epoch) (release_text v.release) (behind v))
+    ∙ ap (λ (t : List ℕ). t ++ behind v) (sym (base_text v))
+
+pub base_begins : (v : Parts) → take (base_length v) (normal_text v) ≡ normal_text (base_release v)
+base_begins v = ap (take (base_length v)) (whole_text v) ∙ take-append_seam (normal_text (base_release v)) (behind v)
+
+pub short_text : (v : Parts) → normal_text (base_with v.epoch (short_release v.release)) ++ drop (base_length v) (normal_text v) ≡ normal_text (without_zeros v)
+short_text v =
+    ap (λ (t : List ℕ). normal_text (base_with v.epoch (short_release v.release)) ++ t)
+    (ap (drop (base_length v)) (whole_text v) ∙ drop-append_seam (normal_text (base_release v)) (behind v))
+    ∙ sym (whole_text (without_zeros v))
+
+-- ---- the public part
+
+-- all but the local part
+abbrev front : Parts → List ℕ
+front v = epoch_text v.epoch ++ (release_text v.release ++ (pre_text v.pre ++ (post_text v.post ++ dev_text v.dev)))
+
+-- four texts before another
+behind_four : (a b c d e t : List ℕ) → (a ++ (b ++ (c ++ (d ++ e)))) ++ t ≡ a ++ (b ++ (c ++ (d ++ (e ++ t))))
+behind_four a b c d e t =
+    append_assoc a (b ++ (c ++ (d ++ e))) t
+    ∙ ap (λ (x : List ℕ). a ++ x) (append_assoc b (c ++ (d ++ e)) t
+    ∙ ap (λ (x : List ℕ). b ++ x) (append_assoc c (d ++ e) t
+    ∙ ap (λ (x : List ℕ). c ++ x) (append_assoc d e t)))
+
+public_text : (v : Parts) → normal_text (public_part v) ≡ front v
+public_text v =
+    sym (behind_four (epoch_text v.epoch) (release_text v.release) (pre_text v.pre) (post_text v.post) (dev_text v.dev) [])
+    ∙ append-nil (front v)
+
+pub public_begins : (v : Parts) → take (public_length v) (normal_text v) ≡ normal_text (public_part v)
+public_begins v =
+    let whole : normal_text v ≡ normal_text (public_part v) ++ local_text v.local =
+    sym (behind_four (epoch_text v.epoch) (release_text v.release) (pre_text v.pre) (post_text v.post) (dev_text v.dev) (local_text v.local))
+    ∙ ap (λ (t : List ℕ). t ++ local_text v.local) (sym (public_text v)) in
+    ap (take (public_length v)) whole ∙ take-append_seam (normal_text (public_part v)) (local_text v.local)
+
+-- ---- zeros at the end
+
+again : (x : ℕ) (ys : List ℕ) → without_trailing_zeros ys ≡ ys → without_trailing_zeros (prepend_unless_trailing x ys) ≡ prepend_unless_trailing x ys
+unfolding without_trailing_zeros
+again zero [] e = refl
+again zero (y ∷ ys) e = ap (prepend_unless_trailing zero) e
+again (suc n) ys e = ap (prepend_unless_trailing (suc n)) e
+
+none_left : (xs : List ℕ) → without_trailing_zeros (without_trailing_zeros xs) ≡ without_trailing_zeros xs
+unfolding without_trailing_zeros
+none_left [] = refl
+none_left (x ∷ xs) = again x (without_trailing_zeros xs) (none_left xs)
+
+short_alike : (release : List ℕ) → without_trailing_zeros (short_release release) ≡ without_trailing_zeros release
+unfolding without_trailing_zeros
+short_alike [] = refl
+short_alike (first ∷ rest) = ap (prepend_unless_trailing first) (none_left rest)
+
+pub same_without : (v : Parts) → IsSame (without_zeros v) v
+same_without v =
+    let keys : order_key (without_zeros v) ≡ order_key v = rw (short_alike v.release) refl in
+    (keys_equal (without_zeros v) v).1 keys

@@ -1,0 +1,2 @@
+-- What serves private contracts alone.
+pub mod Lent

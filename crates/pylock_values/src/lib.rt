@@ -1,0 +1,23 @@
+//! What versions, sets of specifiers, tags, names of wheels and plans say, as plain values:
+//! numbers, offsets and records of fields. So a caller in another language has them without a
+//! grammar of its own. The numbers of a version, from `crates/pylock_c/src/versions.rt`:
+//!
+//! ```rust
+//! let version = version(alloc, bytes)?;
+//! let release = words_of(alloc, version.release())?;
+//! let numbers = VersionNumbers::of(alloc, &version)?;
+//! ```
+#![tactic(auto)]
+
+pub mod laws;
+mod picks;
+mod sets;
+mod tags;
+mod versions;
+mod wheels;
+
+pub use picks::{push_fault, push_picks};
+pub use sets::set_spans;
+pub use tags::tags_record;
+pub use versions::{VersionKind, VersionNumbers, base_of, kind_of, normal_form, words_of};
+pub use wheels::wheel_parts_record;
