@@ -98,32 +98,33 @@ static int32_t ask_set(Set *set, PyObject *version, bool *admits, PyObject **tex
     return code;
 }
 
-static PyObject *set_admits(PyObject *self, PyObject *version)
-{
-    Set *set = (Set *)self;
-    bool admits = false;
-    PyObject *text;
-    int32_t code = ask_set(set, version, &admits, &text);
-    if (code == PYLOCK_OK) return PyBool_FromLong(admits);
-    if (code > 0) raise_refusal(set->state, code, text, "version");
-    return NULL;
-}
-
 bool is_no_version(int32_t code)
 {
     return code == PYLOCK_NOT_UTF8 || code == PYLOCK_VERSION_SYNTAX || code == PYLOCK_VERSION_NUMBER;
 }
 
-static PyObject *set_passes(PyObject *self, PyObject *version)
+PyObject *told_of(State *state, int32_t code, bool told, PyObject *text, PyObject *otherwise)
 {
-    Set *set = (Set *)self;
+    if (code == PYLOCK_OK) return PyBool_FromLong(told);
+    if (otherwise != NULL && is_no_version(code)) return hold(otherwise);
+    if (code > 0) raise_refusal(state, code, text, "version");
+    return NULL;
+}
+
+static PyObject *set_admits(PyObject *self, PyObject *version)
+{
     bool admits = false;
     PyObject *text;
-    int32_t code = ask_set(set, version, &admits, &text);
-    if (code == PYLOCK_OK) return PyBool_FromLong(admits);
-    if (is_no_version(code)) Py_RETURN_NONE;
-    if (code > 0) raise_refusal(set->state, code, text, "version");
-    return NULL;
+    int32_t code = ask_set((Set *)self, version, &admits, &text);
+    return told_of(((Set *)self)->state, code, admits, text, NULL);
+}
+
+static PyObject *set_passes(PyObject *self, PyObject *version)
+{
+    bool admits = false;
+    PyObject *text;
+    int32_t code = ask_set((Set *)self, version, &admits, &text);
+    return told_of(((Set *)self)->state, code, admits, text, Py_None);
 }
 
 static PyMethodDef set_methods[] = {
@@ -313,33 +314,33 @@ static void marker_dealloc(PyObject *self)
     free_object(self);
 }
 
-/* The operand `extra` of an argument, which is None where it has no value. */
-static bool extra_of(PyObject *argument, Text *extra)
+/* The value in an environment, with the text of the operand `extra`, which is None where it has none; `text` is what a
+ * refusal shows. */
+static PyObject *value_in(Marker *marker, pylock_environment *environment, PyObject *extra, PyObject *text)
 {
-    extra->holder = NULL;
-    extra->bytes = NULL;
-    return argument == Py_None || text_of(argument, extra);
+    Text view;
+    bool value = false;
+    int32_t code;
+    if (extra == Py_None) {
+        code = pylock_marker_evaluate(&marker->slot, environment, &value);
+    } else {
+        if (!text_of(extra, &view)) return NULL;
+        code = pylock_marker_evaluate_with_extra(&marker->slot, environment, view.bytes, view.length, &value);
+        text_done(&view);
+    }
+    if (code == PYLOCK_OK) return PyBool_FromLong(value);
+    raise_refusal(marker->state, code, text, "name");
+    return NULL;
 }
 
-/* evaluate(environment, extra, text): `text` is what a refusal shows. */
+/* evaluate(environment, extra, text) */
 static PyObject *marker_evaluate(PyObject *self, PyObject *const *arguments, Py_ssize_t count)
 {
     Marker *marker = (Marker *)self;
-    Text extra;
-    bool value = false;
     if (!check_count("evaluate", count, 3)) return NULL;
-    if (!is_of(arguments[0], marker->state->environment)) {
-        PyErr_SetString(PyExc_TypeError, "expected a kept environment");
-        return NULL;
-    }
-    if (!extra_of(arguments[1], &extra)) return NULL;
-    pylock_environment *environment = &((Environment *)arguments[0])->slot;
-    int32_t code = extra.bytes == NULL
-        ? pylock_marker_evaluate(&marker->slot, environment, &value)
-        : pylock_marker_evaluate_with_extra(&marker->slot, environment, extra.bytes, extra.length, &value);
-    text_done(&extra);
-    if (code == PYLOCK_OK) return PyBool_FromLong(value);
-    raise_refusal(marker->state, code, arguments[2], "name");
+    if (is_of(arguments[0], marker->state->environment))
+        return value_in(marker, &((Environment *)arguments[0])->slot, arguments[1], arguments[2]);
+    PyErr_SetString(PyExc_TypeError, "expected a kept environment");
     return NULL;
 }
 TAKES_TUPLE(marker_evaluate)
@@ -350,27 +351,16 @@ TAKES_TUPLE(marker_evaluate)
 static PyObject *marker_evaluate_over(PyObject *self, PyObject *const *arguments, Py_ssize_t count)
 {
     Marker *marker = (Marker *)self;
-    Text extra;
-    bool value = false;
     if (!check_count("evaluate_over", count, 5)) return NULL;
-    PyObject *given = arguments[2];
+    PyObject *extra = arguments[2];
     bool has_extra = arguments[3] == Py_True;
-    pylock_environment *environment = layers_with(marker->state, arguments[0], arguments[1], &given, &has_extra);
-    if (environment == NULL && PyErr_Occurred()) return NULL;
-    if (environment == NULL) Py_RETURN_NONE;
-    if (!extra_of(given, &extra)) {
-        Py_DECREF(given);
-        return NULL;
-    }
-    if (extra.bytes == NULL && has_extra) extra.bytes = (const uint8_t *)"", extra.length = 0;
-    int32_t code = extra.bytes == NULL
-        ? pylock_marker_evaluate(&marker->slot, environment, &value)
-        : pylock_marker_evaluate_with_extra(&marker->slot, environment, extra.bytes, extra.length, &value);
-    text_done(&extra);
-    Py_DECREF(given);
-    if (code == PYLOCK_OK) return PyBool_FromLong(value);
-    raise_refusal(marker->state, code, arguments[4], "name");
-    return NULL;
+    pylock_environment *environment = layers_with(marker->state, arguments[0], arguments[1], &extra, &has_extra);
+    if (environment == NULL) return PyErr_Occurred() ? NULL : hold(Py_None);
+    PyObject *operand = extra == Py_None && has_extra ? PyUnicode_FromString("") : hold(extra);
+    PyObject *value = operand == NULL ? NULL : value_in(marker, environment, operand, arguments[4]);
+    Py_XDECREF(operand);
+    Py_DECREF(extra);
+    return value;
 }
 TAKES_TUPLE(marker_evaluate_over)
 
@@ -405,9 +395,8 @@ static PyMethodDef kept_functions[] = {
 
 bool add_kept(PyObject *module, State *state)
 {
-    return (state->set = type_of_spec(module, &set_spec)) != NULL &&
-        (state->environment = type_of_spec(module, &environment_spec)) != NULL &&
-        (state->marker = type_of_spec(module, &marker_spec)) != NULL && add_type(module, "Set", state->set) &&
-        add_type(module, "Environment", state->environment) && add_type(module, "Marker", state->marker) &&
+    return add_type(module, "Set", &state->set, &set_spec) &&
+        add_type(module, "Environment", &state->environment, &environment_spec) &&
+        add_type(module, "Marker", &state->marker, &marker_spec) &&
         PyModule_AddFunctions(module, kept_functions) == 0;
 }

@@ -174,6 +174,5 @@ static PyObject *made_places(void)
 
 bool add_layers(PyObject *module, State *state)
 {
-    return (state->places = made_places()) != NULL && (state->layers = type_of_spec(module, &layers_spec)) != NULL &&
-        add_type(module, "Layers", state->layers);
+    return (state->places = made_places()) != NULL && add_type(module, "Layers", &state->layers, &layers_spec);
 }

@@ -393,6 +393,43 @@ static PyObject *session_explain(PyObject *self, PyObject *json)
     return answer_of(self, json, pylock_session_explain);
 }
 
+/* The fields of each line of a text: a list. */
+static PyObject *records_of(const Result *lines)
+{
+    Text rest = {lines->bytes, lines->length, NULL}, line;
+    PyObject *records = PyList_New(0);
+    while (records != NULL && cut_text(&rest, '\n', &line)) {
+        PyObject *fields = fields_of(line.bytes, line.length);
+        if (fields == NULL || PyList_Append(records, fields) < 0) Py_CLEAR(records);
+        Py_XDECREF(fields);
+    }
+    return records;
+}
+
+static PyObject *session_picks(PyObject *self, PyObject *nothing)
+{
+    Session *session = (Session *)self;
+    Result lines;
+    pylock_text out = {0};
+    bool is_plan = false;
+    PyObject *records = NULL;
+    int32_t code;
+    (void)nothing;
+    if (!is_on_its_thread(session)) return NULL;
+    pylock_session *slot = &session->place->slot;
+    Py_BEGIN_ALLOW_THREADS
+    code = pylock_session_picks(slot, &out, &is_plan);
+    Py_END_ALLOW_THREADS
+    lines.bytes = lines.near;
+    if (code == PYLOCK_OK) code = result_of_kept(&out, &lines);
+    if (code == PYLOCK_OK)
+        records = records_of(&lines);
+    else
+        raise_refusal(session->state, code, Py_None, "edit");
+    result_done(&lines);
+    return records == NULL ? NULL : Py_BuildValue("NO", records, is_plan ? Py_True : Py_False);
+}
+
 static PyObject *session_judged(PyObject *self, PyObject *nothing)
 {
     Session *session = (Session *)self;
@@ -425,6 +462,7 @@ static PyObject *session_owner(PyObject *self, void *closure)
 static PyMethodDef session_methods[] = {
     CALL("edit", session_edit, "Makes an edit: how many judgements it made, or the code of a refusal, below zero."),
     {"answer", session_answer, METH_O, PyDoc_STR("The answer, and whether it is a plan.")},
+    {"picks", session_picks, METH_NOARGS, PyDoc_STR("The records of the answer, and whether it is a plan.")},
     {"explain", session_explain, METH_O, PyDoc_STR("What becomes of each entry, and whether the answer is a plan.")},
     {"judged", session_judged, METH_NOARGS, PyDoc_STR("The numbers that the last accepted edit judged.")},
     {"close", session_close, METH_NOARGS, PyDoc_STR("Frees what is kept.")},
@@ -467,6 +505,6 @@ static PyMethodDef lock_functions[] = {
 bool add_locks(PyObject *module, State *state)
 {
     return (state->owner = type_of_spec(module, &owner_spec)) != NULL &&
-        (state->session = type_of_spec(module, &session_spec)) != NULL && add_type(module, "Session", state->session) &&
+        add_type(module, "Session", &state->session, &session_spec) &&
         PyModule_AddFunctions(module, lock_functions) == 0;
 }

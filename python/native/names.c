@@ -4,23 +4,24 @@
 /* ---- names ---- */
 
 /* The normal form of a short text in ASCII, which is most names: as the library has it, which the tests compare, without the
- * time that a call of it takes. Its length, or -1 where the text is another. */
-static Py_ssize_t plain_normal(const Text *text, uint8_t *out)
+ * time that a call of it takes. False where the text is another. */
+static bool plain_normal(const Text *text, Result *result)
 {
-    Py_ssize_t written = 0;
     bool is_run = false;
-    if (text->length > RESULT_ROOM) return -1;
+    uint8_t *at = result->near;
+    if (text->length > RESULT_ROOM) return false;
     for (size_t place = 0; place < text->length; place++) {
         uint8_t letter = text->bytes[place];
-        if (letter >= 0x80) return -1;
+        if (letter >= 0x80) return false;
         bool is_sign = letter == '-' || letter == '_' || letter == '.';
         if (!is_sign)
-            out[written++] = letter >= 'A' && letter <= 'Z' ? letter + ('a' - 'A') : letter;
+            *at++ = letter >= 'A' && letter <= 'Z' ? letter + ('a' - 'A') : letter;
         else if (!is_run)
-            out[written++] = '-';
+            *at++ = '-';
         is_run = is_sign;
     }
-    return written;
+    result->length = (size_t)(at - result->near);
+    return true;
 }
 
 /* The library's normal form, in which letters that aren't ASCII become lower case as str.lower has it. */
@@ -39,21 +40,14 @@ static PyObject *normal_of_library(State *state, PyObject *text, const Text *vie
     return small;
 }
 
-/* `text` is that of the view, or NULL where no str has it yet. */
-static PyObject *normal_of_view(State *state, PyObject *text, const Text *view)
-{
-    uint8_t plain[RESULT_ROOM];
-    Py_ssize_t length = plain_normal(view, plain);
-    if (length < 0) return normal_of_library(state, text == NULL ? Py_None : text, view);
-    bool is_same = text != NULL && (size_t)length == view->length && memcmp(plain, view->bytes, view->length) == 0;
-    return is_same ? exact_text(text) : str_of(plain, (size_t)length);
-}
-
 PyObject *normal_name(State *state, PyObject *text)
 {
     Text view;
+    Result result;
     if (!text_of(text, &view)) return NULL;
-    PyObject *normal = normal_of_view(state, text, &view);
+    result.bytes = result.near;
+    bool is_plain = plain_normal(&view, &result);
+    PyObject *normal = is_plain ? str_of_result(&result, text, &view) : normal_of_library(state, text, &view);
     text_done(&view);
     return normal;
 }
@@ -118,112 +112,76 @@ TAKES_NAMES(is_normalized_name)
 
 /* ---- records ---- */
 
-typedef int32_t (*RecordCall)(const uint8_t *text, size_t length, pylock_text *record);
-
-/* The record that a call writes of a text; false with an exception where it is refused. */
-static bool record_of(State *state, RecordCall call, PyObject *text, const char *kind, Result *result)
+static PyObject *all_fields(State *state, Record *record)
 {
-    Text view;
-    pylock_text record = {0};
-    result->bytes = result->near;
-    if (!text_of(text, &view)) return false;
-    int32_t code = call(view.bytes, view.length, &record);
-    text_done(&view);
-    if (code == PYLOCK_OK) code = result_of_kept(&record, result);
-    if (code == PYLOCK_OK) return true;
-    result_done(result);
-    raise_refusal(state, code, text, kind);
-    return false;
-}
-
-static PyObject *fields_of_record(PyObject *module, RecordCall call, PyObject *text, const char *kind)
-{
-    Result result;
-    if (!record_of(state_of(module), call, text, kind, &result)) return NULL;
-    PyObject *fields = fields_of(result.bytes, result.length);
-    result_done(&result);
-    return fields;
+    (void)state;
+    return fields_of(record->rest.bytes, record->rest.length);
 }
 
 static PyObject *requirement(PyObject *module, PyObject *text)
 {
-    return fields_of_record(module, pylock_requirement, text, "requirement");
+    return record_of_text(state_of(module), pylock_requirement, text, "requirement", all_fields);
 }
 
 static PyObject *wheel(PyObject *module, PyObject *text)
 {
-    return fields_of_record(module, pylock_wheel, text, "wheel");
+    return record_of_text(state_of(module), pylock_wheel, text, "wheel", all_fields);
 }
 
 static PyObject *sdist(PyObject *module, PyObject *text)
 {
-    return fields_of_record(module, pylock_sdist, text, "sdist");
+    return record_of_text(state_of(module), pylock_sdist, text, "sdist", all_fields);
 }
 
-/* ---- the name of a wheel, as Python has it ---- */
+/* ---- the parts of a file's name, as Python has them ---- */
 
-static Text cut(Text *rest, char sign)
+static PyObject *next_version(State *state, Record *record)
 {
-    Text piece;
-    cut_text(rest, sign, &piece);
-    return piece;
-}
-
-static PyObject *build_of(const Text *field)
-{
-    if (field->length == 1 && field->bytes[0] == '-') return PyTuple_New(0);
-    size_t digits = 0;
-    while (digits < field->length && field->bytes[digits] >= '0' && field->bytes[digits] <= '9') digits++;
-    PyObject *text = str_of(field->bytes, digits);
-    PyObject *number = text == NULL ? NULL : PyObject_CallFunctionObjArgs((PyObject *)&PyLong_Type, text, NULL);
-    PyObject *rest = number == NULL ? NULL : text_of_field(field->bytes + digits, field->length - digits);
-    PyObject *build = rest == NULL ? NULL : PyTuple_Pack(2, number, rest);
-    Py_XDECREF(text);
-    Py_XDECREF(number);
-    Py_XDECREF(rest);
-    return build;
-}
-
-static PyObject *tags_of(State *state, Text *field)
-{
-    PyObject *tags = PyFrozenSet_New(NULL);
-    while (tags != NULL && field->length > 0) {
-        Text piece = cut(field, ' ');
-        PyObject *tag = tag_of_piece(state, piece.bytes, piece.length);
-        /* nobody else has the set yet */
-        if (tag == NULL || PySet_Add(tags, tag) < 0) Py_CLEAR(tags);
-        Py_XDECREF(tag);
-    }
-    return tags;
-}
-
-static PyObject *version_of_field(State *state, const Text *field)
-{
-    PyObject *text = str_of(field->bytes, field->length);
+    PyObject *text = next_field(record);
     PyObject *version = text == NULL ? NULL : version_of_normal(state, text);
     Py_XDECREF(text);
     return version;
 }
 
-static PyObject *wheel_of_record(State *state, const Result *record)
+/* Nothing, or the number of the digits and what stands behind them. */
+static PyObject *next_build(Record *record)
 {
-    PyObject *parts[4] = {NULL, NULL, NULL, NULL}, *result = NULL;
-    Text rest = {record->bytes, record->length, NULL};
-    Text name = cut(&rest, '\t'), version = cut(&rest, '\t'), build = cut(&rest, '\t');
-    if ((parts[0] = normal_of_view(state, NULL, &name)) != NULL && (parts[1] = version_of_field(state, &version)) != NULL &&
-        (parts[2] = build_of(&build)) != NULL && (parts[3] = tags_of(state, &rest)) != NULL)
-        result = PyTuple_Pack(4, parts[0], parts[1], parts[2], parts[3]);
-    for (int index = 0; index < 4; index++) Py_XDECREF(parts[index]);
-    return result;
+    PyObject *digits = next_field(record), *rest = digits == NULL ? NULL : next_field(record), *number = NULL, *build = NULL;
+    if (rest != NULL && digits == Py_None)
+        build = PyTuple_New(0);
+    else if (rest != NULL)
+        number = PyObject_CallFunctionObjArgs((PyObject *)&PyLong_Type, digits, NULL);
+    if (number != NULL) build = PyTuple_Pack(2, number, rest);
+    Py_XDECREF(digits);
+    Py_XDECREF(rest);
+    Py_XDECREF(number);
+    return build;
+}
+
+static PyObject *wheel_of_record(State *state, Record *record)
+{
+    PyObject *name, *version = NULL, *build = NULL, *tags = NULL, *parts = NULL;
+    if ((name = next_field(record)) != NULL && (version = next_version(state, record)) != NULL &&
+        (build = next_build(record)) != NULL && (tags = tags_of(state, record)) != NULL)
+        parts = PyTuple_Pack(4, name, version, build, tags);
+    Py_XDECREF(name);
+    Py_XDECREF(version);
+    Py_XDECREF(build);
+    Py_XDECREF(tags);
+    return parts;
 }
 
 static PyObject *parse_wheel(PyObject *module, PyObject *text)
 {
-    State *state = state_of(module);
-    Result record;
-    if (!record_of(state, pylock_wheel, text, "wheel", &record)) return NULL;
-    PyObject *parts = wheel_of_record(state, &record);
-    result_done(&record);
+    return record_of_text(state_of(module), pylock_wheel_parts, text, "wheel", wheel_of_record);
+}
+
+static PyObject *sdist_of_record(State *state, Record *record)
+{
+    PyObject *name = next_field(record), *version = name == NULL ? NULL : next_version(state, record);
+    PyObject *parts = version == NULL ? NULL : PyTuple_Pack(2, name, version);
+    Py_XDECREF(name);
+    Py_XDECREF(version);
     return parts;
 }
 
@@ -231,18 +189,7 @@ static PyObject *parse_sdist_filename(PyObject *module, PyObject *const *argumen
 {
     static const Signature signature = {"parse_sdist_filename", "filename", NULL};
     PyObject *text = one_and_flag(&signature, arguments, count, names, NULL);
-    State *state = state_of(module);
-    Result record;
-    if (text == NULL || !record_of(state, pylock_sdist, text, "sdist", &record)) return NULL;
-    Text rest = {record.bytes, record.length, NULL};
-    Text name = cut(&rest, '\t');
-    PyObject *normal = str_of(name.bytes, name.length);
-    PyObject *version = normal == NULL ? NULL : version_of_field(state, &rest);
-    PyObject *parts = version == NULL ? NULL : PyTuple_Pack(2, normal, version);
-    Py_XDECREF(normal);
-    Py_XDECREF(version);
-    result_done(&record);
-    return parts;
+    return text == NULL ? NULL : record_of_text(state_of(module), pylock_sdist, text, "sdist", sdist_of_record);
 }
 TAKES_NAMES(parse_sdist_filename)
 

@@ -36,11 +36,13 @@ bool is_of(PyObject *object, PyTypeObject *type)
     return Py_TYPE(object) == type || (type != NULL && PyType_IsSubtype(Py_TYPE(object), type));
 }
 
-bool add_type(PyObject *module, const char *name, PyTypeObject *type)
+bool add_type(PyObject *module, const char *name, PyTypeObject **place, PyType_Spec *spec)
 {
-    Py_INCREF(type);
-    if (PyModule_AddObject(module, name, (PyObject *)type) == 0) return true;
-    Py_DECREF(type);
+    *place = type_of_spec(module, spec);
+    if (*place == NULL) return false;
+    Py_INCREF(*place);
+    if (PyModule_AddObject(module, name, (PyObject *)*place) == 0) return true;
+    Py_DECREF(*place);
     return false;
 }
 
@@ -204,18 +206,15 @@ static void module_free(void *module)
 }
 
 /* The codes that the Python layer names. */
+#define CODE(name) {#name, PYLOCK_##name}
+
 static bool add_codes(PyObject *module)
 {
     static const struct {
         const char *name;
         int code;
     } codes[] = {
-        {"MEMORY", PYLOCK_MEMORY},
-        {"NOT_UTF8", PYLOCK_NOT_UTF8},
-        {"EMPTY", PYLOCK_EMPTY},
-        {"LOCK_REFUSED", PYLOCK_LOCK_REFUSED},
-        {"ENVIRONMENT_REFUSED", PYLOCK_ENVIRONMENT_REFUSED},
-        {"EDIT_NO_ENTRY", PYLOCK_EDIT_NO_ENTRY},
+        CODE(MEMORY), CODE(NOT_UTF8), CODE(EMPTY), CODE(LOCK_REFUSED), CODE(ENVIRONMENT_REFUSED), CODE(EDIT_NO_ENTRY),
     };
     for (size_t index = 0; index < sizeof codes / sizeof codes[0]; index++)
         if (PyModule_AddIntConstant(module, codes[index].name, codes[index].code) < 0) return false;

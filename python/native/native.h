@@ -106,7 +106,7 @@ PyObject *own_dict(PyObject *dict);
 
 /* ---- the state of the module ---- */
 
-enum { MOST_SPARE_TAGS = 64 };
+enum { MOST_SPARE_TAGS = 64, MOST_SEEN_TAGS = 1024 };
 
 typedef struct {
     /* the module, and each object of its types: an object may outlive the module where the collector takes both apart */
@@ -117,8 +117,9 @@ typedef struct {
     PyTypeObject *version_class, *tag_class, *specifier_class;
     /* Python functions that make the exception of a code, or NULL */
     PyObject *refuse, *refuse_input;
-    /* tags that came before, by their texts */
+    /* tags that came twice, by their texts, and the hashes of those that came once */
     PyObject *tags;
+    Py_hash_t seen_tags[MOST_SEEN_TAGS];
     /* the memory of tags that were let go of, as long as their type is there */
     PyObject *spare_tags[MOST_SPARE_TAGS];
     int spare_count;
@@ -207,16 +208,30 @@ int32_t result_of_text(TextCall call, const Text *text, Result *result);
 /* What a kept text has. It is empty then. */
 int32_t result_of_kept(pylock_text *kept, Result *result);
 void result_done(Result *result);
+/* The result as a str: the text of the view itself where it is the same. */
+PyObject *str_of_result(const Result *result, PyObject *text, const Text *view);
 
 PyObject *str_of(const uint8_t *bytes, size_t length);
 /* The same of the bytes of a Text, in which half characters may stand. */
 PyObject *str_with_halves(const uint8_t *bytes, size_t length);
 /* A kept text as a str. It is empty then. */
 PyObject *str_of_kept(pylock_text *kept);
-/* A field of a record, which isn't absent, as a str. */
-PyObject *text_of_field(const uint8_t *field, size_t length);
-/* The fields of a record: a tuple of str, and None where a field is absent. */
-PyObject *fields_of(const uint8_t *record, size_t length);
+/* What is left of a record, and whether a field is. */
+typedef struct {
+    Text rest;
+    bool has_more;
+} Record;
+
+/* The next field: a str, or None where it is absent. */
+PyObject *next_field(Record *record);
+/* All fields of a record: a tuple. */
+PyObject *fields_of(const uint8_t *bytes, size_t length);
+
+typedef int32_t (*RecordCall)(const uint8_t *text, size_t length, pylock_text *record);
+typedef PyObject *(*RecordReader)(State *state, Record *record);
+
+/* What the reader makes of the record that a call writes of a text; `kind` is that of `raise_refusal`. */
+PyObject *record_of_text(State *state, RecordCall call, PyObject *text, const char *kind, RecordReader reader);
 
 /* ---- refusals ---- */
 
@@ -243,7 +258,8 @@ typedef struct {
 } Object;
 
 bool is_of(PyObject *object, PyTypeObject *type);
-bool add_type(PyObject *module, const char *name, PyTypeObject *type);
+/* Makes the type of a specification, which the state holds in the place, and puts it in the module. */
+bool add_type(PyObject *module, const char *name, PyTypeObject **place, PyType_Spec *spec);
 /* The type of an object, in the walk of the collector that is `own` to the module's type. */
 int visit_type_in(PyObject *self, visitproc visit, void *arg, traverseproc own);
 /* The collector's walk over an object that holds its type alone; and the maker of a type of which Python makes no object. */
@@ -270,6 +286,9 @@ PyObject *version_text(PyObject *self);
 PyObject *given_text(State *state, PyObject *version);
 /* Whether the code says that a text is no version. */
 bool is_no_version(int32_t code);
+/* What a call has told of a version's text, by its code: true or false, and `otherwise`, where it isn't NULL, of a text that
+ * is no version. With a code below 0 an exception is there. */
+PyObject *told_of(State *state, int32_t code, bool told, PyObject *text, PyObject *otherwise);
 
 /* The environment of a dict, or None, laid over layers, as long as no other call on them runs. NULL with an exception, or
  * without one where the dict has more than variables. `extra` and `has_extra` become those of the dict where it has one
@@ -286,7 +305,7 @@ bool add_locks(PyObject *module, State *state);
 bool add_tables(PyObject *module);
 
 PyObject *normal_name(State *state, PyObject *text);
-/* The tag of a text of three pieces, as wheels have it; of the class of the Python layer. */
-PyObject *tag_of_piece(State *state, const uint8_t *text, size_t length);
+/* The set of the tags that the next fields are; of the class of the Python layer. */
+PyObject *tags_of(State *state, Record *record);
 
 #endif

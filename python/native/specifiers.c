@@ -1,4 +1,4 @@
-/* One specifier, and the pieces of a set's text. */
+/* One specifier, and those of a set. */
 #include "native.h"
 
 #include <structmember.h>
@@ -8,12 +8,10 @@ typedef struct {
     State *state;
     /* empty until it is asked */
     pylock_set slot;
-    /* as it was given; NULL until the specifier is read, and where a set made it */
-    PyObject *given;
-    /* the operator and the operand without white space, and how long the operator is: NULL until it was asked for */
+    /* the operator and the operand without white space, and how long the operator is: NULL until the specifier is read */
     PyObject *text;
     union {
-        size_t sign;
+        Py_ssize_t sign;
         /* of one that waits for its end: the next that does */
         PyObject *next;
     };
@@ -25,81 +23,56 @@ typedef struct {
     PyObject *forced, *names, *exact;
 } Specifier;
 
-/* ---- the text of a specifier set that is one, in pieces ---- */
+/* ---- where specifiers stand in a text ---- */
 
-static bool is_white(uint8_t letter)
-{
-    return letter == ' ' || (letter >= '\t' && letter <= '\r');
-}
-
-static bool is_sign(uint8_t letter)
-{
-    return letter == '=' || letter == '!' || letter == '<' || letter == '>' || letter == '~';
-}
-
-static Text stripped(Text text)
-{
-    while (text.length > 0 && is_white(text.bytes[0])) text.bytes++, text.length--;
-    while (text.length > 0 && is_white(text.bytes[text.length - 1])) text.length--;
-    return text;
-}
-
+/* Where one begins and ends, of its operator and of its operand, as the library gives it. */
 typedef struct {
-    Text sign, operand;
-} Piece;
+    size_t sign, sign_end, operand, operand_end;
+} Span;
 
-static Piece cut_piece(Text text)
+enum { PLACES_OF_SPAN = 4, SPANS_NEAR = 16 };
+
+/* The spans of a text: they stand in `near`, or in memory that `spans_done` gives back. */
+typedef struct {
+    Span *each;
+    size_t count;
+    Span near[SPANS_NEAR];
+} Spans;
+
+static int32_t find_spans(const Text *text, Spans *spans, size_t room)
 {
-    Piece piece = {text, text};
-    size_t length = 0;
-    while (length < 3 && length < text.length && is_sign(text.bytes[length])) length++;
-    piece.sign.length = length;
-    piece.operand.bytes += length;
-    piece.operand.length -= length;
-    piece.operand = stripped(piece.operand);
-    return piece;
+    size_t places = 0;
+    int32_t code = pylock_set_spans(text->bytes, text->length, (size_t *)spans->each, room * PLACES_OF_SPAN, &places);
+    spans->count = places / PLACES_OF_SPAN;
+    return code;
 }
 
-/* The next piece of a set's text that isn't empty; false where there is none. */
-static bool next_piece(Text *rest, bool *follows, Piece *piece)
+static int32_t spans_of(const Text *text, Spans *spans)
 {
-    while (*follows) {
-        Text text;
-        *follows = cut_text(rest, ',', &text);
-        text = stripped(text);
-        if (text.length == 0) continue;
-        *piece = cut_piece(text);
-        return true;
-    }
-    return false;
+    spans->each = spans->near;
+    int32_t code = find_spans(text, spans, SPANS_NEAR);
+    if (code != PYLOCK_ROOM) return code;
+    spans->each = PyMem_Malloc(spans->count * sizeof(Span));
+    return spans->each == NULL ? PYLOCK_MEMORY : find_spans(text, spans, spans->count);
 }
 
-static size_t piece_length(const Piece *piece)
+static void spans_done(Spans *spans)
 {
-    return piece->sign.length + piece->operand.length;
-}
-
-static uint8_t *put_text(uint8_t *at, const Text *text)
-{
-    memcpy(at, text->bytes, text->length);
-    return at + text->length;
-}
-
-static uint8_t *put_piece(uint8_t *at, const Piece *piece)
-{
-    return put_text(put_text(at, &piece->sign), &piece->operand);
+    if (spans->each != spans->near) PyMem_Free(spans->each);
 }
 
 /* The operator and the operand together: the text `whole`, which has the view, where they are all of it. */
-static PyObject *text_of_piece(const Piece *piece, PyObject *whole, const Text *view)
+static PyObject *text_of_span(const Span *span, PyObject *whole, const Text *view)
 {
     uint8_t near[RESULT_ROOM];
-    size_t length = piece_length(piece);
-    if (whole != NULL && length == view->length) return exact_text(whole);
+    size_t sign = span->sign_end - span->sign, operand = span->operand_end - span->operand, length = sign + operand;
+    if (length == view->length) return exact_text(whole);
+    if (span->sign_end == span->operand) return str_of(view->bytes + span->sign, length);
     uint8_t *room = length <= RESULT_ROOM ? near : PyMem_Malloc(length);
     if (room == NULL) return PyErr_NoMemory();
-    put_piece(room, piece);
-    PyObject *text = str_with_halves(room, length);
+    memcpy(room, view->bytes + span->sign, sign);
+    memcpy(room + sign, view->bytes + span->operand, operand);
+    PyObject *text = str_of(room, length);
     if (room != near) PyMem_Free(room);
     return text;
 }
@@ -110,86 +83,50 @@ static PyObject *text_of_piece(const Piece *piece, PyObject *whole, const Text *
 static void forget(Specifier *specifier)
 {
     pylock_set slot = specifier->slot;
-    PyObject *had[] = {
-        specifier->given, specifier->text, specifier->pair, specifier->canonical, specifier->names, specifier->exact,
-    };
+    PyObject *had[] = {specifier->text, specifier->pair, specifier->canonical, specifier->names, specifier->exact};
     memset(&specifier->slot, 0, sizeof slot);
-    specifier->given = specifier->text = specifier->pair = NULL;
-    specifier->canonical = specifier->names = specifier->exact = NULL;
+    specifier->text = specifier->pair = specifier->canonical = specifier->names = specifier->exact = NULL;
     pylock_set_free(&slot);
     for (size_t place = 0; place < sizeof had / sizeof *had; place++) Py_XDECREF(had[place]);
 }
 
-/* Whether the text is that of a set: the library judges the set first, and then refuses the empty text as a version. To keep
- * the set as well takes longer, and is done when the specifier is asked. */
-static bool is_set(const Specifier *specifier, PyObject *text, const Text *view)
+/* Gives a specifier the text of a span, in place of what it has: false with an exception. Its set is kept from when it is
+ * first asked, as that takes longer. */
+static bool give_span(Specifier *specifier, const Span *span, PyObject *whole, const Text *view)
 {
-    bool admits;
-    int32_t code = pylock_admits(view->bytes, view->length, (const uint8_t *)"", 0, &admits);
-    if (code == PYLOCK_VERSION_SYNTAX) return true;
-    raise_refusal(specifier->state, code, text, "specifier");
-    return false;
+    PyObject *text = text_of_span(span, whole, view);
+    if (text == NULL) return false;
+    /* what else ran meanwhile may have read another */
+    while (specifier->text != NULL) forget(specifier);
+    specifier->text = text;
+    specifier->sign = (Py_ssize_t)(span->sign_end - span->sign);
+    return true;
 }
 
-/* Whether a text that is a set has one specifier: it is no set of none, and of several. */
-static bool is_one(const Text *view)
-{
-    return stripped(*view).length > 0 && memchr(view->bytes, ',', view->length) == NULL;
-}
-
-/* Reads the text, in place of what the specifier has: whole, or not at all. */
+/* Reads the text, in place of what the specifier has: whole, or not at all. A set of one specifier is one where it has no
+ * comma. */
 static bool read_specifier(Specifier *specifier, PyObject *text)
 {
     Text view;
-    PyObject *given = NULL;
+    Spans spans;
+    bool is_good = false;
     if (!text_of(text, &view)) return false;
-    bool is_good = is_set(specifier, text, &view);
-    if (is_good && is_one(&view))
-        given = exact_text(text);
-    else if (is_good)
-        raise_refusal(specifier->state, PYLOCK_SET_SYNTAX, text, "specifier");
+    int32_t code = spans_of(&view, &spans);
+    bool is_one = code == PYLOCK_OK && spans.count == 1 && memchr(view.bytes, ',', view.length) == NULL;
+    if (is_one)
+        is_good = give_span(specifier, spans.each, text, &view);
+    else
+        raise_refusal(specifier->state, code == PYLOCK_OK ? PYLOCK_SET_SYNTAX : code, text, "specifier");
+    spans_done(&spans);
     text_done(&view);
-    if (given == NULL) return false;
-    /* what is given up may have finalizers that read another */
-    while (specifier->given != NULL || specifier->text != NULL) forget(specifier);
-    specifier->given = given;
-    return true;
+    return is_good;
 }
 
-/* The operator and the operand of a text that is one specifier, and how long the operator is. */
-static PyObject *text_of_given(PyObject *given, size_t *sign)
+/* The text of a specifier: a borrowed reference, or NULL with an exception where it has none. */
+static PyObject *text_of_one(const Specifier *specifier)
 {
-    Text view;
-    if (!text_of(given, &view)) return NULL;
-    Piece piece = cut_piece(stripped(view));
-    *sign = piece.sign.length;
-    PyObject *text = text_of_piece(&piece, given, &view);
-    text_done(&view);
-    return text;
-}
-
-/* Whether the specifier has its text; else an exception says why not. */
-static bool has_text(Specifier *specifier)
-{
-    while (specifier->text == NULL) {
-        size_t sign;
-        PyObject *given = hold(specifier->given);
-        if (given == NULL) {
-            PyErr_SetString(PyExc_ValueError, "pylock: the specifier has no text yet");
-            return false;
-        }
-        PyObject *text = text_of_given(given, &sign);
-        /* what else ran meanwhile may have read another, or have found it too */
-        bool is_its = specifier->given == given && specifier->text == NULL;
-        let_go(given);
-        if (text == NULL) return false;
-        if (is_its) {
-            specifier->text = text;
-            specifier->sign = sign;
-        } else
-            Py_DECREF(text);
-    }
-    return true;
+    if (specifier->text == NULL) PyErr_SetString(PyExc_ValueError, "pylock: the specifier has no text yet");
+    return specifier->text;
 }
 
 static int specifier_init(PyObject *self, PyObject *arguments, PyObject *named)
@@ -217,20 +154,6 @@ static PyObject *specifier_new(PyTypeObject *type, PyObject *arguments, PyObject
     (void)arguments, (void)named;
     State *state = state_of_type(type);
     return state == NULL ? NULL : new_object(state, type);
-}
-
-/* The specifier of a piece of a set's text that is one. */
-static PyObject *specifier_of_piece(State *state, const Piece *piece, PyObject *whole, const Text *view)
-{
-    PyObject *text = text_of_piece(piece, whole, view);
-    Specifier *specifier = text == NULL ? NULL : (Specifier *)new_object(state, state->specifier_class);
-    if (specifier == NULL) {
-        Py_XDECREF(text);
-        return NULL;
-    }
-    specifier->sign = piece->sign.length;
-    specifier->text = text;
-    return (PyObject *)specifier;
 }
 
 static int specifier_traverse(PyObject *self, visitproc visit, void *arg)
@@ -289,9 +212,7 @@ static void specifier_dealloc(PyObject *self)
 
 static PyObject *specifier_text(PyObject *self)
 {
-    PyObject *text = has_text((Specifier *)self) ? ((Specifier *)self)->text : NULL;
-    Py_XINCREF(text);
-    return text;
+    return hold(text_of_one((Specifier *)self));
 }
 
 static PyObject *get_text(PyObject *self, void *closure)
@@ -300,14 +221,12 @@ static PyObject *get_text(PyObject *self, void *closure)
     return specifier_text(self);
 }
 
-static PyObject *made_pair(PyObject *text, size_t sign)
+static PyObject *made_pair(PyObject *text, Py_ssize_t sign)
 {
-    Text view;
-    if (!text_of(text, &view)) return NULL;
-    PyObject *operator = str_with_halves(view.bytes, sign);
-    PyObject *operand = PyUnicode_Substring(text, (Py_ssize_t)sign, PyUnicode_GetLength(text));
-    text_done(&view);
-    PyObject *pair = operator == NULL || operand == NULL ? NULL : PyTuple_Pack(2, operator, operand);
+    /* an operator is ASCII, so it has as many letters as bytes */
+    PyObject *operator = PyUnicode_Substring(text, 0, sign);
+    PyObject *operand = operator == NULL ? NULL : PyUnicode_Substring(text, sign, PY_SSIZE_T_MAX);
+    PyObject *pair = operand == NULL ? NULL : PyTuple_Pack(2, operator, operand);
     Py_XDECREF(operator);
     Py_XDECREF(operand);
     return pair;
@@ -364,7 +283,7 @@ static Py_hash_t specifier_hash(PyObject *self)
 static PyObject *get_is_exact(PyObject *self, void *closure)
 {
     (void)closure;
-    return has_text((Specifier *)self) ? PyBool_FromLong(((Specifier *)self)->sign == 3) : NULL;
+    return text_of_one((Specifier *)self) == NULL ? NULL : PyBool_FromLong(((Specifier *)self)->sign == 3);
 }
 
 /* Reads the text into the slot, unless the specifier has another text or a slot by now: false with an exception. */
@@ -409,9 +328,7 @@ static PyObject *specifier_admits(PyObject *self, PyObject *version)
     bool admits = false;
     PyObject *text;
     int32_t code = ask_specifier((Specifier *)self, version, &admits, &text);
-    if (code == PYLOCK_OK) return PyBool_FromLong(admits);
-    if (code > 0) raise_refusal(((Specifier *)self)->state, code, text, "version");
-    return NULL;
+    return told_of(((Specifier *)self)->state, code, admits, text, NULL);
 }
 
 static PyObject *specifier_passes(PyObject *self, PyObject *version)
@@ -419,10 +336,7 @@ static PyObject *specifier_passes(PyObject *self, PyObject *version)
     bool admits = false;
     PyObject *text;
     int32_t code = ask_specifier((Specifier *)self, version, &admits, &text);
-    if (code == PYLOCK_OK) return PyBool_FromLong(admits);
-    if (is_no_version(code)) return PyBool_FromLong(0);
-    if (code > 0) raise_refusal(((Specifier *)self)->state, code, text, "version");
-    return NULL;
+    return told_of(((Specifier *)self)->state, code, admits, text, Py_False);
 }
 
 static PyMethodDef specifier_methods[] = {
@@ -468,116 +382,44 @@ static PyType_Spec specifier_spec = {
     .slots = specifier_slots,
 };
 
-/* ---- the specifiers of a set, and its text ---- */
+/* ---- the specifiers of a set ---- */
 
-static Py_ssize_t count_pieces(Text rest)
+static PyObject *specifier_of_span(State *state, const Span *span, PyObject *whole, const Text *view)
 {
-    Piece piece;
-    bool follows = true;
-    Py_ssize_t count = 0;
-    while (next_piece(&rest, &follows, &piece)) count++;
-    return count;
+    PyObject *one = new_object(state, state->specifier_class);
+    if (one != NULL && !give_span((Specifier *)one, span, whole, view)) Py_CLEAR(one);
+    return one;
 }
 
 static PyObject *specifiers(PyObject *module, PyObject *text)
 {
     State *state = state_of(module);
     Text view;
-    Piece piece;
-    bool follows = true;
+    Spans spans;
+    PyObject *items = NULL;
     if (!text_of(text, &view)) return NULL;
-    Text rest = view;
-    PyObject *items = PyTuple_New(count_pieces(view));
-    for (Py_ssize_t place = 0; items != NULL && next_piece(&rest, &follows, &piece); place++) {
-        PyObject *item = specifier_of_piece(state, &piece, text, &view);
-        if (item == NULL || PyTuple_SetItem(items, place, item) < 0) Py_CLEAR(items);
+    int32_t code = spans_of(&view, &spans);
+    if (code == PYLOCK_OK)
+        items = PyTuple_New((Py_ssize_t)spans.count);
+    else
+        raise_refusal(state, code, text, "specifier");
+    for (size_t place = 0; items != NULL && place < spans.count; place++) {
+        PyObject *item = specifier_of_span(state, &spans.each[place], text, &view);
+        if (item == NULL || PyTuple_SetItem(items, (Py_ssize_t)place, item) < 0) Py_CLEAR(items);
     }
+    spans_done(&spans);
     text_done(&view);
     return items;
 }
 
-enum { MOST_OPERATORS = 8 };
-
-/* The pieces of a text, each with another operator: their number, or -1 where two have the same. */
-static int other_pieces(Text rest, Piece *pieces)
-{
-    int count = 0;
-    bool follows = true;
-    Piece piece;
-    while (next_piece(&rest, &follows, &piece)) {
-        if (count == MOST_OPERATORS) return -1;
-        for (int place = 0; place < count; place++) {
-            const Text *sign = &pieces[place].sign;
-            if (sign->length == piece.sign.length && memcmp(sign->bytes, piece.sign.bytes, sign->length) == 0) return -1;
-        }
-        pieces[count++] = piece;
-    }
-    return count;
-}
-
-static uint8_t byte_at(const Piece *piece, size_t place)
-{
-    size_t sign = piece->sign.length;
-    return place < sign ? piece->sign.bytes[place] : piece->operand.bytes[place - sign];
-}
-
-static bool stands_before(const Piece *left, const Piece *right)
-{
-    size_t lengths[2] = {piece_length(left), piece_length(right)};
-    size_t shorter = lengths[0] < lengths[1] ? lengths[0] : lengths[1];
-    for (size_t place = 0; place < shorter; place++) {
-        uint8_t bytes[2] = {byte_at(left, place), byte_at(right, place)};
-        if (bytes[0] != bytes[1]) return bytes[0] < bytes[1];
-    }
-    return lengths[0] < lengths[1];
-}
-
-static void sort_pieces(Piece *pieces, int count)
-{
-    for (int place = 1; place < count; place++)
-        for (int at = place; at > 0 && stands_before(&pieces[at], &pieces[at - 1]); at--) {
-            Piece piece = pieces[at];
-            pieces[at] = pieces[at - 1];
-            pieces[at - 1] = piece;
-        }
-}
-
-/* The text of a set of which no specifier equals another, as their operators differ: in order, without white space. None of
- * another set. */
-static PyObject *set_string(PyObject *module, PyObject *text)
-{
-    Piece pieces[MOST_OPERATORS];
-    uint8_t near[RESULT_ROOM];
-    Text view;
-    (void)module;
-    if (!text_of(text, &view)) return NULL;
-    int count = view.length <= RESULT_ROOM ? other_pieces(view, pieces) : -1;
-    if (count < 0) {
-        text_done(&view);
-        Py_RETURN_NONE;
-    }
-    sort_pieces(pieces, count);
-    uint8_t *at = near;
-    for (int place = 0; place < count; place++) {
-        if (place > 0) *at++ = ',';
-        at = put_piece(at, &pieces[place]);
-    }
-    PyObject *string = str_with_halves(near, (size_t)(at - near));
-    text_done(&view);
-    return string;
-}
-
 static PyMethodDef specifier_functions[] = {
-    {"specifiers", specifiers, METH_O, PyDoc_STR("The specifiers of a set's text that is one, in its order.")},
-    {"set_string", set_string, METH_O, PyDoc_STR("A set's text in order; None where two of its operators are the same.")},
+    {"specifiers", specifiers, METH_O, PyDoc_STR("The specifiers of a set's text, in its order.")},
     {NULL, NULL, 0, NULL},
 };
 
 bool add_specifiers(PyObject *module, State *state)
 {
-    state->specifier = type_of_spec(module, &specifier_spec);
-    if (state->specifier == NULL || PyModule_AddFunctions(module, specifier_functions) < 0) return false;
-    Py_INCREF(state->specifier);
-    state->specifier_class = state->specifier;
-    return add_type(module, "Specifier", state->specifier);
+    if (!add_type(module, "Specifier", &state->specifier, &specifier_spec)) return false;
+    state->specifier_class = (PyTypeObject *)hold((PyObject *)state->specifier);
+    return PyModule_AddFunctions(module, specifier_functions) == 0;
 }

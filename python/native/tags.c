@@ -12,6 +12,8 @@ typedef struct {
     Py_hash_t hash;
     /* a tuple of three exact str: NULL until it was asked for, where the tag was made of the text */
     PyObject *pieces;
+    /* whether it is still to get its parts, by its __init__ */
+    bool is_blank;
 } Tag;
 
 /* ---- texts in lower case ---- */
@@ -131,6 +133,7 @@ static PyObject *made_tag(State *state, PyTypeObject *type, PyObject *text, PyOb
     tag->text = text;
     tag->hash = hash;
     tag->pieces = pieces;
+    tag->is_blank = false;
     return (PyObject *)tag;
 }
 
@@ -179,12 +182,11 @@ static PyObject *joined_pieces(PyObject *pieces)
     return text;
 }
 
-static PyObject *tag_new(PyTypeObject *type, PyObject *arguments, PyObject *named)
+/* The tag of the arguments of a call. */
+static PyObject *tag_of_call(State *state, PyTypeObject *type, PyObject *arguments, PyObject *named)
 {
     static char *words[] = {"interpreter", "abi", "platform", NULL};
     PyObject *taken[MOST_TAKEN];
-    State *state = state_of_type(type);
-    if (state == NULL) return NULL;
     bool are_three = named == NULL && PyTuple_CheckExact(arguments) && PyTuple_Size(arguments) == PIECES;
     PyObject *text = are_three ? small_text(arguments) : NULL;
     /* the tuple of the call becomes that of the pieces */
@@ -193,6 +195,38 @@ static PyObject *tag_new(PyTypeObject *type, PyObject *arguments, PyObject *name
     PyObject *pieces = lower_pieces(taken);
     let_arguments_go(taken);
     return pieces == NULL ? NULL : made_tag(state, type, joined_pieces(pieces), pieces);
+}
+
+/* A tag that is blank gets its parts; others have them from when they were made. */
+static int tag_init(PyObject *self, PyObject *arguments, PyObject *named)
+{
+    Tag *tag = (Tag *)self;
+    if (!tag->is_blank) return 0;
+    Tag *made = (Tag *)tag_of_call(tag->state, tag->state->tag, arguments, named);
+    if (made == NULL) return -1;
+    PyObject *text = tag->text, *pieces = tag->pieces;
+    tag->text = made->text;
+    tag->hash = made->hash;
+    tag->pieces = made->pieces;
+    tag->is_blank = false;
+    made->text = text;
+    made->pieces = pieces;
+    Py_DECREF((PyObject *)made);
+    return 0;
+}
+
+/* A class that is made from this one may have an __init__ of its own, and call that of its base with the pieces. Without
+ * arguments the tag is to be read by a pickle, or its __init__ refuses it. */
+static PyObject *tag_new(PyTypeObject *type, PyObject *arguments, PyObject *named)
+{
+    State *state = state_of_type(type);
+    if (state == NULL) return NULL;
+    bool is_to_be_read = named == NULL && PyTuple_Size(arguments) == 0;
+    bool has_own_init = type != state->tag && PyType_GetSlot(type, Py_tp_init) != (void *)tag_init;
+    if (!is_to_be_read && !has_own_init) return tag_of_call(state, type, arguments, named);
+    PyObject *tag = made_tag(state, type, PyUnicode_FromString("--"), NULL);
+    if (tag != NULL) ((Tag *)tag)->is_blank = true;
+    return tag;
 }
 
 static void tag_dealloc(PyObject *self)
@@ -216,7 +250,7 @@ static PyObject *cut_pieces(PyObject *text)
     Text rest = view;
     for (; count < PIECES; count++) {
         cut_text(&rest, '-', &piece);
-        if ((pieces[count] = str_with_halves(piece.bytes, piece.length)) == NULL) break;
+        if ((pieces[count] = str_of(piece.bytes, piece.length)) == NULL) break;
     }
     text_done(&view);
     if (count == PIECES) tuple = PyTuple_Pack(PIECES, pieces[0], pieces[1], pieces[2]);
@@ -228,7 +262,9 @@ static PyObject *cut_pieces(PyObject *text)
 static PyObject *tag_pieces(Tag *tag)
 {
     if (tag->pieces == NULL) {
-        PyObject *pieces = cut_pieces(tag->text);
+        PyObject *text = hold(tag->text);
+        PyObject *pieces = cut_pieces(text);
+        let_go(text);
         if (pieces == NULL) return NULL;
         /* a finalizer that ran meanwhile may have asked for them too */
         if (tag->pieces == NULL)
@@ -246,8 +282,11 @@ static int are_equal(Tag *left, Tag *right)
     if (left->hash != right->hash) return 0;
     int equal = left->text == right->text ? 1 : PyObject_RichCompareBool(left->text, right->text, Py_EQ);
     if (equal <= 0) return equal;
-    PyObject *pieces[] = {tag_pieces(left), tag_pieces(right)};
-    return pieces[0] == NULL || pieces[1] == NULL ? -1 : PyObject_RichCompareBool(pieces[0], pieces[1], Py_EQ);
+    PyObject *pieces[] = {hold(tag_pieces(left)), hold(tag_pieces(right))};
+    equal = pieces[0] == NULL || pieces[1] == NULL ? -1 : PyObject_RichCompareBool(pieces[0], pieces[1], Py_EQ);
+    let_go(pieces[0]);
+    let_go(pieces[1]);
+    return equal;
 }
 
 static PyObject *tag_compare(PyObject *left, PyObject *right, int how)
@@ -294,17 +333,9 @@ static PyObject *tag_copy(PyObject *self, PyObject *memo)
     return self;
 }
 
-static PyObject *tag_reduce(PyObject *self, PyObject *nothing)
-{
-    (void)nothing;
-    PyObject *pieces = tag_pieces((Tag *)self);
-    return pieces == NULL ? NULL : PyTuple_Pack(2, (PyObject *)Py_TYPE(self), pieces);
-}
-
 static PyMethodDef tag_methods[] = {
     {"__copy__", tag_copy, METH_NOARGS, PyDoc_STR("The tag itself.")},
     {"__deepcopy__", tag_copy, METH_O, PyDoc_STR("The tag itself.")},
-    {"__reduce__", tag_reduce, METH_NOARGS, PyDoc_STR("The class and the pieces, for pickles.")},
     {NULL, NULL, 0, NULL},
 };
 
@@ -324,6 +355,7 @@ static PyGetSetDef tag_getters[] = {
 static PyType_Slot tag_slots[] = {
     {Py_tp_doc, (void *)PyDoc_STR(TAG_TEXT)},
     {Py_tp_new, tag_new},
+    {Py_tp_init, tag_init},
     {Py_tp_dealloc, tag_dealloc},
     {Py_tp_traverse, visit_type},
     {Py_tp_hash, tag_hash},
@@ -357,7 +389,16 @@ static PyObject *cut_tag(State *state, PyObject *text)
     return made_tag(state, state->tag_class, small, NULL);
 }
 
-/* The tag of a text as one of those that are kept, or a new one, which is kept from then on. Each is held. */
+/* Whether a text of this hash came before: a tag that comes once isn't worth its place among those that are kept. */
+static bool came_before(State *state, Py_hash_t hash)
+{
+    Py_hash_t *seen = &state->seen_tags[(size_t)hash % MOST_SEEN_TAGS];
+    bool is_seen = *seen == hash;
+    *seen = hash;
+    return is_seen;
+}
+
+/* The tag of a text as one of those that are kept, or a new one, which is kept where it came before. Each is held. */
 static PyObject *kept_tag(State *state, PyObject *tags, PyObject *text)
 {
     PyObject *tag = hold(PyDict_GetItemWithError(tags, text));
@@ -366,8 +407,9 @@ static PyObject *kept_tag(State *state, PyObject *tags, PyObject *text)
     let_go(tag);
     if (tag == NULL && PyErr_Occurred()) return NULL;
     tag = cut_tag(state, text);
-    if (tag != NULL && PyDict_Size(tags) >= MOST_TAGS) PyDict_Clear(tags);
-    if (tag != NULL && PyDict_SetItem(tags, text, tag) < 0) Py_CLEAR(tag);
+    if (tag == NULL || !came_before(state, ((Tag *)tag)->hash)) return tag;
+    if (PyDict_Size(tags) >= MOST_TAGS) PyDict_Clear(tags);
+    if (PyDict_SetItem(tags, text, tag) < 0) Py_CLEAR(tag);
     return tag;
 }
 
@@ -380,68 +422,33 @@ static PyObject *tag_of_text(State *state, PyObject *text)
     return tag;
 }
 
-PyObject *tag_of_piece(State *state, const uint8_t *bytes, size_t length)
+PyObject *tags_of(State *state, Record *record)
 {
-    PyObject *text = str_of(bytes, length);
-    PyObject *tag = text == NULL ? NULL : tag_of_text(state, text);
-    Py_XDECREF(text);
-    return tag;
-}
-
-/* A tag of one piece of each of three parts, which stand in one text. */
-static PyObject *tag_of_parts(State *state, const Text *parts)
-{
-    PyObject *text = joined(parts);
-    PyObject *tag = text == NULL ? NULL : tag_of_text(state, text);
-    Py_XDECREF(text);
-    return tag;
-}
-
-/* Adds the tag of each choice of pieces; those of the parts before `index` are chosen. */
-static bool add_products(State *state, PyObject *tags, const Text *parts, Text *chosen, int index)
-{
-    if (index == PIECES) {
-        PyObject *tag = tag_of_parts(state, chosen);
-        int added = tag == NULL ? -1 : PySet_Add(tags, tag);
+    PyObject *tags = PyFrozenSet_New(NULL);
+    for (size_t count = 1; tags != NULL && record->has_more; count++) {
+        PyObject *text = next_field(record), *tag = text == NULL ? NULL : tag_of_text(state, text);
+        /* nobody else has the set yet; a long text may mean more tags than anybody waits for */
+        if (tag == NULL || PySet_Add(tags, tag) < 0 || (count % 256 == 0 && PyErr_CheckSignals() < 0)) Py_CLEAR(tags);
+        Py_XDECREF(text);
         Py_XDECREF(tag);
-        return added == 0;
     }
-    Text rest = parts[index];
-    /* a long text may mean more tags than anybody waits for */
-    bool is_good = PyErr_CheckSignals() == 0;
-    for (bool follows = true; follows && is_good;) {
-        follows = cut_text(&rest, '.', &chosen[index]);
-        is_good = add_products(state, tags, parts, chosen, index + 1);
-    }
-    return is_good;
+    return tags;
 }
 
-/* The tags of a text, each part of which may be several pieces; None where it hasn't three parts. */
+/* The tags of a text, each part of which may be several pieces. */
 static PyObject *parse_tag(PyObject *module, PyObject *text)
 {
-    Text view, parts[PIECES], chosen[PIECES];
-    PyObject *tags = NULL;
-    if (!text_of(text, &view)) return NULL;
-    Text rest = view;
-    bool has_three = cut_text(&rest, '-', &parts[0]) && cut_text(&rest, '-', &parts[1]) && !cut_text(&rest, '-', &parts[2]);
-    if (has_three) tags = PyFrozenSet_New(NULL);
-    if (tags != NULL && !add_products(state_of(module), tags, parts, chosen, 0)) Py_CLEAR(tags);
-    text_done(&view);
-    if (has_three) return tags;
-    Py_RETURN_NONE;
+    return record_of_text(state_of(module), pylock_tags, text, "tag", tags_of);
 }
 
 static PyMethodDef tag_functions[] = {
-    {"parse_tag", parse_tag, METH_O, PyDoc_STR("The tags of a text; None where it hasn't three parts.")},
+    {"parse_tag", parse_tag, METH_O, PyDoc_STR("The tags of a text of three parts.")},
     {NULL, NULL, 0, NULL},
 };
 
 bool add_tags(PyObject *module, State *state)
 {
-    state->tag = type_of_spec(module, &tag_spec);
-    state->tags = PyDict_New();
-    if (state->tag == NULL || state->tags == NULL) return false;
-    Py_INCREF(state->tag);
-    state->tag_class = state->tag;
-    return add_type(module, "Tag", state->tag) && PyModule_AddFunctions(module, tag_functions) == 0;
+    if ((state->tags = PyDict_New()) == NULL || !add_type(module, "Tag", &state->tag, &tag_spec)) return false;
+    state->tag_class = (PyTypeObject *)hold((PyObject *)state->tag);
+    return PyModule_AddFunctions(module, tag_functions) == 0;
 }

@@ -110,6 +110,12 @@ PyObject *str_with_halves(const uint8_t *bytes, size_t length)
     return PyUnicode_DecodeUTF8((const char *)bytes, (Py_ssize_t)length, "surrogatepass");
 }
 
+PyObject *str_of_result(const Result *result, PyObject *text, const Text *view)
+{
+    bool is_same = result->length == view->length && memcmp(result->bytes, view->bytes, view->length) == 0;
+    return is_same ? exact_text(text) : str_of(result->bytes, result->length);
+}
+
 PyObject *str_of_kept(pylock_text *kept)
 {
     Result result;
@@ -149,30 +155,46 @@ static PyObject *field_with_escapes(const uint8_t *field, size_t length)
     return result;
 }
 
-PyObject *text_of_field(const uint8_t *field, size_t length)
+PyObject *next_field(Record *record)
 {
-    return memchr(field, '\\', length) == NULL ? str_of(field, length) : field_with_escapes(field, length);
+    Text field;
+    record->has_more = cut_text(&record->rest, '\t', &field);
+    if (field.length == 1 && field.bytes[0] == '-') return hold(Py_None);
+    bool has_escapes = memchr(field.bytes, '\\', field.length) != NULL;
+    return has_escapes ? field_with_escapes(field.bytes, field.length) : str_of(field.bytes, field.length);
 }
 
-static PyObject *field_of(const uint8_t *field, size_t length)
+PyObject *fields_of(const uint8_t *bytes, size_t length)
 {
-    return length == 1 && field[0] == '-' ? hold(Py_None) : text_of_field(field, length);
-}
-
-PyObject *fields_of(const uint8_t *record, size_t length)
-{
+    Record record = {{bytes, length, NULL}, true};
     Py_ssize_t count = 1;
-    for (size_t place = 0; place < length; place++) count += record[place] == '\t';
+    for (size_t place = 0; place < length; place++) count += bytes[place] == '\t';
     PyObject *fields = PyTuple_New(count);
     for (Py_ssize_t index = 0; fields != NULL && index < count; index++) {
-        const uint8_t *tab = index + 1 < count ? memchr(record, '\t', length) : NULL;
-        size_t field_length = tab == NULL ? length : (size_t)(tab - record);
-        PyObject *field = field_of(record, field_length);
+        PyObject *field = next_field(&record);
         if (field == NULL || PyTuple_SetItem(fields, index, field) < 0) Py_CLEAR(fields);
-        record += field_length + 1;
-        length -= tab == NULL ? length : field_length + 1;
     }
     return fields;
+}
+
+PyObject *record_of_text(State *state, RecordCall call, PyObject *text, const char *kind, RecordReader reader)
+{
+    Text view;
+    Result result;
+    pylock_text kept = {0};
+    PyObject *read = NULL;
+    if (!text_of(text, &view)) return NULL;
+    result.bytes = result.near;
+    int32_t code = call(view.bytes, view.length, &kept);
+    text_done(&view);
+    if (code == PYLOCK_OK) code = result_of_kept(&kept, &result);
+    Record record = {{result.bytes, result.length, NULL}, true};
+    if (code == PYLOCK_OK)
+        read = reader(state, &record);
+    else
+        raise_refusal(state, code, text, kind);
+    result_done(&result);
+    return read;
 }
 
 /* ---- refusals ---- */

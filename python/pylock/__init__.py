@@ -65,4 +65,9 @@ __all__ = [
     "requirements", "sorted_versions", "specifiers", "tags", "utils", "version", "version_key",
 ]
 
-__version__ = "1.3.0"
+__version__ = "1.4.0"
+
+# what `packaging` tells of itself, as far as this module has it (docs/PRIVATE.md)
+__title__ = "pylock"
+__summary__ = "Python's packaging rules and the plan of a pylock.toml, over a proved library"
+__uri__ = __author__ = __email__ = __license__ = __copyright__ = ""

@@ -12,7 +12,7 @@ import os
 import struct
 from typing import IO, NamedTuple, Optional, Tuple
 
-__all__ = ["ARM", "I386", "Program", "read_program"]
+__all__ = ["ARM", "I386", "Program", "read_file", "read_program"]
 
 # the numbers of machines (e_machine)
 I386 = 3
@@ -61,7 +61,8 @@ def _loader(file: IO[bytes], order: str, bits: int, start: int, size: int, count
     return None
 
 
-def _read(file: IO[bytes]) -> Optional[Program]:
+def read_file(file: IO[bytes]) -> Optional[Program]:
+    """What an open file says; None where it is no ELF file. One that is cut off is a `struct.error`."""
     start = file.read(16)
     if len(start) < 16 or start[:4] != b"\x7fELF" or start[4] not in _CLASSES or start[5] not in _ORDERS:
         return None
@@ -79,7 +80,7 @@ def read_program(path: Optional[str]) -> Optional[Program]:
         return None
     try:
         with open(path, "rb") as file:
-            return _read(file)
+            return read_file(file)
     # a place past what the system knows is an OSError or an OverflowError
     except (OSError, ValueError, OverflowError, struct.error):
         return None

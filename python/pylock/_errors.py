@@ -26,14 +26,15 @@ class Refusal(ValueError):
     """A text, a lock or an edit is refused. `str` gives the message for a person.
 
     `word` is the program's word for it, as `syntax` (docs/FORMATS.md); `place` says where, as the number of an
-    entry or the name of a key, and is None where the text as a whole is meant.
+    entry or the name of a key, and is None where the text as a whole is meant. One that a program raises itself may have any
+    arguments, as a ValueError; its word is empty then.
     """
 
     word: str
     place: Place
 
-    def __init__(self, message: str, *, word: str = "", place: Place = None) -> None:
-        super().__init__(message)
+    def __init__(self, *args: object, word: str = "", place: Place = None) -> None:
+        super().__init__(*args)
         self.word = word
         self.place = place
 
@@ -128,8 +129,8 @@ class InvalidLock(Refusal):
 
     __module__ = "pylock"
 
-    def __init__(self, message: str, *, word: str = "", place: Place = None, words: Tuple[str, ...] = ()) -> None:
-        super().__init__(message, word=word, place=place)
+    def __init__(self, *args: object, word: str = "", place: Place = None, words: Tuple[str, ...] = ()) -> None:
+        super().__init__(*args, word=word, place=place)
         self.words = words
 
 

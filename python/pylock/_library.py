@@ -27,6 +27,7 @@ from ._errors import (
     InvalidRequirement,
     InvalidSdistFilename,
     InvalidSpecifier,
+    InvalidTag,
     InvalidTarget,
     InvalidVersion,
     InvalidWheelFilename,
@@ -36,9 +37,6 @@ from ._errors import (
     UndefinedEnvironmentName,
 )
 
-KeptSet = _native.Set
-KeptMarker = _native.Marker
-KeptEnvironment = _native.Environment
 KeptSession = _native.Session
 
 # ---- refusals ----
@@ -74,6 +72,7 @@ _REFUSALS: Dict[int, Tuple[Type[Refusal], str, str]] = {
     69: (InvalidSdistFilename, "version", "invalid version"),
     73: (InvalidTarget, "python", "python is 3.MINOR or 3.MINOR.MICRO, from 3.8 on"),
     74: (InvalidTarget, "platform", "no such platform"),
+    75: (InvalidTag, "tag", "python-abi-platform"),
     80: (InvalidEdit, "long", "the line has more than 1,048,576 bytes"),
     81: (InvalidEdit, "command", "no such command"),
     82: (InvalidEdit, "argument", "what follows the command has a wrong form"),
@@ -99,6 +98,7 @@ _WHAT: Dict[Type[Refusal], str] = {
     InvalidRequirement: "Invalid requirement",
     InvalidWheelFilename: "Invalid wheel filename",
     InvalidSdistFilename: "Invalid sdist filename",
+    InvalidTag: "Invalid tag",
     InvalidTarget: "Invalid target",
     InvalidEdit: "Refused edit",
     InvalidEnvironment: "Invalid environment",
@@ -114,6 +114,7 @@ _KINDS: Dict[str, Type[Refusal]] = {
     "requirement": InvalidRequirement,
     "wheel": InvalidWheelFilename,
     "sdist": InvalidSdistFilename,
+    "tag": InvalidTag,
     "target": InvalidTarget,
     "edit": InvalidEdit,
     "variable": InvalidEnvironment,
@@ -154,43 +155,10 @@ def _refused_input(code: int, text: str, lock: Optional[bytes], environment: Opt
 _native.use_refusals(_refusal, _refused_input)
 
 
-# ---- versions and names ----
+# ---- names and environments ----
 
-version_key = _native.version_key
 is_name = _native.is_name
-name = _native.library_name
-
-
-def version(text: str) -> List[str]:
-    """The fields of a version: normal form, public part, base release, epoch, release, pre, post, dev, local."""
-    return _native.version_record(text).split("\t")
-
-
-# ---- specifier sets ----
-
-set_parse = _native.Set
-set_text = str
-
-
-def set_admits(kept: KeptSet, version: str) -> bool:
-    """Whether the set admits the version, of any phase."""
-    return kept.admits(version)
-
-
-# ---- markers and environments ----
-
-marker_parse = _native.Marker
 environment_read = _native.environment_read
-
-
-def marker_evaluate(marker: KeptMarker, environment: KeptEnvironment, text: str) -> bool:
-    """The value of the marker in the environment."""
-    return marker.evaluate(environment, None, text)
-
-
-def marker_evaluate_with_extra(marker: KeptMarker, environment: KeptEnvironment, extra: str, text: str) -> bool:
-    """The value of the marker in the environment, where the operand `extra` has this text."""
-    return marker.evaluate(environment, extra, text)
 
 
 def environment_target(python: str, platform: str) -> bytes:
@@ -198,15 +166,7 @@ def environment_target(python: str, platform: str) -> bytes:
     return _native.environment_target(python, platform).encode()
 
 
-def environment_add(kept: KeptEnvironment, extras: List[str], groups: List[str]) -> None:
-    """Asks for the extras and the dependency groups."""
-    for extra in extras:
-        kept.add_extra(extra)
-    for group in groups:
-        kept.add_group(group)
-
-
-# ---- requirements, wheel and sdist names ----
+# ---- requirements and names of wheels ----
 
 
 def requirement(text: str) -> List[Optional[str]]:
@@ -217,11 +177,6 @@ def requirement(text: str) -> List[Optional[str]]:
 def wheel(text: str) -> List[Optional[str]]:
     """The fields of a wheel's name: name as written, version, build, tags with a space between."""
     return list(_native.wheel(text))
-
-
-def sdist(text: str) -> List[Optional[str]]:
-    """The fields of an sdist's name: normal form of the name, version."""
-    return list(_native.sdist(text))
 
 
 # ---- a lock at once ----

@@ -66,17 +66,20 @@ def _glibc_of_process() -> Optional[str]:
     return (release() or b"").decode("ascii", "replace") or None
 
 
+def read_glibc_release(text: str) -> Optional[Release]:
+    """The release that a text begins with; a warning and None where it begins with none."""
+    found = _TWO_NUMBERS.match(text)
+    if found is None:
+        warnings.warn("glibc's release is not MAJOR.MINOR: %s" % text, RuntimeWarning, stacklevel=3)
+        return None
+    return Release(int(found.group(1)), int(found.group(2)))
+
+
 @functools.lru_cache(maxsize=None)
 def glibc_release() -> Optional[Release]:
     """The release of the glibc that the process uses; None where it uses another library."""
     text = _glibc_of_system() or _glibc_of_process()
-    if text is None:
-        return None
-    found = _TWO_NUMBERS.match(text)
-    if found is None:
-        warnings.warn("glibc's release is not MAJOR.MINOR: %s" % text, RuntimeWarning, stacklevel=2)
-        return None
-    return Release(int(found.group(1)), int(found.group(2)))
+    return None if text is None else read_glibc_release(text)
 
 
 def _is_hard_float_arm(program: Program) -> bool:
@@ -92,11 +95,11 @@ def _is_i686(program: Program) -> bool:
 _ASKED_OF_FILE: Dict[str, Callable[[Program], bool]] = {"armv7l": _is_hard_float_arm, "i686": _is_i686}
 
 
-def _has_wheels(machines: Sequence[str]) -> bool:
-    """Whether the running Python has an ABI that wheels of glibc are made for."""
+def has_wheels(executable: Optional[str], machines: Sequence[str]) -> bool:
+    """Whether a Python has an ABI that wheels of glibc are made for."""
     for machine, is_right in _ASKED_OF_FILE.items():
         if machine in machines:
-            program = read_program(sys.executable)
+            program = read_program(executable)
             return program is not None and is_right(program)
     return any(machine in _MACHINES for machine in machines)
 
@@ -130,7 +133,7 @@ def _releases(newest: Release, oldest_minor: int) -> Iterator[Release]:
 
 def manylinux_platforms(machines: Sequence[str]) -> Iterator[str]:
     """The platforms of glibc for these machines, the best first."""
-    newest = glibc_release() if _has_wheels(machines) else None
+    newest = glibc_release() if has_wheels(sys.executable, machines) else None
     if newest is None:
         return
     oldest_minor = _OLDEST_OF_X86 if "x86_64" in machines or "i686" in machines else _OLDEST

@@ -139,33 +139,24 @@ def _pick(source: Dict[str, Any]) -> Pick:
     )
 
 
-def _picks(text: str) -> List[Pick]:
-    """The plan of an answer; a fault is raised."""
-    document = json.loads(text)
-    fault = document.get("fault")
-    if fault is not None:
-        raise PlanFault(fault["id"], fault.get("name"), fault["code"], fault.get("detail"))
-    return [_pick(source) for source in document["plan"]]
+def _pick_of(
+    id: str, kind: str, wheel: Optional[str], name: str, version: Optional[str], file: Optional[str], url: Optional[str],
+    path: Optional[str], revision: Optional[str], commit: Optional[str], subdirectory: Optional[str], *hashes: str,
+) -> Pick:
+    """The pick of a record. One of its two places is there."""
+    place = (url or "") if path is None else path
+    of_vcs = None if revision is None or commit is None else (revision, commit)
+    its_hashes = dict(zip(hashes[::2], hashes[1::2]))
+    return Pick(int(id), name, version, kind, file, place, url, path, its_hashes, of_vcs, subdirectory)
 
 
-def _plain_picks(text: str) -> Optional[List[Pick]]:
-    """The plan of an answer in lines, of files of a lock that has no path: so the place of each is its URL. None where a
-    line has something else than a file with a URL and one hash, of which the JSON text says more."""
-    if "\\" in text:
-        return None
-    picks = []
-    for line in text.split("\n")[1:-1]:
-        number, name, version, kind, file, place, hashes, _, subdirectory = line.split("\t")
-        algorithm, sign, value = hashes.partition("=")
-        if kind not in ("wheel", "sdist", "archive") or place == "-" or not sign or "," in value or "=" in value:
-            return None
-        picks.append(
-            Pick(
-                int(number), name, None if version == "-" else version, kind, None if file == "-" else file, place,
-                place, None, {algorithm: value}, None, None if subdirectory == "-" else subdirectory,
-            )
-        )
-    return picks
+def records(kept: _native.KeptSession) -> List[Tuple[Any, ...]]:
+    """A record for each pick of the plan; a fault is raised."""
+    found, is_plan = kept.picks()
+    if not is_plan:
+        id, name, code, detail = found[0]
+        raise PlanFault(int(id), name, code, detail)
+    return found
 
 
 def _findings(text: str) -> List[Finding]:
@@ -325,7 +316,7 @@ class Session(_OfThread):
     def answer(self) -> List[Pick]:
         """What is to be installed; where there is a fault, PlanFault is raised."""
         self._check_thread()
-        return _picks(_native.session_answer(self._kept, True)[0])
+        return [_pick_of(*record) for record in records(self._kept)]
 
     def explain(self) -> Explanation:
         """What becomes of the head and of each entry."""
@@ -409,7 +400,7 @@ class Lock(_OfThread):
     A lock stays on the thread that made it, and can't be copied or pickled.
     """
 
-    __slots__ = ("_content", "_session", "_taken_strictly", "_head", "_packages", "_has_paths", "__weakref__")
+    __slots__ = ("_content", "_session", "_taken_strictly", "_head", "_packages", "__weakref__")
 
     def __init__(self, content: bytes) -> None:
         self._keep_thread()
@@ -422,8 +413,6 @@ class Lock(_OfThread):
         # whether one was started strictly, so that every other one can be
         self._taken_strictly = False
         self._packages: Optional[Tuple[Package, ...]] = None
-        # whether a source may have a path: None until it was asked for
-        self._has_paths: Optional[bool] = None
 
     @classmethod
     def read(cls, source: Any) -> Lock:
@@ -537,16 +526,7 @@ class Lock(_OfThread):
         Raises PlanFault where the lock can't be installed so, InvalidEdit where an option is refused, and
         InvalidEnvironment where the environment is; with `strict`, before any of these, StrictRefusal.
         """
-        session = self._asked(environment, options)
-        if self._has_paths is None:
-            # no key of TOML is `path` without these letters, but for an escape
-            self._has_paths = b"path" in self._content or b"\\" in self._content
-        if not self._has_paths:
-            text, is_plan = _native.session_answer(session._kept, False)
-            picks = _plain_picks(text) if is_plan else None
-            if picks is not None:
-                return picks
-        return session.answer()
+        return self._asked(environment, options).answer()
 
     def explain(self, environment: AnyEnvironment, **options: Unpack[Options]) -> Explanation:
         """What becomes of the head and of each entry, with the options of `plan`."""

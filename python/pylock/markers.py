@@ -8,7 +8,7 @@ What is different: a marker is refused where it has `os.name` or another old spe
 quoted text, more than 64 open parentheses, or `extras` and `dependency_groups` elsewhere than right of `in` or
 `not in`. Two texts are compared as versions where the left one is a version and the right one an operand, and as texts
 otherwise, whatever the variable; `packaging` goes by the variable. Two variables are compared by their values, and
-`extra` as a name alone. A marker can't be changed.
+`extra` as a name alone. A marker can't be changed but by its tree, which is private (docs/PRIVATE.md).
 """
 
 from __future__ import annotations
@@ -18,12 +18,17 @@ import os
 import platform
 import re
 import sys
-from typing import AbstractSet, Any, Dict, FrozenSet, List, Literal, Mapping, Optional, Tuple, TypedDict, Union
+from typing import TYPE_CHECKING, AbstractSet, Any, Dict, FrozenSet, List, Literal, Mapping, Optional, Tuple, TypedDict, Union
 
-from . import _native
+from . import _native, _private
 from ._environment import Environment as KeptEnvironment
 from ._errors import InvalidMarker, MarkerFault, UndefinedComparison, UndefinedEnvironmentName
 from .utils import canonicalize_name
+
+if TYPE_CHECKING:
+    from ._parser import MarkerList
+else:
+    __getattr__ = _private.names_of("markers")
 
 __all__ = [
     "Environment",
@@ -273,21 +278,31 @@ class Marker:
     `text` is the text as it was given; `str` writes it anew as `packaging` does, and markers are equal where that is.
     """
 
-    __slots__ = ("_given", "_kept", "_string", "_sets", "__weakref__")
+    __slots__ = ("_given", "_kept", "_string", "_sets", "_tree", "__weakref__")
 
     def __init__(self, marker: str) -> None:
-        self._kept = _native.Marker(marker)
-        self._given = marker
+        self._read(marker)
+
+    def _read(self, text: str) -> None:
+        """Makes it the marker of a text."""
+        self._kept = _native.Marker(text)
+        self._given = text
         self._string: Optional[str] = None
         # the sets that it reads, once they are known
         self._sets: Optional[Tuple[str, ...]] = None
+        # the tree, once somebody has it, and its text from then
+        self._tree: Optional[Tuple[MarkerList, str]] = None
 
     @property
     def text(self) -> str:
         """The text as it was given, without the white space round it."""
+        if self._tree is not None:
+            self._follow_tree()
         return self._given.strip(_WHITE)
 
     def __str__(self) -> str:
+        if self._tree is not None:
+            self._follow_tree()
         string = self._string
         if string is None:
             # as `packaging` has it: names in normal form but in parentheses
@@ -299,7 +314,7 @@ class Marker:
         return _atoms(_tokens(self._given), 0)[0]
 
     def __repr__(self) -> str:
-        return "<Marker(%r)>" % str(self)
+        return "<%s(%r)>" % (type(self).__name__, str(self))
 
     def __hash__(self) -> int:
         return hash(("Marker", str(self)))
@@ -310,12 +325,21 @@ class Marker:
         return str(self) == str(other)
 
     def _joined(self, word: str, other: Marker) -> Marker:
-        texts = []
-        for marker in (self, other):
-            pieces = marker._pieces()
-            plain = len(pieces) == 1 and isinstance(pieces[0], tuple)
-            texts.append(str(marker) if plain else "(%s)" % marker)
-        return type(self)((" %s " % word).join(texts))
+        # parentheses round one comparison are in no text that is written anew
+        return self._of_text("(%s) %s (%s)" % (self._part(), word, other._part()))
+
+    def _part(self) -> str:
+        """A text for parentheses to stand round, in which the names that `extra` is compared with are normal where `str` has
+        them so."""
+        text = self.text
+        return str(self) if "extra" in text else text
+
+    @classmethod
+    def _of_text(cls, text: str) -> Marker:
+        """One of this class, whatever its `__init__` takes."""
+        new = cls.__new__(cls)
+        new._read(text)
+        return new
 
     def __and__(self, other: Marker) -> Marker:
         """The marker that both are true.
@@ -329,14 +353,71 @@ class Marker:
         """The marker that one of them is true."""
         return self._joined("or", other) if isinstance(other, Marker) else NotImplemented
 
+    # ---- the tree, copies ----
+
+    @property
+    def _markers(self) -> MarkerList:
+        """The tree, as `packaging` has it. It may be changed, and another one assigned: the marker is what its tree says."""
+        from ._parser import text_of, tree_of
+
+        if self._tree is None:
+            tree = tree_of(self._given) if self._given else []
+            self._tree = tree, text_of(tree)
+        return self._tree[0]
+
+    @_markers.setter
+    def _markers(self, tree: MarkerList) -> None:
+        from ._parser import text_of
+
+        self._read_tree(tree, text_of(tree))
+
+    def _read_tree(self, tree: MarkerList, text: str) -> None:
+        """Makes it the marker of a tree with this text. One without anything in it is true."""
+        if text:
+            self._read(text)
+        else:
+            self._read("'' == ''")
+            self._given = self._string = text
+        self._tree = tree, text
+
+    def _follow_tree(self) -> None:
+        """Reads the tree again, where it was changed."""
+        from ._parser import text_of
+
+        assert self._tree is not None
+        tree, before = self._tree
+        text = text_of(tree)
+        if text != before:
+            self._read_tree(tree, text)
+
+    @classmethod
+    def _from_markers(cls, markers: MarkerList) -> Marker:
+        """The marker of a tree."""
+        new = cls.__new__(cls)
+        new._markers = markers
+        return new
+
     def __copy__(self) -> Marker:
-        return self
+        # who has a tree may change it, and means one marker
+        return self._of_text(self.text) if self.text else self._from_markers([])
 
     def __deepcopy__(self, memo: Any) -> Marker:
-        return self
+        return self.__copy__()
 
-    def __reduce__(self) -> Tuple[Any, ...]:
-        return type(self), (self.text,)
+    def __getstate__(self) -> str:
+        return self.text
+
+    def __setstate__(self, state: Any) -> None:
+        """Takes a pickle of `packaging` too: up to 26.1 it has the tree."""
+        if isinstance(state, str):
+            self._read(state) if state else self._read_tree([], state)
+            return
+        if isinstance(state, tuple) and len(state) == 2:
+            state = state[1]
+        tree = state.get("_markers") if isinstance(state, dict) else None
+        if not isinstance(tree, list):
+            raise TypeError("Cannot restore Marker from %r" % (state,))
+        self._markers = tree
 
     def evaluate(
         self,
@@ -365,6 +446,8 @@ class Marker:
         compares what isn't a version or `extra` stands beside another operator than `==`, `!=`, `in` and `not in`, and
         MarkerFault where `extra` isn't set or a version has a number past 128 bits.
         """
+        if self._tree is not None:
+            self._follow_tree()
         sets = self._sets
         if sets is None:
             sets = self._sets = self._read_sets()
@@ -413,5 +496,7 @@ class Marker:
             ...
         pylock.markers.UndefinedEnvironmentName: Marker without a value: "os_name == 'nt'" (it reads a variable that isn't set)
         """
+        if self._tree is not None:
+            self._follow_tree()
         kept = environment._kept if isinstance(environment, KeptEnvironment) else _mapped(environment, False)
         return self._kept.evaluate(kept, None, self._given)

@@ -546,34 +546,34 @@ def _environment_text(environment: Optional[Mapping[str, Any]], tags: Optional[S
     return variables_text(variables, texts)
 
 
-# a source of which the session has to know only that it stands
-_STANDS: Tuple[Tuple[str, Mapping[str, str]], ...] = (
-    ("vcs", {"type": "", "commit-id": "", "path": ""}),
-    ("directory", {"path": ""}),
-    ("archive", {"path": ""}),
-    ("sdist", {"path": ""}),
-)
+# the keys of each kind of source that the session reads, and the attributes that hold them
+_READ: Dict[str, Dict[str, str]] = {
+    "vcs": {"type": "type", "url": "url", "path": "path", "commit-id": "commit_id"},
+    "directory": {"path": "path"},
+    "archive": {"url": "url", "path": "path"},
+    "sdist": {"name": "name", "url": "url", "path": "path"},
+}
+_READ_WHEEL = _READ["sdist"]
 
 
-def _asked_wheel(folder: str, wheel: PackageWheel) -> Dict[str, Any]:
-    """What the session has to know of a wheel: its place, as a folder before its path, and what its file name is from."""
-    if wheel.name:
-        return {"path": folder, "name": wheel.name}
-    return {"path": "%s%s" % (folder, wheel.path or ""), "url": wheel.url or ""}
+def _asked_source(source: _Source, keys: Dict[str, str]) -> Dict[str, Any]:
+    """What the session has to know of a source."""
+    return {key: getattr(source, name) or "" for key, name in keys.items()}
 
 
-def _asked_entry(package: Package, folders: List[str]) -> Dict[str, Any]:
+def _asked_entry(package: Package) -> Dict[str, Any]:
     """What the session has to know of an entry."""
     asked: Dict[str, Any] = {"name": package.name}
     if package.marker is not None:
         asked["marker"] = package.marker.text
     if package.requires_python is not None:
         asked["requires-python"] = package.requires_python.text
-    for key, stands in _STANDS:
-        if getattr(package, key) is not None:
-            asked[key] = stands
+    for key, read in _READ.items():
+        source = getattr(package, key)
+        if source is not None:
+            asked[key] = _asked_source(source, read)
     if package.wheels:
-        asked["wheels"] = [_asked_wheel(folder, wheel) for folder, wheel in zip(folders, package.wheels)]
+        asked["wheels"] = [_asked_source(wheel, _READ_WHEEL) for wheel in package.wheels]
     return asked
 
 
@@ -588,14 +588,10 @@ def _asked_lock(lock: Pylock, extras: List[str], groups: List[str]) -> bytes:
     }
     if lock.requires_python is not None:
         asked["requires-python"] = lock.requires_python.text
-    most = max([len(package.wheels or ()) for package in lock.packages], default=0)
-    folders = ["%d/" % place for place in range(most)]
-    asked["packages"] = [_asked_entry(package, folders) for package in lock.packages]
+    asked["packages"] = [_asked_entry(package) for package in lock.packages]
     return _toml.document(asked)
 
 
-# the answer in lines, which are read in less time than the documents that `Session.answer` reads
-_answer: Callable[[Any, bool], Tuple[str, bool]] = _lock._native.session_answer  # type: ignore[attr-defined]
 _FAULTS = {
     "python-unknown": "python_full_version is no version, so it can't be judged by the set %s",
     "python-not-met": "python_full_version isn't in the set %s",
@@ -619,12 +615,9 @@ def _selected(lock: Pylock, environment: bytes, extras: List[str], groups: List[
     """The place of each selected entry, the kind of its source, and of a wheel its place."""
     with _lock.Session(_asked_lock(lock, extras, groups), environment) as session:
         session._make([("add_extra", extra) for extra in extras])
-        text, is_plan = _answer(session._kept, False)
-        if not is_plan:
-            try:
-                session.answer()
-            except PlanFault as fault:
-                raise _select_error(fault) from fault
-    for line in text.split("\n")[1:-1]:
-        number, _, _, kind, _, place, _ = line.split("\t", 6)
-        yield int(number) - 1, kind, int(place.partition("/")[0]) if kind == "wheel" else 0
+        try:
+            records = _lock.records(session._kept)
+        except PlanFault as fault:
+            raise _select_error(fault) from fault
+    for number, kind, wheel, *_ in records:
+        yield int(number) - 1, kind, int(wheel or 1) - 1

@@ -10,9 +10,9 @@ commas are taken, as `SpecifierSet` takes them.
 
 from __future__ import annotations
 
-from typing import Any, Iterator, List, Optional, Set, Tuple
+from typing import TYPE_CHECKING, Any, Iterator, List, Optional, Set, Tuple
 
-from . import _library as _native
+from . import _native, _private
 from ._errors import InvalidRequirement
 from .markers import Marker
 from .specifiers import SpecifierSet
@@ -21,6 +21,22 @@ from .utils import canonicalize_name
 __all__ = ["InvalidRequirement", "Requirement"]
 
 _WHITE = " \t\n\v\f\r"
+
+
+def parts_of(text: str) -> Tuple[str, List[str], str, Optional[str], Optional[str]]:
+    """The name, the extras, the specifier set, the URL and the marker of a requirement, as they are written."""
+    name, extras, specifier, url, marker = _native.requirement(text)
+    assert name is not None
+    return name, extras.split(",") if extras else [], _set_text(text, name) if specifier else "", url, marker
+
+
+def _set_text(text: str, name: str) -> str:
+    """The text of the set, in a requirement that has one: what stands behind name and extras, up to a `;`."""
+    text = text.lstrip(_WHITE)[len(name) :].lstrip(_WHITE)
+    if text.startswith("["):
+        text = text[text.index("]") + 1 :]
+    text = text.split(";", 1)[0].strip(_WHITE)
+    return text[1:-1].strip(_WHITE) if text.startswith("(") else text
 
 
 class Requirement:
@@ -39,73 +55,26 @@ class Requirement:
     pylock.requirements.InvalidRequirement: Invalid requirement: 'a >= x' (its specifier set)
     """
 
-    __slots__ = ("name", "url", "_given", "_fields", "_extras", "_specifier", "_marker", "__weakref__")
-
     name: str
     """The name, as it is written."""
     url: Optional[str]
-    """The URL."""
+    """The URL, or None."""
+    extras: Set[str]
+    """The extras, as they are written."""
+    specifier: SpecifierSet
+    """The specifier set, empty where there is none."""
+    marker: Optional[Marker]
+    """The marker, or None."""
 
     def __init__(self, requirement_string: str) -> None:
-        fields = _native.requirement(requirement_string)
-        self._fields: List[Optional[str]] = fields
-        self._given = requirement_string
-        self.name = fields[0]  # type: ignore[assignment]
-        self.url = fields[3]
-        self._extras: Optional[Set[str]] = None
-        self._specifier: Optional[SpecifierSet] = None
-        # a tuple once it was read or given
-        self._marker: Optional[Tuple[Optional[Marker]]] = None
+        name, extras, specifier, url, marker = parts_of(requirement_string)
+        self.name = name
+        self.url = url
+        self.extras = set(extras)
+        self.specifier = SpecifierSet(specifier)
+        self.marker = None if marker is None else Marker(marker)
 
-    @property
-    def extras(self) -> Set[str]:
-        """The extras, as they are written."""
-        extras = self._extras
-        if extras is None:
-            field = self._fields[1]
-            extras = self._extras = set(field.split(",") if field else ())
-        return extras
-
-    @extras.setter
-    def extras(self, value: Set[str]) -> None:
-        self._extras = value
-
-    @property
-    def specifier(self) -> SpecifierSet:
-        """The specifier set, empty where there is none."""
-        specifier = self._specifier
-        if specifier is None:
-            specifier = self._specifier = SpecifierSet(self._set_text() if self._fields[2] else "")
-        return specifier
-
-    @specifier.setter
-    def specifier(self, value: SpecifierSet) -> None:
-        self._specifier = value
-
-    @property
-    def marker(self) -> Optional[Marker]:
-        """The marker."""
-        marker = self._marker
-        if marker is None:
-            text = self._fields[4]
-            marker = self._marker = (None if text is None else Marker(text),)
-        return marker[0]
-
-    @marker.setter
-    def marker(self, value: Optional[Marker]) -> None:
-        self._marker = (value,)
-
-    def _set_text(self) -> str:
-        """The text of the set, in a requirement that has one: what stands behind name and extras, up to a `;`."""
-        name = self._fields[0]
-        assert name is not None
-        text = self._given.lstrip(_WHITE)[len(name) :].lstrip(_WHITE)
-        if text.startswith("["):
-            text = text[text.index("]") + 1 :]
-        text = text.split(";", 1)[0].strip(_WHITE)
-        return text[1:-1].strip(_WHITE) if text.startswith("(") else text
-
-    def _pieces(self, name: str) -> Iterator[str]:
+    def _iter_parts(self, name: str) -> Iterator[str]:
         yield name
         if self.extras:
             yield "[%s]" % ",".join(sorted(self.extras))
@@ -119,10 +88,10 @@ class Requirement:
             yield "; %s" % self.marker
 
     def __str__(self) -> str:
-        return "".join(self._pieces(self.name))
+        return "".join(self._iter_parts(self.name))
 
     def __repr__(self) -> str:
-        return "<Requirement(%r)>" % str(self)
+        return "<%s(%r)>" % (type(self).__name__, str(self))
 
     def __hash__(self) -> int:
         return hash((canonicalize_name(self.name), frozenset(self.extras), self.specifier, self.url, self.marker))
@@ -138,5 +107,15 @@ class Requirement:
             and self.marker == other.marker
         )
 
-    def __reduce__(self) -> Tuple[Any, ...]:
-        return type(self), (str(self),)
+    def __getstate__(self) -> str:
+        return str(self)
+
+    def __setstate__(self, state: Any) -> None:
+        """Takes a pickle of `packaging` too."""
+        from ._pickles import restore_requirement
+
+        restore_requirement(self, state)
+
+
+if not TYPE_CHECKING:
+    __getattr__ = _private.names_of("requirements")

@@ -18,9 +18,9 @@ from __future__ import annotations
 import abc
 from itertools import accumulate, islice
 from operator import attrgetter
-from typing import Any, Callable, Collection, Dict, Iterable, Iterator, List, Optional, Tuple, TypeVar, Union, overload
+from typing import TYPE_CHECKING, Any, Callable, Collection, Dict, Iterable, Iterator, List, Optional, Tuple, TypeVar, Union, overload
 
-from . import _native
+from . import _native, _private
 from ._errors import InvalidSpecifier, InvalidVersion
 from .version import Version
 
@@ -214,9 +214,6 @@ class _Judge:
         """The text as it was given; of one specifier without white space."""
         return self._text
 
-    def __reduce__(self) -> Tuple[Any, ...]:
-        return type(self), (self._text, self._forced)
-
     def __repr__(self) -> str:
         forced = "" if self._forced is None else ", prereleases=%r" % self._forced
         return "<%s(%r%s)>" % (type(self).__name__, str(self), forced)
@@ -242,7 +239,7 @@ def _finals_or_all(items: Iterator[Any], phase: Callable[[Any], Optional[bool]])
             yield item
 
 
-class Specifier(_native.Specifier, _Judge):
+class Specifier(_private.SpecifierParts, _native.Specifier, _Judge):
     """One specifier.
 
     >>> Specifier("~= 2.2").operator, Specifier("~= 2.2").version
@@ -310,6 +307,13 @@ class Specifier(_native.Specifier, _Judge):
         """
         return self._spec[1]
 
+    def __reduce__(self) -> Tuple[Any, ...]:
+        if type(self) is Specifier:
+            return Specifier, (self._text, self._forced)
+        from ._subclasses import reduced
+
+        return reduced(self, Specifier, (self._text, self._forced), (self._spec, self._forced))
+
     __hash__ = _native.Specifier.__hash__
 
     def __eq__(self, other: object) -> bool:
@@ -323,7 +327,7 @@ class Specifier(_native.Specifier, _Judge):
         return self._canonical_spec() == other._canonical_spec()
 
 
-class SpecifierSet(_Judge):
+class SpecifierSet(_private.SetParts, _Judge):
     """A set of specifiers, with commas between them; each is to admit a version.
 
     >>> versions = SpecifierSet(">=1.2, !=1.3.*")
@@ -340,15 +344,15 @@ class SpecifierSet(_Judge):
     repetition don't count. `len` and iteration tell of each specifier that was given, in its place.
     """
 
-    __slots__ = ("_text", "_kept", "_forced", "_exact", "_specs", "__weakref__")
+    __slots__ = ("_text", "_kept", "_forced", "_exact", "_made", "__weakref__")
 
     def __init__(
         self, specifiers: Union[str, Iterable[Union[Specifier, str]]] = "", prereleases: Optional[bool] = None
     ) -> None:
-        self._specs: Optional[Tuple[Specifier, ...]] = None
+        self._made: Optional[Tuple[Specifier, ...]] = None
         if not isinstance(specifiers, str):
-            self._specs = tuple([_specifier(one) for one in specifiers])
-            specifiers = ",".join([one.text for one in self._specs])
+            self._made = tuple([_specifier(one) for one in specifiers])
+            specifiers = ",".join([one.text for one in self._made])
         self._kept = _native.Set(specifiers)
         self._text = specifiers
         self._forced = prereleases
@@ -357,9 +361,9 @@ class SpecifierSet(_Judge):
 
     def _items(self) -> Tuple[Specifier, ...]:
         """The specifiers, in the order of the text."""
-        specs = self._specs
+        specs = self._made
         if specs is None:
-            specs = self._specs = _native.specifiers(self._text)
+            specs = self._made = _native.specifiers(self._text)
         return specs
 
     def _passes(self, item: UnparsedVersion) -> bool:
@@ -419,11 +423,14 @@ class SpecifierSet(_Judge):
         return all([wants_final and _native.phase(version) for version in witnesses.admitted_by_all()])
 
     def __str__(self) -> str:
-        string = _native.set_string(self._text)
-        if string is None:
-            # of equal specifiers the first in the order of texts
-            string = ",".join([item._text for item in dict.fromkeys(sorted(self._items(), key=_text_of))])
-        return string
+        items = self._items()
+        texts = [item._text for item in items]
+        texts.sort()
+        if len({item._spec[0] for item in items}) < len(items):
+            # of equal specifiers, whose operators are the same, the first in the order of texts
+            kept = {item._canonical_spec(): item._text for item in sorted(items, key=_text_of, reverse=True)}
+            texts = sorted(kept.values()) if len(kept) < len(items) else texts
+        return ",".join(texts)
 
     def __hash__(self) -> int:
         return hash(frozenset(self._items()))
@@ -454,11 +461,16 @@ class SpecifierSet(_Judge):
         return SpecifierSet(self._text + "," + other._text, forced)
 
     def __reduce__(self) -> Tuple[Any, ...]:
-        return type(self), (self._items() if self._says_more() else self._text, self._forced)
+        arguments = self._items() if self._says_more() else self._text, self._forced
+        if type(self) is SpecifierSet:
+            return SpecifierSet, arguments
+        from ._subclasses import reduced
+
+        return reduced(self, SpecifierSet, arguments, (self._items(), self._forced))
 
     def _says_more(self) -> bool:
         """Whether a specifier was told of pre-releases, of which the text has nothing."""
-        return self._specs is not None and any([item._forced is not None for item in self._specs])
+        return self._made is not None and any([item._forced is not None for item in self._made])
 
 
 _text_of = attrgetter("_text")
@@ -611,3 +623,7 @@ def _stems(operand: Version) -> Iterator[str]:
     if operand.dev is not None:
         yield "%s.dev%d" % (base, operand.dev)
         yield "%s.dev%d" % (base, operand.dev + 1)
+
+
+if not TYPE_CHECKING:
+    __getattr__ = _private.names_of("specifiers")

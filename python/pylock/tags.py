@@ -17,9 +17,9 @@ import re
 import sys
 import sysconfig
 from importlib.machinery import EXTENSION_SUFFIXES
-from typing import AbstractSet, Any, Callable, Dict, FrozenSet, Iterable, Iterator, List, Optional, Sequence, Tuple, TypeVar
+from typing import TYPE_CHECKING, AbstractSet, Any, Callable, Dict, FrozenSet, Iterable, Iterator, List, Optional, Sequence, Tuple, TypeVar
 
-from . import _native
+from . import _native, _private
 from ._errors import InvalidTag, UnsortedTagsError
 from ._platforms import (
     AppleVersion,
@@ -87,8 +87,6 @@ def parse_tag(tag: str, *, validate_order: bool = False) -> FrozenSet[Tag]:
     pylock.tags.UnsortedTagsError: Unsorted tag: 'py3.py2' is to be 'py2.py3'
     """
     tags = _native.parse_tag(tag)
-    if tags is None:
-        raise InvalidTag("Invalid tag: %r (python-abi-platform)" % tag, word="tag")
     if validate_order:
         _check_order(tag)
     return tags
@@ -333,3 +331,7 @@ def sys_tags(*, warn: bool = False) -> Iterator[Tag]:
         # a wheel for any PyPy 3
         interpreter = "pp3"
     yield from compatible_tags(interpreter=interpreter)
+
+
+if not TYPE_CHECKING:
+    __getattr__ = _private.names_of("tags")

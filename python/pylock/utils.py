@@ -27,9 +27,9 @@ The name in normal form and the version of an sdist (PEP 625), whose file name i
 
 from __future__ import annotations
 
-from typing import FrozenSet, NewType, Tuple, Union
+from typing import TYPE_CHECKING, FrozenSet, NewType, Tuple, Union
 
-from . import _native
+from . import _native, _private
 from ._errors import InvalidName, InvalidSdistFilename, InvalidWheelFilename
 from .tags import Tag
 from .version import Version
@@ -85,3 +85,7 @@ def _in_order(filename: str) -> None:
         if pieces != sorted(pieces):
             message = "Invalid wheel filename: %r (the pieces of a tag aren't in order)" % filename
             raise InvalidWheelFilename(message, word="tags")
+
+
+if not TYPE_CHECKING:
+    __getattr__ = _private.names_of("utils")

@@ -12,9 +12,9 @@ What is different: a number of a version has at most 128 bits, and white space i
 from __future__ import annotations
 
 import re
-from typing import Any, Iterable, List, NoReturn, Optional, Tuple
+from typing import TYPE_CHECKING, Any, Iterable, List, NoReturn, Optional, Tuple
 
-from . import _library, _native
+from . import _library, _native, _private
 from ._errors import InvalidVersion
 
 __all__ = [
@@ -98,13 +98,22 @@ def _pre_text(value: object) -> str:
     return letter + _number("pre", value[1])
 
 
-class _BaseVersion:
-    """What `Version` is made from, for `isinstance`."""
+def _made(kind: Any, text: str) -> Any:
+    """The version of a text, of a class that may take other arguments."""
+    if kind is Version:
+        return Version(text)
+    from ._subclasses import version_of
+
+    return version_of(kind, text)
+
+
+class _BaseVersion(_private.Ordered):
+    """What `Version` is made from, for `isinstance`, and for versions of one's own."""
 
     __slots__ = ()
 
 
-class Version(_native.Version, _BaseVersion):
+class Version(_private.VersionParts, _native.Version, _BaseVersion):  # type: ignore[misc]
     """A version. Equal versions, as `1` and `1.0`, are equal and have one hash, whatever their texts.
 
     >>> Version("1.0a5") < Version("1.0")
@@ -166,7 +175,8 @@ class Version(_native.Version, _BaseVersion):
             if not isinstance(local, str) or not _LOCAL(local):
                 _no_part("local", local)
             pieces.append("+" + local)
-        return cls("".join(pieces))
+        made: Version = _made(cls, "".join(pieces))
+        return made
 
     def __replace__(self, **parts: Any) -> Version:
         """The version with other parts, for `copy.replace`: a part that is None is left away.
@@ -191,7 +201,12 @@ class Version(_native.Version, _BaseVersion):
         return self
 
     def __reduce__(self) -> Tuple[Any, ...]:
-        return type(self), (str(self),)
+        if type(self) is Version:
+            return Version, (str(self),)
+        from ._subclasses import reduced
+
+        state = self._epoch, self._release, self._pre, self._post, self._dev, self._local
+        return reduced(self, Version, (str(self),), state)
 
 
 def parse(version: str) -> Version:
@@ -231,3 +246,7 @@ def sorted_versions(versions: Iterable[str]) -> List[str]:
     ['v1.9', '1.9.0', '1.10.dev1', '1.10']
     """
     return sorted(versions, key=_native.version_key)
+
+
+if not TYPE_CHECKING:
+    __getattr__ = _private.names_of("version")

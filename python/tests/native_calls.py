@@ -13,6 +13,7 @@ from pylock import _native
 ENVIRONMENT = json.dumps(
     {"environment": {"os_name": "posix", "sys_platform": "linux", "python_full_version": "3.12.4"}, "tags": ["py3-none-any"]}
 ).encode()
+NOTHING = b'{"environment": {}, "tags": []}'
 LOCK = b"""
 lock-version = "1.0"
 created-by = "t"
@@ -86,18 +87,39 @@ class WithInit(_native.Version):
         super().__init__(text + ".0")
 
 
+class OfOnePiece(_native.Tag):
+    """Gives its pieces in its own __init__."""
+
+    __slots__ = ()
+
+    def __init__(self, python):
+        super().__init__(python, "none", "any")
+
+
+class Early(pylock.Version):
+    """Says otherwise whether it is a pre-release."""
+
+    __slots__ = ()
+
+    is_prerelease = property(lambda self: True)
+
+
 def of_versions():
     for text in ("1.0", "1!2.3.rc4.post5-dev6+Local.7", LONG, "1.0-é"):
         error = pylock.InvalidVersion if "é" in text else None
         for name, function in (("Version", _native.Version), ("Version of the layer", pylock.Version), ("version_key", _native.version_key),
                                ("version_record", _native.version_record)):
             yield Row("%s(%.12s)" % (name, text), function, fixed(text), error)
+        if error is None:
+            yield Row("phase of a class(%.12s)" % text, _native.phase, lambda text=text: (Early(fresh(text)),))
         for name in ("phase", "canonicalize_version"):
             yield Row("%s(%.12s)" % (name, text), getattr(_native, name), fixed(text))
         if error is None:
             yield Row("Version of a class(%.12s)" % text, WithInit, fixed("7" if "+" in text else text))
             for part in PARTS:
-                yield Row("%.12s.%s" % (text, part), operator.attrgetter(part), lambda text=text: (version(text),))
+                # of the layer it is another key
+                made = _native.Version if part == "_key" else version
+                yield Row("%.12s.%s" % (text, part), operator.attrgetter(part), lambda text=text, made=made: (made(fresh(text)),))
             for function in (str, repr, hash):
                 yield Row("%s(%.12s)" % (function.__name__, text), function, lambda text=text: (version(text),))
             yield Row("canonicalize_version of one(%.12s)" % text, _native.canonicalize_version, lambda text=text: (version(text),))
@@ -140,10 +162,10 @@ def of_set(text):
 
 
 def of_specifiers():
-    for name in ("specifiers", "set_string"):
-        yield Row(name, getattr(_native, name), lambda: (fresh(" >= 1.0 , !=é, ,<2"),))
-        yield Row(name + " of a long text", getattr(_native, name), lambda: (fresh("===" + "é" * 600 + "\ud800"),))
-    yield Row("set_string of two alike", _native.set_string, lambda: (fresh("!=1,!=2"),))
+    for text in (" >= 1.0 , ===é, ,<2", "=== " + "é" * 600, ",".join("!= %d" % number for number in range(40))):
+        yield Row("specifiers(%.9r)" % text, _native.specifiers, lambda text=text: (fresh(text),))
+    for text in ("!=é", "===\ud800"):
+        yield Row("specifiers(%r), refused" % text, _native.specifiers, fixed(text), pylock.InvalidSpecifier)
     yield Row("Specifier", _native.Specifier, lambda: (fresh(" >= 1.0rc1 "), False))
     for text in ("?", "", ">=1,<2", "===\ud800"):
         yield Row("Specifier(%r), refused" % text, _native.Specifier, fixed(text), pylock.InvalidSpecifier)
@@ -197,14 +219,17 @@ class Small:
 
 def of_tags():
     yield Row("parse_tag", _native.parse_tag, fixed("py2.py3-none-any"))
-    yield Row("parse_tag, new", _native.parse_tag, lambda: with_new_tags("P3.é\ud800-none-any"))
-    yield Row("parse_tag of none", _native.parse_tag, fixed("py3-none"))
+    yield Row("parse_tag, new", _native.parse_tag, lambda: with_new_tags("P3.é\\-none-any"))
+    for text in ("py3-none", "py3-none-\ud800"):
+        yield Row("parse_tag(%r), refused" % text, _native.parse_tag, fixed(text), pylock.tags.InvalidTag)
     yield Row("Tag", _native.Tag, fixed("CP310", "abi3", "É"))
     yield Row("Tag of small texts", _native.Tag, lambda: (fresh("cp310"), fresh("abi3"), fresh("any")))
     yield Row("Tag of what has a lower", _native.Tag, fixed(Small(), "x", "y"))
     for odd, error in ((5, AttributeError), (b"x", TypeError)):
         yield Row("Tag of %r" % odd, _native.Tag, fixed("x", odd, "y"), error)
     yield Row("Tag of the layer", pylock.Tag, fixed("cp310", "abi3", "x\ud800" * 300))
+    yield Row("Tag of a class", OfOnePiece, fixed("CP310-é"))
+    yield Row("Tag without pieces", _native.Tag, fixed(), TypeError)
     for function in (str, repr, hash, operator.attrgetter("interpreter"), operator.attrgetter("abi"), operator.attrgetter("platform")):
         yield Row("tag, %r" % function, function, lambda: (_native.Tag("py3", "none", fresh("É" * 300)),))
     for name in ("eq", "ne"):
@@ -260,10 +285,12 @@ def of_locks():
         yield Row("Session.edit %d, %s" % (number, edit[0]), _native.Session.edit, lambda edit=edit: (session(), *edit))
     for name in ("answer", "explain"):
         yield Row("Session." + name, getattr(_native.Session, name), lambda: (session(), True))
-    for name in ("judged", "close"):
+    for name in ("picks", "judged", "close"):
         yield Row("Session." + name, getattr(_native.Session, name), lambda: (session(),))
     yield Row("Session.owner.graves", operator.attrgetter("owner.graves"), lambda: (session(),))
+    yield Row("Session.picks of a fault", _native.Session.picks, lambda: (_native.session_start(LOCK, NOTHING),))
     yield Row("answer of a closed one", _native.Session.answer, lambda: (closed(), True), ValueError)
+    yield Row("picks of a closed one", _native.Session.picks, lambda: (closed(),), ValueError)
 
 
 class Entry:
@@ -324,7 +351,7 @@ def shown(value):
     """What can be seen of a result or an argument, for comparing."""
     if isinstance(value, _native.Version):
         try:
-            return str(value), value._key, value.release, value.pre, value.local
+            return str(value), _native.Version._key.__get__(value), value.release, value.pre, value.local
         except ValueError:
             return "without a text"
     if isinstance(value, _native.Session):

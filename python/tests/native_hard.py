@@ -1,7 +1,6 @@
 """The compiled part tried hard: wrong arguments, long and odd texts, classes that are made from its own, the collector, threads,
 signals, forks, interpreters beside the first, modules that end before their objects, and the end of the interpreter."""
 
-import codecs
 import gc
 import importlib.util
 import os
@@ -108,7 +107,7 @@ class Arguments(unittest.TestCase):
         """What takes a text takes nothing else."""
         for name in ("version_key", "version_record", "phase", "canonicalize_version", "canonicalize_name", "is_normalized_name",
                      "library_name", "is_name", "parse_tag", "parse_wheel", "parse_sdist_filename", "requirement", "wheel", "sdist",
-                     "specifiers", "set_string", "Version", "Specifier", "Set", "Marker"):
+                     "specifiers", "Version", "Specifier", "Set", "Marker"):
             for odd in (None, 1, b"1", [], {}, object(), Odd()):
                 with self.assertRaises(TypeError, msg=(name, odd)):
                     getattr(_native, name)(odd)
@@ -158,7 +157,7 @@ class Texts(unittest.TestCase):
     CALLS = (_native.Version, _native.Set, _native.Marker, _native.version_key, _native.version_record, _native.phase, _native.parse_tag,
              _native.canonicalize_version, _native.canonicalize_name, _native.is_normalized_name, _native.library_name, _native.is_name,
              _native.parse_wheel, _native.parse_sdist_filename, _native.requirement, _native.wheel, _native.sdist,
-             _native.specifiers, _native.set_string, _native.Specifier)
+             _native.specifiers, _native.Specifier)
 
     def test_odd(self):
         environment, one = native_calls.environment(), _native.Set(">=1")
@@ -201,8 +200,9 @@ class Texts(unittest.TestCase):
                     pass
 
     def test_half_a_character(self):
-        (tag,) = _native.parse_tag("P\ud800-none-any")
+        tag = _native.Tag("P\ud800", "none", "any")
         self.assertEqual((tag.interpreter, str(tag)), ("p\ud800", "p\ud800-none-any"))
+        self.assertRaises(pylock.tags.InvalidTag, _native.parse_tag, "P\ud800-none-any")
 
 
 class Classes(unittest.TestCase):
@@ -214,7 +214,7 @@ class Classes(unittest.TestCase):
         late = Late(1, 2, 3)
         for part in native_calls.PARTS:
             # a member is there or not
-            self.assertRaises(AttributeError if part == "is_prerelease" else ValueError, getattr, late, part)
+            self.assertRaises(ValueError, getattr, late, part)
         for call in (str, repr, hash, lambda one: one == _native.Version("1"), lambda one: _native.Version("1") < one, _native.phase,
                      _native.canonicalize_version, _native.Set("").admits):
             self.assertRaises(ValueError, call, late)
@@ -326,23 +326,6 @@ class Classes(unittest.TestCase):
             self.assertEqual({type(one) for one in _native.parse_tag(text)}, {_native.Tag})
             self.assertEqual({type(one) for one in _native.parse_wheel("a-1-%s.whl" % text)[3]}, {_native.Tag})
             self.assertEqual({type(one) for one in pylock.parse_tag(text)}, {pylock.Tag})
-
-    def test_pieces_that_fail(self):
-        """Where the pieces of a tag are asked for while they are found, and then can't be, only that is told."""
-        (tag,) = _native.parse_tag("q\ud800-none-any")
-        before = codecs.lookup_error("surrogatepass")
-
-        def handler(error):
-            codecs.register_error("surrogatepass", before)
-            self.assertEqual(tag.interpreter, "q\ud800")
-            raise ZeroDivisionError
-
-        codecs.register_error("surrogatepass", handler)
-        try:
-            self.assertRaises(ZeroDivisionError, lambda: tag.interpreter)
-        finally:
-            codecs.register_error("surrogatepass", before)
-        self.assertEqual(tag.interpreter, "q\ud800")
 
     def test_made_of_another_class(self):
         """Attributes are given to an object of the class that was asked for alone."""
@@ -572,7 +555,7 @@ class Running(unittest.TestCase):
     @unittest.skipUnless(hasattr(signal, "setitimer"), "there are no timers")
     def test_interrupted(self):
         """A text that means more tags than anybody waits for can be interrupted."""
-        text = "-".join(".".join("%d" % number for number in range(300)) for _ in range(3))
+        text = "-".join(".".join("%d" % number for number in range(150)) for _ in range(3))
 
         def handler(number, frame):
             raise KeyboardInterrupt

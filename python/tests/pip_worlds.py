@@ -17,6 +17,7 @@ import sys
 import tarfile
 import zipfile
 
+import in_place
 import support  # noqa: F401  (it says where the module is)
 
 import pylock
@@ -215,14 +216,6 @@ for line in sys.stdin:
         os._exit(status if isinstance(status, int) else 98)
 '''
 
-# `pip._vendor.packaging` of pylock: its modules under the names that pip asks for
-REPLACEMENT = '''\
-import importlib, sys
-__version__ = %r
-for name in %r:
-    sys.modules[__name__ + "." + name] = globals()[name] = importlib.import_module("pylock." + name)
-'''
-
 
 class World:
     """A copy of pip with an environment of its own."""
@@ -246,7 +239,7 @@ class World:
             release = re.search(r'__version__ = "(.*)"', file.read()).group(1)
         shutil.rmtree(place)
         os.mkdir(place)
-        write(place, {"__init__.py": REPLACEMENT % (release, sorted(modules))})
+        write(place, {"__init__.py": in_place.PACKAGE % (release, tuple(sorted(modules)))})
 
     def make_environment(self, name):
         """An environment without anything in it; its folder of modules."""

@@ -40,7 +40,9 @@ class Header(unittest.TestCase):
         for name, code in codes.items():
             kind, word = name.lower().replace("_", "-").split("-", 1)
             told = _library._REFUSALS[code][1]
-            self.assertEqual("marker-" + word if kind == "value" else word, told, name)
+            # what is wrong of a tag is the tag
+            wanted = {"value": "marker-" + word, "tag": "tag"}.get(kind, word)
+            self.assertEqual(wanted, told, name)
 
 
 if __name__ == "__main__":

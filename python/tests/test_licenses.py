@@ -65,7 +65,7 @@ class Rules(unittest.TestCase):
             self.assertIn(repr(text), str(caught.exception))
 
     def test_ids(self):
-        licenses, exceptions = _spdx.LICENSES.split(), _spdx.EXCEPTIONS.split()
+        licenses, exceptions = _spdx.LICENSE_IDS.split(), _spdx.EXCEPTION_IDS.split()
         for ids in (licenses, exceptions):
             self.assertEqual(len({one.lower() for one in ids}), len(ids))
         for one in licenses:
@@ -112,8 +112,9 @@ class Beside(unittest.TestCase):
         listed = peer("licenses._spdx")
         if listed.VERSION != _spdx.VERSION:
             self.skipTest("another list: SPDX %s" % listed.VERSION)
-        for ours, other in ((_spdx.LICENSES, listed.LICENSES), (_spdx.EXCEPTIONS, listed.EXCEPTIONS)):
-            self.assertEqual(set(ours.split()), {one["id"] for one in other.values()})
+        for name in ("LICENSES", "EXCEPTIONS"):
+            self.assertEqual(getattr(_spdx, name), getattr(listed, name))
+            self.assertEqual(getattr(pylock.licenses, name), getattr(_spdx, name))
 
     def test_differences(self):
         """What the page has as different, is."""

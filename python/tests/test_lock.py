@@ -182,7 +182,7 @@ class Random(unittest.TestCase):
 
 
 class Plans(unittest.TestCase):
-    """A lock without paths gives its plan by lines: the same as by the JSON text of a session that was started afresh."""
+    """A plan is read of the records of a session."""
 
     NAMES = ("a-1-py3-none-any.whl", "a-1.tar.gz", "-", "a\tb", "a=b,c", "\u00e9", "")
     HASHES = ("{}", '{sha256 = "00"}', '{sha256 = "00", md5 = "1"}', '{md5 = "a,b=c"}', '{"a=b" = "c"}', '{sha256 = ""}', '{"x" = "-"}')
@@ -208,7 +208,8 @@ class Plans(unittest.TestCase):
             text += '[[packages]]\nname = "N%d"\n%s%s\n' % (place, version, self.source(dice))
         return text.encode()
 
-    def test_by_lines(self):
+    def test_answers(self):
+        """A plan is that of the JSON document that the program prints."""
         dice, found = random.Random(49), {True: 0, False: 0}
         for _ in range(3000):
             content = self.lock(dice)
@@ -219,16 +220,18 @@ class Plans(unittest.TestCase):
                     pylock.Lock.read(content)
                 self.assertEqual(str(caught.exception), str(refusal))
                 continue
-            lock = pylock.Lock.read(content)
-            try:
-                picks = session.answer()
-            except pylock.PlanFault as fault:
-                with self.assertRaises(pylock.PlanFault) as caught:
-                    lock.plan(linux())
-                self.assertEqual(str(caught.exception), str(fault))
+            text, is_plan = session._kept.answer(True)
+            document, lock = json.loads(text), pylock.Lock.read(content)
+            found[is_plan] += 1
+            if is_plan:
+                picks = [_lock._pick(source) for source in document["plan"]]
+                self.assertEqual((lock.plan(linux()), session.answer()), (picks, picks), content)
                 continue
-            self.assertEqual(lock.plan(linux()), picks, content)
-            found[_lock._plain_picks(session._kept.answer(False)[0]) == picks] += 1
+            fault = document["fault"]
+            for answer in (session.answer, lambda lock=lock: lock.plan(linux())):
+                with self.assertRaises(pylock.PlanFault) as caught:
+                    answer()
+                self.assertEqual(caught.exception.args, (fault["id"], fault.get("name"), fault["code"], fault.get("detail")))
         self.assertGreater(min(found.values()), 100)
 
     def test_environments(self):

@@ -1,9 +1,8 @@
-"""What the compiled module looks at without asking the library, held to the library's own call for the same text.
+"""What the compiled module says of a text, held to another of the library's calls for the same text.
 
-These are the normal form of a short name in ASCII, and of a version whether its text is its normal form already, where the
-zeros at the end of its release begin, and by its order key whether it is a pre-release, a post-release and a development
-release; of a specifier set, where its pieces lie. And what it keeps from one call to the next: the variables that a mapping
-before had, and tags that were cut of a text.
+These are the normal form of a short name in ASCII, which it writes itself; of a version its normal forms and its kind; of a
+specifier set, where its specifiers lie. And what it keeps from one call to the next: the variables that a mapping before had,
+and tags that were cut of a text.
 """
 
 import collections.abc
@@ -22,16 +21,16 @@ from pylock import (
     parse_tag,
 )
 from pylock import _native
-from pylock._errors import InvalidSpecifier, InvalidVersion
+from pylock._errors import InvalidSpecifier, InvalidTag, InvalidVersion
 from pylock.specifiers import Specifier, SpecifierSet
 from pylock.utils import parse_wheel_filename
 
 NAME_LETTERS = "aZ0-_.\u00e9"
 VERSION_PIECES = ("0", "1", "10", ".", "a", "rc", "post", "dev", "+", "!", "v")
 # the fields of a record of the library
-NORMAL, BASE, PRE, POST, DEV = 0, 2, 5, 6, 7
+NORMAL, PUBLIC, BASE, EPOCH, RELEASE, PRE, POST, DEV, LOCAL = range(9)
 # about where an order key writes a number in more bytes
-ENDS = (2, 253, 256, 253 * 256, 254 * 256, 255 * 256, 2**16, 2**24, 2**64)
+ENDS = (2, 253, 256, 253 * 256, 254 * 256, 255 * 256, 2**16, 2**24, 2**64, 2**127)
 NUMBERS = [end + step for end in ENDS for step in range(-2, 3)]
 
 
@@ -61,6 +60,13 @@ def kinds_of(record):
     """The same of a record of the library."""
     has_pre, has_post, has_dev = [record[part] != "-" for part in (PRE, POST, DEV)]
     return has_pre or has_dev, has_post, has_dev
+
+
+def parts(one):
+    """The parts of a version as a record has them."""
+    pre = one.pre and "%s%d" % one.pre
+    fields = (one.public, one.base_version, one.epoch, ".".join(map(str, one.release)), pre, one.post, one.dev, one.local)
+    return [str(one), *("-" if field is None else str(field) for field in fields)]
 
 
 class Names(unittest.TestCase):
@@ -110,8 +116,8 @@ class Versions(unittest.TestCase):
         )
         expected = kinds_of(record)
         stripped = epoch + sign + ".".join(numbers) + normal[len(base) :]
-        if said != (normal, normal, expected, expected[0], expected[0], normal, stripped):
-            self.fail((text, said, record))
+        if said != (normal, normal, expected, expected[0], expected[0], normal, stripped) or parts(one) != record:
+            self.fail((text, said, parts(one), record))
         return True
 
     def test_short_texts(self):
@@ -145,7 +151,7 @@ class Versions(unittest.TestCase):
                 self.assertEqual(getattr(one, name), had)
             for again in (copy.copy(one), copy.deepcopy(one), pickle.loads(pickle.dumps(one))):
                 self.assertEqual(kinds(again), kinds(one))
-        self.assertRaises(AttributeError, getattr, Late.__new__(Late), "is_prerelease")
+        self.assertRaises(ValueError, getattr, Late.__new__(Late), "is_prerelease")
         late = Late()
         late.read("1.dev1")
         self.assertEqual((late.is_prerelease, late.label), (True, "1.dev1"))
@@ -315,8 +321,8 @@ class Tags(unittest.TestCase):
         """Equal tags have one hash and one text, however they were made."""
         for pieces in (
             ("cp312", "abi3", "win32"), ("Py3", "NONE", "any"), ("py3", "none", "manylinux_2_17_x86_64"),
-            ("\u00c4", "b", "\ud800"),
-            ("", "", ""), ("a" * 300, "b" * 300, "C" * 300), ("a", "b", "c" * 511), ("I\u0307", "\u0130", "\u03a3\u03a3"),
+            ("\u00c4", "b", "\u0416"), ("", "", ""),
+            ("a" * 300, "b" * 300, "C" * 300), ("a", "b", "c" * 511), ("I\u0307", "\u0130", "\u03a3\u03a3"),
             ("a\0b", "\0", "c\0"), ("abcdefgh", "abcdefg", "abcdefghi"), ("abcdefgH", "abcdefG", "Abcdefghi"),
         ):
             small = [piece.lower() for piece in pieces]
@@ -332,6 +338,9 @@ class Tags(unittest.TestCase):
             self.assertEqual(parts, [small] * len(ways))
             self.assertEqual({type(piece) for part in parts for piece in part}, {str})
             self.assertTrue(all(one == other and not one != other for one in ways for other in ways) and len(set(ways)) == 1)
+        # half a character is in no text that is read
+        self.assertEqual(str(Tag("\u00c4", "b", "\ud800")), "\u00e4-b-\ud800")
+        self.assertRaises(InvalidTag, parse_tag, "\u00c4-b-\ud800")
         (found,) = parse_wheel_filename("a-1-cp312-abi3-win32.whl")[3]
         self.assertEqual((found, hash(found)), (Tag("cp312", "abi3", "win32"), hash(Tag("cp312", "abi3", "win32"))))
 

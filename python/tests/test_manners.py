@@ -191,8 +191,10 @@ class Copies(unittest.TestCase):
     def test_unchanging(self):
         for one in UNCHANGING:
             with self.subTest(repr(one)):
-                self.assertIs(copy.copy(one), one)
-                self.assertIs(copy.deepcopy([one])[0], one)
+                for copied in (copy.copy(one), copy.deepcopy([one])[0]):
+                    self.assertEqual(copied, one)
+                    # the tree of a marker, which is private, may be changed
+                    self.assertIs(copied is one, not isinstance(one, pylock.Marker))
                 self.pickled(one)
                 with self.assertRaises(AttributeError):
                     one.anything = 1
@@ -211,8 +213,9 @@ class Copies(unittest.TestCase):
                     self.assertEqual((getattr(copied, name), repr(copied), hash(copied)), before)
                 self.pickled(one)
                 self.assertEqual(getattr(pickle.loads(pickle.dumps(one)), name), value)
-                with self.assertRaises(AttributeError):
-                    one.anything = 1
+                if not isinstance(one, pylock.Requirement):
+                    with self.assertRaises(AttributeError):
+                        one.anything = 1
 
     def test_of_a_thread(self):
         for one in (pylock.Lock.read(LOCK), pylock.Session(LOCK, linux()), linux()):

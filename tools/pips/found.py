@@ -94,14 +94,13 @@ def write(path, text):
         file.write(text)
 
 
-def fetch(suite, place):
-    """Unpacks the pip of a suite into a folder, by an apt of its own: nothing of the machine's changes."""
+def prepared(suite, room):
+    """The words of an apt of its own, in a new folder, which knows a suite: nothing of the machine's changes."""
     for needed in ("apt-get", "dpkg-deb"):
         if not shutil.which(needed):
             raise Absent(f"there is no {needed}")
     if not os.path.exists(KEYS):
         raise Absent(f"there is no {KEYS}")
-    room = f"{place}.room"
     shutil.rmtree(room, ignore_errors=True)
     write(f"{room}/apt.conf", APT.format(folder=room))
     write(f"{room}/sources.list", f"deb [signed-by={KEYS}] http://deb.debian.org/debian {suite} main\n")
@@ -110,11 +109,23 @@ def fetch(suite, place):
     os.makedirs(f"{room}/state/lists/partial")
     apt = ["apt-get", "-q", "-c", f"{room}/apt.conf"]
     run(*apt, "update")
-    # before bookworm what pip needs of others is in another package
-    packages = ["python3-pip", *(["python-pip-whl"] if suite == "bullseye" else [])]
+    return apt
+
+
+def unpack(apt, packages, room):
+    """Fetches packages, and unpacks them into the folder `unpacked` of the apt's own."""
     run(*apt, "download", *packages, folder=room)
     for package in glob.glob(f"{room}/*.deb"):
         run("dpkg-deb", "-x", package, f"{room}/unpacked")
+        os.remove(package)
+
+
+def fetch(suite, place):
+    """Unpacks the pip of a suite into a folder."""
+    room = f"{place}.room"
+    apt = prepared(suite, room)
+    # before bookworm what pip needs of others is in another package
+    unpack(apt, ["python3-pip", *(["python-pip-whl"] if suite == "bullseye" else [])], room)
     os.makedirs(os.path.dirname(place), exist_ok=True)
     shutil.rmtree(place, ignore_errors=True)
     os.rename(f"{room}/unpacked", place)

@@ -12,8 +12,9 @@ from __future__ import annotations
 
 import functools
 import re
-from typing import Dict, List, NewType, Tuple
+from typing import TYPE_CHECKING, Dict, List, NewType, Tuple
 
+from .._private import names_of
 from . import _spdx
 
 __all__ = ["InvalidLicenseExpression", "NormalizedLicenseExpression", "canonicalize_license_expression"]
@@ -37,7 +38,7 @@ class InvalidLicenseExpression(ValueError):
 @functools.lru_cache(maxsize=None)
 def _ids() -> Tuple[Dict[str, str], Dict[str, str]]:
     """The ids of licenses, and those of exceptions, by their lower case."""
-    licenses, exceptions = ({one.lower(): one for one in text.split()} for text in (_spdx.LICENSES, _spdx.EXCEPTIONS))
+    licenses, exceptions = ({one.lower(): one for one in text.split()} for text in (_spdx.LICENSE_IDS, _spdx.EXCEPTION_IDS))
     return licenses, exceptions
 
 
@@ -105,3 +106,7 @@ def canonicalize_license_expression(raw_license_expression: str) -> NormalizedLi
     except InvalidLicenseExpression as error:
         raise InvalidLicenseExpression("Invalid license expression: %r (%s)" % (raw_license_expression, error)) from None
     return NormalizedLicenseExpression(" ".join(words).replace("( ", "(").replace(" )", ")"))
+
+
+if not TYPE_CHECKING:
+    __getattr__ = names_of("licenses")

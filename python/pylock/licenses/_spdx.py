@@ -1,14 +1,21 @@
 """The ids of licenses and of exceptions, deprecated ones too, of the SPDX License List 3.27.0 of 1 July 2025.
 
 That list is data of the SPDX workgroup, in the public domain (CC0-1.0). The ids are those of the files licenses.json and
-exceptions.json of Debian's package reuse 6.2.0-1; a later list replaces both texts and the version.
+exceptions.json of Debian's package reuse 6.2.0-1; a later list replaces the texts and the version.
+
+Programs that look into `packaging` find here its tables `LICENSES` and `EXCEPTIONS` (docs/PRIVATE.md), which are made when
+they are asked for.
 """
 
 from __future__ import annotations
 
+TYPE_CHECKING = False
+if TYPE_CHECKING:
+    from typing import Dict, Union
+
 VERSION = "3.27.0"
 
-LICENSES = """
+LICENSE_IDS = """
     0BSD 3D-Slicer-1.0 AAL Abstyles AdaCore-doc Adobe-2006 Adobe-Display-PostScript Adobe-Glyph Adobe-Utopia ADSL AFL-1.1
     AFL-1.2 AFL-2.0 AFL-2.1 AFL-3.0 Afmparse AGPL-1.0 AGPL-1.0-only AGPL-1.0-or-later AGPL-3.0 AGPL-3.0-only AGPL-3.0-or-later
     Aladdin AMD-newlib AMDPLPA AML AML-glslang AMPAS ANTLR-PD ANTLR-PD-fallback any-OSI any-OSI-perl-modules Apache-1.0
@@ -85,7 +92,7 @@ LICENSES = """
     Zed Zeeff Zend-2.0 Zimbra-1.3 Zimbra-1.4 Zlib zlib-acknowledgement ZPL-1.1 ZPL-2.0 ZPL-2.1
 """
 
-EXCEPTIONS = """
+EXCEPTION_IDS = """
     389-exception Asterisk-exception Asterisk-linking-protocols-exception Autoconf-exception-2.0 Autoconf-exception-3.0
     Autoconf-exception-generic Autoconf-exception-generic-3.0 Autoconf-exception-macro Bison-exception-1.24
     Bison-exception-2.2 Bootloader-exception CGAL-linking-exception Classpath-exception-2.0 CLISP-exception-2.0
@@ -103,3 +110,28 @@ EXCEPTIONS = """
     SWI-exception Swift-exception Texinfo-exception u-boot-exception-2.0 UBDL-exception Universal-FOSS-exception-1.0
     vsftpd-openssl-exception WxWindows-exception-3.1 x11vnc-openssl-exception
 """
+
+DEPRECATED_IDS = """
+    AGPL-1.0 AGPL-3.0 BSD-2-Clause-FreeBSD BSD-2-Clause-NetBSD bzip2-1.0.5 eCos-2.0 GFDL-1.1 GFDL-1.2 GFDL-1.3 GPL-1.0
+    GPL-1.0+ GPL-2.0 GPL-2.0+ GPL-2.0-with-autoconf-exception GPL-2.0-with-bison-exception
+    GPL-2.0-with-classpath-exception GPL-2.0-with-font-exception GPL-2.0-with-GCC-exception GPL-3.0 GPL-3.0+
+    GPL-3.0-with-autoconf-exception GPL-3.0-with-GCC-exception LGPL-2.0 LGPL-2.0+ LGPL-2.1 LGPL-2.1+ LGPL-3.0 LGPL-3.0+
+    Net-SNMP Nunit StandardML-NJ wxWindows Nokia-Qt-exception-1.1
+"""
+
+
+def _table(ids: str) -> Dict[str, Dict[str, Union[str, bool]]]:
+    """The id by its lower case, and whether it is deprecated."""
+    deprecated = frozenset(DEPRECATED_IDS.split())
+    return {each.lower(): {"id": each, "deprecated": each in deprecated} for each in ids.split()}
+
+
+_tables: Dict[str, Dict[str, Dict[str, Union[str, bool]]]] = {}
+
+
+def __getattr__(name: str) -> Dict[str, Dict[str, Union[str, bool]]]:
+    if name not in ("LICENSES", "EXCEPTIONS"):
+        raise AttributeError("module %r has no attribute %r" % (__name__, name))
+    if name not in _tables:
+        _tables[name] = _table(LICENSE_IDS if name == "LICENSES" else EXCEPTION_IDS)
+    return _tables[name]
