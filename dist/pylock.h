@@ -112,6 +112,9 @@ enum pylock_code {
     PYLOCK_TARGET_PYTHON = 73,
     PYLOCK_TARGET_PLATFORM = 74,
 
+    /* tags of three parts (PEP 425) */
+    PYLOCK_TAG_PARTS = 75,
+
     /* an edit of a session or of an environment */
     PYLOCK_EDIT_LONG = 80,     /* a line of more than 1,048,576 bytes */
     PYLOCK_EDIT_COMMAND = 81,  /* a line without a known command */
@@ -155,6 +158,44 @@ void pylock_text_free(pylock_text *text);
 int32_t pylock_version_key(const uint8_t *text, size_t length,
                            uint8_t *out, size_t room, size_t *needed);
 
+/* What kind of release a version is, and how its text is written. */
+typedef struct {
+    bool is_prerelease;  /* a pre-release or a development release */
+    bool is_postrelease;
+    bool is_devrelease;
+    bool is_normal;      /* the text is the version's normal form */
+} pylock_version_kind;
+
+/* The order key of a version, as pylock_version_key, and its kind. PYLOCK_ROOM sets
+ * `*kind` too. PYLOCK_NOT_UTF8, PYLOCK_VERSION_*, PYLOCK_ROOM, PYLOCK_MEMORY. */
+int32_t pylock_version_read(const uint8_t *text, size_t length,
+                            uint8_t *out, size_t room, size_t *needed,
+                            pylock_version_kind *kind);
+
+/* The normal form of a version; with `strip` without the zeros at the end of its
+ * release, of which the first number stays.
+ * PYLOCK_NOT_UTF8, PYLOCK_VERSION_*, PYLOCK_ROOM, PYLOCK_MEMORY. */
+int32_t pylock_version_normal(const uint8_t *text, size_t length, bool strip,
+                              uint8_t *out, size_t room, size_t *needed);
+
+/* The parts of a version as numbers, each below 2^128 as its lower and its upper 64
+ * bits, and where they stand in the normal form. A number that isn't there is 0. */
+typedef struct {
+    size_t base;       /* the length of epoch and release, as in 1!2.0 */
+    size_t public_end; /* that of all but the local part: where there is one, a + stands here */
+    uint64_t epoch_low, epoch_high;
+    uint64_t pre_low, pre_high, post_low, post_high, dev_low, dev_high;
+    uint8_t pre;       /* 'a', 'b' or 'r' (rc), or 0 where there is no pre-release */
+    bool has_post, has_dev;
+} pylock_version_parts;
+
+/* `release` gets two words for each number of the release, the lower first; `*needed`
+ * is how many words that are. PYLOCK_ROOM sets `*parts` too.
+ * PYLOCK_NOT_UTF8, PYLOCK_VERSION_*, PYLOCK_ROOM, PYLOCK_MEMORY. */
+int32_t pylock_version_split(const uint8_t *text, size_t length,
+                             pylock_version_parts *parts,
+                             uint64_t *release, size_t room, size_t *needed);
+
 /* A record of a version's parts: its normal form; its public part (without the
  * local one); its base release (epoch and release, as 1!2.0); the epoch; the
  * release, as 2.0; the pre-release, as a1; the number of the post-release; that of
@@ -162,6 +203,13 @@ int32_t pylock_version_key(const uint8_t *text, size_t length,
  * PYLOCK_NOT_UTF8, PYLOCK_VERSION_*, PYLOCK_ROOM, PYLOCK_MEMORY. */
 int32_t pylock_version(const uint8_t *text, size_t length,
                        uint8_t *out, size_t room, size_t *needed);
+
+/* Where the specifiers of a set's text stand in it: of each, in their order, four
+ * offsets: where its operator begins and ends, where its operand begins and ends.
+ * `*needed` is how many offsets that are.
+ * PYLOCK_NOT_UTF8, PYLOCK_SET_*, PYLOCK_ROOM, PYLOCK_MEMORY. */
+int32_t pylock_set_spans(const uint8_t *text, size_t length,
+                         size_t *out, size_t room, size_t *needed);
 
 /* Whether the set admits the version, of any phase: pre-releases count as others.
  * The set's text is judged first. PYLOCK_NOT_UTF8, PYLOCK_SET_*, PYLOCK_VERSION_*,
@@ -177,7 +225,7 @@ int32_t pylock_name(const uint8_t *text, size_t length,
 /* Whether the text is a name (PEP 508). PYLOCK_NOT_UTF8. */
 int32_t pylock_is_name(const uint8_t *text, size_t length, bool *is_name);
 
-/* ---- requirements, wheel and sdist names (PEP 508, PEP 427, PEP 625) ---- */
+/* ---- requirements, wheel and sdist names, tags (PEP 508, PEP 427, PEP 625, PEP 425) ---- */
 
 /* A record of a requirement's parts, as they are written: name; extras, joined by
  * a comma, repeats too; the normal form of the specifier set; URL; marker. Without
@@ -189,6 +237,19 @@ int32_t pylock_requirement(const uint8_t *text, size_t length, pylock_text *reco
  * version; build as written, or absent; tags, joined by a space.
  * PYLOCK_NOT_UTF8, PYLOCK_WHEEL_*, PYLOCK_MEMORY. */
 int32_t pylock_wheel(const uint8_t *text, size_t length, pylock_text *record);
+
+/* The same part by part: a record of the normal forms of the name and of the version;
+ * the number of the build, and what stands behind its digits (both absent where there
+ * is no build, the second the empty text where nothing does); and then each tag as a
+ * field of its own. PYLOCK_NOT_UTF8, PYLOCK_WHEEL_*, PYLOCK_MEMORY. */
+int32_t pylock_wheel_parts(const uint8_t *text, size_t length, pylock_text *record);
+
+/* The tags of a text of three parts with `-` between, each of which may be several
+ * pieces with `.` between: a record, each of whose fields is one tag as it is written.
+ * The first piece of each part comes first, and those of the last part go round
+ * fastest. PYLOCK_TAG_PARTS: it hasn't three parts.
+ * PYLOCK_NOT_UTF8, PYLOCK_TAG_PARTS, PYLOCK_MEMORY. */
+int32_t pylock_tags(const uint8_t *text, size_t length, pylock_text *record);
 
 /* A record of what the name of a source distribution says: normal form of the name;
  * normal form of the version. PYLOCK_NOT_UTF8, PYLOCK_SDIST_*, PYLOCK_MEMORY. */
@@ -406,6 +467,14 @@ int32_t pylock_session_answer(pylock_session *session, bool json,
  * PYLOCK_EMPTY, PYLOCK_MEMORY. */
 int32_t pylock_session_explain(pylock_session *session, bool json,
                                pylock_text *out, bool *is_plan);
+
+/* The answer on the session as it stands, for a program: lines of fields as in
+ * docs/FORMATS.md. Of a plan a line for each pick: number; kind (vcs, directory,
+ * editable, archive, wheel, sdist); the place of the wheel among the entry's wheels,
+ * from 1; name; version; file; URL; path; type and commit of a VCS; subdirectory; and
+ * then of each hash its algorithm and its value. Of a fault one line: number; name;
+ * code; detail. What isn't there is absent. PYLOCK_EMPTY, PYLOCK_MEMORY. */
+int32_t pylock_session_picks(pylock_session *session, pylock_text *out, bool *is_plan);
 
 /* The numbers that the last accepted edit judged, or the start where there was
  * none: a record of numbers, the empty text where there is none; 0 is the head. An
