@@ -139,8 +139,8 @@ impl Finding {
         self.kind
     }
 
-    /// What it names, if it names something. Each text of the lock in it is shown without what opens
-    /// a URL (`pylock_shown`).
+    /// What it names, if it names something. Each text of the lock in it is shown without what
+    /// opens a URL (`pylock_shown`).
     pub fn detail(&self) -> Option<&LabelledText>
         ensures { option_copied result ≡ self.now.detail }
     {

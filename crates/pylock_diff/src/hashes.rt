@@ -15,7 +15,8 @@ use pylock_shown::push_hidden;
 use std::alloc::{AllocError, Global};
 use std::marker::Model;
 
-/// What has hashes: how it is shown, which its changes share, and the pairs of algorithm and value of each file of a name.
+/// What has hashes: how it is shown, which its changes share, and the pairs of algorithm and value
+/// of each file of a name.
 pub(crate) struct Hashed<'a> {
     pub(crate) label: SharedText,
     pub(crate) hashes: Vec<(&'a str, &'a str)>,

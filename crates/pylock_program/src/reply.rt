@@ -6,8 +6,9 @@ ghost use Rattle.pylock_program.specs.Inner.Answer.{PushesAnswer};
 ghost use Rattle.pylock_program.specs.Inner.Telling.{PushesTelling};
 ghost use Rattle.pylock_command.specs.declared.form.Form.TheVariants.{Json};
 ghost use Rattle.pylock_program.specs.Refusal.{PrintsTelling, refused_file_report};
-ghost use Rattle.pylock_program.specs.Reply.{answer_report, audit_answer, files_answer, files_shown};
-ghost use Rattle.pylock_program.specs.Reply.{findings_report, findings_shown, findings_status};
+ghost use Rattle.pylock_program.specs.Reply.{answer_report, audit_answer, files_answer};
+ghost use Rattle.pylock_program.specs.Reply.{files_shown, findings_report, findings_shown};
+ghost use Rattle.pylock_program.specs.Reply.{findings_status};
 ghost use Rattle.pylock_program.specs.Reply.{marker_answer, marker_answer_in};
 ghost use Rattle.pylock_program.specs.Reply.{query_answer, reply, reply_of, reply_told};
 ghost use Rattle.pylock_program.specs.Reply.{target_answer};
@@ -104,7 +105,8 @@ pub(crate) fn query_file<W: Sink, N: Sink>(
 }
 
 /// Writes the reply on the findings of a lock, as [`query_file`] does. A line is written as it is
-/// made: it takes memory for the findings, which share what a file is called, and not for the lines.
+/// made: it takes memory for the findings, which share what a file is called, and not for the
+/// lines.
 pub(crate) fn audit_file<W: Sink, N: Sink>(
     alloc: Global,
     form: Form,

@@ -37,8 +37,8 @@ pub fn read_target(
 }
 
 /// The environment of a target, and its list of tags. Each variable of markers is set but
-/// `platform_release` and `platform_version`, which a target doesn't know, and nothing is asked for.
-/// It takes memory for both.
+/// `platform_release` and `platform_version`, which a target doesn't know, and nothing is asked
+/// for. It takes memory for both.
 pub fn target_environment(
     alloc: Global,
     target: &Target,

@@ -29,8 +29,8 @@ impl Drop for LabelledText {
 }
 
 impl LabelledText {
-    /// The label, and behind it a text, which is moved. It takes no memory; it is refused only where
-    /// 2^63 share the label.
+    /// The label, and behind it a text, which is moved. It takes no memory; it is refused only
+    /// where 2^63 share the label.
     pub fn new(label: &SharedText, rest: String) -> Result<LabelledText, AllocError>
         ensures { IfOk result (λ text. text ≡ label.now ++ string_bytes rest) }
     {

@@ -62,9 +62,9 @@ pub fn read_table(alloc: Global, text: &str) -> Result<Table, TomlError>
 /// The table that a document of TOML 1.1 is without the elements of one array of tables, at the key
 /// of `elements`, to which they are handed in their order, each as soon as it is complete: so one
 /// element's table stands at a time, be the array written with a header for each element or as one
-/// value. What else stands at the key stays in the table: a value that is no array, or an array with
-/// no elements. None where the text is of a shape that the short way doesn't know, a refused one
-/// among them; `elements` is let go then, and [`read_table_by_toml`] decides.
+/// value. What else stands at the key stays in the table: a value that is no array, or an array
+/// with no elements. None where the text is of a shape that the short way doesn't know, a refused
+/// one among them; `elements` is let go then, and [`read_table_by_toml`] decides.
 ///
 /// Takes memory for the table, for one element, and for what `elements` takes.
 pub fn read_table_without<E: Elements>(

@@ -1,5 +1,5 @@
--- In which order a target takes its tags: what is made for its own Python and ABI comes first, since
--- it was built for that very release (PEP 425, "Use").
+-- In which order a target takes its tags: what is made for its own Python and ABI comes first,
+-- since it was built for that very release (PEP 425, "Use").
 use Rattle.std.specs.Prelude.{◌≡◌, ◌⊎◌, List, [], ◌∷◌}
 use Rattle.pywheel_core.specs.Tag.{TagValue}
 use Rattle.pywheel_core.specs.Target.Compatible.{IsOneOf}
