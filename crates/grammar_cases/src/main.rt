@@ -3,6 +3,7 @@
 #![tactic(auto)]
 
 mod environments;
+mod expected;
 mod markers;
 mod names;
 mod requirements;
@@ -32,6 +33,10 @@ impl Answers for Cases {
             "different" => versions::count(alloc, case),
             "environment" => environments::answer_case(alloc, case),
             "equality" => sets::compare(alloc, case),
+            "expected_marker" => expected::of_marker(alloc, case),
+            "expected_requirement" => expected::of_requirement(alloc, case),
+            "expected_set" => expected::of_set(alloc, case),
+            "expected_specifier" => expected::of_specifier(alloc, case),
             "from_parts" => versions::make_version(alloc, case),
             "front" => sets::cut(alloc, case),
             "items" => sets::tell_items(alloc, case),

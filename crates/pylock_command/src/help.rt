@@ -337,8 +337,8 @@ Example:
   true
 
 Prints true or false, or refused, TAB and one of the words set-syntax,
-set-number, version-syntax and version-number. With --json the answer is a
-document:
+set-number, version-syntax and version-number. Of a refused set standard error
+says what was expected, and where. With --json the answer is a document:
   $ pylock match '>=2.8.1, ==2.8.*' 2.8.3 --json
   {\"match\":true,\"pylock\":1}
 
@@ -367,8 +367,9 @@ Prints true or false, with no extra and no group asked for; or fault, TAB and
 one of the codes marker-unset, marker-extra, marker-undefined and
 marker-number, which the help of explain tells; or refused, TAB and one of the
 words too-deep, syntax and set-misuse; or the refusal of the environment, as
-select does. A target stands in place of ENV as in plan. With --json the answer
-is a document:
+select does. Of a refused marker standard error says what was expected, and
+where. A target stands in place of ENV as in plan. With --json the answer is a
+document:
   $ pylock marker 'os_name == \"nt\"' --python 3.12 --platform windows --json
   {\"marker\":true,\"pylock\":1}
 
@@ -383,8 +384,9 @@ Example, with spaces for the TABs:
 
 Prints name, extras, specifier set, URL and marker, with TAB between two; an
 absent part is -. Or prints refused, TAB and one of the words name, extras,
-specifier, url, marker and trailing. With --json the answer is a document whose
-member requirement has these parts by name.
+specifier, url, marker and trailing, and on standard error what was expected,
+and where. With --json the answer is a document whose member requirement has
+these parts by name.
 
 Status: 0, it is a requirement; 1, it is refused; 2, the command line is
 refused; 3, the output failed or memory ran out.";

@@ -1,13 +1,13 @@
 //! Lines that are written while they are made.
 
-ghost use Rattle.std.specs.Prelude.{◌≡◌, ◌++◌, ℕ, List, IfErr, OnErr, OnOk};
+ghost use Rattle.std.specs.Prelude.{◌≡◌, ◌++◌, ℕ, List, IfErr, OnErr, OnOk, codes, decimal};
 ghost use Rattle.std.specs.List.{flat_map};
 ghost use Rattle.pylock_run.specs.Inner.Faults.{IsWriteFault};
 ghost use Rattle.pylock_run.specs.Inner.Writes.{Pours};
 ghost use Rattle.pylock_run.specs.Report.Print.{Prints};
 ghost use Rattle.pylock_run.specs.Stream.{TakesPrefix};
 
-use pylock_run::{IoFault, RunFault, Sink, print, write_all};
+use pylock_run::{IoFault, RunFault, Sink, print, push_decimal, write_all};
 use std::alloc::AllocError;
 
 /// How many bytes are written at once, if no line is longer.
@@ -20,6 +20,18 @@ pub(crate) trait Line {
     /// Pushes the line.
     fn push(&self, out: &mut Vec<u8>) -> Result<(), AllocError>
         ensures { OnOk result (out.new.items ≡ out.old.items ++ line self.now) };
+}
+
+/// Pushes the line that tells how many lines come: a word and the number.
+pub(crate) fn push_count(out: &mut Vec<u8>, word: &str, count: usize) -> Result<(), AllocError>
+    ensures { OnOk result (out.new.items
+        ≡ out.old.items ++ word.now ++ codes " " ++ decimal count ++ codes "\n") }
+{
+    out.extend_from_slice(word.as_bytes())?;
+    out.push(b' ')?;
+    push_decimal(out, count as u64)?;
+    out.push(b'\n')?;
+    Ok(())
 }
 
 /// Writes a text and the lines behind it, and answers the status. Besides the text it takes memory

@@ -1,5 +1,6 @@
 //! Lines for a person, on standard error. They say nothing that the printed answer rests on.
 
+pub(crate) mod expected;
 pub(crate) mod export;
 pub(crate) mod fault;
 pub(crate) mod file;

@@ -28,6 +28,7 @@ ghost use Rattle.pylock_program.specs.declared.program.Failure.TheVariants as fa
 use crate::diff::{Sides, write_lock_diff, write_plan_diff};
 use crate::export::{write_files_export, write_plan_export};
 use crate::file::{FileBytes, MachineInput, read_bytes, read_machine};
+use crate::notes::expected::tell_expected;
 use crate::notes::refusal::{tell_refusal, tell_sides, tell_unopened};
 use crate::printing::Documents;
 use crate::reply::queries::Query;
@@ -162,14 +163,14 @@ pub fn perform<F: Files, R: Source, W: Sink, N: Sink>(
         Task::Environment(target) => print_target(alloc, target, writer, notes),
         Task::Version(text, form) => answer_query(alloc, Query::Version(text, form), writer),
         Task::Match(set, version, form) => {
-            answer_query(alloc, Query::Match(set, version, form), writer)
+            answer_telling(alloc, Query::Match(set, version, form), writer, notes)
         }
         Task::Name(text, form) => answer_query(alloc, Query::Name(text, form), writer),
         Task::Marker(text, machine, form) => {
             judge_marker(alloc, files, text, machine, form, reader, writer, notes)
         }
         Task::Requirement(text, form) => {
-            answer_query(alloc, Query::Requirement(text, form), writer)
+            answer_telling(alloc, Query::Requirement(text, form), writer, notes)
         }
         Task::Wheel(text, form) => answer_query(alloc, Query::Wheel(text, form), writer),
         Task::Sdist(text, form) => answer_query(alloc, Query::Sdist(text, form), writer),
@@ -513,7 +514,23 @@ fn judge_marker<'a, F: Files, R: Source, W: Sink, N: Sink>(
 {
     let machine = read_machine(alloc, files, reader, machine, false, notes)?;
     let asked = Query::Marker(marker, machine.input(), form);
-    program_end(query_file(alloc, asked, machine.named(), writer, notes))
+    let end = query_file(alloc, asked, machine.named(), writer, notes);
+    tell_expected(alloc, notes, &end, asked);
+    program_end(end)
+}
+
+/// Answers on a text, of which a person is told what was expected where it is refused.
+fn answer_telling<W: Sink, N: Sink>(
+    alloc: Global,
+    asked: Query<'_>,
+    writer: &mut W,
+    notes: &mut N,
+) -> Result<u8, Failure>
+    ensures { Tells (Prints (reply asked.entry) (W.value writer.old) (W.value writer.new)) result }
+{
+    let end = query(alloc, asked, true, writer);
+    tell_expected(alloc, notes, &end, asked);
+    program_end(end)
 }
 
 fn answer_query<W: Sink>(alloc: Global, asked: Query<'_>, writer: &mut W) -> Result<u8, Failure>

@@ -1,11 +1,11 @@
 //! What is found in a lock, a line for each finding.
 
-ghost use Rattle.std.specs.Prelude.{◌≡◌, ◌++◌, OnOk, codes, decimal, length};
+ghost use Rattle.std.specs.Prelude.{◌≡◌, ◌++◌, OnOk};
 ghost use Rattle.std.specs.List.{flat_map};
 ghost use Rattle.pylock_program.specs.Text.Audit.{finding_line, findings_text};
 ghost use Rattle.pylock_run.specs.Report.Print.{Prints};
 
-use crate::lines::{Line, print_lines};
+use crate::lines::{Line, print_lines, push_count};
 use crate::text::safe::push_next_labelled;
 use pylock_audit::LockFinding;
 use pylock_run::{RunFault, Sink, push_decimal, push_next_field, push_word};
@@ -22,7 +22,7 @@ pub(crate) fn write_findings<W: Sink>(
         (W.value writer.old) (W.value writer.new) result }
 {
     let mut out = Vec::new(alloc);
-    push_head(&mut out, found)?;
+    push_count(&mut out, "findings", found.len())?;
     print_lines(out, found, status, writer)
 }
 
@@ -30,19 +30,8 @@ pub(crate) fn write_findings<W: Sink>(
 pub(crate) fn push_findings(out: &mut Vec<u8>, found: &[LockFinding]) -> Result<(), AllocError>
     ensures { OnOk result (out.new.items ≡ out.old.items ++ findings_text found.now) }
 {
-    push_head(out, found)?;
+    push_count(out, "findings", found.len())?;
     push_lines(out, found)
-}
-
-/// Pushes the line `findings K`.
-fn push_head(out: &mut Vec<u8>, found: &[LockFinding]) -> Result<(), AllocError>
-    ensures { OnOk result (out.new.items ≡ out.old.items
-        ++ codes "findings " ++ decimal (length found.now) ++ codes "\n") }
-{
-    out.extend_from_slice(b"findings ")?;
-    push_decimal(out, found.len() as u64)?;
-    out.push(b'\n')?;
-    Ok(())
 }
 
 fn push_lines(out: &mut Vec<u8>, found: &[LockFinding]) -> Result<(), AllocError>

@@ -1,13 +1,13 @@
 //! What changed from one lock to another, a line for each change.
 
-ghost use Rattle.std.specs.Prelude.{◌≡◌, ◌++◌, OnOk, codes, decimal, length};
+ghost use Rattle.std.specs.Prelude.{◌≡◌, ◌++◌, OnOk};
 ghost use Rattle.pylock_program.specs.Text.Diff.{change_line, changes_text};
 ghost use Rattle.pylock_run.specs.Report.Print.{Prints};
 
-use crate::lines::{Line, print_lines};
+use crate::lines::{Line, print_lines, push_count};
 use crate::text::safe::{push_next_labelled, push_next_safe};
 use pylock_diff::Change;
-use pylock_run::{RunFault, Sink, push_decimal};
+use pylock_run::{RunFault, Sink};
 use std::alloc::{AllocError, Global};
 
 /// Writes `changes K` and a line for each change, and answers the status.
@@ -21,19 +21,8 @@ pub(crate) fn write_changes<W: Sink>(
         (W.value writer.old) (W.value writer.new) result }
 {
     let mut out = Vec::new(alloc);
-    push_head(&mut out, changes)?;
+    push_count(&mut out, "changes", changes.len())?;
     print_lines(out, changes, status, writer)
-}
-
-/// Pushes the line `changes K`.
-fn push_head(out: &mut Vec<u8>, changes: &[Change]) -> Result<(), AllocError>
-    ensures { OnOk result (out.new.items ≡ out.old.items
-        ++ codes "changes " ++ decimal (length changes.now) ++ codes "\n") }
-{
-    out.extend_from_slice(b"changes ")?;
-    push_decimal(out, changes.len() as u64)?;
-    out.push(b'\n')?;
-    Ok(())
 }
 
 impl Line for Change {

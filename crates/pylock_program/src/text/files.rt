@@ -8,8 +8,9 @@ ghost use Rattle.pylock_program.specs.Text.Files.{each_source, files_text, lines
 ghost use Rattle.pylock_program.specs.Text.Files.{optional_source};
 ghost use Rattle.pylock_run.specs.Text.Plan.{file_fields, source_line};
 
+use crate::lines::push_count;
 use pylock_core::{Entry, PickSource, PickedSource};
-use pylock_run::{push_decimal, push_source_line};
+use pylock_run::push_source_line;
 use std::alloc::{AllocError, Global};
 use std::marker::Model;
 
@@ -44,9 +45,7 @@ pub(crate) fn push_files(
     ensures { OnOk result (out.new.items ≡ out.old.items ++ files_text entries.now) }
 {
     let lines = source_lines(alloc, entries)?;
-    out.extend_from_slice(b"files ")?;
-    push_decimal(out, lines.len() as u64)?;
-    out.push(b'\n')?;
+    push_count(out, "files", lines.len())?;
     push_lines(out, lines.as_slice())
 }
 

@@ -1,0 +1,3 @@
+pub mod Kinds
+pub mod Marker
+pub mod Stretch
