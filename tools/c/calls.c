@@ -249,6 +249,83 @@ static void version_splits(void)
     HOLDS(needed == 77 && parts.pre == 'b');
 }
 
+static bool same_parts(const pylock_version_parts *one, const pylock_version_parts *other)
+{
+    return one->base == other->base && one->public_end == other->public_end &&
+           one->epoch_low == other->epoch_low && one->epoch_high == other->epoch_high &&
+           one->pre_low == other->pre_low && one->pre_high == other->pre_high &&
+           one->post_low == other->post_low && one->post_high == other->post_high &&
+           one->dev_low == other->dev_low && one->dev_high == other->dev_high &&
+           one->pre == other->pre && one->has_post == other->has_post &&
+           one->has_dev == other->has_dev;
+}
+
+/* whether one reading of the version tells what the two calls tell */
+static bool whole_is(const char *version)
+{
+    uint8_t key[64], whole_key[64];
+    uint64_t release[8], whole_release[8];
+    size_t length = 0, whole_length = 0, count = 0, whole_count = 0;
+    pylock_version_kind kind = {0}, whole_kind = {0};
+    pylock_version_parts parts = {0}, whole_parts = {0};
+    IS(pylock_version_read(TEXT(version), key, sizeof key, &length, &kind), PYLOCK_OK);
+    IS(pylock_version_split(TEXT(version), &parts, release, 8, &count), PYLOCK_OK);
+    IS(pylock_version_whole(TEXT(version), whole_key, sizeof whole_key, &whole_length, &whole_kind,
+                            &whole_parts, whole_release, 8, &whole_count),
+       PYLOCK_OK);
+    return length == whole_length && memcmp(key, whole_key, length) == 0 && count == whole_count &&
+           memcmp(release, whole_release, count * sizeof *release) == 0 &&
+           memcmp(&kind, &whole_kind, sizeof kind) == 0 && same_parts(&parts, &whole_parts);
+}
+
+static void whole_versions(void)
+{
+    uint8_t key[64], other_key[64];
+    uint64_t release[4] = {7, 7, 7, 7};
+    size_t length = 77, other_length = 0, count = 77;
+    pylock_version_kind kind = {0};
+    pylock_version_parts parts = {0};
+    HOLDS(whole_is("1.0") && whole_is("01.2") && whole_is("1!2.0rc3.post4.dev5+abc.1"));
+    HOLDS(whole_is("1.0a1") && whole_is("1.0.post2") && whole_is("1.0.dev3") && whole_is("1+l"));
+    HOLDS(whole_is("18446744073709551616!340282366920938463463374607431768211455.1"));
+    /* no room for the key, room for the release */
+    memset(key, '#', sizeof key);
+    IS(pylock_version_whole(TEXT("1!2.0rc3"), key, 0, &length, &kind, &parts, release, 4, &count),
+       PYLOCK_ROOM);
+    HOLDS(length > 0 && length < 77 && key[0] == '#' && count == 4 && release[0] == 2 &&
+          release[2] == 0 && kind.is_prerelease && kind.is_normal && !kind.is_postrelease);
+    HOLDS(parts.base == strlen("1!2.0") && parts.public_end == strlen("1!2.0rc3") &&
+          parts.epoch_low == 1 && parts.pre == 'r' && parts.pre_low == 3);
+    /* room for the key, none for the release */
+    IS(pylock_version_key(TEXT("3.4.5.post1+a"), other_key, sizeof other_key, &other_length),
+       PYLOCK_OK);
+    IS(pylock_version_whole(TEXT("3.4.5.post1+a"), key, sizeof key, &length, &kind, &parts, release,
+                            4, &count),
+       PYLOCK_ROOM);
+    HOLDS(length == other_length && memcmp(key, other_key, length) == 0 && count == 6 &&
+          release[0] == 2 && kind.is_postrelease && !kind.is_prerelease && kind.is_normal);
+    HOLDS(parts.base == strlen("3.4.5") && parts.public_end == strlen("3.4.5.post1") &&
+          !parts.epoch_low && !parts.pre && parts.has_post && parts.post_low == 1);
+    /* none for either */
+    memset(key, '#', sizeof key);
+    IS(pylock_version_whole(TEXT("V6.0"), key, 1, &length, &kind, &parts, release, 3, &count),
+       PYLOCK_ROOM);
+    HOLDS(length > 1 && key[0] == '#' && count == 4 && release[0] == 2 && !kind.is_normal &&
+          parts.base == strlen("6.0") && parts.public_end == parts.base && !parts.has_post);
+    length = count = 77;
+    IS(pylock_version_whole(TEXT("1.x"), key, sizeof key, &length, &kind, &parts, release, 4,
+                            &count),
+       PYLOCK_VERSION_SYNTAX);
+    IS(pylock_version_whole(TEXT("340282366920938463463374607431768211456"), key, sizeof key,
+                            &length, &kind, &parts, release, 4, &count),
+       PYLOCK_VERSION_NUMBER);
+    IS(pylock_version_whole(TEXT("\xff"), key, sizeof key, &length, &kind, &parts, release, 4,
+                            &count),
+       PYLOCK_NOT_UTF8);
+    HOLDS(length == 77 && count == 77 && key[0] == '#' && release[0] == 2 &&
+          parts.base == strlen("6.0"));
+}
+
 static void set_spans(void)
 {
     static const char set[] = " , ~= 1.0,\t=== a-b ,!=2.*\n,,<3";
@@ -323,6 +400,27 @@ static void requirements(void)
     IS(pylock_requirement(TEXT("a @ b c"), &record), PYLOCK_REQUIREMENT_TRAILING);
     IS(pylock_requirement(TEXT("a\xff"), &record), PYLOCK_NOT_UTF8);
     HOLDS(has(&record, "a\t-\t-\t\\-\tos_name=='x'"));
+    pylock_text_free(&record);
+}
+
+static void expected(void)
+{
+    pylock_text record = {0};
+    IS(pylock_requirement_expected(TEXT("a\xff"), &record), PYLOCK_NOT_UTF8);
+    HOLDS(!record.full);
+    IS(pylock_requirement_expected(TEXT("a (>=1 b)"), &record), PYLOCK_OK);
+    HOLDS(has(&record, "2\t7\tExpected matching RIGHT_PARENTHESIS for LEFT_PARENTHESIS, after version specifier\t"
+                       "    a (>=1 b)\\n      ~~~~~^"));
+    IS(pylock_requirement_expected(TEXT("a"), &record), PYLOCK_OK);
+    HOLDS(has(&record, ""));
+    IS(pylock_marker_expected(TEXT("os_name == 'x' foo"), &record), PYLOCK_OK);
+    HOLDS(has(&record, "15\t15\tExpected end of marker expression\t    os_name == 'x' foo\\n"
+                       "                   ^"));
+    IS(pylock_set_expected(TEXT(">=1,<2.*"), &record), PYLOCK_OK);
+    HOLDS(has(&record, "4\t7\t.* suffix can only be used with `==` or `!=` operators\t"
+                       "    >=1,<2.*\\n        ~~~^"));
+    IS(pylock_specifier_expected(TEXT(">=1,<2"), &record), PYLOCK_OK);
+    HOLDS(has(&record, "0\t3\tExpected end of version specifier\t    >=1,<2\\n    ~~~^"));
     pylock_text_free(&record);
 }
 
@@ -472,6 +570,28 @@ static void markers(void)
     pylock_marker_free(&marker);
     pylock_environment_free(&environment);
     pylock_environment_free(&environment);
+}
+
+static void marker_trees(void)
+{
+    pylock_marker marker = {0};
+    pylock_text record = {0};
+    IS(pylock_marker_tree(&marker, &record), PYLOCK_EMPTY);
+    HOLDS(!record.full);
+    IS(pylock_marker_parse(&marker, TEXT(" os_name=='posix' ")), PYLOCK_OK);
+    IS(pylock_marker_tree(&marker, &record), PYLOCK_OK);
+    HOLDS(has(&record, "os_name\t==\t\"posix"));
+    IS(pylock_marker_parse(&marker,
+                           TEXT("('' ~= \"-\" or (extra===\"it's\")) and 'a\tb' not  in extras"
+                                " and 'd' in dependency_groups or python_version<'3'")),
+       PYLOCK_OK);
+    IS(pylock_marker_tree(&marker, &record), PYLOCK_OK);
+    HOLDS(has(&record, "(\t\"\t~=\t\"-\tor\t(\textra\t===\t\"it's\t)\t)\tand\t\"a\\tb\tnot in\textras"
+                       "\tand\t\"d\tin\tdependency_groups\tor\tpython_version\t<\t\"3"));
+    pylock_marker_free(&marker);
+    IS(pylock_marker_tree(&marker, &record), PYLOCK_EMPTY);
+    HOLDS(record.full);
+    pylock_text_free(&record);
 }
 
 static void extras(void)
@@ -1210,15 +1330,18 @@ static void calls(void)
     version_kinds();
     normal_versions();
     version_splits();
+    whole_versions();
     set_spans();
     texts();
     requirements();
+    expected();
     wheels();
     wheel_parts();
     tags();
     sdists();
     sets();
     markers();
+    marker_trees();
     extras();
     answers();
     picks();

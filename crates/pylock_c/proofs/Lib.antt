@@ -1,4 +1,5 @@
 pub mod AnswerLemmas
+pub mod ExpectedLemmas
 pub mod KeptValues
 pub mod OpeningLemmas
 pub mod RecordLemmas

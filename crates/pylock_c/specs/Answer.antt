@@ -75,3 +75,39 @@ WritesWith {X = X} {V = V} definition old new needed needed' value value' code =
     × (code ≡ written_code old (items_of outcome)) × (new ≡ written old (items_of outcome))
     × (needed' ≡ needed_or needed (items_of outcome))
     × (value' ≡ value_or value (beside outcome))
+
+-- ---- an outcome in two buffers
+
+-- the first items of a result, the second ones, and the value beside them
+abbrev pub first_of : {X Y V : Type 0} → Result (List X × List Y × V) Refusal
+    → Result (List X) Refusal
+first_of outcome = result_map_both (λ told. told.0) (λ refusal. refusal) outcome
+
+abbrev pub second_of : {X Y V : Type 0} → Result (List X × List Y × V) Refusal
+    → Result (List Y) Refusal
+second_of outcome = result_map_both (λ told. told.1) (λ refusal. refusal) outcome
+
+abbrev pub beside_both : {X Y V : Type 0} → Result (List X × List Y × V) Refusal → Result V Refusal
+beside_both outcome = result_map_both (λ told. told.2) (λ refusal. refusal) outcome
+
+-- the code of the first items where they have no room, else that of the second ones
+abbrev pub both_code : {X Y V : Type 0} → List X → List Y → Result (List X × List Y × V) Refusal → ℤ
+both_code first second (Ok told) =
+    if is_short first told.0 then pos 4 else written_code second (Ok told.1)
+both_code first second (Err refusal) = number refusal
+
+-- a buffer and the number that is told of it, after the call
+abbrev pub told_in : {X : Type 0} → List X × ℕ → Result (List X) Refusal → List X × ℕ
+told_in place outcome = (written place.0 outcome, needed_or place.1 outcome)
+
+-- each of two lists in its buffer where it has room there, and a value at a place beside them,
+-- which is set also where one of them has none
+abbrev pub WritesBoth : {X Y V : Type 0} → Result (List X × List Y × V) Refusal
+    → List X × ℕ → List X × ℕ → List Y × ℕ → List Y × ℕ → V → V → ℤ → Type 0
+WritesBoth {X = X} {Y = Y} {V = V} definition first first' second second' value value' code =
+    (outcome : Result (List X × List Y × V) Refusal)
+    × Gives Memory (λ told. told) outcome definition
+    × (code ≡ both_code first.0 second.0 outcome)
+    × (first' ≡ told_in first (first_of outcome))
+    × (second' ≡ told_in second (second_of outcome))
+    × (value' ≡ value_or value (beside_both outcome))

@@ -2,6 +2,7 @@ pub mod Answer
 pub mod Answers
 pub mod Edits
 pub mod Environments
+pub mod Expected
 pub mod Kept
 pub mod Markers
 pub mod Opening

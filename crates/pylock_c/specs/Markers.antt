@@ -4,6 +4,7 @@ use Rattle.pytext.specs.Results.{◌>>=◌}
 use Rattle.pymark_core.specs.Environment.{EnvironmentValue}
 use Rattle.pymark_core.specs.Marker.Reading.{MarkerValue, marker_of}
 use Rattle.pymark_core.specs.Marker.Value.{marker_value, value_with}
+use Rattle.pylock_values.specs.MarkerPieces.{marker_record}
 use Rattle.pylock_c.specs.Refusal.{evaluation_refusal, marker_refusal, refuse_as}
 use Rattle.pylock_c.specs.Text.{text_of}
 use Rattle.pylock_c.specs.declared.object.Object.{Object}
@@ -25,6 +26,12 @@ abbrev pub marker_text_in : Option Object → Result (List ℕ) Refusal
 marker_text_in object = do
   marker ← marker_in object
   Ok marker.text
+
+-- the record of the pieces of a kept marker
+abbrev pub tree_in : Option Object → Result (List ℕ) Refusal
+tree_in object = do
+  marker ← marker_in object
+  Ok (marker_record marker.tree)
 
 abbrev pub environment_in : Option Object → Result EnvironmentValue Refusal
 environment_in (Some (kind.Environment environment)) = Ok environment

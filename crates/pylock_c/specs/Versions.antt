@@ -41,6 +41,19 @@ split_of bytes = do
   version ← version_of bytes
   Ok (flat_map words version.release, numbers_of version)
 
+-- what both tell: the order key, the words of the release, and the kind with the numbers of the
+-- other parts
+abbrev pub whole_of : List ℕ
+    → Result (List ℕ × List ℕ × (VersionKind × VersionNumbers)) Refusal
+whole_of bytes = do
+  version ← version_of bytes
+  text ← text_of bytes
+  Ok (
+    order_key version,
+    flat_map words version.release,
+    (kind_of text version, numbers_of version),
+  )
+
 -- the normal form, the public part, the base release, the epoch, the release, the pre-release, the
 -- numbers of the post- and the developmental release, the local part
 abbrev pub parts_of : Parts → List (Option (List ℕ))

@@ -1,8 +1,10 @@
 //! Outcomes as C sees them.
 
-ghost use Rattle.std.specs.Prelude.{◌≡◌, ℕ, List, Ok, Option, Result, Some, length};
+ghost use Rattle.std.specs.Prelude.{◌≡◌, ℕ, List, Ok, Option, Result, Some, if◌then◌else◌};
+ghost use Rattle.std.specs.Prelude.{length, pos};
 ghost use Rattle.pytext.specs.Agreement.{Gives};
-ghost use Rattle.pylock_c.specs.Answer.{Edits, Tells, Writes, WritesWith, written, written_code};
+ghost use Rattle.pylock_c.specs.Answer.{Edits, Tells, Writes, WritesWith, is_short, told_in};
+ghost use Rattle.pylock_c.specs.Answer.{written, written_code};
 ghost use Rattle.pylock_c.specs.Slot.{object};
 ghost use Rattle.pylock_c.specs.declared.object.Object.{Object as Kind};
 ghost use Rattle.pylock_c.specs.declared.refusal.Refusal.{Refusal as Refused};
@@ -155,6 +157,28 @@ pub(crate) fn write_with<T: Copy, V: Drop>(
         }
         Err(refusal) => refusal.number(),
     }
+}
+
+/// Puts each of two lists at the front of its buffer where it has room there, leaves their numbers,
+/// and answers the code of the first that has none.
+pub(crate) fn put_both<T: Copy, U: Copy>(
+    first: &[T],
+    first_buffer: &mut [T],
+    first_needed: &mut usize,
+    second: &[U],
+    second_buffer: &mut [U],
+    second_needed: &mut usize,
+) -> i32
+    ensures code { result ≡ (if is_short first_buffer.old first.now then pos 4
+        else written_code second_buffer.old (Ok second.now)) }
+    ensures first { (first_buffer.new, first_needed.new)
+        ≡ told_in (first_buffer.old, first_needed.old) (Ok first.now) }
+    ensures second { (second_buffer.new, second_needed.new)
+        ≡ told_in (second_buffer.old, second_needed.old) (Ok second.now) }
+{
+    let code = put(first, first_buffer, first_needed);
+    let second_code = put(second, second_buffer, second_needed);
+    if code == OK { second_code } else { code }
 }
 
 /// Puts the items at the front of the buffer where they have room, leaves their number in `needed`,

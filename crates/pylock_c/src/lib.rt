@@ -20,6 +20,7 @@ mod answer;
 mod answers;
 mod edits;
 mod environments;
+mod expected;
 mod kept;
 mod kept_session;
 mod loose;

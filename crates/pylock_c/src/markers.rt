@@ -4,15 +4,17 @@ ghost use Rattle.std.specs.Prelude.{◌≡◌, None, Some};
 ghost use Rattle.pytext.specs.Agreement.{Gives};
 ghost use Rattle.pylock_c.specs.Answer.{Tells, Writes};
 ghost use Rattle.pylock_c.specs.Markers.{environment_in, marker_in, marker_text_in, parsed};
-ghost use Rattle.pylock_c.specs.Markers.{value_in, value_with_extra_in};
+ghost use Rattle.pylock_c.specs.Markers.{tree_in, value_in, value_with_extra_in};
 ghost use Rattle.pylock_c.specs.Slot.{kept_object, object};
+ghost use Rattle.pylock_c.specs.Text.{kept_text};
 ghost use Rattle.pylock_c.specs.declared.refusal.Refusal.TheVariants.{Memory};
 
 use crate::answer::{keep_object, tell_value, write};
 use crate::object::Object;
 use crate::refusal::Refusal;
 use crate::slot::Slot;
-use crate::text::text;
+use crate::text::{keep_text, text};
+use pylock_values::marker_record;
 use pymark_core::{Environment, Marker};
 use std::alloc::Global;
 
@@ -59,6 +61,25 @@ pub extern "C" fn pylock_marker_text(
 {
     let kept = marker.take(alloc);
     let code = write(marker_text_in(&kept), out, needed);
+    marker.put(alloc, kept);
+    code
+}
+
+fn tree_in(alloc: Global, kept: &Option<Box<Object>>) -> Result<Vec<u8>, Refusal>
+    ensures { Gives Memory (λ made. made.items) result (tree_in (kept_object kept.now)) }
+{
+    Ok(marker_record(alloc, marker_in(kept)?)?)
+}
+
+/// The record of a marker's pieces.
+#[unsafe(no_mangle)]
+pub extern "C" fn pylock_marker_tree(alloc: Global, marker: &mut Slot, slot: &mut Slot) -> i32
+    ensures kept { object marker.new ≡ object marker.old }
+    ensures told { Tells (kept_text (tree_in (object marker.old)))
+        (object slot.old) (object slot.new) result }
+{
+    let kept = marker.take(alloc);
+    let code = keep_text(alloc, tree_in(alloc, &kept), slot);
     marker.put(alloc, kept);
     code
 }

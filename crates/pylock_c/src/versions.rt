@@ -8,12 +8,12 @@ ghost use Rattle.pyver_core.specs.Version.Normal.{decimal_text, pre_text, releas
 ghost use Rattle.pyver_core.specs.Version.Normal.{segment_text};
 ghost use Rattle.pylock_run.specs.Text.Field.{field, fields_text};
 ghost use Rattle.pylock_values.specs.Record.{joined, record_of};
-ghost use Rattle.pylock_c.specs.Answer.{Writes, WritesWith};
+ghost use Rattle.pylock_c.specs.Answer.{Writes, WritesBoth, WritesWith};
 ghost use Rattle.pylock_c.specs.Versions.{key_of, normal_of, parts_of, read_of, split_of};
-ghost use Rattle.pylock_c.specs.Versions.{version_record};
+ghost use Rattle.pylock_c.specs.Versions.{version_record, whole_of};
 ghost use Rattle.pylock_c.specs.declared.refusal.Refusal.TheVariants.{Memory};
 
-use crate::answer::{write_made, write_with};
+use crate::answer::{put_both, write_made, write_with};
 use crate::refusal::Refusal;
 use crate::sets::version;
 use crate::text::text;
@@ -109,6 +109,63 @@ pub extern "C" fn pylock_version_split(
         parts.old parts.new result }
 {
     write_with(split(alloc, text), release, needed, parts)
+}
+
+/// What one reading of a version tells.
+#[derive(Drop)]
+struct Reading {
+    key: Vec<u8>,
+    release: Vec<u64>,
+    kind: VersionKind,
+    parts: VersionNumbers,
+}
+
+fn whole(alloc: Global, bytes: &[u8]) -> Result<Reading, Refusal>
+    ensures { Gives Memory
+        (λ whole. (whole.key.items, whole.release.items, (whole.kind, whole.parts)))
+        result (whole_of bytes.now) }
+{
+    let version = version(alloc, bytes)?;
+    let text = text(bytes)?;
+    Ok(Reading {
+        key: version.order_key(alloc)?,
+        release: words_of(alloc, version.release())?,
+        kind: kind_of(&version, text),
+        parts: VersionNumbers::of(alloc, &version)?,
+    })
+}
+
+/// The order key of a version, its kind and its parts as numbers, of one reading.
+#[unsafe(no_mangle)]
+pub extern "C" fn pylock_version_whole(
+    alloc: Global,
+    text: &[u8],
+    key: &mut [u8],
+    key_needed: &mut usize,
+    kind: &mut VersionKind,
+    parts: &mut VersionNumbers,
+    release: &mut [u64],
+    release_needed: &mut usize,
+) -> i32
+    ensures { WritesBoth (whole_of text.now) (key.old, key_needed.old) (key.new, key_needed.new)
+        (release.old, release_needed.old) (release.new, release_needed.new)
+        (kind.old, parts.old) (kind.new, parts.new) result }
+{
+    match whole(alloc, text) {
+        Ok(whole) => {
+            *kind = whole.kind;
+            *parts = whole.parts;
+            put_both(
+                &whole.key,
+                key,
+                key_needed,
+                &whole.release,
+                release,
+                release_needed,
+            )
+        }
+        Err(refusal) => refusal.number(),
+    }
 }
 
 fn version_record(alloc: Global, bytes: &[u8]) -> Result<Vec<u8>, Refusal>

@@ -1,4 +1,9 @@
+pub mod FieldLemmas
+pub mod MarkersLemmas
 pub mod PartsLemmas
 pub mod PicksLemmas
+pub mod RecordLemmas
 pub mod SpansLemmas
 pub mod TagsLemmas
+pub mod TreeLemmas
+pub mod TreeRecordLemmas

@@ -14,6 +14,7 @@ use Rattle.pywheel_core.specs.Texts.{cut_at}
 use Rattle.pywheel_core.specs.Tag.{TagParts, TagValue, pieces, tags_in, triples}
 use Rattle.pylock_run.specs.Text.Field.{field}
 use Rattle.pylock_values.specs.Record.{next_field, record_of}
+use Rattle.pylock_values.proofs.RecordLemmas.{record_is}
 use Rattle.pylock_values.specs.Tags.{abi_fields, python_fields, tag_field, tag_part}
 
 -- ---- pieces one by one
@@ -63,11 +64,6 @@ tags_are (python ∷ pythons) abis platforms =
     flat_map-append tag_field (flat_map (λ abi. map (λ platform. record { python = python; abi = abi; platform = platform }) platforms) abis) (triples pythons abis platforms)
     ∙ ap (λ (t : List ℕ). t ++ flat_map tag_field (triples pythons abis platforms)) (abis_are python abis platforms)
     ∙ ap (λ (t : List ℕ). python_fields abis platforms python ++ t) (tags_are pythons abis platforms)
-
--- a record is its fields without the TAB of the first
-record_is : (parts : List (Option (List ℕ))) → drop 1 (flat_map next_field parts) ≡ record_of parts
-record_is [] = refl
-record_is (part ∷ parts) = refl
 
 pub tags_record_is : (parts : TagParts)
     → drop 1 (flat_map (python_fields (pieces parts.1) (pieces parts.2)) (pieces parts.0)) ≡ record_of (map tag_part (tags_in parts))

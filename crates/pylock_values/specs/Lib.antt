@@ -1,5 +1,6 @@
 pub mod Inner
 pub mod Kind
+pub mod MarkerPieces
 pub mod Parts
 pub mod Picks
 pub mod Record

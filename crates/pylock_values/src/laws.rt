@@ -1,12 +1,15 @@
 //! Laws of the definitions alone: each function's contract is a law, and its body is empty.
 
 ghost use Rattle.std.specs.Prelude.{◌≡◌, ◌+◌, ◌*◌, ◌^◌, ◌↔◌, ℕ, List, take, true};
+ghost use Rattle.pymark_core.specs.Marker.Pieces.{tree_pieces};
+ghost use Rattle.pymark_core.specs.Marker.Tree.{Tree};
 ghost use Rattle.pyver_core.specs.Set.Grammar.{SetText};
 ghost use Rattle.pyver_core.specs.Version.Normal.{normal_text};
 ghost use Rattle.pyver_core.specs.Version.Order.{IsSame};
 ghost use Rattle.pyver_core.specs.Version.Parts.{Parts, base_release, public_part};
 ghost use Rattle.pyver_core.specs.declared.set.specifier.Specifier.{Specifier};
 ghost use Rattle.pylock_values.specs.Kind.{kind_of};
+ghost use Rattle.pylock_values.specs.MarkerPieces.{marker_record};
 ghost use Rattle.pylock_values.specs.Parts.{base_length, high_word, low_word, public_length};
 ghost use Rattle.pylock_values.specs.Parts.{without_zeros};
 ghost use Rattle.pylock_values.specs.Spans.{AreSpans, set_pieces, spans_from};
@@ -41,4 +44,16 @@ pub fn zeros_at_the_end_go()
 /// The two words of a number are the number.
 pub fn words_make_the_number()
     ensures { (n : ℕ) → low_word n + 2 ^ 64 * high_word n ≡ n }
+{}
+
+/// A marker's pieces are its tree: no two trees have one list of them.
+#[tactic(auto, using(crate::proofs::TreeLemmas::one_tree))]
+pub fn pieces_are_the_tree()
+    ensures { (a b : Tree) → tree_pieces a ≡ tree_pieces b → a ≡ b }
+{}
+
+/// The record of a marker is its tree too: no two trees have one record.
+#[tactic(auto, using(crate::proofs::TreeRecordLemmas::one_marker))]
+pub fn records_are_trees()
+    ensures { (a b : Tree) → marker_record a ≡ marker_record b → a ≡ b }
 {}

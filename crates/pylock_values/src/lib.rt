@@ -1,6 +1,6 @@
-//! What versions, sets of specifiers, tags, names of wheels and plans say, as plain values:
-//! numbers, offsets and records of fields. So a caller in another language has them without a
-//! grammar of its own. The numbers of a version, from `crates/pylock_c/src/versions.rt`:
+//! What versions, sets of specifiers, markers, tags, names of wheels and plans say, as plain
+//! values: numbers, offsets and records of fields. So a caller in another language has them
+//! without a grammar of its own. The numbers of a version, from `crates/pylock_c/src/versions.rt`:
 //!
 //! ```rust
 //! let version = version(alloc, bytes)?;
@@ -10,12 +10,15 @@
 #![tactic(auto)]
 
 pub mod laws;
+mod markers;
 mod picks;
+mod record;
 mod sets;
 mod tags;
 mod versions;
 mod wheels;
 
+pub use markers::marker_record;
 pub use picks::{push_fault, push_picks};
 pub use sets::set_spans;
 pub use tags::tags_record;

@@ -1,12 +1,13 @@
 //! Tags one by one (PEP 425, "Compressed Tag Sets").
 
-ghost use Rattle.std.specs.Prelude.{◌≡◌, ◌++◌, IfOk, OnOk, drop, option_map};
+ghost use Rattle.std.specs.Prelude.{◌≡◌, ◌++◌, IfOk, OnOk, option_map};
 ghost use Rattle.std.specs.List.{flat_map};
 ghost use Rattle.pywheel_core.specs.Tag.{pieces};
 ghost use Rattle.pywheel_core.specs.Texts.{cut_at, three_parts};
 ghost use Rattle.pylock_values.specs.Tags.{abi_fields, platform_field, python_fields, tag_field};
 ghost use Rattle.pylock_values.specs.Tags.{tags_record};
 
+use crate::record::without_first;
 use pylock_run::push_next_field;
 use pywheel_core::Tag;
 use std::alloc::{AllocError, Global};
@@ -45,16 +46,6 @@ fn cut(text: &str) -> Option<(&str, &str)>
     ensures { option_map (λ x. (x.0.now, x.1.now)) result ≡ cut_at 45 text.now }
 {
     text.split_once('-')
-}
-
-/// The bytes behind the first.
-fn without_first(alloc: Global, bytes: &[u8]) -> Result<Vec<u8>, AllocError>
-    ensures { IfOk result (λ made. made.items ≡ drop 1 bytes.now) }
-{
-    match bytes {
-        [_first, rest @ ..] => Vec::from_slice(alloc, rest),
-        [] => Ok(Vec::new(alloc)),
-    }
 }
 
 fn push_pythons(

@@ -1,14 +1,15 @@
 //! What a version is, as plain values (PEP 440).
 
-ghost use Rattle.std.specs.Prelude.{◌≡◌, ◌≢◌, ◌≤◌, [], IfOk, Ok, length, take};
+ghost use Rattle.std.specs.Prelude.{◌≡◌, ◌≢◌, ◌≤◌, ◌↔◌, [], IfOk, IsTrue, Ok, length, take};
 ghost use Rattle.std.specs.List.{flat_map};
 ghost use Rattle.pyver_core.specs.Version.FromParts.{version_from_parts};
 ghost use Rattle.pyver_core.specs.Version.Hashing.{without_trailing_zeros};
 ghost use Rattle.pyver_core.specs.Version.Normal.{normal_text};
+ghost use Rattle.pyver_core.specs.Version.Parts.{base_release};
 ghost use Rattle.pylock_values.specs.Kind.{kind_of};
-ghost use Rattle.pylock_values.specs.Parts.{base_with, form_of, high_word, low_word, numbers_of};
-ghost use Rattle.pylock_values.specs.Parts.{pre_letter, pre_number, short_release, without_zeros};
-ghost use Rattle.pylock_values.specs.Parts.{words};
+ghost use Rattle.pylock_values.specs.Parts.{base_length, base_with, form_of, high_word, low_word};
+ghost use Rattle.pylock_values.specs.Parts.{numbers_of, pre_letter, pre_number, public_length};
+ghost use Rattle.pylock_values.specs.Parts.{short_release, without_zeros, words};
 
 use pyver_core::{PartsError, PreKind, Version, VersionParts};
 use std::alloc::{AllocError, Global};
@@ -146,13 +147,13 @@ pub struct VersionNumbers {
 }
 
 impl VersionNumbers {
-    /// The numbers of a version but for those of its release. It takes memory for the two versions
-    /// that end where the numbers tell, and gives it back.
+    /// The numbers of a version but for those of its release. Where more stands behind the release,
+    /// it takes memory for the versions that end where the numbers tell, and gives it back.
     pub fn of(alloc: Global, version: &Version) -> Result<VersionNumbers, AllocError>
         ensures { IfOk result (λ numbers. numbers ≡ numbers_of version.now) }
     {
-        let base = version.base_release(alloc)?.text().len();
-        let public_end = version.public_part(alloc)?.text().len();
+        let base = base_length(alloc, version)?;
+        let public_end = public_length(alloc, version)?;
         let pre = pre_number(version.pre());
         let post = version.post().unwrap_or(0);
         let dev = version.dev().unwrap_or(0);
@@ -172,6 +173,36 @@ impl VersionNumbers {
             has_dev: version.dev().is_some(),
         })
     }
+}
+
+/// How long the epoch and the release are in the normal form.
+fn base_length(alloc: Global, version: &Version) -> Result<usize, AllocError>
+    ensures { IfOk result (λ length. length ≡ base_length version.now) }
+{
+    if is_base(version) {
+        return Ok(version.text().len());
+    }
+    Ok(version.base_release(alloc)?.text().len())
+}
+
+/// Whether a version is an epoch and a release alone.
+fn is_base(version: &Version) -> bool
+    ensures { IsTrue result ↔ (base_release version.now ≡ version.now) }
+{
+    version.pre().is_none()
+        && version.post().is_none()
+        && version.dev().is_none()
+        && version.local().is_empty()
+}
+
+/// How long all but the local part is in the normal form.
+fn public_length(alloc: Global, version: &Version) -> Result<usize, AllocError>
+    ensures { IfOk result (λ length. length ≡ public_length version.now) }
+{
+    if version.local().is_empty() {
+        return Ok(version.text().len());
+    }
+    Ok(version.public_part(alloc)?.text().len())
 }
 
 fn pre_letter(pre: Option<(PreKind, u128)>) -> u8
@@ -213,7 +244,7 @@ fn high_word(number: u128) -> u64
 pub fn words_of(alloc: Global, numbers: &[u128]) -> Result<Vec<u64>, AllocError>
     ensures { IfOk result (λ made. made.items ≡ flat_map words numbers.now) }
 {
-    let mut made = Vec::new(alloc);
+    let mut made = Vec::with_capacity(alloc, 2 * numbers.len())?;
     for number in numbers {
         made.push(low_word(*number))?;
         made.push(high_word(*number))?;

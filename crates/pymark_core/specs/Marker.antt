@@ -5,6 +5,7 @@ pub mod ComparisonView
 pub mod Depth
 pub mod Grammar
 pub mod Keys
+pub mod Pieces
 pub mod Reading
 pub mod RoundTrip
 pub mod Token

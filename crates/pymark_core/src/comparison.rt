@@ -10,6 +10,7 @@ ghost use Rattle.pymark_core.specs.Marker.ComparisonView.{left_operand, right_of
 ghost use Rattle.pymark_core.specs.Marker.ComparisonView.{unboxed};
 ghost use Rattle.pymark_core.specs.Marker.Asked.{extra_asked, group_asked, comparison_reads_extra};
 ghost use Rattle.pymark_core.specs.Marker.Asked.{operand_variable, quoted_text};
+ghost use Rattle.pymark_core.specs.Marker.Pieces.{operand_word};
 ghost use Rattle.pymark_core.specs.Marker.Value as value;
 ghost use Rattle.pyver_core.specs.Parsed.{parsed_operand};
 
@@ -153,6 +154,25 @@ impl Comparison {
         }
     }
 
+    /// The word that stands left of the operator, if no text is quoted there: the name of a
+    /// variable, `extra`, `extras` or `dependency_groups`. It takes no memory.
+    pub fn left_word(&self) -> Option<&'static str>
+        ensures { option_copied result ≡ operand_word self.now.left }
+    {
+        self.left.word()
+    }
+
+    /// The word that stands right of the operator, if no text is quoted there, as
+    /// [`Comparison::left_word`] has it. It takes no memory.
+    pub fn right_word(&self) -> Option<&'static str>
+        ensures { option_copied result ≡ operand_word self.now.right }
+    {
+        match &self.test {
+            Test::By(_, right) => right.word(),
+            Test::In(right) | Test::NotIn(right) => right.word(),
+        }
+    }
+
     /// Whether `extra` is one of the operands, which has no value in a lock. It takes no memory.
     pub fn has_extra(&self) -> bool
         ensures { result ≡ comparison_reads_extra self.now }
@@ -255,6 +275,19 @@ impl Left {
         }
     }
 
+    /// The word that it is, if it is no quoted text.
+    fn word(&self) -> Option<&'static str>
+        ensures { option_copied result ≡ operand_word (left_operand self.now) }
+    {
+        match self {
+            Left::Text(_) => None,
+            Left::Variable(variable) => Some(variable.name()),
+            Left::Extra => Some("extra"),
+            Left::Extras => Some("extras"),
+            Left::Groups => Some("dependency_groups"),
+        }
+    }
+
     /// The text that stands there, where `extra` has this one.
     fn text<'a>(
         &'a self,
@@ -274,6 +307,19 @@ impl Left {
 }
 
 impl Right {
+    /// The word that it is, if it is no quoted text.
+    fn word(&self) -> Option<&'static str>
+        ensures { option_copied result ≡ operand_word (right_operand self.now) }
+    {
+        match self {
+            Right::Text(_, _) => None,
+            Right::Variable(variable) => Some(variable.name()),
+            Right::Extra => Some("extra"),
+            Right::Extras => Some("extras"),
+            Right::Groups => Some("dependency_groups"),
+        }
+    }
+
     /// The text that stands there, where `extra` has this one.
     fn text<'a>(
         &'a self,

@@ -43,7 +43,7 @@ pub use change::Change;
 pub use comparison::Comparison;
 pub use environment::Environment;
 pub use fault::EvalFault;
-pub use marker::{Key, Marker, MarkerError, Reads};
+pub use marker::{Key, Marker, MarkerError, Piece, Reads, Token, next_token};
 pub use names::Names;
 pub use operand::{Comparator, Operand};
 pub use requirement::{Requirement, RequirementError};

@@ -7,6 +7,7 @@ mod error;
 mod keys;
 mod notes;
 mod parse;
+mod pieces;
 mod token;
 pub(crate) mod tree;
 mod value;
@@ -19,6 +20,7 @@ ghost use Rattle.pymark_core.specs.Marker.View.{tree_view};
 ghost use Rattle.pymark_core.specs.Marker.Depth.{is_deep};
 ghost use Rattle.pymark_core.specs.Marker.Grammar.{MarkerText, comparisons, has_misuse};
 ghost use Rattle.pymark_core.specs.Marker.Keys.{is_flagged, reads};
+ghost use Rattle.pymark_core.specs.Marker.Pieces.{piece_view, tree_pieces};
 ghost use Rattle.pymark_core.specs.Marker.Reading.{marker_of, tree_text};
 ghost use Rattle.pymark_core.specs.Marker.Tree.{Tree};
 ghost use Rattle.pymark_core.specs.Marker.Value.{marker_value, value_with};
@@ -33,11 +35,13 @@ use depth::is_deep;
 pub use error::MarkerError;
 pub use keys::{Key, Reads};
 use parse::read_tree;
+pub use pieces::Piece;
 use pytext::trim_white;
 use std::alloc::{AllocError, Global};
 use std::fmt;
 use std::marker::Model;
 use std::sync::Arc;
+pub use token::{Token, next_token};
 use tree::Tree;
 use value::tree_value;
 
@@ -192,6 +196,16 @@ impl Marker {
     {
         let mut list = Vec::new(alloc);
         push_tree(&mut list, &self.parsed.tree)?;
+        Ok(list)
+    }
+
+    /// What the marker is made of, in the order in which it stands in its text: its tree as a list.
+    /// It takes memory for the list.
+    pub fn pieces(&self, alloc: Global) -> Result<Vec<Piece<'_>>, AllocError>
+        ensures { IfOk result (λ list. map piece_view list.items ≡ tree_pieces self.now.tree) }
+    {
+        let mut list = Vec::new(alloc);
+        pieces::push_tree(&mut list, &self.parsed.tree)?;
         Ok(list)
     }
 

@@ -1,4 +1,5 @@
 pub mod Depth
+pub mod Pieces
 pub mod Reading
 pub mod Token
 pub mod Value

@@ -15,9 +15,9 @@ use super::error::MarkerError;
 use pytext::{after_white, is_word_byte};
 use pyver_core::Operator;
 
-/// A token, lent from the text.
+/// A token of a marker, lent from the text (PEP 508, "Grammar").
 #[derive(Clone, Copy)]
-pub(super) enum Token<'a> {
+pub enum Token<'a> {
     /// `(`
     Open,
     /// `)`
@@ -140,8 +140,10 @@ pub(super) fn first_token(text: &str) -> Option<(Token<'_>, &str)>
     token_by(text.as_bytes()[0], text)
 }
 
-/// The next token behind white space, and the text after it. There is none where the text ends.
-pub(super) fn next_token(text: &str) -> Result<Option<(Token<'_>, &str)>, MarkerError>
+/// The next token of a marker's text behind white space, and the text after it. There is none where
+/// the text ends; `Syntax` is answered where something else than a token stands there. It takes no
+/// memory.
+pub fn next_token(text: &str) -> Result<Option<(Token<'_>, &str)>, MarkerError>
     ensures { Gives MarkerError.Memory lent_next result
         (ok_or (next_token text.now) MarkerError.Syntax) }
 {
