@@ -20,7 +20,8 @@ ghost use Rattle.pylock_audit.specs.Source.{name_where};
 
 use crate::finding::{Finding, FindingKind, push_each, push_where};
 use pylock_core::{DistributionFile, Entry, Sdist, WheelFile};
-use pylock_places::{around, file_label, shown_file_name};
+use pylock_places::{file_label, shown_file_name};
+use pylock_shown::around;
 use pyver_core::{Version, VersionError, is_name, normal_name};
 use pywheel_core::{SdistError, SdistName, WheelName};
 use std::alloc::{AllocError, Global};

@@ -1,13 +1,12 @@
 //! How the file name of an sdist or a wheel is shown. What is compared and tested is the file name
 //! as the steps see it.
 
-ghost use Rattle.std.specs.Prelude.{◌≡◌, IfOk, None, option_map, string_bytes};
+ghost use Rattle.std.specs.Prelude.{◌≡◌, IfOk, option_map, string_bytes};
 ghost use Rattle.std.specs.Option.{option_copied};
 ghost use Rattle.pylock_places.specs.FileName.{shown_file_name};
-ghost use Rattle.pylock_readers.specs.Entry.FileName.{file_name_of};
 ghost use Rattle.pylock_shown.specs.Hidden.{hidden};
 
-use pylock_readers::{DistributionFile, path_file_name, url_file_name};
+use pylock_readers::{DistributionFile, file_name_of};
 use pylock_shown::{hidden, hidden_name};
 use std::alloc::{AllocError, Global};
 
@@ -20,7 +19,7 @@ pub fn shown_file_name(alloc: Global, file: &DistributionFile) -> Result<Option<
     let name = hidden_text(alloc, file.name())?;
     let path = hidden_text(alloc, file.path())?;
     let url = hidden_text(alloc, file.url())?;
-    match found_name(alloc, name.as_deref(), path.as_deref(), url.as_deref())? {
+    match file_name_of(alloc, name.as_deref(), path.as_deref(), url.as_deref())? {
         Some(found) => Ok(Some(hidden_name(alloc, found.as_str())?)),
         None => Ok(None),
     }
@@ -34,34 +33,5 @@ fn hidden_text(alloc: Global, text: Option<&str>) -> Result<Option<String>, Allo
     match text {
         Some(text) => Ok(Some(hidden(alloc, text)?)),
         None => Ok(None),
-    }
-}
-
-/// The file name that the key `name` gives, else the path, else the URL.
-fn found_name(
-    alloc: Global,
-    name: Option<&str>,
-    path: Option<&str>,
-    url: Option<&str>,
-) -> Result<Option<String>, AllocError>
-    ensures { IfOk result (λ found. option_map string_bytes found
-        ≡ file_name_of (option_copied name.entry) (option_copied path.entry)
-        (option_copied url.entry)) }
-{
-    match (written_name(name, path), url) {
-        (Some(written), _) => Ok(Some(String::from_str(alloc, written)?)),
-        (None, Some(url)) => url_file_name(alloc, url),
-        (None, None) => Ok(None),
-    }
-}
-
-/// The file name that the key `name` gives, else the path.
-fn written_name<'a>(name: Option<&'a str>, path: Option<&'a str>) -> Option<&'a str>
-    ensures { option_copied result
-        ≡ file_name_of (option_copied name.entry) (option_copied path.entry) None }
-{
-    match name {
-        Some(name) if !name.is_empty() => Some(name),
-        _ => path_file_name(path?),
     }
 }

@@ -9,7 +9,8 @@ ghost use Rattle.pywheel_core.specs.Texts.{pieces_at};
 ghost use Rattle.pylock_places.specs.Query.{around_mark, before_fragment, has_secret, is_secret};
 ghost use Rattle.pylock_places.specs.Query.{is_secret_key, secret_key};
 
-use crate::text::{around, has_byte};
+use crate::text::has_byte;
+use pylock_shown::around;
 
 // ---- where it stands
 

@@ -1,8 +1,7 @@
-//! Texts that are cut at a byte, and joined.
+//! Texts that are searched for a byte, and joined.
 
-ghost use Rattle.std.specs.Prelude.{◌≡◌, ◌==◌, ◌<◌, ◌++◌, IfOk, option_map, string_bytes};
+ghost use Rattle.std.specs.Prelude.{◌≡◌, ◌==◌, ◌++◌, IfOk, string_bytes};
 ghost use Rattle.std.specs.List.{list_any};
-ghost use Rattle.pywheel_core.specs.Texts.{cut_at};
 
 use std::alloc::{AllocError, Global};
 
@@ -11,15 +10,6 @@ pub(crate) fn has_byte(text: &str, wanted: u8) -> bool
     ensures { result ≡ list_any (λ b. b == wanted) text.now }
 {
     text.bytes().any(|b| b == wanted)
-}
-
-/// What stands before and behind the first such byte, which is one of ASCII; nothing where the text
-/// has none.
-pub fn around(text: &str, mark: u8) -> Option<(&str, &str)>
-    requires { mark < 128 }
-    ensures { option_map (λ cut. (cut.0.now, cut.1.now)) result ≡ cut_at mark text.now }
-{
-    text.split_once(mark as char)
 }
 
 /// Two texts, one behind the other. It takes memory for the text, once more while it grows.

@@ -6,7 +6,8 @@ ghost use Rattle.pylock_places.specs.Inner.User.{password_after, user_in};
 ghost use Rattle.pylock_places.specs.Url.{begins, behind_scheme, ends_authority, has_credentials};
 ghost use Rattle.pylock_places.specs.Url.{is_https, is_remote_path, is_safe_remote, names_alone};
 
-use crate::text::{around, has_byte};
+use crate::text::has_byte;
+use pylock_shown::around;
 
 /// Whether the text begins with the word, ASCII letter case ignored.
 fn begins(word: &[u8], text: &str) -> bool

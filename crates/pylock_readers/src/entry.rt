@@ -18,7 +18,7 @@ mod wheels;
 pub use archive::Archive;
 pub use directory::Directory;
 pub use file::{DistributionFile, Sdist, WheelFile};
-pub use file_name::{path_file_name, url_file_name};
+pub use file_name::{file_name_of, path_file_name, url_file_name};
 use pymark_core::Marker;
 use pyver_core::SpecifierSet;
 use pywheel_core::WheelName;

@@ -24,8 +24,8 @@ mod target;
 mod text;
 
 pub use entry::{
-    Archive, Directory, DistributionFile, Entry, Sdist, Vcs, WheelFile, path_file_name,
-    url_file_name,
+    Archive, Directory, DistributionFile, Entry, Sdist, Vcs, WheelFile, file_name_of,
+    path_file_name, url_file_name,
 };
 pub use environment::{EnvironmentInput, read_environment};
 pub use error::{EntryError, EntryKey, EnvError, HeadKey, LockError};

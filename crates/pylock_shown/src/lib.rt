@@ -4,7 +4,7 @@
 //! How a file name is shown, from `crates/pylock_places/src/file_name.rt`:
 //!
 //! ```rust
-//! match found_name(alloc, name.as_deref(), path.as_deref(), url.as_deref())? {
+//! match file_name_of(alloc, name.as_deref(), path.as_deref(), url.as_deref())? {
 //!     Some(found) => Ok(Some(hidden_name(alloc, found.as_str())?)),
 //!     None => Ok(None),
 //! }
@@ -17,6 +17,7 @@ mod text;
 mod visible;
 
 pub use hiding::{Shown, hidden, hidden_name, push_hidden};
+pub use text::around;
 pub use visible::{
     is_control, is_printable, push_character, push_control, push_visible, visible_text,
 };

@@ -6,8 +6,9 @@ ghost use Rattle.pywheel_core.specs.Texts.{cut_at, cut_at_last};
 ghost use Rattle.pylock_shown.specs.Hidden.{is_slash};
 ghost use Rattle.pylock_shown.specs.Inner.Parts.{front_len};
 
-/// What stands before and behind the first such byte, which is one of ASCII.
-pub(crate) fn around(text: &str, mark: u8) -> Option<(&str, &str)>
+/// What stands before and behind the first such byte, which is one of ASCII; nothing where the text
+/// has none. It takes no memory.
+pub fn around(text: &str, mark: u8) -> Option<(&str, &str)>
     requires { mark < 128 }
     ensures { option_map (λ cut. (cut.0.now, cut.1.now)) result ≡ cut_at mark text.now }
 {

@@ -5,7 +5,7 @@ ghost use Rattle.pylock_readers.specs.Entry.{file_name, place_of};
 ghost use Rattle.pylock_readers.specs.Entry.Sources.{file_of};
 ghost use Rattle.pylock_readers.specs.Text.{text_pairs};
 
-use crate::entry::file_name::file_name;
+use crate::entry::file_name::file_name_of;
 use crate::entry::hashes::hashes;
 use crate::entry::location::Location;
 use crate::entry::sources::SourceTable;
@@ -114,7 +114,7 @@ impl DistributionFile {
           hashes = text_pairs hashes.items;
         }) }
     {
-        let file_name = file_name(alloc, name.as_deref(), location.path(), location.url())?;
+        let file_name = file_name_of(alloc, name.as_deref(), location.path(), location.url())?;
         Ok(DistributionFile {
             name,
             location,

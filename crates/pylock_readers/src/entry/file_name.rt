@@ -10,8 +10,8 @@ use percent_encoding::{DecodeError, percent_decode};
 use std::alloc::{AllocError, Global};
 
 /// The file name that the key `name` gives, else the path, else the URL. Nothing where each of them
-/// is absent or ends in an empty name.
-pub(crate) fn file_name(
+/// is absent or ends in an empty name. It takes memory for the name.
+pub fn file_name_of(
     alloc: Global,
     name: Option<&str>,
     path: Option<&str>,
