@@ -74,19 +74,45 @@ PyObject *new_object(State *state, PyTypeObject *type)
     return self;
 }
 
-void free_memory(PyObject *self)
+PyObject *new_object_of(State *state, PyTypeObject *type, Spares *spares, size_t size)
 {
-    /* what all of the module's types have, and classes that are made from them */
-    PyObject_GC_Del(self);
+    if (type != spares->type || spares->count == 0) return new_object(state, type);
+    PyObject *self = PyObject_Init(spares->each[--spares->count], type);
+    memset((Object *)self + 1, 0, size - sizeof(Object));
+    ((Object *)self)->state = state;
+    state->users++;
+    PyObject_GC_Track(self);
+    return self;
 }
 
 void free_object(PyObject *self)
 {
     PyTypeObject *type = Py_TYPE(self);
     leave_state(((Object *)self)->state);
-    free_memory(self);
+    /* what all of the module's types have, and classes that are made from them */
+    PyObject_GC_Del(self);
     /* each instance of a type that was made at run time holds it */
     Py_DECREF(type);
+}
+
+void leave_object(PyObject *self, Spares *spares)
+{
+    PyTypeObject *type = Py_TYPE(self);
+    if (type != spares->type || spares->count == MOST_SPARE) {
+        free_object(self);
+        return;
+    }
+    /* the module has its type still, and so its state */
+    spares->each[spares->count++] = self;
+    ((Object *)self)->state->users--;
+    Py_DECREF(type);
+}
+
+/* No more is kept from here on. What frees memory looks at the type. */
+static void clear_spares(Spares *spares)
+{
+    spares->type = NULL;
+    while (spares->count > 0) PyObject_GC_Del(spares->each[--spares->count]);
 }
 
 /* ---- what the Python layer brings ---- */
@@ -112,15 +138,39 @@ static PyObject *use_refusals(PyObject *module, PyObject *const *arguments, Py_s
     if (!check_count("use_refusals", count, 2)) return NULL;
     put(&state->refuse, arguments[0]);
     put(&state->refuse_input, arguments[1]);
+    for (int number = 0; number < MOST_REFUSALS; number++) Py_CLEAR(state->refusals[number]);
     Py_RETURN_NONE;
 }
 TAKES_TUPLE(use_refusals)
+
+/* Whether what an attribute of both types tells is the same: -1 with an exception. */
+static int have_equal(PyTypeObject *type, PyTypeObject *base, const char *name)
+{
+    PyObject *one = PyObject_GetAttrString((PyObject *)type, name), *other = one == NULL ? NULL : PyObject_GetAttrString((PyObject *)base, name);
+    int are_equal = other == NULL ? -1 : PyObject_RichCompareBool(one, other, Py_EQ);
+    Py_XDECREF(one);
+    Py_XDECREF(other);
+    return are_equal;
+}
+
+/* Whether objects of a class have no more in them than those of its base: -1 with an exception. */
+static int is_like(PyTypeObject *type, PyTypeObject *base)
+{
+    static const char *const names[] = {"__basicsize__", "__dictoffset__", "__weakrefoffset__"};
+    int is_one = 1;
+    for (size_t index = 0; is_one == 1 && index < sizeof names / sizeof *names; index++) is_one = have_equal(type, base, names[index]);
+    return is_one;
+}
 
 static PyObject *use_version(PyObject *module, PyObject *type)
 {
     State *state = state_of(module);
     if (!is_class_of(type, state->version)) return NULL;
+    int has_spares = is_like((PyTypeObject *)type, state->version);
+    if (has_spares < 0) return NULL;
+    clear_spares(&state->spare_versions);
     put((PyObject **)&state->version_class, type);
+    if (has_spares && state->version_class == (PyTypeObject *)type) state->spare_versions.type = (PyTypeObject *)type;
     Py_RETURN_NONE;
 }
 
@@ -144,10 +194,28 @@ static PyObject *use_specifier(PyObject *module, PyObject *type)
     Py_RETURN_NONE;
 }
 
+static PyObject *use_set(PyObject *module, PyObject *type)
+{
+    State *state = state_of(module);
+    if (!is_class_of(type, state->set)) return NULL;
+    put((PyObject **)&state->set_class, type);
+    Py_RETURN_NONE;
+}
+
+static PyObject *use_marker(PyObject *module, PyObject *type)
+{
+    State *state = state_of(module);
+    if (!is_class_of(type, state->marker)) return NULL;
+    put((PyObject **)&state->marker_class, type);
+    Py_RETURN_NONE;
+}
+
 static PyMethodDef functions[] = {
-    CALL("use_refusals", use_refusals, "Two functions that make the exception of a code: of texts, and of locks and environments."),
+    CALL("use_refusals", use_refusals, "Two functions that tell the exception of a code: of texts, and of locks and environments."),
     {"use_version", use_version, METH_O, PyDoc_STR("The class of which versions in results are made.")},
     {"use_specifier", use_specifier, METH_O, PyDoc_STR("The class of which specifiers of sets are made.")},
+    {"use_set", use_set, METH_O, PyDoc_STR("The class of which sets of specifiers in results are made.")},
+    {"use_marker", use_marker, METH_O, PyDoc_STR("The class of which markers in results are made.")},
     {"use_tag", use_tag, METH_O, PyDoc_STR("The class of which tags in results are made.")},
     {NULL, NULL, 0, NULL},
 };
@@ -159,6 +227,7 @@ static PyMethodDef functions[] = {
     word(state->tag);                                                                                                    \
     word(state->set);                                                                                                    \
     word(state->specifier);                                                                                              \
+    word(state->filter);                                                                                                 \
     word(state->marker);                                                                                                 \
     word(state->environment);                                                                                            \
     word(state->layers);                                                                                                 \
@@ -167,6 +236,9 @@ static PyMethodDef functions[] = {
     word(state->version_class);                                                                                          \
     word(state->tag_class);                                                                                              \
     word(state->specifier_class);                                                                                        \
+    word(state->set_class);                                                                                              \
+    word(state->operators);                                                                                              \
+    word(state->marker_class);                                                                                           \
     word(state->refuse);                                                                                                 \
     word(state->refuse_input);                                                                                           \
     word(state->tags);                                                                                                   \
@@ -177,24 +249,18 @@ static int module_traverse(PyObject *module, visitproc visit, void *arg)
     State *state = state_of(module);
     if (state == NULL) return 0;
     EACH(state, Py_VISIT)
+    for (int number = 0; number < MOST_REFUSALS; number++) Py_VISIT(state->refusals[number]);
     return 0;
-}
-
-/* What frees memory looks at the type; no more is kept once the state has it no more. */
-static void clear_spare_tags(State *state)
-{
-    PyTypeObject *type = state->tag;
-    state->tag = NULL;
-    while (state->spare_count > 0) free_memory(state->spare_tags[--state->spare_count]);
-    Py_XDECREF(type);
 }
 
 static int module_clear(PyObject *module)
 {
     State *state = state_of(module);
     if (state == NULL) return 0;
-    clear_spare_tags(state);
+    clear_spares(&state->spare_tags);
+    clear_spares(&state->spare_versions);
     EACH(state, Py_CLEAR)
+    for (int number = 0; number < MOST_REFUSALS; number++) Py_CLEAR(state->refusals[number]);
     return 0;
 }
 
@@ -244,7 +310,8 @@ static int module_exec(PyObject *module)
         return -1;
     }
     if (!add_versions(module, state) || !add_tags(module, state) || !add_names(module, state)) return -1;
-    if (!add_kept(module, state) || !add_specifiers(module, state) || !add_layers(module, state)) return -1;
+    if (!add_kept(module, state) || !add_specifiers(module, state) || !add_sets(module, state)) return -1;
+    if (!add_filters(module, state) || !add_layers(module, state) || !add_markers(module, state)) return -1;
     if (!add_locks(module, state) || !add_tables(module)) return -1;
     return add_codes(module) ? PyModule_AddFunctions(module, functions) : -1;
 }

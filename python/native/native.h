@@ -18,6 +18,19 @@
 
 #include "pylock.h"
 
+/* ---- what differs between the headers ----
+ *
+ * Since 3.12 these macros give no reference, as None and its like need none there. A Python before that may load what was
+ * compiled with such headers, and counts it: it would end with "deallocating None". */
+#undef Py_RETURN_NONE
+#undef Py_RETURN_TRUE
+#undef Py_RETURN_FALSE
+#undef Py_RETURN_NOTIMPLEMENTED
+#define Py_RETURN_NONE return Py_INCREF(Py_None), Py_None
+#define Py_RETURN_TRUE return Py_INCREF(Py_True), Py_True
+#define Py_RETURN_FALSE return Py_INCREF(Py_False), Py_False
+#define Py_RETURN_NOTIMPLEMENTED return Py_INCREF(Py_NotImplemented), Py_NotImplemented
+
 /* ---- what differs between the two limited APIs ---- */
 
 #if Py_LIMITED_API >= 0x030A0000
@@ -50,18 +63,19 @@ PyObject *call_of_tuple(ArrayCall call, PyObject *self, PyObject *tuple);
 typedef PyObject *(*NamedCall)(PyObject *self, PyObject *const *arguments, Py_ssize_t count, PyObject *names);
 #if NATIVE_IS_MODERN
 #define TAKES_NAMES(name)
-#define CALL_NAMED(word, name, text)                                                                                   \
-    {word, (PyCFunction)(void (*)(void))name, METH_FASTCALL | METH_KEYWORDS, PyDoc_STR(text)}
+#define CALL_NAMED_AS(word, name, more, text)                                                                          \
+    {word, (PyCFunction)(void (*)(void))name, METH_FASTCALL | METH_KEYWORDS | (more), PyDoc_STR(text)}
 #else
 #define TAKES_NAMES(name)                                                                                                \
     static PyObject *name##_of_tuple(PyObject *self, PyObject *tuple, PyObject *named)                                   \
     {                                                                                                                    \
         return call_of_names(name, self, tuple, named);                                                                  \
     }
-#define CALL_NAMED(word, name, text)                                                                                   \
-    {word, (PyCFunction)(void (*)(void))name##_of_tuple, METH_VARARGS | METH_KEYWORDS, PyDoc_STR(text)}
+#define CALL_NAMED_AS(word, name, more, text)                                                                          \
+    {word, (PyCFunction)(void (*)(void))name##_of_tuple, METH_VARARGS | METH_KEYWORDS | (more), PyDoc_STR(text)}
 PyObject *call_of_names(NamedCall call, PyObject *self, PyObject *tuple, PyObject *named);
 #endif
+#define CALL_NAMED(word, name, text) CALL_NAMED_AS(word, name, 0, text)
 
 /* The type of a specification, as the module holds it: of the module where the API has such types. */
 PyTypeObject *type_of_spec(PyObject *module, PyType_Spec *spec);
@@ -106,24 +120,32 @@ PyObject *own_dict(PyObject *dict);
 
 /* ---- the state of the module ---- */
 
-enum { MOST_SPARE_TAGS = 64, MOST_SEEN_TAGS = 1024 };
+enum { MOST_SPARE = 64, MOST_SEEN_TAGS = 1024, MOST_REFUSALS = 256 };
+
+/* The memory of objects of a type that were let go of, for the next ones: what Python does for tuples and numbers. */
+typedef struct {
+    /* NULL where none is kept; it is held where the state has it */
+    PyTypeObject *type;
+    PyObject *each[MOST_SPARE];
+    int count;
+} Spares;
 
 typedef struct {
     /* the module, and each object of its types: an object may outlive the module where the collector takes both apart */
     Py_ssize_t users;
     /* NULL where the module was taken apart */
-    PyTypeObject *version, *tag, *set, *specifier, *marker, *environment, *layers, *session, *owner;
+    PyTypeObject *version, *tag, *set, *specifier, *filter, *marker, *environment, *layers, *session, *owner;
     /* the classes of the Python layer, of which results are made: the types themselves until `use` says otherwise */
-    PyTypeObject *version_class, *tag_class, *specifier_class;
-    /* Python functions that make the exception of a code, or NULL */
-    PyObject *refuse, *refuse_input;
+    PyTypeObject *version_class, *tag_class, *specifier_class, *set_class, *marker_class;
+    /* the operators of specifiers: a tuple */
+    PyObject *operators;
+    /* Python functions that tell the exception of a code, or NULL; and what the first has told, by its number */
+    PyObject *refuse, *refuse_input, *refusals[MOST_REFUSALS];
     /* tags that came twice, by their texts, and the hashes of those that came once */
     PyObject *tags;
     Py_hash_t seen_tags[MOST_SEEN_TAGS];
-    /* the memory of tags that were let go of, as long as their type is there */
-    PyObject *spare_tags[MOST_SPARE_TAGS];
-    int spare_count;
-    /* how many specifiers end within one another's end, and those that wait for the end of these */
+    Spares spare_tags, spare_versions;
+    /* how many specifiers and sets end within one another's end, and those that wait for the end of these */
     int ending;
     PyObject *waiting;
     /* the numbers of what a mapping may have for markers, by their names */
@@ -187,6 +209,16 @@ static inline Py_hash_t short_hash(PyObject *object)
     return hash == -1 ? -1 : hash & 0x3fffffff;
 }
 
+enum { MOST_OF_DIGITS = 20 };
+
+/* Writes a number's digits before an end, and gives where they begin. */
+static inline char *digits_before(char *end, uint64_t number)
+{
+    do *--end = (char)('0' + number % 10);
+    while ((number /= 10) > 0);
+    return end;
+}
+
 /* The text itself as an exact str: a new reference. */
 PyObject *exact_text(PyObject *object);
 
@@ -237,6 +269,8 @@ PyObject *record_of_text(State *state, RecordCall call, PyObject *text, const ch
 
 /* Raises the exception of a code that a call on this text has answered. `kind` says of what the text was to be one. */
 void raise_refusal(State *state, int32_t code, PyObject *text, const char *kind);
+/* The same of a text that isn't as another one, with which the message ends. */
+void raise_unlike(State *state, int32_t code, PyObject *text, PyObject *other, const char *kind);
 /* The same of a lock or an environment; `words` are those of the call, and are given back. */
 void raise_input(State *state, int32_t code, pylock_text *words, PyObject *lock, PyObject *environment, bool json);
 
@@ -267,15 +301,19 @@ int visit_type(PyObject *self, visitproc visit, void *arg);
 PyObject *no_new(PyTypeObject *type, PyObject *arguments, PyObject *named);
 /* An object of one of the module's types, or of a class that is made from it, all zeros but for the state. */
 PyObject *new_object(State *state, PyTypeObject *type);
+/* The same in the memory of one that was let go of, if there is any. */
+PyObject *new_object_of(State *state, PyTypeObject *type, Spares *spares, size_t size);
 /* Frees such an object, whose parts were given up. */
 void free_object(PyObject *self);
-/* Frees the memory of an object that is none any more. */
-void free_memory(PyObject *self);
+/* The same, or keeps its memory. */
+void leave_object(PyObject *self, Spares *spares);
 
 PyObject *version_of_text(State *state, PyTypeObject *type, PyObject *text);
 /* The same of a text that the library gave as a version's normal form; of the class of the Python layer. */
 PyObject *version_of_normal(State *state, PyObject *text);
 PyObject *version_normal(PyObject *self);
+/* Whether a version is a pre-release: of a class of one's own it is asked, which may say otherwise. */
+PyObject *told_phase(State *state, PyObject *version);
 /* The normal form of a version or of its text, without zeros at the end of its release where these are to go; a text that is
  * no version as it is. */
 PyObject *canonical_version(State *state, PyObject *item, bool strip);
@@ -295,9 +333,17 @@ PyObject *told_of(State *state, int32_t code, bool told, PyObject *text, PyObjec
  * and none was given; `extra` is a new reference where there is an environment. */
 pylock_environment *layers_with(State *state, PyObject *layers, PyObject *mapping, PyObject **extra, bool *has_extra);
 
+/* The environment that an object is: NULL with an exception where it is none. */
+pylock_environment *environment_of_object(State *state, PyObject *object);
+/* The marker of a text that the library has read as one; of the class of the Python layer. */
+PyObject *marker_of_known(State *state, PyObject *text);
+
 bool add_versions(PyObject *module, State *state);
 bool add_specifiers(PyObject *module, State *state);
+bool add_sets(PyObject *module, State *state);
+bool add_filters(PyObject *module, State *state);
 bool add_layers(PyObject *module, State *state);
+bool add_markers(PyObject *module, State *state);
 bool add_tags(PyObject *module, State *state);
 bool add_names(PyObject *module, State *state);
 bool add_kept(PyObject *module, State *state);
@@ -305,6 +351,9 @@ bool add_locks(PyObject *module, State *state);
 bool add_tables(PyObject *module);
 
 PyObject *normal_name(State *state, PyObject *text);
+/* Whether the pieces of the parts of a list, from this place on, are each in the order of texts (PEP 425); else 0, and the first
+ * part that isn't and what it is to be, or -1 with an exception. */
+int are_in_order(PyObject *parts, Py_ssize_t from, PyObject **part, PyObject **ordered);
 /* The set of the tags that the next fields are; of the class of the Python layer. */
 PyObject *tags_of(State *state, Record *record);
 

@@ -1,43 +1,11 @@
-/* One specifier, and those of a set. */
-#include "native.h"
+/* One specifier, and those of a text. */
+#include "specifiers.h"
 
 #include <structmember.h>
 
-typedef struct {
-    PyObject_HEAD
-    State *state;
-    /* empty until it is asked */
-    pylock_set slot;
-    /* the operator and the operand without white space, and how long the operator is: NULL until the specifier is read */
-    PyObject *text;
-    union {
-        Py_ssize_t sign;
-        /* of one that waits for its end: the next that does */
-        PyObject *next;
-    };
-    /* both as a pair: NULL until they were asked for */
-    PyObject *pair;
-    /* what equal ones have in common: NULL until it was asked for */
-    PyObject *canonical;
-    /* what the Python layer keeps here; None at first */
-    PyObject *forced, *names, *exact;
-} Specifier;
-
 /* ---- where specifiers stand in a text ---- */
 
-/* Where one begins and ends, of its operator and of its operand, as the library gives it. */
-typedef struct {
-    size_t sign, sign_end, operand, operand_end;
-} Span;
-
-enum { PLACES_OF_SPAN = 4, SPANS_NEAR = 16 };
-
-/* The spans of a text: they stand in `near`, or in memory that `spans_done` gives back. */
-typedef struct {
-    Span *each;
-    size_t count;
-    Span near[SPANS_NEAR];
-} Spans;
+enum { PLACES_OF_SPAN = 4 };
 
 static int32_t find_spans(const Text *text, Spans *spans, size_t room)
 {
@@ -47,7 +15,7 @@ static int32_t find_spans(const Text *text, Spans *spans, size_t room)
     return code;
 }
 
-static int32_t spans_of(const Text *text, Spans *spans)
+int32_t spans_of(const Text *text, Spans *spans)
 {
     spans->each = spans->near;
     int32_t code = find_spans(text, spans, SPANS_NEAR);
@@ -56,50 +24,80 @@ static int32_t spans_of(const Text *text, Spans *spans)
     return spans->each == NULL ? PYLOCK_MEMORY : find_spans(text, spans, spans->count);
 }
 
-static void spans_done(Spans *spans)
+void spans_done(Spans *spans)
 {
     if (spans->each != spans->near) PyMem_Free(spans->each);
 }
 
-/* The operator and the operand together: the text `whole`, which has the view, where they are all of it. */
-static PyObject *text_of_span(const Span *span, PyObject *whole, const Text *view)
+/* ---- operators ---- */
+
+enum { COMPATIBLE, EQUAL, UNEQUAL, LEAST, MOST, BELOW, ABOVE, EXACT, SIGNS };
+
+static const char *const signs[SIGNS] = {"~=", "==", "!=", "<=", ">=", "<", ">", "==="};
+
+static PyObject *made_operators(void)
 {
-    uint8_t near[RESULT_ROOM];
-    size_t sign = span->sign_end - span->sign, operand = span->operand_end - span->operand, length = sign + operand;
-    if (length == view->length) return exact_text(whole);
-    if (span->sign_end == span->operand) return str_of(view->bytes + span->sign, length);
-    uint8_t *room = length <= RESULT_ROOM ? near : PyMem_Malloc(length);
-    if (room == NULL) return PyErr_NoMemory();
-    memcpy(room, view->bytes + span->sign, sign);
-    memcpy(room + sign, view->bytes + span->operand, operand);
-    PyObject *text = str_of(room, length);
-    if (room != near) PyMem_Free(room);
-    return text;
+    PyObject *operators = PyTuple_New(SIGNS);
+    for (int place = 0; operators != NULL && place < SIGNS; place++) {
+        PyObject *operator = PyUnicode_InternFromString(signs[place]);
+        if (operator == NULL || PyTuple_SetItem(operators, place, operator) < 0) Py_CLEAR(operators);
+    }
+    return operators;
+}
+
+static int place_of_sign(const Span *span, const Text *view)
+{
+    size_t length = span->sign_end - span->sign;
+    int place = 0;
+    while (place < EXACT && (strlen(signs[place]) != length || memcmp(view->bytes + span->sign, signs[place], length) != 0)) place++;
+    return place;
+}
+
+bool is_exact_sign(const Span *span)
+{
+    return span->sign_end - span->sign == strlen(signs[EXACT]);
 }
 
 /* ---- making ---- */
 
-/* Gives up what the specifier has but for what was said of pre-releases. All is out of it before anything else runs. */
-static void forget(Specifier *specifier)
+void forget_specifier(PyObject *self)
 {
-    pylock_set slot = specifier->slot;
-    PyObject *had[] = {specifier->text, specifier->pair, specifier->canonical, specifier->names, specifier->exact};
-    memset(&specifier->slot, 0, sizeof slot);
-    specifier->text = specifier->pair = specifier->canonical = specifier->names = specifier->exact = NULL;
+    Specifier *specifier = (Specifier *)self;
+    pylock_set slot = specifier->judge.slot;
+    PyObject *had[] = {specifier->operator, specifier->version, specifier->text, specifier->normal, specifier->judge.exact};
+    memset(&specifier->judge.slot, 0, sizeof slot);
+    specifier->operator = specifier->version = specifier->text = specifier->normal = specifier->judge.exact = NULL;
+    specifier->judge.hash = -1;
+    specifier->judge.early = UNKNOWN;
     pylock_set_free(&slot);
     for (size_t place = 0; place < sizeof had / sizeof *had; place++) Py_XDECREF(had[place]);
 }
 
 /* Gives a specifier the text of a span, in place of what it has: false with an exception. Its set is kept from when it is
- * first asked, as that takes longer. */
+ * first asked, as that takes longer. `whole` has the view, and is the specifier's text where there is nothing else in it. */
 static bool give_span(Specifier *specifier, const Span *span, PyObject *whole, const Text *view)
 {
-    PyObject *text = text_of_span(span, whole, view);
-    if (text == NULL) return false;
+    int place = place_of_sign(span, view);
+    size_t length = span->operand_end - span->operand;
+    /* NULL where the module was taken apart */
+    PyObject *operators = specifier->judge.state->operators;
+    PyObject *operator = operators == NULL ? PyUnicode_InternFromString(signs[place]) : hold(PyTuple_GetItem(operators, place));
+    PyObject *version = str_of(view->bytes + span->operand, length);
+    bool is_whole = span->sign_end - span->sign + length == view->length;
+    PyObject *text = is_whole ? exact_text(whole) : NULL;
+    if (operator == NULL || version == NULL || (is_whole && text == NULL)) {
+        Py_XDECREF(operator);
+        Py_XDECREF(version);
+        Py_XDECREF(text);
+        return false;
+    }
     /* what else ran meanwhile may have read another */
-    while (specifier->text != NULL) forget(specifier);
+    while (specifier->operator != NULL) forget_specifier((PyObject *)specifier);
+    specifier->operator = operator;
+    specifier->version = version;
     specifier->text = text;
-    specifier->sign = (Py_ssize_t)(span->sign_end - span->sign);
+    specifier->judge.sign = (unsigned char)place;
+    specifier->judge.has_exact = place == EXACT;
     return true;
 }
 
@@ -116,35 +114,21 @@ static bool read_specifier(Specifier *specifier, PyObject *text)
     if (is_one)
         is_good = give_span(specifier, spans.each, text, &view);
     else
-        raise_refusal(specifier->state, code == PYLOCK_OK ? PYLOCK_SET_SYNTAX : code, text, "specifier");
+        raise_refusal(specifier->judge.state, code == PYLOCK_OK ? PYLOCK_SET_SYNTAX : code, text, "specifier");
     spans_done(&spans);
     text_done(&view);
     return is_good;
 }
 
-/* The text of a specifier: a borrowed reference, or NULL with an exception where it has none. */
-static PyObject *text_of_one(const Specifier *specifier)
-{
-    if (specifier->text == NULL) PyErr_SetString(PyExc_ValueError, "pylock: the specifier has no text yet");
-    return specifier->text;
-}
-
 static int specifier_init(PyObject *self, PyObject *arguments, PyObject *named)
 {
     static char *words[] = {"spec", "prereleases", NULL};
-    PyObject *taken[MOST_TAKEN] = {NULL};
+    PyObject *taken[MOST_TAKEN];
     Specifier *specifier = (Specifier *)self;
-    if (named == NULL && PyTuple_Size(arguments) == 1)
-        taken[0] = hold(PyTuple_GetItem(arguments, 0));
-    else if (!take_arguments(arguments, named, "|OO:Specifier", words, taken))
-        return -1;
+    if (!take_judged(arguments, named, "|OO:Specifier", words, taken)) return -1;
     if (taken[0] == NULL) taken[0] = PyUnicode_FromString("");
     bool is_good = taken[0] != NULL && read_specifier(specifier, taken[0]);
-    if (is_good) {
-        PyObject *before = specifier->forced;
-        specifier->forced = hold(taken[1] == NULL ? Py_None : taken[1]);
-        Py_XDECREF(before);
-    }
+    if (is_good) say_forced(&specifier->judge, taken[1] == NULL ? Py_None : taken[1]);
     let_arguments_go(taken);
     return is_good ? 0 : -1;
 }
@@ -153,66 +137,63 @@ static PyObject *specifier_new(PyTypeObject *type, PyObject *arguments, PyObject
 {
     (void)arguments, (void)named;
     State *state = state_of_type(type);
-    return state == NULL ? NULL : new_object(state, type);
+    return state == NULL ? NULL : (PyObject *)new_judge(state, type);
 }
 
 static int specifier_traverse(PyObject *self, visitproc visit, void *arg)
 {
     Specifier *specifier = (Specifier *)self;
-    Py_VISIT(specifier->forced);
-    Py_VISIT(specifier->canonical);
-    Py_VISIT(specifier->names);
-    Py_VISIT(specifier->exact);
+    Py_VISIT(specifier->judge.forced);
+    Py_VISIT(specifier->judge.exact);
     return visit_type_in(self, visit, arg, specifier_traverse);
 }
 
 static int specifier_clear(PyObject *self)
 {
     Specifier *specifier = (Specifier *)self;
-    Py_CLEAR(specifier->forced);
-    Py_CLEAR(specifier->names);
-    Py_CLEAR(specifier->exact);
+    Py_CLEAR(specifier->judge.forced);
+    Py_CLEAR(specifier->judge.exact);
     return 0;
-}
-
-/* Of specifiers that hold one another in a row each ends within the end of the one before: so many at most, the next waits,
- * as Python's own containers do. */
-enum { MOST_ENDING = 50 };
-
-static void end_specifier(State *state, PyObject *self)
-{
-    state->ending++;
-    forget((Specifier *)self);
-    Py_CLEAR(((Specifier *)self)->forced);
-    free_object(self);
-    state->ending--;
-}
-
-static void specifier_dealloc(PyObject *self)
-{
-    State *state = ((Specifier *)self)->state;
-    PyObject_GC_UnTrack(self);
-    if (state->ending == MOST_ENDING) {
-        /* the state stays, as it is used by each that waits */
-        ((Specifier *)self)->next = state->waiting;
-        state->waiting = self;
-        return;
-    }
-    state->users++;
-    end_specifier(state, self);
-    while (state->ending == 0 && state->waiting != NULL) {
-        PyObject *next = state->waiting;
-        state->waiting = ((Specifier *)next)->next;
-        end_specifier(state, next);
-    }
-    leave_state(state);
 }
 
 /* ---- what is asked of a specifier ---- */
 
-static PyObject *specifier_text(PyObject *self)
+/* The operator and the operand, which are held; or an exception where there are none. */
+typedef struct {
+    PyObject *operator, *version;
+} Pair;
+
+static bool take_pair(const Specifier *specifier, Pair *pair)
 {
-    return hold(text_of_one((Specifier *)self));
+    pair->operator = hold(specifier->operator);
+    pair->version = hold(specifier->version);
+    if (pair->operator != NULL) return true;
+    PyErr_SetString(PyExc_ValueError, "pylock: the specifier has no text yet");
+    return false;
+}
+
+static void let_pair_go(Pair *pair)
+{
+    let_go(pair->operator);
+    let_go(pair->version);
+}
+
+/* Whether the pair is the specifier's still: what else ran meanwhile may have read another text. */
+static bool is_pair_of(const Pair *pair, const Specifier *specifier)
+{
+    return specifier->version == pair->version && specifier->operator == pair->operator;
+}
+
+PyObject *specifier_text(PyObject *self)
+{
+    Pair pair;
+    Specifier *specifier = (Specifier *)self;
+    if (specifier->text != NULL) return hold(specifier->text);
+    if (!take_pair(specifier, &pair)) return NULL;
+    PyObject *text = PyUnicode_Concat(pair.operator, pair.version);
+    if (text != NULL && is_pair_of(&pair, specifier) && specifier->text == NULL) specifier->text = hold(text);
+    let_pair_go(&pair);
+    return text;
 }
 
 static PyObject *get_text(PyObject *self, void *closure)
@@ -221,142 +202,177 @@ static PyObject *get_text(PyObject *self, void *closure)
     return specifier_text(self);
 }
 
-static PyObject *made_pair(PyObject *text, Py_ssize_t sign)
-{
-    /* an operator is ASCII, so it has as many letters as bytes */
-    PyObject *operator = PyUnicode_Substring(text, 0, sign);
-    PyObject *operand = operator == NULL ? NULL : PyUnicode_Substring(text, sign, PY_SSIZE_T_MAX);
-    PyObject *pair = operand == NULL ? NULL : PyTuple_Pack(2, operator, operand);
-    Py_XDECREF(operator);
-    Py_XDECREF(operand);
-    return pair;
-}
-
 static PyObject *get_pair(PyObject *self, void *closure)
 {
-    Specifier *specifier = (Specifier *)self;
+    Pair pair;
     (void)closure;
-    if (specifier->pair != NULL) return hold(specifier->pair);
-    PyObject *text = specifier_text(self);
-    PyObject *pair = text == NULL ? NULL : made_pair(text, specifier->sign);
-    /* what else ran meanwhile may have read another text, or have found it too */
-    if (pair != NULL && specifier->text == text && specifier->pair == NULL) specifier->pair = hold(pair);
-    let_go(text);
-    return pair;
+    if (!take_pair((Specifier *)self, &pair)) return NULL;
+    PyObject *both = PyTuple_Pack(2, pair.operator, pair.version);
+    let_pair_go(&pair);
+    return both;
 }
 
-/* The operator and the operand of a pair in normal form; of `===` the operand as it is, as all of it counts. */
-static PyObject *made_canonical(State *state, PyObject *pair)
+/* Whether the operand is a prefix, as only == and != have them. */
+static bool is_prefix(const Specifier *specifier)
 {
-    PyObject *operator = PyTuple_GetItem(pair, 0);
-    if (PyUnicode_GetLength(operator) == 3) return hold(pair);
+    Py_ssize_t length = PyUnicode_GetLength(specifier->version);
+    return specifier->judge.sign != EXACT && length > 0 && PyUnicode_ReadChar(specifier->version, length - 1) == '*';
+}
+
+/* The operand of the pair in normal form: of === it is as it is, as all of it counts, and so is a prefix. */
+static PyObject *normal_of_pair(Specifier *specifier, const Pair *pair)
+{
+    if (specifier->normal != NULL) return hold(specifier->normal);
+    if (specifier->judge.sign == EXACT || is_prefix(specifier)) return hold(pair->version);
     /* of `~=` each number of the release counts */
-    bool strip = PyUnicode_CompareWithASCIIString(operator, "~=") != 0;
-    PyObject *operand = canonical_version(state, PyTuple_GetItem(pair, 1), strip);
-    PyObject *canonical = operand == NULL ? NULL : PyTuple_Pack(2, operator, operand);
-    Py_XDECREF(operand);
-    return canonical;
+    PyObject *normal = canonical_version(specifier->judge.state, pair->version, specifier->judge.sign != COMPATIBLE);
+    if (normal != NULL && is_pair_of(pair, specifier) && specifier->normal == NULL) specifier->normal = hold(normal);
+    return normal;
 }
 
-static PyObject *specifier_canonical(PyObject *self, PyObject *nothing)
+PyObject *specifier_canonical(PyObject *self, PyObject *nothing)
 {
+    Pair pair;
     Specifier *specifier = (Specifier *)self;
     (void)nothing;
-    if (specifier->canonical != NULL) return hold(specifier->canonical);
-    PyObject *pair = get_pair(self, NULL);
-    PyObject *canonical = pair == NULL ? NULL : made_canonical(specifier->state, pair);
-    /* as in the pair */
-    if (canonical != NULL && specifier->pair == pair && specifier->canonical == NULL) specifier->canonical = hold(canonical);
-    let_go(pair);
+    if (!take_pair(specifier, &pair)) return NULL;
+    PyObject *normal = normal_of_pair(specifier, &pair);
+    PyObject *canonical = normal == NULL ? NULL : PyTuple_Pack(2, pair.operator, normal);
+    Py_XDECREF(normal);
+    let_pair_go(&pair);
     return canonical;
 }
 
 static Py_hash_t specifier_hash(PyObject *self)
 {
+    Specifier *specifier = (Specifier *)self;
+    if (specifier->judge.hash != -1) return specifier->judge.hash;
+    PyObject *version = hold(specifier->version);
     PyObject *canonical = specifier_canonical(self, NULL);
-    Py_hash_t hash = canonical == NULL ? -1 : PyObject_Hash(canonical);
+    Py_hash_t hash = canonical == NULL ? -1 : short_hash(canonical);
+    if (specifier->version == version) specifier->judge.hash = hash;
     Py_XDECREF(canonical);
+    let_go(version);
     return hash;
 }
 
-/* The operator `===` compares texts, which the Python layer does. */
-static PyObject *get_is_exact(PyObject *self, void *closure)
+/* Whether the operand is a pre-release, a Told: NONE of an operand that is no version, NO where the operator doesn't say that
+ * it is wanted. -1 with an exception. */
+static int early_of(Specifier *specifier)
 {
+    Pair pair;
+    if (specifier->judge.early != UNKNOWN) return specifier->judge.early;
+    if (!take_pair(specifier, &pair)) return -1;
+    int early = specifier->judge.sign == UNEQUAL || is_prefix(specifier) ? NO : early_text(specifier->judge.state, pair.version);
+    if (early >= 0 && is_pair_of(&pair, specifier)) specifier->judge.early = (unsigned char)early;
+    let_pair_go(&pair);
+    return early;
+}
+
+static PyObject *get_prereleases(PyObject *self, void *closure)
+{
+    Specifier *specifier = (Specifier *)self;
     (void)closure;
-    return text_of_one((Specifier *)self) == NULL ? NULL : PyBool_FromLong(((Specifier *)self)->sign == 3);
-}
-
-/* Reads the text into the slot, unless the specifier has another text or a slot by now: false with an exception. */
-static bool read_slot(Specifier *specifier, PyObject *text)
-{
-    Text view;
-    if (!text_of(text, &view)) return false;
-    bool is_its = specifier->text == text && !specifier->slot.full;
-    int32_t code = is_its ? pylock_set_parse(&specifier->slot, view.bytes, view.length) : PYLOCK_OK;
-    text_done(&view);
-    if (code != PYLOCK_OK) raise_refusal(specifier->state, code, text, "specifier");
-    return code == PYLOCK_OK;
-}
-
-/* Whether the specifier's text stands in its slot; else an exception says why not. */
-static bool fill_slot(Specifier *specifier)
-{
-    while (!specifier->slot.full) {
-        PyObject *text = specifier_text((PyObject *)specifier);
-        bool is_good = text != NULL && read_slot(specifier, text);
-        let_go(text);
-        if (!is_good) return false;
+    if (specifier->judge.forced != NULL) return hold(specifier->judge.forced);
+    switch (early_of(specifier)) {
+    case YES: return hold(Py_True);
+    case NO: return hold(Py_False);
+    case NONE: return hold(Py_None);
+    default: return NULL;
     }
-    return true;
 }
 
-/* The code of the library's answer, or -1 with an exception. `text` is then that of the version. */
-static int32_t ask_specifier(Specifier *specifier, PyObject *version, bool *admits, PyObject **text)
+/* A class of one's own may say otherwise what `prereleases` is. */
+int specifier_asks(PyObject *self)
 {
-    Text view;
-    *text = given_text(specifier->state, version);
-    if (*text == NULL || !text_of(*text, &view)) return -1;
-    /* from here on nothing runs but the library */
-    bool is_full = fill_slot(specifier);
-    int32_t code = is_full ? pylock_set_admits(&specifier->slot, view.bytes, view.length, admits) : -1;
-    text_done(&view);
-    return code;
+    Specifier *specifier = (Specifier *)self;
+    if (Py_TYPE(self) == specifier->judge.state->specifier_class && specifier->judge.forced == NULL) {
+        int early = early_of(specifier);
+        return early < 0 ? -1 : early == YES;
+    }
+    PyObject *told = PyObject_GetAttrString(self, "prereleases");
+    int asks = told == NULL ? -1 : PyObject_IsTrue(told);
+    Py_XDECREF(told);
+    return asks;
 }
 
-static PyObject *specifier_admits(PyObject *self, PyObject *version)
+/* What a pickle has: the arguments of the class. One of one's own may take other ones, which the Python layer looks at. */
+static PyObject *specifier_reduce(PyObject *self, PyObject *nothing)
 {
-    bool admits = false;
-    PyObject *text;
-    int32_t code = ask_specifier((Specifier *)self, version, &admits, &text);
-    return told_of(((Specifier *)self)->state, code, admits, text, NULL);
+    Judge *judge = (Judge *)self;
+    (void)nothing;
+    if (Py_TYPE(self) != judge->state->specifier_class) return PyObject_CallMethod(self, "_reduced", NULL);
+    PyObject *text = specifier_text(self), *forced = hold(judge->forced);
+    PyObject *arguments = text == NULL ? NULL : forced == NULL ? PyTuple_Pack(1, text) : PyTuple_Pack(2, text, forced);
+    PyObject *reduced = arguments == NULL ? NULL : PyTuple_Pack(2, (PyObject *)Py_TYPE(self), arguments);
+    Py_XDECREF(arguments);
+    let_go(forced);
+    let_go(text);
+    return reduced;
 }
 
-static PyObject *specifier_passes(PyObject *self, PyObject *version)
+/* The same, which pickles ask first: `object` asks a class of one's own for its way. */
+static PyObject *specifier_reduce_ex(PyObject *self, PyObject *protocol)
 {
-    bool admits = false;
-    PyObject *text;
-    int32_t code = ask_specifier((Specifier *)self, version, &admits, &text);
-    return told_of(((Specifier *)self)->state, code, admits, text, Py_False);
+    if (Py_TYPE(self) == ((Judge *)self)->state->specifier_class) return specifier_reduce(self, NULL);
+    return PyObject_CallMethod((PyObject *)&PyBaseObject_Type, "__reduce_ex__", "(OO)", self, protocol);
+}
+
+/* A copy has what the text says; one of one's own class has what a pickle has. */
+static PyObject *specifier_copy(PyObject *self, PyObject *nothing)
+{
+    Pair pair;
+    Judge *judge = (Judge *)self;
+    (void)nothing;
+    if (Py_TYPE(self) != judge->state->specifier_class) return PyObject_CallMethod(self, "_copied", NULL);
+    if (!take_pair((Specifier *)self, &pair)) return NULL;
+    /* of the same text as the pair, whatever runs where the copy is made */
+    unsigned char sign = judge->sign;
+    PyObject *forced = hold(judge->forced);
+    Specifier *copy = (Specifier *)new_judge(judge->state, Py_TYPE(self));
+    if (copy == NULL) {
+        let_pair_go(&pair);
+        let_go(forced);
+        return NULL;
+    }
+    copy->operator = pair.operator;
+    copy->version = pair.version;
+    copy->judge.sign = sign;
+    copy->judge.has_exact = sign == EXACT;
+    copy->judge.forced = forced;
+    return (PyObject *)copy;
 }
 
 static PyMethodDef specifier_methods[] = {
-    {"admits", specifier_admits, METH_O, PyDoc_STR("Whether the version is admitted by the order of versions alone, a pre-release as any other.")},
+    {"__copy__", specifier_copy, METH_NOARGS, PyDoc_STR("A copy.")},
+    {"__reduce__", specifier_reduce, METH_NOARGS, PyDoc_STR("What a pickle has.")},
+    {"__reduce_ex__", specifier_reduce_ex, METH_O, PyDoc_STR("The same.")},
+    {"admits", judge_admits, METH_O, PyDoc_STR("admits($self, version, /)\n--\n\nWhether the version is admitted by the order of versions alone, a pre-release as any other.")},
     {"_canonical_spec", specifier_canonical, METH_NOARGS, PyDoc_STR("What equal ones have in common.")},
-    {"_passes_by_order", specifier_passes, METH_O, PyDoc_STR("The same, but false of a text that is no version.")},
+    {"_passes", judge_passes, METH_O, PyDoc_STR("Whether it lets a version through, a pre-release as any other; a text that is no version may be given.")},
+    CONTAINS,
+    FILTER,
     {NULL, NULL, 0, NULL},
 };
 
 static PyGetSetDef specifier_getters[] = {
-    {"_text", get_text, NULL, PyDoc_STR("The operator and the operand."), NULL},
+    {"text", get_text, NULL, PyDoc_STR("The operator and the operand, without white space."), NULL},
+    {"_text", get_text, NULL, PyDoc_STR("The same."), NULL},
     {"_spec", get_pair, NULL, PyDoc_STR("Both as a pair."), NULL},
-    {"_is_exact", get_is_exact, NULL, PyDoc_STR("Whether the operator is ===."), NULL},
+    {"_is_exact", get_is_exact, NULL, PyDoc_STR("Whether it compares texts."), NULL},
+    {"_forced", get_forced, set_forced, PyDoc_STR("What was said of pre-releases."), NULL},
+    {"prereleases", get_prereleases, set_forced,
+     PyDoc_STR("What was said of pre-releases, else whether the operand is one; None of an operand that is no version. It can\n"
+               "be assigned; no copy takes part."), NULL},
     {NULL, NULL, NULL, NULL, NULL},
 };
 
 static PyMemberDef specifier_members[] = {
-    {"_forced", T_OBJECT, offsetof(Specifier, forced), 0, PyDoc_STR("What was said of pre-releases.")},
-    {"_names", T_OBJECT, offsetof(Specifier, names), 0, PyDoc_STR("Whether the operand is a pre-release.")},
-    {"_exact", T_OBJECT, offsetof(Specifier, exact), 0, PyDoc_STR("What compares texts.")},
+    {"operator", T_OBJECT_EX, offsetof(Specifier, operator), READONLY,
+     PyDoc_STR("The operator.")},
+    {"version", T_OBJECT_EX, offsetof(Specifier, version), READONLY,
+     PyDoc_STR("The operand, as it is written.")},
+    {"_exact", T_OBJECT, offsetof(Specifier, judge.exact), 0, PyDoc_STR("What compares texts.")},
     {NULL, 0, 0, 0, NULL},
 };
 
@@ -364,11 +380,13 @@ static PyType_Slot specifier_slots[] = {
     {Py_tp_doc, (void *)PyDoc_STR("Specifier(spec='', prereleases=None)\n--\n\nA specifier: the base of the class in pylock.specifiers.")},
     {Py_tp_new, specifier_new},
     {Py_tp_init, specifier_init},
-    {Py_tp_dealloc, specifier_dealloc},
+    {Py_tp_dealloc, judge_dealloc},
     {Py_tp_traverse, specifier_traverse},
     {Py_tp_clear, specifier_clear},
     {Py_tp_hash, specifier_hash},
     {Py_tp_str, specifier_text},
+    {Py_tp_repr, judge_repr},
+    {Py_sq_contains, judge_in},
     {Py_tp_methods, specifier_methods},
     {Py_tp_getset, specifier_getters},
     {Py_tp_members, specifier_members},
@@ -382,18 +400,17 @@ static PyType_Spec specifier_spec = {
     .slots = specifier_slots,
 };
 
-/* ---- the specifiers of a set ---- */
+/* ---- the specifiers of a text ---- */
 
 static PyObject *specifier_of_span(State *state, const Span *span, PyObject *whole, const Text *view)
 {
-    PyObject *one = new_object(state, state->specifier_class);
+    PyObject *one = (PyObject *)new_judge(state, state->specifier_class);
     if (one != NULL && !give_span((Specifier *)one, span, whole, view)) Py_CLEAR(one);
     return one;
 }
 
-static PyObject *specifiers(PyObject *module, PyObject *text)
+PyObject *specifiers_of_text(State *state, PyObject *text)
 {
-    State *state = state_of(module);
     Text view;
     Spans spans;
     PyObject *items = NULL;
@@ -412,6 +429,11 @@ static PyObject *specifiers(PyObject *module, PyObject *text)
     return items;
 }
 
+static PyObject *specifiers(PyObject *module, PyObject *text)
+{
+    return specifiers_of_text(state_of(module), text);
+}
+
 static PyMethodDef specifier_functions[] = {
     {"specifiers", specifiers, METH_O, PyDoc_STR("The specifiers of a set's text, in its order.")},
     {NULL, NULL, 0, NULL},
@@ -419,6 +441,7 @@ static PyMethodDef specifier_functions[] = {
 
 bool add_specifiers(PyObject *module, State *state)
 {
+    if ((state->operators = made_operators()) == NULL) return false;
     if (!add_type(module, "Specifier", &state->specifier, &specifier_spec)) return false;
     state->specifier_class = (PyTypeObject *)hold((PyObject *)state->specifier);
     return PyModule_AddFunctions(module, specifier_functions) == 0;

@@ -88,35 +88,6 @@ static PyObject *lower_pieces(PyObject *const *given)
     return tuple;
 }
 
-/* ---- memory ---- */
-
-/* An empty tag, in the memory of one that was let go of, if there is any: what Python does for tuples and numbers. */
-static Tag *empty_tag(State *state, PyTypeObject *type)
-{
-    if (type != state->tag || state->spare_count == 0) return (Tag *)new_object(state, type);
-    Tag *tag = (Tag *)PyObject_Init(state->spare_tags[--state->spare_count], type);
-    tag->state = state;
-    state->users++;
-    tag->text = tag->pieces = NULL;
-    PyObject_GC_Track(tag);
-    return tag;
-}
-
-/* Keeps the memory of a tag whose parts were given up, or frees it. */
-static void leave_tag(PyObject *self)
-{
-    State *state = ((Tag *)self)->state;
-    PyTypeObject *type = Py_TYPE(self);
-    if (type != state->tag || state->spare_count == MOST_SPARE_TAGS) {
-        free_object(self);
-        return;
-    }
-    /* the module has its type still, and so its state */
-    state->spare_tags[state->spare_count++] = self;
-    state->users--;
-    Py_DECREF(type);
-}
-
 /* ---- making ---- */
 
 /* A tag of its text, which is in lower case, and of its pieces where they are known; it takes the references over. Python
@@ -124,7 +95,7 @@ static void leave_tag(PyObject *self)
 static PyObject *made_tag(State *state, PyTypeObject *type, PyObject *text, PyObject *pieces)
 {
     Py_hash_t hash = text == NULL ? -1 : short_hash(text);
-    Tag *tag = hash == -1 ? NULL : empty_tag(state, type);
+    Tag *tag = hash == -1 ? NULL : (Tag *)new_object_of(state, type, &state->spare_tags, sizeof(Tag));
     if (tag == NULL) {
         Py_XDECREF(text);
         Py_XDECREF(pieces);
@@ -137,21 +108,38 @@ static PyObject *made_tag(State *state, PyTypeObject *type, PyObject *text, PyOb
     return (PyObject *)tag;
 }
 
-/* The text of three exact str that are short and in lower case; NULL, without an exception, of others. */
-static PyObject *small_text(PyObject *tuple)
+/* Makes the letters of a short piece small, where it is ASCII without a dash. */
+static bool make_small(uint8_t *piece, size_t length)
+{
+    for (size_t place = 0; place < length; place++) {
+        if (piece[place] >= 0x80 || piece[place] == '-') return false;
+        if (piece[place] >= 'A' && piece[place] <= 'Z') piece[place] += 'a' - 'A';
+    }
+    return true;
+}
+
+/* The text of three exact str that are short, in lower case; NULL, without an exception, of others. `is_given` is whether they
+ * were in lower case already; where they weren't, the dashes of the text are those between them alone. */
+static PyObject *small_text(PyObject *tuple, bool *is_given)
 {
     uint8_t near[RESULT_ROOM];
-    size_t written = 0;
+    size_t written = 0, begins[PIECES], lengths[PIECES];
+    *is_given = true;
     for (int index = 0; index < PIECES; index++) {
         Text text;
         PyObject *object = PyTuple_GetItem(tuple, index);
         if (!PyUnicode_CheckExact(object) || !text_of(object, &text)) return NULL;
         if (index > 0) near[written++] = '-';
-        bool is_one = text.length < RESULT_ROOM - written && copy_small(near + written, text.bytes, text.length);
+        bool has_room = text.length < RESULT_ROOM - written;
+        *is_given = has_room && copy_small(near + written, text.bytes, text.length) && *is_given;
+        begins[index] = written;
+        lengths[index] = text.length;
         written += text.length;
         text_done(&text);
-        if (!is_one) return NULL;
+        if (!has_room) return NULL;
     }
+    for (int index = 0; index < PIECES && !*is_given; index++)
+        if (!make_small(near + begins[index], lengths[index])) return NULL;
     return PyUnicode_DecodeLatin1((const char *)near, (Py_ssize_t)written, NULL);
 }
 
@@ -187,10 +175,10 @@ static PyObject *tag_of_call(State *state, PyTypeObject *type, PyObject *argumen
 {
     static char *words[] = {"interpreter", "abi", "platform", NULL};
     PyObject *taken[MOST_TAKEN];
-    bool are_three = named == NULL && PyTuple_CheckExact(arguments) && PyTuple_Size(arguments) == PIECES;
-    PyObject *text = are_three ? small_text(arguments) : NULL;
-    /* the tuple of the call becomes that of the pieces */
-    if (text != NULL) return made_tag(state, type, text, hold(arguments));
+    bool is_given, are_three = named == NULL && PyTuple_CheckExact(arguments) && PyTuple_Size(arguments) == PIECES;
+    PyObject *text = are_three ? small_text(arguments, &is_given) : NULL;
+    /* the tuple of the call becomes that of the pieces; others are cut from the text */
+    if (text != NULL) return made_tag(state, type, text, is_given ? hold(arguments) : NULL);
     if (PyErr_Occurred() || !take_arguments(arguments, named, "OOO:Tag", words, taken)) return NULL;
     PyObject *pieces = lower_pieces(taken);
     let_arguments_go(taken);
@@ -235,7 +223,7 @@ static void tag_dealloc(PyObject *self)
     PyObject_GC_UnTrack(self);
     Py_CLEAR(tag->pieces);
     Py_CLEAR(tag->text);
-    leave_tag(self);
+    leave_object(self, &tag->state->spare_tags);
 }
 
 /* ---- what is asked of a tag ---- */
@@ -435,14 +423,111 @@ PyObject *tags_of(State *state, Record *record)
     return tags;
 }
 
-/* The tags of a text, each part of which may be several pieces. */
-static PyObject *parse_tag(PyObject *module, PyObject *text)
+/* ---- order ---- */
+
+/* The pieces of a part in order, as a text: the part itself where they are. */
+static PyObject *ordered_part(PyObject *part)
 {
-    return record_of_text(state_of(module), pylock_tags, text, "tag", tags_of);
+    if (PyUnicode_FindChar(part, '.', 0, PyUnicode_GetLength(part), 1) < 0) return hold(part);
+    PyObject *dot = PyUnicode_FromString("."), *pieces = dot == NULL ? NULL : PyUnicode_Split(part, dot, -1), *ordered = NULL;
+    if (pieces != NULL && PyList_Sort(pieces) == 0) ordered = PyUnicode_Join(dot, pieces);
+    Py_XDECREF(dot);
+    Py_XDECREF(pieces);
+    return ordered;
 }
 
+int are_in_order(PyObject *parts, Py_ssize_t from, PyObject **part, PyObject **ordered)
+{
+    for (Py_ssize_t index = from < 0 ? 0 : from; index < PyList_Size(parts); index++) {
+        *part = PyList_GetItem(parts, index);
+        if ((*ordered = ordered_part(*part)) == NULL) return -1;
+        if (*ordered != *part && PyUnicode_Compare(*ordered, *part) != 0) return 0;
+        Py_DECREF(*ordered);
+    }
+    return 1;
+}
+
+/* Whether the pieces of each part of a tag are in order, or it is none; else an exception says which aren't. */
+static bool has_order(State *state, PyObject *tag)
+{
+    PyObject *dash = PyUnicode_FromString("-"), *parts = dash == NULL ? NULL : PyUnicode_Split(tag, dash, -1), *part, *ordered;
+    int told = parts == NULL ? -1 : PyList_Size(parts) == PIECES ? are_in_order(parts, 0, &part, &ordered) : 1;
+    if (told == 0) {
+        raise_unlike(state, PYLOCK_TAG_PARTS, part, ordered, "order");
+        Py_DECREF(ordered);
+    }
+    Py_XDECREF(dash);
+    Py_XDECREF(parts);
+    return told == 1;
+}
+
+static bool is_ascii(PyObject *text)
+{
+    Text view;
+    if (!PyUnicode_Check(text) || !text_of(text, &view)) return false;
+    bool is_it = view.length == (size_t)PyUnicode_GetLength(text);
+    text_done(&view);
+    return is_it;
+}
+
+/* parse_tag(tag, *, validate_order=False) */
+static PyObject *parse_tag(PyObject *module, PyObject *const *arguments, Py_ssize_t count, PyObject *names)
+{
+    static const Signature signature = {"parse_tag", "tag", "validate_order"};
+    bool validate_order = false;
+    State *state = state_of(module);
+    PyObject *text = one_and_flag(&signature, arguments, count, names, &validate_order);
+    if (text == NULL) return NULL;
+    /* of ASCII nothing else is refused in a text of three parts, so no tags need to be made before */
+    bool is_checked = !validate_order || is_ascii(text);
+    if (validate_order && is_checked && !has_order(state, text)) return NULL;
+    PyObject *tags = record_of_text(state, pylock_tags, text, "tag", tags_of);
+    if (tags != NULL && !is_checked && !has_order(state, text)) Py_CLEAR(tags);
+    return tags;
+}
+TAKES_NAMES(parse_tag)
+
+/* ---- names of platforms ---- */
+
+/* A text with a number in it, from 0 on: NULL with an exception. */
+static PyObject *numbered_text(const Text *before, long number, const Text *behind)
+{
+    char near[RESULT_ROOM], digits[MOST_OF_DIGITS], *end = digits + sizeof digits, *begin = digits_before(end, (uint64_t)number);
+    size_t count = (size_t)(end - begin), length = before->length + count + behind->length;
+    char *text = length <= RESULT_ROOM ? near : PyMem_Malloc(length);
+    if (text == NULL) return PyErr_NoMemory();
+    memcpy(text, before->bytes, before->length);
+    memcpy(text + before->length, begin, count);
+    memcpy(text + before->length + count, behind->bytes, behind->length);
+    PyObject *result = str_with_halves((const uint8_t *)text, length);
+    if (text != near) PyMem_Free(text);
+    return result;
+}
+
+/* numbered(before, from, last, behind): the texts with the numbers from one down to the last one, from 0 on, in them. */
+static PyObject *numbered(PyObject *module, PyObject *const *arguments, Py_ssize_t count)
+{
+    Text before, behind;
+    (void)module;
+    if (!check_count("numbered", count, 4)) return NULL;
+    long number = PyLong_AsLong(arguments[1]), last = number == -1 && PyErr_Occurred() ? -1 : PyLong_AsLong(arguments[2]);
+    if (PyErr_Occurred() || !text_of(arguments[0], &before)) return NULL;
+    bool is_good = text_of(arguments[3], &behind);
+    PyObject *texts = is_good ? PyList_New(0) : NULL;
+    for (; texts != NULL && number >= last && number >= 0; number--) {
+        PyObject *text = numbered_text(&before, number, &behind);
+        if (text == NULL || PyList_Append(texts, text) < 0 || (number % 256 == 0 && PyErr_CheckSignals() < 0)) Py_CLEAR(texts);
+        Py_XDECREF(text);
+    }
+    text_done(&before);
+    if (is_good) text_done(&behind);
+    return texts;
+}
+TAKES_TUPLE(numbered)
+
 static PyMethodDef tag_functions[] = {
-    {"parse_tag", parse_tag, METH_O, PyDoc_STR("The tags of a text of three parts.")},
+    CALL("numbered", numbered, "The texts with the numbers from one down to another one between two texts."),
+    CALL_NAMED("parse_tag", parse_tag, "parse_tag($module, tag, *, validate_order=False)\n--\n\nThe tags of a text, each part of which may be several pieces with `.` between. With `validate_order` the pieces of a part have to be in order (PEP 425)."),
     {NULL, NULL, 0, NULL},
 };
 
@@ -450,5 +535,6 @@ bool add_tags(PyObject *module, State *state)
 {
     if ((state->tags = PyDict_New()) == NULL || !add_type(module, "Tag", &state->tag, &tag_spec)) return false;
     state->tag_class = (PyTypeObject *)hold((PyObject *)state->tag);
+    state->spare_tags.type = state->tag;
     return PyModule_AddFunctions(module, tag_functions) == 0;
 }

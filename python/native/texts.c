@@ -220,13 +220,133 @@ static bool raise_common(PyObject *maker, int32_t code)
     return true;
 }
 
-void raise_refusal(State *state, int32_t code, PyObject *text, const char *kind)
+/* The places of what an exception is made of: its class, its attributes, and what its message has before the text and behind
+ * it. */
+enum { ERROR, ATTRIBUTES, BEFORE, BEHIND, TOLD };
+
+static bool is_made_of(PyObject *told)
+{
+    if (!PyTuple_CheckExact(told) || PyTuple_Size(told) != TOLD) return false;
+    return PyExceptionClass_Check(PyTuple_GetItem(told, ERROR)) && PyDict_CheckExact(PyTuple_GetItem(told, ATTRIBUTES)) &&
+           PyUnicode_CheckExact(PyTuple_GetItem(told, BEFORE)) && PyUnicode_CheckExact(PyTuple_GetItem(told, BEHIND));
+}
+
+/* Where the refusal of a code is kept: it has one, but another one of these kinds of texts. */
+static PyObject **place_of_refusal(State *state, int32_t code, const char *kind)
+{
+    bool is_own = strcmp(kind, "name") == 0 || strcmp(kind, "order") == 0;
+    return &state->refusals[(size_t)(is_own ? code + MOST_REFUSALS / 2 : code) % MOST_REFUSALS];
+}
+
+/* What the Python layer tells of a code: what the exception is made of, which is kept, or the exception itself. */
+static PyObject *told_refusal(State *state, int32_t code, PyObject *text, const char *kind)
+{
+    PyObject **place = place_of_refusal(state, code, kind);
+    if (*place != NULL) return hold(*place);
+    /* what it runs may give the module another one */
+    PyObject *refuse = hold(state->refuse), *told = PyObject_CallFunction(refuse, "iOs", (int)code, text, kind);
+    if (told != NULL && is_made_of(told) && refuse == state->refuse && *place == NULL) *place = hold(told);
+    let_go(refuse);
+    return told;
+}
+
+enum { LONGEST_SHOWN = 200 };
+
+/* A text as a message shows it: the beginning of a long one. */
+static PyObject *shown_text(PyObject *text)
+{
+    if (!PyUnicode_Check(text) || PyUnicode_GetLength(text) <= LONGEST_SHOWN) return hold(text);
+    PyObject *beginning = PyUnicode_Substring(text, 0, LONGEST_SHOWN);
+    PyObject *shown = beginning == NULL ? NULL : PyUnicode_FromFormat("%U...", beginning);
+    Py_XDECREF(beginning);
+    return shown;
+}
+
+/* Keeps the text that is refused, where the attributes have a place for it: `str` of the exception looks at it. */
+static int keep_source(PyObject *attributes, PyObject *text)
+{
+    return PyDict_GetItemString(attributes, "source") == NULL ? 0 : PyDict_SetItemString(attributes, "source", text);
+}
+
+/* An exception of a class of the Python layer with a message and attributes, without its `__init__`, which does no more. */
+static PyObject *new_refusal(PyObject *error, PyObject *attributes, PyObject *message, PyObject *text)
+{
+    newfunc make = (newfunc)PyType_GetSlot((PyTypeObject *)error, Py_tp_new);
+    PyObject *arguments = make == NULL ? NULL : PyTuple_Pack(1, message), *own = arguments == NULL ? NULL : PyDict_Copy(attributes);
+    PyObject *exception = own == NULL ? NULL : make((PyTypeObject *)error, arguments, NULL);
+    if (exception != NULL && (keep_source(own, text) < 0 || PyObject_GenericSetDict(exception, own, NULL) < 0)) Py_CLEAR(exception);
+    Py_XDECREF(arguments);
+    Py_XDECREF(own);
+    return exception;
+}
+
+/* Puts a text behind others: false where there is no room, or with an exception. */
+static bool add_text(Result *message, PyObject *text)
+{
+    Text view;
+    if (!text_of(text, &view)) return false;
+    bool has_room = view.length <= RESULT_ROOM - message->length;
+    if (has_room) memcpy(message->near + message->length, view.bytes, view.length);
+    message->length += has_room ? view.length : 0;
+    text_done(&view);
+    return has_room;
+}
+
+/* The same of its `repr`, where that is the text with a quote before and behind it; of others false. */
+static bool add_quoted(Result *message, PyObject *text)
+{
+    Text view;
+    if (!PyUnicode_CheckExact(text) || !text_of(text, &view)) return false;
+    bool is_one = view.length + 2 <= RESULT_ROOM - message->length;
+    uint8_t *at = message->near + message->length;
+    if (is_one) *at++ = '\'';
+    for (size_t place = 0; is_one && place < view.length; place++) {
+        uint8_t letter = *at++ = view.bytes[place];
+        is_one = letter >= ' ' && letter <= '~' && letter != '\'' && letter != '\\';
+    }
+    if (is_one) *at++ = '\'';
+    text_done(&view);
+    message->length = (size_t)(at - message->near);
+    return is_one;
+}
+
+/* The message of two texts as they are and one or two as their `repr` is; most are short. */
+static PyObject *message_of(PyObject *before, PyObject *shown, PyObject *behind, PyObject *other)
+{
+    Result message;
+    message.length = 0;
+    if (add_text(&message, before) && add_quoted(&message, shown) && add_text(&message, behind) && (other == NULL || add_quoted(&message, other)))
+        return str_of(message.near, message.length);
+    if (PyErr_Occurred()) return NULL;
+    return other == NULL ? PyUnicode_FromFormat("%U%R%U", before, shown, behind)
+                         : PyUnicode_FromFormat("%U%R%U%R", before, shown, behind, other);
+}
+
+static PyObject *refusal_of(PyObject *told, PyObject *text, PyObject *other)
+{
+    PyObject *shown = shown_text(text);
+    PyObject *message = shown == NULL ? NULL : message_of(PyTuple_GetItem(told, BEFORE), shown, PyTuple_GetItem(told, BEHIND), other);
+    PyObject *exception = message == NULL ? NULL : new_refusal(PyTuple_GetItem(told, ERROR), PyTuple_GetItem(told, ATTRIBUTES), message, text);
+    Py_XDECREF(shown);
+    Py_XDECREF(message);
+    return exception;
+}
+
+void raise_unlike(State *state, int32_t code, PyObject *text, PyObject *other, const char *kind)
 {
     if (raise_common(state->refuse, code)) return;
-    /* what it runs may give the module another one */
-    PyObject *maker = hold(state->refuse);
-    raise_made(PyObject_CallFunction(maker, "iOs", (int)code, text, kind));
-    let_go(maker);
+    PyObject *told = told_refusal(state, code, text, kind);
+    if (told == NULL || !is_made_of(told)) {
+        raise_made(told);
+        return;
+    }
+    raise_made(refusal_of(told, text, other));
+    Py_DECREF(told);
+}
+
+void raise_refusal(State *state, int32_t code, PyObject *text, const char *kind)
+{
+    raise_unlike(state, code, text, NULL, kind);
 }
 
 void raise_input(State *state, int32_t code, pylock_text *words, PyObject *lock, PyObject *environment, bool json)

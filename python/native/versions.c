@@ -1,30 +1,45 @@
-/* Versions: a text, its place in the order, and its parts where they were asked for. */
+/* Versions: a text, its place in the order, and its parts. */
 #include "native.h"
 
-enum { KEY_ROOM = 32 };
+#include <stddef.h>
+#include <structmember.h>
+
+enum { KEY_ROOM = 16, FAR_KEY = KEY_ROOM + 1, USUAL_KEY = 64, MOST_OF_BASE = 0xffff };
 
 typedef struct {
     PyObject_HEAD
     State *state;
-    /* as it was given; this and what follows up to the hash is asked most, and lies near */
+    /* as it was given */
     PyObject *text;
-    /* the order key lies in `near`, or in memory of its own; of a text that the library gave it is found when it is used,
-     * and its length is 0 until then */
-    uint8_t *key;
-    size_t length;
-    /* found with the key */
-    pylock_version_kind kind;
-    /* -1 until it was asked for */
-    Py_hash_t hash;
-    uint8_t near[KEY_ROOM];
     /* the normal form: NULL until it was asked for */
     PyObject *normal;
-    /* the numbers, and where the parts of the normal form end: NULL until they were asked for */
-    PyObject *numbers;
-    size_t base, public_end;
+    /* what is read as members, which Python does without a call: NULL as long as there is no text */
+    PyObject *epoch, *release, *pre, *post, *dev, *local, *is_prerelease;
+    /* the order key: in `near`, or where it is longer in memory of its own */
+    union {
+        uint8_t near[KEY_ROOM];
+        struct {
+            uint8_t *bytes;
+            size_t length;
+        } far;
+    } key;
+    /* -1 until it was asked for; else 30 bits */
+    int32_t hash;
+    /* the length of the normal form's epoch and release, or 0 where it is to be asked for */
+    uint16_t base;
+    /* the length of a key in `near`, or FAR_KEY; 0 until there is one, of a text that the library gave */
+    uint8_t key_length;
+    /* whether the text is its normal form */
+    bool is_normal;
 } Version;
 
-/* ---- making ---- */
+/* The parts of a version as Python has them. */
+typedef struct {
+    PyObject *epoch, *release, *pre, *post, *dev, *local;
+    size_t base;
+} Parts;
+
+/* ---- the key ---- */
 
 PyObject *version_text(PyObject *self)
 {
@@ -33,245 +48,66 @@ PyObject *version_text(PyObject *self)
     return text;
 }
 
-/* Finds the key and the kind. */
-static int32_t find_key(Version *version, const Text *text)
+/* Gives a version a key, whose bytes lie elsewhere: false without memory. */
+static bool keep_key(Version *version, const uint8_t *bytes, size_t length)
 {
-    size_t length = 0;
-    pylock_version_kind kind;
-    int32_t code = pylock_version_read(text->bytes, text->length, version->near, KEY_ROOM, &length, &kind);
-    uint8_t *key = version->near;
-    if (code == PYLOCK_ROOM) {
-        if ((key = PyMem_Malloc(length)) == NULL) return PYLOCK_MEMORY;
-        code = pylock_version_read(text->bytes, text->length, key, length, &length, &kind);
-        if (code != PYLOCK_OK) PyMem_Free(key);
+    uint8_t *own = length <= KEY_ROOM ? version->key.near : PyMem_Malloc(length);
+    if (own == NULL) return false;
+    memcpy(own, bytes, length);
+    if (length > KEY_ROOM) {
+        version->key.far.bytes = own;
+        version->key.far.length = length;
     }
-    if (code != PYLOCK_OK) return code;
-    version->key = key;
-    version->length = length;
-    version->kind = kind;
+    version->key_length = length <= KEY_ROOM ? (uint8_t)length : FAR_KEY;
+    return true;
+}
+
+/* Finds the key of a version that has none, and the kind. */
+static int32_t find_key(Version *version, const Text *text, pylock_version_kind *kind)
+{
+    uint8_t near[USUAL_KEY];
+    Result result;
+    size_t length = 0;
+    int32_t code = pylock_version_read(text->bytes, text->length, near, USUAL_KEY, &length, kind);
+    if (code == PYLOCK_OK) return keep_key(version, near, length) ? code : PYLOCK_MEMORY;
+    if (code != PYLOCK_ROOM) return code;
+    /* the kind is told already */
+    code = result_of_text(pylock_version_key, text, &result);
+    if (code == PYLOCK_OK && !keep_key(version, result.bytes, result.length)) code = PYLOCK_MEMORY;
+    result_done(&result);
     return code;
 }
 
-static Version *empty_version(State *state, PyTypeObject *type)
+static inline const uint8_t *key_of(const Version *version, size_t *length)
 {
-    Version *version = (Version *)new_object(state, type);
-    if (version == NULL) return NULL;
-    version->hash = -1;
-    version->key = version->near;
-    return version;
-}
-
-static bool no_change(void)
-{
-    PyErr_SetString(PyExc_TypeError, "a version can't be changed");
-    return false;
-}
-
-/* Reads the text into a version that has none: whole, or not at all. */
-static bool read_version(Version *version, PyObject *text)
-{
-    Text view;
-    if (!text_of(text, &view)) return false;
-    PyObject *kept = exact_text(text);
-    /* finalizers may have run meanwhile; from here on nothing does but the library */
-    bool is_new = version->text == NULL;
-    int32_t code = kept == NULL ? PYLOCK_MEMORY : is_new ? find_key(version, &view) : PYLOCK_OK;
-    text_done(&view);
-    if (kept != NULL && is_new && code == PYLOCK_OK) {
-        version->text = kept;
-        return true;
-    }
-    Py_XDECREF(kept);
-    if (!is_new) return no_change();
-    raise_refusal(version->state, code, text, "version");
-    return false;
-}
-
-PyObject *version_of_text(State *state, PyTypeObject *type, PyObject *text)
-{
-    Version *version = empty_version(state, type);
-    if (version != NULL && !read_version(version, text)) Py_CLEAR(version);
-    return (PyObject *)version;
-}
-
-PyObject *version_of_normal(State *state, PyObject *text)
-{
-    Version *version = empty_version(state, state->version_class);
-    if (version == NULL) return NULL;
-    version->text = hold(text);
-    version->normal = hold(text);
-    return (PyObject *)version;
+    bool is_far = version->key_length == FAR_KEY;
+    *length = is_far ? version->key.far.length : version->key_length;
+    return is_far ? version->key.far.bytes : version->key.near;
 }
 
 static bool read_key(Version *version)
 {
     Text view;
+    pylock_version_kind kind;
     PyObject *text = version_text((PyObject *)version);
     if (text == NULL || !text_of(text, &view)) return false;
-    int32_t code = find_key(version, &view);
+    /* what else ran meanwhile may have found it too */
+    int32_t code = version->key_length > 0 ? PYLOCK_OK : find_key(version, &view, &kind);
     text_done(&view);
     if (code != PYLOCK_OK) raise_refusal(version->state, code, text, "version");
     return code == PYLOCK_OK;
 }
 
-/* Whether the version has its key and its kind; else an exception says why not. */
+/* Whether the version has its key; else an exception says why not. */
 static inline bool has_key(Version *version)
 {
-    return version->length > 0 || read_key(version);
+    return version->key_length > 0 || read_key(version);
 }
 
-/* The text of a call, which is held: NULL with an exception. */
-static inline PyObject *given_version(PyObject *arguments, PyObject *named)
-{
-    static char *words[] = {"version", NULL};
-    PyObject *taken[MOST_TAKEN];
-    if (named == NULL && PyTuple_Size(arguments) == 1) return hold(PyTuple_GetItem(arguments, 0));
-    return take_arguments(arguments, named, "O:Version", words, taken) ? taken[0] : NULL;
-}
+/* ---- the parts ---- */
 
-/* A version that has a text is the one of this text, which its maker has read already. */
-static bool is_of_text(Version *version, PyObject *text)
-{
-    if (text == version->text || (PyUnicode_Check(text) && PyUnicode_Compare(text, version->text) == 0)) return true;
-    return no_change();
-}
-
-/* A class that is made from this one may have an __init__ of its own, and call that of its base with the text. */
-static int version_init(PyObject *self, PyObject *arguments, PyObject *named)
-{
-    Version *version = (Version *)self;
-    PyObject *text = given_version(arguments, named);
-    if (text == NULL) return -1;
-    bool is_good = version->text == NULL ? read_version(version, text) : is_of_text(version, text);
-    let_go(text);
-    return is_good ? 0 : -1;
-}
-
-static PyObject *version_new(PyTypeObject *type, PyObject *arguments, PyObject *named)
-{
-    State *state = state_of_type(type);
-    if (state == NULL) return NULL;
-    /* without an argument it is to be read by a pickle, or its __init__ refuses it */
-    bool is_to_be_read = named == NULL && PyTuple_Size(arguments) == 0;
-    if (is_to_be_read || PyType_GetSlot(type, Py_tp_init) != (void *)version_init) return (PyObject *)empty_version(state, type);
-    PyObject *text = given_version(arguments, named);
-    PyObject *version = text == NULL ? NULL : version_of_text(state, type, text);
-    let_go(text);
-    return version;
-}
-
-static int version_traverse(PyObject *self, visitproc visit, void *arg)
-{
-    Version *version = (Version *)self;
-    Py_VISIT(version->numbers);
-    return visit_type_in(self, visit, arg, version_traverse);
-}
-
-static void version_dealloc(PyObject *self)
-{
-    Version *version = (Version *)self;
-    PyObject_GC_UnTrack(self);
-    Py_CLEAR(version->text);
-    Py_CLEAR(version->normal);
-    Py_CLEAR(version->numbers);
-    if (version->key != version->near) PyMem_Free(version->key);
-    free_object(self);
-}
-
-/* ---- order ---- */
-
-static int order_of(const Version *left, const Version *right)
-{
-    size_t shorter = left->length < right->length ? left->length : right->length;
-    int order = memcmp(left->key, right->key, shorter);
-    if (order != 0) return order;
-    return (left->length > right->length) - (left->length < right->length);
-}
-
-static PyObject *version_compare(PyObject *left, PyObject *right, int how)
-{
-    bool told = false;
-    if (Py_TYPE(left) != Py_TYPE(right) && !is_of(right, ((Version *)left)->state->version)) {
-        Py_INCREF(Py_NotImplemented);
-        return Py_NotImplemented;
-    }
-    if (!has_key((Version *)left) || !has_key((Version *)right)) return NULL;
-    int order = order_of((Version *)left, (Version *)right);
-    switch (how) {
-    case Py_LT: told = order < 0; break;
-    case Py_LE: told = order <= 0; break;
-    case Py_EQ: told = order == 0; break;
-    case Py_NE: told = order != 0; break;
-    case Py_GT: told = order > 0; break;
-    case Py_GE: told = order >= 0; break;
-    }
-    return PyBool_FromLong(told);
-}
-
-static Py_hash_t version_hash(PyObject *self)
-{
-    Version *version = (Version *)self;
-    if (version->hash != -1) return version->hash;
-    if (!has_key(version)) return -1;
-    /* Python mixes bytes with a secret: who chooses versions can't make them fall together */
-    PyObject *key = PyBytes_FromStringAndSize((const char *)version->key, (Py_ssize_t)version->length);
-    if (key == NULL) return -1;
-    version->hash = short_hash(key);
-    Py_DECREF(key);
-    return version->hash;
-}
-
-/* ---- the normal form ---- */
-
-static int32_t with_zeros(const uint8_t *text, size_t length, uint8_t *out, size_t room, size_t *needed)
-{
-    return pylock_version_normal(text, length, false, out, room, needed);
-}
-
-static int32_t without_zeros(const uint8_t *text, size_t length, uint8_t *out, size_t room, size_t *needed)
-{
-    return pylock_version_normal(text, length, true, out, room, needed);
-}
-
-PyObject *canonical_version(State *state, PyObject *item, bool strip)
-{
-    PyObject *text = given_text(state, item), *canonical = NULL;
-    Text view;
-    Result result;
-    if (text == NULL || !text_of(text, &view)) return NULL;
-    int32_t code = result_of_text(strip ? without_zeros : with_zeros, &view, &result);
-    if (code == PYLOCK_OK)
-        canonical = str_of_result(&result, text, &view);
-    else if (is_no_version(code))
-        canonical = hold(item);
-    else
-        raise_refusal(state, code, text, "version");
-    result_done(&result);
-    text_done(&view);
-    return canonical;
-}
-
-PyObject *version_normal(PyObject *self)
-{
-    Version *version = (Version *)self;
-    if (version->normal == NULL) {
-        if (!has_key(version)) return NULL;
-        PyObject *normal = version->kind.is_normal ? hold(version->text) : canonical_version(version->state, self, false);
-        if (normal == NULL) return NULL;
-        /* what else ran meanwhile may have found it too */
-        if (version->normal == NULL)
-            version->normal = normal;
-        else
-            Py_DECREF(normal);
-    }
-    return hold(version->normal);
-}
-
-/* ---- the numbers ---- */
-
-/* the places of the numbers; of a release of so many there is room here */
-enum { EPOCH, RELEASE, PRE, POST, DEV, NUMBERS };
-enum { RELEASE_ROOM = 16, WORDS_OF_NUMBER = 2 };
+/* of a release of so many numbers there is room here */
+enum { RELEASE_ROOM = 16, WORDS_OF_NUMBER = 2, MOST_DIGITS = 9 };
 
 static PyObject *number_of(uint64_t low, uint64_t high)
 {
@@ -307,116 +143,487 @@ static PyObject *release_of(const uint64_t *words, size_t count)
     return release;
 }
 
-static PyObject *numbers_of(const pylock_version_parts *parts, const uint64_t *words, size_t count)
+static void let_parts_go(Parts *parts)
 {
-    PyObject *each[NUMBERS] = {NULL}, *numbers = NULL;
-    if ((each[EPOCH] = number_of(parts->epoch_low, parts->epoch_high)) != NULL &&
-        (each[RELEASE] = release_of(words, count)) != NULL && (each[PRE] = prerelease_of(parts)) != NULL &&
-        (each[POST] = number_or_none(parts->has_post, parts->post_low, parts->post_high)) != NULL &&
-        (each[DEV] = number_or_none(parts->has_dev, parts->dev_low, parts->dev_high)) != NULL)
-        numbers = PyTuple_Pack(NUMBERS, each[EPOCH], each[RELEASE], each[PRE], each[POST], each[DEV]);
-    for (int place = 0; place < NUMBERS; place++) Py_XDECREF(each[place]);
-    return numbers;
+    Py_CLEAR(parts->epoch);
+    Py_CLEAR(parts->release);
+    Py_CLEAR(parts->pre);
+    Py_CLEAR(parts->post);
+    Py_CLEAR(parts->dev);
+    Py_CLEAR(parts->local);
 }
 
-/* The numbers of the text, and the parts with them: NULL with an exception. */
-static PyObject *split_text(State *state, PyObject *text, pylock_version_parts *parts)
+static int32_t with_zeros(const uint8_t *text, size_t length, uint8_t *out, size_t room, size_t *needed)
+{
+    return pylock_version_normal(text, length, false, out, room, needed);
+}
+
+static int32_t without_zeros(const uint8_t *text, size_t length, uint8_t *out, size_t room, size_t *needed)
+{
+    return pylock_version_normal(text, length, true, out, room, needed);
+}
+
+/* The local part stands behind its sign at the end of the normal form. */
+static PyObject *local_of(const Text *text, size_t public_end)
+{
+    Result normal;
+    PyObject *local = NULL;
+    int32_t code = result_of_text(with_zeros, text, &normal);
+    if (code != PYLOCK_OK)
+        PyErr_NoMemory();
+    else
+        local = public_end == normal.length ? hold(Py_None) : str_of(normal.bytes + public_end + 1, normal.length - public_end - 1);
+    result_done(&normal);
+    return local;
+}
+
+/* Python's own of the library's parts: false with an exception. */
+static bool made_parts(const pylock_version_parts *read, const uint64_t *words, size_t count, const Text *text, Parts *parts)
+{
+    parts->base = read->base;
+    if ((parts->epoch = number_of(read->epoch_low, read->epoch_high)) != NULL && (parts->release = release_of(words, count)) != NULL &&
+        (parts->pre = prerelease_of(read)) != NULL &&
+        (parts->post = number_or_none(read->has_post, read->post_low, read->post_high)) != NULL &&
+        (parts->dev = number_or_none(read->has_dev, read->dev_low, read->dev_high)) != NULL &&
+        (parts->local = memchr(text->bytes, '+', text->length) == NULL ? hold(Py_None) : local_of(text, read->public_end)) != NULL)
+        return true;
+    let_parts_go(parts);
+    return false;
+}
+
+/* Reads the numbers of a text of a few short ones with dots between, as most texts are, and gives how many they are; else 0. */
+static Py_ssize_t plain_numbers(const Text *text, long *numbers)
+{
+    const uint8_t *at = text->bytes, *end = at + text->length;
+    for (Py_ssize_t count = 0; count < RELEASE_ROOM; at++) {
+        const uint8_t *begin = at;
+        long number = 0;
+        for (; at < end && *at >= '0' && *at <= '9'; at++) {
+            if (at - begin == MOST_DIGITS) return 0;
+            number = 10 * number + (*at - '0');
+        }
+        if (at == begin) return 0;
+        numbers[count++] = number;
+        if (at == end) return count;
+        if (*at != '.') return 0;
+    }
+    return 0;
+}
+
+/* The parts of a text of numbers alone: what the library has as these where it takes the text, which the tests compare, without
+ * the time that a call of it takes. False with an exception. */
+static bool plain_parts(const long *numbers, Py_ssize_t count, Parts *parts)
+{
+    PyObject *release = PyTuple_New(count);
+    for (Py_ssize_t index = 0; release != NULL && index < count; index++) {
+        PyObject *number = PyLong_FromLong(numbers[index]);
+        if (number == NULL || PyTuple_SetItem(release, index, number) < 0) Py_CLEAR(release);
+    }
+    if (release == NULL) return false;
+    /* a small number is there always */
+    *parts = (Parts){PyLong_FromLong(0), release, hold(Py_None), hold(Py_None), hold(Py_None), hold(Py_None), 0};
+    return true;
+}
+
+/* What the library tells of a text in one call. */
+typedef struct {
+    uint8_t *key;
+    uint64_t *words;
+    size_t key_length, count;
+    pylock_version_kind kind;
+    pylock_version_parts parts;
+    uint8_t near_key[USUAL_KEY];
+    uint64_t near_words[RELEASE_ROOM * WORDS_OF_NUMBER];
+} Whole;
+
+static void whole_done(const Whole *whole)
+{
+    if (whole->key != whole->near_key) PyMem_Free(whole->key);
+    if (whole->words != whole->near_words) PyMem_Free(whole->words);
+}
+
+static int32_t ask_whole(const Text *text, Whole *whole, size_t key_room, size_t room)
+{
+    return pylock_version_whole(text->bytes, text->length, whole->key, key_room, &whole->key_length, &whole->kind, &whole->parts,
+                                whole->words, room, &whole->count);
+}
+
+/* Fills it, with room for long ones where these are: `whole_done` gives that back. */
+static int32_t read_whole(const Text *text, Whole *whole)
+{
+    whole->key = whole->near_key;
+    whole->words = whole->near_words;
+    int32_t code = ask_whole(text, whole, USUAL_KEY, RELEASE_ROOM * WORDS_OF_NUMBER);
+    if (code != PYLOCK_ROOM) return code;
+    size_t key_room = whole->key_length, room = whole->count;
+    whole->key = PyMem_Malloc(key_room);
+    whole->words = PyMem_Malloc(room * sizeof *whole->words);
+    return whole->key == NULL || whole->words == NULL ? PYLOCK_MEMORY : ask_whole(text, whole, key_room, room);
+}
+
+/* Gives a version its parts, which it takes over. */
+static void set_parts(Version *version, Parts *parts, bool is_prerelease)
+{
+    version->epoch = parts->epoch;
+    version->release = parts->release;
+    version->pre = parts->pre;
+    version->post = parts->post;
+    version->dev = parts->dev;
+    version->local = parts->local;
+    version->base = parts->base > MOST_OF_BASE ? 0 : (uint16_t)parts->base;
+    version->is_prerelease = hold(is_prerelease ? Py_True : Py_False);
+}
+
+/* ---- making ---- */
+
+static Version *empty_version(State *state, PyTypeObject *type)
+{
+    Version *version = (Version *)new_object_of(state, type, &state->spare_versions, sizeof(Version));
+    if (version != NULL) version->hash = -1;
+    return version;
+}
+
+static bool no_change(void)
+{
+    PyErr_SetString(PyExc_TypeError, "a version can't be changed");
+    return false;
+}
+
+/* Gives a version what was found of its text, which nothing else gave it meanwhile. */
+static void set_found(Version *version, PyObject *text, const pylock_version_kind *kind, Parts *parts)
+{
+    version->text = hold(text);
+    version->is_normal = kind->is_normal;
+    set_parts(version, parts, kind->is_prerelease);
+}
+
+/* Finds what a version is by a text of these numbers alone: false with its parts where the library doesn't take it. */
+static bool find_plain(Version *version, PyObject *text, const Text *view, const long *numbers, Py_ssize_t count, int32_t *code)
+{
+    Parts parts = {.epoch = NULL};
+    pylock_version_kind kind = {false};
+    *code = PYLOCK_OK;
+    if (!plain_parts(numbers, count, &parts)) return false;
+    /* finalizers may have run meanwhile; from here on nothing does but the library */
+    if (version->text == NULL && (*code = find_key(version, view, &kind)) == PYLOCK_OK) {
+        set_found(version, text, &kind, &parts);
+        return true;
+    }
+    let_parts_go(&parts);
+    return false;
+}
+
+/* The same of any text. */
+static bool find_whole(Version *version, PyObject *text, const Text *view, int32_t *code)
+{
+    Whole whole;
+    Parts parts = {.epoch = NULL};
+    *code = read_whole(view, &whole);
+    bool is_good = *code == PYLOCK_OK && made_parts(&whole.parts, whole.words, whole.count, view, &parts);
+    /* as above */
+    is_good = is_good && version->text == NULL;
+    if (is_good && !keep_key(version, whole.key, whole.key_length)) {
+        is_good = false;
+        *code = PYLOCK_MEMORY;
+    }
+    if (is_good)
+        set_found(version, text, &whole.kind, &parts);
+    else
+        let_parts_go(&parts);
+    whole_done(&whole);
+    return is_good;
+}
+
+/* Gives a version that has no text this one, as `given` is read, and what it is by it: whole, or not at all. */
+static bool set_text(Version *version, PyObject *text, const Text *view, PyObject *given)
+{
+    int32_t code;
+    long numbers[RELEASE_ROOM];
+    Py_ssize_t count = plain_numbers(view, numbers);
+    bool is_good = count > 0 ? find_plain(version, text, view, numbers, count, &code) : find_whole(version, text, view, &code);
+    if (is_good) return true;
+    if (version->text != NULL)
+        no_change();
+    else if (code != PYLOCK_OK)
+        raise_refusal(version->state, code, given, "version");
+    return false;
+}
+
+/* Reads the text into a version that has none. */
+static bool read_version(Version *version, PyObject *given)
 {
     Text view;
-    uint64_t near[RELEASE_ROOM * WORDS_OF_NUMBER], *words = near;
-    size_t count = 0, room = sizeof near / sizeof *near;
-    PyObject *numbers = NULL;
-    if (!text_of(text, &view)) return NULL;
-    int32_t code = pylock_version_split(view.bytes, view.length, parts, words, room, &count);
-    if (code == PYLOCK_ROOM) {
-        words = PyMem_Malloc(count * sizeof *words);
-        code = words == NULL ? PYLOCK_MEMORY : pylock_version_split(view.bytes, view.length, parts, words, count, &count);
-    }
+    if (!text_of(given, &view)) return false;
+    PyObject *text = exact_text(given);
+    bool is_good = text != NULL && set_text(version, text, &view, given);
     text_done(&view);
-    if (code == PYLOCK_OK)
-        numbers = numbers_of(parts, words, count);
-    else
-        raise_refusal(state, code, text, "version");
-    if (words != near) PyMem_Free(words);
-    return numbers;
+    Py_XDECREF(text);
+    return is_good;
 }
 
-/* Whether the version has its numbers and parts; else an exception says why not. */
-static bool has_numbers(Version *version)
+PyObject *version_of_text(State *state, PyTypeObject *type, PyObject *text)
 {
-    pylock_version_parts parts;
-    if (version->numbers != NULL) return true;
-    PyObject *text = version_text((PyObject *)version);
-    PyObject *numbers = text == NULL ? NULL : split_text(version->state, text, &parts);
-    if (numbers == NULL) return false;
-    version->base = parts.base;
-    version->public_end = parts.public_end;
-    /* what else ran meanwhile may have found them too */
-    if (version->numbers == NULL)
-        version->numbers = numbers;
-    else
-        Py_DECREF(numbers);
+    Version *version = empty_version(state, type);
+    if (version != NULL && !read_version(version, text)) Py_CLEAR(version);
+    return (PyObject *)version;
+}
+
+/* Gives a new version a normal form of numbers and dots, without its key: false where the text is another, or with an
+ * exception. */
+static bool set_plain_text(Version *version, PyObject *text, const Text *view)
+{
+    Parts parts;
+    long numbers[RELEASE_ROOM];
+    Py_ssize_t count = plain_numbers(view, numbers);
+    if (count == 0 || !plain_parts(numbers, count, &parts)) return false;
+    version->text = hold(text);
+    version->is_normal = true;
+    set_parts(version, &parts, false);
     return true;
+}
+
+PyObject *version_of_normal(State *state, PyObject *text)
+{
+    Text view;
+    if (!text_of(text, &view)) return NULL;
+    Version *version = empty_version(state, state->version_class);
+    if (version != NULL && !set_plain_text(version, text, &view) && (PyErr_Occurred() || !set_text(version, text, &view, text)))
+        Py_CLEAR(version);
+    text_done(&view);
+    return (PyObject *)version;
+}
+
+/* The text of a call, which is held: NULL with an exception. */
+static inline PyObject *given_version(PyObject *arguments, PyObject *named)
+{
+    static char *words[] = {"version", NULL};
+    PyObject *taken[MOST_TAKEN];
+    if (named == NULL && PyTuple_Size(arguments) == 1) return hold(PyTuple_GetItem(arguments, 0));
+    return take_arguments(arguments, named, "O:Version", words, taken) ? taken[0] : NULL;
+}
+
+/* A version that has a text is the one of this text, which its maker has read already. */
+static bool is_of_text(Version *version, PyObject *text)
+{
+    if (text == version->text || (PyUnicode_Check(text) && PyUnicode_Compare(text, version->text) == 0)) return true;
+    return no_change();
+}
+
+/* A class that is made from this one may have an __init__ of its own, and call that of its base with the text. */
+static int version_init(PyObject *self, PyObject *arguments, PyObject *named)
+{
+    Version *version = (Version *)self;
+    /* as it was made of it already */
+    if (named == NULL && version->text != NULL && PyTuple_Size(arguments) == 1 && PyTuple_GetItem(arguments, 0) == version->text) return 0;
+    PyObject *text = given_version(arguments, named);
+    if (text == NULL) return -1;
+    bool is_good = version->text == NULL ? read_version(version, text) : is_of_text(version, text);
+    let_go(text);
+    return is_good ? 0 : -1;
+}
+
+static PyObject *version_new(PyTypeObject *type, PyObject *arguments, PyObject *named)
+{
+    State *state = state_of_type(type);
+    if (state == NULL) return NULL;
+    Py_ssize_t count = named == NULL ? PyTuple_Size(arguments) : -1;
+    /* without an argument it is to be read by a pickle, or its __init__ refuses it */
+    if (count == 0 || PyType_GetSlot(type, Py_tp_init) != (void *)version_init) return (PyObject *)empty_version(state, type);
+    PyObject *text = count == 1 ? hold(PyTuple_GetItem(arguments, 0)) : given_version(arguments, named);
+    PyObject *version = text == NULL ? NULL : version_of_text(state, type, text);
+    let_go(text);
+    return version;
+}
+
+static int version_traverse(PyObject *self, visitproc visit, void *arg)
+{
+    Version *version = (Version *)self;
+    Py_VISIT(version->release);
+    Py_VISIT(version->pre);
+    return visit_type_in(self, visit, arg, version_traverse);
+}
+
+static void version_dealloc(PyObject *self)
+{
+    Version *version = (Version *)self;
+    PyObject_GC_UnTrack(self);
+    Py_XDECREF(version->text);
+    Py_XDECREF(version->normal);
+    Py_XDECREF(version->epoch);
+    Py_XDECREF(version->release);
+    Py_XDECREF(version->pre);
+    Py_XDECREF(version->post);
+    Py_XDECREF(version->dev);
+    Py_XDECREF(version->local);
+    Py_XDECREF(version->is_prerelease);
+    if (version->key_length == FAR_KEY) PyMem_Free(version->key.far.bytes);
+    leave_object(self, &version->state->spare_versions);
+}
+
+/* ---- order ---- */
+
+static int order_of(const Version *left, const Version *right)
+{
+    size_t length, other_length;
+    const uint8_t *key = key_of(left, &length), *other_key = key_of(right, &other_length);
+    int order = memcmp(key, other_key, length < other_length ? length : other_length);
+    if (order != 0) return order;
+    return (length > other_length) - (length < other_length);
+}
+
+static PyObject *version_compare(PyObject *left, PyObject *right, int how)
+{
+    bool told = false;
+    if (Py_TYPE(left) != Py_TYPE(right) && !is_of(right, ((Version *)left)->state->version)) {
+        Py_INCREF(Py_NotImplemented);
+        return Py_NotImplemented;
+    }
+    if (!has_key((Version *)left) || !has_key((Version *)right)) return NULL;
+    int order = order_of((Version *)left, (Version *)right);
+    switch (how) {
+    case Py_LT: told = order < 0; break;
+    case Py_LE: told = order <= 0; break;
+    case Py_EQ: told = order == 0; break;
+    case Py_NE: told = order != 0; break;
+    case Py_GT: told = order > 0; break;
+    case Py_GE: told = order >= 0; break;
+    }
+    return PyBool_FromLong(told);
+}
+
+/* The key as Python's bytes: NULL with an exception. */
+static PyObject *key_bytes(Version *version)
+{
+    size_t length;
+    if (!has_key(version)) return NULL;
+    const uint8_t *key = key_of(version, &length);
+    return PyBytes_FromStringAndSize((const char *)key, (Py_ssize_t)length);
+}
+
+static Py_hash_t version_hash(PyObject *self)
+{
+    Version *version = (Version *)self;
+    if (version->hash != -1) return version->hash;
+    /* Python mixes bytes with a secret: who chooses versions can't make them fall together */
+    PyObject *key = key_bytes(version);
+    if (key == NULL) return -1;
+    version->hash = (int32_t)short_hash(key);
+    Py_DECREF(key);
+    return version->hash;
+}
+
+/* ---- the normal form ---- */
+
+PyObject *canonical_version(State *state, PyObject *item, bool strip)
+{
+    PyObject *text = given_text(state, item), *canonical = NULL;
+    Text view;
+    Result result;
+    if (text == NULL || !text_of(text, &view)) return NULL;
+    int32_t code = result_of_text(strip ? without_zeros : with_zeros, &view, &result);
+    if (code == PYLOCK_OK)
+        canonical = str_of_result(&result, text, &view);
+    else if (is_no_version(code))
+        canonical = hold(item);
+    else
+        raise_refusal(state, code, text, "version");
+    result_done(&result);
+    text_done(&view);
+    return canonical;
+}
+
+PyObject *version_normal(PyObject *self)
+{
+    Version *version = (Version *)self;
+    if (version->normal == NULL) {
+        if (version_text(self) == NULL) return NULL;
+        PyObject *normal = version->is_normal ? hold(version->text) : canonical_version(version->state, self, false);
+        if (normal == NULL) return NULL;
+        /* what else ran meanwhile may have found it too */
+        if (version->normal == NULL)
+            version->normal = normal;
+        else
+            Py_DECREF(normal);
+    }
+    return hold(version->normal);
 }
 
 /* ---- what is asked of a version ---- */
 
-static PyObject *get_number(PyObject *self, void *place)
+/* Whether the version has its parts; else an exception says so, as for a member that isn't there. */
+static inline bool has_parts(const Version *version)
 {
-    Version *version = (Version *)self;
-    return has_numbers(version) ? hold(PyTuple_GetItem(version->numbers, (Py_ssize_t)(intptr_t)place)) : NULL;
+    if (version->release == NULL) PyErr_SetString(PyExc_AttributeError, "pylock: the version has no text yet");
+    return version->release != NULL;
 }
 
 static PyObject *get_number_of_release(PyObject *self, void *place)
 {
     Version *version = (Version *)self;
-    if (!has_numbers(version)) return NULL;
-    PyObject *release = PyTuple_GetItem(version->numbers, RELEASE);
+    if (!has_parts(version)) return NULL;
     Py_ssize_t index = (Py_ssize_t)(intptr_t)place;
-    return index < PyTuple_Size(release) ? hold(PyTuple_GetItem(release, index)) : PyLong_FromLong(0);
+    return index < PyTuple_Size(version->release) ? hold(PyTuple_GetItem(version->release, index)) : PyLong_FromLong(0);
 }
 
-/* A slice of the normal form, which is ASCII; its end is behind the text where all of it is meant. */
-static PyObject *slice_of(Version *version, size_t begin, size_t end)
+/* Whether there is the part at this place of the object. */
+static PyObject *get_whether(PyObject *self, void *place)
+{
+    if (!has_parts((Version *)self)) return NULL;
+    return hold(*(PyObject *const *)((const char *)self + (intptr_t)place) == Py_None ? Py_False : Py_True);
+}
+
+/* The first letters of the normal form, which is ASCII. */
+static PyObject *beginning_of(Version *version, Py_ssize_t length)
 {
     PyObject *normal = version_normal((PyObject *)version);
-    PyObject *slice = normal == NULL ? NULL : PyUnicode_Substring(normal, (Py_ssize_t)begin, (Py_ssize_t)end);
+    PyObject *beginning = normal == NULL ? NULL : PyUnicode_Substring(normal, 0, length);
     Py_XDECREF(normal);
-    return slice;
+    return beginning;
 }
 
-/* What the normal form begins with, up to the end that stands at this place of the object. */
-static PyObject *get_beginning(PyObject *self, void *place)
-{
-    Version *version = (Version *)self;
-    return has_numbers(version) ? slice_of(version, 0, *(const size_t *)((const char *)self + (intptr_t)place)) : NULL;
-}
-
-static PyObject *get_local(PyObject *self, void *closure)
+static PyObject *get_public(PyObject *self, void *closure)
 {
     Version *version = (Version *)self;
     (void)closure;
-    if (!has_numbers(version)) return NULL;
-    /* behind the sign; of a version without a local part there is nothing behind its public one */
-    PyObject *local = slice_of(version, version->public_end + 1, PY_SSIZE_T_MAX);
-    if (local == NULL || PyUnicode_GetLength(local) > 0) return local;
-    Py_DECREF(local);
-    return hold(Py_None);
+    if (!has_parts(version)) return NULL;
+    PyObject *normal = version_normal(self);
+    if (normal == NULL || version->local == Py_None) return normal;
+    /* behind it stand a sign and the local part */
+    Py_ssize_t length = PyUnicode_GetLength(normal) - PyUnicode_GetLength(version->local) - 1;
+    Py_DECREF(normal);
+    return beginning_of(version, length);
 }
 
-/* What the kind has at this place. */
-static PyObject *get_kind(PyObject *self, void *place)
+/* The length of epoch and release, or 0 with an exception: of a text that is too long for it to be kept the library is asked. */
+static size_t base_of(Version *version)
+{
+    Text view;
+    pylock_version_parts parts = {0};
+    size_t count;
+    if (version->base > 0) return version->base;
+    if (!text_of(version->text, &view)) return 0;
+    int32_t code = pylock_version_split(view.bytes, view.length, &parts, NULL, 0, &count);
+    text_done(&view);
+    if (code == PYLOCK_ROOM) return parts.base;
+    raise_refusal(version->state, code, version->text, "version");
+    return 0;
+}
+
+static PyObject *get_base(PyObject *self, void *closure)
 {
     Version *version = (Version *)self;
-    if (!has_key(version)) return NULL;
-    return hold(*(const bool *)((const char *)&version->kind + (intptr_t)place) ? Py_True : Py_False);
+    (void)closure;
+    if (!has_parts(version)) return NULL;
+    bool is_all = version->pre == Py_None && version->post == Py_None && version->dev == Py_None && version->local == Py_None;
+    if (is_all) return version_normal(self);
+    size_t base = base_of(version);
+    return base == 0 ? NULL : beginning_of(version, (Py_ssize_t)base);
 }
 
 static PyObject *get_key(PyObject *self, void *closure)
 {
-    Version *version = (Version *)self;
     (void)closure;
-    return has_key(version) ? PyBytes_FromStringAndSize((const char *)version->key, (Py_ssize_t)version->length) : NULL;
+    return key_bytes((Version *)self);
 }
 
 static PyObject *get_given(PyObject *self, void *closure)
@@ -425,29 +632,238 @@ static PyObject *get_given(PyObject *self, void *closure)
     return hold(version_text(self));
 }
 
+/* ---- versions of parts ---- */
+
+/* The places of the parts, in the order in which they are told, and their names. */
+enum { EPOCH, RELEASE, PRE, POST, DEV, LOCAL, PARTS };
+static const char *const names_of_parts[PARTS] = {"epoch", "release", "pre", "post", "dev", "local"};
+
+enum { LONGEST_MADE = 256 };
+
+/* A normal form that is written, and where in it the base ends. */
+typedef struct {
+    char text[LONGEST_MADE];
+    size_t length, base;
+} Made;
+
+static bool add_letters(Made *made, const char *letters, size_t length)
+{
+    if (length > LONGEST_MADE - made->length) return false;
+    memcpy(made->text + made->length, letters, length);
+    made->length += length;
+    return true;
+}
+
+/* Writes letters and a number behind them, which is an exact int and not a great one. */
+static bool add_number(Made *made, const char *letters, PyObject *number)
+{
+    char digits[MOST_OF_DIGITS], *end = digits + sizeof digits;
+    if (!PyLong_CheckExact(number)) return false;
+    long long value = PyLong_AsLongLong(number);
+    if (value < 0) {
+        PyErr_Clear();
+        return false;
+    }
+    char *begin = digits_before(end, (uint64_t)value);
+    return add_letters(made, letters, strlen(letters)) && add_letters(made, begin, (size_t)(end - begin));
+}
+
+static bool add_release(Made *made, PyObject *release)
+{
+    if (!PyTuple_CheckExact(release) || PyTuple_Size(release) == 0) return false;
+    for (Py_ssize_t index = 0; index < PyTuple_Size(release); index++)
+        if (!add_number(made, index == 0 ? "" : ".", PyTuple_GetItem(release, index))) return false;
+    return true;
+}
+
+static bool add_pre(Made *made, PyObject *pre)
+{
+    static const char *const letters[] = {"a", "b", "rc"};
+    if (!PyTuple_CheckExact(pre) || PyTuple_Size(pre) != 2 || !PyUnicode_CheckExact(PyTuple_GetItem(pre, 0))) return false;
+    for (size_t index = 0; index < sizeof letters / sizeof *letters; index++)
+        if (PyUnicode_CompareWithASCIIString(PyTuple_GetItem(pre, 0), letters[index]) == 0)
+            return add_number(made, letters[index], PyTuple_GetItem(pre, 1));
+    return false;
+}
+
+/* Writes a local part of small letters, digits and dots. */
+static bool add_local(Made *made, PyObject *local)
+{
+    Text view;
+    if (!PyUnicode_CheckExact(local) || !text_of(local, &view)) return false;
+    bool is_plain = view.length > 0 && add_letters(made, "+", 1);
+    for (size_t place = 0; is_plain && place < view.length; place++) {
+        uint8_t letter = view.bytes[place];
+        is_plain = (letter >= '0' && letter <= '9') || (letter >= 'a' && letter <= 'z') || letter == '.';
+    }
+    is_plain = is_plain && add_letters(made, (const char *)view.bytes, view.length);
+    text_done(&view);
+    return is_plain;
+}
+
+/* Writes the text of parts as they are in a normal form, as those of a version are. False of others, which the Python layer
+ * writes, or refuses. */
+static bool made_of_parts(PyObject *const *parts, Made *made)
+{
+    made->length = 0;
+    bool has_epoch = !PyLong_CheckExact(parts[EPOCH]) || PyObject_IsTrue(parts[EPOCH]) != 0;
+    if (has_epoch && !(add_number(made, "", parts[EPOCH]) && add_letters(made, "!", 1))) return false;
+    if (!add_release(made, parts[RELEASE])) return false;
+    made->base = made->length;
+    return (parts[PRE] == Py_None || add_pre(made, parts[PRE])) && (parts[POST] == Py_None || add_number(made, ".post", parts[POST])) &&
+           (parts[DEV] == Py_None || add_number(made, ".dev", parts[DEV])) && (parts[LOCAL] == Py_None || add_local(made, parts[LOCAL]));
+}
+
+/* The version of a text that was written of these parts, where it is a normal form and so has these: without its key where they
+ * are known to be a version's, and else where the library finds it to be one. NULL, maybe without an exception, of others. */
+static PyObject *version_of_made(State *state, PyTypeObject *type, PyObject *const *given, const Made *made, bool are_known)
+{
+    pylock_version_kind kind = {.is_prerelease = given[PRE] != Py_None || given[DEV] != Py_None, .is_normal = are_known};
+    PyObject *text = PyUnicode_DecodeLatin1(made->text, (Py_ssize_t)made->length, NULL);
+    Version *version = text == NULL ? NULL : empty_version(state, type);
+    Text view = {(const uint8_t *)made->text, made->length, NULL};
+    if (version != NULL && (are_known || find_key(version, &view, &kind) == PYLOCK_OK) && kind.is_normal) {
+        Parts parts = {hold(given[EPOCH]), hold(given[RELEASE]), hold(given[PRE]), hold(given[POST]), hold(given[DEV]), hold(given[LOCAL]), made->base};
+        version->text = hold(text);
+        version->is_normal = true;
+        set_parts(version, &parts, kind.is_prerelease);
+    } else
+        Py_CLEAR(version);
+    Py_XDECREF(text);
+    return (PyObject *)version;
+}
+
+/* Puts the parts that are given by their names in their places: false where one has another name. `are_known` becomes false
+ * where a local part is given, which isn't known to be one as numbers are. */
+static bool take_parts(PyObject *const *values, PyObject *names, PyObject **parts, bool *are_known)
+{
+    Py_ssize_t count = names == NULL ? 0 : PyTuple_Size(names);
+    for (Py_ssize_t index = 0; index < count; index++) {
+        int place = 0;
+        while (place < PARTS && PyUnicode_CompareWithASCIIString(PyTuple_GetItem(names, index), names_of_parts[place]) != 0) place++;
+        if (place == PARTS) return false;
+        parts[place] = values[index];
+        *are_known = *are_known && (place != LOCAL || values[index] == Py_None);
+    }
+    return true;
+}
+
+/* What the Python layer gives for the call, which it reads itself: of parts that aren't as those of a version are, and of classes
+ * that are made from that of versions. */
+static PyObject *asked_of_layer(const char *name, PyObject *self, PyObject *const *arguments, Py_ssize_t count, PyObject *names)
+{
+    PyObject *module = PyImport_ImportModule("pylock._version_parts"), *function = module == NULL ? NULL : PyObject_GetAttrString(module, name);
+    PyObject *given = function == NULL ? NULL : PyTuple_New(count + 1), *named = given == NULL ? NULL : PyDict_New(), *answer = NULL;
+    bool is_good = named != NULL && PyTuple_SetItem(given, 0, hold(self)) == 0;
+    for (Py_ssize_t index = 0; is_good && index < count; index++) is_good = PyTuple_SetItem(given, index + 1, hold(arguments[index])) == 0;
+    for (Py_ssize_t index = 0; is_good && names != NULL && index < PyTuple_Size(names); index++)
+        is_good = PyDict_SetItem(named, PyTuple_GetItem(names, index), arguments[count + index]) == 0;
+    if (is_good) answer = PyObject_Call(function, given, named);
+    Py_XDECREF(named);
+    Py_XDECREF(given);
+    Py_XDECREF(function);
+    Py_XDECREF(module);
+    return answer;
+}
+
+/* from_parts(*, epoch=0, release, pre=None, post=None, dev=None, local=None), of a class */
+static PyObject *from_parts(PyObject *self, PyObject *const *arguments, Py_ssize_t count, PyObject *names)
+{
+    State *state = state_of_type((PyTypeObject *)self);
+    Made made;
+    if (state == NULL) return NULL;
+    PyObject *zero = PyLong_FromLong(0), *version = NULL;
+    PyObject *parts[PARTS] = {zero, NULL, Py_None, Py_None, Py_None, Py_None};
+    bool are_known = true, is_plain = self == (PyObject *)state->version_class && count == 0;
+    if (is_plain && take_parts(arguments, names, parts, &are_known) && parts[RELEASE] != NULL && made_of_parts(parts, &made))
+        version = version_of_made(state, (PyTypeObject *)self, parts, &made, are_known);
+    Py_XDECREF(zero);
+    if (version != NULL || PyErr_Occurred()) return version;
+    return asked_of_layer("from_parts", self, arguments, count, names);
+}
+TAKES_NAMES(from_parts)
+
+/* Whether a text that was written is the version's normal form: -1 with an exception. */
+static int is_its_text(PyObject *self, const Made *made)
+{
+    Text view;
+    PyObject *normal = version_normal(self);
+    if (normal == NULL || !text_of(normal, &view)) {
+        Py_XDECREF(normal);
+        return -1;
+    }
+    bool is_it = view.length == made->length && memcmp(view.bytes, made->text, made->length) == 0;
+    text_done(&view);
+    Py_DECREF(normal);
+    return is_it;
+}
+
+/* __replace__(**parts) */
+static PyObject *version_replace(PyObject *self, PyObject *const *arguments, Py_ssize_t count, PyObject *names)
+{
+    Version *version = (Version *)self;
+    State *state = version->state;
+    Made made;
+    PyObject *parts[PARTS] = {version->epoch, version->release, version->pre, version->post, version->dev, version->local};
+    bool are_known = true, is_plain = Py_TYPE(self) == state->version_class && version->release != NULL && count == 0;
+    if (is_plain && take_parts(arguments, names, parts, &are_known) && made_of_parts(parts, &made)) {
+        int is_same = is_its_text(self, &made);
+        if (is_same != 0) return is_same < 0 ? NULL : hold(self);
+        PyObject *other = version_of_made(state, Py_TYPE(self), parts, &made, are_known);
+        if (other != NULL || PyErr_Occurred()) return other;
+    }
+    return PyErr_Occurred() ? NULL : asked_of_layer("replaced", self, arguments, count, names);
+}
+TAKES_NAMES(version_replace)
+
+/* A version can't be changed: a copy is the version itself. */
+static PyObject *version_copy(PyObject *self, PyObject *memo)
+{
+    (void)memo;
+    return hold(self);
+}
+
+#define FROM_PARTS_TEXT                                                                                                  \
+    "from_parts($type, /, *, epoch=0, release, pre=None, post=None, dev=None, local=None)\n--\n\n"                      \
+    "The version of these parts, as the attributes of their names give them.\n\n"                                       \
+    "A part that can't be one is refused as InvalidVersion."
+#define REPLACE_TEXT                                                                                                     \
+    "__replace__($self, /, **parts)\n--\n\nThe version with other parts, for `copy.replace`: a part that is None is left away."
+
+static PyMethodDef version_methods[] = {
+    {"__copy__", version_copy, METH_NOARGS, PyDoc_STR("The version itself.")},
+    {"__deepcopy__", version_copy, METH_O, PyDoc_STR("The version itself.")},
+    CALL_NAMED_AS("__replace__", version_replace, 0, REPLACE_TEXT),
+    CALL_NAMED_AS("from_parts", from_parts, METH_CLASS, FROM_PARTS_TEXT),
+    {NULL, NULL, 0, NULL},
+};
+
 static PyObject *version_repr(PyObject *self)
 {
     return PyUnicode_FromFormat("<Version('%S')>", self);
 }
 
 #define AT(place) ((void *)(intptr_t)(place))
-#define OF_KIND(member) AT(offsetof(pylock_version_kind, member))
+#define PART(name, text) {#name, T_OBJECT_EX, offsetof(Version, name), READONLY, PyDoc_STR(text)}
+
+static PyMemberDef version_members[] = {
+    PART(epoch, "The epoch."),
+    PART(release, "The numbers of the release, with the zeros at its end."),
+    PART(pre, "The letter (a, b or rc) and the number of the pre-release, or None."),
+    PART(post, "The number of the post-release, or None."),
+    PART(dev, "The number of the development release, or None."),
+    PART(local, "The local version, or None."),
+    PART(is_prerelease, "Whether it is a pre-release or a development release."),
+    {NULL, 0, 0, 0, NULL},
+};
 
 static PyGetSetDef version_getters[] = {
     {"_given", get_given, NULL, PyDoc_STR("The text as it was given."), NULL},
     {"_key", get_key, NULL, PyDoc_STR("Bytes whose order is the order of versions."), NULL},
-    {"epoch", get_number, NULL, PyDoc_STR("The epoch."), AT(EPOCH)},
-    {"release", get_number, NULL, PyDoc_STR("The numbers of the release, with the zeros at its end."), AT(RELEASE)},
-    {"pre", get_number, NULL, PyDoc_STR("The letter (a, b or rc) and the number of the pre-release, or None."), AT(PRE)},
-    {"post", get_number, NULL, PyDoc_STR("The number of the post-release, or None."), AT(POST)},
-    {"dev", get_number, NULL, PyDoc_STR("The number of the development release, or None."), AT(DEV)},
-    {"local", get_local, NULL, PyDoc_STR("The local version, or None."), NULL},
-    {"public", get_beginning, NULL, PyDoc_STR("The version without its local version."), AT(offsetof(Version, public_end))},
-    {"base_version", get_beginning, NULL, PyDoc_STR("The epoch and the release."), AT(offsetof(Version, base))},
-    {"is_prerelease", get_kind, NULL, PyDoc_STR("Whether it is a pre-release or a development release."),
-     OF_KIND(is_prerelease)},
-    {"is_postrelease", get_kind, NULL, PyDoc_STR("Whether it is a post-release."), OF_KIND(is_postrelease)},
-    {"is_devrelease", get_kind, NULL, PyDoc_STR("Whether it is a development release."), OF_KIND(is_devrelease)},
+    {"public", get_public, NULL, PyDoc_STR("The version without its local version."), NULL},
+    {"base_version", get_base, NULL, PyDoc_STR("The epoch and the release."), NULL},
+    {"is_postrelease", get_whether, NULL, PyDoc_STR("Whether it is a post-release."), AT(offsetof(Version, post))},
+    {"is_devrelease", get_whether, NULL, PyDoc_STR("Whether it is a development release."), AT(offsetof(Version, dev))},
     {"major", get_number_of_release, NULL, PyDoc_STR("The first number of the release."), AT(0)},
     {"minor", get_number_of_release, NULL, PyDoc_STR("The second number of the release, or 0."), AT(1)},
     {"micro", get_number_of_release, NULL, PyDoc_STR("The third number of the release, or 0."), AT(2)},
@@ -464,6 +880,8 @@ static PyType_Slot version_slots[] = {
     {Py_tp_richcompare, version_compare},
     {Py_tp_str, version_normal},
     {Py_tp_repr, version_repr},
+    {Py_tp_methods, version_methods},
+    {Py_tp_members, version_members},
     {Py_tp_getset, version_getters},
     {0, NULL},
 };
@@ -519,11 +937,59 @@ static PyObject *canonicalize_version(PyObject *module, PyObject *const *argumen
 }
 TAKES_NAMES(canonicalize_version)
 
+/* The words of PEP 440 that aren't normal, and the normal ones. */
+static const char *const spellings[][2] = {
+    {"alpha", "a"}, {"beta", "b"}, {"c", "rc"}, {"pre", "rc"}, {"preview", "rc"}, {"rev", "post"}, {"r", "post"},
+};
+
+enum { LONGEST_WORD = 7 };
+
+/* The normal word for one that is given by its bytes in lower case, or NULL where that is no other one. */
+static const char *spelling_of(const char *word)
+{
+    for (size_t index = 0; index < sizeof spellings / sizeof *spellings; index++)
+        if (strcmp(word, spellings[index][0]) == 0) return spellings[index][1];
+    return NULL;
+}
+
+/* Copies a short word of ASCII in lower case: false where the text is another. */
+static bool short_word(PyObject *text, char *word)
+{
+    Text view;
+    if (!PyUnicode_CheckExact(text) || !text_of(text, &view)) return false;
+    bool is_short = view.length <= LONGEST_WORD;
+    size_t length = is_short ? view.length : 0;
+    for (size_t place = 0; place < length; place++) {
+        uint8_t letter = view.bytes[place];
+        is_short = is_short && letter > 0 && letter < 0x80;
+        word[place] = (char)(letter >= 'A' && letter <= 'Z' ? letter + ('a' - 'A') : letter);
+    }
+    word[length] = '\0';
+    text_done(&view);
+    return is_short;
+}
+
+/* normalize_pre(letter): the normal spelling of the word of a pre-release; another word in lower case. */
+static PyObject *normalize_pre(PyObject *module, PyObject *letter)
+{
+    char word[LONGEST_WORD + 1];
+    (void)module;
+    bool is_short = short_word(letter, word);
+    PyObject *small = is_short || PyErr_Occurred() ? NULL : PyObject_CallMethod(letter, "lower", NULL);
+    if (!is_short && (small == NULL || !short_word(small, word))) {
+        if (PyErr_Occurred()) Py_CLEAR(small);
+        return small;
+    }
+    Py_XDECREF(small);
+    const char *normal = spelling_of(word);
+    return PyUnicode_FromString(normal == NULL ? word : normal);
+}
+
 /* Whether a version is a pre-release: of a class of one's own it is asked, which may say otherwise. */
-static PyObject *told_phase(State *state, PyObject *version)
+PyObject *told_phase(State *state, PyObject *version)
 {
     if (Py_TYPE(version) == state->version_class || Py_TYPE(version) == state->version)
-        return get_kind(version, OF_KIND(is_prerelease));
+        return version_text(version) == NULL ? NULL : hold(((Version *)version)->is_prerelease);
     PyObject *told = PyObject_GetAttrString(version, "is_prerelease");
     int is_one = told == NULL ? -1 : PyObject_IsTrue(told);
     Py_XDECREF(told);
@@ -550,6 +1016,7 @@ static PyObject *phase(PyObject *module, PyObject *item)
 
 static PyMethodDef version_functions[] = {
     CALL_NAMED("canonicalize_version", canonicalize_version, "canonicalize_version($module, version, *, strip_trailing_zero=True)\n--\n\nThe normal form of a version, by default without zeros at the end of its release. Other texts stay."),
+    {"normalize_pre", normalize_pre, METH_O, PyDoc_STR("normalize_pre($module, letter, /)\n--\n\nThe normal spelling of the word of a pre-release; another word in lower case.")},
     {"phase", phase, METH_O, PyDoc_STR("Whether a version, or that of a text, is a pre-release; None of a text that is none.")},
     {"version_key", version_key, METH_O, PyDoc_STR("Bytes whose order is the order of versions.")},
     {"version_record", version_record, METH_O, PyDoc_STR("The parts of a version, with tabs between (pylock_version).")},

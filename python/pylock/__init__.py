@@ -14,45 +14,55 @@ assigned; a Lock and a Session stay on the thread that made them.
 
 from __future__ import annotations
 
-# the first of all: it tells where the compiled part is missing
-from . import _library  # isort: skip
-from . import markers, requirements, specifiers, tags, utils, version
-from ._environment import VARIABLES, Environment, environment
-from ._errors import (
-    InvalidEdit,
-    InvalidEnvironment,
-    InvalidLock,
-    InvalidTarget,
-    PlanFault,
-    Refusal,
-    StrictRefusal,
-    WrongThread,
-)
-from ._lock import Explanation, Finding, Lock, Options, Package, Pick, Session, Verdict
-from .markers import (
-    InvalidMarker,
-    Marker,
-    MarkerFault,
-    UndefinedComparison,
-    UndefinedEnvironmentName,
-    default_environment,
-)
-from .requirements import InvalidRequirement, Requirement
-from .specifiers import InvalidSpecifier, Specifier, SpecifierSet
-from .tags import InvalidTag, Tag, UnsortedTagsError, parse_tag
-from .utils import (
-    BuildTag,
-    InvalidName,
-    InvalidSdistFilename,
-    InvalidWheelFilename,
-    NormalizedName,
-    canonicalize_name,
-    canonicalize_version,
-    is_normalized_name,
-    parse_sdist_filename,
-    parse_wheel_filename,
-)
-from .version import VERSION_PATTERN, InvalidVersion, Version, parse, parse_all, sorted_versions, version_key
+try:
+    from . import _native
+except ImportError as error:
+    if "_native" not in str(error):
+        raise
+    raise ImportError(
+        "pylock: there is no compiled module beside this one: `pip install` of the folder python/ builds it"
+    ) from None
+
+TYPE_CHECKING = False
+
+if TYPE_CHECKING:
+    from . import markers, requirements, specifiers, tags, utils, version
+    from ._environment import VARIABLES, Environment, environment
+    from ._errors import (
+        InvalidEdit,
+        InvalidEnvironment,
+        InvalidLock,
+        InvalidTarget,
+        PlanFault,
+        Refusal,
+        StrictRefusal,
+        WrongThread,
+    )
+    from ._lock import Explanation, Finding, Lock, Options, Package, Pick, Session, Verdict
+    from .markers import (
+        InvalidMarker,
+        Marker,
+        MarkerFault,
+        UndefinedComparison,
+        UndefinedEnvironmentName,
+        default_environment,
+    )
+    from .requirements import InvalidRequirement, Requirement
+    from .specifiers import InvalidSpecifier, Specifier, SpecifierSet
+    from .tags import InvalidTag, Tag, UnsortedTagsError, parse_tag
+    from .utils import (
+        BuildTag,
+        InvalidName,
+        InvalidSdistFilename,
+        InvalidWheelFilename,
+        NormalizedName,
+        canonicalize_name,
+        canonicalize_version,
+        is_normalized_name,
+        parse_sdist_filename,
+        parse_wheel_filename,
+    )
+    from .version import VERSION_PATTERN, InvalidVersion, Version, parse, parse_all, sorted_versions, version_key
 
 __all__ = [
     "BuildTag", "Environment", "Explanation", "Finding", "InvalidEdit", "InvalidEnvironment", "InvalidLock",
@@ -65,7 +75,71 @@ __all__ = [
     "requirements", "sorted_versions", "specifiers", "tags", "utils", "version", "version_key",
 ]
 
-__version__ = "1.4.0"
+
+# ---- what is imported when it is asked for ----
+
+
+def _told(*refused):  # type: ignore[no-untyped-def]
+    """What the exception of a refused text is made of."""
+    from ._library import _told
+
+    return _told(*refused)
+
+
+def _refused_input(*refused):  # type: ignore[no-untyped-def]
+    """The exception of a refused lock or environment."""
+    from ._library import _refused_input
+
+    return _refused_input(*refused)
+
+
+_native.use_refusals(_told, _refused_input)
+
+# The modules in which the names are. A module is imported when a name of it is asked for: who imports another one alone, as
+# `pylock.version`, waits for no more than it needs.
+_MODULES = {
+    "_environment": ("VARIABLES", "Environment", "environment"),
+    "_errors": (
+        "InvalidEdit", "InvalidEnvironment", "InvalidLock", "InvalidMarker", "InvalidName", "InvalidRequirement",
+        "InvalidSdistFilename", "InvalidSpecifier", "InvalidTag", "InvalidTarget", "InvalidVersion", "InvalidWheelFilename",
+        "MarkerFault", "PlanFault", "Refusal", "StrictRefusal", "UndefinedComparison", "UndefinedEnvironmentName",
+        "UnsortedTagsError", "WrongThread",
+    ),
+    "_lock": ("Explanation", "Finding", "Lock", "Options", "Package", "Pick", "Session", "Verdict"),
+    "markers": ("Marker", "default_environment"),
+    "requirements": ("Requirement",),
+    "specifiers": ("Specifier", "SpecifierSet"),
+    "tags": ("Tag", "parse_tag"),
+    "utils": (
+        "BuildTag", "NormalizedName", "canonicalize_name", "canonicalize_version", "is_normalized_name",
+        "parse_sdist_filename", "parse_wheel_filename",
+    ),
+    "version": ("VERSION_PATTERN", "Version", "parse", "parse_all", "sorted_versions", "version_key"),
+}
+_PLACES = {name: module for module, names in _MODULES.items() for name in names}
+
+
+def _found(name: str) -> object:
+    """The `__getattr__` of the package: a module of it, or a name that is in one."""
+    from importlib import import_module
+
+    if name in _MODULES:
+        return import_module("pylock." + name)
+    if name not in _PLACES:
+        raise AttributeError("module 'pylock' has no attribute %r" % name)
+    value = globals()[name] = getattr(import_module("pylock." + _PLACES[name]), name)
+    return value
+
+
+if not TYPE_CHECKING:
+    __getattr__ = _found
+
+
+def __dir__() -> "list[str]":
+    return sorted({*globals(), *__all__})
+
+
+__version__ = "1.5.0"
 
 # what `packaging` tells of itself, as far as this module has it (docs/PRIVATE.md)
 __title__ = "pylock"

@@ -2,7 +2,6 @@
 
 from __future__ import annotations
 
-import json
 from typing import Any, Iterable, Mapping, NoReturn, Optional, Tuple
 
 from . import _library as _native
@@ -19,7 +18,9 @@ VARIABLES = (
 
 def variables_text(variables: Mapping[str, str], tags: Iterable[str]) -> bytes:
     """The environment as JSON."""
-    return json.dumps({"environment": dict(variables), "tags": list(tags)}).encode()
+    from json import dumps
+
+    return dumps({"environment": dict(variables), "tags": list(tags)}).encode()
 
 
 class _Fixed(dict):  # type: ignore[type-arg]
@@ -76,9 +77,11 @@ class Environment(_Fixed):
         'nt'
         """
         content = read_source(source)
+        from json import loads
+
         # judged first: what the library takes for an environment is one for `json` too
         _native.environment_read(content)
-        document = json.loads(content.decode())
+        document = loads(content.decode())
         return cls(
             {name: value for name, value in document["environment"].items() if isinstance(value, str)},
             document["tags"],
@@ -117,7 +120,9 @@ def environment_bytes(environment: Any) -> bytes:
     if isinstance(environment, (bytes, bytearray, memoryview)):
         return bytes(environment)
     if isinstance(environment, Mapping):
-        return json.dumps(environment).encode()
+        from json import dumps
+
+        return dumps(environment).encode()
     raise TypeError("expected an Environment, a mapping or bytes, not %s" % type(environment).__name__)
 
 

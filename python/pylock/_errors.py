@@ -2,7 +2,7 @@
 
 from __future__ import annotations
 
-from typing import TYPE_CHECKING, Optional, Sequence, Tuple, Union
+from ._typing import TYPE_CHECKING, Optional, Sequence, Tuple, Union
 
 if TYPE_CHECKING:
     from ._lock import Finding
@@ -39,6 +39,45 @@ class Refusal(ValueError):
         self.place = place
 
 
+class Fault:
+    """What was expected of a refused text, the stretch of its characters where that is, and two lines that point there."""
+
+    __slots__ = ("lines", "sentence", "span")
+
+    def __init__(self, sentence: str, span: Tuple[int, int], lines: str) -> None:
+        self.sentence = sentence
+        self.span = span
+        self.lines = lines
+
+
+def fault_of(calls: Sequence[str], text: str) -> Optional[Fault]:
+    """The first answer of these calls of the library on a text; None where it isn't refused."""
+    from . import _native
+
+    for call in calls:
+        fields = getattr(_native, call)(text)
+        if len(fields) == 4:
+            data = str.encode(text)
+            begin, end = (len(data[: int(place)].decode()) for place in fields[:2])
+            return Fault(fields[2], (begin, end), fields[3])
+    return None
+
+
+class PointingRefusal(Refusal):
+    """A text is refused, and `str` points at the place in it. `source` is the text, None where a program raises one itself."""
+
+    source: Optional[str] = None
+    _calls: Sequence[str] = ()
+    """The library's calls that tell what was expected of such a text."""
+
+    def __str__(self) -> str:
+        fault = None if self.source is None else fault_of(self._calls, self.source)
+        return super().__str__() if fault is None else "%s\n%s" % (self._said(fault.sentence), fault.lines)
+
+    def _said(self, sentence: str) -> str:
+        return sentence
+
+
 class InvalidVersion(Refusal):
     """A text is no version (PEP 440).
 
@@ -52,16 +91,21 @@ class InvalidVersion(Refusal):
     __module__ = "pylock.version"
 
 
-class InvalidSpecifier(Refusal):
+class InvalidSpecifier(PointingRefusal):
     """A text is no specifier, or no set of them (PEP 440)."""
 
     __module__ = "pylock.specifiers"
+    _calls = ("set_expected", "specifier_expected")
+
+    def _said(self, sentence: str) -> str:
+        return "%s: %s" % (super(PointingRefusal, self).__str__(), sentence)
 
 
-class InvalidMarker(Refusal):
+class InvalidMarker(PointingRefusal):
     """A text is no marker (PEP 508). Its word is `syntax`, `too-deep` or `set-misuse`."""
 
     __module__ = "pylock.markers"
+    _calls = ("marker_expected",)
 
 
 class MarkerFault(Refusal):
@@ -82,10 +126,11 @@ class UndefinedComparison(MarkerFault):
     __module__ = "pylock.markers"
 
 
-class InvalidRequirement(Refusal):
+class InvalidRequirement(PointingRefusal):
     """A text is no requirement (PEP 508). Its word is the first thing that is wrong, from the left."""
 
     __module__ = "pylock.requirements"
+    _calls = ("requirement_expected",)
 
 
 class InvalidName(Refusal):

@@ -6,18 +6,7 @@ is asked of `_native` directly.
 
 from __future__ import annotations
 
-import json as _json
-from typing import Any, Dict, List, Optional, Tuple, Type, Union
-
-try:
-    from . import _native
-except ImportError as error:
-    if "_native" not in str(error):
-        raise
-    raise ImportError(
-        "pylock: there is no compiled module beside this one: `pip install` of the folder python/ builds it"
-    ) from None
-
+from . import _native
 from ._errors import (
     InvalidEdit,
     InvalidEnvironment,
@@ -32,10 +21,13 @@ from ._errors import (
     InvalidVersion,
     InvalidWheelFilename,
     MarkerFault,
+    PointingRefusal,
     Refusal,
     UndefinedComparison,
     UndefinedEnvironmentName,
+    UnsortedTagsError,
 )
+from ._typing import Any, Dict, List, Optional, Tuple, Type, Union
 
 KeptSession = _native.Session
 
@@ -121,18 +113,57 @@ _KINDS: Dict[str, Type[Refusal]] = {
 }
 
 
-def _refusal(code: int, text: str, kind: str) -> BaseException:
-    """The exception for a code of a call on a text; one that isn't UTF-8 is refused as `syntax` of its kind."""
+# what an exception is made of: its class, its attributes, and what its message has before the text and behind it
+_Told = Tuple[Type[Refusal], Dict[str, Any], str, str]
+
+
+def _told_as(error: Type[Refusal], word: str, before: str, behind: str) -> _Told:
+    attributes: Dict[str, Any] = {"word": word, "place": None}
+    if issubclass(error, PointingRefusal):
+        attributes["source"] = None
+    return error, attributes, before, behind
+
+
+def _told(code: int, text: str, kind: str) -> Union[BaseException, _Told]:
+    """What the exception for a code of a call on a text is made of; one that isn't UTF-8 is refused as `syntax` of its kind.
+    It is asked once for each code, which has one, but where the text was to be a name, or to be in order."""
+    if kind == "order":
+        if code == 65:
+            return _told_as(InvalidWheelFilename, "tags", "Invalid wheel filename: ", " (the pieces of a tag aren't in order)")
+        return _told_as(UnsortedTagsError, "tag-order", "Unsorted tag: ", " is to be ")
     if code in _REFUSALS:
         error, word, why = _REFUSALS[code]
         if kind == "name" and error is InvalidEdit:
-            return InvalidName("name is invalid: %r" % text, word=word)
-    elif code == _native.NOT_UTF8 and kind in _KINDS:
-        error, word, why = _KINDS[kind], "syntax", "it has half a character"
-    else:
-        return RuntimeError("pylock: the library answered %d" % code)
-    shown = text if len(text) <= 200 else text[:200] + "..."
-    return error("%s: %r%s" % (_WHAT[error], shown, " (%s)" % why if why else ""), word=word)
+            return _told_as(InvalidName, word, "name is invalid: ", "")
+        return _told_as(error, word, _WHAT[error] + ": ", " (%s)" % why if why else "")
+    if code == _native.NOT_UTF8 and kind in _KINDS:
+        error = _KINDS[kind]
+        return error("%s: %s (it has half a character)" % (_WHAT[error], _shown(text)), word="syntax")
+    return RuntimeError("pylock: the library answered %d" % code)
+
+
+def _shown(text: str) -> str:
+    return repr(text if len(text) <= 200 else text[:200] + "...")
+
+
+def _refusal(code: int, text: str, kind: str) -> BaseException:
+    """The exception for a code of a call on a text."""
+    told = _told(code, text, kind)
+    if isinstance(told, BaseException):
+        return told
+    error, attributes, before, behind = told
+    exception = error(before + _shown(text) + behind)
+    vars(exception).update(attributes)
+    if "source" in attributes:
+        vars(exception)["source"] = text
+    return exception
+
+
+def _words_of(document: str) -> List[str]:
+    from json import loads
+
+    words: List[str] = loads(document)["refused"]
+    return words
 
 
 def _refused_input(code: int, text: str, lock: Optional[bytes], environment: Optional[bytes], json: bool) -> BaseException:
@@ -145,14 +176,15 @@ def _refused_input(code: int, text: str, lock: Optional[bytes], environment: Opt
         error, message = InvalidEnvironment, _native.environment_message(environment)
     else:
         return RuntimeError("pylock: the library answered %d" % code)
-    printed = tuple((_json.loads(text)["refused"] if json else text.rstrip("\n").split("\t"))[1:])
+    printed = tuple((_words_of(text) if json else text.rstrip("\n").split("\t"))[1:])
     place: Any = None
     if len(printed) > 1:
         place = int(printed[1]) if printed[1].isdigit() else printed[1]
     return error(message, word=printed[0], place=place, words=printed)
 
 
-_native.use_refusals(_refusal, _refused_input)
+# from now on, in the place of what imported this module
+_native.use_refusals(_told, _refused_input)
 
 
 # ---- names and environments ----

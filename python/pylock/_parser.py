@@ -1,13 +1,15 @@
 """Markers and requirements in pieces, with the names of `packaging._parser` (docs/PRIVATE.md).
 
-The library judges the texts; here they are taken apart, for programs that look into a marker and change it.
+The library judges the texts and takes markers apart; here their trees are, for programs that look into one and change it.
 """
 
 from __future__ import annotations
 
-from typing import Any, List, Literal, NamedTuple, NoReturn, Optional, Sequence, Tuple, Union
+from typing import Any, Iterator, List, Literal, NamedTuple, NoReturn, Optional, Sequence, Tuple, Union
 
-from ._errors import InvalidMarker, InvalidRequirement
+from . import _native
+from ._errors import InvalidMarker, InvalidRequirement, PointingRefusal, fault_of
+from .utils import canonicalize_name
 
 __all__ = ["MarkerAtom", "MarkerList", "Op", "ParsedRequirement", "Value", "Variable", "parse_marker", "parse_requirement"]
 
@@ -103,28 +105,43 @@ def process_python_str(python_str: str) -> Value:
     return Value(python_str[1:-1])
 
 
-def _operand(text: str) -> MarkerVar:
-    return process_python_str(text) if text[0] in "\"'" else Variable(text)
+def _operand(piece: str) -> MarkerVar:
+    return Value(piece[1:]) if piece[0] == '"' else Variable(piece)
 
 
-def _nodes(piece: Any, is_outermost: bool) -> Any:
-    from .markers import _normal_extra
+def _is_extra(operand: MarkerVar) -> bool:
+    return isinstance(operand, Variable) and operand.value == "extra"
 
-    if isinstance(piece, list):
-        return [_nodes(each, False) for each in piece]
-    if isinstance(piece, str):
-        return piece
-    left, operator, right = _normal_extra(piece) if is_outermost else piece
-    return _operand(left), Op(operator), _operand(right)
+
+def _comparison(left: MarkerVar, operator: Op, right: MarkerVar, is_outermost: bool) -> MarkerItem:
+    """The comparison; where it stands in no parentheses, the name that `extra` is compared with is in normal form."""
+    if is_outermost and _is_extra(left) and isinstance(right, Value):
+        right = Value(canonicalize_name(right.value))
+    elif is_outermost and _is_extra(right) and isinstance(left, Value):
+        left = Value(canonicalize_name(left.value))
+    return left, operator, right
+
+
+def _atoms(pieces: Iterator[str], is_outermost: bool) -> MarkerList:
+    """Atoms with `and` and `or` between them, up to the end or a `)`."""
+    found: MarkerList = []
+    for piece in pieces:
+        if piece == "(":
+            found.append(_atoms(pieces, False))
+        else:
+            operator, right = Op(next(pieces)), _operand(next(pieces))
+            found.append(_comparison(_operand(piece), operator, right, is_outermost))
+        word = next(pieces, ")")
+        if word == ")":
+            break
+        found.append(word)
+    return found
 
 
 def tree_of(text: str) -> MarkerList:
     """The tree of a text that is a marker: parentheses as lists, and the names that `extra` is compared with in normal form,
     where they stand in none, as `str` of the marker has them."""
-    from .markers import _atoms, _tokens
-
-    # here goes the tree that the library gives, as soon as it has a call for it
-    return [_nodes(piece, True) for piece in _atoms(_tokens(text), 0)[0]]
+    return _atoms(iter(_native.marker_pieces(text)), True)
 
 
 def text_of(tree: Any, is_outermost: bool = True) -> str:
@@ -141,10 +158,12 @@ def text_of(tree: Any, is_outermost: bool = True) -> str:
     return inner if is_outermost else "(%s)" % inner
 
 
-def _raise(error: ValueError, source: str) -> NoReturn:
+def _raise(error: PointingRefusal, source: str) -> NoReturn:
     from ._tokenizer import ParserSyntaxError
 
-    raise ParserSyntaxError(str(error), source=source, span=(0, len(source))) from error
+    fault = fault_of(error._calls, source)
+    message, span = (str(error), (0, len(source))) if fault is None else (fault.sentence, fault.span)
+    raise ParserSyntaxError(message, source=source, span=span) from error
 
 
 def parse_marker(source: str) -> MarkerList:
@@ -162,10 +181,12 @@ def parse_marker(source: str) -> MarkerList:
 
 def parse_requirement(source: str) -> ParsedRequirement:
     """The parts of a requirement; ParserSyntaxError where the text is none."""
-    from .requirements import parts_of
+    from . import _native
 
     try:
-        name, extras, specifier, url, marker = parts_of(source)
+        name, extras, _, url, marker = _native.requirement(source)
+        specifier = _native.requirement_parts(source)[3]
     except InvalidRequirement as error:
         _raise(error, source)
-    return ParsedRequirement(name, url or "", extras, specifier, None if marker is None else tree_of(marker))
+    tree = None if marker is None else tree_of(marker)
+    return ParsedRequirement(str(name), url or "", extras.split(",") if extras else [], specifier, tree)

@@ -3,24 +3,34 @@
 from __future__ import annotations
 
 import os
-import platform
-import struct
-import subprocess
 import sys
-import sysconfig
 from typing import Any, Callable, Dict, Iterable, Iterator, List, Optional, Tuple, cast
 
-from ._linux import manylinux_platforms, musllinux_platforms
+from . import _native
 
 __all__ = ["AppleVersion", "android_platforms", "ios_platforms", "linux_platforms", "mac_platforms", "platform_tags"]
 
 AppleVersion = Tuple[int, int]
 """The release of a system of Apple's, as (14, 2)."""
 
-_IS_32_BIT = struct.calcsize("P") == 4
+_IS_32_BIT = sys.maxsize < 2**32
 
-# `platform` with what came to it in 3.13
-_platform: Any = platform
+
+# What the running system is asked by is imported when it is asked: who names a system waits for none of it.
+
+
+def _platform() -> Any:
+    """The module `platform`, with what came to it in 3.13."""
+    import platform
+
+    return platform
+
+
+def _configured() -> str:
+    """The platform as the Python's configuration has it."""
+    import sysconfig
+
+    return sysconfig.get_platform()
 
 
 def normal_text(text: str) -> str:
@@ -44,7 +54,7 @@ _MAC_FORMATS = {
     "arm64": ("arm64", "universal2"),
 }
 
-# the first and the last release for a machine, where there is one
+# the first release for a machine, where there is one, and the last one of those that were none for 11
 _MAC_FIRST = {"x86_64": (10, 4), "i386": (10, 4), "ppc64": (10, 4)}
 _MAC_LAST = {"ppc64": (10, 5), "ppc": (10, 6)}
 
@@ -52,21 +62,17 @@ _MAC_LAST = {"ppc64": (10, 5), "ppc": (10, 6)}
 _MAC_LAST_OF_10 = 16
 
 
-def _mac_formats(version: AppleVersion, arch: str) -> Tuple[str, ...]:
-    if version < _MAC_FIRST.get(arch, version) or version > _MAC_LAST.get(arch, version):
-        return ()
-    return _MAC_FORMATS.get(arch, (arch,))
-
-
-def _mac_platforms_of(version: AppleVersion, formats: Tuple[str, ...]) -> Iterator[str]:
-    for each in formats:
-        yield "macosx_%d_%d_%s" % (version[0], version[1], each)
+def _mac_endings(arch: str) -> List[str]:
+    """What the platforms of a machine end with."""
+    return ["_" + each for each in _MAC_FORMATS.get(arch, (arch,))]
 
 
 def _running_mac_version(told: str) -> AppleVersion:
     """The release of the running system. 10.16 is what it tells an old Python: a Python without that memory is asked."""
     version = _two_numbers(told)
     if version == (10, 16):
+        import subprocess
+
         asked = subprocess.run(
             [sys.executable, "-sS", "-c", "import platform; print(platform.mac_ver()[0])"],
             check=True, env=dict(os.environ, SYSTEM_VERSION_COMPAT="0"), stdout=subprocess.PIPE, universal_newlines=True,
@@ -89,20 +95,30 @@ def mac_platforms(version: Optional[AppleVersion] = None, arch: Optional[str] = 
     ['macosx_11_0_arm64', 'macosx_11_0_universal2', 'macosx_10_16_universal2']
     """
     if version is None or arch is None:
-        told, _, machine = platform.mac_ver()
+        told, _, machine = _platform().mac_ver()
         version = _running_mac_version(told) if version is None else version
         arch = _running_mac_arch(machine) if arch is None else arch
+    endings = _mac_endings(arch)
     if (10, 0) <= version < (11, 0):
+        first, last = _MAC_FIRST.get(arch, (10, 0)), _MAC_LAST.get(arch, version)
         for minor in range(version[1], -1, -1):
-            yield from _mac_platforms_of((10, minor), _mac_formats((10, minor), arch))
+            if first <= (10, minor) <= last:
+                head = "macosx_10_%d" % minor
+                for ending in endings:
+                    yield head + ending
     if version >= (11, 0):
-        for major in range(version[0], 10, -1):
+        for major in range(version[0], 10, -1) if arch not in _MAC_LAST else ():
             # the second number says nothing of what runs, from 11 on
-            yield from _mac_platforms_of((major, 0), _mac_formats((major, 0), arch))
-        for minor in range(_MAC_LAST_OF_10, 3, -1):
+            head = "macosx_%d_0" % major
+            for ending in endings:
+                yield head + ending
+        if arch != "x86_64":
             # what was built for 10 runs on other machines where it has code for them
-            formats = _mac_formats((10, minor), arch) if arch == "x86_64" else ("universal2",)
-            yield from _mac_platforms_of((10, minor), formats)
+            endings = ["_universal2"]
+        for minor in range(_MAC_LAST_OF_10, 3, -1):
+            head = "macosx_10_%d" % minor
+            for ending in endings:
+                yield head + ending
 
 
 # ---- iOS and Android ----
@@ -122,14 +138,13 @@ def ios_platforms(version: Optional[AppleVersion] = None, multiarch: Optional[st
     ['ios_12_1_arm64_iphoneos', 'ios_12_0_arm64_iphoneos']
     """
     if version is None:
-        version = _two_numbers(_platform.ios_ver()[1])
+        version = _two_numbers(_platform().ios_ver()[1])
     if multiarch is None:
         multiarch = str(sys.implementation._multiarch)
-    machine = multiarch.replace("-", "_")
+    ending = "_" + multiarch.replace("-", "_")
     for major in range(version[0], _FIRST_IOS - 1, -1):
         last = version[1] if major == version[0] else _LAST_IOS_MINOR
-        for minor in range(last, -1, -1):
-            yield "ios_%d_%d_%s" % (major, minor, machine)
+        yield from _native.numbered("ios_%d_" % major, last, 0, ending)
 
 
 def android_platforms(api_level: Optional[int] = None, abi: Optional[str] = None) -> Iterator[str]:
@@ -138,15 +153,13 @@ def android_platforms(api_level: Optional[int] = None, abi: Optional[str] = None
     >>> list(android_platforms(17, "x86"))
     ['android_17_x86', 'android_16_x86']
     """
-    if platform.system() != "Android" and (api_level is None or abi is None):
+    if (api_level is None or abi is None) and _platform().system() != "Android":
         raise TypeError("this is no Android: api_level and abi have to be given")
     if api_level is None:
-        api_level = _platform.android_ver().api_level
+        api_level = _platform().android_ver().api_level
     if abi is None:
-        abi = sysconfig.get_platform().split("-")[-1]
-    machine = normal_text(abi)
-    for level in range(cast(int, api_level), _FIRST_ANDROID - 1, -1):
-        yield "android_%d_%s" % (level, machine)
+        abi = _configured().split("-")[-1]
+    yield from _native.numbered("android_", cast(int, api_level), _FIRST_ANDROID, "_" + normal_text(abi))
 
 
 # ---- Linux and the rest ----
@@ -160,7 +173,9 @@ _ALSO_RUN = {"armv8l": ("armv8l", "armv7l")}
 
 def linux_platforms(is_32_bit: bool = _IS_32_BIT) -> Iterator[str]:
     """The platforms of the running Linux."""
-    own = normal_text(sysconfig.get_platform())
+    from ._linux import manylinux_platforms, musllinux_platforms
+
+    own = normal_text(_configured())
     if not own.startswith("linux_"):
         # a system that is told to be another one, or a build of its own
         yield own
@@ -189,9 +204,9 @@ def platform_tags() -> Iterator[str]:
     >>> all("-" not in each for each in platform_tags())
     True
     """
-    system = _SYSTEMS.get(platform.system())
+    system = _SYSTEMS.get(_platform().system())
     if system is None:
-        return iter([normal_text(sysconfig.get_platform())])
+        return iter([normal_text(_configured())])
     return system()
 
 

@@ -8,7 +8,7 @@ TYPE_CHECKING = False
 if TYPE_CHECKING:
     from typing import Any, Callable, Dict, Optional, Tuple
 
-__all__ = ["Later", "Ordered", "SetParts", "SpecifierParts", "VersionParts", "names_of"]
+__all__ = ["Later", "SetParts", "SpecifierParts", "VersionParts", "_BaseVersion", "names_of"]
 
 # by the module that has the name: the module in which it is, and behind a colon what it is called there
 _PLACES: Dict[str, Dict[str, str]] = {
@@ -95,9 +95,10 @@ class Later:
 # ---- what the classes have of it ----
 
 
-class Ordered:
-    """Versions that are compared by their `_key`, each by its own."""
+class _BaseVersion:
+    """What `Version` is made from, for `isinstance`, and for versions of one's own, which are compared by their `_key`."""
 
+    __module__ = "pylock.version"
     __slots__ = ()
 
     if TYPE_CHECKING:
@@ -108,25 +109,25 @@ class Ordered:
     def __hash__(self) -> int:
         return hash(self._key)
 
-    def __lt__(self, other: Ordered) -> bool:
-        return self._key < other._key if isinstance(other, Ordered) else NotImplemented
+    def __lt__(self, other: _BaseVersion) -> bool:
+        return self._key < other._key if isinstance(other, _BaseVersion) else NotImplemented
 
-    def __le__(self, other: Ordered) -> bool:
-        return self._key <= other._key if isinstance(other, Ordered) else NotImplemented
+    def __le__(self, other: _BaseVersion) -> bool:
+        return self._key <= other._key if isinstance(other, _BaseVersion) else NotImplemented
 
     def __eq__(self, other: object) -> bool:
-        if not isinstance(other, Ordered):
+        if not isinstance(other, _BaseVersion):
             return NotImplemented
         return self._key == other._key
 
-    def __ge__(self, other: Ordered) -> bool:
-        return self._key >= other._key if isinstance(other, Ordered) else NotImplemented
+    def __ge__(self, other: _BaseVersion) -> bool:
+        return self._key >= other._key if isinstance(other, _BaseVersion) else NotImplemented
 
-    def __gt__(self, other: Ordered) -> bool:
-        return self._key > other._key if isinstance(other, Ordered) else NotImplemented
+    def __gt__(self, other: _BaseVersion) -> bool:
+        return self._key > other._key if isinstance(other, _BaseVersion) else NotImplemented
 
     def __ne__(self, other: object) -> bool:
-        if not isinstance(other, Ordered):
+        if not isinstance(other, _BaseVersion):
             return NotImplemented
         return self._key != other._key
 
@@ -144,10 +145,10 @@ class VersionParts:
 
     def __init_subclass__(cls, **named: Any) -> None:
         super().__init_subclass__(**named)
-        if "_regex" in vars(cls) and "__init__" not in vars(cls):
-            from ._version_parts import read_by_pattern
+        if "_regex" in vars(cls):
+            from ._subclasses import read_by_own_pattern
 
-            cls.__init__ = read_by_pattern  # type: ignore[method-assign, assignment]
+            read_by_own_pattern(cls)
         if not _PARTS.isdisjoint(vars(cls)):
             from ._subclasses import follow
 
@@ -194,7 +195,7 @@ class VersionParts:
 
         return _Version(self._epoch, self._release, self._dev, self._pre, self._post, self._local)
 
-    def __setstate__(self, state: Any) -> None:
+    def __setstate__(self, state: object) -> None:
         from ._pickles import restore_version
 
         restore_version(self, state)
@@ -205,7 +206,8 @@ class SpecifierParts:
 
     __slots__ = ()
 
-    _forced: Optional[bool]
+    if TYPE_CHECKING:
+        _forced: Optional[bool]
 
     _regex = Later("_patterns:SPECIFIER")
     _specifier_regex_str = Later("_patterns:SPECIFIER_PATTERN")
@@ -228,7 +230,7 @@ class SpecifierParts:
     def _prereleases(self, value: Optional[bool]) -> None:
         setattr(self, "_forced", value)
 
-    def __setstate__(self, state: Any) -> None:
+    def __setstate__(self, state: object) -> None:
         from ._pickles import restore_specifier
 
         restore_specifier(self, state)
@@ -239,7 +241,8 @@ class SetParts:
 
     __slots__ = ()
 
-    _forced: Optional[bool]
+    if TYPE_CHECKING:
+        _forced: Optional[bool]
 
     @property
     def _specs(self: Any) -> Any:
@@ -259,7 +262,7 @@ class SetParts:
     def _prereleases(self, value: Optional[bool]) -> None:
         setattr(self, "_forced", value)
 
-    def __setstate__(self, state: Any) -> None:
+    def __setstate__(self, state: object) -> None:
         from ._pickles import restore_set
 
         restore_set(self, state)

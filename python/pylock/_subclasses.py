@@ -11,9 +11,10 @@ from copyreg import __newobj__  # type: ignore[attr-defined]
 from typing import Any, Callable, Dict, Tuple
 
 from . import _native
-from ._version_parts import text_of
+from ._version_parts import read_by_pattern, text_of
+from .version import Version
 
-__all__ = ["follow", "reduced", "version_of"]
+__all__ = ["copied", "follow", "read_by_own_pattern", "reduced", "version_of"]
 
 
 def version_of(kind: Any, text: str) -> Any:
@@ -28,6 +29,33 @@ def reduced(self: Any, base: Any, arguments: Tuple[Any, ...], state: Tuple[Any, 
     if type(self).__init__ is base.__init__ and type(self).__new__ is base.__new__:
         return type(self), arguments
     return __newobj__, (type(self),), state
+
+
+def copied(self: Any) -> Any:
+    """A copy of an object by what a pickle has of it."""
+    told = self.__reduce_ex__(4)
+    if isinstance(told, str):
+        return self
+    function, arguments, state = (*told, None)[:3]
+    copy = function(*arguments)
+    if state is not None:
+        copy.__setstate__(state)
+    return copy
+
+# ---- a pattern of one's own ----
+
+
+class _ByPattern(Version):
+    """Versions that are read by the pattern of their class."""
+
+    __slots__ = ()
+    __init__ = read_by_pattern  # type: ignore[assignment]
+
+
+def read_by_own_pattern(kind: Any) -> None:
+    """Has the texts of a class read by its pattern, also those that an `__init__` before that of `Version` hands on."""
+    if not issubclass(kind, _ByPattern):
+        kind.__bases__ = (*[base for base in kind.__bases__ if base is not Version], _ByPattern)
 
 
 # ---- what follows from the parts of a version ----

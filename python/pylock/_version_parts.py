@@ -1,13 +1,14 @@
-"""The private parts of a version, as `packaging` has them (docs/PRIVATE.md)."""
+"""The private parts of a version, as `packaging` has them (docs/PRIVATE.md), and versions of parts that aren't in a normal form."""
 
 from __future__ import annotations
 
-from typing import Any, Match, NamedTuple, Optional, Tuple, Union
+import re
+from typing import Any, Match, NamedTuple, NoReturn, Optional, Tuple, Union
 
 from . import _native
 from ._errors import InvalidVersion
 
-__all__ = ["letter_and_number", "local_pieces", "order_tuple", "read_by_pattern", "text_of"]
+__all__ = ["from_parts", "letter_and_number", "local_pieces", "order_tuple", "read_by_pattern", "replaced", "text_of"]
 
 Lettered = Optional[Tuple[str, int]]
 Local = Optional[Tuple[Union[int, str], ...]]
@@ -85,6 +86,77 @@ def text_of(epoch: int, release: Tuple[int, ...], pre: Lettered, post: Lettered,
     pieces += [".%s%d" % part for part in (post, dev) if part is not None]
     pieces += ["+" + ".".join(map(str, local))] if local else []
     return "".join(pieces)
+
+
+# ---- versions of parts ----
+
+_LOCAL = re.compile(r"[A-Za-z0-9]+(?:[-_.][A-Za-z0-9]+)*\Z").match
+
+
+def _no_part(part: str, value: object) -> NoReturn:
+    raise InvalidVersion("Invalid version: %s can't be %r" % (part, value), word="syntax")
+
+
+def _number(part: str, value: object) -> str:
+    if not isinstance(value, int) or value < 0:
+        _no_part(part, value)
+    return "%d" % value
+
+
+def _pre_text(value: object) -> str:
+    if not isinstance(value, tuple) or len(value) != 2 or not isinstance(value[0], str):
+        _no_part("pre", value)
+    letter = _native.normalize_pre(value[0])
+    if letter not in ("a", "b", "rc"):
+        _no_part("pre", value)
+    return letter + _number("pre", value[1])
+
+
+def _made(kind: Any, text: str) -> Any:
+    """The version of a text, of a class that may take other arguments."""
+    from .version import Version
+
+    if kind is Version:
+        return Version(text)
+    from ._subclasses import version_of
+
+    return version_of(kind, text)
+
+
+def from_parts(
+    kind: Any,
+    *,
+    epoch: Any = 0,
+    release: Any,
+    pre: Any = None,
+    post: Any = None,
+    dev: Any = None,
+    local: Any = None,
+) -> Any:
+    """`Version.from_parts` of any class and of any parts, which are judged."""
+    if not isinstance(release, tuple) or not release:
+        _no_part("release", release)
+    pieces = ["%s!" % _number("epoch", epoch) if epoch else ""]
+    pieces.append(".".join([_number("release", number) for number in release]))
+    if pre is not None:
+        pieces.append(_pre_text(pre))
+    if post is not None:
+        pieces.append(".post" + _number("post", post))
+    if dev is not None:
+        pieces.append(".dev" + _number("dev", dev))
+    if local is not None:
+        if not isinstance(local, str) or not _LOCAL(local):
+            _no_part("local", local)
+        pieces.append("+" + local)
+    return _made(kind, "".join(pieces))
+
+
+def replaced(self: Any, **parts: Any) -> Any:
+    """`Version.__replace__` of any class and with any parts."""
+    for part in ("epoch", "release", "pre", "post", "dev", "local"):
+        parts.setdefault(part, getattr(self, part))
+    made = self.from_parts(**parts)
+    return self if str(made) == str(self) else made
 
 
 # ---- a pattern of one's own ----

@@ -13,16 +13,19 @@ what is no mapping, no text or no URL is refused by `DirectUrlValidationError` a
 
 from __future__ import annotations
 
-import dataclasses
-import re
 from collections import abc
-from typing import Any, Collection, Dict, Mapping, Optional, Type, TypeVar, Union
-from urllib.parse import urlsplit, urlunsplit
+from typing import TYPE_CHECKING, Any, Collection, Dict, Mapping, Optional, Type, TypeVar, Union
+
+from . import _native
+from ._records import fields_of
+
+if TYPE_CHECKING:
+    from dataclasses import dataclass
+else:
+    from ._records import dataclass
 
 __all__ = ["ArchiveInfo", "DirInfo", "DirectUrl", "DirectUrlValidationError", "VcsInfo"]
 
-# names of variables of an environment in place of user and password, which PEP 610 lets stand
-_VARIABLES = re.compile(r"\$\{[A-Za-z0-9_-]+\}(?::\$\{[A-Za-z0-9_-]+\})?")
 _INFOS = ("archive_info", "vcs_info", "dir_info")
 
 _Url = TypeVar("_Url", bound="DirectUrl")
@@ -56,7 +59,7 @@ class DirectUrlValidationError(Exception):
 def _value(table: Mapping[str, Any], key: str, kind: type) -> Any:
     """The value of a key, None where there is none; it has to be of the kind."""
     value = table.get(key)
-    if value is None or isinstance(value, kind):
+    if value is None or type(value) is kind or isinstance(value, kind):
         return value
     raise DirectUrlValidationError("a %s is expected, not a %s" % (kind.__name__, type(value).__name__), context=key)
 
@@ -71,24 +74,57 @@ def _required(table: Mapping[str, Any], key: str) -> str:
 
 def _plain(fields: Any) -> Any:
     """The fields that aren't None, in a dictionary of their own; what is no such object is given back."""
-    if isinstance(fields, Mapping):
-        return dict(fields)
-    if not isinstance(fields, (ArchiveInfo, VcsInfo, DirInfo)):
-        return fields
-    named = {field.name: getattr(fields, field.name) for field in dataclasses.fields(fields)}
-    return {name: _plain(value) for name, value in named.items() if value is not None}
+    for kind in (ArchiveInfo, VcsInfo, DirInfo):
+        if isinstance(fields, kind):
+            members = [(name, getattr(fields, name)) for name in _FIELDS[kind]]
+            return {name: _copied(member) for name, member in members if member is not None}
+    return _copied(fields)
+
+
+def _copied(value: Any) -> Any:
+    """The value, of a mapping a dictionary of its own."""
+    return dict(value) if isinstance(value, Mapping) else value
 
 
 def _without_secrets(url: str, safe: Collection[str]) -> str:
     """The URL without user and password, but for those that are safe or name variables."""
+    scheme, mark, rest = url.partition("://")
+    if mark and _is_plain(scheme, rest):
+        authority, slash, path = rest.partition("/")
+        user, at, host = authority.rpartition("@")
+        if host:
+            return url if not at or _may_stay(user, safe) else "".join((scheme, mark, host, slash, path))
+    from urllib.parse import urlsplit, urlunsplit
+
     parts = urlsplit(url)
     user, at, host = parts.netloc.rpartition("@")
-    if at and user not in safe and not _VARIABLES.fullmatch(user):
+    if at and not _may_stay(user, safe):
         parts = parts._replace(netloc=host)
     return urlunsplit(parts)
 
 
-@dataclasses.dataclass(frozen=True, init=False)
+def _is_plain(scheme: str, rest: str) -> bool:
+    """Whether a URL has a scheme, an authority and a path alone, and `urlsplit` and `urlunsplit` give it as it is."""
+    if scheme not in ("https", "http") or not rest.isascii() or not rest.isprintable():
+        return False
+    return not ("?" in rest or "#" in rest or "[" in rest or "]" in rest or " " in rest)
+
+
+def _may_stay(user: str, safe: Collection[str]) -> bool:
+    """Whether user and password may stay: they are safe, or names of variables of an environment in their place (PEP 610)."""
+    if user in safe:
+        return True
+    names = user.split(":")
+    return len(names) < 3 and all([_is_variable(name) for name in names])
+
+
+def _is_variable(text: str) -> bool:
+    """Whether it is `${NAME}`, of ASCII letters, digits, `_` and `-`."""
+    name = text[2:-1].replace("-", "_").replace("_", "0")
+    return text[:2] == "${" and text[-1:] == "}" and name.isalnum() and name.isascii()
+
+
+@dataclass(frozen=True, init=False)
 class VcsInfo:
     """A repository: its system, as `git`, the commit, and the revision that was asked for."""
 
@@ -105,10 +141,11 @@ class VcsInfo:
     def _of(cls, table: Mapping[str, Any]) -> VcsInfo:
         vcs = _required(table, "vcs")
         revision = _value(table, "requested_revision", str)
-        return cls(vcs=vcs, commit_id=_required(table, "commit_id"), requested_revision=revision)
+        fields = {"vcs": vcs, "commit_id": _required(table, "commit_id"), "requested_revision": revision}
+        return _native.made(cls, _FIELDS[VcsInfo], fields)
 
 
-@dataclasses.dataclass(frozen=True, init=False)
+@dataclass(frozen=True, init=False)
 class ArchiveInfo:
     """An archive, and its hashes by their algorithm."""
 
@@ -125,7 +162,7 @@ class ArchiveInfo:
         # `hash` is the older key: it may stand beside `hashes`, and has to be one of them then
         legacy: Optional[str] = _value(table, "hash", str)
         if legacy is None:
-            return cls(hashes=hashes)
+            return _native.made(cls, _FIELDS[ArchiveInfo], {"hashes": hashes})
         algorithm, equals, value = legacy.partition("=")
         if not equals:
             raise DirectUrlValidationError("an algorithm, `=` and a hash are expected", context="hash")
@@ -138,7 +175,7 @@ class ArchiveInfo:
         return cls(hashes=hashes)
 
 
-@dataclasses.dataclass(frozen=True, init=False)
+@dataclass(frozen=True, init=False)
 class DirInfo:
     """A folder, and whether it is installed as editable."""
 
@@ -149,21 +186,23 @@ class DirInfo:
 
     @classmethod
     def _of(cls, table: Mapping[str, Any]) -> DirInfo:
-        return cls(editable=_value(table, "editable", bool))
+        return _native.made(cls, _FIELDS[DirInfo], {"editable": _value(table, "editable", bool)})
 
 
 def _info(table: Mapping[str, Any], key: str, kind: Any) -> Any:
     """The archive, repository or folder of a document."""
-    inner = _value(table, key, abc.Mapping)
+    inner = table.get(key)
     if inner is None:
         return None
+    if type(inner) is not dict:
+        _value(table, key, abc.Mapping)
     try:
         return kind._of(inner)
     except DirectUrlValidationError as error:
         raise DirectUrlValidationError(error, context=key) from error
 
 
-@dataclasses.dataclass(frozen=True, init=False)
+@dataclass(frozen=True, init=False)
 class DirectUrl:
     """The URL that a distribution was installed from, and what stands there: an archive, a repository or a folder.
 
@@ -198,19 +237,22 @@ class DirectUrl:
 
         Keys that PEP 610 doesn't have are passed over.
         """
-        if not isinstance(d, Mapping):
+        if type(d) is not dict and not isinstance(d, Mapping):
             raise DirectUrlValidationError("a Mapping is expected, not a %s" % type(d).__name__)
         url = _required(d, "url")
         archive = _info(d, "archive_info", ArchiveInfo)
         vcs = _info(d, "vcs_info", VcsInfo)
         folder = _info(d, "dir_info", DirInfo)
         subdirectory = _value(d, "subdirectory", str)
-        count = sum(info is not None for info in (archive, vcs, folder))
+        count = 3 - [archive, vcs, folder].count(None)
         if count != 1:
             raise DirectUrlValidationError("one of archive_info, vcs_info and dir_info is expected, not %d of them" % count)
         if folder is not None and not url.startswith("file://"):
             raise DirectUrlValidationError("a folder's URL is expected to begin with `file://`", context="url")
-        return cls(url=url, archive_info=archive, vcs_info=vcs, dir_info=folder, subdirectory=subdirectory)
+        fields = {
+            "url": url, "archive_info": archive, "vcs_info": vcs, "dir_info": folder, "subdirectory": subdirectory,
+        }
+        return _native.made(cls, _FIELDS[DirectUrl], fields) if cls.__init__ is DirectUrl.__init__ else cls(**fields)
 
     def to_dict(
         self,
@@ -246,7 +288,15 @@ class DirectUrl:
         pylock.direct_url.DirectUrlValidationError: one of archive_info, vcs_info and dir_info is expected, not 0 of them
         """
         DirectUrl.from_dict(self.to_dict(strip_user_password=False))
+        from urllib.parse import urlsplit
+
         try:
             urlsplit(self.url)
         except ValueError as error:
             raise DirectUrlValidationError(error, context="url") from error
+
+
+# the fields of each class, by their names
+_FIELDS: Dict[type, Dict[str, str]] = {
+    kind: {name: name for name in fields_of(kind)} for kind in (ArchiveInfo, VcsInfo, DirInfo, DirectUrl)
+}

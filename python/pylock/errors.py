@@ -7,7 +7,8 @@ from __future__ import annotations
 
 import builtins
 import sys
-from typing import Sequence, Tuple
+
+from ._typing import Sequence, Tuple
 
 __all__ = ["ExceptionGroup"]
 

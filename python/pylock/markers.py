@@ -14,18 +14,19 @@ otherwise, whatever the variable; `packaging` goes by the variable. Two variable
 from __future__ import annotations
 
 import functools
+import operator
 import os
 import platform
-import re
 import sys
-from typing import TYPE_CHECKING, AbstractSet, Any, Dict, FrozenSet, List, Literal, Mapping, Optional, Tuple, TypedDict, Union
+from typing import TYPE_CHECKING, AbstractSet, Any, Dict, FrozenSet, Literal, Mapping, Optional, Tuple, TypedDict, Union
 
 from . import _native, _private
 from ._environment import Environment as KeptEnvironment
 from ._errors import InvalidMarker, MarkerFault, UndefinedComparison, UndefinedEnvironmentName
-from .utils import canonicalize_name
 
 if TYPE_CHECKING:
+    from typing import overload
+
     from ._parser import MarkerList
 else:
     __getattr__ = _private.names_of("markers")
@@ -41,14 +42,9 @@ __all__ = [
     "default_environment",
 ]
 
-_WHITE = " \t\n\v\f\r"
 # how many environments of mappings are kept, and how many letters the texts of each may have
 _MOST_KEPT = 64
 _MOST_LETTERS = 4096
-# a token of a marker that is one; the first group has the text of a quotation
-_TOKEN = re.compile(r"[ \t\n\v\f\r]*(?:[\"']|[()]|[=!<>~]+|[A-Za-z0-9_]+)")
-
-_Atom = Tuple[str, str, str]
 
 EvaluateContext = Literal["metadata", "lock_file", "requirement"]
 """Where a marker stands: it says which of `extra` and the sets are there without being given."""
@@ -70,20 +66,35 @@ class Environment(TypedDict):
     sys_platform: str
 
 
+# what `platform` is asked for: it keeps the answers for the process, and so is asked once, unless a program has put functions of
+# its own in the places of these
+_functions = operator.attrgetter(
+    "machine", "python_implementation", "python_version", "python_version_tuple", "release", "system", "uname", "version",
+)
+_FUNCTIONS = _functions(platform)
+
+
 def default_environment() -> Environment:
     """The variables of the running Python.
 
     >>> sorted(default_environment())[:3]
     ['implementation_name', 'implementation_version', 'os_name']
     """
-    info = sys.implementation.version
+    implementation = sys.implementation
+    told = implementation.name, implementation.version, os.name, sys.platform
+    if _functions(platform) == _FUNCTIONS:
+        return _known_environment(sys.version, *told).copy()
+    return _read_environment(*told)
+
+
+def _read_environment(name: str, info: Any, os_name: str, sys_platform: str) -> Environment:
     implementation_version = "%d.%d.%d" % info[:3]
     if info.releaselevel != "final":
         implementation_version += "%s%d" % (info.releaselevel[0], info.serial)
     return {
-        "implementation_name": sys.implementation.name,
+        "implementation_name": name,
         "implementation_version": implementation_version,
-        "os_name": os.name,
+        "os_name": os_name,
         "platform_machine": platform.machine(),
         "platform_release": platform.release(),
         "platform_system": platform.system(),
@@ -91,8 +102,13 @@ def default_environment() -> Environment:
         "python_full_version": platform.python_version(),
         "platform_python_implementation": platform.python_implementation(),
         "python_version": ".".join(platform.python_version_tuple()[:2]),
-        "sys_platform": sys.platform,
+        "sys_platform": sys_platform,
     }
+
+
+@functools.lru_cache(maxsize=1)
+def _known_environment(version: str, *told: Any) -> Environment:
+    return _read_environment(*told)
 
 
 def running_variables() -> Dict[str, str]:
@@ -185,84 +201,7 @@ def _kept(key: _Asked) -> _native.Environment:
     return kept
 
 
-# ---- the text of a marker that is one, in pieces ----
-
-
-def _tokens(text: str) -> List[str]:
-    """The tokens; of a quoted text with its signs."""
-    tokens = []
-    place, end = 0, len(text)
-    while place < end:
-        match = _TOKEN.match(text, place)
-        if match is None:
-            # white space at the end
-            break
-        token = match.group().lstrip(_WHITE)
-        place = match.end()
-        if token in "\"'":
-            close = text.index(token, place)
-            token = text[place - 1 : close + 1]
-            place = close + 1
-        tokens.append(token)
-    return tokens
-
-
-def _atoms(tokens: List[str], place: int) -> Tuple[List[Any], int]:
-    """Atoms with `and` and `or` between them, up to the end or a `)`: an atom is a list or a comparison."""
-    found: List[Any] = []
-    while True:
-        if tokens[place] == "(":
-            inner, place = _atoms(tokens, place + 1)
-            found.append(inner)
-            place += 1
-        else:
-            left, operator = tokens[place], tokens[place + 1]
-            place += 2
-            if operator == "not":
-                operator = "not in"
-                place += 1
-            found.append((left, operator, tokens[place]))
-            place += 1
-        if place == len(tokens) or tokens[place] == ")":
-            return found, place
-        found.append(tokens[place])
-        place += 1
-
-
-def _quoted(text: str) -> str:
-    """The text, which has one kind of quotation marks at most, in those of the other."""
-    sign = "'" if '"' in text else '"'
-    return sign + text + sign
-
-
-def _operand(operand: str) -> str:
-    return _quoted(operand[1:-1]) if operand[0] in "\"'" else operand
-
-
-def _normal_extra(atom: _Atom) -> _Atom:
-    """The comparison, where it is one of `extra`, with the other side in normal form."""
-    left, operator, right = atom
-    if left == "extra" and right[0] in "\"'":
-        right = _quoted(canonicalize_name(right[1:-1]))
-    elif right == "extra" and left[0] in "\"'":
-        left = _quoted(canonicalize_name(left[1:-1]))
-    return left, operator, right
-
-
-def _format(marker: Any, outermost: bool = True) -> str:
-    """The text that `packaging` writes for it."""
-    if isinstance(marker, str):
-        return marker
-    if isinstance(marker, tuple):
-        left, operator, right = marker
-        return "%s %s %s" % (_operand(left), operator, _operand(right))
-    if len(marker) == 1:
-        return _format(marker[0], outermost)
-    inner = " ".join([_format(piece, False) for piece in marker])
-    return inner if outermost else "(%s)" % inner
-
-
-class Marker:
+class Marker(_native.Marker):
     """A marker.
 
     >>> marker = Marker("python_version>='3.8' and (os_name=='posix' or extra=='Test_x')")
@@ -273,87 +212,20 @@ class Marker:
     >>> Marker("os_name = 'nt'")
     Traceback (most recent call last):
         ...
-    pylock.markers.InvalidMarker: Invalid marker: "os_name = 'nt'"
+    pylock.markers.InvalidMarker: Expected marker operator, one of <=, <, !=, ==, >=, >, ~=, ===, in, not in
+        os_name = 'nt'
+                ^
 
     `text` is the text as it was given; `str` writes it anew as `packaging` does, and markers are equal where that is.
+
+    >>> Marker("os_name == 'nt' or os_name == 'os2'") & Marker("extra == 'x'")
+    <Marker('(os_name == "nt" or os_name == "os2") and extra == "x"')>
     """
 
-    __slots__ = ("_given", "_kept", "_string", "_sets", "_tree", "__weakref__")
+    # what it says, and what it says to `&`, `|`, str, hash and ==, lie in the compiled part
+    __slots__ = ("__weakref__",)
 
-    def __init__(self, marker: str) -> None:
-        self._read(marker)
-
-    def _read(self, text: str) -> None:
-        """Makes it the marker of a text."""
-        self._kept = _native.Marker(text)
-        self._given = text
-        self._string: Optional[str] = None
-        # the sets that it reads, once they are known
-        self._sets: Optional[Tuple[str, ...]] = None
-        # the tree, once somebody has it, and its text from then
-        self._tree: Optional[Tuple[MarkerList, str]] = None
-
-    @property
-    def text(self) -> str:
-        """The text as it was given, without the white space round it."""
-        if self._tree is not None:
-            self._follow_tree()
-        return self._given.strip(_WHITE)
-
-    def __str__(self) -> str:
-        if self._tree is not None:
-            self._follow_tree()
-        string = self._string
-        if string is None:
-            # as `packaging` has it: names in normal form but in parentheses
-            atoms = [_normal_extra(atom) if isinstance(atom, tuple) else atom for atom in self._pieces()]
-            string = self._string = _format(atoms)
-        return string
-
-    def _pieces(self) -> List[Union[str, _Atom, List[Any]]]:
-        return _atoms(_tokens(self._given), 0)[0]
-
-    def __repr__(self) -> str:
-        return "<%s(%r)>" % (type(self).__name__, str(self))
-
-    def __hash__(self) -> int:
-        return hash(("Marker", str(self)))
-
-    def __eq__(self, other: object) -> bool:
-        if not isinstance(other, Marker):
-            return NotImplemented
-        return str(self) == str(other)
-
-    def _joined(self, word: str, other: Marker) -> Marker:
-        # parentheses round one comparison are in no text that is written anew
-        return self._of_text("(%s) %s (%s)" % (self._part(), word, other._part()))
-
-    def _part(self) -> str:
-        """A text for parentheses to stand round, in which the names that `extra` is compared with are normal where `str` has
-        them so."""
-        text = self.text
-        return str(self) if "extra" in text else text
-
-    @classmethod
-    def _of_text(cls, text: str) -> Marker:
-        """One of this class, whatever its `__init__` takes."""
-        new = cls.__new__(cls)
-        new._read(text)
-        return new
-
-    def __and__(self, other: Marker) -> Marker:
-        """The marker that both are true.
-
-        >>> Marker("os_name == 'nt' or os_name == 'os2'") & Marker("extra == 'x'")
-        <Marker('(os_name == "nt" or os_name == "os2") and extra == "x"')>
-        """
-        return self._joined("and", other) if isinstance(other, Marker) else NotImplemented
-
-    def __or__(self, other: Marker) -> Marker:
-        """The marker that one of them is true."""
-        return self._joined("or", other) if isinstance(other, Marker) else NotImplemented
-
-    # ---- the tree, copies ----
+    # ---- the tree, pickles ----
 
     @property
     def _markers(self) -> MarkerList:
@@ -361,7 +233,8 @@ class Marker:
         from ._parser import text_of, tree_of
 
         if self._tree is None:
-            tree = tree_of(self._given) if self._given else []
+            text = self.text
+            tree = tree_of(text) if text else []
             self._tree = tree, text_of(tree)
         return self._tree[0]
 
@@ -373,15 +246,11 @@ class Marker:
 
     def _read_tree(self, tree: MarkerList, text: str) -> None:
         """Makes it the marker of a tree with this text. One without anything in it is true."""
-        if text:
-            self._read(text)
-        else:
-            self._read("'' == ''")
-            self._given = self._string = text
+        self._read(text)
         self._tree = tree, text
 
     def _follow_tree(self) -> None:
-        """Reads the tree again, where it was changed."""
+        """Reads the tree again, where it was changed: the compiled part asks for it before it says anything."""
         from ._parser import text_of
 
         assert self._tree is not None
@@ -397,12 +266,9 @@ class Marker:
         new._markers = markers
         return new
 
-    def __copy__(self) -> Marker:
-        # who has a tree may change it, and means one marker
-        return self._of_text(self.text) if self.text else self._from_markers([])
-
-    def __deepcopy__(self, memo: Any) -> Marker:
-        return self.__copy__()
+    def __reduce_ex__(self, protocol: Any) -> Any:
+        # the first two protocols ask the compiled class for a state, and it has none
+        return super().__reduce_ex__(max(protocol, 2))
 
     def __getstate__(self) -> str:
         return self.text
@@ -419,7 +285,19 @@ class Marker:
             raise TypeError("Cannot restore Marker from %r" % (state,))
         self._markers = tree
 
-    def evaluate(
+    if TYPE_CHECKING:
+        # that of `packaging`, and one that takes whatever is taken beside: so a class may override it as it is there
+        @overload
+        def evaluate(
+            self,
+            environment: Optional[Mapping[str, Union[str, AbstractSet[str]]]] = None,
+            context: EvaluateContext = "metadata",
+        ) -> bool: ...
+
+        @overload
+        def evaluate(self, *arguments: Any, **named: Any) -> bool: ...
+
+    def evaluate(  # type: ignore[misc]
         self,
         environment: Union[KeptEnvironment, Mapping[str, Union[str, AbstractSet[str]]], None] = None,
         context: EvaluateContext = "metadata",
@@ -446,13 +324,8 @@ class Marker:
         compares what isn't a version or `extra` stands beside another operator than `==`, `!=`, `in` and `not in`, and
         MarkerFault where `extra` isn't set or a version has a number past 128 bits.
         """
-        if self._tree is not None:
-            self._follow_tree()
-        sets = self._sets
-        if sets is None:
-            sets = self._sets = self._read_sets()
-        if not sets and (environment is None or type(environment) is dict):
-            value = self._kept.evaluate_over(_layers(), environment, extra, context == "metadata", self._given)
+        if environment is None or type(environment) is dict:
+            value = self._value_over(_layers(), environment, extra, context == "metadata")
             if value is not None:
                 return value
         mapping: Any = _EMPTY
@@ -464,27 +337,19 @@ class Marker:
                 mapping = environment
                 if extra is None:
                     extra = mapping.get("extra")
-        if sets and context != "lock_file":
-            self._find_sets(sets, mapping)
+        if context != "lock_file":
+            self._find_sets(mapping)
         if extra is None:
             if context != "metadata" and "extra" not in mapping:
-                return self._kept.evaluate(kept, None, self._given)
+                return self._value_in(kept, None)
             extra = ""
-        return self._kept.evaluate(kept, extra, self._given)
+        return self._value_in(kept, extra)
 
-    def _read_sets(self) -> Tuple[str, ...]:
-        """The sets that the marker reads."""
-        text = self._given
-        if "extras" not in text and "dependency_groups" not in text:
-            return ()
-        tokens = _tokens(text)
-        return tuple(name for name in ("extras", "dependency_groups") if name in tokens)
-
-    def _find_sets(self, sets: Tuple[str, ...], mapping: Mapping[str, Any]) -> None:
-        """Refuses a set that isn't given."""
-        for name in sets:
+    def _find_sets(self, mapping: Mapping[str, Any]) -> None:
+        """Refuses a set that the marker reads and that isn't given."""
+        for name in self._sets:
             if name not in mapping:
-                message = "Marker without a value: %r (it reads %s, which isn't set)" % (self._given, name)
+                message = "Marker without a value: %r (it reads %s, which isn't set)" % (self.text, name)
                 raise UndefinedEnvironmentName(message, word="marker-unset")
 
     def evaluate_exactly(self, environment: Union[KeptEnvironment, Mapping[str, Any]]) -> bool:
@@ -496,7 +361,8 @@ class Marker:
             ...
         pylock.markers.UndefinedEnvironmentName: Marker without a value: "os_name == 'nt'" (it reads a variable that isn't set)
         """
-        if self._tree is not None:
-            self._follow_tree()
         kept = environment._kept if isinstance(environment, KeptEnvironment) else _mapped(environment, False)
-        return self._kept.evaluate(kept, None, self._given)
+        return self._value_in(kept, None)
+
+
+_native.use_marker(Marker)

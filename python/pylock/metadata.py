@@ -18,7 +18,9 @@ import email.policy
 import keyword
 import pathlib
 import re
-from typing import Any, Callable, Dict, Generic, Iterable, List, Optional, Tuple, Type, TypedDict, TypeVar, Union, cast, overload
+from typing import (
+    Any, Callable, Dict, Generic, Iterable, List, Literal, Optional, Tuple, Type, TypedDict, TypeVar, Union, cast, overload,
+)
 
 from .errors import ExceptionGroup
 from .licenses import NormalizedLicenseExpression, canonicalize_license_expression
@@ -40,6 +42,7 @@ __all__ = [
 _T = TypeVar("_T")
 
 # the versions of the specification, in their order; 2.0 was given up
+_MetadataVersion = Literal["1.0", "1.1", "1.2", "2.1", "2.2", "2.3", "2.4", "2.5"]
 _VERSIONS = ("1.0", "1.1", "1.2", "2.1", "2.2", "2.3", "2.4", "2.5")
 _REQUIRED = ("metadata_version", "name", "version")
 _CONTENT_TYPES = ("text/plain", "text/x-rst", "text/markdown")
@@ -198,7 +201,7 @@ def _content_type(header: str, value: str) -> str:
 
 
 def _dynamic(header: str, value: List[str]) -> List[str]:
-    names = [name.lower() for name in value]
+    names = list(map(str.lower, value))
     for name in names:
         if name not in _BY_HEADER:
             raise InvalidMetadata(header, "%r is no field that could be dynamic" % name)
@@ -238,7 +241,7 @@ def _license_files(header: str, value: List[str]) -> List[str]:
         else:
             continue
         raise InvalidMetadata(header, "%r is refused for %r: %s" % (path, header, why))
-    return value
+    return list(value)
 
 
 def _imports(header: str, value: List[str]) -> List[str]:
@@ -328,7 +331,7 @@ class Metadata:
 
     _raw: Dict[str, Any]
 
-    metadata_version: _Field[str] = _Field("metadata-version", "1.0", _TEXT, _metadata_version)
+    metadata_version: _Field[_MetadataVersion] = _Field("metadata-version", "1.0", _TEXT, _metadata_version)
     """The version of the specification."""
     name: _Field[str] = _Field("name", "1.0", _TEXT, _name)
     """The name, as it is written."""

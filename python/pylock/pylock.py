@@ -19,8 +19,6 @@ from __future__ import annotations
 
 import copy
 import functools
-import logging
-from dataclasses import dataclass, fields
 from datetime import datetime
 from typing import (
     TYPE_CHECKING, Any, Callable, Collection, Dict, Iterator, List, Mapping, NoReturn, Optional, Sequence, Tuple, Type, TypeVar,
@@ -30,15 +28,19 @@ from typing import (
 from . import _lock, _lock_shape, _native, _toml
 from ._environment import VARIABLES, Environment, environment as running_environment, variables_text
 from ._errors import InvalidLock, PlanFault, Refusal, StrictRefusal
+from ._records import fields_of
 from .markers import Marker, running_variables
 from .specifiers import SpecifierSet
 from .utils import NormalizedName, canonicalize_name
 from .version import Version
 
 if TYPE_CHECKING:
+    from dataclasses import dataclass
     from pathlib import PurePath
 
     from .tags import Tag
+else:
+    from ._records import dataclass
 
 __all__ = [
     "Package",
@@ -54,7 +56,6 @@ __all__ = [
     "is_valid_pylock_path",
 ]
 
-_logger = logging.getLogger(__name__)
 _NOTHING = b'{"environment": {}, "tags": []}'
 
 _Class = TypeVar("_Class")
@@ -86,7 +87,7 @@ class PylockValidationError(Refusal):
     refusal, where it has one, and `place` is the context.
     """
 
-    context: Optional[str]
+    context: Optional[str] = None
     message: str
 
     def __init__(self, cause: Union[str, Exception], *, context: Optional[str] = None, word: str = "") -> None:
@@ -321,7 +322,9 @@ class Pylock:
         lock: _Class = _of_table(cls, d)
         version = d["lock-version"]
         if version != "1.0":
-            _logger.warning("the lock is of the version %s, of which only what 1.0 has is read", version)
+            import logging
+
+            logging.getLogger(__name__).warning("the lock is of the version %s, of which only what 1.0 has is read", version)
         return lock
 
     def to_dict(self) -> Mapping[str, Any]:
@@ -335,7 +338,7 @@ class Pylock:
     def select(
         self,
         *,
-        environment: Optional[Mapping[str, Any]] = None,
+        environment: Any = None,
         tags: Optional[Sequence[Tag]] = None,
         extras: Optional[Collection[str]] = None,
         dependency_groups: Optional[Collection[str]] = None,
@@ -371,7 +374,7 @@ _CLASSES: Tuple[Type[Any], ...] = (
 )
 # of each class the keys of the lock, and the attributes that hold them
 _KEYS: Dict[Type[Any], Dict[str, str]] = {
-    each: {field.name.replace("_", "-"): field.name for field in fields(each)} for each in _CLASSES
+    each: {name.replace("_", "-"): name for name in fields_of(each)} for each in _CLASSES
 }
 
 class _Texts(Dict[str, Any]):

@@ -10,7 +10,7 @@ commas are taken, as `SpecifierSet` takes them.
 
 from __future__ import annotations
 
-from typing import TYPE_CHECKING, Any, Iterator, List, Optional, Set, Tuple
+from typing import TYPE_CHECKING, Any, Iterator, Optional, Set
 
 from . import _native, _private
 from ._errors import InvalidRequirement
@@ -19,24 +19,6 @@ from .specifiers import SpecifierSet
 from .utils import canonicalize_name
 
 __all__ = ["InvalidRequirement", "Requirement"]
-
-_WHITE = " \t\n\v\f\r"
-
-
-def parts_of(text: str) -> Tuple[str, List[str], str, Optional[str], Optional[str]]:
-    """The name, the extras, the specifier set, the URL and the marker of a requirement, as they are written."""
-    name, extras, specifier, url, marker = _native.requirement(text)
-    assert name is not None
-    return name, extras.split(",") if extras else [], _set_text(text, name) if specifier else "", url, marker
-
-
-def _set_text(text: str, name: str) -> str:
-    """The text of the set, in a requirement that has one: what stands behind name and extras, up to a `;`."""
-    text = text.lstrip(_WHITE)[len(name) :].lstrip(_WHITE)
-    if text.startswith("["):
-        text = text[text.index("]") + 1 :]
-    text = text.split(";", 1)[0].strip(_WHITE)
-    return text[1:-1].strip(_WHITE) if text.startswith("(") else text
 
 
 class Requirement:
@@ -52,7 +34,9 @@ class Requirement:
     >>> Requirement("a >= x")
     Traceback (most recent call last):
         ...
-    pylock.requirements.InvalidRequirement: Invalid requirement: 'a >= x' (its specifier set)
+    pylock.requirements.InvalidRequirement: Expected semicolon (after name with no version specifier) or end
+        a >= x
+          ^
     """
 
     name: str
@@ -67,12 +51,12 @@ class Requirement:
     """The marker, or None."""
 
     def __init__(self, requirement_string: str) -> None:
-        name, extras, specifier, url, marker = parts_of(requirement_string)
+        name, url, extras, specifier, marker = _native.requirement_parts(requirement_string)
         self.name = name
         self.url = url
-        self.extras = set(extras)
+        self.extras = extras
         self.specifier = SpecifierSet(specifier)
-        self.marker = None if marker is None else Marker(marker)
+        self.marker = marker
 
     def _iter_parts(self, name: str) -> Iterator[str]:
         yield name
@@ -88,6 +72,9 @@ class Requirement:
             yield "; %s" % self.marker
 
     def __str__(self) -> str:
+        if type(self) is Requirement:
+            return _native.requirement_text(self.name, self.extras, self.specifier, self.url, self.marker)
+        # a class may have the parts otherwise
         return "".join(self._iter_parts(self.name))
 
     def __repr__(self) -> str:

@@ -17,7 +17,6 @@ from __future__ import annotations
 
 import abc
 from itertools import accumulate, islice
-from operator import attrgetter
 from typing import TYPE_CHECKING, Any, Callable, Collection, Dict, Iterable, Iterator, List, Optional, Tuple, TypeVar, Union, overload
 
 from . import _native, _private
@@ -78,6 +77,18 @@ class BaseSpecifier(metaclass=abc.ABCMeta):
     def contains(self, item: str, prereleases: Optional[bool] = None) -> bool:
         """Whether the version is admitted."""
 
+    if TYPE_CHECKING:
+
+        @overload
+        def filter(
+            self, iterable: Iterable[UnparsedVersionVar], prereleases: Optional[bool] = None, key: None = ...
+        ) -> Iterator[UnparsedVersionVar]: ...
+
+        @overload
+        def filter(
+            self, iterable: Iterable[_Item], prereleases: Optional[bool] = None, key: Callable[[_Item], UnparsedVersion] = ...
+        ) -> Iterator[_Item]: ...
+
     @abc.abstractmethod
     def filter(
         self,
@@ -89,7 +100,7 @@ class BaseSpecifier(metaclass=abc.ABCMeta):
 
 
 class _Exact:
-    """The specifiers by `===` of a set, which compare texts as they are given, and an object that judges the others."""
+    """The specifiers by `===` of a set, which compare texts as they are given, and a set of the others."""
 
     __slots__ = ("operands", "others")
 
@@ -100,143 +111,44 @@ class _Exact:
             if item.operator == "===":
                 self.operands.append(item.version.lower())
             else:
-                others.append(item.text)
-        self.others = _native.Set(",".join(others)) if others else None
+                others.append(item)
+        self.others = SpecifierSet(others) if others else None
 
-    def passes(self, item: UnparsedVersion) -> Optional[bool]:
-        """Whether all let it through; None of a text that is no version. A version's text is its normal form."""
+    def passes(self, item: UnparsedVersion) -> bool:
+        """Whether all let it through. A version's text is its normal form."""
         text = str(item) if isinstance(item, Version) else _given(item)
         if any([text.lower() != operand for operand in self.operands]):
             return False
-        return self.others is None or self.others.passes(text)
+        return self.others is None or self.others._passes(text)
 
 
-class _Judge:
-    """What `Specifier` and `SpecifierSet` share."""
+if TYPE_CHECKING:
+    _Registered = BaseSpecifier
+else:
+    # an abstract class takes its time to answer `isinstance`
+    _Registered = object
+
+
+class _Judge(_Registered):
+    """What `Specifier` and `SpecifierSet` share, beside what lies in the compiled part."""
 
     __slots__ = ()
     __match_args__ = ("_str",)
 
-    # the text, what was said of pre-releases, and what compares texts where a specifier does
-    _text: str
-    _forced: Optional[bool]
-    _exact: Optional[_Exact]
+    def _compares(self: Any) -> _Exact:
+        """What compares texts, of specifiers of which one does."""
+        exact: Optional[_Exact] = self._exact
+        if exact is None:
+            exact = self._exact = _Exact(self._items())  # type: ignore[misc]
+        return exact
 
-    def _items(self) -> Tuple[Specifier, ...]:
-        """The specifiers."""
-        raise NotImplementedError
-
-    def _passes(self, item: UnparsedVersion) -> bool:
-        """Whether the specifiers let it through, a pre-release as any other; a text that is no version may be given."""
-        raise NotImplementedError
+    def _passes_exactly(self, item: UnparsedVersion) -> bool:
+        """Whether the specifiers let it through, of which one compares texts."""
+        return self._compares().passes(item)
 
     @property
     def _str(self) -> str:
         return str(self)
-
-    def __contains__(self, item: UnparsedVersion) -> bool:
-        return self.contains(item)
-
-    def contains(
-        self, item: UnparsedVersion, prereleases: Optional[bool] = None, installed: Optional[bool] = None
-    ) -> bool:
-        """Whether the version is in the set; a pre-release too, unless it is said here or was said before that these
-        are not admitted. One that is installed is admitted in any case.
-
-        >>> SpecifierSet(">=1.0").contains("2.0rc1")
-        True
-        >>> SpecifierSet(">=1.0").contains("2.0rc1", prereleases=False)
-        False
-
-        A text that is no version is in the empty set and in that of its own `===` alone.
-        """
-        if prereleases is None:
-            prereleases = self._forced
-        if prereleases or prereleases is None or installed:
-            return self._passes(item)
-        return self._passes(item) and not _native.phase(item)
-
-    @overload
-    def filter(
-        self, iterable: Iterable[UnparsedVersionVar], prereleases: Optional[bool] = None, key: None = None
-    ) -> Iterator[UnparsedVersionVar]: ...
-
-    @overload
-    def filter(
-        self, iterable: Iterable[_Item], prereleases: Optional[bool] = None, *, key: Callable[[_Item], UnparsedVersion]
-    ) -> Iterator[_Item]: ...
-
-    @overload
-    def filter(
-        self, iterable: Iterable[_Item], prereleases: Optional[bool], key: Callable[[_Item], UnparsedVersion]
-    ) -> Iterator[_Item]: ...
-
-    def filter(
-        self,
-        iterable: Iterable[Any],
-        prereleases: Optional[bool] = None,
-        key: Optional[Callable[[Any], UnparsedVersion]] = None,
-    ) -> Iterator[Any]:
-        """The items whose versions are admitted; `key` gives the version of an item, which else is one. Pre-releases
-        are among them where it is said, here or before, or a specifier asks for them; where nothing is said, if there
-        is no final release.
-
-        >>> list(SpecifierSet(">=1.2.3").filter(["1.2", "1.3", "1.5a1"]))
-        ['1.3']
-        >>> list(SpecifierSet(">=1.2.3").filter(["1.2", "1.5a1"]))
-        ['1.5a1']
-        >>> list(SpecifierSet(">=1.2.3").filter([("a", "1.2"), ("b", "1.3")], key=lambda pair: pair[1]))
-        [('b', '1.3')]
-        """
-        if prereleases is None:
-            prereleases = self._asks()
-        passes = self._passes
-        if key is None:
-            passing: Iterator[Any] = filter(passes, iterable)
-        else:
-            version_of = key
-            passing = (item for item in iterable if passes(version_of(item)))
-        if prereleases:
-            return passing
-        phase: Callable[[Any], Optional[bool]] = _native.phase if key is None else (lambda item: _native.phase(version_of(item)))
-        if prereleases is None:
-            return _finals_or_all(passing, phase)
-        return (item for item in passing if not phase(item))
-
-    def _asks(self) -> Optional[bool]:
-        """What was said of pre-releases, or true where a specifier asks for them."""
-        if self._forced is not None:
-            return self._forced
-        return True if any([item.prereleases for item in self._items()]) else None
-
-    @property
-    def text(self) -> str:
-        """The text as it was given; of one specifier without white space."""
-        return self._text
-
-    def __repr__(self) -> str:
-        forced = "" if self._forced is None else ", prereleases=%r" % self._forced
-        return "<%s(%r%s)>" % (type(self).__name__, str(self), forced)
-
-
-def _finals_or_all(items: Iterator[Any], phase: Callable[[Any], Optional[bool]]) -> Iterator[Any]:
-    """The items without the pre-releases, or all where none is a final release."""
-    waiting = []
-    for item in items:
-        is_prerelease = phase(item)
-        waiting.append((is_prerelease, item))
-        if is_prerelease is False:
-            break
-    else:
-        for _, item in waiting:
-            yield item
-        return
-    for is_prerelease, item in waiting:
-        if not is_prerelease:
-            yield item
-    for item in items:
-        if not phase(item):
-            yield item
 
 
 class Specifier(_private.SpecifierParts, _native.Specifier, _Judge):
@@ -246,6 +158,12 @@ class Specifier(_private.SpecifierParts, _native.Specifier, _Judge):
     ('~=', '2.2')
     >>> Specifier("==1.2.3") == Specifier("== 1.2.3.0")
     True
+
+    `prereleases` is what was said of them, else whether the operand is one; None of an operand that is no version. It can be
+    assigned; no copy takes part.
+
+    >>> Specifier(">=1.0").prereleases, Specifier(">=1.0a1").prereleases
+    (False, True)
     """
 
     # its text, its operator and operand, and what it is asked for lie in the compiled part
@@ -254,67 +172,25 @@ class Specifier(_private.SpecifierParts, _native.Specifier, _Judge):
     def _items(self) -> Tuple[Specifier, ...]:
         return (self,)
 
-    def _passes(self, item: UnparsedVersion) -> bool:
-        if not self._is_exact:
-            return self._passes_by_order(item)
-        exact = self._exact
-        if exact is None:
-            exact = self._exact = _Exact((self,))
-        return bool(exact.passes(item))
-
-    @property
-    def prereleases(self) -> Optional[bool]:
-        """What was said of pre-releases, else whether the operand is one; None of an operand that is no version.
-
-        >>> Specifier(">=1.0").prereleases, Specifier(">=1.0a1").prereleases
-        (False, True)
-
-        It can be assigned; no copy and no set that was made before takes part.
-        """
-        if self._forced is not None:
-            return self._forced
-        names = self._names
-        if names is None:
-            names = self._names = (self._names_prerelease(),)
-        return names[0]
-
-    @prereleases.setter
-    def prereleases(self, value: Optional[bool]) -> None:
-        self._forced = value
-
-    def _names_prerelease(self) -> Optional[bool]:
-        operator, operand = self._spec
-        if operator == "!=" or operator == "==" and operand.endswith(".*"):
-            return False
-        # the operand of === may be any text
-        return _native.phase(operand)
-
-    @property
-    def operator(self) -> str:
-        """The operator.
-
-        >>> Specifier("==1.2.3").operator
-        '=='
-        """
-        return self._spec[0]
-
-    @property
-    def version(self) -> str:
-        """The operand, as it is written.
-
-        >>> Specifier("== 1.2.*").version
-        '1.2.*'
-        """
-        return self._spec[1]
-
-    def __reduce__(self) -> Tuple[Any, ...]:
-        if type(self) is Specifier:
-            return Specifier, (self._text, self._forced)
+    def _reduced(self) -> Tuple[Any, ...]:
+        """What a pickle has of a specifier of one's own class."""
         from ._subclasses import reduced
 
         return reduced(self, Specifier, (self._text, self._forced), (self._spec, self._forced))
 
-    __hash__ = _native.Specifier.__hash__
+    def _copied(self) -> Specifier:
+        """A copy of a specifier of one's own class."""
+        from ._subclasses import copied
+
+        copy: Specifier = copied(self)
+        return copy
+
+    if TYPE_CHECKING:
+
+        def __hash__(self) -> int: ...
+
+    else:
+        __hash__ = _native.Specifier.__hash__
 
     def __eq__(self, other: object) -> bool:
         if isinstance(other, str):
@@ -327,7 +203,7 @@ class Specifier(_private.SpecifierParts, _native.Specifier, _Judge):
         return self._canonical_spec() == other._canonical_spec()
 
 
-class SpecifierSet(_private.SetParts, _Judge):
+class SpecifierSet(_private.SetParts, _native.Set, _Judge):
     """A set of specifiers, with commas between them; each is to admit a version.
 
     >>> versions = SpecifierSet(">=1.2, !=1.3.*")
@@ -342,152 +218,137 @@ class SpecifierSet(_private.SetParts, _Judge):
 
     `text` is the text as it was given and `normal_text` its normal form; `str` and `==` are those of a set: order and
     repetition don't count. `len` and iteration tell of each specifier that was given, in its place.
+
+    >>> SpecifierSet(" >= 2.8.1 ,, == v1!2.0.* ").normal_text
+    '>=2.8.1,==1!2.0.*'
+
+    `in` and `contains` admit a pre-release unless it is said that these are not admitted; `admits` is the order of versions
+    alone.
+
+    >>> SpecifierSet(">=1.0").contains("2.0rc1"), SpecifierSet(">=1.0").contains("2.0rc1", prereleases=False)
+    (True, False)
+    >>> SpecifierSet(">=1.0", prereleases=False).admits("2.0rc1"), "2.0rc1" in SpecifierSet(">=1.0", prereleases=False)
+    (True, False)
+    >>> SpecifierSet(">=1.0").prereleases, SpecifierSet(">=1.0a1").prereleases
+    (None, True)
+    >>> SpecifierSet(">=2,<1").is_unsatisfiable(), SpecifierSet(">=1,<2").is_unsatisfiable()
+    (True, False)
+
+    `filter` gives the items whose versions are admitted; `key` gives the version of an item, which else is one. Pre-releases
+    are among them where it is said, here or before, or a specifier asks for them; where nothing is said, if there is no final
+    release.
+
+    >>> list(SpecifierSet(">=1.2.3").filter(["1.2", "1.3", "1.5a1"]))
+    ['1.3']
+    >>> list(SpecifierSet(">=1.2.3").filter(["1.2", "1.5a1"]))
+    ['1.5a1']
+    >>> list(SpecifierSet(">=1.2.3").filter([("a", "1.2"), ("b", "1.3")], key=lambda pair: pair[1]))
+    [('b', '1.3')]
     """
 
-    __slots__ = ("_text", "_kept", "_forced", "_exact", "_made", "__weakref__")
+    # its text, its specifiers, and what it is asked for lie in the compiled part
+    __slots__ = ("__weakref__",)
 
-    def __init__(
-        self, specifiers: Union[str, Iterable[Union[Specifier, str]]] = "", prereleases: Optional[bool] = None
-    ) -> None:
-        self._made: Optional[Tuple[Specifier, ...]] = None
-        if not isinstance(specifiers, str):
-            self._made = tuple([_specifier(one) for one in specifiers])
-            specifiers = ",".join([one.text for one in self._made])
-        self._kept = _native.Set(specifiers)
-        self._text = specifiers
-        self._forced = prereleases
-        # None where no specifier compares texts
-        self._exact = _Exact(self._items()) if "===" in specifiers else None
+    if TYPE_CHECKING:
 
-    def _items(self) -> Tuple[Specifier, ...]:
-        """The specifiers, in the order of the text."""
-        specs = self._made
-        if specs is None:
-            specs = self._made = _native.specifiers(self._text)
-        return specs
+        def __and__(self, other: Union[SpecifierSet, str]) -> SpecifierSet: ...
 
-    def _passes(self, item: UnparsedVersion) -> bool:
-        passes = (self._exact or self._kept).passes(item)
-        # the empty set says nothing of texts
-        return passes if passes is not None else not self._items()
+    else:
+        __and__ = _native.Set._joined
 
-    def admits(self, version: UnparsedVersion) -> bool:
-        """Whether the version is admitted by the order of versions alone, a pre-release as any other.
-
-        >>> SpecifierSet(">=1.0", prereleases=False).admits("2.0rc1"), "2.0rc1" in SpecifierSet(">=1.0", prereleases=False)
-        (True, False)
-        """
-        return self._kept.admits(version)
-
-    @property
-    def prereleases(self) -> Optional[bool]:
-        """What was said of pre-releases, else true where a specifier asks for them, else None.
-
-        >>> SpecifierSet(">=1.0").prereleases, SpecifierSet(">=1.0a1").prereleases
-        (None, True)
-
-        It can be assigned; no copy takes part.
-        """
-        return self._asks()
-
-    @prereleases.setter
-    def prereleases(self, value: Optional[bool]) -> None:
-        self._forced = value
-
-    @property
-    def normal_text(self) -> str:
-        """The normal form: the specifiers in the order of the text, their versions in normal form.
-
-        >>> SpecifierSet(" >= 2.8.1 ,, == v1!2.0.* ").normal_text
-        '>=2.8.1,==1!2.0.*'
-        """
-        return str(self._kept)
-
-    def is_unsatisfiable(self) -> bool:
-        """Whether there is no version that it contains.
-
-        >>> SpecifierSet(">=2,<1").is_unsatisfiable(), SpecifierSet(">=1,<2").is_unsatisfiable()
-        (True, False)
-        """
-        items = self._items()
+    def _has_no_version(self, items: Tuple[Specifier, ...]) -> bool:
+        """Whether there is no version that it contains; its specifiers are given."""
         if not items:
             return False
-        if self._exact is not None:
-            operands = set(self._exact.operands)
+        if self._is_exact:
+            operands = set(self._compares().operands)
             return len(operands) > 1 or not self.contains(operands.pop())
+        # mostly one of them names a version that is in it
+        if self.contains(items[0].version):
+            return False
+        wants_final = self._forced is False
+        starts = _starts(items, wants_final)
+        if starts is not None:
+            return not any(map(self._passes, starts))
         witnesses = _Witnesses(items)
         # one of the first few is mostly enough
         if any(map(self.contains, islice(witnesses, 100))):
             return False
-        wants_final = self._forced is False
         return all([wants_final and _native.phase(version) for version in witnesses.admitted_by_all()])
 
-    def __str__(self) -> str:
-        items = self._items()
-        texts = [item._text for item in items]
-        texts.sort()
-        if len({item._spec[0] for item in items}) < len(items):
-            # of equal specifiers, whose operators are the same, the first in the order of texts
-            kept = {item._canonical_spec(): item._text for item in sorted(items, key=_text_of, reverse=True)}
-            texts = sorted(kept.values()) if len(kept) < len(items) else texts
-        return ",".join(texts)
-
-    def __hash__(self) -> int:
-        return hash(frozenset(self._items()))
-
-    def __eq__(self, other: object) -> bool:
-        if isinstance(other, (str, Specifier)):
-            other = SpecifierSet(str(other))
-        elif not isinstance(other, SpecifierSet):
-            return NotImplemented
-        return frozenset(self._items()) == frozenset(other._items())
-
-    def __len__(self) -> int:
-        return len(self._items())
-
-    def __iter__(self) -> Iterator[Specifier]:
-        return iter(self._items())
-
-    def __and__(self, other: Union[SpecifierSet, str]) -> SpecifierSet:
-        if isinstance(other, str):
-            other = SpecifierSet(other)
-        elif not isinstance(other, SpecifierSet):
-            return NotImplemented
-        forced = self._forced if other._forced is None else other._forced
-        if self._forced is not None and self._forced != forced:
-            raise ValueError("Cannot combine SpecifierSets with True and False prerelease overrides.")
-        if self._says_more() or other._says_more():
-            return SpecifierSet(self._items() + other._items(), forced)
-        return SpecifierSet(self._text + "," + other._text, forced)
-
     def __reduce__(self) -> Tuple[Any, ...]:
-        arguments = self._items() if self._says_more() else self._text, self._forced
+        told = self._items() if self._says_more() else self._text
+        arguments = (told,) if self._forced is None else (told, self._forced)
         if type(self) is SpecifierSet:
             return SpecifierSet, arguments
         from ._subclasses import reduced
 
         return reduced(self, SpecifierSet, arguments, (self._items(), self._forced))
 
-    def _says_more(self) -> bool:
-        """Whether a specifier was told of pre-releases, of which the text has nothing."""
-        return self._made is not None and any([item._forced is not None for item in self._made])
 
-
-_text_of = attrgetter("_text")
 _native.use_specifier(Specifier)
+_native.use_set(SpecifierSet)
 BaseSpecifier.register(Specifier)
 BaseSpecifier.register(SpecifierSet)
 
 
-def _specifier(one: Union[Specifier, str]) -> Specifier:
-    if isinstance(one, Specifier):
-        return one
-    if isinstance(one, str):
-        return Specifier(one)
-    raise TypeError("expected a str or Specifiers, not %s" % type(one).__name__)
-
-
 # ---- whether any version is admitted ----
+
+
+# a number of more digits may be the last that there is
+_MOST_DIGITS = 38
+
+
+def _starts(items: Collection[Specifier], wants_final: bool) -> Optional[List[str]]:
+    """Versions of which one is in the set if any is: those at which the stretches begin that a specifier admits, or, if final
+    releases are wanted, the first of these in each. What all admit begins where a stretch of one does.
+
+    None where operands have local versions, or stand beside an operator that admits many stretches then.
+    """
+    # deeper than each release that is named, so that nothing named lies between a release and this behind it
+    deep = max([item.version.count(".") for item in items]) + 1
+    starts, later = [], []
+    for item in items:
+        operator, operand = item.operator, item.version
+        is_prefix = operand.endswith(".*")
+        release = operand[:-2] if is_prefix else operand
+        is_plain = len(release) <= _MOST_DIGITS and release.replace(".", "").isdecimal()
+        if not is_plain and ("+" in operand or is_prefix or operator in (">", "!=")):
+            return None
+        if operator == "<" or operator == "<=":
+            # of a pre-release `<` is the order alone
+            if not is_plain and operator == "<" and not _native.phase(operand):
+                return None
+        elif operator == "!=":
+            later.append(_behind(release, is_prefix) + ("" if wants_final else ".dev0"))
+        elif operator == ">":
+            starts.append(release + ".0" * (deep - release.count(".") - 1) + ".1")
+        elif wants_final:
+            starts.append(release if is_plain else _first_final(operand))
+        else:
+            starts.append(release + ".dev0" if is_prefix else release)
+    if not starts:
+        # nothing lies before the first of all versions
+        starts.append("0" if wants_final else "0.dev0")
+    return starts + later
+
+
+def _first_final(text: str) -> str:
+    """The first final release that isn't before a version."""
+    version = Version(text)
+    if not version.is_prerelease:
+        return text
+    if version.pre is None and version.post is not None:
+        return "%s.post%d" % (version.base_version, version.post)
+    return version.base_version
+
+
+def _behind(release: str, is_prefix: bool) -> str:
+    """The version behind a release and its local versions, or behind all that begins with it."""
+    if not is_prefix:
+        return release + ".post0"
+    stem, dot, last = release.rpartition(".")
+    return "%s%s%d" % (stem, dot, int(last) + 1)
 
 
 class _Witnesses:
@@ -552,7 +413,7 @@ class _Witnesses:
         # how many specifiers refuse the version of a place, less those that refuse the one before
         more = [0] * len(order)
         for item, operand in zip(self._items, self._operands):
-            admits = item._passes_by_order
+            admits = item._passes
             begin, admitted = 0, True
             for place in sorted({places[text] for text in self._of(operand) if text in places}):
                 if admits(order[place]) != admitted:

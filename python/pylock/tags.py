@@ -3,6 +3,15 @@
     >>> from pylock.tags import parse_tag
     >>> sorted(str(tag) for tag in parse_tag("py2.py3-none-any"))
     ['py2-none-any', 'py3-none-any']
+    >>> parse_tag("py3-none-any") == {Tag("py3", "none", "any")}
+    True
+
+Each part of a text may be several pieces with `.` between. With `validate_order` they have to be in order (PEP 425):
+
+    >>> parse_tag("py3.py2-none-any", validate_order=True)
+    Traceback (most recent call last):
+        ...
+    pylock.tags.UnsortedTagsError: Unsorted tag: 'py3.py2' is to be 'py2.py3'
 
 The tags of the running Python, the best first, are `sys_tags()`; those of another one are asked by its parts:
 
@@ -12,11 +21,8 @@ The tags of the running Python, the best first, are `sys_tags()`; those of anoth
 
 from __future__ import annotations
 
-import logging
-import re
 import sys
-import sysconfig
-from importlib.machinery import EXTENSION_SUFFIXES
+from operator import itemgetter
 from typing import TYPE_CHECKING, AbstractSet, Any, Callable, Dict, FrozenSet, Iterable, Iterator, List, Optional, Sequence, Tuple, TypeVar
 
 from . import _native, _private
@@ -67,39 +73,13 @@ INTERPRETER_SHORT_NAMES: Dict[str, str] = {
 
 _Thing = TypeVar("_Thing")
 
-_log = logging.getLogger(__name__)
+_FIRST, _SECOND = itemgetter(0), itemgetter(1)
 
 
-# ---- texts ----
+parse_tag = _native.parse_tag
 
 
-def parse_tag(tag: str, *, validate_order: bool = False) -> FrozenSet[Tag]:
-    """The tags of a text, each part of which may be several pieces with `.` between.
-
-    >>> parse_tag("py3-none-any") == {Tag("py3", "none", "any")}
-    True
-
-    With `validate_order` the pieces of a part have to be in order (PEP 425):
-
-    >>> parse_tag("py3.py2-none-any", validate_order=True)
-    Traceback (most recent call last):
-        ...
-    pylock.tags.UnsortedTagsError: Unsorted tag: 'py3.py2' is to be 'py2.py3'
-    """
-    tags = _native.parse_tag(tag)
-    if validate_order:
-        _check_order(tag)
-    return tags
-
-
-def _check_order(tag: str) -> None:
-    """Refuses a tag of which the pieces of a part aren't in order."""
-    for part in tag.split("-"):
-        pieces = part.split(".")
-        if pieces != sorted(pieces):
-            raise UnsortedTagsError(
-                "Unsorted tag: %r is to be %r" % (part, ".".join(sorted(pieces))), word="tag-order"
-            )
+# ---- lists ----
 
 
 def create_compatible_tags_selector(
@@ -113,18 +93,19 @@ def create_compatible_tags_selector(
     >>> list(choose(wheels))
     ['b', 'a-1-cp38-abi3-win32.whl']
     """
-    places: Dict[Tag, int] = {}
-    for place, tag in enumerate(tags):
-        places.setdefault(tag, place)
+    # of equal tags the first one counts
+    ordered = list(tags)
+    places = dict(zip(reversed(ordered), range(len(ordered) - 1, -1, -1)))
+    place_of, known = places.__getitem__, frozenset(places)
 
     def choose(tagged_things: Iterable[Tuple[_Thing, AbstractSet[Tag]]]) -> Iterator[_Thing]:
         found: List[Tuple[int, _Thing]] = []
         for thing, its_tags in tagged_things:
-            best = min((places[tag] for tag in its_tags if tag in places), default=None)
-            if best is not None:
-                found.append((best, thing))
-        found.sort(key=lambda pair: pair[0])
-        return (thing for _, thing in found)
+            fitting = known.intersection(its_tags)
+            if fitting:
+                found.append((min(map(place_of, fitting)), thing))
+        found.sort(key=_FIRST)
+        return map(_SECOND, found)
 
     return choose
 
@@ -134,9 +115,14 @@ def create_compatible_tags_selector(
 
 def _config(name: str, warn: bool) -> Any:
     """A variable of the Python's configuration; `warn` tells the log where it isn't set."""
+    # imported here, as whatever the running Python is asked by: who reads and compares tags waits for none of it
+    import sysconfig
+
     value = sysconfig.get_config_var(name)
     if value is None and warn:
-        _log.debug("the configuration of this Python doesn't have %s: tags of its ABI may be wrong", name)
+        import logging
+
+        logging.getLogger(__name__).debug("the configuration of this Python doesn't have %s: tags of its ABI may be wrong", name)
     return value
 
 
@@ -151,7 +137,10 @@ def interpreter_name() -> str:
     True
     """
     name = sys.implementation.name
-    return INTERPRETER_SHORT_NAMES.get(name) or name
+    try:
+        return INTERPRETER_SHORT_NAMES[name] or name
+    except KeyError:
+        return name
 
 
 def interpreter_version(*, warn: bool = False) -> str:
@@ -164,6 +153,8 @@ def _is_debug_build(warn: bool) -> bool:
     told = _config("Py_DEBUG", warn)
     if told is not None:
         return bool(told)
+    from importlib.machinery import EXTENSION_SUFFIXES
+
     # on Windows the configuration doesn't say
     return hasattr(sys, "gettotalrefcount") or "_d.pyd" in EXTENSION_SUFFIXES
 
@@ -218,14 +209,14 @@ def _abis_of_suffix() -> List[str]:
 
 # ---- the lists ----
 
-_FREE_THREADED = re.compile(r"cp[0-9]+.*t", re.DOTALL)
-
 # the first release with a stable ABI (PEP 384)
 _FIRST_STABLE = (3, 2)
 
 
-def _tags(interpreter: str, abi: str, platforms: List[str]) -> Iterator[Tag]:
-    return (Tag(interpreter, abi, platform) for platform in platforms)
+def _is_free_threaded(abi: str) -> bool:
+    """Whether an ABI is one of a CPython without the interpreter's lock: behind its number stands a `t`."""
+    number, t, _ = abi[2:].partition("t")
+    return abi[:2] == "cp" and t == "t" and number[:1].isdecimal() and number[:1].isascii()
 
 
 def _own_abis(version: PythonVersion, abis: Optional[Iterable[str]], warn: bool) -> List[str]:
@@ -257,15 +248,18 @@ def cpython_tags(
     own = _own_abis(version, abis, warn)
     places = listed(platforms)
     for abi in own:
-        yield from _tags(interpreter, abi, places)
+        for place in places:
+            yield Tag(interpreter, abi, place)
     is_stable = len(version) > 1 and tuple(version) >= _FIRST_STABLE
-    stable = "abi3t" if own and _FREE_THREADED.match(own[0]) else "abi3"
-    if is_stable:
-        yield from _tags(interpreter, stable, places)
-    yield from _tags(interpreter, "none", places)
+    stable = "abi3t" if own and _is_free_threaded(own[0]) else "abi3"
+    for abi in (stable, "none") if is_stable else ("none",):
+        for place in places:
+            yield Tag(interpreter, abi, place)
     if is_stable:
         for minor in range(version[1] - 1, _FIRST_STABLE[1] - 1, -1):
-            yield from _tags("cp%d%d" % (version[0], minor), stable, places)
+            earlier = "cp%d%d" % (version[0], minor)
+            for place in places:
+                yield Tag(earlier, stable, place)
 
 
 def generic_tags(
@@ -285,15 +279,18 @@ def generic_tags(
     own = _abis_of_suffix() if abis is None else list(abis)
     places = listed(platforms)
     for abi in own if "none" in own else [*own, "none"]:
-        yield from _tags(interpreter, abi, places)
+        for place in places:
+            yield Tag(interpreter, abi, place)
 
 
-def _py_versions(version: PythonVersion) -> List[str]:
+def _py_versions(version: PythonVersion) -> Iterator[str]:
     """The names of the language: the release, the major release alone, and what came before."""
     major = "py%d" % version[0]
-    if len(version) < 2:
-        return [major]
-    return ["py" + _joined(version[:2]), major, *(major + str(minor) for minor in range(version[1] - 1, -1, -1))]
+    if len(version) > 1:
+        yield "py" + _joined(version[:2])
+    yield major
+    if len(version) > 1:
+        yield from _native.numbered(major, version[1] - 1, 0, "")
 
 
 def compatible_tags(
@@ -306,13 +303,14 @@ def compatible_tags(
     >>> [str(tag) for tag in compatible_tags((3, 0), "cp30", ["win32"])]
     ['py30-none-win32', 'py3-none-win32', 'cp30-none-any', 'py30-none-any', 'py3-none-any']
     """
-    names = _py_versions(python_version or sys.version_info[:2])
+    version = python_version or sys.version_info[:2]
     places = listed(platforms)
-    for name in names:
-        yield from _tags(name, "none", places)
+    for name in _py_versions(version):
+        for place in places:
+            yield Tag(name, "none", place)
     if interpreter:
         yield Tag(interpreter, "none", "any")
-    for name in names:
+    for name in _py_versions(version):
         yield Tag(name, "none", "any")
 
 

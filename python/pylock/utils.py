@@ -1,6 +1,7 @@
 """Names of projects and of files, with the names and meanings of `packaging.utils`.
 
-    >>> from pylock.utils import canonicalize_name, canonicalize_version, is_normalized_name, parse_sdist_filename
+    >>> from pylock.utils import canonicalize_name, canonicalize_version, is_normalized_name
+    >>> from pylock.utils import parse_sdist_filename, parse_wheel_filename
 
 The normal form of a text as a name (PEP 503); with `validate` a text that is no name is refused. Letters that aren't ASCII
 become lower case as `str.lower` has it, as in `packaging`.
@@ -23,11 +24,24 @@ The name in normal form and the version of an sdist (PEP 625), whose file name i
 
     >>> parse_sdist_filename("foo_bar-1.0.tar.gz")
     ('foo-bar', <Version('1.0')>)
+
+The name in normal form, the version, the build (empty, or a number and the rest) and the tags of a wheel.
+
+    >>> name, version, build, tags = parse_wheel_filename("Foo_Bar-1.0-1b-py3-none-any.whl")
+    >>> name, version, build, tags == {Tag("py3", "none", "any")}
+    ('foo-bar', <Version('1.0')>, (1, 'b'), True)
+
+With `validate_order` the pieces of a tag's part have to be in the order of texts (PEP 425):
+
+    >>> parse_wheel_filename("a-1-py3.py2-none-any.whl", validate_order=True)
+    Traceback (most recent call last):
+        ...
+    pylock.utils.InvalidWheelFilename: Invalid wheel filename: 'a-1-py3.py2-none-any.whl' (the pieces of a tag aren't in order)
 """
 
 from __future__ import annotations
 
-from typing import TYPE_CHECKING, FrozenSet, NewType, Tuple, Union
+from typing import TYPE_CHECKING, NewType, Tuple, Union
 
 from . import _native, _private
 from ._errors import InvalidName, InvalidSdistFilename, InvalidWheelFilename
@@ -54,37 +68,7 @@ canonicalize_name = _native.canonicalize_name
 canonicalize_version = _native.canonicalize_version
 is_normalized_name = _native.is_normalized_name
 parse_sdist_filename = _native.parse_sdist_filename
-
-
-def parse_wheel_filename(
-    filename: str, *, validate_order: bool = False
-) -> Tuple[NormalizedName, Version, BuildTag, FrozenSet[Tag]]:
-    """The name in normal form, the version, the build (empty, or a number and the rest) and the tags of a wheel.
-
-    >>> name, version, build, tags = parse_wheel_filename("Foo_Bar-1.0-1b-py3-none-any.whl")
-    >>> name, version, build, tags == {Tag("py3", "none", "any")}
-    ('foo-bar', <Version('1.0')>, (1, 'b'), True)
-
-    With `validate_order` the pieces of a tag's part have to be in the order of texts (PEP 425):
-
-    >>> parse_wheel_filename("a-1-py3.py2-none-any.whl", validate_order=True)
-    Traceback (most recent call last):
-        ...
-    pylock.utils.InvalidWheelFilename: Invalid wheel filename: 'a-1-py3.py2-none-any.whl' (the pieces of a tag aren't in order)
-    """
-    parts = _native.parse_wheel(filename)
-    if validate_order:
-        _in_order(filename)
-    return parts
-
-
-def _in_order(filename: str) -> None:
-    """Refuses the name of a wheel, which is one, where the pieces of a tag's part aren't in the order of texts."""
-    for part in filename[: -len(".whl")].split("-")[-3:]:
-        pieces = part.split(".")
-        if pieces != sorted(pieces):
-            message = "Invalid wheel filename: %r (the pieces of a tag aren't in order)" % filename
-            raise InvalidWheelFilename(message, word="tags")
+parse_wheel_filename = _native.parse_wheel_filename
 
 
 if not TYPE_CHECKING:

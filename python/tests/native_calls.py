@@ -129,7 +129,21 @@ def of_versions():
     yield Row("phase of one", _native.phase, lambda: (version("1.0-rc1"),))
     yield Row("versions, lt of a text", operator.lt, lambda: (version("1"), "1"), TypeError)
     yield Row("set again", _native.Version.__init__, lambda: (version("1"), "2"), TypeError)
+    for text in ("1.0", "1!2.3.rc4.post5-dev6+Local.7", LONG):
+        for named in ({}, {"local": None}, {"pre": ("b", 2)}, {"local": "x.1"}, {"pre": ("Alpha", 2)}, {"local": "X-1"}, {"post": 2**70}):
+            yield Row("%.12s.__replace__(%r)" % (text, named), lambda one, named=named: one.__replace__(**named), lambda text=text: (pylock.Version(fresh(text)),))
+    for named in ({"release": (1, 2)}, {"release": (1, 2), "epoch": 1, "pre": ("rc", 3), "post": 4, "dev": 5, "local": "x.1"}, {"release": (1,), "local": "01"}):
+        yield Row("from_parts(%r)" % named, lambda named=named: pylock.Version.from_parts(**named), fixed())
+    yield Row("from_parts, refused", lambda: pylock.Version.from_parts(release=(-1,)), fixed(), pylock.InvalidVersion)
+    for word in ("Preview", "x", "\xc4" * 9, "\u212a"):
+        yield Row("normalize_pre(%a)" % word, _native.normalize_pre, lambda word=word: (fresh(word),))
     yield Row("of no text", hash, lambda: (_native.Version.__new__(WithInit),), ValueError)
+
+
+class Untold:
+    """What isn't to be told as a text."""
+
+    __str__ = None
 
 
 def of_names():
@@ -140,16 +154,33 @@ def of_names():
     for name, text, bad, error in (
         ("requirement", "a[b,c] >=1,<2; os_name == '\t'", "a[", pylock.InvalidRequirement),
         ("requirement", "a @ https://h/é" + "x" * 600, "-", pylock.InvalidRequirement),
+        ("requirement_parts", "A_b [c, d]  (>=1,<2) ; os_name == '\u00e9' and 'x' in extras", "a; os_name", pylock.InvalidRequirement),
+        ("requirement_parts", "a @ https://h/\u00e9" + "x" * 600 + " ; os_name == 'nt'", "a\ud800", pylock.InvalidRequirement),
+        ("requirement_parts", "a" * 600, "a b", pylock.InvalidRequirement),
         ("wheel", "A_b-1.0-5x-py2.py3-none-any.whl", "a.whl", pylock.InvalidWheelFilename),
-        ("parse_wheel", "A_b-1.0.post1-5x-py2.py3-none-any.whl", "a-1-py3..py2-none-any.whl", pylock.InvalidWheelFilename),
-        ("parse_wheel", "a-1-1234567890123456789-cp310.cp311.py3-abi3-any.whl", "a-1\ud800-py3-none-any.whl", pylock.InvalidWheelFilename),
+        ("parse_wheel_filename", "A_b-1.0.post1-5x-py2.py3-none-any.whl", "a-1-py3..py2-none-any.whl", pylock.InvalidWheelFilename),
+        ("parse_wheel_filename", "a-1-1234567890123456789-cp310.cp311.py3-abi3-any.whl", "a-1\ud800-py3-none-any.whl", pylock.InvalidWheelFilename),
         ("sdist", "A_b-1.0.tar.gz", "a.tar.gz", pylock.InvalidSdistFilename),
         ("parse_sdist_filename", "A_b-1.0.zip", "a-x.zip", pylock.InvalidSdistFilename),
-        ("parse_wheel", "a-1-5\\\t-py3-none-any.whl", "a-1-\\5-py3-none-any.whl", pylock.InvalidWheelFilename),
+        ("parse_wheel_filename", "a-1-5\\\t-py3-none-any.whl", "a-1-\\5-py3-none-any.whl", pylock.InvalidWheelFilename),
     ):
         yield Row("%s(%.12s)" % (name, text), getattr(_native, name), lambda text=text: (fresh(text),))
         yield Row("%s(%.12s), refused" % (name, bad.replace("\ud800", "half")), getattr(_native, name), fixed(bad), error)
-    yield Row("parse_wheel, new tags", _native.parse_wheel, lambda: with_new_tags("a-1-cp310.cp311-abi3-any.whl"))
+    text = _native.requirement_text
+    yield Row("requirement_text", text, lambda: (fresh("a"), {fresh("x"), fresh("y")}, _native.Specifier(">=1"), fresh("u"), _native.Marker("extra == 'x'")))
+    yield Row("requirement_text of a name", text, lambda: (fresh("\u00e9" * 300), set(), "", None, None))
+    for number, odd in enumerate((5, {5}, Untold(), Untold(), Untold())):
+        parts = ["a", set(), "", None, None]
+        parts[number] = odd
+        yield Row("requirement_text, odd %d" % number, text, fixed(*parts), TypeError)
+    for name, error in (
+        ("requirement_expected", pylock.InvalidRequirement), ("marker_expected", pylock.InvalidMarker),
+        ("set_expected", pylock.InvalidSpecifier), ("specifier_expected", pylock.InvalidSpecifier),
+    ):
+        for text in ("a >= é", "a ; (os_name == '\t' " + "x" * 600, ">=1"):
+            yield Row("%s(%.9r)" % (name, text), getattr(_native, name), lambda text=text: (fresh(text),))
+        yield Row("%s(half), refused" % name, getattr(_native, name), fixed("a\ud800"), error)
+    yield Row("parse_wheel_filename, new tags", _native.parse_wheel_filename, lambda: with_new_tags("a-1-cp310.cp311-abi3-any.whl"))
 
 
 def specifier(text):
@@ -173,22 +204,53 @@ def of_specifiers():
     yield Row("Specifier again, refused", _native.Specifier.__init__, lambda: (asked(specifier(">=1")), "?"), pylock.InvalidSpecifier)
     for make in (specifier, of_set):
         for text in ("~= 1.0.0", "===x-é" if make is of_set else "===x", "!=1.0.0.*"):
-            parts = [operator.attrgetter(name) for name in ("_text", "_spec", "_is_exact")] + [str, hash, _native.Specifier._canonical_spec]
+            names = ("text", "_spec", "_is_exact", "operator", "version", "prereleases")
+            parts = [operator.attrgetter(name) for name in names] + [str, hash, _native.Specifier._canonical_spec]
             for part in parts:
                 yield Row("%s(%s), %r" % (make.__name__, text, part), part, lambda make=make, text=text: (make(text),))
-        for name in ("admits", "_passes_by_order"):
+        for name in ("admits", "_passes", "contains", "__contains__"):
             for given in ("1.0", LONG):
                 yield Row("Specifier.%s(%.6s)" % (name, given), getattr(_native.Specifier, name), lambda make=make, given=given: (make(">=1"), given))
         yield Row("Specifier.admits, refused", _native.Specifier.admits, lambda make=make: (make(">=1"), "x"), pylock.InvalidVersion)
-        yield Row("Specifier._passes_by_order of none", _native.Specifier._passes_by_order, lambda make=make: (make(">=1"), "x"))
+        yield Row("Specifier._passes of none", _native.Specifier._passes, lambda make=make: (make(">=1"), "x"))
+        for given in ("1.0rc1", "1.0", version("1.0rc1")):
+            yield Row("Specifier.contains(%.6s, False)" % given, _native.Specifier.contains, lambda make=make, given=given: (make(">=1.dev0"), given, False))
+    for name in ("__copy__", "__reduce__", "__repr__"):
+        yield Row("Specifier.%s" % name, getattr(pylock.Specifier, name), lambda: (pylock.Specifier(" >= 1.0", True),))
+    yield Row("Specifier.__reduce_ex__", pylock.Specifier.__reduce_ex__, lambda: (pylock.Specifier(" >= 1.0", True), 2))
     yield Row("Specifier of no text", str, lambda: (_native.Specifier.__new__(_native.Specifier),), ValueError)
 
 
 def asked(one):
     """The specifier, with all that it finds when it is asked."""
-    one._canonical_spec()
+    hash(one)
     one.admits("1")
     return one
+
+
+def asked_set(one):
+    """The set, with all that it finds when it is asked."""
+    return asked(one), str(one), one.prereleases, one.is_unsatisfiable()
+
+
+def of_texts(*texts):
+    """A set that is joined of those of the texts, in a row."""
+    one = pylock.SpecifierSet(texts[0])
+    for text in texts[1:]:
+        one &= text
+    return one
+
+
+def of_joined():
+    return of_texts(">=1.0", "", "!=1.5.*,!= 1.5.*", "<3")
+
+
+def of_filter(text, *arguments):
+    return _native.Set(text).filter(*arguments)
+
+
+def of_items():
+    return _native.Set([of_set(" !=1.0"), "<2"], True)
 
 
 def layers():
@@ -197,17 +259,17 @@ def layers():
 
 def of_layers():
     text = "os_name == 'nt' or 'x' == extra"
-    over = _native.Marker.evaluate_over
+    over = _native.Marker._value_over
     yield Row("Layers", _native.Layers, fixed({"os_name": "é", "sys_platform": "linux"}))
     yield Row("Layers, refused", _native.Layers, fixed({"os_name": 5}), TypeError)
     for mapping in (None, {}, {"os_name": fresh("é" * 300)}, {"os_name": "nt", "extra": "x"}, {"more": "x"}, {"os_name": 5}):
         for extra in (None, "É"):
-            yield Row("Marker.evaluate_over(%.20r, %s)" % (mapping, extra), over,
-                      lambda mapping=mapping, extra=extra: (_native.Marker(text), layers(), mapping, extra, True, ""))
-    yield Row("Marker.evaluate_over, unset", over, lambda: (_native.Marker(text), layers(), {}, None, False, "text"), pylock.MarkerFault)
+            yield Row("Marker._value_over(%.20r, %s)" % (mapping, extra), over,
+                      lambda mapping=mapping, extra=extra: (_native.Marker(text), layers(), mapping, extra, True))
+    yield Row("Marker._value_over, unset", over, lambda: (_native.Marker(text), layers(), {}, None, False), pylock.MarkerFault)
     for mapping, error in (({"os_name": "\ud800"}, pylock.InvalidEnvironment), ({"extra": "\ud800"}, pylock.InvalidName)):
-        yield Row("Marker.evaluate_over(%r), refused" % mapping, over,
-                  lambda mapping=mapping: (_native.Marker(text), layers(), mapping, None, False, "text"), error)
+        yield Row("Marker._value_over(%r), refused" % mapping, over,
+                  lambda mapping=mapping: (_native.Marker(text), layers(), mapping, None, False), error)
 
 
 class Small:
@@ -222,6 +284,15 @@ def of_tags():
     yield Row("parse_tag, new", _native.parse_tag, lambda: with_new_tags("P3.é\\-none-any"))
     for text in ("py3-none", "py3-none-\ud800"):
         yield Row("parse_tag(%r), refused" % text, _native.parse_tag, fixed(text), pylock.tags.InvalidTag)
+    for text in ("py2.py3-none-any", "py2.\xe9-none-any"):
+        yield Row("parse_tag(%a) in order" % text, lambda text: _native.parse_tag(text, validate_order=True), lambda text=text: (fresh(text),))
+    for text in ("py3.py2-none-any", "\xe9.py2-none-any"):
+        yield Row("parse_tag(%a), not in order" % text, lambda text: _native.parse_tag(text, validate_order=True), fixed(text), pylock.UnsortedTagsError)
+    for text, error in (("a-1-py2.py3-none-any.whl", None), ("a-1-py3.py2-none-any.whl", pylock.InvalidWheelFilename)):
+        yield Row("parse_wheel_filename(%s) in order" % text, lambda text: _native.parse_wheel_filename(text, validate_order=True), fixed(text), error)
+    for behind in ("_x", "_\xe9" * 300):
+        yield Row("numbered(%.3a)" % behind, _native.numbered, lambda behind=behind: (fresh("ios_"), 12, 8, fresh(behind)))
+    yield Row("Tag of capitals", _native.Tag, lambda: (fresh("CP310"), fresh("abi3"), fresh("ANY")))
     yield Row("Tag", _native.Tag, fixed("CP310", "abi3", "É"))
     yield Row("Tag of small texts", _native.Tag, lambda: (fresh("cp310"), fresh("abi3"), fresh("any")))
     yield Row("Tag of what has a lower", _native.Tag, fixed(Small(), "x", "y"))
@@ -241,21 +312,48 @@ def of_kept():
     long = ",".join("!=%d" % number for number in range(200))
     for text in (">=1.0, !=1.5.*, <3", long):
         yield Row("Set(%.5s)" % text, _native.Set, lambda text=text: (fresh(text),))
-        yield Row("str(Set(%.5s))" % text, str, lambda text=text: (_native.Set(text),))
+        yield Row("Set([%.5s])" % text, _native.Set, lambda text=text: ([fresh(each) for each in text.split(",")],))
+    parts = [operator.attrgetter(name) for name in ("text", "normal_text", "prereleases", "_is_exact")]
+    for make in (lambda: _native.Set(">=1.0, !=1.5.*, <3"), lambda: _native.Set(long), of_joined, of_items, lambda: _native.Set("")):
+        shown = str(make())[:12]
+        for part in parts + [str, repr, hash, len, list, _native.Set._items, _native.Set._says_more]:
+            yield Row("Set(%s), %r" % (shown, part), part, lambda make=make: (make(),))
+        for name, other in (("_joined", lambda: fresh("<9 ,!=3")), ("_joined", of_items), ("_joined", of_joined), ("__eq__", lambda: "<2"), ("__ne__", of_joined)):
+            yield Row("Set(%s).%s" % (shown, name), getattr(_native.Set, name), lambda make=make, other=other: (make(), other()))
+    for given in (5, ["?"], [5]):
+        yield Row("Set(%s), refused" % given, _native.Set, fixed(given), pylock.InvalidSpecifier if given == ["?"] else TypeError)
+    yield Row("Set._joined, refused", _native.Set._joined, lambda: (of_joined(), "?"), pylock.InvalidSpecifier)
+    yield Row("Set._joined, of two minds", _native.Set._joined, lambda: (_native.Set("<1", True), _native.Set("", False)), ValueError)
+    for key in (None, str):
+        for prereleases in (None, True, False):
+            yield Row("list(Set.filter(%s, %s))" % (prereleases, key), list,
+                      lambda prereleases=prereleases, key=key: (of_filter(">=1.dev0", ["1.0rc1", version("1"), "0", "x", fresh("1!2")], prereleases, key),))
+    yield Row("list(Set.filter) of pre-releases", list, lambda: (of_filter("<2", ["1rc1", version("2"), "1.dev0"]),))
+    yield Row("list(Set.filter), refused", list, lambda: (of_filter("<2", ["1rc1", 5]),), TypeError)
+    yield Row("next(Set.filter)", next, lambda: (of_filter("<2", ["1rc1", "1", "1.1"]),))
+    yield Row("Set.filter", _native.Set.filter, lambda: (_native.Set("<2"), ["1rc1"], None, str))
+    yield Row("Set.filter of nothing", _native.Set.filter, lambda: (_native.Set("<2"), 5), TypeError)
+    yield Row("Set.is_unsatisfiable", pylock.SpecifierSet.is_unsatisfiable, lambda: (pylock.SpecifierSet(">=1,<2"),))
+    yield Row("Set again", _native.Set.__init__, lambda: (_native.Set(">=1"), "<2"))
+    yield Row("Set of no text", str, lambda: (_native.Set.__new__(_native.Set),), ValueError)
     yield Row("Set, refused", _native.Set, fixed("?"), pylock.InvalidSpecifier)
-    for name in ("admits", "passes"):
+    for name in ("admits", "_passes", "contains", "__contains__"):
         for given in ("1.0", LONG):
             yield Row("Set.%s(%.6s)" % (name, given), getattr(_native.Set, name), lambda given=given: (_native.Set(">=1"), given))
         yield Row("Set.%s of one" % name, getattr(_native.Set, name), lambda: (_native.Set(">=1"), version("1.0rc1")))
     yield Row("Set.admits, refused", _native.Set.admits, lambda: (_native.Set(">=1"), "x"), pylock.InvalidVersion)
-    yield Row("Set.passes of none", _native.Set.passes, lambda: (_native.Set(">=1"), "x"))
+    yield Row("Set._passes of none", _native.Set._passes, lambda: (_native.Set(">=1"), "x"))
+    yield Row("Set.contains, refused", _native.Set.contains, lambda: (_native.Set(">=1"), "x", None, False, 1), TypeError)
     yield Row("Marker", _native.Marker, fixed("os_name == 'nt' or (extra == 'x' and python_version > '3')"))
     yield Row("Marker, refused", _native.Marker, fixed("os_name"), pylock.InvalidMarker)
+    for given in ("os_name == 'n\tt' or (extra == 'x' and python_version > '3')", "os_name == '%s'" % LONG):
+        yield Row("marker_pieces(%.14s)" % given, _native.marker_pieces, fixed(given))
+    yield Row("marker_pieces, refused", _native.marker_pieces, fixed("os_name"), pylock.InvalidMarker)
     for extra in (None, "x", "É"):
-        yield Row("Marker.evaluate(%s)" % extra, _native.Marker.evaluate,
-                  lambda extra=extra: (_native.Marker("os_name == 'nt' or 'x' == %s" % ("extra" if extra else "os_name")), environment(), extra, ""))
-    yield Row("Marker.evaluate, refused", _native.Marker.evaluate,
-              lambda: (_native.Marker("extra == 'x'"), environment(), None, "text"), pylock.MarkerFault)
+        yield Row("Marker._value_in(%s)" % extra, _native.Marker._value_in,
+                  lambda extra=extra: (_native.Marker("os_name == 'nt' or 'x' == %s" % ("extra" if extra else "os_name")), environment(), extra))
+    yield Row("Marker._value_in, refused", _native.Marker._value_in,
+              lambda: (_native.Marker("extra == 'x'"), environment(), None), pylock.MarkerFault)
     yield Row("environment_of", _native.environment_of, fixed({"os_name": "é", "no_variable": "x", "sys_platform": "linux"}))
     yield Row("environment_of, refused", _native.environment_of, fixed({"os_name": "\ud800"}), pylock.InvalidEnvironment)
     yield Row("environment_read", _native.environment_read, fixed(ENVIRONMENT))
@@ -266,6 +364,54 @@ def of_kept():
     for name in ("add_extra", "add_group"):
         yield Row("Environment." + name, getattr(_native.Environment, name), lambda: (environment(), "Some_É"))
         yield Row("Environment.%s, refused" % name, getattr(_native.Environment, name), lambda: (environment(), "\ud800"), pylock.InvalidName)
+
+
+def joined():
+    return _native.Marker("os_name == 'nt'").__and__(_native.Marker("'\u00c9_b' == extra").__or__(_native.Marker("(os_name=='\u00e9')")))
+
+
+def deep():
+    marker = one = _native.Marker("os_name == 'nt'")
+    for _ in range(66):
+        marker = marker.__or__(one)
+    return marker
+
+
+def with_tree():
+    """A marker whose tree was changed."""
+    marker = pylock.Marker("os_name == 'nt' or os_name == 'posix'")
+    del marker._markers[1:]
+    return marker
+
+
+def known(make):
+    """A marker that was asked for all that it finds."""
+    one = make()
+    return (str(one), one._value_in(environment(), "x")) and one
+
+
+def of_markers():
+    makers = (
+        lambda: _native.Marker("os_name=='nt'and(('\u00c9' not  in extras)) or extra == '\u00c9__b'"), joined, lambda: known(joined),
+        lambda: pylock.Marker(" os_name == '%s' " % ("x" * 600)), lambda: pylock.Marker("os_name == 'nt'") & pylock.Marker("'x' in dependency_groups"),
+        with_tree,
+    )
+    functions = (str, repr, hash, _native.Marker.__copy__, operator.attrgetter("text"), operator.attrgetter("_sets"), operator.attrgetter("_tree"))
+    for number, make in enumerate(makers):
+        for function in functions:
+            yield Row("marker %d, %r" % (number, function), function, lambda make=make: (make(),))
+        for name in ("__and__", "__or__", "__eq__", "__ne__"):
+            for other in (make, makers[0], lambda: 5):
+                yield Row("marker %d, %s" % (number, name), getattr(_native.Marker, name), lambda make=make, other=other: (make(), other()))
+        yield Row("marker %d, _value_in" % number, _native.Marker._value_in, lambda make=make: (make(), environment(), "x"))
+        yield Row("marker %d, _value_over" % number, _native.Marker._value_over, lambda make=make: (make(), layers(), {}, "x", True))
+        for text in (fresh("os_name == '\u00e9'"), ""):
+            yield Row("marker %d, _read(%.7s)" % (number, text), _native.Marker._read, lambda make=make, text=text: (make(), text))
+        yield Row("marker %d, _read, refused" % number, _native.Marker._read, lambda make=make: (make(), "os_name"), pylock.InvalidMarker)
+    for function in (str, hash, _native.Marker.__copy__, operator.attrgetter("text"), operator.attrgetter("_sets")):
+        yield Row("marker without a text, %r" % function, function, lambda: (_native.Marker.__new__(_native.Marker),), ValueError)
+    for function in (str, repr, hash, operator.attrgetter("text"), operator.attrgetter("_sets")):
+        yield Row("marker that is too deep, %r" % function, function, lambda: (deep(),), pylock.InvalidMarker)
 
 
 def of_locks():
@@ -344,7 +490,7 @@ def closed():
 
 
 def rows():
-    return [row for part in (of_versions, of_names, of_specifiers, of_layers, of_tags, of_kept, of_locks, of_tables) for row in part()]
+    return [row for part in (of_versions, of_names, of_specifiers, of_layers, of_tags, of_kept, of_markers, of_locks, of_tables) for row in part()]
 
 
 def shown(value):
@@ -362,20 +508,30 @@ def shown(value):
     if isinstance(value, _native.Environment):
         marker = _native.Marker("os_name == 'nt' or sys_platform == 'linux' or 'some-é' in extras or 'some-é' in dependency_groups")
         try:
-            return marker.evaluate(value, None, "")
+            return marker._value_in(value, None)
         except pylock.MarkerFault:
             return "unset"
     if isinstance(value, _native.Marker):
-        return "a marker"
+        try:
+            return str(value), value.text
+        except ValueError:
+            return "without a text"
     if isinstance(value, _native.Specifier):
         try:
             return str(value), value._spec
         except ValueError:
             return "without a text"
     if isinstance(value, _native.Layers):
-        return _native.Marker("os_name == 'posix' and sys_platform == 'linux'").evaluate_over(value, None, None, False, "")
-    if isinstance(value, (_native.Set, _native.Tag)):
+        return _native.Marker("os_name == 'posix' and sys_platform == 'linux'")._value_over(value, None, None, False)
+    if isinstance(value, _native.Set):
+        try:
+            return value.text, str(value), len(value)
+        except ValueError:
+            return "without a text"
+    if isinstance(value, _native.Tag):
         return str(value)
+    if isinstance(value, _native.Filter):
+        return "a filter"
     if isinstance(value, (Entry, Narrow)):
         return [(name, shown(getattr(value, name, None))) for name in ("name", "size", "version")]
     if isinstance(value, (frozenset, tuple, list)):

@@ -106,11 +106,15 @@ class Arguments(unittest.TestCase):
     def test_types(self):
         """What takes a text takes nothing else."""
         for name in ("version_key", "version_record", "phase", "canonicalize_version", "canonicalize_name", "is_normalized_name",
-                     "library_name", "is_name", "parse_tag", "parse_wheel", "parse_sdist_filename", "requirement", "wheel", "sdist",
-                     "specifiers", "Version", "Specifier", "Set", "Marker"):
+                     "library_name", "is_name", "parse_tag", "parse_wheel_filename", "parse_sdist_filename", "requirement", "requirement_parts", "wheel", "sdist",
+                     "requirement_expected", "marker_expected", "set_expected", "specifier_expected", "specifiers", "Version", "Specifier",
+                     "Set", "Marker"):
             for odd in (None, 1, b"1", [], {}, object(), Odd()):
                 with self.assertRaises(TypeError, msg=(name, odd)):
                     getattr(_native, name)(odd)
+        # a set takes specifiers too
+        for odd in (None, 1, b"1", [1], {None: ">=1"}, object(), Odd(), [">=1", [">=1"]]):
+            self.assertRaises(TypeError, _native.Set, odd)
         for name in ("environment_read", "environment_message", "lock_message", "lock_head"):
             for odd in (None, 1, "1", bytearray(b"x"), [], Odd()):
                 with self.assertRaises(TypeError, msg=(name, odd)):
@@ -121,12 +125,13 @@ class Arguments(unittest.TestCase):
         started, marker = native_calls.session(), _native.Marker("os_name == 'nt'")
         specifier, layers = native_calls.of_set(">=1"), native_calls.layers()
         for odd in ODDS:
-            for call in (one.admits, one.passes, kept.add_extra, kept.add_group, started.edit, started.answer, started.explain,
-                         lambda odd: marker.evaluate(odd, None, ""), lambda odd: marker.evaluate(kept, odd, ""),
-                         specifier.admits, specifier._passes_by_order, lambda odd: marker.evaluate_over(odd, None, None, False, ""),
-                         lambda odd: marker.evaluate_over(layers, odd, odd, odd, odd),
-                         lambda odd: marker.evaluate_over(layers, {"os_name": odd, "extra": odd}, None, True, ""),
-                         lambda odd: marker.evaluate_over(layers, {odd if type(odd) is str else "x": odd}, odd, True, ""),
+            for call in (one.admits, one._passes, one.contains, one._joined, one.__init__, kept.add_extra, kept.add_group, started.edit, started.answer, started.explain,
+                         lambda odd: marker._value_in(odd, None), lambda odd: marker._value_in(kept, odd),
+                         specifier.admits, specifier._passes, specifier.contains, lambda odd: marker._value_over(odd, None, None, False),
+                         lambda odd: marker._value_over(layers, odd, odd, odd), marker.__and__, marker.__or__, marker.__eq__, marker.__lt__,
+                         marker._read, lambda odd: setattr(marker, "_tree", odd), marker.__deepcopy__, marker.__init__,
+                         lambda odd: marker._value_over(layers, {"os_name": odd, "extra": odd}, None, True),
+                         lambda odd: marker._value_over(layers, {odd if type(odd) is str else "x": odd}, odd, True),
                          lambda odd: started.edit("set", None, odd, odd), lambda odd: started.edit("del", odd),
                          lambda odd: started.edit(odd, odd, odd)):
                 self.told("method", call, odd)
@@ -140,7 +145,7 @@ class Arguments(unittest.TestCase):
         for kind in (_native.Version, _native.Tag, _native.Set, _native.Marker, _native.Specifier, _native.Layers):
             self.assertRaises(TypeError, object.__new__, kind)
         for odd in ODDS:
-            for call in (_native.use_version, _native.use_tag, _native.use_specifier):
+            for call in (_native.use_version, _native.use_tag, _native.use_specifier, _native.use_set, _native.use_marker):
                 self.assertRaises(TypeError, call, odd)
 
     def test_refusals_of_another(self):
@@ -156,7 +161,8 @@ class Arguments(unittest.TestCase):
 class Texts(unittest.TestCase):
     CALLS = (_native.Version, _native.Set, _native.Marker, _native.version_key, _native.version_record, _native.phase, _native.parse_tag,
              _native.canonicalize_version, _native.canonicalize_name, _native.is_normalized_name, _native.library_name, _native.is_name,
-             _native.parse_wheel, _native.parse_sdist_filename, _native.requirement, _native.wheel, _native.sdist,
+             _native.parse_wheel_filename, _native.parse_sdist_filename, _native.requirement, _native.requirement_parts, _native.wheel, _native.sdist,
+             _native.requirement_expected, _native.marker_expected, _native.set_expected, _native.specifier_expected,
              _native.specifiers, _native.Specifier)
 
     def test_odd(self):
@@ -164,10 +170,10 @@ class Texts(unittest.TestCase):
         marker, layers = _native.Marker("os_name == 'nt' or extra == 'x'"), native_calls.layers()
 
         def laid(mapping, extra):
-            return marker.evaluate_over(layers, mapping, extra, True, "")
+            return marker._value_over(layers, mapping, extra, True)
 
         for text in TEXTS:
-            for call in (*self.CALLS, one.admits, one.passes, environment.add_extra, environment.add_group,
+            for call in (*self.CALLS, one.admits, one._passes, environment.add_extra, environment.add_group,
                          lambda text: _native.environment_of({text: text}), lambda text: laid({"os_name": text}, None), lambda text: laid({}, text),
                          lambda text: str(_native.specifiers(text)), lambda text: _native.environment_target(text, text)):
                 try:
@@ -213,8 +219,8 @@ class Classes(unittest.TestCase):
 
         late = Late(1, 2, 3)
         for part in native_calls.PARTS:
-            # a member is there or not
-            self.assertRaises(ValueError, getattr, late, part)
+            # what has no value isn't there, as in `packaging`; what is private here asks for the text
+            self.assertRaises(ValueError if part in ("_given", "_key") else AttributeError, getattr, late, part)
         for call in (str, repr, hash, lambda one: one == _native.Version("1"), lambda one: _native.Version("1") < one, _native.phase,
                      _native.canonicalize_version, _native.Set("").admits):
             self.assertRaises(ValueError, call, late)
@@ -238,7 +244,7 @@ class Classes(unittest.TestCase):
         class Noted(module.Version):
             def __del__(self):
                 ended.append(str(self))
-                module.parse_wheel("a-%s-py3-none-any.whl" % (len(ended) % 3)) if len(ended) < 20 else None
+                module.parse_wheel_filename("a-%s-py3-none-any.whl" % (len(ended) % 3)) if len(ended) < 20 else None
 
         class NotedTag(module.Tag):
             def __del__(self):
@@ -247,11 +253,11 @@ class Classes(unittest.TestCase):
         module.use_version(Noted)
         module.use_tag(NotedTag)
         for number in range(100):
-            self.assertIs(type(module.parse_wheel("a-%d-py%d-none-any.whl" % (number, number))[1]), Noted)
+            self.assertIs(type(module.parse_wheel_filename("a-%d-py%d-none-any.whl" % (number, number))[1]), Noted)
         module.use_tag(module.Tag)
         self.assertGreaterEqual(len(ended), 200)
         Noted.__init__ = lambda self, *given: 1 // 0
-        self.assertEqual(str(module.parse_wheel("a-7-py3-none-any.whl")[1]), "7")
+        self.assertEqual(str(module.parse_wheel_filename("a-7-py3-none-any.whl")[1]), "7")
 
     def test_tags_again(self):
         """The memory of tags is used again, as long as their module has their type."""
@@ -293,7 +299,7 @@ class Classes(unittest.TestCase):
         class FreeSpecifier(_native.Specifier):
             pass
 
-        for name in ("_forced", "_names", "_exact", "more"):
+        for name in ("_forced", "_exact", "more"):
             one = FreeSpecifier(">=1")
             setattr(one, name, [one])
             gone = weakref.ref(one)
@@ -304,7 +310,8 @@ class Classes(unittest.TestCase):
     def test_specifiers_in_a_row(self):
         """Each of a million holds the next."""
         gc.disable()
-        for kind, name, count in ((_native.Specifier, "_forced", 1_000_000), (_native.Specifier, "_exact", 10_000), (pylock.Specifier, "_forced", 10_000)):
+        for kind, name, count in ((_native.Specifier, "_forced", 1_000_000), (_native.Specifier, "_exact", 10_000), (pylock.Specifier, "_forced", 10_000),
+                                  (_native.Set, "_forced", 1_000_000), (_native.Set, "_exact", 10_000), (pylock.SpecifierSet, "_forced", 10_000)):
             one = None
             for _ in range(count):
                 holder = kind.__new__(kind)
@@ -324,7 +331,7 @@ class Classes(unittest.TestCase):
             for one in _native.parse_tag(text):
                 one.__class__ = Other
             self.assertEqual({type(one) for one in _native.parse_tag(text)}, {_native.Tag})
-            self.assertEqual({type(one) for one in _native.parse_wheel("a-1-%s.whl" % text)[3]}, {_native.Tag})
+            self.assertEqual({type(one) for one in _native.parse_wheel_filename("a-1-%s.whl" % text)[3]}, {_native.Tag})
             self.assertEqual({type(one) for one in pylock.parse_tag(text)}, {pylock.Tag})
 
     def test_made_of_another_class(self):
@@ -356,7 +363,7 @@ class Classes(unittest.TestCase):
                 one.admits("1")
 
         for number in range(3):
-            one._names, one._exact = Reader(), [Reader()]
+            one._forced, one._exact = Reader(), [Reader()]
             one.__init__("==%d" % number, True)
             self.assertEqual((str(one), one.admits(str(number)), one.admits("7")), ("==%d" % number, True, False))
             self.assertRaises(pylock.InvalidSpecifier, one.__init__, "?")
@@ -396,9 +403,11 @@ gone = []
 for _ in range(5):
     module = native_hard.new_module()
     module.kept = [module.Version("1.0.0-RC1"), module.Tag("a", "b", "c"), module.Set(">=1"), module.Marker("os_name == 'nt'"),
-                   module.environment_of({"os_name": "nt"}), *module.parse_wheel("a-1-py3-none-any.whl"), module.Layers({"os_name": "nt"}),
-                   *module.specifiers(">=2"), type("Sub", (module.Version,), {})("1"), type("Sub", (module.Specifier,), {"__slots__": ()})("<1")]
+                   module.environment_of({"os_name": "nt"}), *module.parse_wheel_filename("a-1-py3-none-any.whl"), module.Layers({"os_name": "nt"}),
+                   module.Set(">=1")._joined(module.Set("<2")).filter(["1"]), *module.specifiers(">=2"), type("Sub", (module.Version,), {})("1"),
+                   module.requirement_parts("a; os_name == 'nt'")[4], type("Sub", (module.Specifier,), {"__slots__": ()})("<1")]
     module.kept[-1]._forced = module.kept[0].release, module
+    module.kept[-2]._tree = module, module.kept[-2].__and__(module.kept[3])
     gone += map(weakref.ref, {module, *map(type, module.kept[:4])} | {type(module.kept[-1]), module.Specifier, module.Layers})
     del module
     gc.collect()
@@ -412,15 +421,15 @@ assert len(gone) == 40 and not any(one() for one in gone), [one() for one in gon
         for _ in range(5):
             module = new_module()
             kept = [module.Version("1.0.0-RC1"), module.Tag("a", "b", "c"), module.Set(">=1"), module.Marker("os_name == 'nt'"),
-                    module.environment_of({"os_name": "nt"}), module.session_start(LOCK, ENVIRONMENT), *module.parse_wheel("a-1-py3-none-any.whl"),
+                    module.environment_of({"os_name": "nt"}), module.session_start(LOCK, ENVIRONMENT), *module.parse_wheel_filename("a-1-py3-none-any.whl"),
                     module.Layers({"os_name": "nt"}), *module.specifiers(">=2")]
             gone = weakref.ref(module)
             del module
             gc.collect()
             self.assertIsNotNone(gone())
-            self.assertTrue(kept[3].evaluate(kept[4], None, "") and kept[2].admits(kept[0]) is False and len(kept[5].answer(True)) == 2)
+            self.assertTrue(kept[3]._value_in(kept[4], None) and kept[2].admits(kept[0]) is False and len(kept[5].answer(True)) == 2)
             self.assertEqual(str(kept[0]), "1.0.0rc1")
-            self.assertTrue(kept[-1].admits("5") and kept[3].evaluate_over(kept[-2], None, None, False, ""))
+            self.assertTrue(kept[-1].admits("5") and kept[3]._value_over(kept[-2], None, None, False))
             # the thread has an object that holds the module, until it ends
             del kept
         gc.collect()
@@ -431,7 +440,7 @@ assert len(gone) == 40 and not any(one() for one in gone), [one() for one in gon
         self.assertNotEqual(one, other)
         self.assertRaises(TypeError, lambda: one < other)
         self.assertRaises(TypeError, _native.Set("").admits, other)
-        self.assertRaises(TypeError, _native.Marker("os_name == 'a'").evaluate, module.environment_of({}), None, "")
+        self.assertRaises(TypeError, _native.Marker("os_name == 'a'")._value_in, module.environment_of({}), None)
         self.assertRaises(TypeError, _native.use_version, module.Version)
 
     def test_taken_apart(self):
@@ -445,18 +454,19 @@ heard = []
 for order in range(40):
     module = native_hard.new_module()
     kept = [module.Version("1.0.0-RC1"), module.Version("2"), module.Set(">=1"), module.Marker("os_name == 'nt'"), module.environment_of({"os_name": "nt"}),
-            module.Tag("a", "b", "c"), module.parse_wheel("a-1-py3-none-any.whl")[1], module.Layers({"os_name": "nt"}), module.specifiers(">=2")[0]]
-    def late(self, kept=kept, module=module, calls=(module.parse_wheel, module.parse_tag, module.environment_of, module.environment_read,
+            module.Tag("a", "b", "c"), module.parse_wheel_filename("a-1-py3-none-any.whl")[1], module.Layers({"os_name": "nt"}), module.specifiers(">=2")[0]]
+    def late(self, kept=kept, module=module, calls=(module.parse_wheel_filename, module.parse_tag, module.environment_of, module.environment_read,
              module.session_start, module.phase, module.use_tag, module.use_version, module.Version, module.Tag, module.Set, module.Marker,
-             module.Specifier, module.specifiers, module.Layers, module.use_specifier)):
+             module.Specifier, module.specifiers, module.Layers, module.use_specifier, module.use_set)):
         for call, given in (
             (lambda: kept[0] < kept[1], ()), (hash, (kept[6],)), (str, (kept[0],)), (kept[2].admits, (kept[0],)), (kept[2].admits, ("x",)),
-            (kept[3].evaluate, (kept[4], None, "")), (str, (kept[5],)), (lambda: kept[5] == kept[5], ()), (calls[0], ("a-1-py2.py3-none-any.whl",)),
+            (kept[3]._value_in, (kept[4], None)), (str, (kept[5],)), (lambda: kept[5] == kept[5], ()), (calls[0], ("a-1-py2.py3-none-any.whl",)),
             (calls[1], ("py2.py3-none-any",)), (calls[2], ({"os_name": "x"},)), (calls[3], (ENVIRONMENT,)), (calls[4], (LOCK, ENVIRONMENT)),
             (calls[5], ("1rc1",)), (calls[6], (kept[5].__class__,)), (calls[7], (kept[0].__class__,)), (calls[8], ("1",)), (calls[8], ("x",)),
             (calls[9], ("a", "b", "c")), (calls[10], (">=1",)), (calls[10], ("?",)), (calls[11], ("os_name == 'a'",)), (repr, (kept[0],)),
-            (kept[3].evaluate_over, (kept[7], {"os_name": "x", "extra": "y"}, None, True, "")), (kept[8].admits, ("1",)), (hash, (kept[8],)),
+            (kept[3]._value_over, (kept[7], {"os_name": "x", "extra": "y"}, None, True)), (kept[8].admits, ("1",)), (hash, (kept[8],)),
             (calls[12], (">=1",)), (calls[12], ("?",)), (calls[13], (">=1,<2",)), (calls[14], ({"os_name": "x"},)), (calls[15], (kept[8].__class__,)),
+            (calls[16], (kept[2].__class__,)), (kept[2]._joined, (kept[2],)), (kept[2]._joined, ("<2",)), (list, (kept[2],)), (str, (kept[2],)),
         ):
             try: call(*given)
             except Exception as error: heard.append(type(error).__name__)
@@ -494,7 +504,7 @@ class Running(unittest.TestCase):
             for turn in range(60):
                 for number, version in enumerate(shared):
                     answers = (one.admits(version), str(version), hash(version) == hash(str(version)) or version == type(version)(str(version)),
-                               version.release, version.is_prerelease, marker.evaluate(environment, None, ""), str(new_tags[turn]))
+                               version.release, version.is_prerelease, marker._value_in(environment, None), str(new_tags[turn]))
                     if answers != (number % 4 in (1, 2), "%d.%drc1" % (number % 4, number), True, (number % 4, number), True, True, "p%d-n-a" % turn):
                         problems.append(answers)
                 environment.add_group("g%d" % (turn % 3))
@@ -676,7 +686,7 @@ gc.disable()
 other = native_hard.new_module()
 def everything(module):
     return [module.Version("1.0-RC1"), module.Tag("a", "b", "c"), module.Set(">=1"), module.Marker("os_name == 'a'"), module.environment_of({}),
-            module.session_start(native_calls.LOCK, native_calls.ENVIRONMENT), module.parse_wheel("a-1-py3-none-any.whl")]
+            module.session_start(native_calls.LOCK, native_calls.ENVIRONMENT), module.parse_wheel_filename("a-1-py3-none-any.whl")]
 class Late:
     def __init__(self, module): self.kept = everything(module); self.module = module; self.itself = self
     def __del__(self, len=len, str=str, everything=everything):

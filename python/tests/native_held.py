@@ -76,6 +76,10 @@ def of_names():
     yield "canonicalize_name, refused", case_of_names(_native.canonicalize_name, lambda: {"validate": True, "name": fresh("-a")})
     yield "canonicalize_version", case_of_names(_native.canonicalize_version, lambda: {"version": fresh("1!1.0.0-RC1+x"), "strip_trailing_zero": 1})
     yield "canonicalize_version of none", case_of_names(_native.canonicalize_version, lambda: {"version": fresh("none at all")})
+    yield "parse_tag", case_of_names(_native.parse_tag, lambda: {"tag": fresh("P2.\xe9-none-any"), "validate_order": False})
+    yield "parse_tag in order", case_of_names(_native.parse_tag, lambda: {"validate_order": True, "tag": fresh("p2.p3-none-any")})
+    yield "parse_tag, not in order", case_of_names(_native.parse_tag, lambda: {"validate_order": True, "tag": fresh("p3.\xe9.p2-none-any")})
+    yield "parse_wheel_filename", case_of_names(_native.parse_wheel_filename, lambda: {"filename": fresh("a-1.0-5x-py3.py2-none-any.whl"), "validate_order": True})
     yield "parse_sdist_filename", case_of_names(_native.parse_sdist_filename, lambda: {"filename": fresh("A_b-1.0.zip")})
     yield "parse_sdist_filename, refused", case_of_names(_native.parse_sdist_filename, lambda: {"filename": fresh("A_b.zip")})
     for kind in (_native.Version, Free):
@@ -107,7 +111,7 @@ def of_their_own():
     def read_again():
         one = _native.Specifier(">=1")
         case = Case(_native.Specifier.__init__, (one,), {"spec": fresh("<2"), "prereleases": fresh("more")}, told=(RuntimeError,))
-        one._names = Ended(case.clear)
+        one._exact = Ended(case.clear)
         return case
 
     yield "Specifier.__init__", read_again
@@ -126,11 +130,11 @@ def of_dicts():
             yield "environment_of({%r: %r})" % (odd, value), lambda odd=odd, value=value: Case(
                 _native.environment_of, ({"sys_platform": fresh("linux"), fresh(odd) if isinstance(odd, str) else odd: value if value == 5 else fresh(value)},),
                 told=changed)
-    over = _native.Marker.evaluate_over
+    over = _native.Marker._value_over
     for value in ("nt", "\ud800", 5):
         yield "evaluate_over(%r)" % value, lambda value=value: Case(
             over, (_native.Marker("os_name == 'nt' or 'x' == extra"), native_calls.layers(), {"os_name": value if value == 5 else fresh(value), "extra": fresh("more\ud800")},
-                   None, False, "text"))
+                   None, False))
     other = native_calls.OTHERS.__getitem__
     yield "toml", lambda: Case(_native.toml, ({"a": [fresh("b"), {"c": fresh("d\ud800")}], "e": [5j], "f": fresh("g")}, other), told=changed)
     yield "made", lambda: Case(_native.made, (native_calls.Entry, dict(native_calls.ATTRIBUTES), {"version": fresh("1.0"), "name": fresh("b")}), told=changed)
@@ -144,7 +148,8 @@ def of_specifiers():
             for name, function, more in (
                 ("hash", hash, ()), ("str", str, ()), ("_spec", lambda one: one._spec, ()), ("_is_exact", lambda one: one._is_exact, ()),
                 ("_canonical_spec", _native.Specifier._canonical_spec, ()), ("admits", _native.Specifier.admits, ("7",)),
-                ("_passes_by_order", _native.Specifier._passes_by_order, ("no version\ud800",)), ("__init__", _native.Specifier.__init__, ("<9",)),
+                ("_passes", _native.Specifier._passes, ("no version\ud800",)), ("__init__", _native.Specifier.__init__, ("<9",)),
+                ("prereleases", lambda one: one.prereleases, ()), ("contains", _native.Specifier.contains, ("7rc1", False)),
             ):
                 def case(make=make, text=text, function=function, more=more):
                     one = make(text)
@@ -161,17 +166,72 @@ def of_specifiers():
                 yield "%s(%s).%s" % (make.__name__, text, name), case
 
 
+def of_sets():
+    """The same of a set, which may be of a text, of specifiers or joined; what it is joined with is read again too."""
+    makes = (lambda: _native.Set(fresh(">= 1.0.0,!=1.5 ,!=1.5.0")), native_calls.of_items, native_calls.of_joined)
+    for number, make in enumerate(makes):
+        for name, function, more in (
+            ("hash", hash, ()), ("str", str, ()), ("list", list, ()), ("text", lambda one: one.text, ()), ("prereleases", lambda one: one.prereleases, ()),
+            ("normal_text", lambda one: one.normal_text, ()), ("contains", _native.Set.contains, ("7rc1", False)), ("admits", _native.Set.admits, ("7",)),
+            ("_joined", _native.Set._joined, ("<9, !=7.0",)), ("of itself", lambda one: str(one._joined(one)), ()), ("==", lambda one: one == "<3,>=1", ()),
+            ("__init__", _native.Set.__init__, ("<9",)), ("__init__ of items", _native.Set.__init__, (["<9", ">=1"],)),
+        ):
+            def case(make=make, function=function, more=more):
+                one = make()
+
+                def after():
+                    if one.text == "==7.0":
+                        assert (str(one), [str(each) for each in one], one.admits("7"), one.admits("1"), hash(one), len(one)) == (
+                            "==7.0", ["==7.0"], True, False, hash(_native.Set("==7")), 1), str(one)
+                    assert one.normal_text.count("=") == one.text.count("="), (one.normal_text, one.text)
+
+                return Case(function, (one, *more), action=lambda: one.__init__("==7.0"), told=None, after=after)
+
+            yield "%d.%s" % (number, name), case
+
+
+def of_markers():
+    """A marker is read again meanwhile, or its sides are: it says the one or the other."""
+    for make in (lambda: _native.Marker("os_name=='nt' or (extra == '\u00c9_b')"), native_calls.joined, lambda: native_calls.known(native_calls.joined)):
+        for name, function, more in (
+            ("str", str, ()), ("hash", hash, ()), ("text", lambda one: one.text, ()), ("_sets", lambda one: one._sets, ()), ("copy", _native.Marker.__copy__, ()),
+            ("__and__", _native.Marker.__and__, (native_calls.joined(),)), ("__eq__", _native.Marker.__eq__, (native_calls.joined(),)),
+            ("_read", _native.Marker._read, ("os_name == 'x'",)), ("__init__", _native.Marker.__init__, ("os_name == 'x'",)),
+            ("_value_in", _native.Marker._value_in, (native_calls.environment(), fresh("\u00c9\ud800"))),
+            ("_value_over", _native.Marker._value_over, (native_calls.layers(), {"os_name": fresh("nt")}, None, True)),
+        ):
+            def case(make=make, function=function, more=more):
+                one = make()
+
+                def after():
+                    assert str(one) in ('os_name == "new"', 'os_name == "x"', str(make())), str(one)
+
+                return Case(function, (one, *more), action=lambda: (str(one.__or__(one)), one.__init__("os_name == 'new'")), told=None, after=after)
+
+            yield "marker, %s" % name, case
+
+    def shared():
+        """What has it as a side asks for the string meanwhile, and another for its text."""
+        side = native_calls.joined()
+        whole = side.__or__(side)
+        return Case(str, (whole,), action=lambda: (str(side), str(whole), gc.collect()), told=None, after=lambda: str(whole) == str(side.__or__(side)) or 1 / 0)
+
+    yield "marker, sides", shared
+
+
 def of_modules():
     """The layer says meanwhile that other classes and refusals are used, and the tags that are kept are given up."""
     another = new_module()
     for name, arguments in (
-        ("parse_wheel", ("a-1.0-5x-py2.py3-none-any.whl",)), ("parse_wheel", ("a",)), ("parse_sdist_filename", ("a-1.0.zip",)), ("parse_tag", ("P2.\xc9-none-any",)),
-        ("specifiers", (">=1,<2",)), ("Version", ("x",)), ("Set", ("?",)), ("phase", (native_calls.LONG + "rc1",)), ("lock_head", (b"x",)),
-        ("session_start", (LOCK, ENVIRONMENT)), ("canonicalize_version", ("1.0.0-RC1",)),
+        ("parse_wheel_filename", ("a-1.0-5x-py2.py3-none-any.whl",)), ("parse_wheel_filename", ("a",)), ("parse_sdist_filename", ("a-1.0.zip",)), ("parse_tag", ("P2.\xc9-none-any",)),
+        ("specifiers", (">=1,<2",)), ("Version", ("x",)), ("Set", ("?",)), ("Set", ([">=1", "<2"],)), ("phase", (native_calls.LONG + "rc1",)), ("lock_head", (b"x",)),
+        ("session_start", (LOCK, ENVIRONMENT)), ("canonicalize_version", ("1.0.0-RC1",)), ("requirement_parts", ("A_b[c,d]>=1; os_name == '\xe9'",)),
+        ("requirement_parts", ("?",)), ("Marker", ("os_name",)),
     ):
         def case(name=name, arguments=arguments, module=another):
             def other():
-                for use, base in ((module.use_version, module.Version), (module.use_tag, module.Tag), (module.use_specifier, module.Specifier)):
+                for use, base in ((module.use_version, module.Version), (module.use_tag, module.Tag), (module.use_specifier, module.Specifier),
+                                  (module.use_set, module.Set), (module.use_marker, module.Marker)):
                     use(type("Other", (base,), {"__slots__": ()}))
                 maker = [lambda *given: ValueError(other(), given) if len(given) == 9 else ValueError(given[0])]
                 module.use_refusals(maker[0], maker.pop())
@@ -228,7 +288,7 @@ def test_of(name, make):
 
 
 tried = [0]
-for number, (one, make_one) in enumerate(pair for part in (of_names, of_their_own, of_dicts, of_specifiers, of_modules) for pair in part()):
+for number, (one, make_one) in enumerate(pair for part in (of_names, of_their_own, of_dicts, of_specifiers, of_sets, of_markers, of_modules) for pair in part()):
     setattr(Held, "test_%03d" % number, test_of(one, make_one))
     getattr(Held, "test_%03d" % number).__doc__ = one
 

@@ -133,9 +133,9 @@ ROWS = [
 
 
 def loop(expression, values):
-    """A function that gives the processor time of the expression for each of the items."""
+    """A function that gives the processor time of the expression, or a statement, for each of the items."""
     scope = dict(values, clock=time.process_time)
-    exec("def run(items):\n begin = clock()\n for item in items: %s\n return clock() - begin" % expression, scope)
+    exec("def run(items):\n begin = clock()\n for item in items:\n  %s\n return clock() - begin" % expression, scope)
     return scope["run"]
 
 

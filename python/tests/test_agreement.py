@@ -6,12 +6,17 @@ answers; docs/PYTHON.md has the reasons.
 """
 
 import copy
+import functools
+import importlib
 import inspect
 import itertools
+import operator
 import pickle
+import random
 import re
 import sys
 import unittest
+from unittest import mock
 
 from support import reference, release, refused
 
@@ -76,6 +81,14 @@ REQUIREMENTS = [
 ]
 NO_REQUIREMENTS = ["", "-a", "a-", "a b", "a[b", "a[b,]", "a[,b]", "a (>=1", "a >=1)", "a >=", "a @", "a ;", "a ; x", "a @ u v", "a 1.0", "a[b c]",
                    "a @ u ;", "a>=1 os_name=='nt'", "a = 1", "a[-b]", "@ u"]
+# refused at many places; before each all is right
+MISPLACED = [
+    "a[!]", "a[b!]", "a[b,!]", "a[b, c d]", "a>=1.0.*", "a<1+x", "a>=1.0.* , <2", "a>=1.0,<2.*", "a<1+x,<2", "a (>=1 b)", "a (>=1,b)", "a >=1 b",
+    "a >=1.x", "a ~=1", "a >=1,b", "a >=1, <", "a (", "a )", "a >=1)", "a ()x", "a ==1.0+", "a >= 1 . 0", "  a >=1 b", "a \u00e9", "a[b]>=1.x",
+    "a @ http://x y", "a @ x; os_name", "a @ x ;", "a[b] @ x ; os_name == 'x' or", "a (>=1);os_name", "a; os_name ==", "a; (os_name == 'x'",
+    "a; os_name == 'x' foo", "a; os_name == 'x')", "a;os_name not 'x'", "a; os_name == '\u00e9' foo", "a; os_name == 'x", "a >=1;; x",
+    "a;((os_name == 'x') and (os_name == 'y'", "a; os_name == 'x' and", "a; os_name in 'x' or (os_name == 'x' and (os_name == 'y') foo",
+]
 NAMES = ["a", "A", "a_b", "a.b", "A-._B", "Foo.Bar_baz", "a--b", "0", "a1", "1a", "", "-a", "a-", "a b", "_", "a__b", "\u00e9", "\u00c9_X"]
 WHEELS = ["a-1-py3-none-any.whl", "Foo_Bar-1.0-1b-py2.py3-none-any.whl", "foo.bar-1.0.post1-10-cp312-abi3-manylinux_2_17_x86_64.manylinux2014_x86_64.whl",
           "a-1.0+local.1-py3-none-any.whl", "A-1-0x-py3-none-any.whl", "a_b_c-1!2-py3-none-any.whl", "a-v1-PY3-None-Any.whl",
@@ -123,6 +136,14 @@ def asked(function, *arguments, **named):
         return function(*arguments, **named)
     except (ValueError, KeyError):
         return "refused"
+
+
+def message(function, *arguments):
+    """What the refusal says, if there is one."""
+    try:
+        function(*arguments)
+    except ValueError as error:
+        return str(error)
 
 
 @unittest.skipIf(packaging is None, "neither packaging nor pip's copy of it is installed")
@@ -281,6 +302,25 @@ class Agreement(unittest.TestCase):
             self.same(forced, *(pair if NEW else [bool(value) for value in pair]))
         self.same("repr", repr(ours(">=1", prereleases=True)), repr(theirs(">=1", prereleases=True)))
 
+    @unittest.skipUnless(NEW, BEFORE)
+    def test_joined(self):
+        """Sets that are joined share the specifiers that were asked for, and the empty set gives each item where all are wanted."""
+        answers = []
+        for library in (pylock, packaging.specifiers):
+            one = library.SpecifierSet(">=1")
+            item = next(iter(one))
+            both = one & library.SpecifierSet("<2") & "!=1.5"
+            item.prereleases = True
+            answers.append((
+                both.prereleases, [each is item for each in both], len(both), [str(each) for each in both], repr(both), list(both.filter(["1.5", "1.6rc1"])),
+                list(library.SpecifierSet("").filter([5, None], prereleases=True)),
+                [repr(each) for each in (item, copy.copy(item), pickle.loads(pickle.dumps(item)))],
+            ))
+            for left, right in ((one, 5), ("<2", one)):
+                with self.assertRaises(TypeError):
+                    left & right
+        self.same("joined", *answers)
+
     def test_markers(self):
         for text in MARKERS:
             ours, theirs = pylock.Marker(text), packaging.markers.Marker(text)
@@ -347,7 +387,48 @@ class Agreement(unittest.TestCase):
             with self.assertRaises(TypeError):
                 pylock.Marker("os_name == 'a'") | wrong
 
+    @unittest.skipUnless(NEW, BEFORE)
+    def test_markers_folded(self):
+        """Markers that were joined are joined again, on both sides and with themselves."""
+        texts = ["os_name == 'a'", "extra=='A_b'", "os_name == 'b' or sys_platform == 'c'", "('x' == extra)", "((os_name != 'a'))"]
+        values = [{"os_name": one, "sys_platform": other} for one in "abx" for other in "cx"]
+        for seed in range(200):
+            ours, theirs = [self.folded(kind, texts, seed) for kind in (pylock.Marker, packaging.markers.Marker)]
+            self.same(seed, [str(one) for one in ours], [str(one) for one in theirs])
+            for one, other in zip(ours, theirs):
+                self.same(str(one), [one.evaluate(each) for each in values], [other.evaluate(each) for each in values])
+        for right in (False, True):
+            ours, theirs = [self.chained(kind, 66, right) for kind in (pylock.Marker, packaging.markers.Marker)]
+            self.same(right, (str(ours), ours.evaluate()), (str(theirs), theirs.evaluate()))
+
+    def folded(self, kind, texts, seed):
+        dice = random.Random(seed)
+        made = [kind(text) for text in texts]
+        for _ in range(8):
+            join = dice.choice((operator.and_, operator.or_))
+            made.append(join(dice.choice(made), dice.choice(made)))
+        return made
+
+    def chained(self, kind, count, right):
+        """So many comparisons, each joined with all before it."""
+        marker = kind("os_name == '0'")
+        for number in range(1, count):
+            one = kind("os_name == '%d'" % number)
+            marker = one | marker if right else marker | one
+        return marker
+
     def test_running_environment(self):
+        self.assertEqual(pylock.default_environment(), packaging.markers.default_environment())
+        # what a program puts in the places of these functions is asked each time
+        for name, value in (
+            ("machine", "x"), ("release", "5"), ("system", "y"), ("version", "#1"), ("python_version", "3.9.1"),
+            ("python_implementation", "z"), ("python_version_tuple", ("3", "9", "1")),
+        ):
+            with mock.patch("platform." + name, side_effect=[value, value]):
+                self.same(name, *[library.markers.default_environment() for library in (pylock, packaging)])
+        with mock.patch("sys.platform", "x"), mock.patch("os.name", "y"):
+            self.same("x, y", *[library.markers.default_environment() for library in (pylock, packaging)])
+        pylock.default_environment()["os_name"] = "changed"
         self.assertEqual(pylock.default_environment(), packaging.markers.default_environment())
         # before 22 there was no tag of the Python for any platform
         if not OLD:
@@ -378,6 +459,17 @@ class Agreement(unittest.TestCase):
                 # taken before 22
                 continue
             self.same(text, asked(pylock.Requirement, text), asked(packaging.requirements.Requirement, text))
+
+    @unittest.skipIf(not NEW, BEFORE)
+    def test_messages(self):
+        """The sentence and the place, as `packaging` has them."""
+        texts = NO_REQUIREMENTS + MISPLACED + NO_MARKERS + [text.partition(";")[2] for text in MISPLACED]
+        for (module, kind), text in itertools.product((("requirements", "Requirement"), ("markers", "Marker")), texts):
+            told = [message(getattr(library, kind), text) for library in (pylock, getattr(packaging, module))]
+            self.same((kind, text), *told)
+        for text in NO_SETS:
+            told = [message(library.Specifier, text) for library in (pylock, packaging.specifiers)]
+            self.assertTrue(told[0].startswith(told[1] + ": "), told)
 
     def test_names(self):
         utils = packaging.utils
@@ -438,13 +530,15 @@ class Agreement(unittest.TestCase):
         ] + [{part: number} for part in ("post", "dev") for number in (None, 0, 7, -1, "1")] + [
             {"local": local} for local in (None, "a", "A_1-01", "", "a..b", "a ", 1, "\u017f")
         ]
+        changes += [{}, {"post": 2**63}, {"dev": 2**64 - 1}, {"local": "1." * 300 + "z"}, {"release": (5,) * 300}, {"pre": ("rc", 2**63 - 1)}]
         kinds = pylock.Version, packaging.version.Version
         for text, one, other in itertools.product(["1.0", "1!2.0a1.post2.dev3+x.1", "v1.0-RC.1"], changes, changes):
             named = dict(one, **other)
-            self.same((text, named), *[str(asked(kind(text).__replace__, **named)) for kind in kinds])
+            self.same((text, named), *[replaced(kind(text), named) for kind in kinds])
             named.setdefault("release", (1, 0))
-            self.same(named, *[str(asked(kind.from_parts, **named)) for kind in kinds])
-        for letter in ("a", "A", "alpha", "Beta", "b", "c", "RC", "pre", "preview", "post", "x", ""):
+            self.same(named, *[described(asked(kind.from_parts, **named)) for kind in kinds])
+        for letter in ("a", "A", "alpha", "Beta", "b", "c", "RC", "pre", "preview", "PREVIEW", "previews", "rev", "r", "R", "post", "x", "",
+                       "\u212a", "\u00c4lpha", "a\0", "\ud800", Word("Alpha")):
             self.same(letter, pylock.version.normalize_pre(letter), packaging.version.normalize_pre(letter))
         for kind in kinds:
             for places, named in (((), {}), (((1,),), {}), ((), {"release": (1,), "more": 1})):
@@ -459,6 +553,7 @@ class Agreement(unittest.TestCase):
         libraries = (pylock, pylock), (packaging.requirements, packaging.specifiers)
         for part, value in (
             ("name", "B"), ("extras", {"y", "x"}), ("url", "file:///x"), ("marker", None), ("specifier", ">=1,<2"),
+            ("extras", []), ("extras", ("z", "y")), ("url", ""), ("marker", ""), ("specifier", ""),
         ):
             answers = []
             for requirements, specifiers in libraries:
@@ -568,10 +663,78 @@ def parts(**named):
     return lambda library: str(library.version.Version.from_parts(**named))
 
 
+class Word(str):
+    """A text of a class of one's own."""
+
+
+def described(answer):
+    """What is asked of a version, which is that of its text too; what isn't one stays."""
+    if isinstance(answer, str):
+        return answer
+    again = type(answer)(str(answer))
+    return (
+        str(answer), answer.epoch, answer.release, answer.pre, answer.post, answer.dev, answer.local, answer.public, answer.base_version,
+        answer.is_prerelease, answer.is_postrelease, answer.is_devrelease, answer.major, answer.minor, answer.micro,
+        again == answer, hash(again) == hash(answer), again <= answer <= again,
+    )
+
+
+def replaced(one, named):
+    """What another version is made of this one, and whether it is the same one."""
+    other = asked(one.__replace__, **named)
+    return described(other), other is one
+
+
 def another_part(library):
     try:
         return str(library.version.Version("1").__replace__(more=1))
     except TypeError:
+        return "refused"
+
+
+def kind_of_error(question):
+    """The name of the exception that there is, or None."""
+    def asked_of(library):
+        try:
+            question(library)
+        except Exception as error:
+            return type(error).__name__
+        return None
+
+    return asked_of
+
+
+def patched(library):
+    """What a marker is when a variable has changed."""
+    one = library.markers.Marker("sys_platform == 'amiga'")
+    one.evaluate()
+    with mock.patch("sys.platform", "amiga"):
+        return one.evaluate()
+
+
+def copied_extra(library):
+    one = library.markers.Marker("(extra == 'A_b')")
+    return copy.copy(one) == one
+
+
+def pickled_by_the_first_protocol(library):
+    """What becomes of a pickle that `packaging` 26.2 made of `Version("1.0")`."""
+    told = "ccopy_reg\n_reconstructor\n(c%s.version\nVersion\nc__builtin__\nobject\nNtR(I0\n(I1\nI0\ntNNNNtb."
+    try:
+        return str(pickle.loads((told % library.__name__).encode()))
+    except TypeError:
+        return "refused"
+
+
+def own_metadata(library):
+    metadata = importlib.import_module(library.__name__ + ".metadata")
+
+    class Own(metadata.Metadata):
+        """One that says nothing otherwise."""
+
+    try:
+        return Own.from_raw({"metadata_version": "2.1", "name": "a", "version": "1"}).name
+    except metadata.ExceptionGroup:
         return "refused"
 
 
@@ -608,6 +771,7 @@ DIFFERENCES = [
     ("a truth value as a number", parts(release=(1, True)), "1.1", "1.True"),
     ("another part", another_part, "refused", "1"),
     ("no release", lambda library: str(library.version.Version("1").__replace__(release=None)), "refused", "0"),
+    ("no release of parts", parts(release=None), "refused", "0"),
     ("> with a pre-release", contains(">1.7a1", "1.7.post1"), False, True),
     ("< with a post-release", contains("<1.7.post1", "1.7a1"), False, True),
     ("=== without an operand", lambda library: str(library.specifiers.SpecifierSet("===")), "refused", "==="),
@@ -616,6 +780,12 @@ DIFFERENCES = [
         library.specifiers.SpecifierSet("===x").filter(["x_"], key=lambda item: item[0])), ["x_"], []),
     ("~= with v", lambda library: "2.5" in library.specifiers.SpecifierSet("~=v2.2"), True, False),
     ("~= with a pre-release in capitals", contains("~=2.2.RC1", "2.5"), True, False),
+    ("white space that isn't ASCII behind ===", contains("===\u00a01.0", "1.0"), False, True),
+    ("equal sets whose texts are in another order", lambda library: (
+        library.specifiers.SpecifierSet(">1,>1!1") == library.specifiers.SpecifierSet(">1.0,>1!1")), True, False),
+    ("0 as what is said of pre-releases", lambda library: "1a1" in library.specifiers.SpecifierSet("", 0), False, True),
+    ("1 as what is said of pre-releases", lambda library: list(
+        library.specifiers.SpecifierSet("", 1).filter(["1a1", "1"])), ["1a1", "1"], ["1"]),
     ("no final release below 0", unsatisfiable("<=0.dev0", False), True, False),
     ("no post-release behind >1", unsatisfiable(">1,<=1.post1"), True, False),
     ("a set after its text was asked for", set_in_order, ("<2,==3", ["==3", "<2", "==3.0"]), ("<2,==3", ["<2", "==3"])),
@@ -634,11 +804,16 @@ DIFFERENCES = [
     ("two variables", evaluated("os_name == sys_platform", {"os_name": "sys_platform", "sys_platform": "x"}), False, True),
     ("an order of extras", evaluated("extra >= 'a'", {"extra": "a"}), "refused", True),
     ("an extra in parentheses", evaluated("(extra == 'A_b')", {"extra": "a-b"}), True, False),
+    ("a copy of an extra in parentheses", copied_extra, True, False),
+    ("a variable that is patched", patched, False, True),
     ("sets beside ==", marker("'a' == extras"), "refused", '"a" == extras'),
     ("a text as a set", evaluated("'a' in extras", {"extras": "abc"}), False, True),
     ("os.name", marker("os.name == 'nt'"), "refused", 'os_name == "nt"'),
     ("python_implementation", marker("python_implementation == 'x'"), "refused", 'platform_python_implementation == "x"'),
     ("65 open parentheses", marker("(" * 65 + "os_name == 'a'" + ")" * 65), "refused", 'os_name == "a"'),
+    ("67 comparisons that were joined one after the other", lambda library: str(functools.reduce(
+        operator.and_, [library.markers.Marker("os_name == 'a'")] * 67)), "refused",
+        "(" * 65 + 'os_name == "a"' + ' and os_name == "a")' * 65 + ' and os_name == "a"'),
     ("a quotation mark in a text", marker("os_name == 'a\"b'"), "os_name == 'a\"b'", 'os_name == "a"b"'),
     ("two pairs of parentheses", marker("os_name=='a' and ((os_name=='b' or os_name=='c'))"),
      'os_name == "a" and (os_name == "b" or os_name == "c")', 'os_name == "a" and os_name == "b" or os_name == "c"'),
@@ -649,14 +824,36 @@ DIFFERENCES = [
     ("an empty piece in a requirement", requirement("a>=1,,<2"), "a<2,>=1", "refused"),
     ("a comma behind a requirement", requirement("a,"), "a", "refused"),
     ("=== and another in a requirement", requirement("a===1.0, >=1"), "a===1.0,>=1", "refused"),
+    ("no specifier behind === and a comma", kind_of_error(requirement("a===1,x")), "InvalidRequirement", "InvalidSpecifier"),
+    ("a line end in a requirement", requirement("a\n>=1"), "a>=1", "refused"),
+    ("a form feed behind a requirement", requirement("a\f"), "a", "refused"),
+    ("a line end in an extra", requirement("a[b\n]"), "a[b]", "refused"),
+    ("a line end in a marker", marker("os_name\n== 'a'"), 'os_name == "a"', "refused"),
+    ("a line end in a URL", requirement("a @ https://h/p\n.zip"), "refused", "a @ https://h/p\n.zip"),
+    ("a vertical tab behind a URL", requirement("a @ https://h/p\v"), "a @ https://h/p", "a @ https://h/p\v"),
+    ("a name with _ at its end", requirement("a_>=1"), "refused", "a_>=1"),
+    ("an extra with _ at its end", requirement("a[b_]"), "refused", "a[b_]"),
     ("hashes of equal requirements", lambda library: len(
         {library.requirements.Requirement(text) for text in ("a>=1.0", "a>=1")}), 1, 2),
     ("a build that isn't ASCII", lambda library: library.utils.parse_wheel_filename("a-1-1\u00b2-py3-none-any.whl")[2], "refused", (1, "\u00b2")),
+    ("a name of a wheel that isn't ASCII", lambda library: library.utils.parse_wheel_filename("\u00e9-1-py3-none-any.whl")[0], "refused", "\u00e9"),
     ("an empty name of a wheel", lambda library: library.utils.parse_wheel_filename("-1-py3-none-any.whl")[0], "refused", ""),
     ("a tag with an empty piece", lambda library: len(library.utils.parse_wheel_filename("a-1-py3..py2-none-any.whl")[3]), "refused", 3),
     ("an empty name of an sdist", lambda library: library.utils.parse_sdist_filename("-1.tar.gz")[0], "refused", ""),
     ("a dash behind the name of an sdist", lambda library: library.utils.parse_sdist_filename("a--1.tar.gz")[0], "refused", "a-"),
     ("a--b", lambda library: library.utils.is_normalized_name("a--b"), False, True),
+    ("a tag of two parts", kind_of_error(lambda library: library.tags.parse_tag("py3-none")), "InvalidTag", "ValueError"),
+    ("a sigma before a dot", lambda library: library.utils.canonicalize_name("a\u03a3.b"), "a\u03c2-b", "a\u03c3-b"),
+    ("half a character in a name", lambda library: library.utils.canonicalize_name("A\udcff"), "refused", "a\udcff"),
+    ("half a character in a tag", lambda library: len(library.tags.parse_tag("a\udcff-b-c")), "refused", 1),
+    ("half a character in a URL", requirement("a @ u\udcff"), "refused", "a @ u\udcff"),
+    ("half a character behind ===", lambda library: str(library.specifiers.SpecifierSet("===a\udcff")), "refused", "===a\udcff"),
+    ("half a character in a variable", evaluated("os_name == 'a'", {"os_name": "\udcff"}), "refused", False),
+    ("half a character in an extra", evaluated("extra == 'a'", {"extra": "\udcff"}), "refused", False),
+    ("a list as a version", kind_of_error(lambda library: library.version.Version([])), "TypeError", "AttributeError"),
+    ("a number as a name", kind_of_error(lambda library: library.utils.canonicalize_name(1)), "TypeError", "AttributeError"),
+    ("a pickle by protocol 0", pickled_by_the_first_protocol, "refused", "1.0"),
+    ("a class of metadata", own_metadata, "a", "refused"),
 ]
 
 

@@ -1,7 +1,7 @@
 """What the compiled module says of a text, held to another of the library's calls for the same text.
 
 These are the normal form of a short name in ASCII, which it writes itself; of a version its normal forms and its kind; of a
-specifier set, where its specifiers lie. And what it keeps from one call to the next: the variables that a mapping before had,
+specifier set, where its specifiers lie. The string of a marker, which it writes itself too, is held to that of its tree. And what it keeps from one call to the next: the variables that a mapping before had,
 and tags that were cut of a text.
 """
 
@@ -11,6 +11,7 @@ import itertools
 import os
 import pickle
 import random
+import re
 import subprocess
 import sys
 import unittest
@@ -22,6 +23,7 @@ from pylock import (
 )
 from pylock import _native
 from pylock._errors import InvalidSpecifier, InvalidTag, InvalidVersion
+from pylock._parser import text_of, tree_of
 from pylock.specifiers import Specifier, SpecifierSet
 from pylock.utils import parse_wheel_filename
 
@@ -151,7 +153,9 @@ class Versions(unittest.TestCase):
                 self.assertEqual(getattr(one, name), had)
             for again in (copy.copy(one), copy.deepcopy(one), pickle.loads(pickle.dumps(one))):
                 self.assertEqual(kinds(again), kinds(one))
-        self.assertRaises(ValueError, getattr, Late.__new__(Late), "is_prerelease")
+        for name in ("is_prerelease", "is_postrelease", "is_devrelease", "release", "pre", "public", "base_version", "major"):
+            # as in `packaging`, where a part has no value before its `__init__`
+            self.assertRaises(AttributeError, getattr, Late.__new__(Late), name)
         late = Late()
         late.read("1.dev1")
         self.assertEqual((late.is_prerelease, late.label), (True, "1.dev1"))
@@ -218,6 +222,131 @@ class Sets(unittest.TestCase):
         self.assertGreater(found, 300)
 
 
+class Strings(unittest.TestCase):
+    """Of a marker its string is that of its tree."""
+
+    def text(self, dice, depth):
+        """The text of a marker, with white space, parentheses and marks as they come."""
+        pieces = []
+        for _ in range(dice.choice((1, 1, 2, 3))):
+            if depth and dice.random() < 0.5:
+                pieces.append("(%s)" % self.text(dice, depth - 1))
+            else:
+                pieces.append(dice.choice((
+                    "os_name=='nt'", "python_version  not\tin'3.8 3.9'", "'A_b'==extra", 'extra != "C.d"', "extra == os_name", "'a'in extras",
+                    "\"it's\" >= sys_platform", "'\"' < os_name", "'((' ~= ')'", "extra === '\u0130_\u00e9'", "'and'not in dependency_groups",
+                )))
+            pieces.append(dice.choice((" and ", "\n or  ")))
+        return "".join(pieces[:-1]).replace(") and (", ")and(")
+
+    def test_random(self):
+        dice = random.Random(1502)
+        for _ in range(2_000):
+            text = dice.choice(("", " ")) + self.text(dice, 4) + dice.choice(("", "\n"))
+            marker = Marker(text)
+            self.assertEqual(str(marker), text_of(tree_of(text)), text)
+            self.assertEqual(marker._sets, tuple(name for name in ("extras", "dependency_groups") if re.search(r"in\W*%s\b" % name, text)), text)
+            self.assertEqual(str(Marker(str(marker))), text_of(tree_of(str(marker))), text)
+
+class Joined(unittest.TestCase):
+    """A set that is joined of others has what the set of all their texts has, in whatever shape they were joined."""
+
+    TEXTS = (">= 1.0, !=1.5", "", "<3,", "===1.7", ",", "!=1.5.0 , ~=1.2", ">=1.dev0")
+
+    def shapes(self, draw, texts):
+        """A set of the texts in their order, of which some were asked for what they have, or made of specifiers."""
+        if len(texts) == 1:
+            made = SpecifierSet(texts[0])
+            return draw.choice((lambda: made, lambda: SpecifierSet(list(made)), lambda: (str(made), hash(made), "1" in made) and made))()
+        middle = draw.randrange(1, len(texts))
+        right = texts[middle:]
+        both = self.shapes(draw, texts[:middle]) & (right[0] if len(right) == 1 and draw.random() < 0.3 else self.shapes(draw, right))
+        draw.choice((lambda: None, lambda: both.text, lambda: len(list(both)), lambda: "1.7" in both))()
+        return both
+
+    def told(self, one):
+        return (
+            [str(item) for item in one], len(one), str(one), hash(one), one.prereleases, one.normal_text, one.is_unsatisfiable(),
+            ["1.7" in one, "1.5" in one, "2.0rc1" in one, "x" in one], list(one.filter(["1.7", "1.7rc1", "x"])), one == SpecifierSet(one.text),
+        )
+
+    def test_shapes(self):
+        draw = random.Random(5)
+        for _ in range(400):
+            texts = [draw.choice(self.TEXTS) for _ in range(draw.randint(1, 6))]
+            made, wanted = self.shapes(draw, texts), SpecifierSet(",".join(texts))
+            with self.subTest(texts):
+                self.assertEqual(self.told(made), self.told(wanted))
+
+    def test_parts_stay(self):
+        """What is joined is what it was, and what is said of one isn't said of the other."""
+        one, other = SpecifierSet(">=1"), SpecifierSet("<2")
+        both = one & other
+        more = both & "!=1.5"
+        both.prereleases = True
+        self.assertEqual([str(each) for each in (one, other, both, more)], [">=1", "<2", "<2,>=1", "!=1.5,<2,>=1"])
+        self.assertEqual([each.prereleases for each in (one, other, both, more, both & "")], [None, None, True, None, True])
+        one.__init__("==5")
+        self.assertEqual((str(one), str(both), str(more)), ("==5", "<2,>=1", "!=1.5,<2,>=1"))
+
+    def test_many(self):
+        """Five thousand, from the left, from the right and in pairs."""
+        count = 5_000
+        sets = [SpecifierSet("!=1.%d" % number) for number in range(count)]
+        left, right, pairs = sets[0], sets[-1], list(sets)
+        for one in sets[1:]:
+            left = left & one
+        for one in reversed(sets[:-1]):
+            right = one & right
+        while len(pairs) > 1:
+            pairs = [one & other for one, other in zip(pairs[::2], pairs[1::2])] + pairs[len(pairs) - len(pairs) % 2 :]
+        wanted = ",".join("!=1.%d" % number for number in range(count))
+        for joined in (left, right, pairs[0]):
+            self.assertEqual((len(joined), joined.text), (count, wanted))
+            self.assertEqual([str(item) for item in joined], wanted.split(","))
+        # and let go of without having been asked
+        left = right = SpecifierSet("")
+        for one in sets:
+            left, right = left & one, one & right
+        del left, right
+
+    def test_of_one_class(self):
+        """What `in` asks, a class may say otherwise, and `filter` has nothing behind its end."""
+
+        class Never(SpecifierSet):
+            def contains(self, item, prereleases=None, installed=None):
+                return False
+
+        class Nothing(Specifier):
+            def contains(self, item, prereleases=None):
+                return False
+
+        self.assertEqual(("1" in Never(">=0"), "1" in SpecifierSet(">=0"), "1" in Nothing(">=0")), (False, True, False))
+        given = iter(["1rc1", "1", "2"])
+        passing = SpecifierSet(">=0").filter(given)
+        self.assertEqual((next(passing), list(passing), list(passing)), ("1", ["2"], []))
+        passing = SpecifierSet(">=0").filter(["1", 5, "2"])
+        self.assertEqual(next(passing), "1")
+        self.assertRaises(TypeError, next, passing)
+        self.assertEqual(list(passing), [])
+
+    def test_said_again(self):
+        """`is_unsatisfiable` is kept until something is said of pre-releases, or the set is read again."""
+        one = SpecifierSet(">=1a1,<=1rc1")
+        self.assertEqual([one.is_unsatisfiable() for _ in range(2)], [False, False])
+        one.prereleases = False
+        self.assertEqual([one.is_unsatisfiable() for _ in range(2)], [True, True])
+        one._prereleases = None
+        self.assertFalse(one.is_unsatisfiable())
+        one._specs = (Specifier("<1"), Specifier(">1"))
+        self.assertTrue(one.is_unsatisfiable())
+        with self.assertRaises(AttributeError):
+            del one.prereleases
+        for ask in (str, hash, len, list, lambda one: "1" in one, lambda one: one.text, lambda one: one & "<1", lambda one: one.prereleases):
+            with self.assertRaises(ValueError):
+                ask(SpecifierSet.__new__(SpecifierSet))
+
+
 class Layers(unittest.TestCase):
     MARKERS = (
         "os_name == 'a'", "sys_platform == 'a' or os_name != 'b'", "python_version >= '3.8' and platform_release < '5'",
@@ -266,7 +395,7 @@ class Layers(unittest.TestCase):
             with self.assertRaises(TypeError):
                 _native.Layers(*arguments)
         with self.assertRaises(TypeError):
-            _native.Marker("os_name == 'a'").evaluate_over(5, None, None, False, "")
+            _native.Marker("os_name == 'a'")._value_over(5, None, None, False)
 
 
 class _Mapping(collections.abc.Mapping):

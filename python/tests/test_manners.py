@@ -51,6 +51,13 @@ ASSIGNED = [
 ]
 
 
+class Quoted(str):
+    """A text that says otherwise how it is shown."""
+
+    def __repr__(self):
+        return "<%s>" % self
+
+
 class Refusals(unittest.TestCase):
     def test_words(self):
         for call, text, error, word in (
@@ -87,8 +94,28 @@ class Refusals(unittest.TestCase):
                 self.assertIsInstance(caught.exception, ValueError)
                 self.assertIsInstance(caught.exception, pylock.Refusal)
                 self.assertTrue(str(caught.exception))
+                # what points at the place in a text has that, and looks for the place when it is shown
+                points = error in (pylock.InvalidSpecifier, pylock.InvalidMarker, pylock.InvalidRequirement)
+                source = {"source": text} if points else {}
+                self.assertEqual(vars(caught.exception), {"word": word, "place": None, **source})
+                (message,) = caught.exception.args
+                self.assertEqual(str(caught.exception).endswith("^") if points else str(caught.exception), points or message)
                 again = pickle.loads(pickle.dumps(caught.exception))
                 self.assertEqual((type(again), str(again), again.word), (error, str(caught.exception), word))
+
+    def test_messages(self):
+        """A message has the text as its `repr` is, of a long one the beginning."""
+        for text in ("x", "x'y", 'x"y', "x\\y", "x\n", "x\x7f", "\xe9", "\u0100", "\U0001f600", "x" * 200, "x" * 201, "'" * 300, "\xe9" * 600, Quoted("x")):
+            shown = repr(text if len(text) <= 200 else text[:200] + "...")
+            with refused(self, pylock.InvalidVersion, "syntax") as caught:
+                pylock.Version(text)
+            self.assertEqual(str(caught.exception), "Invalid version: " + shown)
+            with refused(self, pylock.InvalidWheelFilename, "extension") as caught:
+                pylock.parse_wheel_filename(text)
+            self.assertEqual(str(caught.exception), "Invalid wheel filename: %s (extension must be '.whl')" % shown)
+            with refused(self, pylock.InvalidName, "name") as caught:
+                pylock.canonicalize_name(text + "-", validate=True)
+            self.assertTrue(str(caught.exception).startswith("name is invalid: "))
 
     def test_half_a_character(self):
         for call, error in (

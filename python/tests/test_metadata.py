@@ -10,6 +10,7 @@ from peer import needs, peer, seeded
 import support  # noqa: F401 - puts the module on the path
 
 import pylock.metadata as ours
+from pylock import Requirement, Specifier, SpecifierSet, Version
 from pylock.errors import ExceptionGroup
 from pylock.metadata import InvalidMetadata, Metadata, RFC822Message, RFC822Policy, parse_email
 
@@ -128,6 +129,17 @@ VALUES = {
     "description": (["", "a\n", "\n a", "\u00e9\nFrom x\n.\n"], []),
 }
 VALUES["import_namespaces"] = VALUES["import_names"]
+# raw values of another kind than the field's
+OTHER_KINDS = [
+    ("license_expression", ["MIT"]), ("license_expression", 5), ("requires_python", []), ("requires_python", [Specifier(">=1")]),
+    ("requires_python", (Specifier("<2"), Specifier(">=1"))), ("requires_python", SpecifierSet(">=1")), ("requires_python", 5),
+    ("requires_dist", ("a", "b")), ("requires_dist", "ab"), ("requires_dist", [Requirement("a")]), ("requires_dist", [None]),
+    ("requires_dist", 5), ("version", Version("1")), ("version", 5), ("name", 5), ("name", ["a"]), ("summary", ["a"]), ("summary", 5),
+    ("provides_extra", ("A_b",)), ("provides_extra", "ab"), ("provides_extra", [5]), ("dynamic", ("Summary",)), ("dynamic", [5]),
+    ("dynamic", 5), ("license_files", ("a",)), ("license_files", "ab"), ("license_files", [5]), ("import_names", ("a",)),
+    ("import_names", "ab"), ("import_names", [5]), ("keywords", ("a",)), ("keywords", 5), ("project_urls", []), ("classifiers", "ab"),
+    ("description_content_type", 5), ("description", 5), ("metadata_version", 2.4), ("metadata_version", ["2.4"]),
+]
 # the version with which each field came (the specification's history)
 SINCE = {
     "1.0": "platforms summary description keywords home_page author author_email license",
@@ -257,6 +269,19 @@ class Meaning(unittest.TestCase):
             self.assertEqual(sorted(error.field for error in caught.exception.exceptions), fields)
             Metadata.from_email(HEAD + text, validate=False)
 
+    def made_of(self, library, name, value):
+        """What a field is of a raw value, or the kind of the exception."""
+        try:
+            return repr(getattr(library.Metadata.from_raw({**BASE, name: value}, validate=False), name))
+        except Exception as error:
+            return type(error).__name__
+
+    @needs(theirs)
+    def test_other_kinds(self):
+        for name, value in OTHER_KINDS:
+            with self.subTest((name, value)):
+                self.assertEqual(self.made_of(ours, name, value), self.made_of(theirs, name, alike(value)))
+
     def test_objects(self):
         error = pickle.loads(pickle.dumps(InvalidMetadata("a", "why")))
         self.assertEqual((error.field, str(error), error.args), ("a", "why", ("why",)))
@@ -272,6 +297,14 @@ class Meaning(unittest.TestCase):
             with self.assertRaises(ExceptionGroup) as caught:
                 Metadata.from_raw(raw)
             self.assertIsInstance(caught.exception.exceptions[0].__cause__, cause)
+
+
+def alike(value):
+    """The value, with objects of `packaging` where it has those of this module."""
+    if isinstance(value, (list, tuple)):
+        return type(value)(map(alike, value))
+    module = type(value).__module__.partition("pylock.")[2]
+    return getattr(peer(module), type(value).__name__)(str(value)) if module else value
 
 
 def pylock_error(module, name):

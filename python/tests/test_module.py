@@ -92,13 +92,34 @@ class Unsatisfiable(unittest.TestCase):
                 self.assertEqual(set(witnesses.admitted_by_all()), tried)
                 self.assertEqual(versions.is_unsatisfiable(), not tried)
 
+    def plain(self, draw):
+        release = ".".join(str(draw.choice([0, 0, 1, 1, 2, 9])) for _ in range(draw.randint(1, 4)))
+        return draw.choice(["==%s", "!=%s", "<=%s", ">=%s", "<%s", ">%s", "~=%s.0", "==%s.*", "!=%s.*", ">=%sa1", "<%sb2", "<=%s.post1",
+                            "==%s.dev1", ">=%s.post1.dev2", "~=%s.0rc1"]) % release
+
+    def test_starts(self):
+        """The versions at which stretches begin tell what all those beside the operands do, of final releases too."""
+        draw, told = random.Random(8), []
+        for _ in range(500):
+            text, forced = ",".join(self.plain(draw) for _ in range(draw.randint(1, 6))), draw.choice([None, True, False])
+            versions = SpecifierSet(text, forced)
+            witnesses = specifiers._Witnesses(versions._items())
+            admitted = [version for version in witnesses.admitted_by_all() if forced is not False or not version.is_prerelease]
+            with self.subTest(text, forced=forced):
+                starts = specifiers._starts(versions._items(), forced is False)
+                self.assertEqual(any(versions.contains(start) for start in starts), bool(admitted))
+                told.append(versions.is_unsatisfiable())
+                self.assertEqual(told[-1], not admitted)
+        self.assertTrue(150 < sum(told) < 350, sum(told))
+
     def test_many(self):
         holes = ["!=1.%d.*" % number for number in range(3000)]
         for left, wanted in ((holes, True), (holes[:2000] + holes[2001:], False)):
             self.assertEqual(SpecifierSet(",".join([">=1.0", "<1.3000", *left])).is_unsatisfiable(), wanted)
 
     def test_last_number(self):
-        for text, wanted in ((">=%d", False), (">%d.post%d", False), ("==1.%d.*", False), ("<1,>=%d", True), (">1.dev%d,<1", True)):
+        for text, wanted in ((">=%d", False), (">%d.post%d", False), ("==1.%d.*", False), ("<1,>=%d", True), (">1.dev%d,<1", True),
+                             (">1.%d", False), ("!=1.%d.*,>=1.%d,<2", True), ("!=1.%d,==1.%d", True), ("!=1.%d.*,>=1.%d", False), ("~=1.%d,!=1.%d", False)):
             with self.subTest(text):
                 self.assertEqual(SpecifierSet(text.replace("%d", str(self.MOST))).is_unsatisfiable(), wanted)
 
@@ -108,7 +129,7 @@ class Compiled(unittest.TestCase):
         """What type checkers are told of the compiled part is there, and nothing else but what Python itself asks for."""
         told = {}
         for node in ast.parse(text_of("python", "pylock", "_native.pyi")).body:
-            if isinstance(node, ast.ClassDef):
+            if isinstance(node, ast.ClassDef) and not node.name.startswith("_"):
                 told[node.name] = {part.name if isinstance(part, ast.FunctionDef) else part.target.id for part in node.body}
             elif isinstance(node, (ast.FunctionDef, ast.AnnAssign)):
                 told[node.name if isinstance(node, ast.FunctionDef) else node.target.id] = set()
@@ -124,18 +145,24 @@ class Compiled(unittest.TestCase):
 
 
 class Program(unittest.TestCase):
-    def run_as(self, library):
-        text = text_of("examples", "packaging_program.py").replace("from packaging.", "from %s." % library)
+    def run_as(self, library, *names):
+        text = re.sub(r"\bpackaging\.", library + ".", text_of(*names))
         environment = dict(os.environ, PYTHONPATH=os.pathsep.join([MODULE, os.environ.get("PYLOCK_PEER", MODULE)]))
         return subprocess.run([sys.executable, "-c", text], env=environment, stdout=subprocess.PIPE, check=True).stdout.decode()
 
     def test_same_output(self):
         with open(os.path.join(HERE, "packaging_program.txt"), encoding="utf-8") as file:
             expected = file.read()
-        self.assertEqual(self.run_as("pylock"), expected)
+        self.assertEqual(self.run_as("pylock", "examples", "packaging_program.py"), expected)
         library = reference()
         if library is not None and release(library) >= (26, 2):
-            self.assertEqual(self.run_as(library.__name__), expected)
+            self.assertEqual(self.run_as(library.__name__, "examples", "packaging_program.py"), expected)
+
+    @unittest.skipUnless(reference() and release(reference()) >= (26, 2), "no packaging of 26.2 or later; PYLOCK_PEER names the folder it is in")
+    def test_typed(self):
+        """The program whose types tools/annotations checks."""
+        here = "python", "tests", "typed_program.py"
+        self.assertEqual(self.run_as("pylock", *here), self.run_as(reference().__name__, *here))
 
 
 class Installed(unittest.TestCase):

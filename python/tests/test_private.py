@@ -19,7 +19,7 @@ from support import TOP, refused, text_of
 import pylock
 from pylock import _parser, _tokenizer
 from pylock.markers import Marker, Op, Value, Variable
-from pylock.version import Version, _BaseVersion
+from pylock.version import VERSION_PATTERN, Version, _BaseVersion
 
 markers = peer("markers")
 
@@ -199,8 +199,8 @@ class Parsers(unittest.TestCase):
         self.assertEqual(plain(_parser.parse_marker("extra == 'A_b'")), [(("Variable", "extra"), ("Op", "=="), ("Value", "a-b"))])
         with self.assertRaises(_tokenizer.ParserSyntaxError) as caught:
             _parser.parse_marker("x")
-        self.assertEqual((caught.exception.source, caught.exception.span), ("x", (0, 1)))
-        self.assertTrue(str(caught.exception).endswith("\n    x\n    ~^"))
+        self.assertEqual((caught.exception.source, caught.exception.span), ("x", (0, 0)))
+        self.assertEqual(str(caught.exception), "Expected a marker variable or quoted string\n    x\n    ^")
 
     def test_requirements(self):
         name, url, extras, specifier, marker = _parser.parse_requirement("A_b [x, Y] (>=1,<2) ; os_name == 'nt'")
@@ -311,6 +311,40 @@ class Versions(unittest.TestCase):
             with refused(self, pylock.InvalidVersion, "syntax"):
                 kind("4.1rc1")
         self.assertEqual(str(Version("5.0.alpha")), "5.0a0")
+
+    def own_patterns(self, library):
+        """What becomes of classes that have a pattern and an `__init__` of their own, or of a class before."""
+        pattern = re.compile(VERSION_PATTERN.replace(r"[-_\.]?", "/?"), re.VERBOSE | re.IGNORECASE)
+
+        class Cut(library.Version):
+            def __init__(self, text, letter="v"):
+                super().__init__(text[len(letter) :])
+                self.letter = letter
+
+        class Mixed:
+            pass
+
+        class Late(Mixed, Cut):
+            _regex = pattern
+
+        class Both(library.Version):
+            _regex = pattern
+
+            def __init__(self, text):
+                super().__init__(text.replace(" ", "/"))
+
+        told = []
+        for kind, text in ((Cut, "v5a1"), (Late, "v5/alpha1"), (Both, "5 alpha1"), (Late, "v5a1"), (Both, "5a1"), (Both, "5.1"), (Cut, "v5/alpha1")):
+            try:
+                one = kind(text)
+                told.append((repr(one), one.release, one.pre, one == library.Version("5a1"), repr(copy.copy(one)), getattr(one, "letter", None)))
+            except library.InvalidVersion:
+                told.append("refused")
+        return told
+
+    @needs(markers)
+    def test_own_patterns(self):
+        self.assertEqual(self.own_patterns(pylock.version), self.own_patterns(peer("version")))
 
     @needs(markers)
     def test_patterns(self):

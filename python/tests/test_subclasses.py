@@ -1,13 +1,19 @@
-"""Python's own manners: attributes of one's own, classes that are made from those here, exceptions with any arguments."""
+"""Python's own manners: attributes of one's own, classes that are made from those here, exceptions with any arguments, and what
+tools are told of functions and classes."""
 
 import copy
+import inspect
+import operator
 import pickle
+import sys
+import typing
 import unittest
 from unittest import mock
 
 import pylock
 from peer import needs, peer
 from pylock import Marker, Requirement, Specifier, SpecifierSet, Tag, Version, _native
+from support import reference, release
 
 KINDS = {"Version": "version", "Specifier": "specifiers", "SpecifierSet": "specifiers", "Marker": "markers", "Requirement": "requirements", "Tag": "tags"}
 
@@ -27,6 +33,20 @@ class AtLeast(SpecifierSet):
 class Below(Specifier):
     def __init__(self, number):
         super().__init__("<%d" % number, prereleases=True)
+
+
+class Counted(Specifier):
+    """Says itself what a pickle has, and what a copy so is made of."""
+
+    made = 0
+
+    def __reduce__(self):
+        return Counted.again, (self.text, self.prereleases)
+
+    @classmethod
+    def again(cls, text, prereleases):
+        cls.made += 1
+        return cls(text, prereleases)
 
 
 class Named(Requirement):
@@ -60,6 +80,17 @@ class OtherArguments(unittest.TestCase):
                     with self.subTest(repr(one), protocol=protocol):
                         self.assertEqual((type(again), again, str(again), hash(again)), (type(one), one, str(one), hash(one)))
         self.assertTrue(pickle.loads(pickle.dumps(Below(4))).prereleases)
+
+    def test_own_pickle(self):
+        one = Counted("~= 1.0", False)
+        for number, again in enumerate((pickle.loads(pickle.dumps(one)), copy.copy(one), copy.deepcopy(one))):
+            with self.subTest(number):
+                self.assertEqual((type(again), str(again), again.prereleases), (Counted, "~=1.0", False))
+        self.assertEqual(Counted.made, 3)
+        one, again = Specifier("===x", True), copy.copy(Specifier("===x", True))
+        self.assertEqual((again, str(again), again.prereleases, "X" in again, "1" in again), (one, "===x", True, True, False))
+        again.prereleases = False
+        self.assertTrue(one.prereleases)
 
     def test_made_of(self):
         for made, wanted in (
@@ -182,6 +213,111 @@ class Exceptions(unittest.TestCase):
         with self.assertRaises(pylock.InvalidVersion) as caught:
             Version("x")
         self.assertEqual((caught.exception.word, len(caught.exception.args)), ("syntax", 1))
+
+
+MODULES = (
+    "dependency_groups", "direct_url", "licenses", "markers", "metadata", "pylock", "requirements", "specifiers", "tags", "utils",
+    "version",
+)
+# arguments that are taken here besides
+BESIDES = {
+    ("Marker.evaluate", "extra"), ("Specifier.contains", "installed"), ("PylockValidationError.__init__", "word"),
+    ("PylockUnsupportedVersionError.__init__", "word"),
+}
+
+
+def calls():
+    """The public functions of `packaging`, the `__init__` of its classes and their public methods, by the module and the name."""
+    for module in MODULES:
+        theirs = peer(module)
+        for name in theirs.__all__:
+            value = getattr(theirs, name)
+            if inspect.isfunction(value):
+                yield module, name
+            for part in dir(value) if inspect.isclass(value) else ():
+                member = inspect.getattr_static(value, part)
+                function = member.__func__ if isinstance(member, classmethod) else member
+                if inspect.isfunction(function) and function.__module__ == theirs.__name__ and (part == "__init__" or part[0] != "_"):
+                    yield module, "%s.%s" % (name, part)
+
+
+def is_compiled(call):
+    """Whether it is written in C: then it has no annotations, and a mock of it takes any arguments."""
+    return not inspect.isfunction(getattr(call, "__func__", call))
+
+
+def both(module, name):
+    """What has the name here, and there."""
+    found = operator.attrgetter(name)
+    return found(getattr(pylock, module, None) or __import__("pylock." + module, fromlist=["x"])), found(peer(module))
+
+
+@unittest.skipUnless(reference() and release(reference()) >= (26, 2), "no packaging of 26.2 or later; PYLOCK_PEER names the folder it is in")
+class Told(unittest.TestCase):
+    """What `inspect`, `typing` and `unittest.mock` are told of calls: what `packaging` tells them."""
+
+    def taken(self, name, call):
+        """The arguments: their names, how they are given, and what they are where they aren't. One that is taken by its place
+        alone may be taken by its name too."""
+        return [
+            (one.name, max(one.kind, one.POSITIONAL_OR_KEYWORD), one.default) for one in inspect.signature(call).parameters.values()
+            if (name, one.name) not in BESIDES
+        ]
+
+    def test_signatures(self):
+        for module, name in calls():
+            ours, theirs = both(module, name)
+            if name.endswith(".__init__") and is_compiled(ours):
+                # the class has it: one that is made at run time loses the signature of its documentation before Python 3.10
+                if sys.version_info < (3, 10):
+                    continue
+                ours, theirs = both(module, name[: -len(".__init__")])
+            with self.subTest(module=module, name=name):
+                self.assertEqual(self.taken(name, ours), self.taken(name, theirs))
+
+    def hinted(self, call):
+        """The arguments that have annotations which can be read; None where one can't."""
+        try:
+            return set(typing.get_type_hints(call))
+        except (NameError, TypeError):
+            return None
+
+    def test_annotations(self):
+        for module, name in calls():
+            call = both(module, name)[0]
+            ours, theirs = map(self.hinted, both(module, name))
+            with self.subTest(module=module, name=name):
+                if is_compiled(call):
+                    self.assertEqual(ours, set())
+                elif theirs is not None:
+                    self.assertIsNotNone(ours)
+                    self.assertLessEqual(theirs, ours)
+        for module in MODULES:
+            for name in peer(module).__all__:
+                ours, theirs = both(module, name)
+                if inspect.isclass(theirs) and self.hinted(theirs) is not None:
+                    with self.subTest(module=module, name=name):
+                        self.assertIsNotNone(self.hinted(ours))
+
+    def refused(self, name, value):
+        """Which calls a mock of it refuses; of a method one of an instance of its class."""
+        part = name.partition(".")[2]
+        call = mock.create_autospec(value, instance=part != "")
+        told = []
+        for places, named in (((), {}), ((1,) * 9, {}), ((), {"unheard_of": 1})):
+            try:
+                (getattr(call, part) if part else call)(*places, **named)
+            except TypeError:
+                told.append((places, named))
+        return told
+
+    def test_mocks(self):
+        for module, name in calls():
+            # to make an object a class is called
+            called = name[: -len(".__init__")] if name.endswith(".__init__") else name
+            ours, theirs = (self.refused(called, one) for one in both(module, name.partition(".")[0]))
+            with self.subTest(module=module, name=name):
+                self.assertEqual(ours, [] if is_compiled(both(module, name)[0]) else theirs)
 
 
 if __name__ == "__main__":

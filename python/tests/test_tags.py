@@ -527,7 +527,7 @@ class Compared(Folder):
 
     def test_texts(self):
         for text in ("a-b-c", "A-b-c", "py2.py3-none-any", "py3.py2-none-any", "py3.py3-none-any", "a.-b-c", "--",
-            "a-b.a-c", "py3 -none-any", "B.a-x-y", "a.B-x-y",
+            "a-b.a-c", "py3 -none-any", "B.a-x-y", "a.B-x-y", "\xe9.a-x-y", "a.\xe9-x-y", "a-b-\U0001f600.b",
                      "cp39.cp310-abi3-p", "cp310.cp39-abi3-p", "a-b-manylinux_2_17_x86_64.manylinux2014_x86_64",
                          "PY2.py3-none-any", "a-b-c.d.e.d"):
             for validate_order in (False, True):

@@ -10,19 +10,20 @@ What is different: `LicenseRef-` wants a name of ASCII letters, digits, `.` and 
 
 from __future__ import annotations
 
-import functools
-import re
-from typing import TYPE_CHECKING, Dict, List, NewType, Tuple
-
 from .._private import names_of
-from . import _spdx
+from .._typing import TYPE_CHECKING, Any, Dict, List, Tuple
+
+if TYPE_CHECKING:
+    from typing import NewType
+
+    NormalizedLicenseExpression = NewType("NormalizedLicenseExpression", str)
+    _Normalized = NormalizedLicenseExpression
+else:
+    _Normalized = str
 
 __all__ = ["InvalidLicenseExpression", "NormalizedLicenseExpression", "canonicalize_license_expression"]
 
-NormalizedLicenseExpression = NewType("NormalizedLicenseExpression", str)
-
 _REFERENCE = "LicenseRef-"
-_reference_name = re.compile(r"[A-Za-z0-9.-]+").fullmatch
 
 
 class InvalidLicenseExpression(ValueError):
@@ -35,18 +36,29 @@ class InvalidLicenseExpression(ValueError):
     """
 
 
-@functools.lru_cache(maxsize=None)
-def _ids() -> Tuple[Dict[str, str], Dict[str, str]]:
-    """The ids of licenses, and those of exceptions, by their lower case."""
-    licenses, exceptions = ({one.lower(): one for one in text.split()} for text in (_spdx.LICENSE_IDS, _spdx.EXCEPTION_IDS))
-    return licenses, exceptions
+_read: List[Dict[str, str]] = []
+
+
+def _ids() -> List[Dict[str, str]]:
+    """The ids of licenses, and those of exceptions, by their lower case: they are read when they are first asked for."""
+    if not _read:
+        from . import _spdx
+
+        _read[:] = [{one.lower(): one for one in text.split()} for text in (_spdx.LICENSE_IDS, _spdx.EXCEPTION_IDS)]
+    return _read
+
+
+def _is_reference_name(text: str) -> bool:
+    """Whether it is ASCII letters, digits, `.` and `-`, one at least."""
+    rest = text.replace(".", "").replace("-", "")
+    return text.isascii() and (rest.isalnum() or rest == "" != text)
 
 
 def _license(word: str) -> str:
     """The license that a word means, as SPDX writes it."""
     if word[: len(_REFERENCE)].lower() == _REFERENCE.lower():
         name = word[len(_REFERENCE) :]
-        if not _reference_name(name):
+        if not _is_reference_name(name):
             raise InvalidLicenseExpression("%r is no name of an own license" % word)
         return _REFERENCE + name
     licenses, _ = _ids()
@@ -95,7 +107,7 @@ def _words(expression: str) -> List[str]:
     return words
 
 
-def canonicalize_license_expression(raw_license_expression: str) -> NormalizedLicenseExpression:
+def canonicalize_license_expression(raw_license_expression: str) -> _Normalized:
     """The normal form of an expression: ids as SPDX writes them, operators in capitals, one space between words.
 
     >>> canonicalize_license_expression("gpl-2.0+ AND licenseref-My.Own")
@@ -105,8 +117,21 @@ def canonicalize_license_expression(raw_license_expression: str) -> NormalizedLi
         words = _words(raw_license_expression)
     except InvalidLicenseExpression as error:
         raise InvalidLicenseExpression("Invalid license expression: %r (%s)" % (raw_license_expression, error)) from None
-    return NormalizedLicenseExpression(" ".join(words).replace("( ", "(").replace(" )", ")"))
+    return _Normalized(" ".join(words).replace("( ", "(").replace(" )", ")"))
+
+
+_private_name = names_of("licenses")
+
+
+def _found(name: str) -> Any:
+    """The `__getattr__` of the module: the type of the results is made when it is asked for."""
+    if name != "NormalizedLicenseExpression":
+        return _private_name(name)
+    from typing import NewType
+
+    made = globals()[name] = NewType("NormalizedLicenseExpression", str)
+    return made
 
 
 if not TYPE_CHECKING:
-    __getattr__ = names_of("licenses")
+    __getattr__ = _found

@@ -1,0 +1,325 @@
+/* How specifiers and sets of them judge a version: by the library, and by the Python layer where texts are compared. */
+#include "specifiers.h"
+
+/* ---- making and ending ---- */
+
+Judge *new_judge(State *state, PyTypeObject *type)
+{
+    Judge *judge = (Judge *)new_object(state, type);
+    if (judge != NULL) judge->hash = -1;
+    return judge;
+}
+
+bool take_judged(PyObject *arguments, PyObject *named, const char *format, char **words, PyObject **taken)
+{
+    Py_ssize_t count = PyTuple_Size(arguments);
+    if (named != NULL || count > 2) return take_arguments(arguments, named, format, words, taken);
+    for (Py_ssize_t index = 0; index < MOST_TAKEN; index++)
+        taken[index] = index < count ? hold(PyTuple_GetItem(arguments, index)) : NULL;
+    return true;
+}
+
+void say_forced(Judge *judge, PyObject *value)
+{
+    PyObject *before = judge->forced;
+    judge->forced = value == Py_None ? NULL : hold(value);
+    judge->unsatisfiable = UNKNOWN;
+    Py_XDECREF(before);
+}
+
+enum { MOST_ENDING = 50 };
+
+static void end_judge(State *state, PyObject *self)
+{
+    Judge *judge = (Judge *)self;
+    state->ending++;
+    if (judge->is_set)
+        forget_set(self);
+    else
+        forget_specifier(self);
+    Py_CLEAR(judge->forced);
+    free_object(self);
+    state->ending--;
+}
+
+void judge_dealloc(PyObject *self)
+{
+    State *state = ((Judge *)self)->state;
+    PyObject_GC_UnTrack(self);
+    if (state->ending == MOST_ENDING) {
+        /* the state stays, as it is used by each that waits */
+        ((Judge *)self)->next = state->waiting;
+        state->waiting = self;
+        return;
+    }
+    state->users++;
+    end_judge(state, self);
+    while (state->ending == 0 && state->waiting != NULL) {
+        PyObject *next = state->waiting;
+        state->waiting = ((Judge *)next)->next;
+        end_judge(state, next);
+    }
+    leave_state(state);
+}
+
+/* ---- the slot ---- */
+
+static PyObject *text_of_judge(const Judge *judge)
+{
+    return judge->is_set ? ((const Set *)judge)->text : ((const Specifier *)judge)->text;
+}
+
+/* Reads the text into the slot, unless there is another text or a slot by now: false with an exception. */
+static bool read_slot(Judge *judge, PyObject *text)
+{
+    Text view;
+    if (!text_of(text, &view)) return false;
+    bool is_its = text_of_judge(judge) == text && !judge->slot.full;
+    int32_t code = is_its ? pylock_set_parse(&judge->slot, view.bytes, view.length) : PYLOCK_OK;
+    text_done(&view);
+    if (code != PYLOCK_OK) raise_refusal(judge->state, code, text, "specifier");
+    return code == PYLOCK_OK;
+}
+
+bool fill_slot(Judge *judge)
+{
+    while (!judge->slot.full) {
+        PyObject *text = judge->is_set ? set_text((PyObject *)judge) : specifier_text((PyObject *)judge);
+        bool is_good = text != NULL && read_slot(judge, text);
+        let_go(text);
+        if (!is_good) return false;
+    }
+    return true;
+}
+
+/* ---- whether a version is admitted ---- */
+
+/* The text of a version, or the text that it was read from: a borrowed reference. */
+PyObject *given_text(State *state, PyObject *version)
+{
+    if (is_of(version, state->version)) return version_text(version);
+    if (PyUnicode_Check(version)) return version;
+    PyErr_Format(PyExc_TypeError, "expected a Version or a str, not %R", (PyObject *)Py_TYPE(version));
+    return NULL;
+}
+
+bool is_no_version(int32_t code)
+{
+    return code == PYLOCK_NOT_UTF8 || code == PYLOCK_VERSION_SYNTAX || code == PYLOCK_VERSION_NUMBER;
+}
+
+PyObject *told_of(State *state, int32_t code, bool told, PyObject *text, PyObject *otherwise)
+{
+    if (code == PYLOCK_OK) return PyBool_FromLong(told);
+    if (otherwise != NULL && is_no_version(code)) return hold(otherwise);
+    if (code > 0) raise_refusal(state, code, text, "version");
+    return NULL;
+}
+
+/* The code of the library's answer, or -1 with an exception. `text` is then that of the version. */
+static int32_t ask(Judge *judge, PyObject *version, bool *admits, PyObject **text)
+{
+    Text view;
+    *text = given_text(judge->state, version);
+    if (*text == NULL || !text_of(*text, &view)) return -1;
+    /* from the last look at the slot on nothing runs but the library */
+    bool is_full = fill_slot(judge);
+    int32_t code = is_full ? pylock_set_admits(&judge->slot, view.bytes, view.length, admits) : -1;
+    text_done(&view);
+    return code;
+}
+
+PyObject *judge_admits(PyObject *self, PyObject *version)
+{
+    Judge *judge = (Judge *)self;
+    bool admits = false;
+    PyObject *text;
+    int32_t code = ask(judge, version, &admits, &text);
+    return told_of(judge->state, code, admits, text, NULL);
+}
+
+/* The truth of a result, which is let go of: -1 with an exception. */
+static int truth_of(PyObject *result)
+{
+    int truth = result == NULL ? -1 : PyObject_IsTrue(result);
+    Py_XDECREF(result);
+    return truth;
+}
+
+/* Whether the specifiers let it through, a pre-release as any other; -1 with an exception. */
+static int passes(Judge *judge, PyObject *item)
+{
+    bool admits = false;
+    PyObject *text;
+    if (judge->has_exact) return truth_of(PyObject_CallMethod((PyObject *)judge, "_passes_exactly", "(O)", item));
+    int32_t code = ask(judge, item, &admits, &text);
+    if (code == PYLOCK_OK) return admits;
+    /* the empty set says nothing of texts */
+    if (is_no_version(code)) return judge->is_set && ((Set *)judge)->count == 0;
+    if (code > 0) raise_refusal(judge->state, code, text, "version");
+    return -1;
+}
+
+bool judge_lets_all(const Judge *judge)
+{
+    const Set *set = (const Set *)judge;
+    return judge->is_set && set->count == 0 && (set->text != NULL || set->items != NULL);
+}
+
+int judge_lets(Judge *judge, PyObject *item)
+{
+    return judge_lets_all(judge) ? 1 : passes(judge, item);
+}
+
+PyObject *judge_passes(PyObject *self, PyObject *item)
+{
+    int told = passes((Judge *)self, item);
+    return told < 0 ? NULL : PyBool_FromLong(told);
+}
+
+int early_text(State *state, PyObject *text)
+{
+    Text view;
+    size_t length;
+    uint8_t none[1];
+    pylock_version_kind kind;
+    if (!text_of(text, &view)) return -1;
+    /* the key has no room, and the kind is told then too */
+    int32_t code = pylock_version_read(view.bytes, view.length, none, 0, &length, &kind);
+    text_done(&view);
+    if (code == PYLOCK_OK || code == PYLOCK_ROOM) return kind.is_prerelease ? YES : NO;
+    if (is_no_version(code)) return NONE;
+    raise_refusal(state, code, text, "version");
+    return -1;
+}
+
+int early_item(State *state, PyObject *item)
+{
+    if (!is_of(item, state->version)) return early_text(state, item);
+    int truth = truth_of(told_phase(state, item));
+    return truth < 0 ? -1 : truth ? YES : NO;
+}
+
+/* The same where it was said what holds of pre-releases, or nothing was. */
+static int contains(Judge *judge, PyObject *item, PyObject *prereleases, PyObject *installed)
+{
+    int takes_all = prereleases == Py_None ? 1 : PyObject_IsTrue(prereleases);
+    if (takes_all == 0) takes_all = PyObject_IsTrue(installed);
+    int told = takes_all < 0 ? -1 : passes(judge, item);
+    if (told <= 0 || takes_all) return told;
+    int early = early_item(judge->state, item);
+    return early < 0 ? -1 : early != YES;
+}
+
+/* What was said of pre-releases: held, or None. */
+static PyObject *forced_of(const Judge *judge)
+{
+    return hold(judge->forced == NULL ? Py_None : judge->forced);
+}
+
+bool place_arguments(const char *function, const char *const *words, PyObject *const *arguments, Py_ssize_t count, PyObject *names,
+                     PyObject **places)
+{
+    Py_ssize_t named = names == NULL ? 0 : PyTuple_Size(names);
+    bool is_good = count <= PLACES_OF_CALL, is_placed[PLACES_OF_CALL] = {false};
+    for (Py_ssize_t index = 0; is_good && index < count; index++) {
+        places[index] = arguments[index];
+        is_placed[index] = true;
+    }
+    for (Py_ssize_t index = 0; is_good && index < named; index++) {
+        int place = 0;
+        PyObject *name = PyTuple_GetItem(names, index);
+        while (place < PLACES_OF_CALL && PyUnicode_CompareWithASCIIString(name, words[place]) != 0) place++;
+        is_good = place < PLACES_OF_CALL && !is_placed[place];
+        if (!is_good) break;
+        places[place] = arguments[count + index];
+        is_placed[place] = true;
+    }
+    if (is_good && is_placed[0]) return true;
+    PyErr_Format(PyExc_TypeError, "%s() takes '%s', and may take '%s' and '%s'", function, words[0], words[1], words[2]);
+    return false;
+}
+
+PyObject *judge_contains(PyObject *self, PyObject *const *arguments, Py_ssize_t count, PyObject *names)
+{
+    static const char *const words[] = {"item", "prereleases", "installed"};
+    Judge *judge = (Judge *)self;
+    PyObject *places[PLACES_OF_CALL] = {NULL, Py_None, Py_False};
+    if (!place_arguments("contains", words, arguments, count, names, places)) return NULL;
+    PyObject *item = hold(places[0]), *installed = hold(places[2]);
+    PyObject *prereleases = places[1] == Py_None ? forced_of(judge) : hold(places[1]);
+    int told = contains(judge, item, prereleases, installed);
+    let_go(prereleases);
+    let_go(installed);
+    let_go(item);
+    return told < 0 ? NULL : PyBool_FromLong(told);
+}
+#if !NATIVE_IS_MODERN
+PyObject *judge_contains_of_tuple(PyObject *self, PyObject *tuple, PyObject *named)
+{
+    return call_of_names(judge_contains, self, tuple, named);
+}
+#endif
+
+/* A class of one's own may say otherwise what `contains` is. */
+int judge_in(PyObject *self, PyObject *item)
+{
+    Judge *judge = (Judge *)self;
+    State *state = judge->state;
+    if (Py_TYPE(self) != (judge->is_set ? state->set_class : state->specifier_class))
+        return truth_of(PyObject_CallMethod(self, "contains", "(O)", item));
+    PyObject *prereleases = forced_of(judge);
+    int told = contains(judge, item, prereleases, Py_False);
+    let_go(prereleases);
+    return told;
+}
+
+/* ---- what else is asked ---- */
+
+PyObject *get_is_exact(PyObject *self, void *closure)
+{
+    (void)closure;
+    return PyBool_FromLong(((Judge *)self)->has_exact);
+}
+
+PyObject *get_forced(PyObject *self, void *closure)
+{
+    (void)closure;
+    return forced_of((Judge *)self);
+}
+
+int set_forced(PyObject *self, PyObject *value, void *closure)
+{
+    (void)closure;
+    if (value == NULL) {
+        PyErr_SetString(PyExc_AttributeError, "what was said of pre-releases can't be deleted");
+        return -1;
+    }
+    say_forced((Judge *)self, value);
+    return 0;
+}
+
+PyObject *get_asks(PyObject *self, void *closure)
+{
+    Judge *judge = (Judge *)self;
+    (void)closure;
+    if (judge->forced != NULL) return hold(judge->forced);
+    if (judge_lets_all(judge)) return hold(Py_None);
+    int asks = judge->is_set ? set_asks(self) : specifier_asks(self);
+    return asks < 0 ? NULL : hold(asks ? Py_True : Py_None);
+}
+
+PyObject *judge_repr(PyObject *self)
+{
+    PyObject *forced = hold(((Judge *)self)->forced);
+    PyObject *name = PyObject_GetAttrString((PyObject *)Py_TYPE(self), "__name__"), *text = name == NULL ? NULL : PyObject_Str(self);
+    PyObject *shown = NULL;
+    if (text != NULL && forced == NULL)
+        shown = PyUnicode_FromFormat("<%S(%R)>", name, text);
+    else if (text != NULL)
+        shown = PyUnicode_FromFormat("<%S(%R, prereleases=%R)>", name, text, forced);
+    Py_XDECREF(text);
+    Py_XDECREF(name);
+    let_go(forced);
+    return shown;
+}
