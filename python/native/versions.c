@@ -947,8 +947,9 @@ enum { LONGEST_WORD = 7 };
 /* The normal word for one that is given by its bytes in lower case, or NULL where that is no other one. */
 static const char *spelling_of(const char *word)
 {
+    size_t length = strlen(word) + 1;
     for (size_t index = 0; index < sizeof spellings / sizeof *spellings; index++)
-        if (strcmp(word, spellings[index][0]) == 0) return spellings[index][1];
+        if (length == strlen(spellings[index][0]) + 1 && memcmp(word, spellings[index][0], length) == 0) return spellings[index][1];
     return NULL;
 }
 
