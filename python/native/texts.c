@@ -231,10 +231,15 @@ static bool is_made_of(PyObject *told)
            PyUnicode_CheckExact(PyTuple_GetItem(told, BEFORE)) && PyUnicode_CheckExact(PyTuple_GetItem(told, BEHIND));
 }
 
+static bool is_kind(const char *kind, const char *word)
+{
+    return strlen(kind) == strlen(word) && memcmp(kind, word, strlen(word)) == 0;
+}
+
 /* Where the refusal of a code is kept: it has one, but another one of these kinds of texts. */
 static PyObject **place_of_refusal(State *state, int32_t code, const char *kind)
 {
-    bool is_own = strcmp(kind, "name") == 0 || strcmp(kind, "order") == 0;
+    bool is_own = is_kind(kind, "name") || is_kind(kind, "order");
     return &state->refusals[(size_t)(is_own ? code + MOST_REFUSALS / 2 : code) % MOST_REFUSALS];
 }
 
