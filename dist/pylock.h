@@ -196,6 +196,16 @@ int32_t pylock_version_split(const uint8_t *text, size_t length,
                              pylock_version_parts *parts,
                              uint64_t *release, size_t room, size_t *needed);
 
+/* The order key of a version, its kind, its parts and the numbers of its release, of one
+ * reading: what pylock_version_read and pylock_version_split tell. `key` and `release` are
+ * written each where it has room. Where one hasn't, the call answers PYLOCK_ROOM; both needs,
+ * `*kind` and `*parts` are set then too.
+ * PYLOCK_NOT_UTF8, PYLOCK_VERSION_*, PYLOCK_ROOM, PYLOCK_MEMORY. */
+int32_t pylock_version_whole(const uint8_t *text, size_t length,
+                             uint8_t *key, size_t key_room, size_t *key_needed,
+                             pylock_version_kind *kind, pylock_version_parts *parts,
+                             uint64_t *release, size_t release_room, size_t *release_needed);
+
 /* A record of a version's parts: its normal form; its public part (without the
  * local one); its base release (epoch and release, as 1!2.0); the epoch; the
  * release, as 2.0; the pre-release, as a1; the number of the post-release; that of
@@ -232,6 +242,19 @@ int32_t pylock_is_name(const uint8_t *text, size_t length, bool *is_name);
  * extras, or with an empty set, the field is absent.
  * PYLOCK_NOT_UTF8, PYLOCK_REQUIREMENT_*, PYLOCK_MEMORY. */
 int32_t pylock_requirement(const uint8_t *text, size_t length, pylock_text *record);
+
+/* A record of what was expected of a text that is refused as a requirement, and where:
+ * how many bytes stand before the stretch of the text that it is about; how many
+ * before the end of that, which is the place; a sentence; and for a person two lines,
+ * the text with its secrets hidden, and below it the stretch. The stretch lies in the
+ * text and cuts no character. Of a requirement the record is empty.
+ * PYLOCK_NOT_UTF8, PYLOCK_MEMORY. */
+int32_t pylock_requirement_expected(const uint8_t *text, size_t length, pylock_text *record);
+
+/* The same of a marker, of a specifier set and of a single specifier. */
+int32_t pylock_marker_expected(const uint8_t *text, size_t length, pylock_text *record);
+int32_t pylock_set_expected(const uint8_t *text, size_t length, pylock_text *record);
+int32_t pylock_specifier_expected(const uint8_t *text, size_t length, pylock_text *record);
 
 /* A record of what the name of a wheel says: name as written; normal form of the
  * version; build as written, or absent; tags, joined by a space.
@@ -275,6 +298,12 @@ int32_t pylock_marker_parse(pylock_marker *marker, const uint8_t *text, size_t l
 
 /* The text as it was given, without the white space round it. PYLOCK_EMPTY, PYLOCK_ROOM. */
 int32_t pylock_marker_text(pylock_marker *marker, uint8_t *out, size_t room, size_t *needed);
+
+/* A record of what the marker is made of, in the order in which it stands in the text: `and`,
+ * `or`, `(` and `)` are a field each; a comparison is three, what stands left, the operator
+ * (as `not in`), and what stands right. A quoted text has " before it, and neither its own
+ * quotation marks; a variable has none. The slots differ. PYLOCK_EMPTY, PYLOCK_MEMORY. */
+int32_t pylock_marker_tree(pylock_marker *marker, pylock_text *record);
 
 /* The value of the marker in the environment. PYLOCK_EMPTY, PYLOCK_VALUE_*, PYLOCK_MEMORY. */
 int32_t pylock_marker_evaluate(pylock_marker *marker, pylock_environment *environment,

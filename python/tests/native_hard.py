@@ -108,7 +108,7 @@ class Arguments(unittest.TestCase):
         for name in ("version_key", "version_record", "phase", "canonicalize_version", "canonicalize_name", "is_normalized_name",
                      "library_name", "is_name", "parse_tag", "parse_wheel_filename", "parse_sdist_filename", "requirement", "requirement_parts", "wheel", "sdist",
                      "requirement_expected", "marker_expected", "set_expected", "specifier_expected", "specifiers", "Version", "Specifier",
-                     "Set", "Marker"):
+                     "Marker"):
             for odd in (None, 1, b"1", [], {}, object(), Odd()):
                 with self.assertRaises(TypeError, msg=(name, odd)):
                     getattr(_native, name)(odd)
@@ -221,9 +221,10 @@ class Classes(unittest.TestCase):
         for part in native_calls.PARTS:
             # what has no value isn't there, as in `packaging`; what is private here asks for the text
             self.assertRaises(ValueError if part in ("_given", "_key") else AttributeError, getattr, late, part)
-        for call in (str, repr, hash, lambda one: one == _native.Version("1"), lambda one: _native.Version("1") < one, _native.phase,
+        for call in (str, repr, hash, lambda one: one == _native.Version("1"), lambda one: _native.Version("1") < one,
                      _native.canonicalize_version, _native.Set("").admits):
             self.assertRaises(ValueError, call, late)
+        self.assertRaises(AttributeError, _native.phase, late)
         self.assertRaises(pylock.InvalidVersion, _native.Version.__init__, late, "x")
         self.assertRaises(TypeError, _native.Version.__init__, late, 5)
         _native.Version.__init__(late, native_calls.LONG)
@@ -537,10 +538,12 @@ class Running(unittest.TestCase):
         """A handler calls the module while calls run."""
         heard, started = [], native_calls.session()
         version, environment = pylock.Version("1.0-RC1"), pylock.Environment({"os_name": "posix"}, [])
+        # a handler that is called while a module is imported doesn't find what that has
+        marker, parse_wheel = pylock.Marker, pylock.parse_wheel_filename
 
         def handler(number, frame):
-            heard.append((str(pylock.Version("1.%d" % len(heard))), version.pre, pylock.Marker("os_name == 'posix'").evaluate(environment),
-                          len(started.answer(True)), pylock.parse_wheel_filename("a-1-py3-none-any.whl")[0]))
+            heard.append((str(pylock.Version("1.%d" % len(heard))), version.pre, marker("os_name == 'posix'").evaluate(environment),
+                          len(started.answer(True)), parse_wheel("a-1-py3-none-any.whl")[0]))
             gc.collect(0)
 
         before = signal.signal(signal.SIGALRM, handler)
