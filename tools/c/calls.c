@@ -403,6 +403,27 @@ static void requirements(void)
     pylock_text_free(&record);
 }
 
+static void written_sets(void)
+{
+    uint8_t out[32];
+    size_t needed = 77;
+    memset(out, '#', sizeof out);
+    IS(pylock_requirement_set(TEXT("a (>= 1.0,!=2 ); os_name == 'x'"), out, sizeof out, &needed), PYLOCK_OK);
+    HOLDS(same(out, needed, ">= 1.0,!=2 ") && out[11] == '#');
+    memset(out, '#', sizeof out);
+    IS(pylock_requirement_set(TEXT("a[b] >=1 , <2"), out, 7, &needed), PYLOCK_ROOM);
+    HOLDS(needed == 8 && out[0] == '#');
+    IS(pylock_requirement_set(TEXT("a @ https://h/p.zip"), out, sizeof out, &needed), PYLOCK_OK);
+    HOLDS(needed == 0);
+    IS(pylock_requirement_set(TEXT("a"), out, sizeof out, &needed), PYLOCK_OK);
+    HOLDS(needed == 0);
+    IS(pylock_requirement_set(TEXT("-"), out, sizeof out, &needed), PYLOCK_REQUIREMENT_NAME);
+    IS(pylock_requirement_set(TEXT("a[-]"), out, sizeof out, &needed), PYLOCK_REQUIREMENT_EXTRAS);
+    IS(pylock_requirement_set(TEXT("a (>=1"), out, sizeof out, &needed), PYLOCK_REQUIREMENT_SPECIFIER);
+    IS(pylock_requirement_set(TEXT("a\xff"), out, sizeof out, &needed), PYLOCK_NOT_UTF8);
+    HOLDS(needed == 0);
+}
+
 static void expected(void)
 {
     pylock_text record = {0};
@@ -1334,6 +1355,7 @@ static void calls(void)
     set_spans();
     texts();
     requirements();
+    written_sets();
     expected();
     wheels();
     wheel_parts();

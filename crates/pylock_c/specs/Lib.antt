@@ -6,6 +6,7 @@ pub mod Expected
 pub mod Kept
 pub mod Markers
 pub mod Opening
+pub mod Reading
 pub mod Refusal
 pub mod Requirements
 pub mod Sdists

@@ -3,6 +3,7 @@
 use Rattle.std.specs.Prelude.{ℕ, Bool, List, [], ◌∷◌, codes, Option, Some, option_map, Result, Ok}
 use Rattle.std.specs.List.{flat_map}
 use Rattle.pytext.specs.Results.{◌>>=◌}
+use Rattle.pyver_core.specs.Parsed.{parsed_version}
 use Rattle.pyver_core.specs.Version.Normal.{decimal_text, normal_text, pre_text, release_text}
 use Rattle.pyver_core.specs.Version.Normal.{segment_text}
 use Rattle.pyver_core.specs.Version.OrderKey.{order_key}
@@ -12,6 +13,7 @@ use Rattle.pylock_values.specs.Kind.{kind_of}
 use Rattle.pylock_values.specs.Parts.{form_of, numbers_of, words}
 use Rattle.pylock_values.specs.declared.versions.VersionKind.{VersionKind}
 use Rattle.pylock_values.specs.declared.versions.VersionNumbers.{VersionNumbers}
+use Rattle.pylock_c.specs.Refusal.{refuse_as, version_refusal}
 use Rattle.pylock_c.specs.Sets.{version_of}
 use Rattle.pylock_c.specs.Text.{text_of}
 use Rattle.pylock_c.specs.declared.refusal.Refusal.{Refusal}
@@ -36,23 +38,28 @@ normal_of short bytes = do
   Ok (normal_text (form_of short version))
 
 -- two words for each number of the release, and the numbers of the other parts
+abbrev pub split_text : List ℕ → Result (List ℕ × VersionNumbers) Refusal
+split_text text = do
+  version ← refuse_as version_refusal (parsed_version text)
+  Ok (flat_map words version.release, numbers_of version)
+
 abbrev pub split_of : List ℕ → Result (List ℕ × VersionNumbers) Refusal
 split_of bytes = do
-  version ← version_of bytes
-  Ok (flat_map words version.release, numbers_of version)
+  text ← text_of bytes
+  split_text text
 
 -- what both tell: the order key, the words of the release, and the kind with the numbers of the
 -- other parts
+abbrev pub told_of : List ℕ → Parts → List ℕ × List ℕ × (VersionKind × VersionNumbers)
+told_of text version =
+    (order_key version, flat_map words version.release, (kind_of text version, numbers_of version))
+
 abbrev pub whole_of : List ℕ
     → Result (List ℕ × List ℕ × (VersionKind × VersionNumbers)) Refusal
 whole_of bytes = do
   version ← version_of bytes
   text ← text_of bytes
-  Ok (
-    order_key version,
-    flat_map words version.release,
-    (kind_of text version, numbers_of version),
-  )
+  Ok (told_of text version)
 
 -- the normal form, the public part, the base release, the epoch, the release, the pre-release, the
 -- numbers of the post- and the developmental release, the local part

@@ -4,13 +4,14 @@ ghost use Rattle.std.specs.Prelude.{◌≡◌, ◌++◌, ◌∷◌, OnOk, codes,
 ghost use Rattle.pytext.specs.Agreement.{Gives};
 ghost use Rattle.pyver_core.specs.Set.Normal.{specifier_text};
 ghost use Rattle.pylock_run.specs.Text.Field.{field};
-ghost use Rattle.pylock_c.specs.Answer.{Tells};
+ghost use Rattle.pylock_c.specs.Answer.{Tells, Writes};
 ghost use Rattle.pylock_values.specs.Record.{joined};
-ghost use Rattle.pylock_c.specs.Requirements.{requirement_record};
+ghost use Rattle.pylock_c.specs.Requirements.{requirement_record, requirement_set};
 ghost use Rattle.pylock_c.specs.Slot.{object};
 ghost use Rattle.pylock_c.specs.Text.{kept_text};
 ghost use Rattle.pylock_c.specs.declared.refusal.Refusal.TheVariants.{Memory};
 
+use crate::answer::write;
 use crate::refusal::Refusal;
 use crate::slot::Slot;
 use crate::text::{keep_text, text};
@@ -39,6 +40,28 @@ pub extern "C" fn pylock_requirement(alloc: Global, text: &[u8], slot: &mut Slot
         result }
 {
     keep_text(alloc, requirement_record(alloc, text), slot)
+}
+
+fn requirement_set(alloc: Global, bytes: &[u8]) -> Result<&[u8], Refusal>
+    ensures { Gives Memory (λ set. set.now) result (requirement_set bytes.now) }
+{
+    match Requirement::written_set(alloc, text(bytes)?)? {
+        Some(set) => Ok(set.as_bytes()),
+        None => Ok(&[]),
+    }
+}
+
+/// The specifiers of a requirement, as they are written.
+#[unsafe(no_mangle)]
+pub extern "C" fn pylock_requirement_set(
+    alloc: Global,
+    text: &[u8],
+    out: &mut [u8],
+    needed: &mut usize,
+) -> i32
+    ensures { Writes (requirement_set text.now) out.old out.new needed.old needed.new result }
+{
+    write(requirement_set(alloc, text), out, needed)
 }
 
 /// Pushes a TAB and the field of extras.

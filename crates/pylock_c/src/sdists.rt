@@ -18,7 +18,8 @@ fn sdist_record(alloc: Global, bytes: &[u8]) -> Result<Vec<u8>, Refusal>
     ensures { Gives Memory (λ made. made.items) result (sdist_record bytes.now) }
 {
     let sdist = SdistName::parse(alloc, text(bytes)?)?;
-    let mut out = Vec::new(alloc);
+    // Nearly each record is no longer than its text.
+    let mut out = Vec::with_capacity(alloc, bytes.len())?;
     push_field(&mut out, Some(sdist.name()))?;
     push_next_field(&mut out, Some(sdist.version().text()))?;
     Ok(out)

@@ -4,13 +4,15 @@
 ghost use Rattle.std.specs.Prelude.{◌≡◌, ◌≢◌, ◌++◌, ◌∷◌, [], IfOk, OnOk, Some, codes, drop, map};
 ghost use Rattle.std.specs.Prelude.{option_map, string_bytes, take};
 ghost use Rattle.pytext.specs.Agreement.{Gives};
-ghost use Rattle.pyver_core.specs.Version.Normal.{decimal_text, pre_text, release_text};
-ghost use Rattle.pyver_core.specs.Version.Normal.{segment_text};
+ghost use Rattle.pyver_core.specs.Version.Normal.{decimal_text, normal_text, pre_text};
+ghost use Rattle.pyver_core.specs.Version.Normal.{release_text, segment_text};
+ghost use Rattle.pyver_core.specs.Version.Parts.{release_alone};
 ghost use Rattle.pylock_run.specs.Text.Field.{field, fields_text};
 ghost use Rattle.pylock_values.specs.Record.{joined, record_of};
 ghost use Rattle.pylock_c.specs.Answer.{Writes, WritesBoth, WritesWith};
 ghost use Rattle.pylock_c.specs.Versions.{key_of, normal_of, parts_of, read_of, split_of};
-ghost use Rattle.pylock_c.specs.Versions.{version_record, whole_of};
+ghost use Rattle.pylock_c.specs.Reading.{values_of};
+ghost use Rattle.pylock_c.specs.Versions.{split_text, told_of, version_record, whole_of};
 ghost use Rattle.pylock_c.specs.declared.refusal.Refusal.TheVariants.{Memory};
 
 use crate::answer::{put_both, write_made, write_with};
@@ -18,8 +20,10 @@ use crate::refusal::Refusal;
 use crate::sets::version;
 use crate::text::text;
 use pylock_run::{push_field, push_next_field};
-use pylock_values::{VersionKind, VersionNumbers, base_of, kind_of, normal_form, words_of};
-use pyver_core::{LocalPart, PreKind, Version};
+use pylock_values::{
+    VersionKind, VersionNumbers, base_of, kind_of, normal_form, plain_kind, words_of,
+};
+use pyver_core::{LocalPart, PlainVersion, PreKind, Version};
 use std::alloc::{AllocError, Global};
 use std::fmt::Write;
 
@@ -90,7 +94,19 @@ pub extern "C" fn pylock_version_normal(
 fn split(alloc: Global, bytes: &[u8]) -> Result<(Vec<u64>, VersionNumbers), Refusal>
     ensures { Gives Memory (λ split. (split.0.items, split.1)) result (split_of bytes.now) }
 {
-    let version = version(alloc, bytes)?;
+    let text = text(bytes)?;
+    let Some(version) = PlainVersion::read(text) else {
+        return split_any(alloc, text);
+    };
+    let release = words_of(alloc, version.release())?;
+    Ok((release, VersionNumbers::of_plain(&version, text)))
+}
+
+/// The same of any text.
+fn split_any(alloc: Global, text: &str) -> Result<(Vec<u64>, VersionNumbers), Refusal>
+    ensures { Gives Memory (λ split. (split.0.items, split.1)) result (split_text text.now) }
+{
+    let version = Version::parse(alloc, text)?;
     let release = words_of(alloc, version.release())?;
     let numbers = VersionNumbers::of(alloc, &version)?;
     Ok((release, numbers))
@@ -121,17 +137,38 @@ struct Reading {
 }
 
 fn whole(alloc: Global, bytes: &[u8]) -> Result<Reading, Refusal>
-    ensures { Gives Memory
-        (λ whole. (whole.key.items, whole.release.items, (whole.kind, whole.parts)))
-        result (whole_of bytes.now) }
+    ensures { Gives Memory values_of result (whole_of bytes.now) }
 {
-    let version = version(alloc, bytes)?;
     let text = text(bytes)?;
+    match PlainVersion::read(text) {
+        Some(version) => Ok(tell_plain(alloc, &version, text)?),
+        None => Ok(tell_any(alloc, &Version::parse(alloc, text)?, text)?),
+    }
+}
+
+/// What is told of a version that the text spells.
+fn tell_any(alloc: Global, version: &Version, text: &str) -> Result<Reading, AllocError>
+    ensures { IfOk result (λ made. values_of made ≡ told_of text.now version.now) }
+{
     Ok(Reading {
         key: version.order_key(alloc)?,
         release: words_of(alloc, version.release())?,
-        kind: kind_of(&version, text),
-        parts: VersionNumbers::of(alloc, &version)?,
+        kind: kind_of(version, text),
+        parts: VersionNumbers::of(alloc, version)?,
+    })
+}
+
+/// The same of a version of which the text is the normal form, with two allocations.
+fn tell_plain(alloc: Global, version: &PlainVersion, text: &str) -> Result<Reading, AllocError>
+    requires alone { version.now ≡ release_alone version.now.release }
+    requires normal { normal_text version.now ≡ text.now }
+    ensures { IfOk result (λ made. values_of made ≡ told_of text.now version.now) }
+{
+    Ok(Reading {
+        key: version.order_key(alloc)?,
+        release: words_of(alloc, version.release())?,
+        kind: plain_kind(version, text),
+        parts: VersionNumbers::of_plain(version, text),
     })
 }
 

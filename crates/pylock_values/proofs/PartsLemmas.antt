@@ -1,14 +1,17 @@
 -- What the normal form of a version begins with, and a normal form with a shorter release.
-use Rattle.std.proofs.Common.{◌≡◌, ◌++◌, [], ◌∷◌, ℕ, zero, suc, List, drop, take, refl, sym, ap, ◌∙◌, append_assoc}
+use Rattle.std.proofs.Common.{◌≡◌, ◌++◌, [], ◌∷◌, ℕ, zero, suc, true, false, List, length, drop, take, refl, sym, ap, ◌∙◌, append_assoc}
+use Rattle.std.specs.Str.{bytes_eq}
 use Rattle.std.proofs.Math.Seq.{drop-append_seam, take-append_seam}
 use Rattle.std.proofs.lemmas.List.{append-nil}
+use Rattle.std.proofs.lemmas.Slice.Eq.{bytes_eq-Decides}
 use Rattle.pyver_core.specs.Version.Hashing.{prepend_unless_trailing, without_trailing_zeros}
 use Rattle.pyver_core.specs.Version.Normal.{dev_text, epoch_text, local_text, normal_text, post_text, pre_text, release_text}
 use Rattle.pyver_core.specs.Version.Order.{IsSame}
 use Rattle.pyver_core.specs.Version.OrderKey.{order_key}
-use Rattle.pyver_core.specs.Version.Parts.{Parts, base_release, public_part}
+use Rattle.pyver_core.specs.Version.Parts.{Parts, base_release, public_part, release_alone}
 use Rattle.pyver_core.proofs.Lemmas.Version.OrderKey.{keys_equal}
-use Rattle.pylock_values.specs.Parts.{base_length, base_with, public_length, short_release, without_zeros}
+use Rattle.pylock_values.specs.Kind.{kind_of}
+use Rattle.pylock_values.specs.Parts.{base_length, base_with, numbers_of, public_length, short_release, without_zeros}
 
 -- ---- the base release
 
@@ -58,6 +61,35 @@ public_begins v =
     sym (behind_four (epoch_text v.epoch) (release_text v.release) (pre_text v.pre) (post_text v.post) (dev_text v.dev) (local_text v.local))
     ∙ ap (λ (t : List ℕ). t ++ local_text v.local) (sym (public_text v)) in
     ap (take (public_length v)) whole ∙ take-append_seam (normal_text (public_part v)) (local_text v.local)
+
+-- ---- a release alone
+
+pub plain_numbers : (v : Parts) (text : List ℕ) → v ≡ release_alone v.release → normal_text v ≡ text
+    → numbers_of v ≡ record {
+      base = length text;
+      public_end = length text;
+      epoch_low = 0;
+      epoch_high = 0;
+      pre_low = 0;
+      pre_high = 0;
+      post_low = 0;
+      post_high = 0;
+      dev_low = 0;
+      dev_high = 0;
+      pre = 0;
+      has_post = false;
+      has_dev = false;
+    }
+plain_numbers v text alone normal =
+    let length_is : length (normal_text (release_alone v.release)) ≡ length text = ap length (ap normal_text (sym alone) ∙ normal) in
+    ap numbers_of alone ∙ rw length_is refl
+
+pub plain_kind : (v : Parts) (text : List ℕ) → v ≡ release_alone v.release → normal_text v ≡ text
+    → kind_of text v ≡ record { is_prerelease = false; is_postrelease = false; is_devrelease = false; is_normal = true }
+plain_kind v text alone normal =
+    let whole : bytes_eq (normal_text (release_alone v.release)) text ≡ true =
+    (bytes_eq-Decides (normal_text (release_alone v.release)) text).1 (ap normal_text (sym alone) ∙ normal) in
+    ap (kind_of text) alone ∙ rw whole refl
 
 -- ---- zeros at the end
 

@@ -3,7 +3,7 @@
 //! without a grammar of its own. The numbers of a version, from `crates/pylock_c/src/versions.rt`:
 //!
 //! ```rust
-//! let version = version(alloc, bytes)?;
+//! let version = Version::parse(alloc, text)?;
 //! let release = words_of(alloc, version.release())?;
 //! let numbers = VersionNumbers::of(alloc, &version)?;
 //! ```
@@ -22,5 +22,7 @@ pub use markers::marker_record;
 pub use picks::{push_fault, push_picks};
 pub use sets::set_spans;
 pub use tags::tags_record;
-pub use versions::{VersionKind, VersionNumbers, base_of, kind_of, normal_form, words_of};
+pub use versions::{
+    VersionKind, VersionNumbers, base_of, kind_of, normal_form, plain_kind, words_of,
+};
 pub use wheels::wheel_parts_record;

@@ -27,7 +27,8 @@ fn spans_in(alloc: Global, text: &str) -> Result<Vec<usize>, AllocError>
     requires { length text.now + 1 < 2 ^ 64 }
     ensures { IfOk result (λ spans. spans.items ≡ spans_from 0 (set_pieces text.now)) }
 {
-    let mut spans = Vec::new(alloc);
+    // Many sets are of one specifier.
+    let mut spans = Vec::with_capacity(alloc, 4)?;
     let mut start = 0;
     for piece in text.split(',') {
         push_span(&mut spans, start, piece)?;

@@ -5,13 +5,13 @@ ghost use Rattle.std.specs.List.{flat_map};
 ghost use Rattle.pyver_core.specs.Version.FromParts.{version_from_parts};
 ghost use Rattle.pyver_core.specs.Version.Hashing.{without_trailing_zeros};
 ghost use Rattle.pyver_core.specs.Version.Normal.{normal_text};
-ghost use Rattle.pyver_core.specs.Version.Parts.{base_release};
+ghost use Rattle.pyver_core.specs.Version.Parts.{base_release, release_alone};
 ghost use Rattle.pylock_values.specs.Kind.{kind_of};
 ghost use Rattle.pylock_values.specs.Parts.{base_length, base_with, form_of, high_word, low_word};
 ghost use Rattle.pylock_values.specs.Parts.{numbers_of, pre_letter, pre_number, public_length};
 ghost use Rattle.pylock_values.specs.Parts.{short_release, without_zeros, words};
 
-use pyver_core::{PartsError, PreKind, Version, VersionParts};
+use pyver_core::{PartsError, PlainVersion, PreKind, Version, VersionParts};
 use std::alloc::{AllocError, Global};
 
 /// What kind of release a version is, and how its text is written (PEP 440, "Pre-releases",
@@ -38,6 +38,21 @@ pub fn kind_of(version: &Version, text: &str) -> VersionKind
         is_postrelease: version.is_postrelease(),
         is_devrelease: version.dev().is_some(),
         is_normal: version.text() == text,
+    }
+}
+
+/// The kind of a version of which the text is the normal form. It takes no memory.
+#[tactic(auto, using(crate::proofs::PartsLemmas::plain_kind))]
+pub fn plain_kind(version: &PlainVersion, text: &str) -> VersionKind
+    requires alone { version.now ≡ release_alone version.now.release }
+    requires normal { normal_text version.now ≡ text.now }
+    ensures { result ≡ kind_of text.now version.now }
+{
+    VersionKind {
+        is_prerelease: false,
+        is_postrelease: false,
+        is_devrelease: false,
+        is_normal: true,
     }
 }
 
@@ -147,6 +162,30 @@ pub struct VersionNumbers {
 }
 
 impl VersionNumbers {
+    /// The numbers of a version of which the text is the normal form. It takes no memory.
+    #[tactic(auto, using(crate::proofs::PartsLemmas::plain_numbers))]
+    pub fn of_plain(version: &PlainVersion, text: &str) -> VersionNumbers
+        requires alone { version.now ≡ release_alone version.now.release }
+        requires normal { normal_text version.now ≡ text.now }
+        ensures { result ≡ numbers_of version.now }
+    {
+        VersionNumbers {
+            base: text.len(),
+            public_end: text.len(),
+            epoch_low: 0,
+            epoch_high: 0,
+            pre_low: 0,
+            pre_high: 0,
+            post_low: 0,
+            post_high: 0,
+            dev_low: 0,
+            dev_high: 0,
+            pre: 0,
+            has_post: false,
+            has_dev: false,
+        }
+    }
+
     /// The numbers of a version but for those of its release. Where more stands behind the release,
     /// it takes memory for the versions that end where the numbers tell, and gives it back.
     pub fn of(alloc: Global, version: &Version) -> Result<VersionNumbers, AllocError>

@@ -1,6 +1,6 @@
 //! Laws of markers, each a public function that does nothing: its contract is the law.
 
-ghost use Rattle.std.specs.Prelude.{◌≡◌, ℕ, List, Some, Err, Ok, false, true};
+ghost use Rattle.std.specs.Prelude.{◌≡◌, ℕ, List, Option, Some, Err, Ok, false, true};
 ghost use Rattle.pymark_core.specs.Environment.{EnvironmentValue};
 ghost use Rattle.pymark_core.specs.Marker.Asked.{reads_extra};
 ghost use Rattle.pymark_core.specs.Marker.Depth.{is_deep};
@@ -9,8 +9,9 @@ ghost use Rattle.pymark_core.specs.Marker.Keys.{reads};
 ghost use Rattle.pymark_core.specs.Marker.Reading.{MarkerValue, marker_of, tree_text};
 ghost use Rattle.pymark_core.specs.Marker.Tree.{Tree};
 ghost use Rattle.pymark_core.specs.Requirement.Grammar.{RequirementText};
-ghost use Rattle.pymark_core.specs.Requirement.Reading.{requirement_of};
+ghost use Rattle.pymark_core.specs.Requirement.Reading.{requirement_of, written_set_of};
 ghost use Rattle.pymark_core.specs.Requirement.Value.{RequirementValue};
+ghost use Rattle.pymark_core.specs.Requirement.Written.{IsWrittenSet};
 ghost use Rattle.pymark_core.specs.Marker.Value.{AgreeAt, marker_value, value_with};
 ghost use Rattle.pytext.specs.White.{trim_white};
 ghost use Rattle.pymark_core.specs.declared.marker.keys.Key.{Key};
@@ -74,6 +75,15 @@ pub fn requirement_of_is_complete()
         → requirement_of text ≡ Ok parts → RequirementText text parts }
     ensures complete { (text : List ℕ) (parts : RequirementValue)
         → RequirementText text parts → requirement_of text ≡ Ok parts }
+{}
+
+/// The specifiers of a requirement as they are written read as its set, and it has none written
+/// where it has a URL.
+#[tactic(auto, using(crate::proofs::Lemmas::Requirement::Written::written_is_read))]
+pub fn written_sets_are_read()
+    ensures { (text : List ℕ) (parts : RequirementValue) → requirement_of text ≡ Ok parts
+        → (written : Option (List ℕ)) × (written_set_of text ≡ Ok written)
+        × IsWrittenSet written parts.set parts.url }
 {}
 
 /// The reading of a marker or of a requirement is never out of memory, nor is a marker's value,

@@ -8,11 +8,12 @@ ghost use Rattle.std.specs.Prelude.{◌≡◌, ◌≢◌, IfErr, IfOk, map, opti
 ghost use Rattle.pytext.specs.Agreement.{Gives};
 ghost use Rattle.pymark_core.specs.Requirement.Grammar.{RequirementText};
 ghost use Rattle.pymark_core.specs.Requirement.Reading.{marker_in, requirement_of};
+ghost use Rattle.pymark_core.specs.Requirement.Reading.{written_set_of};
 ghost use Rattle.pymark_core.specs.Requirement.Value.{RequirementValue};
 
 use crate::marker::{Marker, MarkerError};
 pub use error::RequirementError;
-use parts::{read_extras, read_name, read_source};
+use parts::{read_extras, read_name, read_source, written_set};
 use pytext::after_white;
 use pyver_core::SpecifierSet;
 use std::alloc::{AllocError, Global};
@@ -75,6 +76,21 @@ impl Requirement {
         ensures exact { Gives RequirementError.Memory (λ r. r) result (requirement_of text.now) }
     {
         read_requirement(alloc, text)
+    }
+
+    /// The specifiers of the requirement that the text is, as they are written, without the
+    /// parentheses round them (PEP 508, "Grammar"); `None` where it has a URL.
+    ///
+    /// Of a text that is no requirement it answers a refusal or any piece of it. It takes memory for
+    /// the extras, and gives it back.
+    #[tactic(auto, unfolding(crate::specs::Requirement::Reading::written_set_of))]
+    pub fn written_set(alloc: Global, text: &str) -> Result<Option<&str>, RequirementError>
+        ensures { Gives RequirementError.Memory (λ set. option_map (λ t. t.now) set) result
+            (written_set_of text.now) }
+    {
+        let (_name, rest) = read_name(after_white(text))?;
+        let (_extras, rest) = read_extras(alloc, after_white(rest))?;
+        written_set(after_white(rest))
     }
 
     /// The name as it is written. It takes no memory.

@@ -24,4 +24,6 @@ mod version;
 
 pub use name::{NormalForm, NormalName, is_name, is_same_name, normal_name};
 pub use set::{Operator, ReleasePrefix, Specifier, SpecifierError, SpecifierSet};
-pub use version::{LocalPart, PartsError, PreKind, Version, VersionError, VersionParts};
+pub use version::{
+    LocalPart, PartsError, PlainVersion, PreKind, Version, VersionError, VersionParts,
+};

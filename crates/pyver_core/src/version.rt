@@ -16,6 +16,7 @@ mod order_key;
 mod parse;
 mod part;
 mod parts_ref;
+mod plain;
 mod rank;
 pub(crate) mod reading;
 
@@ -26,6 +27,7 @@ pub(crate) use normal::{push_epoch, push_release};
 pub(crate) use order::{compare_fronts, compare_public, compare_to_public};
 pub use part::{LocalPart, PreKind};
 pub(crate) use parts_ref::PartsRef;
+pub use plain::PlainVersion;
 use rank::rank_of;
 use std::alloc::{AllocError, Global};
 use std::marker::Model;

@@ -1,8 +1,8 @@
 -- Reading a requirement from the left: its parts, or the first refusal (PEP 508, "Grammar"). White
 -- space may stand between the parts.
 use Rattle.std.specs.Prelude.{ℕ, false, not, ◌==◌, nat_lt, ◌-◌, if◌then◌else◌, List, [], ◌∷◌}
-use Rattle.std.specs.Prelude.{length, take, drop, slice_get, Option, Some, None, option_map, ok_or}
-use Rattle.std.specs.Prelude.{unwrap_or, Result, Ok, Err}
+use Rattle.std.specs.Prelude.{length, take, drop, slice_get, Option, Some, None, is_some, ok_or}
+use Rattle.std.specs.Prelude.{option_map, unwrap_or, Result, Ok, Err}
 use Rattle.std.specs.List.{after_first, before_first, list_all, position_or_len, prefix_len}
 use Rattle.std.specs.List.{slice_split}
 use Rattle.pytext.specs.Bytes.{is_name_byte, is_white, starts}
@@ -137,6 +137,13 @@ source_from text (Some rest) = url_source (after_white rest)
 unfoldable pub source_at : List ℕ → Result SourceParts RequirementError
 source_at text = source_from text (after_byte 64 text)
 
+-- the specifiers as they are written, without the parentheses round them; none where a URL stands
+unfoldable pub written_set_at : List ℕ → Result (Option (List ℕ)) RequirementError
+written_set_at text =
+    if is_some (after_byte 64 text) then Ok None
+    else (ok_or (within_parentheses (trim_white (cut_or_whole text (cut_around 59 text)).0))
+    refusal.Specifier >>= λ inner. Ok (Some inner))
+
 -- ---- the marker
 
 abbrev pub marker_in : Option (List ℕ) → Result (Option MarkerValue) RequirementError
@@ -159,3 +166,11 @@ requirement_of text = do
     url = source.url;
     marker = marker;
   })
+
+-- the specifiers of a requirement, as they are written: of a text that is none it may be the same
+-- refusal, or a text that is no set (the law `written_sets_are_read`)
+unfoldable pub written_set_of : List ℕ → Result (Option (List ℕ)) RequirementError
+written_set_of text = do
+  name ← name_at (after_white text)
+  extras ← extras_at (after_white name.1)
+  written_set_at (after_white extras.1)

@@ -215,6 +215,20 @@ fn read_set(alloc: Global, text: &str) -> Result<SourceParts<'_>, RequirementErr
     })
 }
 
+/// The specifiers as they are written, where no URL stands.
+#[tactic(auto, unfolding(crate::specs::Requirement::Reading::written_set_at))]
+pub(super) fn written_set(text: &str) -> Result<Option<&str>, RequirementError>
+    ensures { Gives RequirementError.Memory (λ set. option_map (λ t. t.now) set) result
+        (reading.written_set_at text.now) }
+{
+    if after_byte(b'@', text).is_some() {
+        return Ok(None);
+    }
+    let (declared, _marker) = cut_marker(text);
+    let inner = within_parentheses(trim_white(declared)).ok_or(RequirementError::Specifier)?;
+    Ok(Some(inner))
+}
+
 /// The specifiers; no text of theirs is refused but as `Specifier`.
 fn parse_set(alloc: Global, text: &str) -> Result<SpecifierSet, RequirementError>
     ensures { Gives RequirementError.Memory (λ set. set) result

@@ -30,6 +30,17 @@ base_release v = record {
   local = [];
 }
 
+-- the version of a release alone (PEP 440, "Final releases")
+abbrev pub release_alone : List ℕ → Parts
+release_alone release = record {
+  epoch = 0;
+  release = release;
+  pre = None;
+  post = None;
+  dev = None;
+  local = [];
+}
+
 -- a developmental release counts as a pre-release (PEP 440, "Handling of pre-releases")
 abbrev pub is_prerelease : Parts → Bool
 is_prerelease v = is_some v.pre || is_some v.dev

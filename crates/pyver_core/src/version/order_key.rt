@@ -40,7 +40,7 @@ impl Version {
 }
 
 #[tactic(auto, using(crate::proofs::Lemmas::Version::Order::Phases::phases))]
-fn key_of(alloc: Global, parts: &PartsRef<'_>) -> Result<Vec<u8>, AllocError>
+pub(super) fn key_of(alloc: Global, parts: &PartsRef<'_>) -> Result<Vec<u8>, AllocError>
     ensures { IfOk result (λ key. key.items ≡ order_key (parts_of parts.now)) }
 {
     let mut key = Vec::with_capacity(alloc, USUAL_LENGTH)?;
@@ -53,8 +53,22 @@ fn key_of(alloc: Global, parts: &PartsRef<'_>) -> Result<Vec<u8>, AllocError>
     Ok(key)
 }
 
-#[tactic(auto, using(crate::proofs::Lemmas::Version::OrderKey::pushed_short))]
+#[tactic(auto, using(crate::proofs::Lemmas::Version::OrderKey::pushed_alone))]
+#[inline(always)]
 fn push_number(key: &mut Vec<u8>, number: u128) -> Result<(), AllocError>
+    ensures { OnOk result (key.new.items ≡ key.old.items ++ number_key number) }
+{
+    // Nearly each number is one byte.
+    if number < SHORT_END {
+        Ok(key.push(number as u8 + 1)?)
+    } else {
+        push_long(key, number)
+    }
+}
+
+/// Writes a number of any size.
+#[tactic(auto, using(crate::proofs::Lemmas::Version::OrderKey::pushed_short))]
+fn push_long(key: &mut Vec<u8>, number: u128) -> Result<(), AllocError>
     ensures { OnOk result (key.new.items ≡ key.old.items ++ number_key number) }
 {
     // The bytes that are taken off the end of the number stand in `low` from `start` on.

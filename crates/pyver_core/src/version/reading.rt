@@ -13,4 +13,4 @@ mod tagged;
 
 pub(crate) use base::{Base, read_base};
 pub(crate) use draft::{VersionDraft, read_version};
-pub(crate) use normal_version::{NormalVersion, read_normal};
+pub(crate) use normal_version::{NormalVersion, read_normal, read_release};

@@ -15,7 +15,7 @@ pub loop-piece-init : goal.loop-piece-init
 loop-piece-init c =
     let text = c.args.text.now in
     let yields = YieldsList-from_str_split 44 text (omega arith) c.split-piece-items.ensures.text c.split-piece-items.ensures.has_more c.split-piece-items.ensures.pattern in
-    (set_pieces text, rw c.into_iter-piece-iterator.ensures.into_iter_gives yields, rw c.new-spans.ensures.items refl, omega (arith, split_room (λ b. b == 44) text))
+    (set_pieces text, rw c.into_iter-piece-iterator.ensures.into_iter_gives yields, rw c.in_ok-spans.ensures.items refl, omega (arith, split_room (λ b. b == 44) text))
 
 -- what is left where another piece was taken
 taken : (c : In-Some) → (rest : List (List ℕ)) × YieldsList (split_steps FindsChar (λ a b. b ≡ a)) (λ y. y.now) c.next.new.self rest

@@ -29,7 +29,7 @@ use Rattle.pymark_core.proofs.ChoiceLemmas.{cond_cases}
 
 -- ---- steps
 
-unrefused : {A E : Type 0} (refusal : RequirementError) (r : Result A E) (x : A) → refused_as refusal r ≡ Ok x → r ≡ Ok x
+pub unrefused : {A E : Type 0} (refusal : RequirementError) (r : Result A E) (x : A) → refused_as refusal r ≡ Ok x → r ≡ Ok x
 unrefused refusal (Ok z) x e = let same : z ≡ x = cc in ap Ok same
 unrefused refusal (Err r) x e = absurd cc
 

@@ -1,5 +1,5 @@
 -- Texts that are the normal form of the parts that they spell.
-use Rattle.std.proofs.Common.{◌≡◌, ◌≢◌, ℕ, ◌+◌, ◌*◌, ◌/◌, ◌%◌, ◌^◌, ◌<◌, ◌≤◌, false, List, [], ◌∷◌, ◌++◌, length, get_or, set, take, drop, Bor, Option, Some, None, Ok, refl, sym, subst, ap, ◌∙◌, append_assoc, arith}
+use Rattle.std.proofs.Common.{◌≡◌, ◌≢◌, ℕ, zero, suc, ◌+◌, ◌*◌, ◌/◌, ◌%◌, ◌^◌, ◌<◌, ◌≤◌, false, List, [], ◌∷◌, ◌++◌, length, get_or, set, take, drop, Bor, Option, Some, None, Ok, refl, sym, subst, ap, ◌∙◌, append_assoc, arith}
 use Rattle.std.specs.Prelude.{IfSome, flat_map}
 use Rattle.std.specs.Fmt.{decimal}
 use Rattle.std.proofs.lemmas.Bool.Decides.{nat_tests}
@@ -10,8 +10,8 @@ use Rattle.std.proofs.Math.Seq.{take-length}
 use Rattle.pyver_core.specs.Inner.NormalVersion.{IsNormalVersion}
 use Rattle.pyver_core.specs.Parsed.{parsed_version}
 use Rattle.pyver_core.specs.Version.Grammar.{IsLocal, IsRelease, Spells, has_large, number_in, number_in_pre, numbers}
-use Rattle.pyver_core.specs.Version.Normal.{decimal_text, dotted_number, local_text, release_text}
-use Rattle.pyver_core.specs.Version.Parts.{Parts}
+use Rattle.pyver_core.specs.Version.Normal.{decimal_text, dotted_number, local_text, normal_text, release_text}
+use Rattle.pyver_core.specs.Version.Parts.{Parts, release_alone}
 use Rattle.pyver_core.specs.declared.version.error.VersionError.TheVariants.{NumberTooLarge}
 use Rattle.pyver_core.specs.declared.version.part.LocalPart.{LocalPart}
 use Rattle.pyver_core.specs.declared.version.part.PreKind.{PreKind}
@@ -102,6 +102,29 @@ parts_fit release pre post dev a b c d =
     let d3 = number_in_pre pre ++ d2 in
     more_fit (0 ∷ []) (release ++ d3) refl (more_fit release d3 a (more_fit (number_in_pre pre) d2 b
     (more_fit (number_in post) d1 c (more_fit (number_in dev) [] d refl))))
+
+-- ---- a release alone
+
+-- its normal form is that of the release
+plain_text : (ns : List ℕ) → release_text ns ++ [] ≡ normal_text (release_alone ns)
+plain_text ns = refl
+
+not_empty : (room : List ℕ) (count : ℕ) → 1 ≤ count → count ≤ length room → take count room ≢ []
+not_empty room zero some within is = absurd (omega arith)
+not_empty [] (suc n) some within is = absurd (omega arith)
+not_empty (m ∷ room) (suc n) some within is = absurd cc
+
+-- what is read of a text that begins with the release and ends there
+pub plain_is_read : (text rest room : List ℕ) (count : ℕ) → 1 ≤ count → count ≤ length room
+    → text ≡ release_text (take count room) ++ rest → length rest ≡ 0 → has_large (take count room) ≡ false
+    → (parsed_version text ≡ Ok (release_alone (take count room))) × (normal_text (release_alone (take count room)) ≡ text)
+    × (take count room ≢ [])
+plain_is_read text [] room count some within is empty fits =
+    let ns = take count room in
+    let release = not_empty room count some within in
+    let normal : IsNormalVersion text (release_alone ns) = record { text_is = sym is; release = release; local = refl } in
+    (normal_is_read text (release_alone ns) normal (parts_fit ns None None None fits refl refl refl), sym is, release)
+plain_is_read text (r ∷ rest) room count some within is empty fits = absurd (omega arith)
 
 -- ---- the first number of a release
 

@@ -117,6 +117,9 @@ pub pushed_short : (key rest : List ℕ) (n : ℕ) → n < 253 → (key ++ (n + 
 pushed_short key rest n short =
     append_assoc key ((n + 1) ∷ []) rest ∙ ap (λ (k : List ℕ). key ++ (k ++ rest)) (sym (number_key-short n short))
 
+pub pushed_alone : (key : List ℕ) (n : ℕ) → n < 253 → key ++ (n + 1) ∷ [] ≡ key ++ number_key n
+pushed_alone key n short = ap (λ (k : List ℕ). key ++ k) (sym (number_key-short n short))
+
 -- a number that needs so many bytes needs one less without the last
 pub one_byte_less : (bytes n : ℕ) → 253 ≤ n → n < 256 ^ bytes → (0 < bytes) × (n / 256 < 256 ^ (bytes - 1))
 one_byte_less zero n long fits = absurd (omega arith)

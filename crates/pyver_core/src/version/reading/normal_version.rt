@@ -47,7 +47,7 @@ pub(crate) fn read_normal(bytes: &[u8], room: &mut [u128]) -> Option<NormalVersi
 
 /// Puts the numbers of a release in the room: how many these are, and the text behind them.
 #[inline(always)]
-fn read_release<'a>(bytes: &'a [u8], room: &mut [u128]) -> Option<(usize, &'a [u8])>
+pub(crate) fn read_release<'a>(bytes: &'a [u8], room: &mut [u128]) -> Option<(usize, &'a [u8])>
     requires { 1 ≤ length room.old }
     ensures room { length room.new ≡ length room.old }
     ensures some { IfSome result (λ x. 1 ≤ x.0) }

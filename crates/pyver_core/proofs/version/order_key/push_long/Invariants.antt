@@ -1,6 +1,6 @@
 use Rattle.std.proofs.Common.{◌≡◌, ◌++◌, ◌^◌, ◌<◌, ◌≤◌, ℕ, List, drop, length}
 use Rattle.pyver_core.specs.Version.OrderKey.{number_key}
-use Rattle.pyver_core.proofs.version.order_key.push_number.Given as goal
+use Rattle.pyver_core.proofs.version.order_key.push_long.Given as goal
 
 -- the bytes that were taken off stand at the end of `low`, and there is room for those that are left
 pub record IsSplit (low : List ℕ) (start high : ℕ) : Type 0 where

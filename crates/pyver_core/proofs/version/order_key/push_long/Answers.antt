@@ -3,7 +3,7 @@ use Rattle.std.specs.Prelude.{slice_set}
 use Rattle.std.proofs.lemmas.List.{drop-set}
 use Rattle.pyver_core.specs.Version.OrderKey.{number_key}
 use Rattle.pyver_core.proofs.Lemmas.Version.OrderKey.{one_byte_less, pushed_long}
-use Rattle.pyver_core.proofs.version.order_key.push_number.Goals as goal
+use Rattle.pyver_core.proofs.version.order_key.push_long.Goals as goal
 
 -- one more byte at the end is taken off
 pub loop-high-preserved : goal.loop-high-preserved
