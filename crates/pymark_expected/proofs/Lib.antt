@@ -1,3 +1,4 @@
+pub mod CutLemmas
 pub mod KindLemmas
 pub mod PlaceLemmas
 pub mod StretchLemmas

@@ -1,3 +1,4 @@
 pub mod Kinds
 pub mod Marker
+pub mod Requirement
 pub mod Stretch

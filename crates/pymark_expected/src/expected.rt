@@ -2,6 +2,10 @@
 
 use thiserror::Error;
 
+/// The sentence of [`Expected::SpecifierEnd`].
+const SPECIFIER_END: &str =
+    "Expected comma (within version specifier), semicolon (after version specifier) or end";
+
 /// What was expected at a place of a text. It is displayed as a sentence.
 #[derive(Clone, Copy, PartialEq, Eq, Debug, Error)]
 pub enum Expected {
@@ -27,7 +31,7 @@ pub enum Expected {
     #[error("Expected semicolon (after URL and whitespace) or end")]
     UrlEnd,
     /// Behind a specifier of a requirement: another one, a marker or the end.
-    #[error("Expected comma (within version specifier), semicolon (after version specifier) or end")]
+    #[error("{}", SPECIFIER_END)]
     SpecifierEnd,
     /// The `)` behind the specifiers of a requirement.
     #[error("Expected matching RIGHT_PARENTHESIS for LEFT_PARENTHESIS, after version specifier")]

@@ -1,6 +1,6 @@
 //! A stretch of a text, and what was expected there.
 
-ghost use Rattle.std.specs.Prelude.{◌≡◌, ◌-◌, length};
+ghost use Rattle.std.specs.Prelude.{◌≡◌, ◌+◌, ◌-◌, length};
 ghost use Rattle.pymark_expected.specs.Stretch.{EndsWith, IsStretch};
 
 use crate::expected::Expected;
@@ -47,6 +47,8 @@ pub(crate) fn fault_at(text: &str, at: &str, expected: Expected) -> Fault
 pub(crate) fn fault_within(text: &str, end: &str, fault: Fault) -> Fault
     ensures stretch { IsStretch text.now result }
     ensures expected { result.expected ≡ fault.expected }
+    ensures end { EndsWith text.now end.now → IsStretch end.now fault
+        → result.end ≡ length text.now - length end.now + fault.end }
 {
     let before = text.len().saturating_sub(end.len());
     fault_between(

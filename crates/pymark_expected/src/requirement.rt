@@ -5,11 +5,13 @@ ghost use Rattle.pymark_core.specs.Requirement.Reading.{requirement_of, url_len}
 ghost use Rattle.pymark_core.specs.Requirement.Value.{RequirementValue};
 ghost use Rattle.pymark_core.specs.declared.requirement.error.RequirementError.{RequirementError};
 ghost use Rattle.pymark_expected.specs.Kinds.{belongs, is_of_declared, is_of_marker};
-ghost use Rattle.pymark_expected.specs.Kinds.{is_of_marker_part};
-ghost use Rattle.pymark_expected.specs.Kinds.{is_of_name};
-ghost use Rattle.pymark_expected.specs.Stretch.{IsStretch};
+ghost use Rattle.pymark_expected.specs.Kinds.{is_of_grammar, is_of_marker_part, is_of_name};
+ghost use Rattle.pymark_expected.specs.Requirement.{EndsAt, IsPlaceOf, IsStopWithin, behind_name};
+ghost use Rattle.pymark_expected.specs.Requirement.{behind_url, marker, of_requirement, source};
+ghost use Rattle.pymark_expected.specs.Requirement.{url};
+ghost use Rattle.pymark_expected.specs.Stretch.{EndsWith, IsStretch};
 
-use crate::cut::{after_byte, after_first, after_name};
+use crate::cut::{after_byte, after_first, after_name, begins_name};
 use crate::expected::Expected;
 use crate::extras::extras_fault;
 use crate::fault::{Fault, fault_at, fault_between, fault_within};
@@ -27,7 +29,7 @@ pub fn requirement_fault(alloc: Global, text: &str) -> Result<Option<Fault>, All
     ensures verdict { IfOk result (λ fault. MatchOption fault
         ((parts : RequirementValue) × (requirement_of text.now ≡ Ok parts))
         (λ f. (error : RequirementError) × (requirement_of text.now ≡ Err error)
-        × (belongs error f.expected ≡ true))) }
+        × (belongs error f.expected ≡ true) × IsPlaceOf error text.now f)) }
     ensures stretch { IfOk result (λ fault. IfSome fault (λ f. IsStretch text.now f)) }
 {
     match Requirement::parse(alloc, text) {
@@ -40,6 +42,7 @@ pub fn requirement_fault(alloc: Global, text: &str) -> Result<Option<Fault>, All
 fn refused(alloc: Global, text: &str, error: RequirementError) -> Result<Fault, AllocError>
     ensures kind { IfOk result (λ fault. belongs error fault.expected ≡ true) }
     ensures stretch { IfOk result (λ fault. IsStretch text.now fault) }
+    ensures place { IfOk result (λ fault. IsPlaceOf error text.now fault) }
 {
     let source = source(text);
     match error {
@@ -57,12 +60,16 @@ fn refused(alloc: Global, text: &str, error: RequirementError) -> Result<Fault, 
 }
 
 /// The text behind the name and white space.
-fn behind_name(text: &str) -> &str {
+fn behind_name(text: &str) -> &str
+    ensures { result.now ≡ behind_name text.now }
+{
     after_white(after_name(after_white(text)))
 }
 
 /// The text behind the extras and white space: the URL with its `@`, or the specifiers.
-fn source(text: &str) -> &str {
+fn source(text: &str) -> &str
+    ensures { result.now ≡ source text.now }
+{
     let rest = behind_name(text);
     match after_byte(b'[', rest) {
         Some(extras) => after_white(after_first(']', extras)),
@@ -71,13 +78,17 @@ fn source(text: &str) -> &str {
 }
 
 /// The text behind `@` and white space.
-fn url(source: &str) -> &str {
+fn url(source: &str) -> &str
+    ensures { result.now ≡ url source.now }
+{
     after_white(after_byte(b'@', source).unwrap_or(source))
 }
 
 /// The text behind the URL and white space.
 #[tactic(auto, using(pymark_core::proofs::BoundaryLemmas::boundary_after_url))]
-fn behind_url(url: &str) -> &str {
+fn behind_url(url: &str) -> &str
+    ensures { result.now ≡ behind_url url.now }
+{
     after_white(url.split_at(url_len(url)).1)
 }
 
@@ -91,7 +102,9 @@ fn url_len(text: &str) -> usize
 }
 
 /// The text behind the `;` in front of the marker.
-fn marker(source: &str) -> &str {
+fn marker(source: &str) -> &str
+    ensures { result.now ≡ marker source.now }
+{
     match after_byte(b'@', source) {
         Some(rest) => after_first(';', behind_url(after_white(rest))),
         None => after_first(';', source),
@@ -99,22 +112,26 @@ fn marker(source: &str) -> &str {
 }
 
 /// The fault of a text that doesn't begin with a name.
+#[tactic(auto, using(crate::proofs::CutLemmas::behind_name_ends))]
 fn name_fault(text: &str) -> Fault
     ensures kind { is_of_name result.expected ≡ true }
     ensures stretch { IsStretch text.now result }
+    ensures place { EndsAt text.now (behind_name text.now) result }
 {
-    let start = after_white(text);
-    let end = after_name(start);
-    if end.len() == start.len() {
-        return fault_at(text, start, Expected::Name);
-    }
-    fault_at(text, after_white(end), Expected::NameEnd)
+    let expected = if begins_name(after_white(text)) {
+        Expected::NameEnd
+    } else {
+        Expected::Name
+    };
+    fault_at(text, behind_name(text), expected)
 }
 
-/// The fault of a text with this marker.
+/// The fault of a text that ends with this marker.
 fn marker_part_fault(text: &str, marker: &str) -> Result<Fault, AllocError>
     ensures kind { IfOk result (λ f. is_of_marker_part f.expected ≡ true) }
     ensures stretch { IfOk result (λ f. IsStretch text.now f) }
+    ensures place { IfOk result (λ f. is_of_grammar f.expected ≡ true
+        → EndsWith text.now marker.now → IsStopWithin text.now marker.now f) }
 {
     let fault = fault_within(text, marker, first_fault(marker)?);
     Ok(of_requirement(fault))
@@ -124,6 +141,7 @@ fn marker_part_fault(text: &str, marker: &str) -> Result<Fault, AllocError>
 fn of_requirement(fault: Fault) -> Fault
     ensures kind { is_of_marker fault.expected ≡ true
         → is_of_marker_part result.expected ≡ true }
+    ensures expected { result.expected ≡ of_requirement fault.expected }
     ensures begin { result.begin ≡ fault.begin }
     ensures end { result.end ≡ fault.end }
 {
